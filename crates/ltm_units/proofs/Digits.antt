@@ -1,0 +1,42 @@
+-- The value of digits, one more at a time.
+use Rattle.std.proofs.Common.{inl, inr, not, cond, nat_lt, Option, Some, None, option_map, if◌then◌else◌, drop, slice_index, ◌==◌, ◌&&◌, ℕ, suc, ◌≡◌, ◌+◌, ◌-◌, ◌*◌, ◌^◌, ◌<◌, ◌≤◌, Bool, true, false, List, [], ◌∷◌, ◌++◌, length, take, get_or, arith, refl, ap, ◌∙◌, length-append, add-one}
+use Rattle.std.proofs.Math.Nat.{pow-suc}
+use Rattle.std.proofs.lemmas.List.{take_more}
+use Rattle.std.proofs.lemmas.List.Folds.{list_all_at}
+use Rattle.std.proofs.lemmas.Bool.{cases_Bool}
+use Rattle.std.proofs.lemmas.Grind.{common_steps}
+use Rattle.std.specs.List.{list_all}
+use Rattle.std.specs.List.{prefix_len}
+use Rattle.std.proofs.lemmas.List.{get_or-take, length-take}
+use Rattle.std.proofs.lemmas.List.Sums.{list_all-from_AllPass, prefix_len_passes}
+use Rattle.std.proofs.lemmas.List.Elements.{All-from_get_or}
+use Rattle.std.proofs.Math.Seq.{take-length}
+use Rattle.ltm_units.specs.Numbers.{value, is_digit}
+
+go : (x p v w q d : ℕ) → q ≡ p * 10 → w ≡ v * 10 + d → x * q + w ≡ (x * p + v) * 10 + d
+go x p v w q d e f = rw (e, f) (omega arith)
+
+ten_more : (xs : List ℕ) (d : ℕ) → 10 ^ length (xs ++ d ∷ []) ≡ 10 ^ length xs * 10
+ten_more xs d =
+    let len : length (xs ++ d ∷ []) ≡ suc (length xs) = length-append xs (d ∷ []) ∙ add-one (length xs) in
+    ap (λ n. 10 ^ n) len ∙ pow-suc 10 (length xs)
+
+pub value-append : (xs : List ℕ) (d : ℕ) → value (xs ++ d ∷ []) ≡ value xs * 10 + (d - 48)
+value-append [] d = omega arith
+value-append (x ∷ xs) d = go (x - 48) (10 ^ length xs) (value xs) (value (xs ++ d ∷ [])) (10 ^ length (xs ++ d ∷ [])) (d - 48) (ten_more xs d) (value-append xs d)
+
+-- the value of one more digit
+pub value-more : (xs : List ℕ) (i : ℕ) → i < length xs → value (take (i + 1) xs) ≡ value (take i xs) * 10 + (get_or xs i 0 - 48)
+value-more xs i h = ap value (take_more xs i 0 h) ∙ value-append (take i xs) (get_or xs i 0)
+
+-- each of the digits is one
+pub digit_at : (xs : List ℕ) (i : ℕ) → list_all is_digit xs ≡ true → i < length xs → is_digit (get_or xs i 0) ≡ true
+digit_at xs i all h = elim (cases_Bool (is_digit (get_or xs i 0))) [
+  | inl good ↦ good
+  | inr bad ↦ let none : list_all is_digit xs ≡ false = list_all_at is_digit xs i 0 h bad in cc
+]
+
+pub digit_bounds : (xs : List ℕ) (i : ℕ) → list_all is_digit xs ≡ true → i < length xs → (48 ≤ get_or xs i 0) × (get_or xs i 0 ≤ 57)
+digit_bounds xs i all h = let d = digit_at xs i all h in grind (arith, common_steps, d)
+
+pub ruleset steps = (value-more, digit_bounds)

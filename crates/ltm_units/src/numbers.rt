@@ -1,0 +1,159 @@
+//! The numbers that texts tell.
+ghost use Rattle.std.specs.Prelude.{◌≡◌, ℕ, ◌<◌, ◌≤◌, ◌+◌, ◌++◌, ◌^◌, ◌↔◌, ◌==◌, ◌&&◌, ◌||◌, not, min, length, drop, true, Err, OnOk, OnErr, OnSome, position};
+ghost use Rattle.std.specs.List.{list_all};
+ghost use Rattle.ltm_units.specs.Numbers.{is_digit, is_point, value, whole, vehicles, vehicles_text, bad_place, sized, IsFirstBad};
+
+use crate::{NoMemory, Units};
+use std::alloc::Global;
+
+/// Why a text tells no amount of vehicles.
+#[derive(Clone, Copy, Debug, PartialEq, Eq)]
+pub enum NumberFault {
+    /// The text has no byte.
+    Empty,
+    /// The byte at this place, counted from 0, is none that an amount has there.
+    BadByte(u64),
+    /// More than three digits stand behind the point.
+    TooManyDecimals,
+    /// The amount is above 1,000,000 vehicles.
+    TooLarge,
+}
+
+const CAP: u64 = 1 << 40;
+
+/// The value of digits, up to a cap.
+#[tactic(auto, using(crate::proofs::Digits::steps))]
+fn capped(digits: &[u8]) -> u64
+    requires { list_all is_digit digits.now ≡ true }
+    ensures { result ≡ min (value digits.now) (2 ^ 40) }
+{
+    let mut sum: u64 = 0;
+    for d in digits {
+        sum = (sum * 10 + u64::from(*d - b'0')).min(CAP);
+    }
+    sum
+}
+
+fn are_digits(text: &[u8]) -> bool
+    ensures { result ≡ list_all is_digit text.now }
+{
+    text.iter().all(|b| *b >= 48 && *b <= 57)
+}
+
+/// A whole number of 1 to 10 digits, where it is below 2^32.
+pub fn read_whole(text: &[u8]) -> Option<u32>
+    ensures { result ≡ whole text.now }
+{
+    if text.is_empty() || text.len() > 10 || !are_digits(text) {
+        return None;
+    }
+    let n = capped(text);
+    if n <= 0xffff_ffff {
+        Some(n as u32)
+    } else {
+        None
+    }
+}
+
+/// Whether no amount has this byte at this place of a text of this length, behind a point or not.
+fn is_bad(byte: u8, place: usize, len: usize, has_point: bool) -> bool
+    requires { place < len }
+    ensures { result ≡ (not (is_digit byte) && (not (is_point byte) || (place == 0) || (place + 1 == len) || has_point)) }
+{
+    !(byte >= 48 && byte <= 57) && (byte != b'.' || place == 0 || place + 1 == len || has_point)
+}
+
+/// The first byte that no amount has at its place.
+#[tactic(auto, using(crate::proofs::BadBytes::steps))]
+fn find_bad(text: &[u8]) -> Option<usize>
+    ensures { result ≡ bad_place text.now }
+{
+    let mut has_point = false;
+    for (place, byte) in text.iter().enumerate() {
+        if is_bad(*byte, place, text.len(), has_point) {
+            return Some(place);
+        }
+        has_point = has_point || *byte == b'.';
+    }
+    None
+}
+
+fn find_point(text: &[u8]) -> Option<usize>
+    ensures { result ≡ position is_point text.now }
+{
+    text.iter().position(|b| *b == b'.')
+}
+
+/// The amount of these digits before and behind the point.
+fn amount(front: &[u8], back: &[u8]) -> Result<Units, NumberFault>
+    requires front { list_all is_digit front.now ≡ true }
+    requires back { list_all is_digit back.now ≡ true }
+    ensures { result ≡ sized front.now back.now }
+{
+    if back.len() > 3 {
+        return Err(NumberFault::TooManyDecimals);
+    }
+    let scale: u64 = match back.len() {
+        0 => 1000,
+        1 => 100,
+        2 => 10,
+        _ => 1,
+    };
+    let units = capped(front) * 1000 + capped(back) * scale;
+    if units > 1_000_000_000 {
+        Err(NumberFault::TooLarge)
+    } else {
+        Ok(Units(units))
+    }
+}
+
+/// The amount that a text tells, or its first fault.
+#[tactic(auto, using(crate::proofs::BadBytes::parts))]
+fn tell(text: &[u8]) -> Result<Units, NumberFault>
+    ensures { result ≡ vehicles text.now }
+{
+    if text.is_empty() {
+        return Err(NumberFault::Empty);
+    }
+    match find_bad(text) {
+        Some(place) => Err(NumberFault::BadByte(place as u64)),
+        None => match find_point(text) {
+            None => amount(text, &[]),
+            Some(p) => amount(&text[..p], &text[p + 1..]),
+        },
+    }
+}
+
+/// The amount that a text tells in vehicles, as `7`, `7.2` or `7.225`: digits, or digits, a point and one to three
+/// digits, of at most 1,000,000 vehicles.
+///
+/// Where several faults stand together the first in the order of `NumberFault` is told, and of several bad bytes the
+/// first.
+pub fn read_vehicles(text: &[u8]) -> Result<Units, NumberFault>
+    ensures value { result ≡ vehicles text.now }
+    ensures bad_byte { (place : ℕ) → (result ≡ Err (NumberFault.BadByte place)) ↔ IsFirstBad text.now place }
+{
+    tell(text)
+}
+
+/// Appends an amount as whole vehicles, a point and three digits; without memory it appends nothing.
+#[tactic(auto, unfolding(crate::specs::Numbers::vehicles_text))]
+pub fn write_vehicles(alloc: Global, amount: Units, into: &mut Vec<u8>) -> Result<(), NoMemory>
+    ensures ok { OnOk result (into.new.items ≡ into.old.items ++ vehicles_text amount.0) }
+    ensures err { OnErr result (into.new.items ≡ into.old.items) }
+{
+    let n = amount.0;
+    let whole = n / 1000;
+    let front = format!(in alloc; "{whole}")?;
+    let back: [u8; 4] = [
+        b'.',
+        48 + (n % 1000 / 100) as u8,
+        48 + (n % 100 / 10) as u8,
+        48 + (n % 10) as u8,
+    ];
+    let mut text: Vec<u8> = Vec::new(alloc);
+    text.extend_from_slice(front.as_bytes())?;
+    text.extend_from_slice(&back)?;
+    into.extend_from_slice(text.as_slice())?;
+    Ok(())
+}
