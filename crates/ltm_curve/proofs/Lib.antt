@@ -1,0 +1,3 @@
+pub mod SumsBelow
+pub mod Interpolation
+pub mod Places

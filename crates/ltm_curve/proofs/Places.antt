@@ -1,0 +1,42 @@
+-- Where counts lie in the table.
+use Rattle.std.proofs.Common.{◌≡◌, ◌≢◌, ℕ, ◌+◌, ◌*◌, ◌^◌, ◌<◌, ◌≤◌, ◌⊎◌, List, length, slice_index, slice_set, ℤ, pos, negsuc, ◌≤ℤ◌, arith, refl, subst, inl, inr, ap, sym, ◌∙◌, get_or-set_same, get_or-set_other}
+use Rattle.std.proofs.lemmas.Nat.{same_from_place}
+use Rattle.std.proofs.lemmas.Int.{ints}
+use Rattle.ltm_curve.specs.Sums.{sum_below}
+use Rattle.ltm_curve.specs.Counts.{at_time}
+use Rattle.ltm_curve.specs.declared.curves.Curves.{Curves}
+use Rattle.ltm_curve.specs.Table.{groups_of, destinations_of, slots_of, place, counts_of, total_of, IsIn, SameShape, Sets}
+use Rattle.ltm_curve.specs.CurveLaws.{SameCounts, CountsTellAll}
+use Rattle.ltm_curve.proofs.SumsBelow.{sum_below-same}
+use Rattle.ltm_curve.proofs.Interpolation.{interpolated_same}
+
+pub same_place : (a b : Curves) (g d k : ℕ) → SameShape a b → place a g d k ≡ place b g d k
+same_place a b g d k s = ap (λ (z : ℕ). (k * z + g) * a.destinations + d) s.groups ∙ ap (λ (z : ℕ). (k * b.groups + g) * z + d) s.destinations
+
+pub sets_holds : (old new : Curves) (g d k v at : ℕ) → IsIn old g d k → SameShape new old → at ≡ place old g d k → at < length old.counts.items → new.counts.items ≡ slice_set old.counts.items at v → Sets old new g d k v
+unfolding counts_of
+sets_holds old new g d k v at h s at_place within set = record {
+  shape = s;
+  here =
+      let here : slice_index (slice_set old.counts.items at v) at ≡ v = get_or-set_same old.counts.items at v 0 within in
+      ap (λ (z : ℕ). slice_index new.counts.items z) (same_place new old g d k s ∙ sym at_place) ∙ (ap (λ (xs : List ℕ). slice_index xs at) set ∙ here);
+  others = λ g2 d2 k2 h2 differs.
+      let apart : place old g2 d2 k2 ≢ at = λ e.
+      let one = same_from_place (k2 * old.groups + g2) d2 (k * old.groups + g) d old.destinations h2.is_destination h.is_destination (e ∙ at_place) in
+      let two = same_from_place k2 g2 k g old.groups h2.is_group h.is_group one.0 in
+      elim differs [ inl a ↦ a two.1 | inr more ↦ elim more [ inl b ↦ b one.1 | inr c ↦ c two.0 ] ] in
+      let kept : slice_index (slice_set old.counts.items at v) (place old g2 d2 k2) ≡ slice_index old.counts.items (place old g2 d2 k2) = get_or-set_other old.counts.items at (place old g2 d2 k2) v 0 apart in
+      ap (λ (z : ℕ). slice_index new.counts.items z) (same_place new old g2 d2 k2 s) ∙ (ap (λ (xs : List ℕ). slice_index xs (place old g2 d2 k2)) set ∙ kept);
+}
+
+same_totals : (a b : Curves) → SameCounts a b → (g k : ℕ) → g < groups_of b → k ≤ slots_of b → total_of a g k ≡ total_of b g k
+same_totals a b s g k x y =
+    ap (λ (z : ℕ). sum_below z (λ d. counts_of a g d k)) s.shape.destinations
+    ∙ sum_below-same (destinations_of b) (λ d. counts_of a g d k) (λ d. counts_of b g d k) (λ d l. s.counts g d k (record { is_group = x; is_destination = l; is_boundary = y }))
+
+same_times : (a b : Curves) → SameCounts a b → (g : ℕ) → g < groups_of b → (step : ℕ) (time : ℤ) → 0 < step → time ≤ℤ pos (slots_of b * step) → at_time (total_of a g) step time ≡ at_time (total_of b g) step time
+same_times a b s g x step (pos time) some l = interpolated_same (total_of a g) (total_of b g) step (slots_of b) time some (omega (arith, ints)) (λ k y. same_totals a b s g k x y)
+same_times a b s g x step (negsuc time) some l = refl
+
+pub counts_tell_all_holds : CountsTellAll
+counts_tell_all_holds a b s g x = (λ k y. same_totals a b s g k x y, λ step time some l. same_times a b s g x step time some l)

@@ -1,0 +1,7 @@
+use Rattle.std.proofs.Common.{◌≡◌, ◌≤◌, ◌*◌, ◌^◌}
+use Rattle.ltm_curve.specs.Sums.{sum_below}
+use Rattle.ltm_curve.specs.Table.{counts_of}
+use Rattle.ltm_curve.proofs.curves.Curves.total.Given as goal
+
+abbrev pub invariant-loop-destination : goal.invariant-loop-destination
+invariant-loop-destination l = (l.sum ≡ sum_below l.destination (λ d. counts_of l.self l.group d l.boundary)) × (l.sum ≤ l.destination * 2 ^ 48)

@@ -1,0 +1,178 @@
+//! A table of cumulative counts.
+//!
+//! All counts of one boundary lie side by side, group after group, so that a loading walks through memory in order and
+//! further boundaries can be added at the end. Only `place` and the words `counts_of` and `place` of
+//! `specs/Table.antt` know this; no contract does.
+ghost use Rattle.std.specs.Prelude.{◌≡◌, ℕ, ◌+◌, ◌*◌, ◌^◌, ◌<◌, ◌≤◌, ◌/◌, ◌%◌, length, slice_index, IfOk, ℤ, pos, ◌≤ℤ◌};
+
+use ltm_units::{Millis, NoMemory};
+use std::alloc::Global;
+
+/// Groups of rows of counts: a count, in thousandths of a vehicle, for each group, destination and boundary.
+#[derive(Drop)]
+pub struct Curves {
+    groups: u32,
+    destinations: u32,
+    slots: u32,
+    counts: Vec<u64>,
+    ghost long: { length counts.items ≡ (slots + 1) * groups * destinations },
+    ghost few: { destinations ≤ 64 },
+    ghost small: { (i : ℕ) → slice_index counts.items i ≤ 2 ^ 48 },
+}
+
+/// The part of some units that falls into the first `rest` milliseconds of a step, rounded down.
+fn part_of(units: u64, rest: u64, step: u64) -> u64
+    requires rest { rest < step }
+    requires step { step ≤ 60000 }
+    ensures { result ≡ units * rest / step }
+{
+    if units < 1 << 44 {
+        units * rest / step
+    } else {
+        (u128::from(units) * u128::from(rest) / u128::from(step)) as u64
+    }
+}
+
+impl Curves {
+    ghost use Rattle.ltm_curve.specs.Counts.{interpolated, at_time, RisesAt};
+    ghost use Rattle.ltm_curve.specs.Table.{groups_of, destinations_of, slots_of, place, counts_of, total_of, HasShape, IsIn, IsEmpty, Sets};
+
+    /// Curves of this shape whose counts are all 0. There are `slots + 1` boundaries.
+    #[tactic(auto, unfolding(crate::specs::Table::counts_of))]
+    pub fn create(
+        alloc: Global,
+        groups: u32,
+        destinations: u32,
+        slots: u32,
+    ) -> Result<Curves, NoMemory>
+        requires { destinations ≤ 64 }
+        ensures shape { IfOk result (λ c. HasShape c groups destinations slots) }
+        ensures empty { IfOk result IsEmpty }
+    {
+        let rows = (slots as usize + 1).checked_mul(groups as usize);
+        let Some(rows) = rows else {
+            return Err(NoMemory);
+        };
+        let Some(size) = rows.checked_mul(destinations as usize) else {
+            return Err(NoMemory);
+        };
+        match vec![in alloc; 0u64; size] {
+            Ok(counts) => Ok(Curves {
+                groups,
+                destinations,
+                slots,
+                counts,
+            }),
+            Err(_) => Err(NoMemory),
+        }
+    }
+
+    /// How many groups there are.
+    pub fn groups(&self) -> u32
+        ensures { result ≡ groups_of self.now }
+    {
+        self.groups
+    }
+
+    /// How many destinations each group has.
+    pub fn destinations(&self) -> u32
+        ensures value { result ≡ destinations_of self.now }
+        ensures few { result ≤ 64 }
+    {
+        self.destinations
+    }
+
+    /// How many slots there are; there is one boundary more.
+    pub fn slots(&self) -> u32
+        ensures { result ≡ slots_of self.now }
+    {
+        self.slots
+    }
+
+    /// Where a count lies in the table.
+    fn place(&self, group: u32, destination: u32, boundary: u32) -> usize
+        requires { IsIn self.now group destination boundary }
+        ensures place { result ≡ place self.now group destination boundary }
+        ensures within { result < length self.now.counts.items }
+    {
+        let _counts = &self.counts;
+        (boundary as usize * self.groups as usize + group as usize) * self.destinations as usize
+            + destination as usize
+    }
+
+    /// A count.
+    #[tactic(auto, unfolding(crate::specs::Table::counts_of))]
+    pub fn get(&self, group: u32, destination: u32, boundary: u32) -> u64
+        requires { IsIn self.now group destination boundary }
+        ensures count { result ≡ counts_of self.now group destination boundary }
+        ensures small { result ≤ 2 ^ 48 }
+    {
+        let at = self.place(group, destination, boundary);
+        self.counts[at]
+    }
+
+    /// Changes a count, and no other.
+    pub fn set(&mut self, group: u32, destination: u32, boundary: u32, count: u64)
+        requires place { IsIn self.old group destination boundary }
+        requires small { count ≤ 2 ^ 48 }
+        ensures { Sets self.old self.new group destination boundary count }
+    {
+        let at = self.place(group, destination, boundary);
+        self.counts[at] = count;
+    }
+
+    /// The total of a group at a boundary, over all destinations.
+    pub fn total(&self, group: u32, boundary: u32) -> u64
+        requires group { group < groups_of self.now }
+        requires boundary { boundary ≤ slots_of self.now }
+        ensures total { result ≡ total_of self.now group boundary }
+        ensures small { result ≤ 2 ^ 54 }
+    {
+        let mut sum = 0u64;
+        for destination in 0..self.destinations {
+            sum += self.get(group, destination, boundary);
+        }
+        sum
+    }
+
+    /// The total of a group `rest` milliseconds past a boundary, interpolated and rounded down.
+    ///
+    /// A caller that asks slot after slot for the total some fixed time ago finds boundary and rest once, and moves the
+    /// boundary on.
+    pub fn past(&self, group: u32, boundary: u32, rest: Millis, step: Millis) -> u64
+        requires group { group < groups_of self.now }
+        requires rest { rest.0 < step.0 }
+        requires small_step { step.0 ≤ 60000 }
+        requires boundary { boundary ≤ slots_of self.now }
+        requires next { 0 < rest.0 → boundary < slots_of self.now }
+        requires rises { 0 < rest.0 → total_of self.now group boundary ≤ total_of self.now group (boundary + 1) }
+        ensures { result ≡ interpolated (total_of self.now group) step.0 (boundary * step.0 + rest.0) }
+    {
+        let before = self.total(group, boundary);
+        if rest.0 == 0 {
+            return before;
+        }
+        let after = self.total(group, boundary + 1);
+        before + part_of(after - before, rest.0, step.0)
+    }
+
+    /// The total of a group at a time in milliseconds after the start: at a boundary its total, between two boundaries
+    /// interpolated and rounded down, and 0 before the start.
+    pub fn at(&self, group: u32, time: i64, step: Millis) -> u64
+        requires group { group < groups_of self.now }
+        requires some_step { 1 ≤ step.0 }
+        requires small_step { step.0 ≤ 60000 }
+        requires time { time ≤ℤ pos (slots_of self.now * step.0) }
+        requires rises { RisesAt (total_of self.now group) step.0 time }
+        ensures { result ≡ at_time (total_of self.now group) step.0 time }
+    {
+        if time < 0 {
+            return 0;
+        }
+        let _slots = self.slots;
+        let time = time as u64;
+        let boundary = (time / step.0) as u32;
+        let rest = Millis(time % step.0);
+        self.past(group, boundary, rest, step)
+    }
+}

@@ -1,0 +1,17 @@
+//! Cumulative counts over time: how many units passed a place by each moment.
+//!
+//! Boundary `k` is the moment `k` steps after the start, and slot `t` lies between the boundaries `t` and `t + 1`. A
+//! `Curves` holds a count for each group, destination and boundary; a group is one end of a link, an origin's queue or
+//! the sinks. Between two boundaries the total of a group is interpolated and rounded down to whole units. (Cumulative
+//! counts at the two ends of a link: Newell 1993, Yperman 2007. Whole units, floors and counts by destination are this
+//! engine's own.)
+//!
+//! It stands on `ltm_units` alone. `create` takes all memory; no later call takes any. A read or a write costs one
+//! access to one flat table, a total one access for each destination, a time one division more.
+#![tactic(auto)]
+
+mod curves;
+mod laws;
+
+pub use curves::Curves;
+pub use laws::{counts_tell_all, one_destination_is_total};
