@@ -21,7 +21,7 @@ rises_le c last h j (suc k) l m =
 pub part_within : (g r h : ℕ) → r ≤ h → g * r / h ≤ g
 part_within g r h l = div-le_of_le-mul h (omega (arith, mul-le-mul_left g l))
 
-part_rises : (g r q h : ℕ) → r ≤ q → g * r / h ≤ g * q / h
+pub part_rises : (g r q h : ℕ) → r ≤ q → g * r / h ≤ g * q / h
 part_rises g r q h l =
     elim (cases_lt 0 h) [
       | inl pos ↦ le-div (g * r / h) (g * q) h pos (omega (arith, div-mul-le_self (g * r) h, mul-le-mul_left g l))

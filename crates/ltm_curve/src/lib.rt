@@ -15,3 +15,6 @@ mod laws;
 
 pub use curves::Curves;
 pub use laws::{counts_tell_all, one_destination_is_total};
+
+#[cfg(test)]
+mod tests;

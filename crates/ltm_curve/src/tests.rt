@@ -1,0 +1,31 @@
+use crate::Curves;
+use ltm_units::Millis;
+
+// A group with two destinations: 0 and 0, then 300 and 100, then 300 and 500.
+#[test]
+fn counts_and_times(rt: HostRuntime) {
+    let Ok(mut curves) = Curves::create(rt.alloc(), 2, 2, 2) else {
+        panic!(rt; "no memory");
+    };
+    assert!(rt; curves.groups() == 2 && curves.destinations() == 2 && curves.slots() == 2);
+    curves.set(1, 0, 1, 300);
+    curves.set(1, 1, 1, 100);
+    curves.set(1, 0, 2, 300);
+    curves.set(1, 1, 2, 500);
+    assert_eq!(rt; curves.get(1, 0, 0), 0);
+    assert_eq!(rt; curves.get(1, 1, 2), 500);
+    assert_eq!(rt; curves.total(0, 2), 0);
+    let first = curves.total(1, 0);
+    let second = curves.total(1, 1);
+    let third = curves.total(1, 2);
+    assert!(rt; first == 0 && second == 400 && third == 800);
+
+    let step = Millis(1000);
+    assert_eq!(rt; curves.at(1, -500, step), 0);
+    assert_eq!(rt; curves.at(1, 0, step), 0);
+    assert_eq!(rt; curves.at(1, 333, step), 133);
+    assert_eq!(rt; curves.at(1, 1000, step), 400);
+    assert_eq!(rt; curves.at(1, 1500, step), 600);
+    assert_eq!(rt; curves.at(1, 2000, step), 800);
+    assert_eq!(rt; curves.past(1, 1, Millis(250), step), 500);
+}

@@ -1,0 +1,4 @@
+pub mod Earlier
+pub mod Produced
+pub mod RoadCounts
+pub mod RoadWork

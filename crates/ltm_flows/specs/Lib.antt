@@ -1,0 +1,4 @@
+pub mod OneRoad
+pub mod OneRoadLoading
+pub mod OneRoadLaws
+pub mod OneRoadWork
