@@ -1,0 +1,2 @@
+pub mod WholeRecords
+pub mod OneWord

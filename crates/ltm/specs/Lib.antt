@@ -1,0 +1,5 @@
+pub mod Fields
+pub mod OneRoad
+pub mod Case
+pub mod Report
+pub mod Program

@@ -1,0 +1,34 @@
+//! The program `ltm`: loads a case of one road on one thread and reports its totals and its link.
+//!
+//! `main` only makes the real folder and output and calls `run_alone`, whose contract is that of the whole program. The
+//! other modules are its private parts, in the order in which it uses them.
+#![tactic(auto)]
+
+mod fields;
+mod files;
+mod one_road;
+mod records;
+mod report;
+mod run;
+
+use ltm_io::{RealFolder, RealOutput};
+use run::{Status, run_alone};
+use std::process::ExitCode;
+use std::{env, io};
+
+fn main(rt: HostRuntime) -> ExitCode {
+    let Ok(args) = env::args(&rt) else {
+        return ExitCode::from(1);
+    };
+    let alloc = rt.alloc();
+    let mut words = Vec::new(alloc);
+    for word in args.skip(1) {
+        if words.push(word).is_err() {
+            return ExitCode::from(Status::NoMemory.number());
+        }
+    }
+    let mut folder = RealFolder::new(&rt);
+    let mut output = RealOutput::new(io::writer(&rt));
+    let status = run_alone(alloc, words.as_slice(), &mut folder, &mut output);
+    ExitCode::from(status.number())
+}
