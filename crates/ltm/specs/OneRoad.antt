@@ -1,6 +1,6 @@
 -- The one-road form: what the records of four files describe, where they are a valid case of one road, at most one
 -- demand row and one split row.
-use Rattle.std.specs.Prelude.{ℕ, ◌+◌, ◌==◌, ◌&&◌, ◌||◌, not, Bool, nat_lt, nat_le, List, [], ◌∷◌, length, take, drop, position, Option, Some, None, Result, Ok, Err, codes, if◌then◌else◌}
+use Rattle.std.specs.Prelude.{ℕ, ◌+◌, ◌==◌, ◌&&◌, ◌||◌, not, Bool, false, nat_lt, nat_le, List, [], ◌∷◌, length, take, drop, position, Option, Some, None, Result, Ok, Err, codes, if◌then◌else◌}
 use Rattle.ltm_units.specs.declared.names.Name.{Name}
 use Rattle.ltm_units.specs.Numbers.{whole}
 use Rattle.ltm_diagram.specs.declared.diagram.DiagramFault.{DiagramFault}
@@ -24,7 +24,9 @@ only_row read [] = None
 only_row read (row ∷ rows) = if length rows == 0 then read row else None
 
 abbrev pub is_setup_header : Fields → Bool
-is_setup_header fields = (length fields == 3) && same (field fields 0) (codes "step_ms") && same (field fields 1) (codes "slots") && same (field fields 2) (codes "origin_capacity")
+is_setup_header fields =
+    same (field fields 0) (codes "step_ms") && same (field fields 1) (codes "slots") && same (field fields 2) (codes "origin_capacity")
+    && ((length fields == 3) || ((length fields == 4) && same (field fields 3) (codes "signals")))
 
 abbrev pub is_links_header : Fields → Bool
 is_links_header fields = (length fields == 7) && same (field fields 0) (codes "link") && same (field fields 1) (codes "from") && same (field fields 2) (codes "to")
@@ -37,16 +39,25 @@ is_demand_header fields = (length fields == 5) && same (field fields 0) (codes "
 abbrev pub is_splits_header : Fields → Bool
 is_splits_header fields = (length fields == 4) && same (field fields 0) (codes "node") && same (field fields 1) (codes "destination") && same (field fields 2) (codes "from_slot") && same (field fields 3) (codes "weights")
 
--- step in milliseconds, slots, origin capacity, each within its limits
-unfoldable pub setup_row : Fields → Option Setup
-setup_row fields = do
-  width ← guard (length fields == 3)
+abbrev pub is_zero : Option ℕ → Bool
+is_zero None = false
+is_zero (Some n) = n == 0
+
+-- the case has no signals: the field is left out, or it is 0
+abbrev pub no_signals : ℕ → Fields → Bool
+no_signals width fields = (width == 3) || is_zero (whole_at fields 3)
+
+-- step in milliseconds, slots, origin capacity, each within its limits, in a record as wide as its header
+unfoldable pub setup_row : ℕ → Fields → Option Setup
+setup_row width fields = do
+  wide ← guard (length fields == width)
   step ← whole_at fields 0
   slots ← whole_at fields 1
   room ← vehicles_at fields 2
-  a ← guard (within 1 60000 step)
-  b ← guard (within 1 10000 slots)
-  c ← guard (within 1 32000 room.0)
+  a ← guard (no_signals width fields)
+  b ← guard (within 1 60000 step)
+  c ← guard (within 1 10000 slots)
+  d ← guard (within 1 32000 room.0)
   Some (record { step = record { 0 = step }; slots = slots; origin_capacity = room })
 
 abbrev pub limits_part : Result Limits DiagramFault → Option Limits
@@ -112,7 +123,8 @@ demand_rows setup link [] = Some no_demand
 demand_rows setup link (row ∷ rows) = only_row (demand_row setup link) (row ∷ rows)
 
 abbrev pub setup_file : List Fields → Option Setup
-setup_file rows = below_header is_setup_header (only_row setup_row) rows
+setup_file [] = None
+setup_file (header ∷ rows) = if is_setup_header header then only_row (setup_row (length header)) rows else None
 
 abbrev pub links_file : Setup → List Fields → Option Link
 links_file setup rows = below_header is_links_header (only_row (link_row setup)) rows

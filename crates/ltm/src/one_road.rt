@@ -1,7 +1,7 @@
 //! The one-road form: a case of one road, at most one demand row and one split row.
 //!
 //! ```text
-//!   setup.csv   step_ms,slots,origin_capacity                          one record
+//!   setup.csv   step_ms,slots,origin_capacity[,signals]                one record
 //!   links.csv   link,from,to,length_m,free_kmh,wave_kmh,jam_per_km     one record
 //!   demand.csv  origin,destination,from_slot,to_slot,vehicles          none or one
 //!   splits.csv  node,destination,from_slot,weights                     one record
@@ -10,7 +10,7 @@ ghost use Rattle.std.specs.Prelude.{◌≡◌, ◌==◌, ◌≤◌, ◌<◌, ◌
 ghost use Rattle.csv.specs.Records.{fields_of};
 ghost use Rattle.ltm_diagram.specs.InRange.{AreInRange};
 ghost use Rattle.ltm_flows.specs.OneRoad.{IsRoad};
-ghost use Rattle.ltm.specs.OneRoad.{setup_row, link_row, demand_row, split_row, setup_file, links_file, demand_file, splits_file, road_of, joined, is_setup_header, is_links_header, is_demand_header, is_splits_header, weight_of};
+ghost use Rattle.ltm.specs.OneRoad.{setup_row, link_row, demand_row, split_row, setup_file, links_file, demand_file, splits_file, road_of, joined, no_signals, is_setup_header, is_links_header, is_demand_header, is_splits_header, weight_of};
 
 use crate::fields::{check, name, text_at, vehicles, whole};
 use csv::ByteRecord;
@@ -53,10 +53,10 @@ pub struct NamedRoad {
 fn is_setup(row: &ByteRecord) -> bool
     ensures { result ≡ is_setup_header (fields_of row.now) }
 {
-    row.len() == 3
-        && text_at(row, 0) == b"step_ms".as_slice()
+    text_at(row, 0) == b"step_ms".as_slice()
         && text_at(row, 1) == b"slots".as_slice()
         && text_at(row, 2) == b"origin_capacity".as_slice()
+        && (row.len() == 3 || (row.len() == 4 && text_at(row, 3) == b"signals".as_slice()))
 }
 
 fn is_links(row: &ByteRecord) -> bool
@@ -93,17 +93,24 @@ fn is_splits(row: &ByteRecord) -> bool
         && text_at(row, 3) == b"weights".as_slice()
 }
 
+fn has_no_signals(width: usize, row: &ByteRecord) -> bool
+    ensures { result ≡ no_signals width (fields_of row.now) }
+{
+    width == 3 || whole(row, 3) == Some(0)
+}
+
 #[tactic(auto, unfolding(crate::specs::OneRoad::setup_row))]
-fn read_setup_row(row: &ByteRecord) -> Option<Setup>
-    ensures value { result ≡ setup_row (fields_of row.now) }
+fn read_setup_row(width: usize, row: &ByteRecord) -> Option<Setup>
+    ensures value { result ≡ setup_row width (fields_of row.now) }
     ensures step { IfSome result (λ s. (1 ≤ s.step.0) × (s.step.0 ≤ 60000)) }
     ensures slots { IfSome result (λ s. (1 ≤ s.slots) × (s.slots ≤ 10000)) }
     ensures room { IfSome result (λ s. (1 ≤ s.origin_capacity.0) × (s.origin_capacity.0 ≤ 32000)) }
 {
-    check(row.len() == 3)?;
+    check(row.len() == width)?;
     let step = whole(row, 0)?;
     let slots = whole(row, 1)?;
     let room = vehicles(row, 2)?;
+    check(has_no_signals(width, row))?;
     check(1 <= step && step <= 60_000)?;
     check(1 <= slots && slots <= 10_000)?;
     check(1 <= room.0 && room.0 <= 32_000)?;
@@ -212,7 +219,7 @@ fn read_setup(rows: &[ByteRecord]) -> Option<Setup>
     check(is_setup(header))?;
     let (row, rows) = rows.split_first()?;
     check(rows.is_empty())?;
-    read_setup_row(row)
+    read_setup_row(header.len(), row)
 }
 
 /// The one link.
