@@ -1,5 +1,5 @@
 -- What a bounded read tells of a whole file.
-use Rattle.std.proofs.Common.{ℕ, ◌≡◌, ◌<◌, ◌≤◌, min, List, length, take, Option, Some, None, option_map, IfSome, ap, ◌∙◌, arith}
+use Rattle.std.proofs.Common.{ℕ, ◌≡◌, ◌<◌, min, List, length, take, Option, Some, None, option_map, IfSome, ap, ◌∙◌, arith}
 use Rattle.std.proofs.lemmas.List.{take_all, length-take}
 
 -- a front shorter than its bound is all that there is

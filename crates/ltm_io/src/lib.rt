@@ -5,7 +5,8 @@
 //! tells its bytes and can be made to fail at chosen calls. A real form tells nothing of its bytes:
 //! [`RealFolder`] and [`RealOutput`] are a few lines over `std`, and are trusted.
 //!
-//! A fetch and a write cost one copy of the bytes, and no more memory than these need.
+//! A fetch reads a file once into the caller's buffer, and at most one byte more than is allowed.
+//! A write passes its bytes on once; the sinks hold no buffer of their own before it.
 #![tactic(auto)]
 
 mod doc;
@@ -25,3 +26,6 @@ pub use real_folder::RealFolder;
 pub use real_output::RealOutput;
 pub use sink::{Sink, SinkError, write_all_known};
 pub use sure_sink::SureSink;
+
+#[cfg(test)]
+mod tests;

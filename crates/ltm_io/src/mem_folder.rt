@@ -4,6 +4,7 @@ ghost use Rattle.ltm_io.specs.Fetched.{answer_of};
 ghost use Rattle.ltm_io.specs.Faults.{Rose, raised};
 ghost use Rattle.ltm_io.specs.declared.doc.Doc.{Doc};
 
+use crate::doc::DOC_COUNT;
 use crate::{Doc, Fetched, Folder};
 use ltm_units::NoMemory;
 use std::alloc::Global;
@@ -11,8 +12,8 @@ use std::alloc::Global;
 /// A folder in memory, whose fetches of a chosen list fail.
 #[derive(Drop)]
 pub struct MemFolder {
-    files: [Option<Vec<u8>>; 14],
-    faults: [u64; 14],
+    files: [Option<Vec<u8>>; DOC_COUNT],
+    faults: [u64; DOC_COUNT],
     calls: u64,
     failing: Vec<u64>,
 }
@@ -33,7 +34,7 @@ impl MemFolder {
             files: [
                 None, None, None, None, None, None, None, None, None, None, None, None, None, None,
             ],
-            faults: [0; 14],
+            faults: [0; DOC_COUNT],
             calls: 0,
             failing,
         })
@@ -44,7 +45,7 @@ impl MemFolder {
     pub fn put(&mut self, doc: Doc, bytes: &[u8]) -> Result<(), NoMemory>
         ensures set { OnOk result (file_of self.new doc ≡ Some bytes.now) }
         ensures others { (d : Doc) → d ≢ doc → file_of self.new d ≡ file_of self.old d }
-        ensures err { OnErr result (file_of self.new doc ≡ file_of self.old doc) }
+        ensures err { OnErr result (file_of self.new ≡ file_of self.old) }
         ensures faults { (d : Doc) → faults_of self.new d ≡ faults_of self.old d }
         ensures calls { calls_of self.new ≡ calls_of self.old }
         ensures failing { failing_of self.new ≡ failing_of self.old }
@@ -86,8 +87,8 @@ impl Folder for MemFolder {
             → answer_of (fails_next self.old) (file_of self.old doc) max ≡ Fetched.Found }
 
         // The exact counts.
-        ensures counts { faults_of self.new doc
-            ≡ (if is_fault self.old doc then raised (faults_of self.old doc) else faults_of self.old doc) }
+        ensures counts { faults_of self.new doc ≡ (if is_fault self.old doc
+            then raised (faults_of self.old doc) else faults_of self.old doc) }
         ensures calls { calls_of self.new ≡ raised (calls_of self.old) }
         ensures failing { failing_of self.new ≡ failing_of self.old }
     {
@@ -106,9 +107,12 @@ impl Folder for MemFolder {
 // Copies a file of at most `max` bytes, unless the fetch is to fail.
 fn copied(fails: bool, file: &Option<Vec<u8>>, into: &mut Vec<u8>, max: u64) -> Fetched
     requires { into.old.items ≡ [] }
-    ensures answer { result ≢ Fetched.NoMemory → result ≡ answer_of fails (option_map (λ v. v.items) file.now) max }
-    ensures no_memory { result ≡ Fetched.NoMemory → answer_of fails (option_map (λ v. v.items) file.now) max ≡ Fetched.Found }
-    ensures found { result ≡ Fetched.Found → option_map (λ v. v.items) file.now ≡ Some into.new.items }
+    ensures answer { result ≢ Fetched.NoMemory
+        → result ≡ answer_of fails (option_map (λ v. v.items) file.now) max }
+    ensures no_memory { result ≡ Fetched.NoMemory
+        → answer_of fails (option_map (λ v. v.items) file.now) max ≡ Fetched.Found }
+    ensures found { result ≡ Fetched.Found
+        → option_map (λ v. v.items) file.now ≡ Some into.new.items }
     ensures size { length into.new.items ≤ max }
     ensures emptied { result ≢ Fetched.Found → into.new.items ≡ [] }
 {

@@ -4,6 +4,7 @@ ghost use Rattle.std.specs.IoError.{error_kind};
 ghost use Rattle.ltm_io.specs.Faults.{Rose, raised};
 ghost use Rattle.ltm_io.specs.declared.doc.Doc.{Doc};
 
+use crate::doc::DOC_COUNT;
 use crate::{Doc, Fetched, Folder};
 use std::fs::OpenFile;
 use std::io::{ErrorKind, Read};
@@ -14,7 +15,7 @@ use std::{fs, io};
 #[derive(Drop)]
 pub struct RealFolder<R: Files + Drop> {
     rt: R,
-    faults: [u64; 14],
+    faults: [u64; DOC_COUNT],
 }
 
 impl<R: Files + Drop> RealFolder<R> {
@@ -26,7 +27,7 @@ impl<R: Files + Drop> RealFolder<R> {
     {
         RealFolder {
             rt,
-            faults: [0; 14],
+            faults: [0; DOC_COUNT],
         }
     }
 }
@@ -54,7 +55,7 @@ impl<R: Files + Drop> Folder for RealFolder<R> {
     {
         into.clear();
         let answer = match fs::open(&self.rt, doc.file_name()) {
-            Ok(file) => read_file::<R>(file, into, max),
+            Ok(file) => read_file(file, into, max),
             Err(e) => answer_to(&e),
         };
         if answer == Fetched::Failed {
@@ -65,28 +66,17 @@ impl<R: Files + Drop> Folder for RealFolder<R> {
     }
 }
 
-// Reads an open file, with room made first by the length that the system tells of it.
-fn read_file<R: Files>(file: R::File, into: &mut Vec<u8>, max: u64) -> Fetched
+// Reads an open file to its end, or one byte past `max`.
+fn read_file<F: Read + OpenFile + Drop>(file: F, into: &mut Vec<u8>, max: u64) -> Fetched
     requires { into.old.items ≡ [] }
+    ensures found { result ≡ Fetched.Found
+        → IfSome (F.remaining file) (λ bytes. into.new.items ≡ bytes) }
+    ensures too_long { result ≡ Fetched.TooLong
+        → IfSome (F.remaining file) (λ bytes. max < length bytes) }
     ensures size { length into.new.items ≤ max }
     ensures emptied { result ≢ Fetched.Found → into.new.items ≡ [] }
 {
-    if let Ok(metadata) = file.metadata() {
-        // A place more shows the end without another growth. Where this fails the read grows.
-        let room = metadata.len().min(max).saturating_add(1);
-        let _ = into.reserve(room as usize);
-    }
-    read_all(file, into, max)
-}
-
-// Reads to the end, or one byte past `max`.
-fn read_all<F: Read + Drop>(file: F, into: &mut Vec<u8>, max: u64) -> Fetched
-    requires { into.old.items ≡ [] }
-    ensures found { result ≡ Fetched.Found → IfSome (F.remaining file) (λ bytes. into.new.items ≡ bytes) }
-    ensures too_long { result ≡ Fetched.TooLong → IfSome (F.remaining file) (λ bytes. max < length bytes) }
-    ensures size { length into.new.items ≤ max }
-    ensures emptied { result ≢ Fetched.Found → into.new.items ≡ [] }
-{
+    make_room(&file, into, max);
     let mut front = file.take(max.saturating_add(1));
     match front.read_to_end(into) {
         Ok(_) if into.len() as u64 <= max => Fetched::Found,
@@ -98,6 +88,18 @@ fn read_all<F: Read + Drop>(file: F, into: &mut Vec<u8>, max: u64) -> Fetched
             into.clear();
             answer_to(&e)
         }
+    }
+}
+
+// Makes room for the length that the system tells of a file, so that the read need not grow it.
+// The length is only a hint: where there is none, or the room is not found, the read grows.
+fn make_room<F: OpenFile>(file: &F, into: &mut Vec<u8>, max: u64)
+    ensures { into.new.items ≡ into.old.items }
+{
+    if let Ok(metadata) = file.metadata() {
+        // One place more, in which the read finds the end.
+        let room = metadata.len().min(max).saturating_add(1);
+        let _ = into.reserve(room as usize);
     }
 }
 

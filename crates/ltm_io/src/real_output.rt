@@ -1,7 +1,7 @@
 //! Standard output, or another writer.
-ghost use Rattle.std.specs.Prelude.{◌≡◌, ◌≢◌, ◌<◌, ◌≤◌, length, take, None, Err, IfOk, IsErrOf};
+ghost use Rattle.std.specs.Prelude.{◌≡◌, ◌≢◌, ◌<◌, ◌≤◌, length, take, None, Err, IfOk, OnErr, IsErrOf};
 ghost use Rattle.ltm_io.specs.Faults.{Rose, raised};
-ghost use Rattle.std.specs.Io.KnownBytes.{Appends};
+ghost use Rattle.std.specs.Io.KnownBytes.{Appends, Keeps};
 
 use crate::{Sink, SinkError};
 use std::io::{ErrorKind, Write};
@@ -14,18 +14,19 @@ pub struct RealOutput<W: Write + Drop> {
 }
 
 impl<W: Write + Drop> RealOutput<W> {
-    ghost use Rattle.ltm_io.specs.RealOutput.{faults_of};
+    ghost use Rattle.ltm_io.specs.RealOutput.{faults_of, writer_of};
 
     /// A sink over the writer, with no fault counted.
     pub fn new(writer: W) -> RealOutput<W>
-        ensures { faults_of result ≡ 0 }
+        ensures writer { writer_of result ≡ writer }
+        ensures faults { faults_of result ≡ 0 }
     {
         RealOutput { writer, faults: 0 }
     }
 }
 
 impl<W: Write + Drop> Sink for RealOutput<W> {
-    ghost use Rattle.ltm_io.specs.RealOutput.{faults_of};
+    ghost use Rattle.ltm_io.specs.RealOutput.{faults_of, writer_of};
 
     ghost written = { λ _. None };
 
@@ -39,6 +40,12 @@ impl<W: Write + Drop> Sink for RealOutput<W> {
         ensures later { faults_of self.old ≤ faults_of self.new }
         ensures cause { IsErrOf result SinkError.WriteFault
             → Rose (faults_of self.old) (faults_of self.new) }
+
+        // What becomes of the writer, where it tells what it holds.
+        ensures passes { IfOk result (λ n. Appends (W.contents (writer_of self.old))
+            (W.contents (writer_of self.new)) (take n piece.now)) }
+        ensures passes_none { OnErr result
+            (Keeps (W.contents (writer_of self.old)) (W.contents (writer_of self.new))) }
 
         // The exact count.
         ensures counts { IsErrOf result SinkError.WriteFault
@@ -57,7 +64,9 @@ impl<W: Write + Drop> Sink for RealOutput<W> {
 fn write_some<W: Write>(writer: &mut W, piece: &[u8]) -> Result<usize, SinkError>
     ensures count { IfOk result (λ n. n ≤ length piece.now) }
     ensures some { IfOk result (λ n. 0 < length piece.now → 0 < n) }
-    ensures took { IfOk result (λ n. Appends (W.contents writer.old) (W.contents writer.new) (take n piece.now)) }
+    ensures passes { IfOk result
+        (λ n. Appends (W.contents writer.old) (W.contents writer.new) (take n piece.now)) }
+    ensures passes_none { OnErr result (Keeps (W.contents writer.old) (W.contents writer.new)) }
 {
     for _ in 0..u64::MAX {
         match writer.write(piece) {
