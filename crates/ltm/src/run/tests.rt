@@ -29,7 +29,9 @@ fn folder_of(alloc: Global, setup: &str, links: &str, demand: &str) -> Result<Me
 }
 
 fn one_word(alloc: Global, word: &str) -> Result<Vec<String>, AllocError> {
-    vec![in alloc; String::from_str(alloc, word)?]
+    let mut words = Vec::new(alloc);
+    words.push(String::from_str(alloc, word)?)?;
+    Ok(words)
 }
 
 #[test]
