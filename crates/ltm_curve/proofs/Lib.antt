@@ -1,3 +1,2 @@
-pub mod SumsBelow
 pub mod Interpolation
 pub mod Places

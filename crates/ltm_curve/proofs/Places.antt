@@ -1,13 +1,13 @@
 -- Where counts lie in the table.
-use Rattle.std.proofs.Common.{◌≡◌, ◌≢◌, ℕ, ◌+◌, ◌*◌, ◌^◌, ◌<◌, ◌≤◌, ◌⊎◌, List, length, slice_index, slice_set, ℤ, pos, negsuc, ◌≤ℤ◌, arith, refl, subst, inl, inr, ap, sym, ◌∙◌, get_or-set_same, get_or-set_other}
+use Rattle.std.proofs.Common.{◌≡◌, ◌≢◌, ℕ, ◌+◌, ◌*◌, ◌<◌, ◌≤◌, List, length, slice_index, slice_set, ℤ, pos, negsuc, ◌≤ℤ◌, arith, refl, inl, inr, ap, sym, ◌∙◌, get_or-set_same, get_or-set_other}
 use Rattle.std.proofs.lemmas.Nat.{same_from_place}
 use Rattle.std.proofs.lemmas.Int.{ints}
-use Rattle.ltm_curve.specs.Sums.{sum_below}
+use Rattle.ltm_units.specs.Sums.{sum_below}
 use Rattle.ltm_curve.specs.Counts.{at_time}
 use Rattle.ltm_curve.specs.declared.curves.Curves.{Curves}
 use Rattle.ltm_curve.specs.Table.{groups_of, destinations_of, slots_of, place, counts_of, total_of, IsIn, SameShape, Sets}
 use Rattle.ltm_curve.specs.CurveLaws.{SameCounts, CountsTellAll}
-use Rattle.ltm_curve.proofs.SumsBelow.{sum_below-same}
+use Rattle.ltm_units.proofs.Sums.{sum_below-same}
 use Rattle.ltm_curve.proofs.Interpolation.{interpolated_same}
 
 pub same_place : (a b : Curves) (g d k : ℕ) → SameShape a b → place a g d k ≡ place b g d k

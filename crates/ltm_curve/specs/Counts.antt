@@ -1,6 +1,6 @@
 -- What counts over time say. Boundary k is the moment k steps after the start.
 use Rattle.std.specs.Prelude.{ℕ, ◌+◌, ◌-◌, ◌*◌, ◌/◌, ◌%◌, ◌<◌, ◌≤◌, ℤ, pos, negsuc}
-use Rattle.ltm_curve.specs.Sums.{sum_below}
+use Rattle.ltm_units.specs.Sums.{sum_below}
 
 -- a count for each group, destination and boundary
 abbrev pub Counts : Type 0

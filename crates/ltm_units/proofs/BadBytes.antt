@@ -1,7 +1,7 @@
 -- The first byte of a text that no amount has at its place, and what stands around the point where there is none.
-use Rattle.std.proofs.Common.{ℕ, zero, suc, ◌≡◌, ◌+◌, ◌-◌, ◌<◌, ◌≤◌, ◌==◌, ◌&&◌, ◌||◌, ◌⊎◌, Bool, true, false, not, cond, if◌then◌else◌, List, length, take, drop, get_or, slice_index, Option, Some, None, Result, Ok, Err, nat_lt, inl, inr, refl, sym, ap, ◌∙◌, arith, add-one, length-drop}
+use Rattle.std.proofs.Common.{ℕ, zero, suc, ◌≡◌, ◌+◌, ◌-◌, ◌<◌, ◌≤◌, ◌==◌, ◌&&◌, ◌||◌, ◌⊎◌, Bool, true, false, not, cond, if◌then◌else◌, List, length, take, drop, get_or, slice_index, Option, Some, None, Err, nat_lt, inl, inr, refl, sym, ap, ◌∙◌, arith, add-one, length-drop}
 use Rattle.std.specs.List.{list_all, list_any, position_or_len, position, before_first, after_first}
-use Rattle.std.proofs.lemmas.Bool.{cases_Bool, cases_eq, cases_lt}
+use Rattle.std.proofs.lemmas.Bool.{cases_eq}
 use Rattle.std.proofs.lemmas.List.{get_or-take, get_or-drop, length-take, take_all}
 use Rattle.std.proofs.lemmas.List.Folds.{list_any_more, list_any_at}
 use Rattle.std.proofs.lemmas.List.Sums.{list_all-from_AllPass, fails_before_first, passes_at_first}
@@ -9,10 +9,8 @@ use Rattle.std.proofs.lemmas.List.Elements.{All-from_get_or}
 use Rattle.std.proofs.Math.Seq.{take-length}
 use Rattle.std.proofs.lemmas.Grind.{common_steps}
 use Rattle.std.proofs.lemmas.Bool.Decides.{nat_tests}
-use Rattle.ltm_units.specs.declared.numbers.NumberFault.{NumberFault}
-use Rattle.ltm_units.specs.declared.numbers.NumberFault.TheVariants.{Empty, BadByte, TooManyDecimals, TooLarge}
-use Rattle.ltm_units.specs.declared.quantities.Units.{Units}
-use Rattle.ltm_units.specs.Numbers.{is_digit, is_point, is_bad_at, IsFirstBad, first_below, or_else, bad_place, units_of, sized, checked, vehicles}
+use Rattle.ltm_units.specs.declared.numbers.NumberFault.TheVariants.{Empty, BadByte}
+use Rattle.ltm_units.specs.Numbers.{is_digit, is_point, is_bad_at, IsFirstBad, first_below, or_else, bad_place, sized, checked, vehicles}
 
 -- a test that holds nowhere below a number, and then at it or not
 pub first_here : (test : ℕ → Bool) (n : ℕ) → first_below test n ≡ None → test n ≡ true → first_below test (n + 1) ≡ Some n

@@ -1,3 +1,5 @@
 pub mod Digits
 pub mod BadBytes
 pub mod Padding
+pub mod Splits
+pub mod Sums

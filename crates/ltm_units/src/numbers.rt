@@ -1,5 +1,5 @@
 //! The numbers that texts tell.
-ghost use Rattle.std.specs.Prelude.{◌≡◌, ℕ, ◌<◌, ◌≤◌, ◌+◌, ◌++◌, ◌^◌, ◌↔◌, ◌==◌, ◌&&◌, ◌||◌, not, min, length, drop, true, Err, OnOk, OnErr, OnSome, position};
+ghost use Rattle.std.specs.Prelude.{◌≡◌, ℕ, ◌<◌, ◌≤◌, ◌+◌, ◌++◌, ◌^◌, ◌↔◌, ◌==◌, ◌&&◌, ◌||◌, not, min, length, drop, true, Err, IfOk, OnOk, OnErr, OnSome, position};
 ghost use Rattle.std.specs.List.{list_all};
 ghost use Rattle.ltm_units.specs.Numbers.{is_digit, is_point, value, whole, vehicles, vehicles_text, bad_place, sized, IsFirstBad};
 
@@ -88,7 +88,8 @@ fn find_point(text: &[u8]) -> Option<usize>
 fn amount(front: &[u8], back: &[u8]) -> Result<Units, NumberFault>
     requires front { list_all is_digit front.now ≡ true }
     requires back { list_all is_digit back.now ≡ true }
-    ensures { result ≡ sized front.now back.now }
+    ensures value { result ≡ sized front.now back.now }
+    ensures small { IfOk result (λ units. units.0 ≤ 1000000000) }
 {
     if back.len() > 3 {
         return Err(NumberFault::TooManyDecimals);
@@ -110,7 +111,8 @@ fn amount(front: &[u8], back: &[u8]) -> Result<Units, NumberFault>
 /// The amount that a text tells, or its first fault.
 #[tactic(auto, using(crate::proofs::BadBytes::parts))]
 fn tell(text: &[u8]) -> Result<Units, NumberFault>
-    ensures { result ≡ vehicles text.now }
+    ensures value { result ≡ vehicles text.now }
+    ensures small { IfOk result (λ units. units.0 ≤ 1000000000) }
 {
     if text.is_empty() {
         return Err(NumberFault::Empty);
@@ -131,6 +133,7 @@ fn tell(text: &[u8]) -> Result<Units, NumberFault>
 /// first.
 pub fn read_vehicles(text: &[u8]) -> Result<Units, NumberFault>
     ensures value { result ≡ vehicles text.now }
+    ensures small { IfOk result (λ units. units.0 ≤ 1000000000) }
     ensures bad_byte { (place : ℕ) → (result ≡ Err (NumberFault.BadByte place)) ↔ IsFirstBad text.now place }
 {
     tell(text)

@@ -1,5 +1,5 @@
 use Rattle.std.proofs.Common.{◌≡◌, ◌≤◌, ◌*◌, ◌^◌}
-use Rattle.ltm_curve.specs.Sums.{sum_below}
+use Rattle.ltm_units.specs.Sums.{sum_below}
 use Rattle.ltm_curve.specs.Table.{counts_of}
 use Rattle.ltm_curve.proofs.curves.Curves.total.Given as goal
 

@@ -1,4 +1,3 @@
--- Sums over numbers.
 use Rattle.std.specs.Prelude.{ℕ, zero, suc, ◌+◌}
 
 -- the sum of f over the numbers below n

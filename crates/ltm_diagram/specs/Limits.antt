@@ -1,0 +1,51 @@
+-- The limits of a link in slots of a step, or the first fault of its diagram.
+use Rattle.std.specs.Prelude.{ℕ, ◌+◌, ◌*◌, ◌/◌, ◌==◌, ◌||◌, Bool, nat_lt, Result, Ok, Err, if◌then◌else◌}
+use Rattle.std.specs.Int.{div_ceil}
+use Rattle.ltm_diagram.specs.declared.diagram.Diagram.{Diagram}
+use Rattle.ltm_diagram.specs.declared.diagram.Limits.{Limits}
+use Rattle.ltm_diagram.specs.declared.diagram.Field.{Field}
+use Rattle.ltm_diagram.specs.declared.diagram.Field.TheVariants.{Length, Free, Wave, Jam}
+use Rattle.ltm_diagram.specs.declared.diagram.DiagramFault.{DiagramFault}
+use Rattle.ltm_diagram.specs.declared.diagram.DiagramFault.TheVariants.{Zero, Over, StepTooLong, NoCapacity, CapacityOver}
+
+-- the milliseconds in which a vehicle drives through a link at free speed: at 1 km/h a metre takes 3600
+abbrev pub free_flow_time : Diagram → ℕ
+free_flow_time d = div_ceil (d.length_m * 3600) d.free_kmh
+
+-- the milliseconds in which a wave of queued traffic runs back through it
+abbrev pub wave_time : Diagram → ℕ
+wave_time d = div_ceil (d.length_m * 3600) d.wave_kmh
+
+-- the thousandths of a vehicle that pass in a slot where free and queued traffic meet
+abbrev pub capacity_of : Diagram → ℕ → ℕ
+capacity_of d step = d.jam_per_km * d.free_kmh * d.wave_kmh * step / ((d.free_kmh + d.wave_kmh) * 3600)
+
+-- the thousandths of a vehicle that stand on it at jam density
+abbrev pub storage_of : Diagram → ℕ
+storage_of d = d.jam_per_km * d.length_m
+
+-- the fault, where the test holds
+abbrev pub refuse : Bool → DiagramFault → Result (Unit {0}) DiagramFault
+refuse test fault = if test then Err fault else Ok tt
+
+-- the first fault of two steps, or what the second gives
+infixr 10 ◌>>>◌
+abbrev pub ◌>>>◌ : {A : Type 0} → Result (Unit {0}) DiagramFault → Result A DiagramFault → Result A DiagramFault
+(Ok x) >>> next = next
+(Err fault) >>> next = Err fault
+
+-- a field is at least 1 and at most its limit
+abbrev pub sized : Field → ℕ → ℕ → Result (Unit {0}) DiagramFault
+sized field most value = refuse (value == 0) (Zero field) >>> refuse (nat_lt most value) (Over field)
+
+-- the limits, or the first fault: of a field, of the times, of the capacity
+unfoldable pub limits_of : Diagram → ℕ → Result Limits DiagramFault
+limits_of d step =
+    sized Length 1000000 d.length_m
+    >>> sized Free 1000 d.free_kmh
+    >>> sized Wave 1000 d.wave_kmh
+    >>> sized Jam 10000 d.jam_per_km
+    >>> refuse (nat_lt (free_flow_time d) step || nat_lt (wave_time d) step) (StepTooLong (free_flow_time d) (wave_time d))
+    >>> refuse (capacity_of d step == 0) NoCapacity
+    >>> refuse (nat_lt 32000 (capacity_of d step)) CapacityOver
+    >>> Ok (record { free_ms = free_flow_time d; wave_ms = wave_time d; capacity = capacity_of d step; storage = storage_of d })

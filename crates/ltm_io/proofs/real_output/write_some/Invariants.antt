@@ -1,0 +1,6 @@
+-- What an interrupted write leaves.
+use Rattle.std.specs.Io.KnownBytes.{Keeps}
+use Rattle.ltm_io.proofs.real_output.write_some.Given as goal
+
+abbrev pub invariant-loop : goal.invariant-loop
+invariant-loop g l = Keeps (g.W.Write.contents l.initial.writer) (g.W.Write.contents l.writer)

@@ -1,0 +1,10 @@
+pub mod Doc
+pub mod Faults
+pub mod Fetched
+pub mod Folder
+pub mod MemFolder
+pub mod MemSink
+pub mod RealFolder
+pub mod RealOutput
+pub mod Sink
+pub mod SureSink
