@@ -1,5 +1,5 @@
 -- Where counts lie in the table.
-use Rattle.std.proofs.Common.{◌≡◌, ◌≢◌, ℕ, ◌+◌, ◌*◌, ◌^◌, ◌<◌, ◌≤◌, ◌⊎◌, List, length, slice_index, slice_set, ℤ, pos, negsuc, ◌≤ℤ◌, arith, refl, subst, inl, inr, ap, sym, ◌∙◌, get_or-set_same, get_or-set_other}
+use Rattle.std.proofs.Common.{◌≡◌, ◌≢◌, ℕ, ◌+◌, ◌*◌, ◌<◌, ◌≤◌, List, length, slice_index, slice_set, ℤ, pos, negsuc, ◌≤ℤ◌, arith, refl, inl, inr, ap, sym, ◌∙◌, get_or-set_same, get_or-set_other}
 use Rattle.std.proofs.lemmas.Nat.{same_from_place}
 use Rattle.std.proofs.lemmas.Int.{ints}
 use Rattle.ltm_units.specs.Sums.{sum_below}

@@ -1,10 +1,10 @@
 -- What holds of the counts of a road.
-use Rattle.std.proofs.Common.{◌≡◌, ℕ, zero, suc, ◌+◌, ◌-◌, ◌*◌, ◌<◌, ◌≤◌, min, arith, inl, inr, refl, ap, sym, ◌∙◌, subst}
+use Rattle.std.proofs.Common.{◌≡◌, ℕ, zero, suc, ◌+◌, ◌-◌, ◌<◌, ◌≤◌, min, arith, inl, inr, ap, sym, ◌∙◌, subst}
 use Rattle.std.proofs.lemmas.Bool.{cases_lt}
 use Rattle.ltm_curve.specs.Counts.{Counts, Rises}
 use Rattle.ltm_flows.specs.declared.road.Road.{Road}
 use Rattle.ltm_flows.specs.OneRoad.{IsRoad, produced}
-use Rattle.ltm_flows.specs.OneRoadLoading.{up, down, dep, dep_of_head, arr, earlier, origin_sending, sending, receiving, entering, MeetsRoad, IsRoadFront, IsRoadLoading}
+use Rattle.ltm_flows.specs.OneRoadLoading.{up, down, dep, arr, earlier, origin_sending, sending, receiving, entering, MeetsRoad, IsRoadFront}
 use Rattle.ltm_flows.specs.OneRoadLaws.{OneRoadLoading, AreRoadCounts, RoadCountsBounded}
 use Rattle.ltm_flows.proofs.Earlier.{earlier_within, earlier_rises, earlier_same}
 use Rattle.ltm_flows.proofs.Produced.{produced_small, produced_rises}

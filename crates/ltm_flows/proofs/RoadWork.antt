@@ -1,12 +1,12 @@
 -- A slot more.
-use Rattle.std.proofs.Common.{◌≡◌, ◌≢◌, ℕ, zero, suc, ◌+◌, ◌-◌, ◌*◌, ◌<◌, ◌≤◌, min, arith, inl, inr, refl, ap, sym, ◌∙◌, subst}
+use Rattle.std.proofs.Common.{◌≡◌, ℕ, ◌+◌, ◌-◌, ◌<◌, ◌≤◌, min, arith, inl, inr, ap, sym, ◌∙◌, subst}
 use Rattle.std.proofs.lemmas.Bool.{cases_lt}
-use Rattle.ltm_curve.specs.Counts.{Counts, Rises}
+use Rattle.ltm_curve.specs.Counts.{Counts}
 use Rattle.ltm_curve.specs.declared.curves.Curves.{Curves}
-use Rattle.ltm_curve.specs.Table.{slots_of, counts_of, HasShape, SameShape}
+use Rattle.ltm_curve.specs.Table.{slots_of, counts_of}
 use Rattle.ltm_flows.specs.declared.road.Road.{Road}
 use Rattle.ltm_flows.specs.OneRoad.{IsRoad, produced}
-use Rattle.ltm_flows.specs.OneRoadLoading.{up, down, dep, dep_of_head, arr, earlier, origin_sending, sending, receiving, entering, MeetsRoad, IsRoadFront}
+use Rattle.ltm_flows.specs.OneRoadLoading.{up, down, dep, arr, earlier, origin_sending, sending, entering, MeetsRoad}
 use Rattle.ltm_flows.specs.OneRoadLaws.{AreRoadCounts}
 use Rattle.ltm_flows.specs.OneRoadWork.{IsRoadLoadedTo, WritesBoundary}
 use Rattle.ltm_flows.proofs.RoadCounts.{road_counts, Agree, sending_same, entering_same}

@@ -1,5 +1,5 @@
 -- What a road is, and what its demand produces.
-use Rattle.std.specs.Prelude.{◌≡◌, ℕ, ◌+◌, ◌-◌, ◌*◌, ◌/◌, ◌<◌, ◌≤◌, ◌⊎◌, nat_le, if◌then◌else◌}
+use Rattle.std.specs.Prelude.{◌≡◌, ℕ, ◌-◌, ◌*◌, ◌/◌, ◌<◌, ◌≤◌, ◌⊎◌, nat_le, if◌then◌else◌}
 use Rattle.ltm_flows.specs.declared.road.Road.{Road}
 
 -- the numbers of a road that can be loaded

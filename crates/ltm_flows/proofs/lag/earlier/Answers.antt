@@ -1,4 +1,4 @@
-use Rattle.std.proofs.Common.{◌≡◌, ◌+◌, ◌-◌, arith, sym, ◌∙◌}
+use Rattle.std.proofs.Common.{◌+◌, ◌-◌, arith, sym}
 use Rattle.ltm_curve.specs.Table.{counts_of}
 use Rattle.ltm_flows.proofs.Earlier.{earlier_before, earlier_past}
 use Rattle.ltm_flows.proofs.lag.earlier.Goals as goal

@@ -1,6 +1,6 @@
-use Rattle.std.proofs.Common.{◌≡◌, ℕ, ◌+◌, ◌-◌, ◌≤◌, min, arith, ap, ◌∙◌}
+use Rattle.std.proofs.Common.{◌≡◌, ℕ, ◌+◌, ◌-◌, min, arith, ap, ◌∙◌}
 use Rattle.ltm_curve.specs.Table.{counts_of}
-use Rattle.ltm_flows.specs.OneRoadLoading.{up, down, dep, earlier, sending, entering}
+use Rattle.ltm_flows.specs.OneRoadLoading.{up, down, earlier, sending, entering}
 use Rattle.ltm_flows.proofs.Earlier.{earlier_lag}
 use Rattle.ltm_flows.proofs.Produced.{produced_rises, produced_small}
 use Rattle.ltm_flows.proofs.RoadCounts.{road_counts, ready_within, room_within, left_behind, room_behind}

@@ -1,4 +1,4 @@
-use Rattle.std.proofs.Common.{ℕ, ◌≡◌, ◌≤◌, ◌*◌, ◌/◌, w64, to_z, of_z, nat_abs, arith}
+use Rattle.std.proofs.Common.{◌≤◌, ◌*◌, ◌/◌, w64, to_z, of_z, nat_abs, arith}
 use Rattle.std.proofs.Math.Nat.{div-le_of_le-mul}
 use Rattle.std.proofs.lemmas.Int.{ints}
 use Rattle.ltm_curve.proofs.curves.Curves.at.Goals as goal
