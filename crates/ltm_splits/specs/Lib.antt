@@ -1,0 +1,5 @@
+pub mod Rows
+pub mod Table
+pub mod Entries
+pub mod WeightsLie
+pub mod WeightsBack
