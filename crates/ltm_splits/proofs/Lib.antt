@@ -5,3 +5,4 @@ pub mod Place
 pub mod Sums
 pub mod Sorted
 pub mod Kept
+pub mod Meaning

@@ -3,3 +3,4 @@ pub mod Table
 pub mod Entries
 pub mod WeightsLie
 pub mod WeightsBack
+pub mod Latest

@@ -1,5 +1,5 @@
 -- Split rows as contracts see them: a list in the order of their keys.
-use Rattle.std.specs.Prelude.{◌≡◌, ℕ, Bool, Option, Some, None, ◌==◌, ◌&&◌, if◌then◌else◌, nat_le, nat_lt, List, length, sum, filter, slice_get, is_none, Result, Ok, Err}
+use Rattle.std.specs.Prelude.{ℕ, Bool, Option, Some, None, ◌==◌, ◌&&◌, if◌then◌else◌, nat_le, List, length, sum, filter, slice_get, is_none, Result, Ok, Err}
 use Rattle.std.specs.Option.{option_map}
 use Rattle.std.specs.List.{last_or}
 use Rattle.std.specs.Map.{lookup, remove_entry, keys_of}

@@ -27,3 +27,8 @@ entries_at nodes node destination = slice_index_or (slice_index_or nodes node []
 -- with another list for a pair
 abbrev pub with_entries : List (List (List Entry)) → ℕ → ℕ → List Entry → List (List (List Entry))
 with_entries nodes node destination entries = slice_set nodes node (slice_set (slice_index_or nodes node []) destination entries)
+
+-- the rows from a place on: those left of a pair, then those of the pairs left of its node, then those of the nodes left
+abbrev pub rows_left : ℕ → ℕ → List Entry → ℕ → List (List Entry) → ℕ → List (List (List Entry)) → List SplitRow
+rows_left node destination entries next_destination pairs next_node nodes =
+    rows_of_pair node destination entries ++ (end_to_end (rows_of_pair node) next_destination pairs ++ end_to_end rows_of_node next_node nodes)

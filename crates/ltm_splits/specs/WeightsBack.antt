@@ -1,5 +1,5 @@
 -- Four places are weights and zeros, so the weights give them back.
-use Rattle.std.specs.Prelude.{ℕ, ◌≡◌, ◌<◌, ◌≤◌, ◌+◌, ◌-◌, List, length, take, replicate}
+use Rattle.std.specs.Prelude.{ℕ, ◌≡◌, ◌≤◌, ◌+◌, ◌-◌, List, length, take, replicate}
 use Rattle.std.proofs.Common.{arith, ap, sym, ◌∙◌, length-append}
 use Rattle.std.proofs.lemmas.List.{length-replicate, length-take}
 use Rattle.ltm_splits.specs.WeightsLie.{padded, AreWeights}

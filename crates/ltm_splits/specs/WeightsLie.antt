@@ -1,5 +1,5 @@
 -- How the weights of a row lie in four places: the weights and then zeros.
-use Rattle.std.specs.Prelude.{ℕ, ◌≡◌, ◌<◌, ◌≤◌, ◌+◌, ◌-◌, ◌++◌, List, length, take, replicate, sum}
+use Rattle.std.specs.Prelude.{ℕ, ◌<◌, ◌≤◌, ◌-◌, ◌++◌, List, length, replicate, sum}
 
 -- the weights and their padding
 abbrev pub padded : List ℕ → List ℕ

@@ -1,5 +1,5 @@
 //! The rows of one node: a list for each destination.
-ghost use Rattle.std.specs.Prelude.{◌≡◌, ℕ, ◌+◌, ◌<◌, [], None, IfOk, OnOk, OnErr, is_some, if◌then◌else◌, length, slice_index_or, slice_set, unwrap_or};
+ghost use Rattle.std.specs.Prelude.{◌≡◌, ℕ, ◌+◌, ◌<◌, ◌≤◌, ◌^◌, [], None, IfOk, OnOk, OnErr, is_some, if◌then◌else◌, length, slice_index_or, slice_set, unwrap_or};
 ghost use Rattle.std.specs.Option.{option_copied};
 ghost use Rattle.std.specs.Map.{lookup, remove_entry};
 ghost use Rattle.std.specs.BTreeMap.{insert_entry, is_at};
@@ -49,6 +49,7 @@ impl NodeRows {
     /// The lists by destination.
     pub fn pairs(&self) -> &[PairRows]
         ensures lists { result.now ≡ self.now }
+        ensures few { length self.now ≤ 2 ^ 32 }
     {
         &self.pairs
     }

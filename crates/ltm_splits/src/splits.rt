@@ -1,10 +1,11 @@
 //! The table of split rows.
-ghost use Rattle.std.specs.Prelude.{◌≡◌, ◌≢◌, ◌↔◌, ℕ, ◌≤◌, ◌<◌, List, [], Ok, Err, Some, None, IsTrue, IsSome, IsNone, IfSome, IfOk, IfErr, OnOk, OnErr, is_some, if◌then◌else◌, length, MatchOption, ⊤};
+ghost use Rattle.std.specs.Prelude.{◌≡◌, ◌≢◌, ◌≤◌, ◌<◌, [], Ok, Err, Some, None, IsTrue, IsSome, IsNone, IfSome, IfOk, IfErr, OnOk, OnErr, is_some, if◌then◌else◌, length};
 ghost use Rattle.std.specs.Option.{option_copied};
 ghost use Rattle.ltm_splits.specs.WeightsLie.{AreWeights};
 
 use crate::keys::{SplitFault, SplitKey};
 use crate::node_table::NodeTable;
+use crate::rows::Rows;
 use crate::weights::{Weights, are_zero};
 use ltm_units::{NoMemory, NodeId};
 use std::alloc::Global;
@@ -35,7 +36,7 @@ impl Model for Splits {
 }
 
 impl Splits {
-    ghost use Rattle.ltm_splits.specs.Rows.{SplitRow, IsOrdered, key_of, with_rows, with_slots, with_row, row_of, put_in, taken_out, put_back, row_in_force, begins};
+    ghost use Rattle.ltm_splits.specs.Rows.{IsOrdered, key_of, with_rows, with_slots, with_row, row_of, put_in, taken_out, put_back, row_in_force, begins};
 
     /// A table without rows, for that many slots. It takes no memory.
     pub fn new(alloc: Global, slots: u32) -> Splits
@@ -78,6 +79,7 @@ impl Splits {
         ensures ok { OnOk result (with_row self.old (key_of node.0 destination from) weights.now ≡ Ok self.new) }
         ensures err { OnErr result (self.new ≡ self.old) }
         ensures cause { IfErr result (λ e. e ≢ SplitFault.NoMemory → with_row self.old (key_of node.0 destination from) weights.now ≡ Err e) }
+        ensures slots { self.new.slots ≡ self.old.slots }
         ensures no_memory { result ≡ Err SplitFault.NoMemory → row_of self.old.rows (key_of node.0 destination from) ≡ None }
 
         // Putting back what stood there gives back the very rows.
@@ -138,6 +140,14 @@ impl Splits {
             Some(pair) => pair.get(from),
             None => None,
         }
+    }
+
+    /// The keys and weights of all rows in the order of the keys.
+    pub fn rows(&self) -> Rows<'_>
+        ensures rows { result ≡ self.now.rows }
+        ensures ordered { IsOrdered self.now.rows }
+    {
+        Rows::of(self.table.nodes())
     }
 
     /// Raises the horizon. No row changes, and no memory is taken.

@@ -1,4 +1,4 @@
-use Rattle.std.proofs.Common.{◌<◌, ◌-◌, ◌≡◌, [], subst, sym, arith}
+use Rattle.std.proofs.Common.{◌<◌, ◌-◌, [], subst, sym, arith}
 use Rattle.std.proofs.lemmas.List.{get_or_default}
 use Rattle.ltm_splits.specs.Entries.{IsCount}
 use Rattle.ltm_splits.proofs.Place.{force_none, force_last}

@@ -1,6 +1,6 @@
 use Rattle.std.proofs.Common.{sym, ap}
 use Rattle.std.specs.Option.{is_some}
-use Rattle.ltm_splits.proofs.Place.{lookup_at, lookup_gap, put_at, rising_set}
+use Rattle.ltm_splits.proofs.Place.{lookup_at, lookup_gap, put_at}
 use Rattle.ltm_splits.proofs.pair_rows.PairRows.replace.Goals as goal
 
 pub returns-in-Ok-clause-stood : goal.returns-in-Ok-clause-stood

@@ -1,4 +1,4 @@
-use Rattle.std.proofs.Common.{◌≡◌, sym, ap, ◌∙◌, List}
+use Rattle.std.proofs.Common.{sym, ap, ◌∙◌, List}
 use Rattle.std.specs.Option.{option_map}
 use Rattle.std.specs.List.{slice_get}
 use Rattle.ltm_splits.specs.Rows.{SplitsData, begins}

@@ -1,4 +1,4 @@
-use Rattle.std.proofs.Common.{◌≡◌, ℕ, List, [], length, refl, sym, subst}
+use Rattle.std.proofs.Common.{◌≡◌, List, [], length, refl, sym, subst}
 use Rattle.ltm_splits.specs.Rows.{IsOrdered}
 use Rattle.ltm_splits.specs.Table.{Entry, rows_of_all}
 use Rattle.std.specs.List.Sorted.{IsStrictlySortedBy}

@@ -1,6 +1,6 @@
-use Rattle.std.proofs.Common.{◌≡◌, if◌then◌else◌, true, sym, ap, ◌∙◌, subst}
+use Rattle.std.proofs.Common.{◌≡◌, sym, ap, ◌∙◌, subst}
 use Rattle.std.specs.Option.{is_some}
-use Rattle.ltm_splits.specs.Rows.{SplitsData, row_of, put_in, put_back, with_rows}
+use Rattle.ltm_splits.specs.Rows.{SplitsData, row_of, put_back}
 use Rattle.ltm_splits.specs.Table.{rows_of_all}
 use Rattle.ltm_splits.proofs.Kept.{replaced, rows_clause}
 use Rattle.ltm_splits.proofs.splits.Splits.replace.Goals as goal

@@ -1,4 +1,4 @@
-use Rattle.std.proofs.Common.{◌≡◌, sym, ap, ◌∙◌}
+use Rattle.std.proofs.Common.{sym, ap, ◌∙◌}
 use Rattle.ltm_splits.specs.Rows.{SplitsData, row_in_force}
 use Rattle.ltm_splits.specs.Entries.{entry_in_force}
 use Rattle.ltm_splits.proofs.Pairs.{force_all}

@@ -1,4 +1,4 @@
-use Rattle.std.proofs.Common.{◌≡◌, ◌+◌, ◌-◌, length, true, false, sym, ap, ◌∙◌, arith}
+use Rattle.std.proofs.Common.{◌≡◌, ◌+◌, length, true, false, sym, ap, ◌∙◌, arith}
 use Rattle.ltm_splits.specs.Rows.{SplitsData, key_of, taken_out, with_rows}
 use Rattle.ltm_splits.specs.Table.{rows_of_all}
 use Rattle.ltm_splits.proofs.Kept.{removed, with_slots_rows}
