@@ -10,7 +10,7 @@ use Rattle.ltm_splits.specs.declared.keys.SplitKey.{SplitKey}
 use Rattle.ltm_splits.specs.Rows.{SplitRow, SplitsData, IsOrdered, key_of, with_rows, row_of, put_in, taken_out, put_back}
 use Rattle.ltm_splits.specs.Table.{Entry, rows_of_all, entries_at, with_entries}
 use Rattle.ltm_splits.proofs.Pairs.{put_all, take_all, row_all}
-use Rattle.ltm_splits.proofs.Sorted.{split_total, ordered_put, ordered_take, back_new, back_old, length_put_new, length_put_old, length_take, take_absent}
+use Rattle.ltm_splits.proofs.Sorted.{split_total, there, ordered_put, ordered_take, back_new, back_old, length_put_new, length_put_old, length_take, take_absent}
 use Rattle.ltm_splits.specs.Rows.{split_cmp}
 
 abbrev pub with_slots_rows : ℕ → List SplitRow → SplitsData
@@ -46,20 +46,22 @@ module _ (table : List (List (List Entry))) (n d f : ℕ) where
     pub ordered : IsOrdered (rows_of_all new)
     pub count : length (rows_of_all new) ≡ length (rows_of_all table)
     pub rows : rows_of_all new ≡ (if stands then put_in (rows_of_all table) (key_of n d f) w else rows_of_all table)
+    pub there_now : stands ≡ true → row_of (rows_of_all new) (key_of n d f) ≡ Some w
     pub back : stands ≡ true → put_back (rows_of_all new) (key_of n d f) (row_of (rows_of_all table) (key_of n d f)) ≡ rows_of_all table
 
   replaced_one : (w v : List ℕ) → found ≡ Some v → IsOrdered (rows_of_all table) → Replaced w true (with_entries table n d (insert_entry nat_cmp entries f w))
   replaced_one w v is ordered =
       let old = rows_of_all table in
       let new = rows_of_all (with_entries table n d (insert_entry nat_cmp entries f w)) in
-      let there : row_of old (key_of n d f) ≡ Some v = row_all n d f table ∙ is in
+      let stood_there : row_of old (key_of n d f) ≡ Some v = row_all n d f table ∙ is in
       let rows : new ≡ put_in old (key_of n d f) w = put_all n d f w table (within v is).0 (within v is).1 in
       record {
-        stood = sym (ap is_some there);
+        stood = sym (ap is_some stood_there);
         ordered = subst IsOrdered (sym rows) (ordered_put (key_of n d f) w old ordered);
-        count = ap length rows ∙ length_put_old split_cmp split_total (key_of n d f) w v old ordered there;
+        count = ap length rows ∙ length_put_old split_cmp split_total (key_of n d f) w v old ordered stood_there;
         rows = rows;
-        back = λ _. ap (λ l. put_back l (key_of n d f) (row_of old (key_of n d f))) rows ∙ back_old (key_of n d f) w v old ordered there;
+        there_now = λ _. ap (λ l. row_of l (key_of n d f)) rows ∙ there (key_of n d f) w old;
+        back = λ _. ap (λ l. put_back l (key_of n d f) (row_of old (key_of n d f))) rows ∙ back_old (key_of n d f) w v old ordered stood_there;
       }
 
   pub replaced : (w : List ℕ) (stands : Bool) (new : List (List (List Entry))) → stands ≡ is_some found →
@@ -73,6 +75,7 @@ module _ (table : List (List (List Entry))) (n d f : ℕ) where
         ordered = ordered;
         count = refl;
         rows = refl;
+        there_now = λ no. cc;
         back = λ no. cc;
       })
 
@@ -85,11 +88,11 @@ module _ (table : List (List (List Entry))) (n d f : ℕ) where
   removed_one v is ordered =
       let old = rows_of_all table in
       let new = rows_of_all (with_entries table n d (remove_entry (is_at (nat_cmp f)) entries)) in
-      let there : row_of old (key_of n d f) ≡ Some v = row_all n d f table ∙ is in
+      let stood_there : row_of old (key_of n d f) ≡ Some v = row_all n d f table ∙ is in
       let rows : new ≡ taken_out old (key_of n d f) = take_all n d f table (within v is).0 (within v is).1 in
       record {
         ordered = subst IsOrdered (sym rows) (ordered_take (key_of n d f) old ordered);
-        count = ap (λ l. length l + 1) rows ∙ length_take split_cmp (is_at (split_cmp (key_of n d f))) v old there;
+        count = ap (λ l. length l + 1) rows ∙ length_take split_cmp (is_at (split_cmp (key_of n d f))) v old stood_there;
         rows = rows;
       }
 
@@ -113,6 +116,7 @@ module _ (table : List (List (List Entry))) (n d f : ℕ) where
     pub ordered : IsOrdered (rows_of_all new)
     pub count : length (rows_of_all new) ≡ length (rows_of_all table) + 1
     pub rows : rows_of_all new ≡ put_in (rows_of_all table) (key_of n d f) w
+    pub there_now : row_of (rows_of_all new) (key_of n d f) ≡ Some w
     pub back : put_back (rows_of_all new) (key_of n d f) (row_of (rows_of_all table) (key_of n d f)) ≡ rows_of_all table
 
   -- room was made first, which changes no row
@@ -125,6 +129,7 @@ module _ (table : List (List (List Entry))) (n d f : ℕ) where
         ordered = subst IsOrdered (sym rows) (ordered_put (key_of n d f) w old ordered);
         count = ap length rows ∙ length_put_new split_cmp (key_of n d f) w old none;
         rows = rows;
+        there_now = ap (λ l. row_of l (key_of n d f)) rows ∙ there (key_of n d f) w old;
         back = ap (λ l. put_back l (key_of n d f) (row_of old (key_of n d f))) rows ∙ back_new (key_of n d f) w old none;
       }
 

@@ -99,6 +99,16 @@ module _ {K X : Type 0} (R : K → K → Ordering) where
         | false ↦ λ gone. ap (λ l. e ∷ l) (take_absent test es gone)
       ] none
 
+  -- a row that was put in is found
+  pub lookup_put : ((x : K) → R x x ≡ Equal) → (k : K) (v : X) (es : List (K × X)) → lookup (is_at (R k)) (insert_entry R es k v) ≡ Some v
+  lookup_put itself k v [] = ap (λ r. cond (is_eq r) (Some v) None) (itself k)
+  lookup_put itself k v (e ∷ es) =
+      elim (R k e.0) as (λ r. R k e.0 ≡ r → lookup (is_at (R k)) (match_ordering r ((k, v) ∷ e ∷ es) ((e.0, v) ∷ es) (e ∷ insert_entry R es k v)) ≡ Some v) [
+        | Less ↦ λ is. ap (λ r. cond (is_eq r) (Some v) (lookup (is_at (R k)) (e ∷ es))) (itself k)
+        | Equal ↦ λ is. ap (λ r. cond (is_eq r) (Some v) (lookup (is_at (R k)) es)) is
+        | Greater ↦ λ is. ap (λ r. cond (is_eq r) (Some e.1) (lookup (is_at (R k)) (insert_entry R es k v))) is ∙ lookup_put itself k v es
+      ] refl
+
   -- a row that was not there is taken out again
   pub remove_entry-insert_entry : ((x : K) → R x x ≡ Equal) → (k : K) (v : X) (es : List (K × X)) → lookup (is_at (R k)) es ≡ None → remove_entry (is_at (R k)) (insert_entry R es k v) ≡ es
   remove_entry-insert_entry itself k v [] none = ap (λ r. cond (is_eq r) [] ((k, v) ∷ [])) (itself k)
@@ -149,3 +159,6 @@ back_new key w rows none = ap (put_back (put_in rows key w) key) none ∙ remove
 
 pub back_old : (key : SplitKey) (w v : List ℕ) (rows : List SplitRow) → IsOrdered rows → row_of rows key ≡ Some v → put_back (put_in rows key w) key (row_of rows key) ≡ rows
 back_old key w v rows s found = ap (put_back (put_in rows key w) key) found ∙ insert_entry-back split_cmp rows key w v s split_total found
+
+pub there : (key : SplitKey) (w : List ℕ) (rows : List SplitRow) → row_of (put_in rows key w) key ≡ Some w
+there key w rows = lookup_put split_cmp split_itself key w rows

@@ -1,5 +1,7 @@
 //! What a split row is known by, and why one may be refused.
 use ltm_units::NodeId;
+use std::error::Error;
+use std::fmt;
 
 /// What a split row is known by. Rows are listed in this order: by node, then by destination, then by first slot.
 #[derive(Clone, Copy, Debug, PartialEq, Eq, PartialOrd, Ord)]
@@ -22,3 +24,17 @@ pub enum SplitFault {
     TooManyRows,
     NoMemory,
 }
+
+impl fmt::Display for SplitFault {
+    fn fmt<W: fmt::Write>(&self, f: &mut fmt::Formatter<W>) -> fmt::Result {
+        let text = match self {
+            SplitFault::BadSlots => "the first slot is not below the horizon",
+            SplitFault::ZeroWeight => "no weight is above 0",
+            SplitFault::TooManyRows => "more than 50000 split rows",
+            SplitFault::NoMemory => "out of memory",
+        };
+        write!(f, "{text}")
+    }
+}
+
+impl Error for SplitFault {}

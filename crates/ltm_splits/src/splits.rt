@@ -82,7 +82,8 @@ impl Splits {
         ensures slots { self.new.slots ≡ self.old.slots }
         ensures no_memory { result ≡ Err SplitFault.NoMemory → row_of self.old.rows (key_of node.0 destination from) ≡ None }
 
-        // Putting back what stood there gives back the very rows.
+        // The row stands, and putting back what stood there before gives back the very rows.
+        ensures stands { OnOk result (row_of self.new.rows (key_of node.0 destination from) ≡ Some weights.now) }
         ensures back { OnOk result
             (put_back self.new.rows (key_of node.0 destination from) (row_of self.old.rows (key_of node.0 destination from)) ≡ self.old.rows) }
     {
@@ -202,6 +203,7 @@ impl Splits {
     fn replace(&mut self, key: SplitKey, weights: Weights) -> bool
         ensures stood { result ≡ is_some (row_of self.old.rows key) }
         ensures rows { self.new ≡ (if result then with_rows self.old (put_in self.old.rows key weights) else self.old) }
+        ensures stands { IsTrue result → row_of self.new.rows key ≡ Some weights }
         ensures back { IsTrue result → put_back self.new.rows key (row_of self.old.rows key) ≡ self.old.rows }
     {
         self.table.replace(key, weights)
@@ -213,6 +215,7 @@ impl Splits {
         requires few { length self.old.rows < 50000 }
         ensures ok { OnOk result (self.new ≡ with_rows self.old (put_in self.old.rows key weights)) }
         ensures err { OnErr result (self.new ≡ self.old) }
+        ensures stands { OnOk result (row_of self.new.rows key ≡ Some weights) }
         ensures back { OnOk result (put_back self.new.rows key (row_of self.old.rows key) ≡ self.old.rows) }
     {
         self.table.make_room(key.node, key.destination)?;

@@ -25,3 +25,9 @@ returns-clause-back c =
     let none : row_of (rows_of_all c.self.inside.table) c.args.key ≡ None = ap (λ (v : SplitsData). row_of v.rows c.args.key) c.self.view_is ∙ c.requires.new in
     let a = added c.self.inside.table c.args.key.node.0 c.args.key.destination c.args.key.from c.args.weights c.make_room.new.self c.insert.new.self c.in_ok-make_room.ensures.node c.in_ok-make_room.ensures.destination c.make_room.ensures.rows none c.in_ok-insert.ensures.ok c.self.invariant.0 in
     subst (λ (v : SplitsData). put_back (rows_of_all c.insert.new.self) c.args.key (row_of v.rows c.args.key) ≡ v.rows) c.self.view_is a.back
+
+pub returns-clause-stands : goal.returns-clause-stands
+returns-clause-stands c =
+    let none : row_of (rows_of_all c.self.inside.table) c.args.key ≡ None = ap (λ (v : SplitsData). row_of v.rows c.args.key) c.self.view_is ∙ c.requires.new in
+    let a = added c.self.inside.table c.args.key.node.0 c.args.key.destination c.args.key.from c.args.weights c.make_room.new.self c.insert.new.self c.in_ok-make_room.ensures.node c.in_ok-make_room.ensures.destination c.make_room.ensures.rows none c.in_ok-insert.ensures.ok c.self.invariant.0 in
+    a.there_now

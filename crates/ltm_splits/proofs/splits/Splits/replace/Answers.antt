@@ -24,3 +24,8 @@ pub returns-clause-back : goal.returns-clause-back
 returns-clause-back c =
     let r = replaced c.self.inside.table c.args.key.node.0 c.args.key.destination c.args.key.from c.args.weights c.replace.result c.replace.new.self c.replace.ensures.stood c.replace.ensures.rows c.self.invariant.0 in
     λ stands. subst (λ (v : SplitsData). put_back (rows_of_all c.replace.new.self) c.args.key (row_of v.rows c.args.key) ≡ v.rows) c.self.view_is (r.back stands)
+
+pub returns-clause-stands : goal.returns-clause-stands
+returns-clause-stands c =
+    let r = replaced c.self.inside.table c.args.key.node.0 c.args.key.destination c.args.key.from c.args.weights c.replace.result c.replace.new.self c.replace.ensures.stood c.replace.ensures.rows c.self.invariant.0 in
+    λ stands. r.there_now stands
