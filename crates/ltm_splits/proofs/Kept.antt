@@ -7,10 +7,11 @@ use Rattle.std.specs.Map.{lookup, remove_entry}
 use Rattle.std.proofs.lemmas.Bool.{cases_lt}
 use Rattle.std.proofs.lemmas.List.{get_or_past, set-get_or}
 use Rattle.ltm_splits.specs.declared.keys.SplitKey.{SplitKey}
-use Rattle.ltm_splits.specs.Rows.{SplitRow, SplitsData, IsOrdered, key_of, with_rows, row_of, put_in, taken_out, put_back}
+use Rattle.ltm_splits.specs.Rows.{SplitRow, SplitsData, IsOrdered, HaveWeights, key_of, with_rows, row_of, put_in, taken_out, put_back}
+use Rattle.ltm_splits.specs.WeightsLie.{AreWeights}
 use Rattle.ltm_splits.specs.Table.{Entry, rows_of_all, entries_at, with_entries}
 use Rattle.ltm_splits.proofs.Pairs.{put_all, take_all, row_all}
-use Rattle.ltm_splits.proofs.Sorted.{split_total, there, ordered_put, ordered_take, back_new, back_old, length_put_new, length_put_old, length_take, take_absent}
+use Rattle.ltm_splits.proofs.Sorted.{split_total, there, weights_put, weights_take, ordered_put, ordered_take, back_new, back_old, length_put_new, length_put_old, length_take, take_absent}
 use Rattle.ltm_splits.specs.Rows.{split_cmp}
 
 abbrev pub with_slots_rows : ℕ → List SplitRow → SplitsData
@@ -44,13 +45,14 @@ module _ (table : List (List (List Entry))) (n d f : ℕ) where
   pub record Replaced (w : List ℕ) (stands : Bool) (new : List (List (List Entry))) : Type 0 where
     pub stood : stands ≡ is_some (row_of (rows_of_all table) (key_of n d f))
     pub ordered : IsOrdered (rows_of_all new)
+    pub weighted : HaveWeights (rows_of_all new)
     pub count : length (rows_of_all new) ≡ length (rows_of_all table)
     pub rows : rows_of_all new ≡ (if stands then put_in (rows_of_all table) (key_of n d f) w else rows_of_all table)
     pub there_now : stands ≡ true → row_of (rows_of_all new) (key_of n d f) ≡ Some w
     pub back : stands ≡ true → put_back (rows_of_all new) (key_of n d f) (row_of (rows_of_all table) (key_of n d f)) ≡ rows_of_all table
 
-  replaced_one : (w v : List ℕ) → found ≡ Some v → IsOrdered (rows_of_all table) → Replaced w true (with_entries table n d (insert_entry nat_cmp entries f w))
-  replaced_one w v is ordered =
+  replaced_one : (w v : List ℕ) → found ≡ Some v → IsOrdered (rows_of_all table) → AreWeights w → HaveWeights (rows_of_all table) → Replaced w true (with_entries table n d (insert_entry nat_cmp entries f w))
+  replaced_one w v is ordered one all =
       let old = rows_of_all table in
       let new = rows_of_all (with_entries table n d (insert_entry nat_cmp entries f w)) in
       let stood_there : row_of old (key_of n d f) ≡ Some v = row_all n d f table ∙ is in
@@ -58,6 +60,7 @@ module _ (table : List (List (List Entry))) (n d f : ℕ) where
       record {
         stood = sym (ap is_some stood_there);
         ordered = subst IsOrdered (sym rows) (ordered_put (key_of n d f) w old ordered);
+        weighted = subst HaveWeights (sym rows) (weights_put (key_of n d f) w old one all);
         count = ap length rows ∙ length_put_old split_cmp split_total (key_of n d f) w v old ordered stood_there;
         rows = rows;
         there_now = λ _. ap (λ l. row_of l (key_of n d f)) rows ∙ there (key_of n d f) w old;
@@ -65,14 +68,15 @@ module _ (table : List (List (List Entry))) (n d f : ℕ) where
       }
 
   pub replaced : (w : List ℕ) (stands : Bool) (new : List (List (List Entry))) → stands ≡ is_some found →
-      new ≡ (if stands then with_entries table n d (insert_entry nat_cmp entries f w) else table) → IsOrdered (rows_of_all table) → Replaced w stands new
-  replaced w true new stood is ordered =
+      new ≡ (if stands then with_entries table n d (insert_entry nat_cmp entries f w) else table) → IsOrdered (rows_of_all table) → AreWeights w → HaveWeights (rows_of_all table) → Replaced w stands new
+  replaced w true new stood is ordered heavy all =
       let one = value_of found stood in
-      subst (Replaced w true) (sym is) (replaced_one w one.0 one.1 ordered)
-  replaced w false new stood is ordered =
+      subst (Replaced w true) (sym is) (replaced_one w one.0 one.1 ordered heavy all)
+  replaced w false new stood is ordered heavy all =
       subst (Replaced w false) (sym is) (record {
         stood = stood ∙ sym (ap is_some (row_all n d f table));
         ordered = ordered;
+        weighted = all;
         count = refl;
         rows = refl;
         there_now = λ no. cc;
@@ -81,39 +85,43 @@ module _ (table : List (List (List Entry))) (n d f : ℕ) where
 
   pub record Removed (stands : Bool) (new : List (List (List Entry))) : Type 0 where
     pub ordered : IsOrdered (rows_of_all new)
+    pub weighted : HaveWeights (rows_of_all new)
     pub count : length (rows_of_all new) + (if stands then 1 else 0) ≡ length (rows_of_all table)
     pub rows : rows_of_all new ≡ taken_out (rows_of_all table) (key_of n d f)
 
-  removed_one : (v : List ℕ) → found ≡ Some v → IsOrdered (rows_of_all table) → Removed true (with_entries table n d (remove_entry (is_at (nat_cmp f)) entries))
-  removed_one v is ordered =
+  removed_one : (v : List ℕ) → found ≡ Some v → IsOrdered (rows_of_all table) → HaveWeights (rows_of_all table) → Removed true (with_entries table n d (remove_entry (is_at (nat_cmp f)) entries))
+  removed_one v is ordered all =
       let old = rows_of_all table in
       let new = rows_of_all (with_entries table n d (remove_entry (is_at (nat_cmp f)) entries)) in
       let stood_there : row_of old (key_of n d f) ≡ Some v = row_all n d f table ∙ is in
       let rows : new ≡ taken_out old (key_of n d f) = take_all n d f table (within v is).0 (within v is).1 in
       record {
         ordered = subst IsOrdered (sym rows) (ordered_take (key_of n d f) old ordered);
+        weighted = subst HaveWeights (sym rows) (weights_take (key_of n d f) old all);
         count = ap (λ l. length l + 1) rows ∙ length_take split_cmp (is_at (split_cmp (key_of n d f))) v old stood_there;
         rows = rows;
       }
 
-  removed_none : found ≡ None → IsOrdered (rows_of_all table) → Removed false (with_entries table n d (remove_entry (is_at (nat_cmp f)) entries))
-  removed_none is ordered =
+  removed_none : found ≡ None → IsOrdered (rows_of_all table) → HaveWeights (rows_of_all table) → Removed false (with_entries table n d (remove_entry (is_at (nat_cmp f)) entries))
+  removed_none is ordered all =
       let same : with_entries table n d (remove_entry (is_at (nat_cmp f)) entries) ≡ table =
       ap (with_entries table n d) (take_absent nat_cmp (is_at (nat_cmp f)) entries is) ∙ ap (set table n) (set-get_or (get_or table n []) d []) ∙ set-get_or table n [] in
       let absent : row_of (rows_of_all table) (key_of n d f) ≡ None = row_all n d f table ∙ is in
       subst (Removed false) (sym same) (record {
         ordered = ordered;
+        weighted = all;
         count = omega arith;
         rows = sym (take_absent split_cmp (is_at (split_cmp (key_of n d f))) (rows_of_all table) absent);
       })
 
   pub removed : (stands : Bool) (new : List (List (List Entry))) → stands ≡ is_some found →
-      new ≡ with_entries table n d (remove_entry (is_at (nat_cmp f)) entries) → IsOrdered (rows_of_all table) → Removed stands new
-  removed true new stood is ordered = let one = value_of found stood in subst (Removed true) (sym is) (removed_one one.0 one.1 ordered)
-  removed false new stood is ordered = subst (Removed false) (sym is) (removed_none (none_of found stood) ordered)
+      new ≡ with_entries table n d (remove_entry (is_at (nat_cmp f)) entries) → IsOrdered (rows_of_all table) → HaveWeights (rows_of_all table) → Removed stands new
+  removed true new stood is ordered all = let one = value_of found stood in subst (Removed true) (sym is) (removed_one one.0 one.1 ordered all)
+  removed false new stood is ordered all = subst (Removed false) (sym is) (removed_none (none_of found stood) ordered all)
 
   pub record Added (w : List ℕ) (new : List (List (List Entry))) : Type 0 where
     pub ordered : IsOrdered (rows_of_all new)
+    pub weighted : HaveWeights (rows_of_all new)
     pub count : length (rows_of_all new) ≡ length (rows_of_all table) + 1
     pub rows : rows_of_all new ≡ put_in (rows_of_all table) (key_of n d f) w
     pub there_now : row_of (rows_of_all new) (key_of n d f) ≡ Some w
@@ -121,12 +129,13 @@ module _ (table : List (List (List Entry))) (n d f : ℕ) where
 
   -- room was made first, which changes no row
   pub added : (w : List ℕ) (roomy new : List (List (List Entry))) → n < length roomy → d < length (get_or roomy n []) → rows_of_all roomy ≡ rows_of_all table →
-      row_of (rows_of_all table) (key_of n d f) ≡ None → new ≡ with_entries roomy n d (insert_entry nat_cmp (entries_at roomy n d) f w) → IsOrdered (rows_of_all table) → Added w new
-  added w roomy new node destination same none is ordered =
+      row_of (rows_of_all table) (key_of n d f) ≡ None → new ≡ with_entries roomy n d (insert_entry nat_cmp (entries_at roomy n d) f w) → IsOrdered (rows_of_all table) → AreWeights w → HaveWeights (rows_of_all table) → Added w new
+  added w roomy new node destination same none is ordered heavy all =
       let old = rows_of_all table in
       let rows : rows_of_all new ≡ put_in old (key_of n d f) w = ap rows_of_all is ∙ put_all n d f w roomy node destination ∙ ap (λ l. put_in l (key_of n d f) w) same in
       record {
         ordered = subst IsOrdered (sym rows) (ordered_put (key_of n d f) w old ordered);
+        weighted = subst HaveWeights (sym rows) (weights_put (key_of n d f) w old heavy all);
         count = ap length rows ∙ length_put_new split_cmp (key_of n d f) w old none;
         rows = rows;
         there_now = ap (λ l. row_of l (key_of n d f)) rows ∙ there (key_of n d f) w old;

@@ -14,7 +14,9 @@ use Rattle.std.proofs.lemmas.Map.{lookup-none}
 use Rattle.std.proofs.lemmas.Map.Keys.{sorted_tail}
 use Rattle.std.specs.BTreeMap.{insert_entry, is_at}
 use Rattle.ltm_splits.specs.declared.keys.SplitKey.{SplitKey}
-use Rattle.ltm_splits.specs.Rows.{SplitRow, split_cmp, row_of, put_in, taken_out, put_back, IsOrdered}
+use Rattle.ltm_splits.specs.Rows.{SplitRow, split_cmp, row_of, put_in, taken_out, put_back, IsOrdered, HaveWeights}
+use Rattle.ltm_splits.specs.WeightsLie.{AreWeights}
+use Rattle.std.proofs.lemmas.List.Elements.{All-from_recursion, recursion_from_All}
 
 same_Some : {A : Type 0} (x y : A) → Some x ≡ Some y → x ≡ y
 same_Some x y e = cc
@@ -162,3 +164,26 @@ back_old key w v rows s found = ap (put_back (put_in rows key w) key) found ∙ 
 
 pub there : (key : SplitKey) (w : List ℕ) (rows : List SplitRow) → row_of (put_in rows key w) key ≡ Some w
 there key w rows = lookup_put split_cmp split_itself key w rows
+
+put_weights : (key : SplitKey) (w : List ℕ) (rows : List SplitRow) → AreWeights w → AllByRecursion (λ row. AreWeights row.1) rows → AllByRecursion (λ row. AreWeights row.1) (put_in rows key w)
+put_weights key w [] one all = (one, tt)
+put_weights key w (e ∷ es) one all =
+    elim (split_cmp key e.0) as (λ r. AllByRecursion (λ row. AreWeights row.1) (match_ordering r ((key, w) ∷ e ∷ es) ((e.0, w) ∷ es) (e ∷ put_in es key w))) [
+      | Less ↦ (one, all)
+      | Equal ↦ (one, all.1)
+      | Greater ↦ (all.0, put_weights key w es one all.1)
+    ]
+
+take_weights : (key : SplitKey) (rows : List SplitRow) → AllByRecursion (λ row. AreWeights row.1) rows → AllByRecursion (λ row. AreWeights row.1) (taken_out rows key)
+take_weights key [] all = tt
+take_weights key (e ∷ es) all =
+    elim (is_eq (split_cmp key e.0)) as (λ b. AllByRecursion (λ row. AreWeights row.1) (cond b es (e ∷ taken_out es key))) [
+      | true ↦ all.1
+      | false ↦ (all.0, take_weights key es all.1)
+    ]
+
+pub weights_put : (key : SplitKey) (w : List ℕ) (rows : List SplitRow) → AreWeights w → HaveWeights rows → HaveWeights (put_in rows key w)
+weights_put key w rows one all = All-from_recursion (λ row. AreWeights row.1) (put_in rows key w) (put_weights key w rows one (recursion_from_All (λ row. AreWeights row.1) rows all))
+
+pub weights_take : (key : SplitKey) (rows : List SplitRow) → HaveWeights rows → HaveWeights (taken_out rows key)
+weights_take key rows all = All-from_recursion (λ row. AreWeights row.1) (taken_out rows key) (take_weights key rows (recursion_from_All (λ row. AreWeights row.1) rows all))

@@ -1,5 +1,5 @@
 -- Split rows as contracts see them: a list in the order of their keys.
-use Rattle.std.specs.Prelude.{ℕ, Bool, Option, Some, None, ◌==◌, ◌&&◌, if◌then◌else◌, nat_le, List, length, sum, filter, slice_get, is_none, Result, Ok, Err}
+use Rattle.std.specs.Prelude.{ℕ, Bool, Option, Some, None, ◌==◌, ◌&&◌, if◌then◌else◌, nat_le, List, length, sum, All, filter, slice_get, is_none, Result, Ok, Err}
 use Rattle.std.specs.Option.{option_map}
 use Rattle.std.specs.List.{last_or}
 use Rattle.std.specs.Map.{lookup, remove_entry, keys_of}
@@ -7,6 +7,7 @@ use Rattle.std.specs.List.Sorted.{IsStrictlySortedBy}
 use Rattle.std.specs.BTreeMap.{insert_entry, is_at}
 use Rattle.std.specs.declared.cmp.Ordering.{Ordering}
 use Rattle.std.specs.Ordering.{nat_cmp, ordering_then}
+use Rattle.ltm_splits.specs.WeightsLie.{AreWeights}
 use Rattle.ltm_splits.specs.declared.keys.SplitKey.{SplitKey}
 use Rattle.ltm_splits.specs.declared.keys.SplitFault.{SplitFault}
 use Rattle.ltm_splits.specs.declared.keys.SplitFault.TheVariants.{BadSlots, ZeroWeight, TooManyRows}
@@ -27,6 +28,10 @@ pub record SplitsData : Type 0 where
 -- each key is below those after it
 abbrev pub IsOrdered : List SplitRow → Type 0
 IsOrdered rows = IsStrictlySortedBy split_cmp (keys_of rows)
+
+-- each row has weights: at most four, and not all of them 0
+abbrev pub HaveWeights : List SplitRow → Type 0
+HaveWeights rows = All (λ row. AreWeights row.1) rows
 
 abbrev pub with_rows : SplitsData → List SplitRow → SplitsData
 with_rows d rows = record { slots = d.slots; rows = rows }

@@ -5,6 +5,6 @@ use Rattle.std.specs.Prelude.{ℕ, ◌<◌, ◌≤◌, ◌-◌, ◌++◌, List, 
 abbrev pub padded : List ℕ → List ℕ
 padded weights = weights ++ replicate (4 - length weights) 0
 
--- one to four weights, not all of them 0
+-- at most four weights, not all of them 0
 abbrev pub AreWeights : List ℕ → Type 0
 AreWeights weights = (length weights ≤ 4) × (0 < sum weights)

@@ -25,18 +25,18 @@ pub struct Splits {
 
 impl Model for Splits {
     ghost use Rattle.std.specs.Prelude.{◌≡◌, length};
-    ghost use Rattle.ltm_splits.specs.Rows.{SplitsData, IsOrdered};
+    ghost use Rattle.ltm_splits.specs.Rows.{SplitsData, IsOrdered, HaveWeights};
     ghost use Rattle.ltm_splits.specs.Table.{rows_of_all};
 
     ghost Value = { SplitsData };
 
     ghost view = { λ s. record { slots = s.slots; rows = rows_of_all s.table } };
 
-    ghost invariant = { λ s. IsOrdered (rows_of_all s.table) × (s.count ≡ length (rows_of_all s.table)) };
+    ghost invariant = { λ s. IsOrdered (rows_of_all s.table) × (s.count ≡ length (rows_of_all s.table)) × HaveWeights (rows_of_all s.table) };
 }
 
 impl Splits {
-    ghost use Rattle.ltm_splits.specs.Rows.{IsOrdered, key_of, with_rows, with_slots, with_row, row_of, put_in, taken_out, put_back, row_in_force, begins};
+    ghost use Rattle.ltm_splits.specs.Rows.{IsOrdered, HaveWeights, key_of, with_rows, with_slots, with_row, row_of, put_in, taken_out, put_back, row_in_force, begins};
 
     /// A table without rows, for that many slots. It takes no memory.
     pub fn new(alloc: Global, slots: u32) -> Splits
@@ -59,7 +59,9 @@ impl Splits {
 
     /// How many rows there are.
     pub fn row_count(&self) -> usize
-        ensures { result ≡ length self.now.rows }
+        ensures count { result ≡ length self.now.rows }
+        ensures ordered { IsOrdered self.now.rows }
+        ensures weights { HaveWeights self.now.rows }
     {
         self.count
     }
@@ -147,6 +149,7 @@ impl Splits {
     pub fn rows(&self) -> Rows<'_>
         ensures rows { result ≡ self.now.rows }
         ensures ordered { IsOrdered self.now.rows }
+        ensures weights { HaveWeights self.now.rows }
     {
         Rows::of(self.table.nodes())
     }
@@ -201,6 +204,7 @@ impl Splits {
 
     // Gives the row with that key other weights, where there is one.
     fn replace(&mut self, key: SplitKey, weights: Weights) -> bool
+        requires { AreWeights weights }
         ensures stood { result ≡ is_some (row_of self.old.rows key) }
         ensures rows { self.new ≡ (if result then with_rows self.old (put_in self.old.rows key weights) else self.old) }
         ensures stands { IsTrue result → row_of self.new.rows key ≡ Some weights }
@@ -213,6 +217,7 @@ impl Splits {
     fn add(&mut self, key: SplitKey, weights: Weights) -> Result<(), NoMemory>
         requires new { row_of self.old.rows key ≡ None }
         requires few { length self.old.rows < 50000 }
+        requires weights { AreWeights weights }
         ensures ok { OnOk result (self.new ≡ with_rows self.old (put_in self.old.rows key weights)) }
         ensures err { OnErr result (self.new ≡ self.old) }
         ensures stands { OnOk result (row_of self.new.rows key ≡ Some weights) }

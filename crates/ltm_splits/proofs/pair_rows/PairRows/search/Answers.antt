@@ -3,6 +3,7 @@ use Rattle.std.proofs.lemmas.List.Sorted.{answers_always}
 use Rattle.ltm_splits.proofs.Place.{searched}
 use Rattle.ltm_splits.proofs.pair_rows.PairRows.search.Goals as goal
 
+-- the closure gives a row's first slot, and the slice is the pair's rows
 pub returns-clause-found : goal.returns-clause-found
 returns-clause-found c =
     let facts = c.binary_search_by_key.ensures in
