@@ -1,0 +1,6 @@
+pub mod Rows
+pub mod Table
+pub mod Entries
+pub mod WeightsLie
+pub mod WeightsBack
+pub mod Latest

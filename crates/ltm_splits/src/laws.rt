@@ -1,0 +1,20 @@
+//! What the definitions of split rows mean, for whoever builds on them.
+ghost use Rattle.std.specs.Prelude.{◌≡◌, ◌↔◌, ℕ, ◌<◌, ◌≤◌, List, Some, None, IsSome, IsNone, IfSome, MatchOption, ⊤};
+ghost use Rattle.ltm_splits.specs.Rows.{SplitRow, IsOrdered, key_of, row_of, row_in_force, begins};
+ghost use Rattle.ltm_splits.specs.Latest.{IsLatest};
+
+/// In rows that are in the order of their keys:
+///
+/// - the least first slot of a node and a destination is 0 exactly where a row begins at slot 0;
+/// - no row is in force at a slot exactly where none begins at or before it;
+/// - the row in force at a slot is the one with the greatest first slot that is at most the slot.
+///
+/// The function does nothing: its contract holds the rules.
+pub fn rules_of_rows()
+    ensures start { (rows : List SplitRow) → IsOrdered rows → (node : ℕ) → (destination : ℕ) →
+        (begins rows node destination ≡ Some 0) ↔ IsSome (row_of rows (key_of node destination 0)) }
+    ensures none { (rows : List SplitRow) → IsOrdered rows → (node : ℕ) → (destination : ℕ) → (slot : ℕ) →
+        IsNone (row_in_force rows node destination slot) ↔ MatchOption (begins rows node destination) ⊤ (λ from. slot < from) }
+    ensures greatest { (rows : List SplitRow) → IsOrdered rows → (node : ℕ) → (destination : ℕ) → (slot : ℕ) →
+        IfSome (row_in_force rows node destination slot) (IsLatest rows node destination slot) }
+{}

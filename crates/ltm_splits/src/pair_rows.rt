@@ -1,0 +1,141 @@
+//! The rows of one node and one destination.
+ghost use Rattle.std.specs.Prelude.{◌≡◌, [], Some, None, IfOk, IfErr, IfSome, OnOk, OnErr, IsSome, is_some, if◌then◌else◌, slice_get, sum, ◌<◌};
+ghost use Rattle.std.specs.Option.{option_map, option_copied};
+ghost use Rattle.std.specs.Map.{lookup, remove_entry};
+ghost use Rattle.std.specs.BTreeMap.{insert_entry, is_at};
+ghost use Rattle.std.specs.Ordering.{nat_cmp};
+ghost use Rattle.ltm_splits.specs.Entries.{IsRising, IsAt, IsGap, IsCount, entry_in_force};
+ghost use Rattle.ltm_splits.specs.WeightsLie.{AreWeights};
+
+use crate::weights::Weights;
+use ltm_units::NoMemory;
+use std::alloc::Global;
+use std::marker::Model;
+
+/// First slots that rise, each with the weights from then on: mostly one, found by halving where there are more.
+#[derive(Drop)]
+pub struct PairRows {
+    rows: Vec<(u32, Weights)>,
+}
+
+impl Model for PairRows {
+    ghost use Rattle.ltm_splits.specs.Table.{Entry};
+    ghost use Rattle.ltm_splits.specs.Entries.{IsRising};
+    ghost use Rattle.std.specs.Prelude.{List};
+
+    ghost Value = { List Entry };
+
+    ghost view = { λ p. p.rows.items };
+
+    ghost invariant = { λ p. IsRising p.rows.items };
+}
+
+impl PairRows {
+    pub fn new(alloc: Global) -> PairRows
+        ensures { result ≡ [] }
+    {
+        PairRows {
+            rows: Vec::new(alloc),
+        }
+    }
+
+    /// The weights of the last row that begins at or before the slot.
+    pub fn at(&self, slot: u32) -> Option<&[u32]>
+        ensures weights { option_copied result ≡ entry_in_force self.now slot }
+        ensures some { IfSome result (λ weights. AreWeights weights.now) }
+    {
+        let count = self.count_begun(slot);
+        if count == 0 {
+            return None;
+        }
+        Some(self.rows[count - 1].1.as_slice())
+    }
+
+    /// The first slot of the first row.
+    pub fn begins(&self) -> Option<u32>
+        ensures { result ≡ option_map (λ e. e.0) (slice_get self.now 0) }
+    {
+        self.rows.first().map(|row| row.0)
+    }
+
+    /// The weights of the row with exactly that first slot.
+    pub fn get(&self, from: u32) -> Option<&[u32]>
+        ensures weights { option_copied result ≡ lookup (is_at (nat_cmp from)) self.now }
+        ensures some { IfSome result (λ weights. AreWeights weights.now) }
+    {
+        match self.search(from) {
+            Ok(place) => Some(self.rows[place].1.as_slice()),
+            Err(_) => None,
+        }
+    }
+
+    /// The rows in order of first slot.
+    pub fn rows(&self) -> &[(u32, Weights)]
+        ensures { result.now ≡ self.now }
+    {
+        &self.rows
+    }
+
+    /// Gives the row with that first slot other weights, where there is one.
+    pub fn replace(&mut self, from: u32, weights: Weights) -> bool
+        ensures stood { result ≡ is_some (lookup (is_at (nat_cmp from)) self.old) }
+        ensures rows { self.new ≡ (if result then insert_entry nat_cmp self.old from weights else self.old) }
+    {
+        match self.search(from) {
+            Ok(place) => {
+                self.rows[place] = (from, weights);
+                true
+            }
+            Err(_) => false,
+        }
+    }
+
+    /// Adds a row with a first slot that no row has.
+    pub fn insert(&mut self, from: u32, weights: Weights) -> Result<(), NoMemory>
+        requires { lookup (is_at (nat_cmp from)) self.old ≡ None }
+        ensures ok { OnOk result (self.new ≡ insert_entry nat_cmp self.old from weights) }
+        ensures err { OnErr result (self.new ≡ self.old) }
+    {
+        match self.search(from) {
+            Ok(_) => unreachable!(),
+            Err(place) => Ok(self.rows.insert(place, (from, weights))?),
+        }
+    }
+
+    /// Takes out the row with that first slot, where there is one.
+    pub fn remove(&mut self, from: u32) -> bool
+        ensures stood { result ≡ is_some (lookup (is_at (nat_cmp from)) self.old) }
+        ensures rows { self.new ≡ remove_entry (is_at (nat_cmp from)) self.old }
+    {
+        match self.search(from) {
+            Ok(place) => {
+                self.rows.remove(place);
+                true
+            }
+            Err(_) => false,
+        }
+    }
+
+    pub fn try_copy(&self) -> Result<PairRows, NoMemory>
+        ensures { IfOk result (λ copy. copy ≡ self.now) }
+    {
+        let rows = Vec::from_slice(*self.rows.allocator(), &self.rows)?;
+        Ok(PairRows { rows })
+    }
+
+    // Where the row with that first slot is, or where it would go.
+    fn search(&self, from: u32) -> Result<usize, usize>
+        ensures found { IfOk result (IsAt self.now from) }
+        ensures gap { IfErr result (IsGap self.now from) }
+        ensures rising { IsRising self.now }
+    {
+        self.rows.binary_search_by_key(&from, |row| row.0)
+    }
+
+    // How many rows begin at or before the slot.
+    fn count_begun(&self, slot: u32) -> usize
+        ensures { IsCount self.now slot result }
+    {
+        self.rows.partition_point(|row| row.0 <= slot)
+    }
+}

@@ -1,0 +1,231 @@
+//! The table of split rows.
+ghost use Rattle.std.specs.Prelude.{◌≡◌, ◌≢◌, ◌≤◌, ◌<◌, [], Ok, Err, Some, None, IsTrue, IsSome, IsNone, IfSome, IfOk, IfErr, OnOk, OnErr, is_some, if◌then◌else◌, length};
+ghost use Rattle.std.specs.Option.{option_copied};
+ghost use Rattle.ltm_splits.specs.WeightsLie.{AreWeights};
+
+use crate::keys::{SplitFault, SplitKey};
+use crate::node_table::NodeTable;
+use crate::rows::Rows;
+use crate::weights::{Weights, are_zero};
+use ltm_units::{NoMemory, NodeId};
+use std::alloc::Global;
+use std::marker::Model;
+
+/// Split rows: from its first slot on, a row spreads the traffic of a node for a destination over the node's out-links,
+/// until a later row of the same node and destination takes its place.
+///
+/// Rows lie by node number and destination, so what a loading asks is found without a search but among the rows of one
+/// pair, mostly one.
+#[derive(Drop)]
+pub struct Splits {
+    slots: u32,
+    count: usize,
+    table: NodeTable,
+}
+
+impl Model for Splits {
+    ghost use Rattle.std.specs.Prelude.{◌≡◌, length};
+    ghost use Rattle.ltm_splits.specs.Rows.{SplitsData, IsOrdered, HaveWeights};
+    ghost use Rattle.ltm_splits.specs.Table.{rows_of_all};
+
+    ghost Value = { SplitsData };
+
+    ghost view = { λ s. record { slots = s.slots; rows = rows_of_all s.table } };
+
+    ghost invariant = { λ s. IsOrdered (rows_of_all s.table) × (s.count ≡ length (rows_of_all s.table)) × HaveWeights (rows_of_all s.table) };
+}
+
+impl Splits {
+    ghost use Rattle.ltm_splits.specs.Rows.{IsOrdered, HaveWeights, key_of, with_rows, with_slots, with_row, row_of, put_in, taken_out, put_back, row_in_force, begins};
+
+    /// A table without rows, for that many slots. It takes no memory.
+    pub fn new(alloc: Global, slots: u32) -> Splits
+        ensures slots { result.slots ≡ slots }
+        ensures rows { result.rows ≡ [] }
+    {
+        Splits {
+            slots,
+            count: 0,
+            table: NodeTable::new(alloc),
+        }
+    }
+
+    /// The horizon: rows begin in slots below it.
+    pub fn slots(&self) -> u32
+        ensures { result ≡ self.now.slots }
+    {
+        self.slots
+    }
+
+    /// How many rows there are.
+    pub fn row_count(&self) -> usize
+        ensures count { result ≡ length self.now.rows }
+        ensures ordered { IsOrdered self.now.rows }
+        ensures weights { HaveWeights self.now.rows }
+    {
+        self.count
+    }
+
+    /// Sets the row that begins at the slot `from`: one weight per out-link in order of link number, in place of the row
+    /// with the same node, destination and first slot if there is one.
+    ///
+    /// Where such a row stands already no memory is needed.
+    pub fn set(
+        &mut self,
+        node: NodeId,
+        destination: u32,
+        from: u32,
+        weights: &[u32],
+    ) -> Result<(), SplitFault>
+        requires { length weights.now ≤ 4 }
+        ensures ok { OnOk result (with_row self.old (key_of node.0 destination from) weights.now ≡ Ok self.new) }
+        ensures err { OnErr result (self.new ≡ self.old) }
+        ensures cause { IfErr result (λ e. e ≢ SplitFault.NoMemory → with_row self.old (key_of node.0 destination from) weights.now ≡ Err e) }
+        ensures slots { self.new.slots ≡ self.old.slots }
+        ensures no_memory { result ≡ Err SplitFault.NoMemory → row_of self.old.rows (key_of node.0 destination from) ≡ None }
+
+        // The row stands, and putting back what stood there before gives back the very rows.
+        ensures stands { OnOk result (row_of self.new.rows (key_of node.0 destination from) ≡ Some weights.now) }
+        ensures back { OnOk result
+            (put_back self.new.rows (key_of node.0 destination from) (row_of self.old.rows (key_of node.0 destination from)) ≡ self.old.rows) }
+    {
+        if from >= self.slots {
+            return Err(SplitFault::BadSlots);
+        }
+        if are_zero(weights) {
+            return Err(SplitFault::ZeroWeight);
+        }
+        let key = SplitKey {
+            node,
+            destination,
+            from,
+        };
+        let weights = Weights::of(weights);
+        if self.replace(key, weights) {
+            return Ok(());
+        }
+        if self.count >= 50_000 {
+            return Err(SplitFault::TooManyRows);
+        }
+        match self.add(key, weights) {
+            Ok(()) => return Ok(()),
+            Err(_) => return Err(SplitFault::NoMemory),
+        }
+    }
+
+    /// The weights in force at the slot: those of the row with the greatest first slot at or before it.
+    pub fn row_at(&self, node: NodeId, destination: u32, slot: u32) -> Option<&[u32]>
+        ensures weights { option_copied result ≡ row_in_force self.now.rows node.0 destination slot }
+        ensures some { IfSome result (λ weights. AreWeights weights.now) }
+    {
+        match self.table.pair(node, destination) {
+            Some(pair) => pair.at(slot),
+            None => None,
+        }
+    }
+
+    /// The least first slot.
+    pub fn begins(&self, node: NodeId, destination: u32) -> Option<u32>
+        ensures { result ≡ begins self.now.rows node.0 destination }
+    {
+        match self.table.pair(node, destination) {
+            Some(pair) => pair.begins(),
+            None => None,
+        }
+    }
+
+    /// The weights of the row with exactly that key.
+    pub fn row(&self, node: NodeId, destination: u32, from: u32) -> Option<&[u32]>
+        ensures weights { option_copied result ≡ row_of self.now.rows (key_of node.0 destination from) }
+        ensures some { IfSome result (λ weights. AreWeights weights.now) }
+    {
+        match self.table.pair(node, destination) {
+            Some(pair) => pair.get(from),
+            None => None,
+        }
+    }
+
+    /// The keys and weights of all rows in the order of the keys.
+    pub fn rows(&self) -> Rows<'_>
+        ensures rows { result ≡ self.now.rows }
+        ensures ordered { IsOrdered self.now.rows }
+        ensures weights { HaveWeights self.now.rows }
+    {
+        Rows::of(self.table.nodes())
+    }
+
+    /// Raises the horizon. No row changes, and no memory is taken.
+    pub fn lengthen(&mut self, slots: u32)
+        requires longer { self.old.slots ≤ slots }
+        requires most { slots ≤ 10000 }
+        ensures { self.new ≡ with_slots self.old slots }
+    {
+        self.slots = slots;
+    }
+
+    /// Gives a row that stands other weights, as to undo a `set`. No memory is taken.
+    pub fn put_back(&mut self, node: NodeId, destination: u32, from: u32, weights: &[u32])
+        requires stands { IsSome (row_of self.old.rows (key_of node.0 destination from)) }
+        requires weights { AreWeights weights.now }
+        ensures rows { self.new ≡ with_rows self.old (put_in self.old.rows (key_of node.0 destination from) weights.now) }
+    {
+        let key = SplitKey {
+            node,
+            destination,
+            from,
+        };
+        let _stood = self.replace(key, Weights::of(weights));
+    }
+
+    /// Takes out the row with that key, as to undo a `set`, and leaves all others. No memory is taken.
+    pub fn take_out(&mut self, node: NodeId, destination: u32, from: u32)
+        ensures { self.new ≡ with_rows self.old (taken_out self.old.rows (key_of node.0 destination from)) }
+    {
+        let key = SplitKey {
+            node,
+            destination,
+            from,
+        };
+        if self.table.remove(key) {
+            self.count -= 1;
+        }
+    }
+
+    /// An equal table, on the same allocator.
+    pub fn try_copy(&self) -> Result<Splits, NoMemory>
+        ensures { IfOk result (λ copy. copy ≡ self.now) }
+    {
+        Ok(Splits {
+            slots: self.slots,
+            count: self.count,
+            table: self.table.try_copy()?,
+        })
+    }
+
+    // Gives the row with that key other weights, where there is one.
+    fn replace(&mut self, key: SplitKey, weights: Weights) -> bool
+        requires { AreWeights weights }
+        ensures stood { result ≡ is_some (row_of self.old.rows key) }
+        ensures rows { self.new ≡ (if result then with_rows self.old (put_in self.old.rows key weights) else self.old) }
+        ensures stands { IsTrue result → row_of self.new.rows key ≡ Some weights }
+        ensures back { IsTrue result → put_back self.new.rows key (row_of self.old.rows key) ≡ self.old.rows }
+    {
+        self.table.replace(key, weights)
+    }
+
+    // Adds a row with a key that no row has.
+    fn add(&mut self, key: SplitKey, weights: Weights) -> Result<(), NoMemory>
+        requires new { row_of self.old.rows key ≡ None }
+        requires few { length self.old.rows < 50000 }
+        requires weights { AreWeights weights }
+        ensures ok { OnOk result (self.new ≡ with_rows self.old (put_in self.old.rows key weights)) }
+        ensures err { OnErr result (self.new ≡ self.old) }
+        ensures stands { OnOk result (row_of self.new.rows key ≡ Some weights) }
+        ensures back { OnOk result (put_back self.new.rows key (row_of self.old.rows key) ≡ self.old.rows) }
+    {
+        self.table.make_room(key.node, key.destination)?;
+        self.table.insert(key, weights)?;
+        self.count += 1;
+        Ok(())
+    }
+}

@@ -1,0 +1,64 @@
+//! The weights of a row, as they lie in a table.
+ghost use Rattle.std.specs.Prelude.{◌≡◌, ◌==◌, ◌≤◌, ◌<◌, length, sum};
+ghost use Rattle.std.specs.List.{list_all};
+ghost use Rattle.ltm_splits.specs.WeightsLie.{AreWeights};
+
+use std::marker::Model;
+
+/// One weight per out-link in order of link number: at most four, and not all of them 0.
+#[derive(Clone, Copy)]
+pub struct Weights {
+    values: [u32; 4],
+    len: u8,
+}
+
+impl Model for Weights {
+    ghost use Rattle.std.specs.Prelude.{◌≡◌, ℕ, ◌≤◌, List, length, take};
+    ghost use Rattle.ltm_splits.specs.WeightsLie.{padded, AreWeights};
+
+    ghost Value = { List ℕ };
+
+    ghost use Rattle.ltm_splits.specs.WeightsBack.{gives_back};
+
+    ghost view = { λ w. take w.len w.values };
+
+    ghost invariant = { λ w. AreWeights (take w.len w.values) × (w.len ≤ 4) × (w.values ≡ padded (take w.len w.values)) };
+
+    ghost inverse = { λ weights. record { values = padded weights; len = length weights } };
+
+    ghost inverse_ok = { gives_back };
+}
+
+impl Weights {
+    pub fn of(weights: &[u32]) -> Weights
+        requires { AreWeights weights.now }
+        ensures { result ≡ weights.now }
+    {
+        let mut values = [0u32; 4];
+        values[..weights.len()].copy_from_slice(weights);
+        Weights {
+            values,
+            len: weights.len() as u8,
+        }
+    }
+
+    pub fn as_slice(&self) -> &[u32]
+        ensures weights { result.now ≡ self.now }
+        ensures some { AreWeights self.now }
+    {
+        &self.values[..self.len as usize]
+    }
+}
+
+/// Whether the weights are without sum.
+pub fn are_zero(weights: &[u32]) -> bool
+    ensures { result ≡ (sum weights.now == 0) }
+{
+    is_each_zero(weights)
+}
+
+fn is_each_zero(weights: &[u32]) -> bool
+    ensures { result ≡ list_all (λ weight. weight == 0) weights.now }
+{
+    weights.iter().all(|weight| *weight == 0)
+}
