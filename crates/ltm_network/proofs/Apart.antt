@@ -1,5 +1,5 @@
 -- Names that stand apart, and what naming one more keeps.
-use Rattle.std.proofs.Common.{◌≡◌, ◌≢◌, ℕ, suc, zero, ◌+◌, ◌<◌, ◌≤◌, Bool, true, false, cond, List, [], ◌∷◌, ◌++◌, length, map, get_or, is_some, unwrap_or, Contains, IsNone, ◌↔◌, Option, Some, None, refl, sym, ap, subst, ◌∙◌, arith, length-append, inl, inr}
+use Rattle.std.proofs.Common.{◌≡◌, ℕ, suc, ◌+◌, ◌<◌, ◌≤◌, Bool, true, false, cond, List, [], ◌∷◌, ◌++◌, length, get_or, is_some, unwrap_or, Contains, IsNone, ◌↔◌, Option, Some, None, refl, sym, ap, subst, ◌∙◌, arith, length-append, inl, inr}
 use Rattle.std.specs.List.{position_from}
 use Rattle.std.specs.Option.{option_map}
 use Rattle.std.proofs.Math.ListN.{get_or-append}
@@ -7,8 +7,8 @@ use Rattle.std.proofs.Math.Seq.{get_or-append_seam}
 use Rattle.std.proofs.lemmas.List.{get_or-map, length-map}
 use Rattle.std.proofs.lemmas.Bool.{cases_lt}
 use Rattle.ltm_network.specs.Names.{same, place_of, named, number_of, AreApart}
-use Rattle.ltm_network.specs.Network.{Link, NetworkData, no_link, link_names, link_name, node_name, find_link, find_node}
-use Rattle.ltm_network.specs.IsNetwork.{IsNetwork, NamesAreFound}
+use Rattle.ltm_network.specs.Network.{Link, NetworkData, no_link, link_names, link_name}
+use Rattle.ltm_network.specs.IsNetwork.{NamesAreFound}
 use Rattle.ltm_network.proofs.Finding.{same_exact, same_itself, none_stands}
 
 -- what is found passes, and stands in the list

@@ -1,9 +1,8 @@
 -- The numbers of the elements that pass a test, and the place of each.
-use Rattle.std.proofs.Common.{◌≡◌, ℕ, suc, zero, ◌+◌, ◌<◌, ◌≤◌, ◌==◌, ◌⊎◌, Bool, true, false, cond, List, [], ◌∷◌, ◌++◌, length, take, get_or, refl, sym, ap, subst, ◌∙◌, arith, length-append, inl, inr}
-use Rattle.std.proofs.lemmas.Bool.{cases_eq}
+use Rattle.std.proofs.Common.{◌≡◌, ℕ, suc, zero, ◌+◌, ◌<◌, ◌≤◌, ◌==◌, Bool, true, false, cond, List, [], ◌∷◌, ◌++◌, length, take, get_or, refl, ap, subst, ◌∙◌, arith}
 use Rattle.std.proofs.lemmas.Bool.Decides.{nat_tests}
 use Rattle.ltm_network.specs.Numbers.{numbers_of}
-use Rattle.ltm_network.specs.Network.{Link, NetworkData, no_link, tail_of, head_of, leaves, enters, out_links, in_links, out_link, in_link, out_place, in_place}
+use Rattle.ltm_network.specs.Network.{Link, NetworkData, no_link, leaves, enters, out_links, in_links}
 use Rattle.ltm_network.specs.IsNetwork.{IsNetwork}
 use Rattle.ltm_network.specs.Places.{HasPlaces}
 

@@ -1,5 +1,5 @@
 -- A network with one more link is a network.
-use Rattle.std.proofs.Common.{◌≡◌, ◌≢◌, ℕ, suc, zero, ◌+◌, ◌*◌, ◌<◌, ◌≤◌, ◌==◌, Bool, true, false, cond, List, [], ◌∷◌, ◌++◌, length, map, get_or, nat_le, is_some, unwrap_or, Option, Some, None, Result, Ok, Err, refl, sym, ap, subst, ◌∙◌, arith, length-append, inl, inr}
+use Rattle.std.proofs.Common.{◌≡◌, ◌≢◌, ℕ, ◌<◌, ◌≤◌, ◌==◌, Bool, true, false, List, [], ◌∷◌, ◌++◌, length, get_or, nat_le, is_some, unwrap_or, Option, Some, None, Result, Ok, Err, refl, sym, ap, subst, ◌∙◌, arith, length-append, inl, inr}
 use Rattle.std.specs.Option.{option_map_or}
 use Rattle.std.proofs.Math.ListN.{get_or-append}
 use Rattle.std.proofs.Math.Seq.{get_or-append_seam}
@@ -7,9 +7,9 @@ use Rattle.std.proofs.lemmas.List.{map-append}
 use Rattle.std.proofs.lemmas.Bool.{cases_lt, cases_eq}
 use Rattle.std.proofs.lemmas.Bool.Decides.{nat_tests}
 use Rattle.ltm_network.specs.declared.network.NetworkFault.{NetworkFault}
-use Rattle.ltm_network.specs.Names.{same, place_of, named, number_of, AreApart}
+use Rattle.ltm_network.specs.Names.{same, named, number_of, AreApart}
 use Rattle.ltm_network.specs.Numbers.{numbers_of}
-use Rattle.ltm_network.specs.Network.{Link, NetworkData, no_link, tail_of, head_of, link_names, find_link, find_node, leaves, enters, out_links, in_links, out_degree, in_degree, refuse, ◌>>>◌, checked, linked, with_link}
+use Rattle.ltm_network.specs.Network.{Link, NetworkData, no_link, link_names, find_link, find_node, out_links, in_links, out_degree, in_degree, refuse, ◌>>>◌, checked, linked, with_link}
 use Rattle.ltm_network.specs.IsNetwork.{IsNetwork, NetworksStay}
 use Rattle.ltm_network.proofs.Finding.{same_exact, same_itself}
 use Rattle.ltm_network.proofs.Apart.{apart_named, apart_pushed, number_inside, named_at, named_kept, length-named, found_still, none_still}

@@ -1,20 +1,20 @@
 -- How the links lie in their tables, and the tables with one more link.
-use Rattle.std.proofs.Common.{◌≡◌, ℕ, suc, zero, ◌+◌, ◌<◌, ◌≤◌, ◌==◌, Bool, true, false, cond, List, [], ◌∷◌, ◌++◌, length, map, get_or, is_some, slice_set, slice_index_or, Option, Some, None, refl, sym, ap, subst, ◌∙◌, arith, length-append, inl, inr}
+use Rattle.std.proofs.Common.{◌≡◌, ℕ, suc, zero, ◌<◌, ◌≤◌, ◌==◌, Bool, true, false, cond, List, [], ◌∷◌, ◌++◌, length, map, get_or, is_some, refl, sym, ap, subst, ◌∙◌, arith, length-append, inl, inr}
 use Rattle.std.proofs.Math.ListN.{set, length-set, get_or-append}
 use Rattle.std.proofs.Math.Seq.{get_or-append_seam}
-use Rattle.std.proofs.lemmas.List.{get_or-set_same, get_or-set_other, get_or-map, length-map}
+use Rattle.std.proofs.lemmas.List.{get_or-set_same, get_or-set_other}
 use Rattle.std.proofs.lemmas.Bool.{cases_lt, cases_eq}
 use Rattle.std.proofs.lemmas.Bool.Decides.{nat_tests}
 use Rattle.ltm_network.specs.declared.ends.Ends.{Ends}
-use Rattle.ltm_network.specs.Names.{same, place_of, named, number_of}
+use Rattle.ltm_network.specs.Names.{place_of, named, number_of}
 use Rattle.ltm_network.specs.Numbers.{numbers_of}
-use Rattle.ltm_network.specs.Nodes.{NodeTables, grown, with_node, with_last, with_ends}
-use Rattle.ltm_network.specs.Network.{Link, NetworkData, no_link, tail_of, head_of, link_name, link_names, find_link, leaves, enters, out_links, in_links, checked, linked}
+use Rattle.ltm_network.specs.Nodes.{NodeTables, grown, with_node, with_ends}
+use Rattle.ltm_network.specs.Network.{Link, NetworkData, no_link, leaves, enters, out_links, in_links, linked}
 use Rattle.ltm_network.specs.IsNetwork.{IsNetwork}
 use Rattle.ltm_network.specs.Tables.{links_of, network_of, AreTables}
 use Rattle.ltm_network.proofs.Apart.{length-named, number_inside}
-use Rattle.ltm_network.proofs.Counted.{passes, fails, none_leaves, none_enters, has_places}
-use Rattle.ltm_network.proofs.Growing.{IsTaken, taken, linked_stays, out_room_at, in_room_at, new_link}
+use Rattle.ltm_network.proofs.Counted.{passes, fails, none_leaves, none_enters}
+use Rattle.ltm_network.proofs.Growing.{IsTaken, linked_stays, out_room_at, in_room_at}
 
 one_less : (m n : ℕ) → suc m ≡ suc n → m ≡ n
 one_less m n is = omega arith

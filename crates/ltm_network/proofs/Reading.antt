@@ -1,14 +1,14 @@
 -- What the tables tell of the network that lies in them.
-use Rattle.std.proofs.Common.{◌≡◌, ℕ, ◌<◌, ◌≤◌, List, [], length, map, get_or, slice_index, slice_index_or, Option, Some, None, IfSome, All, refl, sym, ap, subst, ◌∙◌, arith}
+use Rattle.std.proofs.Common.{◌≡◌, ℕ, ◌<◌, ◌≤◌, List, length, map, get_or, slice_index, Option, Some, None, IfSome, All, sym, ap, subst, ◌∙◌, arith}
 use Rattle.std.specs.Option.{option_map}
 use Rattle.std.proofs.lemmas.List.{get_or-map, length-map}
 use Rattle.ltm_units.specs.declared.places.LinkId.{LinkId}
 use Rattle.ltm_network.specs.declared.ends.Ends.{Ends}
 use Rattle.ltm_network.specs.Names.{place_of}
 use Rattle.ltm_network.specs.Nodes.{NodeTables}
-use Rattle.ltm_network.specs.Network.{Link, NetworkData, no_link, tail_of, head_of, link_name, link_names, find_link}
+use Rattle.ltm_network.specs.Network.{NetworkData, tail_of, head_of, link_names}
 use Rattle.ltm_network.specs.IsNetwork.{IsNetwork}
-use Rattle.ltm_network.specs.Tables.{links_of, network_of, AreTables}
+use Rattle.ltm_network.specs.Tables.{network_of, AreTables}
 use Rattle.ltm_network.proofs.Apart.{named_there}
 use Rattle.ltm_network.proofs.Joined.{length-links_of, names-links_of, tail-links_of, head-links_of}
 

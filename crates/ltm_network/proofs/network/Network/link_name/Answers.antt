@@ -1,6 +1,5 @@
-use Rattle.std.proofs.Common.{◌≡◌, ◌<◌, [], length, get_or, sym, ap, ◌∙◌, arith, rules}
+use Rattle.std.proofs.Common.{◌≡◌, [], length, get_or, sym, ap, ◌∙◌, arith}
 use Rattle.std.proofs.lemmas.Option.{get_or_from_slice_get}
-use Rattle.ltm_network.specs.Network.{link_names}
 use Rattle.ltm_network.proofs.Apart.{link_at, length-link_names}
 use Rattle.ltm_network.proofs.Reading.{names_are}
 use Rattle.ltm_network.proofs.network.Network.link_name.Goals as goal

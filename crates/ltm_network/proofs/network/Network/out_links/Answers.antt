@@ -1,4 +1,4 @@
-use Rattle.std.proofs.Common.{◌≡◌, map, sym, ap, ◌∙◌, rules}
+use Rattle.std.proofs.Common.{◌≡◌, map, rules}
 use Rattle.ltm_units.specs.declared.places.LinkId.{LinkId}
 use Rattle.ltm_network.specs.Network.{out_links}
 use Rattle.ltm_network.proofs.Counted.{has_places}
