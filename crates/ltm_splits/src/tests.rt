@@ -27,6 +27,11 @@ fn refuses_in_order(rt: HostRuntime) -> Result<(), Fail> {
     assert_eq!(rt; splits.slots(), 10);
     assert!(rt; splits.set(NodeId(7), 1, 9, &[1, 1]) == Ok(()));
     assert_eq!(rt; splits.row_count(), 3);
+    let fault = SplitFault::ZeroWeight;
+    assert_eq!(rt;
+        format!(in rt.alloc(); "{fault}")?.as_str(),
+        "no weight is above 0"
+    );
     Ok(())
 }
 
