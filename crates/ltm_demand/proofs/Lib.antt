@@ -7,3 +7,4 @@ pub mod Found
 pub mod Edits
 pub mod State
 pub mod Restoring
+pub mod Produces

@@ -254,7 +254,7 @@ impl Demand {
     }
 
     /// The same, row by row.
-    fn summed(&self, origin: u32, destination: u32, slot: u32) -> u64
+    pub(crate) fn summed(&self, origin: u32, destination: u32, slot: u32) -> u64
         ensures { result ≡ by_end self.now.demand.rows origin destination slot }
     {
         let mut sum = 0;

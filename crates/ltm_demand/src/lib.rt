@@ -7,8 +7,14 @@
 #![tactic(auto)]
 
 mod demand;
+mod laws;
 mod production;
 mod row;
 mod rows;
 
+pub use demand::Demand;
+pub use laws::production_never_falls;
 pub use row::{DemandFault, DemandRow};
+
+#[cfg(test)]
+mod tests;

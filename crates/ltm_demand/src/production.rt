@@ -341,6 +341,7 @@ impl Production {
         requires slots { row.now.from < row.now.to }
         requires roomy { is_whole ≡ true → IsRoomy (table_of self.old row.now.origin.0 row.now.destination) row.now.from row.now.to was }
         ensures whole { result ≡ true → is_whole ≡ true }
+        ensures told { is_whole ≡ true → row.now.to ≤ length (table_of self.old row.now.origin.0 row.now.destination) → result ≡ true }
         ensures shifted { result ≡ true → IsShifted self.old self.new row.now was }
     {
         if !is_whole || !self.reaches(row.origin.0, row.destination, row.to) {
