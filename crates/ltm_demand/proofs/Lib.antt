@@ -1,0 +1,10 @@
+pub mod Parts
+pub mod Reach
+pub mod Shifts
+pub mod Filters
+pub mod Ordered
+pub mod Found
+pub mod Edits
+pub mod State
+pub mod Restoring
+pub mod Produces

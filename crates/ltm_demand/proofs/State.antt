@@ -1,0 +1,207 @@
+-- What stood at a row's key, and what setting the row keeps and gives back.
+use Rattle.std.proofs.Common.{◌≡◌, ℕ, suc, ◌+◌, ◌-◌, ◌*◌, ◌^◌, ◌<◌, ◌≤◌, ◌==◌, ◌&&◌, ◌||◌, not, Bool, true, false, cond, nat_le, nat_lt, List, [], ◌∷◌, ◌++◌, length, get_or, take, drop, filter, sum_by, All, Result, Ok, Err, IsOk, arith, refl, ap, sym, subst, ◌∙◌}
+use Rattle.std.specs.List.{AllByRecursion}
+use Rattle.std.specs.List.Sorted.{IsStrictlySortedBy}
+use Rattle.std.specs.declared.cmp.Ordering.TheVariants.{Less, Equal, Greater}
+use Rattle.std.specs.Ordering.{is_lt, is_eq, is_gt}
+use Rattle.std.proofs.lemmas.Cmp.{tied_itself}
+use Rattle.std.proofs.lemmas.Bool.Decides.{nat_tests}
+use Rattle.std.proofs.lemmas.List.{append-nil, drop_more, take-append-drop, length-append}
+use Rattle.std.proofs.lemmas.List.Elements.{filter-append, All-append, All-filter, All-get_or, All-cons, All-nil}
+use Rattle.std.proofs.lemmas.List.Sums.{sum_by-append, sum_by-le, sum_by-le-sum_by}
+use Rattle.std.proofs.lemmas.List.Kept.{IsStrictlySortedBy-filter}
+use Rattle.ltm_demand.specs.declared.row.DemandRow.{DemandRow}
+use Rattle.ltm_demand.specs.Rows.{row_cmp, before, standing, behind, shown, edited, amount_at, with_amount, has_slots, IsDemandRow}
+use Rattle.ltm_demand.specs.Produced.{produced, part, by_end, joins}
+use Rattle.ltm_demand.specs.Tables.{told, table_of, reached, IsShifted, IsRoomy}
+use Rattle.ltm_demand.specs.Kept.{AreDemandRows, IsKept}
+use Rattle.ltm_demand.specs.Places.{IsAt, IsGap}
+use Rattle.ltm_demand.proofs.Parts.{part_le, produced_le}
+use Rattle.ltm_demand.proofs.Filters.{filter_twice, filter_apart, all_passed}
+use Rattle.ltm_demand.proofs.Ordered.{row_total, same_key_is, lt_less, gt_greater, less_back, sorted_cons, sorted_append}
+use Rattle.ltm_demand.proofs.Edits.{amount_found, amount_absent}
+
+-- was units stood at the key of the row
+pub record IsWas (rows : List DemandRow) (row : DemandRow) (was : ℕ) : Type 0 where
+  pub standing_is : standing rows row ≡ shown (with_amount row was)
+  pub parted : rows ≡ before rows row ++ (shown (with_amount row was) ++ behind rows row)
+  pub amount : was ≡ amount_at rows row
+  pub small : was ≤ 1000000000
+
+some_shown : (row : DemandRow) → 0 < row.amount.0 → shown row ≡ row ∷ []
+some_shown row some = let e : (row.amount.0 == 0) ≡ false = grind (arith, nat_tests) in ap (λ b. cond b [] (row ∷ [])) e
+
+pub was_at : (slots : ℕ) (rows : List DemandRow) (row : DemandRow) (i was : ℕ) → AreDemandRows slots rows → IsAt rows row i → was ≡ amount_at rows row → IsWas rows row was
+was_at slots rows row i was are at is =
+    let x = get_or rows i row in
+    let own : IsDemandRow slots x = All-get_or (IsDemandRow slots) rows i row at.within are.each in
+    let amount : was ≡ x.amount.0 = is ∙ amount_found rows row i at in
+    let key : x ≡ with_amount row was = same_key_is x row at.same ∙ ap (λ a. with_amount row a) (sym amount) in
+    let one : shown (with_amount row was) ≡ x ∷ [] = some_shown (with_amount row was) (omega (arith, own.some_units)) ∙ ap (λ y. y ∷ []) (sym key) in
+    let rest : drop i rows ≡ x ∷ drop (i + 1) rows = drop_more rows i row at.within in
+    let next : drop (i + 1) rows ≡ behind rows row = ap (λ n. drop n rows) (let e : i + 1 ≡ suc i = omega arith in e) ∙ sym at.behind_is in
+    record {
+      standing_is = at.standing_is ∙ sym one;
+      parted = sym (ap (λ s. before rows row ++ (s ++ behind rows row)) one ∙ ap (λ b. before rows row ++ (x ∷ b)) (sym next) ∙ ap (λ d. before rows row ++ d) (sym rest) ∙ ap (λ f. f ++ drop i rows) at.before_is ∙ take-append-drop i rows);
+      amount = is;
+      small = omega (arith, own.small);
+    }
+
+pub was_gap : (rows : List DemandRow) (row : DemandRow) (i : ℕ) → IsGap rows row i → IsWas rows row 0
+was_gap rows row i gap = record {
+  standing_is = gap.standing_is;
+  parted = sym (ap (λ f. f ++ behind rows row) gap.before_is ∙ ap (λ b. take i rows ++ b) gap.behind_is ∙ take-append-drop i rows);
+  amount = sym (amount_absent rows row i gap);
+  small = omega arith;
+}
+
+-- a row is neither before nor behind itself
+shown_fails : (p : DemandRow → Bool) (row : DemandRow) → p row ≡ false → filter p (shown row) ≡ []
+shown_fails p row fails = elim (row.amount.0 == 0) as (λ b. filter p (cond b [] (row ∷ [])) ≡ []) [ true ↦ refl | false ↦ ap (λ b. cond b (row ∷ []) []) fails ]
+
+shown_passes : (p : DemandRow → Bool) (row : DemandRow) → p row ≡ true → filter p (shown row) ≡ shown row
+shown_passes p row passes = elim (row.amount.0 == 0) as (λ b. filter p (cond b [] (row ∷ [])) ≡ cond b [] (row ∷ [])) [ true ↦ refl | false ↦ ap (λ b. cond b (row ∷ []) []) passes ]
+
+filter_three : (p : DemandRow → Bool) (f s b : List DemandRow) → filter p (f ++ (s ++ b)) ≡ filter p f ++ (filter p s ++ filter p b)
+filter_three p f s b = filter-append p f (s ++ b) ∙ ap (λ t. filter p f ++ t) (filter-append p s b)
+
+-- what stands before the row's place, at its key and behind it once the row is set
+pub before_edited : (rows : List DemandRow) (row : DemandRow) → before (edited rows row) row ≡ before rows row
+unfolding before edited behind
+before_edited rows row =
+    let p : DemandRow → Bool = λ r. is_lt (row_cmp r row) in
+    let q : DemandRow → Bool = λ r. is_gt (row_cmp r row) in
+    filter_three p (filter p rows) (shown row) (filter q rows)
+    ∙ ap (λ f. f ++ (filter p (shown row) ++ filter p (filter q rows))) (filter_twice p rows)
+    ∙ ap (λ s. filter p rows ++ (s ++ filter p (filter q rows))) (shown_fails p row (ap is_lt (tied_itself row_total row)))
+    ∙ ap (λ b. filter p rows ++ b) (filter_apart p q (λ x is. ap is_lt (gt_greater (row_cmp x row) is)) rows)
+    ∙ append-nil (filter p rows)
+
+pub behind_edited : (rows : List DemandRow) (row : DemandRow) → behind (edited rows row) row ≡ behind rows row
+unfolding before edited behind
+behind_edited rows row =
+    let p : DemandRow → Bool = λ r. is_lt (row_cmp r row) in
+    let q : DemandRow → Bool = λ r. is_gt (row_cmp r row) in
+    filter_three q (filter p rows) (shown row) (filter q rows)
+    ∙ ap (λ f. f ++ (filter q (shown row) ++ filter q (filter q rows))) (filter_apart q p (λ x is. ap is_gt (lt_less (row_cmp x row) is)) rows)
+    ∙ ap (λ s. s ++ filter q (filter q rows)) (shown_fails q row (ap is_gt (tied_itself row_total row)))
+    ∙ filter_twice q rows
+
+pub standing_edited : (rows : List DemandRow) (row : DemandRow) → standing (edited rows row) row ≡ shown row
+unfolding before edited behind standing
+standing_edited rows row =
+    let p : DemandRow → Bool = λ r. is_lt (row_cmp r row) in
+    let q : DemandRow → Bool = λ r. is_gt (row_cmp r row) in
+    let e : DemandRow → Bool = λ r. is_eq (row_cmp r row) in
+    filter_three e (filter p rows) (shown row) (filter q rows)
+    ∙ ap (λ f. f ++ (filter e (shown row) ++ filter e (filter q rows))) (filter_apart e p (λ x is. ap is_eq (lt_less (row_cmp x row) is)) rows)
+    ∙ ap (λ s. s ++ filter e (filter q rows)) (shown_passes e row (ap is_eq (tied_itself row_total row)))
+    ∙ ap (λ b. shown row ++ b) (filter_apart e q (λ x is. ap is_eq (gt_greater (row_cmp x row) is)) rows)
+    ∙ append-nil (shown row)
+
+-- setting the row with what was there gives the rows back
+pub edited_back : (rows : List DemandRow) (row : DemandRow) (was : ℕ) → IsWas rows row was → edited (edited rows row) (with_amount row was) ≡ rows
+unfolding edited before behind
+edited_back rows row was is =
+    let f : before (edited rows row) (with_amount row was) ≡ before rows row = before_edited rows row in
+    let b : behind (edited rows row) (with_amount row was) ≡ behind rows row = behind_edited rows row in
+    ap (λ x. x ++ (shown (with_amount row was) ++ behind (edited rows row) (with_amount row was))) f
+    ∙ ap (λ y. before rows row ++ (shown (with_amount row was) ++ y)) b
+    ∙ sym is.parted
+
+sum_by-three : (f : DemandRow → ℕ) (xs ys zs : List DemandRow) → sum_by f (xs ++ (ys ++ zs)) ≡ sum_by f xs + (sum_by f ys + sum_by f zs)
+sum_by-three f xs ys zs = omega (arith, sum_by-append f xs (ys ++ zs), sum_by-append f ys zs)
+
+-- a row of amount 0 has no part, so what is shown has the part of the row
+part_shown : (o d t : ℕ) (row : DemandRow) → sum_by (part o d t) (shown row) ≡ part o d t row
+part_shown o d t row = elim (row.amount.0 == 0) as (λ b. (row.amount.0 == 0) ≡ b → sum_by (part o d t) (cond b [] (row ∷ [])) ≡ part o d t row) [
+  | true ↦ λ none. let zero : row.amount.0 ≡ 0 = grind (arith, nat_tests) in omega (arith, part_le o d t row)
+  | false ↦ λ _. omega arith
+] refl
+
+pub length_edited : (rows : List DemandRow) (row : DemandRow) (was : ℕ) → IsWas rows row was → length (edited rows row) + length (shown (with_amount row was)) ≡ length rows + length (shown row)
+unfolding edited
+length_edited rows row was is =
+    omega (arith, ap length is.parted, length-append (before rows row) (shown row ++ behind rows row), length-append (shown row) (behind rows row), length-append (before rows row) (shown (with_amount row was) ++ behind rows row), length-append (shown (with_amount row was)) (behind rows row))
+
+-- the sums of the rows after a set: the new part in place of the old
+pub by_end_edited : (rows : List DemandRow) (row : DemandRow) (was o d t : ℕ) → IsWas rows row was → by_end (edited rows row) o d t + part o d t (with_amount row was) ≡ by_end rows o d t + part o d t row
+unfolding edited
+by_end_edited rows row was o d t is =
+    omega (arith, ap (sum_by (part o d t)) is.parted, sum_by-three (part o d t) (before rows row) (shown row) (behind rows row), sum_by-three (part o d t) (before rows row) (shown (with_amount row was)) (behind rows row), part_shown o d t row, part_shown o d t (with_amount row was))
+
+-- the part of the row that stood is in the sum
+pub part_was : (rows : List DemandRow) (row : DemandRow) (was o d t : ℕ) → IsWas rows row was → part o d t (with_amount row was) ≤ by_end rows o d t
+part_was rows row was o d t is =
+    omega (arith, ap (sum_by (part o d t)) is.parted, sum_by-three (part o d t) (before rows row) (shown (with_amount row was)) (behind rows row), part_shown o d t (with_amount row was))
+
+pub total_le : (slots : ℕ) (rows : List DemandRow) → AreDemandRows slots rows → sum_by (λ r. r.amount.0) rows ≤ 10000000000000
+total_le slots rows are = omega (arith, sum_by-le (λ (r : DemandRow). r.amount.0) 1000000000 rows (λ k d less. (are.each k d less).small), are.few)
+
+pub by_end_le : (rows : List DemandRow) (o d t : ℕ) → by_end rows o d t ≤ sum_by (λ r. r.amount.0) rows
+by_end_le rows o d t = sum_by-le-sum_by (part o d t) (λ r. r.amount.0) rows (part_le o d t)
+
+-- the rows stay in the order of their keys
+ordered_edited : (rows : List DemandRow) (row : DemandRow) → IsStrictlySortedBy row_cmp rows → IsStrictlySortedBy row_cmp (edited rows row)
+unfolding before edited behind
+ordered_edited rows row sorted =
+    let p : DemandRow → Bool = λ r. is_lt (row_cmp r row) in
+    let q : DemandRow → Bool = λ r. is_gt (row_cmp r row) in
+    let back = IsStrictlySortedBy-filter row_cmp q rows sorted in
+    let above = all_passed q (λ y. row_cmp row y ≡ Less) (λ y is. less_back y row (gt_greater (row_cmp y row) is)) rows in
+    let far : (x : DemandRow) → p x ≡ true → AllByRecursion (λ y. row_cmp x y ≡ Less) (filter q rows) =
+    λ x is. all_passed q (λ y. row_cmp x y ≡ Less) (λ y more. row_total.trans x row y (lt_less (row_cmp x row) is) (less_back y row (gt_greater (row_cmp y row) more))) rows in
+    elim (row.amount.0 == 0) as (λ b. IsStrictlySortedBy row_cmp (filter p rows ++ (cond b [] (row ∷ []) ++ filter q rows))) [
+      | true ↦ sorted_append (filter p rows) (filter q rows) (IsStrictlySortedBy-filter row_cmp p rows sorted) back (all_passed p _ far rows)
+      | false ↦ sorted_append (filter p rows) (row ∷ filter q rows) (IsStrictlySortedBy-filter row_cmp p rows sorted) (sorted_cons row (filter q rows) above back)
+          (all_passed p (λ x. AllByRecursion (λ y. row_cmp x y ≡ Less) (row ∷ filter q rows)) (λ x is. (lt_less (row_cmp x row) is, far x is)) rows)
+    ]
+
+each_shown : (slots : ℕ) (row : DemandRow) → has_slots slots row ≡ true → row.amount.0 ≤ 1000000000 → All (IsDemandRow slots) (shown row)
+each_shown slots row in' small = elim (row.amount.0 == 0) as (λ b. (row.amount.0 == 0) ≡ b → All (IsDemandRow slots) (cond b [] (row ∷ []))) [
+  | true ↦ λ _. All-nil (IsDemandRow slots)
+  | false ↦ λ some. All-cons (IsDemandRow slots) row [] (record { some_slots = grind (arith, nat_tests); within = grind (arith, nat_tests); some_units = grind (arith, nat_tests); small = small }) (All-nil (IsDemandRow slots))
+] refl
+
+each_edited : (slots : ℕ) (rows : List DemandRow) (row : DemandRow) → AreDemandRows slots rows → has_slots slots row ≡ true → row.amount.0 ≤ 1000000000 → All (IsDemandRow slots) (edited rows row)
+unfolding before edited behind
+each_edited slots rows row are in' small = All-append (IsDemandRow slots) (before rows row) (shown row ++ behind rows row) (All-filter (λ r. is_lt (row_cmp r row)) (IsDemandRow slots) rows are.each)
+    (All-append (IsDemandRow slots) (shown row) (behind rows row) (each_shown slots row in' small) (All-filter (λ r. is_gt (row_cmp r row)) (IsDemandRow slots) rows are.each))
+
+pub rows_edited : (slots : ℕ) (rows : List DemandRow) (row : DemandRow) → AreDemandRows slots rows → has_slots slots row ≡ true → row.amount.0 ≤ 1000000000 → length (edited rows row) ≤ 10000 → AreDemandRows slots (edited rows row)
+rows_edited slots rows row are in' small few = record {
+  ordered = ordered_edited rows row are.ordered;
+  each = each_edited slots rows row are in' small;
+  few = few;
+}
+
+-- the fields stay kept
+pub kept_edited : (slots : ℕ) (rows : List DemandRow) (row : DemandRow) (was : ℕ) (is_whole is_whole' : Bool) (tables tables' : List (List (List ℕ))) →
+    IsKept slots rows is_whole tables → IsWas rows row was → has_slots slots row ≡ true → row.amount.0 ≤ 1000000000 → length (edited rows row) ≤ 10000 →
+    (is_whole' ≡ true → is_whole ≡ true) → (is_whole' ≡ true → IsShifted tables tables' row was) → IsKept slots (edited rows row) is_whole' tables'
+kept_edited slots rows row was is_whole is_whole' tables tables' kept is in' small few stays shifted = record {
+  are_rows = rows_edited slots rows row kept.are_rows in' small few;
+  whole = λ whole o d t. omega (arith, kept.whole (stays whole) o d t, shifted whole o d t, by_end_edited rows row was o d t is);
+}
+
+part_own : (row : DemandRow) (was t : ℕ) → part row.origin.0 row.destination t (with_amount row was) ≡ produced row.from row.to was t
+unfolding part
+part_own row was t = let e : joins row.origin.0 row.destination row ≡ true = grind (arith, nat_tests) in ap (λ b. cond b (produced row.from row.to was t) 0) e
+
+-- a whole table has what stood, and room for more
+pub roomy_was : (slots : ℕ) (rows : List DemandRow) (row : DemandRow) (was : ℕ) (is_whole : Bool) (tables : List (List (List ℕ))) → IsKept slots rows is_whole tables → IsWas rows row was → is_whole ≡ true → IsRoomy (table_of tables row.origin.0 row.destination) row.from row.to was
+roomy_was slots rows row was is_whole tables kept is whole = record {
+  has = λ t. omega (arith, kept.whole whole row.origin.0 row.destination t, part_was rows row was row.origin.0 row.destination t is, part_own row was t);
+  room = λ t. omega (arith, kept.whole whole row.origin.0 row.destination t, by_end_le rows row.origin.0 row.destination t, total_le slots rows kept.are_rows);
+}
+
+told_nothing : (o d t : ℕ) → told [] o d t ≡ 0
+unfolding table_of reached
+told_nothing o d t = refl
+
+pub kept_nothing : (slots : ℕ) → IsKept slots [] true []
+unfolding IsStrictlySortedBy
+kept_nothing slots = record {
+  are_rows = record { ordered = tt; each = All-nil (IsDemandRow slots); few = omega arith };
+  whole = λ _ o d t. told_nothing o d t;
+}

@@ -1,0 +1,5 @@
+pub mod Rows
+pub mod Produced
+pub mod Tables
+pub mod Kept
+pub mod Places

@@ -1,0 +1,82 @@
+-- The demand of a case as contracts see it: its rows in the order of their keys, and what a set makes of them.
+use Rattle.std.specs.Prelude.{◌≡◌, ℕ, ◌+◌, ◌<◌, ◌≤◌, Bool, not, ◌==◌, true, ◌&&◌, ◌||◌, if◌then◌else◌, nat_le, nat_lt, List, [], ◌∷◌, ◌++◌, length, sum_by, filter, Result, Ok, Err, IsOk}
+use Rattle.std.specs.List.{list_any}
+use Rattle.std.specs.declared.cmp.Ordering.{Ordering}
+use Rattle.std.specs.Ordering.{nat_cmp, ordering_then, is_lt, is_eq, is_gt}
+use Rattle.ltm_demand.specs.declared.row.DemandRow.{DemandRow}
+use Rattle.ltm_demand.specs.declared.row.DemandFault.{DemandFault}
+use Rattle.ltm_demand.specs.declared.row.DemandFault.TheVariants.{BadSlots, TooManyRows}
+
+-- the horizon, and the rows in the order of their keys
+pub record DemandData : Type 0 where
+  pub slots : ℕ
+  pub rows : List DemandRow
+
+-- the data, and beside them how many further rows can be set without memory
+pub record DemandState : Type 0 where
+  pub demand : DemandData
+  pub room : ℕ
+
+-- rows are ordered by origin, then destination, then first slot, then end; where all four are equal the key is one
+abbrev pub row_cmp : DemandRow → DemandRow → Ordering
+row_cmp a b = ordering_then (nat_cmp a.origin.0 b.origin.0) (ordering_then (nat_cmp a.destination b.destination) (ordering_then (nat_cmp a.from b.from) (nat_cmp a.to b.to)))
+
+-- the rows before the place of a row
+unfoldable pub before : List DemandRow → DemandRow → List DemandRow
+before rows row = filter (λ r. is_lt (row_cmp r row)) rows
+
+-- the rows with the key of a row: one, or none
+unfoldable pub standing : List DemandRow → DemandRow → List DemandRow
+standing rows row = filter (λ r. is_eq (row_cmp r row)) rows
+
+-- the rows behind the place of a row
+unfoldable pub behind : List DemandRow → DemandRow → List DemandRow
+behind rows row = filter (λ r. is_gt (row_cmp r row)) rows
+
+-- a row of amount 0 is no row
+abbrev pub shown : DemandRow → List DemandRow
+shown row = if row.amount.0 == 0 then [] else row ∷ []
+
+-- the rows once a row is set: it stands in its place, and any other with its key is gone
+unfoldable pub edited : List DemandRow → DemandRow → List DemandRow
+edited rows row = before rows row ++ (shown row ++ behind rows row)
+
+-- the amount that stands at the key of a row, 0 where none does
+unfoldable pub amount_at : List DemandRow → DemandRow → ℕ
+amount_at rows row = sum_by (λ r. r.amount.0) (standing rows row)
+
+-- the slots of a row are some, and within the horizon
+abbrev pub has_slots : ℕ → DemandRow → Bool
+has_slots slots row = nat_lt row.from row.to && nat_le row.to slots
+
+-- the data once a row is set, or why it is refused
+unfoldable pub with_row : DemandData → DemandRow → Result DemandData DemandFault
+with_row d row =
+    if not (has_slots d.slots row) then Err BadSlots
+    else if nat_lt 10000 (length (edited d.rows row)) then Err TooManyRows
+    else Ok (record { slots = d.slots; rows = edited d.rows row })
+
+-- the row with another amount
+abbrev pub with_amount : DemandRow → ℕ → DemandRow
+with_amount row amount = record row { amount = record { 0 = amount } }
+
+-- to set the row takes no memory: it takes a row out, or writes over one, or there is room for one more
+abbrev pub takes_no_memory : DemandState → DemandRow → Bool
+takes_no_memory d row = (row.amount.0 == 0) || (not (amount_at d.demand.rows row == 0) || nat_lt 0 d.room)
+
+-- the row can be set, and that takes no memory
+pub record CanRestore (d : DemandState) (row : DemandRow) : Type 0 where
+  pub small : row.amount.0 ≤ 1000000000
+  pub accepted : IsOk (with_row d.demand row)
+  pub free : takes_no_memory d row ≡ true
+
+-- rows and room together are no fewer than before, so what could be restored at the same data still can
+abbrev pub KeepsRoom : DemandState → DemandState → Type 0
+KeepsRoom old new = length old.demand.rows + old.room ≤ length new.demand.rows + new.room
+
+-- what each row of a demand is: some slots within the horizon, and 1 to 1,000,000,000 units
+pub record IsDemandRow (slots : ℕ) (row : DemandRow) : Type 0 where
+  pub some_slots : row.from < row.to
+  pub within : row.to ≤ slots
+  pub some_units : 0 < row.amount.0
+  pub small : row.amount.0 ≤ 1000000000
