@@ -1,4 +1,4 @@
-use Rattle.std.proofs.Common.{◌≡◌, ℕ, List, [], length, refl, sym, subst}
+use Rattle.std.proofs.Common.{◌≡◌, List, [], length, refl, sym, subst}
 use Rattle.std.proofs.lemmas.List.Elements.{All-nil}
 use Rattle.std.specs.List.Sorted.{IsStrictlySortedBy}
 use Rattle.ltm_splits.specs.Rows.{IsOrdered, HaveWeights}
