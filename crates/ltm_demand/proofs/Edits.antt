@@ -1,10 +1,10 @@
 -- What writing at a place makes of the rows.
-use Rattle.std.proofs.Common.{◌≡◌, ℕ, suc, ◌+◌, ◌<◌, ◌≤◌, ◌==◌, Bool, true, false, cond, List, [], ◌∷◌, ◌++◌, length, get_or, set, take, drop, sum_by, arith, refl, ap, sym, subst, ◌∙◌}
+use Rattle.std.proofs.Common.{◌≡◌, ℕ, ◌<◌, ◌==◌, true, false, cond, List, [], ◌∷◌, ◌++◌, get_or, set, take, sum_by, arith, ap, sym, ◌∙◌}
 use Rattle.std.specs.List.{insert, remove}
 use Rattle.std.proofs.lemmas.List.{set_split, get_or_read, take-append-drop}
 use Rattle.std.proofs.lemmas.Bool.Decides.{nat_tests}
 use Rattle.ltm_demand.specs.declared.row.DemandRow.{DemandRow}
-use Rattle.ltm_demand.specs.Rows.{before, standing, behind, shown, edited, amount_at}
+use Rattle.ltm_demand.specs.Rows.{behind, shown, edited, amount_at}
 use Rattle.ltm_demand.specs.Places.{IsAt, IsGap}
 
 shown_none : (row : DemandRow) → row.amount.0 ≡ 0 → shown row ≡ []

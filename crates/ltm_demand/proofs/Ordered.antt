@@ -1,17 +1,15 @@
 -- Rows in the order of their keys: the order, and what a row set in its place leaves.
-use Rattle.std.proofs.Common.{◌≡◌, ℕ, suc, ◌+◌, ◌<◌, ◌≤◌, Bool, true, false, cond, List, [], ◌∷◌, ◌++◌, length, get_or, take, drop, filter, arith, refl, ap, sym, ◌∙◌, subst}
+use Rattle.std.proofs.Common.{◌≡◌, true, List, [], ◌∷◌, ◌++◌, refl, ap, ◌∙◌}
 use Rattle.std.specs.List.{AllByRecursion}
 use Rattle.std.specs.List.Sorted.{IsStrictlySortedBy}
 use Rattle.std.specs.Cmp.{IsTotalOrder, nat_cmp_total, on_total}
 use Rattle.std.specs.declared.cmp.Ordering.{Ordering}
 use Rattle.std.specs.declared.cmp.Ordering.TheVariants.{Less, Equal, Greater}
-use Rattle.std.specs.Ordering.{nat_cmp, ordering_then, ordering_reverse, is_lt, is_eq, is_gt}
-use Rattle.std.proofs.lemmas.Cmp.{then_total, tied_itself, alike_right}
+use Rattle.std.specs.Ordering.{ordering_then, ordering_reverse, is_lt, is_gt}
+use Rattle.std.proofs.lemmas.Cmp.{then_total}
 use Rattle.std.proofs.lemmas.Map.Lookups.{exact_unsigned}
-use Rattle.std.proofs.lemmas.List.Kept.{IsStrictlySortedBy-filter}
 use Rattle.ltm_demand.specs.declared.row.DemandRow.{DemandRow}
 use Rattle.ltm_demand.specs.Rows.{row_cmp, with_amount}
-use Rattle.ltm_demand.proofs.Filters.{all_passed}
 
 pub row_total : IsTotalOrder row_cmp
 row_total = then_total (on_total (λ (r : DemandRow). r.origin.0) nat_cmp_total) (then_total (on_total (λ (r : DemandRow). r.destination) nat_cmp_total) (then_total (on_total (λ (r : DemandRow). r.from) nat_cmp_total) (on_total (λ (r : DemandRow). r.to) nat_cmp_total)))

@@ -1,10 +1,9 @@
 -- A row is set, and what was there can be set again without memory.
-use Rattle.std.proofs.Common.{◌≡◌, ℕ, ◌+◌, ◌<◌, ◌≤◌, ◌==◌, ◌&&◌, ◌||◌, not, Bool, true, false, cond, nat_le, nat_lt, List, [], ◌∷◌, length, sum_by, Result, Ok, Err, IsOk, arith, refl, ap, sym, subst, ◌∙◌}
+use Rattle.std.proofs.Common.{◌≡◌, ℕ, ◌+◌, ◌<◌, ◌≤◌, ◌==◌, ◌||◌, not, Bool, true, false, cond, nat_lt, List, [], ◌∷◌, length, sum_by, Ok, Err, IsOk, arith, refl, ap, sym, subst, ◌∙◌}
 use Rattle.std.proofs.lemmas.Bool.Decides.{nat_tests}
 use Rattle.ltm_demand.specs.declared.row.DemandRow.{DemandRow}
-use Rattle.ltm_demand.specs.declared.row.DemandFault.{DemandFault}
 use Rattle.ltm_demand.specs.declared.row.DemandFault.TheVariants.{BadSlots, TooManyRows}
-use Rattle.ltm_demand.specs.Rows.{DemandData, DemandState, row_cmp, standing, shown, edited, amount_at, with_row, with_amount, has_slots, takes_no_memory, CanRestore, KeepsRoom}
+use Rattle.ltm_demand.specs.Rows.{DemandData, DemandState, standing, shown, edited, amount_at, with_row, with_amount, has_slots, takes_no_memory, CanRestore, KeepsRoom}
 use Rattle.ltm_demand.specs.Kept.{AreDemandRows}
 use Rattle.ltm_demand.specs.Places.{IsAt, IsGap}
 use Rattle.ltm_demand.proofs.Edits.{edited_nothing, amount_absent}

@@ -1,8 +1,8 @@
 -- What stood at a row's key, and what setting the row keeps and gives back.
-use Rattle.std.proofs.Common.{◌≡◌, ℕ, suc, ◌+◌, ◌-◌, ◌*◌, ◌^◌, ◌<◌, ◌≤◌, ◌==◌, ◌&&◌, ◌||◌, not, Bool, true, false, cond, nat_le, nat_lt, List, [], ◌∷◌, ◌++◌, length, get_or, take, drop, filter, sum_by, All, Result, Ok, Err, IsOk, arith, refl, ap, sym, subst, ◌∙◌}
+use Rattle.std.proofs.Common.{◌≡◌, ℕ, suc, ◌+◌, ◌<◌, ◌≤◌, ◌==◌, Bool, true, false, cond, List, [], ◌∷◌, ◌++◌, length, get_or, take, drop, filter, sum_by, All, arith, refl, ap, sym, ◌∙◌}
 use Rattle.std.specs.List.{AllByRecursion}
 use Rattle.std.specs.List.Sorted.{IsStrictlySortedBy}
-use Rattle.std.specs.declared.cmp.Ordering.TheVariants.{Less, Equal, Greater}
+use Rattle.std.specs.declared.cmp.Ordering.TheVariants.{Less}
 use Rattle.std.specs.Ordering.{is_lt, is_eq, is_gt}
 use Rattle.std.proofs.lemmas.Cmp.{tied_itself}
 use Rattle.std.proofs.lemmas.Bool.Decides.{nat_tests}
@@ -16,7 +16,7 @@ use Rattle.ltm_demand.specs.Produced.{produced, part, by_end, joins}
 use Rattle.ltm_demand.specs.Tables.{told, table_of, reached, IsShifted, IsRoomy}
 use Rattle.ltm_demand.specs.Kept.{AreDemandRows, IsKept}
 use Rattle.ltm_demand.specs.Places.{IsAt, IsGap}
-use Rattle.ltm_demand.proofs.Parts.{part_le, produced_le}
+use Rattle.ltm_demand.proofs.Parts.{part_le}
 use Rattle.ltm_demand.proofs.Filters.{filter_twice, filter_apart, all_passed}
 use Rattle.ltm_demand.proofs.Ordered.{row_total, same_key_is, lt_less, gt_greater, less_back, sorted_cons, sorted_append}
 use Rattle.ltm_demand.proofs.Edits.{amount_found, amount_absent}

@@ -1,5 +1,5 @@
 -- What rows of demand have produced by the end of a slot.
-use Rattle.std.specs.Prelude.{◌≡◌, ℕ, ◌+◌, ◌-◌, ◌*◌, ◌/◌, Bool, ◌==◌, ◌&&◌, if◌then◌else◌, nat_le, nat_lt, List, sum_by}
+use Rattle.std.specs.Prelude.{ℕ, ◌+◌, ◌-◌, ◌*◌, ◌/◌, Bool, ◌==◌, ◌&&◌, if◌then◌else◌, nat_le, nat_lt, List, sum_by}
 use Rattle.std.specs.List.{list_any}
 use Rattle.ltm_demand.specs.declared.row.DemandRow.{DemandRow}
 

@@ -1,5 +1,4 @@
 use Rattle.std.proofs.Common.{◌≡◌, ℕ, ◌+◌, ◌-◌, [], vec_len, slice_index_or}
-use Rattle.ltm_demand.specs.Tables.{reached}
 use Rattle.ltm_demand.proofs.production.make_origins.Given as goal
 
 abbrev pub invariant-loop-origins : goal.invariant-loop-origins

@@ -1,5 +1,4 @@
 use Rattle.std.proofs.Common.{◌≡◌, ℕ, ◌+◌, ◌-◌, [], vec_len, slice_index_or}
-use Rattle.ltm_demand.specs.Tables.{reached}
 use Rattle.ltm_demand.proofs.production.make_tables.Given as goal
 
 abbrev pub invariant-loop-tables : goal.invariant-loop-tables

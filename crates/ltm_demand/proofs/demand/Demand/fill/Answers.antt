@@ -1,9 +1,9 @@
-use Rattle.std.proofs.Common.{◌≡◌, ◌+◌, ◌-◌, ◌≤◌, true, length, vec_len, arith, ap, sym, subst, ◌∙◌}
+use Rattle.std.proofs.Common.{◌≡◌, ◌-◌, ◌≤◌, true, length, vec_len, arith, ap, sym, subst}
 use Rattle.std.specs.Vec.{vec_capacity}
 use Rattle.ltm_demand.specs.Rows.{has_slots, edited}
-use Rattle.ltm_demand.specs.Places.{IsAt, IsGap}
-use Rattle.ltm_demand.proofs.State.{IsWas, was_at, was_gap, kept_edited, roomy_was}
-use Rattle.ltm_demand.proofs.Restoring.{IsDone, is_done, is_left, state_of, length_replaced, length_filled}
+use Rattle.ltm_demand.specs.Places.{IsGap}
+use Rattle.ltm_demand.proofs.State.{IsWas, was_gap, kept_edited, roomy_was}
+use Rattle.ltm_demand.proofs.Restoring.{IsDone, is_done, state_of, length_filled}
 use Rattle.ltm_demand.proofs.demand.Demand.fill.Goals as goal
 
 pub tell-self-inside-requires-clause-roomy : goal.tell-self-inside-requires-clause-roomy

@@ -1,4 +1,3 @@
-use Rattle.std.proofs.Common.{true, []}
 use Rattle.ltm_demand.proofs.State.{kept_nothing}
 use Rattle.ltm_demand.proofs.demand.Demand.new.Goals as goal
 

@@ -1,4 +1,4 @@
-use Rattle.std.proofs.Common.{◌≡◌, ◌≤◌, length, sym, ap, subst, arith}
+use Rattle.std.proofs.Common.{length, sym, ap, arith}
 use Rattle.ltm_demand.proofs.Reach.{reached_none}
 use Rattle.ltm_demand.proofs.production.OriginTables.by_end.Goals as goal
 

@@ -1,4 +1,4 @@
-use Rattle.std.proofs.Common.{◌≡◌, vec_len, length, sym, ap, subst, arith}
+use Rattle.std.proofs.Common.{◌≡◌, length, sym, ap, subst, arith}
 use Rattle.ltm_demand.specs.Tables.{IsRoomy, IsShiftedTable}
 use Rattle.ltm_demand.proofs.Shifts.{place_has, place_room, shifted_past}
 use Rattle.ltm_demand.proofs.production.PairTable.change.Goals as goal

@@ -1,5 +1,4 @@
-use Rattle.std.proofs.Common.{◌<◌, length, arith, subst, sym, ap}
-use Rattle.ltm_demand.specs.Tables.{IsRoomy, table_of}
+use Rattle.std.proofs.Common.{◌<◌, length, arith, ap}
 use Rattle.ltm_demand.proofs.Shifts.{shifted_read, origin_inside}
 use Rattle.ltm_demand.proofs.production.Production.change.Goals as goal
 
