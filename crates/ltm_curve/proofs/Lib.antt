@@ -1,2 +1,5 @@
 pub mod Interpolation
+pub mod Lists
+pub mod Lasts
+pub mod Firsts
 pub mod Places

@@ -1,5 +1,6 @@
 -- Where counts lie in the table.
-use Rattle.std.proofs.Common.{◌≡◌, ◌≢◌, ℕ, ◌+◌, ◌*◌, ◌<◌, ◌≤◌, List, length, slice_index, slice_set, ℤ, pos, negsuc, ◌≤ℤ◌, arith, refl, inl, inr, ap, sym, ◌∙◌, get_or-set_same, get_or-set_other}
+use Rattle.std.proofs.Common.{◌≡◌, ◌≢◌, ℕ, ◌+◌, ◌*◌, ◌^◌, ◌<◌, ◌≤◌, List, length, slice_index, slice_set, ℤ, pos, negsuc, ◌≤ℤ◌, arith, refl, inl, inr, ap, sym, ◌∙◌, get_or-set_same, get_or-set_other}
+use Rattle.std.proofs.Math.Nat.{mul-le-mul_right}
 use Rattle.std.proofs.lemmas.Nat.{same_from_place}
 use Rattle.std.proofs.lemmas.Int.{ints}
 use Rattle.ltm_units.specs.Sums.{sum_below}
@@ -7,7 +8,7 @@ use Rattle.ltm_curve.specs.Counts.{at_time}
 use Rattle.ltm_curve.specs.declared.curves.Curves.{Curves}
 use Rattle.ltm_curve.specs.Table.{groups_of, destinations_of, slots_of, place, counts_of, total_of, IsIn, SameShape, Sets}
 use Rattle.ltm_curve.specs.CurveLaws.{SameCounts, CountsTellAll}
-use Rattle.ltm_units.proofs.Sums.{sum_below-same}
+use Rattle.ltm_units.proofs.Sums.{sum_below-same, sum_below-most}
 use Rattle.ltm_curve.proofs.Interpolation.{interpolated_same}
 
 pub same_place : (a b : Curves) (g d k : ℕ) → SameShape a b → place a g d k ≡ place b g d k
@@ -40,3 +41,13 @@ same_times a b s g x step (negsuc time) some l = refl
 
 pub counts_tell_all_holds : CountsTellAll
 counts_tell_all_holds a b s g x = (λ k y. same_totals a b s g k x y, λ step time some l. same_times a b s g x step time some l)
+
+-- totals are small
+pub total_small : (c : Curves) (g k : ℕ) → total_of c g k ≤ 2 ^ 54
+unfolding counts_of
+total_small c g k = omega (arith, sum_below-most c.destinations (λ d. counts_of c g d k) (2 ^ 48) (λ d l. c.small (place c g d k)), mul-le-mul_right (2 ^ 48) c.few)
+
+-- a place in the same table is the same count
+pub same_table : (xs ys : List ℕ) (g d k a b m n : ℕ) → xs ≡ ys → a ≡ b → m ≡ n → slice_index xs ((k * a + g) * m + d) ≡ slice_index ys ((k * b + g) * n + d)
+same_table xs ys g d k a b m n e f h =
+    ap (λ (zs : List ℕ). slice_index zs ((k * a + g) * m + d)) e ∙ (ap (λ (z : ℕ). slice_index ys ((k * z + g) * m + d)) f ∙ ap (λ (z : ℕ). slice_index ys ((k * b + g) * z + d)) h)

@@ -5,6 +5,8 @@
 //! `specs/Table.antt` know this; no contract does.
 ghost use Rattle.std.specs.Prelude.{◌≡◌, ℕ, ◌+◌, ◌*◌, ◌^◌, ◌<◌, ◌≤◌, ◌/◌, ◌%◌, length, slice_index, IfOk, ℤ, pos, ◌≤ℤ◌};
 
+use crate::composition::first_of;
+use crate::group::Group;
 use ltm_units::{Millis, NoMemory};
 use std::alloc::Global;
 
@@ -35,7 +37,10 @@ fn part_of(units: u64, rest: u64, step: u64) -> u64
 
 impl Curves {
     ghost use Rattle.ltm_curve.specs.Counts.{interpolated, at_time, RisesAt};
-    ghost use Rattle.ltm_curve.specs.Table.{groups_of, destinations_of, slots_of, place, counts_of, total_of, HasShape, IsIn, IsEmpty, Sets};
+    ghost use Rattle.ltm_curve.specs.First.{first_units};
+    ghost use Rattle.ltm_curve.specs.FirstLaws.{IsPart};
+    ghost use Rattle.ltm_curve.specs.Table.{groups_of, destinations_of, slots_of, place, counts_of, total_of, HasShape, SameShape, IsIn, IsEmpty, Sets};
+    ghost use Rattle.ltm_curve.specs.CurveLaws.{SameCounts};
 
     /// Curves of this shape whose counts are all 0. There are `slots + 1` boundaries.
     #[tactic(auto, unfolding(crate::specs::Table::counts_of))]
@@ -174,5 +179,33 @@ impl Curves {
         let boundary = (time / step.0) as u32;
         let rest = Millis(time % step.0);
         self.past(group, boundary, rest, step)
+    }
+
+    /// Writes what each destination has of the first n units of a group, in the order in which they entered: all that
+    /// entered by the last boundary at which n were not yet passed, and of the units of the slot after it the part that
+    /// is missing, by the nested split. Only what entered by boundary `last` is looked at.
+    pub fn first(&self, group: u32, n: u64, last: u32, into: &mut [u64])
+        requires group { group < groups_of self.now }
+        requires last { last ≤ slots_of self.now }
+        requires part { IsPart (destinations_of self.now) (counts_of self.now group) n last }
+        requires room { length into.old ≡ destinations_of self.now }
+        ensures { (d : ℕ) → d < destinations_of self.now → slice_index into.new d
+            ≡ first_units (destinations_of self.now) (counts_of self.now group) n last d }
+    {
+        let rows = Group {
+            curves: self,
+            group,
+        };
+        first_of(&rows, n, last, into);
+    }
+
+    /// Takes over all counts of other curves of the same shape.
+    pub fn copy_from(&mut self, other: &Curves)
+        requires { SameShape self.old other.now }
+        ensures { SameCounts self.new other.now }
+    {
+        self.counts
+            .as_mut_slice()
+            .copy_from_slice(other.counts.as_slice());
     }
 }

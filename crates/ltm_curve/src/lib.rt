@@ -10,11 +10,18 @@
 //! access to one flat table, a total one access for each destination, a time one division more.
 #![tactic(auto)]
 
+mod composition;
 mod curves;
+mod group;
 mod laws;
+mod rows;
 
+pub use composition::first_of;
 pub use curves::Curves;
-pub use laws::{counts_tell_all, one_destination_is_total};
+pub use laws::{
+    counts_tell_all, first_rises, first_stays, first_sums, first_within, one_destination_is_total,
+};
+pub use rows::Rows;
 
 #[cfg(test)]
 mod tests;

@@ -1,5 +1,6 @@
 use crate::Curves;
 use ltm_units::Millis;
+use std::process::Abort;
 
 // A group with two destinations: 0 and 0, then 300 and 100, then 300 and 500.
 #[test]
@@ -28,4 +29,45 @@ fn counts_and_times(rt: HostRuntime) {
     assert_eq!(rt; curves.at(1, 1500, step), 600);
     assert_eq!(rt; curves.at(1, 2000, step), 800);
     assert_eq!(rt; curves.past(1, 1, Millis(250), step), 500);
+}
+
+// What two destinations have of the first n units by boundary 2, where the counts at the three boundaries do not fall.
+fn first_of_two(rt: &impl Abort, curves: &Curves, n: u64) -> [u64; 2] {
+    assert!(rt; curves.groups() == 1);
+    assert!(rt; curves.destinations() == 2);
+    assert!(rt; curves.slots() == 2);
+    assert!(rt; curves.get(0, 0, 0) <= curves.get(0, 0, 1));
+    assert!(rt; curves.get(0, 0, 1) <= curves.get(0, 0, 2));
+    assert!(rt; curves.get(0, 1, 0) <= curves.get(0, 1, 1));
+    assert!(rt; curves.get(0, 1, 1) <= curves.get(0, 1, 2));
+    assert!(rt; curves.total(0, 0) == 0);
+    assert!(rt; n <= curves.total(0, 2));
+    let mut into = [0; 2];
+    curves.first(0, n, 2, &mut into);
+    into
+}
+
+// The same counts: of the first 400 units 300 and 100, and after them the second destination alone.
+#[test]
+fn first_units_and_copies(rt: HostRuntime) {
+    let Ok(mut curves) = Curves::create(rt.alloc(), 1, 2, 2) else {
+        panic!(rt; "no memory");
+    };
+    let Ok(mut copy) = Curves::create(rt.alloc(), 1, 2, 2) else {
+        panic!(rt; "no memory");
+    };
+    curves.set(0, 0, 1, 300);
+    curves.set(0, 1, 1, 100);
+    curves.set(0, 0, 2, 300);
+    curves.set(0, 1, 2, 500);
+    for (n, parts) in [
+        (200, [150, 50]),
+        (400, [300, 100]),
+        (500, [300, 200]),
+        (800, [300, 500]),
+    ] {
+        assert_eq!(rt; first_of_two(&rt, &curves, n), parts, "the first {n}");
+    }
+    copy.copy_from(&curves);
+    assert_eq!(rt; first_of_two(&rt, &copy, 500), [300, 200]);
 }

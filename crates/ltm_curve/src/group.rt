@@ -1,0 +1,35 @@
+//! A group of curves, as rows of counts.
+ghost use Rattle.std.specs.Prelude.{◌<◌};
+
+use crate::curves::Curves;
+use crate::rows::Rows;
+
+#[derive(Drop)]
+pub(crate) struct Group<'a> {
+    pub(crate) curves: &'a Curves,
+    pub(crate) group: u32,
+    ghost in_range: { group < curves.now.groups },
+}
+
+impl Rows for Group<'_> {
+    ghost use Rattle.std.specs.Prelude.{ℕ};
+    ghost use Rattle.ltm_curve.specs.Table.{destinations_of, slots_of, counts_of};
+
+    ghost rows = { λ s. counts_of s.curves.now s.group };
+
+    ghost width = { λ s. destinations_of s.curves.now };
+
+    ghost end = { λ s. slots_of s.curves.now };
+
+    fn destinations(&self) -> u32 {
+        self.curves.destinations()
+    }
+
+    fn count(&self, destination: u32, boundary: u32) -> u64 {
+        self.curves.get(self.group, destination, boundary)
+    }
+
+    fn total(&self, boundary: u32) -> u64 {
+        self.curves.total(self.group, boundary)
+    }
+}
