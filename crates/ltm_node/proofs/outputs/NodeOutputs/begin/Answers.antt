@@ -1,0 +1,12 @@
+use Rattle.std.proofs.Common.{ap, arith}
+use Rattle.ltm_node.specs.Outputs.{Outputs}
+use Rattle.ltm_node.proofs.Rows.{outputs_begun}
+use Rattle.ltm_node.proofs.outputs.NodeOutputs.begin.Goals as goal
+
+pub returns : goal.returns
+returns c =
+    let room = ap (λ (m : Outputs). m.room) c.self.view_is in
+    outputs_begun c.shape-shape.result c.args.inputs.now.shape c.loop-place.self-inside.counts.items c.row.result.now c.args.inputs.now.row c.args.self.now.room
+    _ c.counts_width-width.result c.shape-shape.ensures c.row.ensures.row c.row.ensures.width
+    (omega (arith, room, c.requires, c.loop-place.invariant.room)) (omega (arith, room, c.loop-place.invariant.room)) (omega arith) c.counts_width-width.ensures
+    (λ k l. c.loop-place.invariant.copied k (omega (arith, c.loop-place-test.false)))
