@@ -3,6 +3,7 @@ ghost use Rattle.std.specs.Prelude.{◌≡◌, ◌<◌, ◌≤◌, ◌*◌, ◌+
 ghost use Rattle.ltm_node.specs.Shape.{
   width,
   no_shape,
+  is_own,
   sending_place,
   left_place,
   entered_place,
@@ -88,6 +89,38 @@ impl NodeInputs {
         ensures { result ≡ self.now.shape }
     {
         self.shape
+    }
+
+    /// How many arms the node has.
+    #[inline]
+    pub(crate) fn arms(&self) -> u32
+        ensures { result ≡ self.now.shape.arms }
+    {
+        self.shape.arms
+    }
+
+    /// How many out-links the node has.
+    #[inline]
+    pub(crate) fn outs(&self) -> u32
+        ensures { result ≡ self.now.shape.outs }
+    {
+        self.shape.outs
+    }
+
+    /// How many destinations the case has.
+    #[inline]
+    pub(crate) fn destinations(&self) -> u32
+        ensures { result ≡ self.now.shape.destinations }
+    {
+        self.shape.destinations
+    }
+
+    /// Whether a destination is the node itself.
+    #[inline]
+    pub(crate) fn is_own(&self, destination: u32) -> bool
+        ensures { result ≡ is_own self.now.shape destination }
+    {
+        self.shape.is_own(destination)
     }
 
     /// The row of all numbers.

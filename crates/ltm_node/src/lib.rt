@@ -2,6 +2,7 @@
 #![tactic(auto)]
 
 mod inputs;
+mod moves;
 mod outputs;
 mod shape;
 
