@@ -92,3 +92,9 @@ outputs_begun shape s items rows row room from w e er long fits same ef ew copie
     (let left : Outputs = record { shape = z; row = take (counts_width z) items; room = length items } in
     let right : Outputs = record { shape = s; row = take (counts_width s) (drop (s.arms * s.destinations) row); room = room } in left ≡ right) in
     subst Goal (sym e) (rw (counts, same) refl)
+
+pub inputs_taken : (shape : NodeShape) (items row : List ℕ) (room : ℕ) → width shape ≤ length items → length items ≡ room → length row ≡ width shape → ((k : ℕ) → k < width shape → get_or items k 0 ≡ get_or row k 0) →
+    (let left : Inputs = record { shape = shape; row = take (width shape) items; room = length items } in let right : Inputs = record { shape = shape; row = row; room = room } in left ≡ right)
+inputs_taken shape items row room fits same long copied =
+    let numbers : take (width shape) items ≡ row = take_same (width shape) items row fits long copied in
+    rw (numbers, same) refl

@@ -1,11 +1,11 @@
-use Rattle.std.specs.Prelude.{◌≡◌, ℕ, ◌+◌, ◌*◌, ◌<◌, ◌≤◌, List, length, slice_index}
+use Rattle.std.specs.Prelude.{◌≡◌, ℕ, ◌+◌, ◌*◌, ◌/◌, ◌<◌, ◌≤◌, max, List, length, slice_index}
 use Rattle.ltm_units.specs.Sums.{sum_below}
 use Rattle.ltm_shares.specs.declared.share.Shares.{Shares}
 use Rattle.ltm_shares.specs.Shares.{Demands}
 use Rattle.ltm_node.specs.Shape.{counts_width}
-use Rattle.ltm_node.specs.Inputs.{Inputs, left, entered, arrived, supply}
+use Rattle.ltm_node.specs.Inputs.{Inputs, left, entered, arrived, supply, capacity}
 use Rattle.ltm_node.specs.Outputs.{left_after_place, entered_after_place, arrived_after_place}
-use Rattle.ltm_node.specs.Demands.{sent_into}
+use Rattle.ltm_node.specs.Demands.{sent, sent_into}
 use Rattle.ltm_node.specs.Step.{moved, sunk, gone}
 
 -- no arm's share is more than all
@@ -68,6 +68,20 @@ HoldsSent n sent = (i j : ℕ) → i < n.shape.arms → j < n.shape.outs → sli
 -- no out-link gets more than it can take where each arm sends all
 abbrev pub FitsSupply : Inputs → List ℕ → Type 0
 FitsSupply n sent = (j : ℕ) → j < n.shape.outs → sum_below n.shape.arms (λ i. slice_index sent (i * 4 + j)) ≤ supply n j
+
+-- the priority of an arm, above 0 also for an arm that sends nothing
+abbrev pub priority_or_more : Inputs → ℕ → ℕ
+priority_or_more n arm = 1024 * capacity n arm / max 1 (sent n arm)
+
+-- the demands with a priority for each arm
+abbrev pub filled_demands : Inputs → Demands
+filled_demands n = record {
+  arms = n.shape.arms;
+  outs = n.shape.outs;
+  sending = sent_into n;
+  priority = priority_or_more n;
+  supply = supply n;
+}
 
 -- the same demands in the range of the node
 pub record Agrees (n m : Demands) : Type 0 where

@@ -300,4 +300,17 @@ impl NodeInputs {
         let place = self.shape.weights_place(destination) + out as usize;
         self.numbers[place] = value;
     }
+
+    /// Takes a shape and its whole row.
+    #[cfg(test)]
+    pub(crate) fn take_row(&mut self, shape: NodeShape, row: &[u64])
+        requires room { width shape ≤ self.old.room }
+        requires width { length row.now ≡ width shape }
+        ensures { self.new ≡ record { shape = shape; row = row.now; room = self.old.room } }
+    {
+        for (place, number) in row.iter().enumerate() {
+            self.numbers[place] = *number;
+        }
+        self.shape = shape;
+    }
 }

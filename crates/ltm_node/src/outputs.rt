@@ -92,12 +92,13 @@ impl NodeOutputs {
     /// Takes the counts as they were at the beginning of the slot.
     pub(crate) fn begin(&mut self, inputs: &NodeInputs)
         requires { counts_width inputs.now.shape ≤ self.old.room }
-        ensures { self.new ≡ record {
+        ensures counts { self.new ≡ record {
           shape = inputs.now.shape;
           row = take (counts_width inputs.now.shape)
               (drop (inputs.now.shape.arms * inputs.now.shape.destinations) inputs.now.row);
           room = self.old.room;
         } }
+        ensures width { length self.new.row ≡ counts_width inputs.now.shape }
     {
         let _room = self.counts.len();
         let shape = inputs.shape();
@@ -150,5 +151,14 @@ impl NodeOutputs {
     {
         let place = self.shape.arrived_after_place();
         self.counts[place] += amount;
+    }
+
+    /// The row of all counts.
+    #[cfg(test)]
+    pub(crate) fn row(&self) -> &[u64]
+        ensures { result.now ≡ self.now.row }
+    {
+        let width = self.shape.counts_width();
+        &self.counts[..width]
     }
 }
