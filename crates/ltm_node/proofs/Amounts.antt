@@ -1,4 +1,4 @@
-use Rattle.std.proofs.Common.{◌≡◌, ◌≢◌, ℕ, zero, suc, ◌+◌, ◌*◌, ◌/◌, ◌<◌, ◌≤◌, ◌⊎◌, List, set, length, slice_index, arith, inl, inr, refl, ap, ◌∙◌, sym, subst}
+use Rattle.std.proofs.Common.{◌≡◌, ◌≢◌, ℕ, ◌+◌, ◌*◌, ◌<◌, ◌≤◌, ◌⊎◌, List, set, length, slice_index, arith, inl, inr, ap, ◌∙◌, sym, subst}
 use Rattle.std.proofs.Math.ListN.{length-set}
 use Rattle.std.proofs.lemmas.Bool.{cases_eq, cases_lt}
 use Rattle.std.proofs.lemmas.List.{get_or-set_other, get_or-set_same}
@@ -6,7 +6,7 @@ use Rattle.std.proofs.lemmas.Nat.{same_from_place, mul-add-lt}
 use Rattle.ltm_units.specs.Sums.{sum_below}
 use Rattle.ltm_units.proofs.Sums.{sum_below_more, sum_below-zero}
 use Rattle.ltm_node.specs.Shape.{counts_width}
-use Rattle.ltm_node.specs.Inputs.{Inputs, left, entered, arrived}
+use Rattle.ltm_node.specs.Inputs.{Inputs, left, entered}
 use Rattle.ltm_node.specs.Outputs.{Outputs, left_after, entered_after, arrived_after, left_after_place, entered_after_place, arrived_after_place}
 use Rattle.ltm_node.specs.Solvable.{IsSolvable}
 use Rattle.ltm_node.specs.Step.{moved, sunk, gone}

@@ -1,8 +1,7 @@
-use Rattle.std.proofs.Common.{◌≡◌, ℕ, zero, suc, ◌+◌, ◌-◌, ◌*◌, ◌/◌, ◌^◌, ◌<◌, ◌≤◌, Bool, true, false, cond, List, [], ◌∷◌, sum, take, drop, set, slice_index, slice_range, get_or, length, arith, refl, ap, ◌∙◌, sym, subst}
+use Rattle.std.proofs.Common.{◌≡◌, ℕ, zero, suc, ◌+◌, ◌-◌, ◌*◌, ◌/◌, ◌^◌, ◌<◌, ◌≤◌, Bool, true, false, cond, List, [], ◌∷◌, sum, drop, set, slice_index, get_or, length, arith, ap, ◌∙◌, sym, subst}
 use Rattle.std.proofs.Math.Nat.{mul-le-mul_right, mul-le-mul_left, div-le_of_le-mul, mul-div_right}
 use Rattle.std.proofs.lemmas.List.{get_or-take, get_or-drop, get_or-set_same}
 use Rattle.std.proofs.lemmas.List.Sums.{sum_by-cons}
-use Rattle.ltm_shares.specs.declared.share.Shares.{Shares}
 use Rattle.ltm_units.specs.Sums.{sum_below}
 use Rattle.ltm_units.specs.Nested.{nested_split}
 use Rattle.ltm_units.proofs.Sums.{sum_below-le, le-sum_below, sum_below-most}
@@ -12,7 +11,6 @@ use Rattle.ltm_node.specs.Inputs.{Inputs, sending, weight, weights}
 use Rattle.ltm_node.specs.Demands.{part, to_sink, sent, sent_into}
 use Rattle.ltm_node.specs.Solvable.{IsSolvable}
 use Rattle.ltm_node.specs.Step.{moved, sunk}
-use Rattle.ltm_node.specs.Moving.{AreFractions}
 
 -- ---- sizes
 

@@ -1,10 +1,8 @@
 use Rattle.std.proofs.Common.{◌≡◌, ℕ, ◌+◌, ◌*◌, ◌^◌, ◌<◌, ◌≤◌, List, set, slice_index, arith, ap, ◌∙◌}
 use Rattle.std.proofs.lemmas.List.{get_or-set_other}
-use Rattle.ltm_units.specs.Sums.{sum_below}
 use Rattle.ltm_node.specs.Inputs.{Inputs, left}
 use Rattle.ltm_node.specs.Outputs.{Outputs, left_after, entered_after, arrived_after, left_after_place, entered_after_place, arrived_after_place}
 use Rattle.ltm_node.specs.Solvable.{IsSolvable}
-use Rattle.ltm_node.specs.Step.{moved, sunk}
 use Rattle.ltm_node.specs.Moving.{IsMoved, IsEntering}
 use Rattle.ltm_node.proofs.Ranges.{moved_in_small, sent_by_small, sunk_by_small, sunk_all_small}
 use Rattle.ltm_node.proofs.Amounts.{left_low}

@@ -3,7 +3,7 @@ use Rattle.std.proofs.Math.Nat.{le_of_mul-le-mul_right, mul-le-mul_right, mul-le
 use Rattle.std.proofs.Math.Logic.{∥∥₁_elim}
 use Rattle.std.proofs.Math.Bridge.{le_prop}
 use Rattle.std.proofs.lemmas.Nat.{le-div, div_below, mod_below, div-add-mod'}
-use Rattle.std.proofs.lemmas.Bool.{cases_lt, cases_eq, eqb-true}
+use Rattle.std.proofs.lemmas.Bool.{cases_lt, eqb-true}
 use Rattle.std.proofs.lemmas.Grind.{same_number_lists}
 use Rattle.std.proofs.lemmas.List.Sums.{sum_by-cons}
 use Rattle.ltm_units.specs.Sums.{sum_below}
@@ -15,11 +15,11 @@ use Rattle.ltm_shares.proofs.Unique.{one_solution_holds}
 use Rattle.ltm_node.specs.Shape.{is_this, is_own, counts_width}
 use Rattle.ltm_node.specs.Inputs.{Inputs, sending, left, entered, arrived, supply, capacity, weights}
 use Rattle.ltm_node.specs.Outputs.{Outputs, left_after, entered_after, arrived_after, left_after_place, entered_after_place, arrived_after_place}
-use Rattle.ltm_node.specs.Demands.{part, to_sink, sent, sent_into, priority, demands}
+use Rattle.ltm_node.specs.Demands.{part, to_sink, sent, sent_into, demands}
 use Rattle.ltm_node.specs.Solvable.{IsSolvable}
 use Rattle.ltm_node.specs.Step.{moved, sunk, gone, come, sunk_in_all, MovesAtShares, StepShares, IsNodeStep}
 use Rattle.ltm_node.specs.Laws.{OneSolution, OneStep, SupplyKept, SendingKept, arrived_for, arrived_for_after, NothingLost, NothingLostInAll}
-use Rattle.ltm_node.proofs.Ranges.{fraction_of_le, part_le, to_sink_le, sent_into_le, moved_own, sunk_elsewhere}
+use Rattle.ltm_node.proofs.Ranges.{fraction_of_le, to_sink_le, sent_into_le, moved_own, sunk_elsewhere}
 
 -- ---- one solution
 

@@ -1,13 +1,12 @@
-use Rattle.std.proofs.Common.{◌≡◌, ℕ, ◌+◌, ◌*◌, ◌/◌, ◌<◌, ◌≤◌, List, take, drop, replicate, length, slice_index, arith, inl, inr, refl, ap, ◌∙◌, sym, subst}
+use Rattle.std.proofs.Common.{◌≡◌, ℕ, ◌+◌, ◌*◌, ◌/◌, ◌<◌, ◌≤◌, List, take, drop, replicate, length, slice_index, arith, inl, inr, ap, ◌∙◌}
 use Rattle.std.proofs.Math.Nat.{mul-le-mul_right, mul-div_right}
 use Rattle.std.proofs.lemmas.Bool.{cases_lt}
 use Rattle.std.proofs.lemmas.List.{get_or-take, get_or-drop, get_or-replicate, get_or_past, length-replicate}
-use Rattle.std.proofs.lemmas.Nat.{mul-add-lt}
 use Rattle.ltm_units.specs.Sums.{sum_below}
 use Rattle.ltm_units.proofs.Sums.{sum_below-same, sum_below-mul}
 use Rattle.ltm_shares.specs.Shares.{AreShares, inflow}
 use Rattle.ltm_node.specs.Shape.{counts_width}
-use Rattle.ltm_node.specs.Inputs.{Inputs, left, entered, arrived, supply}
+use Rattle.ltm_node.specs.Inputs.{Inputs}
 use Rattle.ltm_node.specs.Outputs.{Outputs, left_after_place, entered_after_place, arrived_after_place}
 use Rattle.ltm_node.specs.Demands.{part, sent_into, demands}
 use Rattle.ltm_node.specs.Step.{moved, MovesAtShares, IsNodeStep}

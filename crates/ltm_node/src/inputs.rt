@@ -301,9 +301,8 @@ impl NodeInputs {
         self.numbers[place] = value;
     }
 
-    /// Takes a shape and its whole row.
-    #[cfg(test)]
-    pub(crate) fn take_row(&mut self, shape: NodeShape, row: &[u64])
+    /// Takes a shape and all numbers of its row.
+    pub fn copy_row(&mut self, shape: NodeShape, row: &[u64])
         requires room { width shape ≤ self.old.room }
         requires width { length row.now ≡ width shape }
         ensures { self.new ≡ record { shape = shape; row = row.now; room = self.old.room } }

@@ -150,7 +150,7 @@ fn gives(
     assert_eq!(rt; row.len(), width);
     let mut inputs = NodeInputs::create(alloc, ROOM)?;
     let outputs = NodeOutputs::create(alloc, ROOM)?;
-    inputs.take_row(shape, row);
+    inputs.copy_row(shape, row);
     check_sizes(rt, &inputs);
     let mut steps = Steps::new();
     let solved = solve(inputs, outputs, &mut steps);

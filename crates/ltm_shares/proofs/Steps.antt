@@ -1,7 +1,6 @@
 use Rattle.std.proofs.Common.{◌≡◌, ℕ, zero, suc, ◌+◌, ◌*◌, ◌^◌, ◌<◌, ◌≤◌, Bool, true, false, arith, inl, inr, refl, ap, subst, min, ◌∙◌, slice_index, Option, Some, None, MatchOption, [], ◌∷◌}
 use Rattle.std.proofs.Math.Nat.{mul-le-mul_right, mul-le-mul_left, pow-le-pow_right, pow-suc}
 use Rattle.std.proofs.lemmas.Bool.{cases_lt, cases_eq}
-use Rattle.ltm_units.specs.Sums.{sum_below}
 use Rattle.ltm_shares.specs.Shares.{Demands, Uses}
 use Rattle.ltm_shares.specs.Demands.{IsSmall}
 use Rattle.ltm_shares.specs.Rounds.{Fixes, weight, open_outs, open_arms, IsLevel, IsSound, IsTightest, IsScaling}

@@ -1,4 +1,4 @@
-use Rattle.std.specs.Prelude.{◌≡◌, ℕ, ◌+◌, ◌*◌, ◌<◌, ◌≤◌, slice_index}
+use Rattle.std.specs.Prelude.{ℕ, ◌+◌, ◌*◌, ◌<◌, ◌≤◌, slice_index}
 use Rattle.ltm_shares.specs.Shares.{Demands, inflow}
 use Rattle.ltm_shares.specs.declared.demands.NodeDemands.{NodeDemands}
 

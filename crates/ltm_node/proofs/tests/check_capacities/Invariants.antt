@@ -1,4 +1,4 @@
-use Rattle.std.proofs.Common.{ℕ, ◌<◌, ◌≤◌, ◌^◌}
+use Rattle.std.proofs.Common.{ℕ, ◌<◌, ◌≤◌}
 use Rattle.ltm_node.specs.Inputs.{capacity}
 use Rattle.ltm_node.specs.Demands.{sent}
 use Rattle.ltm_node.proofs.tests.check_capacities.Given as goal

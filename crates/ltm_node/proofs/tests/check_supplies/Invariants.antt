@@ -1,4 +1,4 @@
-use Rattle.std.proofs.Common.{ℕ, ◌<◌, ◌≤◌, ◌^◌}
+use Rattle.std.proofs.Common.{ℕ, ◌<◌, ◌≤◌}
 use Rattle.ltm_node.specs.Inputs.{supply}
 use Rattle.ltm_node.proofs.tests.check_supplies.Given as goal
 

@@ -1,4 +1,4 @@
-use Rattle.std.proofs.Common.{ℕ, ◌<◌, ◌≤◌, ◌^◌}
+use Rattle.std.proofs.Common.{ℕ, ◌<◌, ◌≤◌}
 use Rattle.ltm_node.specs.Inputs.{weight}
 use Rattle.ltm_node.proofs.tests.check_weights.Given as goal
 

@@ -1,5 +1,5 @@
 use Rattle.std.proofs.Common.{◌≡◌, ◌<◌, ℕ, slice_index, length}
-use Rattle.ltm_node.proofs.inputs.NodeInputs.take_row.Given as goal
+use Rattle.ltm_node.proofs.inputs.NodeInputs.copy_row.Given as goal
 
 abbrev pub invariant-loop-place : goal.invariant-loop-place
 invariant-loop-place l = record {

@@ -1,7 +1,7 @@
 use Rattle.std.proofs.Common.{ap, arith}
 use Rattle.ltm_node.specs.Inputs.{Inputs}
 use Rattle.ltm_node.proofs.Rows.{inputs_taken}
-use Rattle.ltm_node.proofs.inputs.NodeInputs.take_row.Goals as goal
+use Rattle.ltm_node.proofs.inputs.NodeInputs.copy_row.Goals as goal
 
 pub returns : goal.returns
 returns c =
