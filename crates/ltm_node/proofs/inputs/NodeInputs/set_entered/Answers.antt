@@ -1,0 +1,10 @@
+use Rattle.std.proofs.Common.{◌∙◌, ap}
+use Rattle.ltm_node.specs.Inputs.{Inputs}
+use Rattle.ltm_node.specs.Shape.{entered_place}
+use Rattle.ltm_node.proofs.Rows.{inputs_written}
+use Rattle.ltm_node.proofs.inputs.NodeInputs.set_entered.Goals as goal
+
+pub returns : goal.returns
+returns c =
+    inputs_written c.self.inside.shape c.self.inside.numbers.items c.args.self.now c.entered_place-place.result _ c.args.value c.self.view_is c.entered_place-place.ensures.within
+    (c.entered_place-place.ensures.place ∙ ap (λ (m : Inputs). entered_place m.shape c.args.out c.args.destination) c.self.view_is)

@@ -1,0 +1,7 @@
+use Rattle.std.proofs.Common.{ℕ, ◌<◌, ◌≤◌, ◌+◌, ◌*◌, slice_index}
+use Rattle.ltm_units.specs.Sums.{sum_below}
+use Rattle.ltm_node.specs.Inputs.{supply}
+use Rattle.ltm_node.proofs.node_step.fits_supply.Given as goal
+
+abbrev pub invariant-loop-out : goal.invariant-loop-out
+invariant-loop-out l = (j : ℕ) → j < l.out → sum_below l.inputs.shape.arms (λ i. slice_index l.sent (i * 4 + j)) ≤ supply l.inputs j

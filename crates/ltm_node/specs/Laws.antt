@@ -1,0 +1,57 @@
+use Rattle.std.specs.Prelude.{◌≡◌, ℕ, ◌+◌, ◌*◌, ◌<◌, ◌≤◌, if◌then◌else◌}
+use Rattle.ltm_units.specs.Sums.{sum_below}
+use Rattle.ltm_shares.specs.Shares.{AreShares}
+use Rattle.ltm_node.specs.Shape.{is_own}
+use Rattle.ltm_node.specs.Inputs.{Inputs, sending, left, entered, arrived, supply}
+use Rattle.ltm_node.specs.Outputs.{Outputs, left_after, entered_after, arrived_after}
+use Rattle.ltm_node.specs.Demands.{demands}
+use Rattle.ltm_node.specs.Solvable.{IsSolvable}
+use Rattle.ltm_node.specs.Step.{IsNodeStep}
+
+-- two lists of shares for the same inputs are equal fractions
+abbrev pub OneSolution : Type 0
+OneSolution =
+    (n : Inputs) → IsSolvable n → (d e : ℕ) (p q : ℕ → ℕ) → AreShares (demands n) d p → AreShares (demands n) e q →
+    (arm : ℕ) → arm < n.shape.arms → p arm * e ≡ q arm * d
+
+-- two node steps of the same inputs are the same counts
+abbrev pub OneStep : Type 0
+OneStep = (n : Inputs) → IsSolvable n → (one other : Outputs) → IsNodeStep n one → IsNodeStep n other → one.row ≡ other.row
+
+-- what enters an out-link is at most its supply
+abbrev pub SupplyKept : Type 0
+SupplyKept =
+    (n : Inputs) (o : Outputs) → IsNodeStep n o → (out : ℕ) → out < n.shape.outs →
+    sum_below n.shape.destinations (λ destination. entered_after o out destination)
+    ≤ sum_below n.shape.destinations (λ destination. entered n out destination) + supply n out
+
+-- no arm moves more to a destination than it sends there
+abbrev pub SendingKept : Type 0
+SendingKept =
+    (n : Inputs) (o : Outputs) → IsNodeStep n o → (arm destination : ℕ) → arm < n.shape.arms → destination < n.shape.destinations →
+    left_after o arm destination ≤ left n arm destination + sending n arm destination
+
+-- what has arrived for a destination: nothing unless it is the node itself
+abbrev pub arrived_for : Inputs → ℕ → ℕ
+arrived_for n destination = if is_own n.shape destination then arrived n else 0
+
+abbrev pub arrived_for_after : Inputs → Outputs → ℕ → ℕ
+arrived_for_after n o destination = if is_own n.shape destination then arrived_after o else 0
+
+-- for each destination, what leaves the arms is what enters the out-links and the sink
+abbrev pub NothingLost : Type 0
+NothingLost =
+    (n : Inputs) (o : Outputs) → IsNodeStep n o → (destination : ℕ) → destination < n.shape.destinations →
+    sum_below n.shape.arms (λ arm. left_after o arm destination)
+    + (sum_below n.shape.outs (λ out. entered n out destination) + arrived_for n destination)
+    ≡ sum_below n.shape.arms (λ arm. left n arm destination)
+    + (sum_below n.shape.outs (λ out. entered_after o out destination) + arrived_for_after n o destination)
+
+-- in all, what leaves the arms is what enters the out-links and the sink
+abbrev pub NothingLostInAll : Type 0
+NothingLostInAll =
+    (n : Inputs) (o : Outputs) → IsNodeStep n o →
+    sum_below n.shape.destinations (λ d. sum_below n.shape.arms (λ arm. left_after o arm d))
+    + (sum_below n.shape.destinations (λ d. sum_below n.shape.outs (λ out. entered n out d)) + arrived n)
+    ≡ sum_below n.shape.destinations (λ d. sum_below n.shape.arms (λ arm. left n arm d))
+    + (sum_below n.shape.destinations (λ d. sum_below n.shape.outs (λ out. entered_after o out d)) + arrived_after o)

@@ -1,0 +1,9 @@
+pub mod Demands
+pub mod Inputs
+pub mod Laws
+pub mod Moving
+pub mod Outputs
+pub mod Shape
+pub mod Solution
+pub mod Solvable
+pub mod Step

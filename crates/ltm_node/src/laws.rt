@@ -1,0 +1,39 @@
+//! What the node step implies.
+ghost use Rattle.ltm_node.specs.Laws.{
+  OneSolution,
+  OneStep,
+  SupplyKept,
+  SendingKept,
+  NothingLost,
+  NothingLostInAll,
+};
+
+/// Two lists of shares for the same inputs are equal fractions.
+pub fn one_solution()
+    ensures { OneSolution }
+{}
+
+/// Two node steps of the same inputs are the same counts.
+pub fn one_step()
+    ensures { OneStep }
+{}
+
+/// What enters an out-link is at most its supply.
+pub fn supply_kept()
+    ensures { SupplyKept }
+{}
+
+/// No arm moves more to a destination than it sends there.
+pub fn sending_kept()
+    ensures { SendingKept }
+{}
+
+/// For each destination, what leaves the arms is what enters the out-links and the sink.
+pub fn nothing_lost()
+    ensures { NothingLost }
+{}
+
+/// In all, what leaves the arms is what enters the out-links and the sink.
+pub fn nothing_lost_in_all()
+    ensures { NothingLostInAll }
+{}

@@ -1,0 +1,25 @@
+//! The node step: what moves from the arms of a node to its out-links and its sink in one slot.
+//!
+//! An arm is an in-link or the origin of the node. It stands on `ltm_shares`, which shares out what the out-links can
+//! take. A call of `solve` takes no memory. Where no out-link is short it makes one pass over what the arms send, in 64
+//! bits; else it makes at most one round for each arm, and a second pass.
+#![tactic(auto)]
+
+mod inputs;
+mod laws;
+mod moves;
+mod node_step;
+mod outputs;
+mod shape;
+mod solved;
+
+pub use inputs::NodeInputs;
+pub use laws::{
+    nothing_lost, nothing_lost_in_all, one_solution, one_step, sending_kept, supply_kept,
+};
+pub use outputs::NodeOutputs;
+pub use shape::NodeShape;
+pub use solved::{Solved, solve};
+
+#[cfg(test)]
+mod tests;

@@ -1,0 +1,136 @@
+//! The node step.
+//!
+//! All arms first send all, in one pass and without any fraction. Only where an out-link then gets more than it can take
+//! are the shares worked out, and the pass made again with them.
+ghost use Rattle.std.specs.Prelude.{◌≡◌, ◌<◌, ◌≤◌, ◌*◌, ◌/◌, ◌+◌, ℕ, IsTrue, slice_index};
+ghost use Rattle.ltm_units.specs.Sums.{sum_below};
+ghost use Rattle.ltm_shares.specs.Demands.{demands_of};
+ghost use Rattle.ltm_node.specs.Shape.{counts_width};
+ghost use Rattle.ltm_node.specs.Demands.{sent};
+ghost use Rattle.ltm_node.specs.Solvable.{IsSolvable};
+ghost use Rattle.ltm_node.specs.Step.{IsNodeStep};
+ghost use Rattle.ltm_node.specs.Moving.{HoldsSent, FitsSupply, Agrees, priority_or_more, filled_demands};
+
+use crate::inputs::NodeInputs;
+use crate::moves::move_all;
+use crate::outputs::NodeOutputs;
+use ltm_shares::{NodeDemands, Shares, shares};
+
+/// Writes the counts at the end of the slot.
+pub fn write_step(inputs: &NodeInputs, outputs: &mut NodeOutputs)
+    requires solvable { IsSolvable inputs.now }
+    requires room { counts_width inputs.now.shape ≤ outputs.old.room }
+    ensures step { IsNodeStep inputs.now outputs.new }
+    ensures room { outputs.new.room ≡ outputs.old.room }
+{
+    let mut sent = [0u64; 20];
+    if !send_whole(inputs, outputs, &mut sent) {
+        send_shares(inputs, outputs, &sent);
+    }
+}
+
+/// Moves all that the arms send, and says whether no out-link gets more than it can take; `sent` gets what each arm
+/// sends into each out-link.
+fn send_whole(inputs: &NodeInputs, outputs: &mut NodeOutputs, sent: &mut [u64; 20]) -> bool
+    requires solvable { IsSolvable inputs.now }
+    requires room { counts_width inputs.now.shape ≤ outputs.old.room }
+    requires nothing { (k : ℕ) → slice_index sent.old k ≡ 0 }
+    ensures sent { HoldsSent inputs.now sent.new }
+    ensures step { IsTrue result → IsNodeStep inputs.now outputs.new }
+    ensures room { outputs.new.room ≡ outputs.old.room }
+{
+    let whole = Shares::whole();
+    outputs.begin(inputs);
+    move_all(inputs, &whole, outputs, sent);
+    fits_supply(inputs, sent)
+}
+
+/// Moves the arms' shares.
+fn send_shares(inputs: &NodeInputs, outputs: &mut NodeOutputs, sent: &[u64; 20])
+    requires solvable { IsSolvable inputs.now }
+    requires room { counts_width inputs.now.shape ≤ outputs.old.room }
+    requires sent { HoldsSent inputs.now sent.now }
+    ensures step { IsNodeStep inputs.now outputs.new }
+    ensures room { outputs.new.room ≡ outputs.old.room }
+{
+    let mut demands = NodeDemands {
+        arms: 0,
+        outs: 0,
+        sending: *sent,
+        priority: [1; 5],
+        supply: [0; 4],
+    };
+    fill_demands(inputs, &mut demands);
+    let parts = shares(&demands);
+    outputs.begin(inputs);
+    let mut moved = [0u64; 20];
+    move_all(inputs, &parts, outputs, &mut moved);
+}
+
+/// Whether no out-link gets more than it can take where each arm sends all.
+fn fits_supply(inputs: &NodeInputs, sent: &[u64; 20]) -> bool
+    requires solvable { IsSolvable inputs.now }
+    requires sent { HoldsSent inputs.now sent.now }
+    ensures { IsTrue result → FitsSupply inputs.now sent.now }
+{
+    for out in 0..inputs.outs() {
+        if inflow(inputs, sent, out) > inputs.supply(out) {
+            return false;
+        }
+    }
+    true
+}
+
+/// What an out-link gets where each arm sends all.
+#[tactic(auto, using(ltm_units::proofs::Sums::sum_below_more_le, ltm_units::proofs::Sums::sum_below_more))]
+fn inflow(inputs: &NodeInputs, sent: &[u64; 20], out: u32) -> u64
+    requires solvable { IsSolvable inputs.now }
+    requires sent { HoldsSent inputs.now sent.now }
+    requires out { out < inputs.now.shape.outs }
+    ensures { result ≡ sum_below inputs.now.shape.arms (λ i. slice_index sent.now (i * 4 + out)) }
+{
+    let mut total = 0u64;
+    for arm in 0..inputs.arms() {
+        total += sent[arm as usize * 4 + out as usize];
+    }
+    total
+}
+
+/// What an arm sends.
+#[tactic(auto, using(ltm_units::proofs::Sums::sum_below_more_le, ltm_units::proofs::Sums::sum_below_more))]
+fn sum_sent(inputs: &NodeInputs, arm: u32) -> u64
+    requires solvable { IsSolvable inputs.now }
+    requires arm { arm < inputs.now.shape.arms }
+    ensures { result ≡ sent inputs.now arm }
+{
+    let mut total = 0u64;
+    for destination in 0..inputs.destinations() {
+        total += inputs.sending(arm, destination);
+    }
+    total
+}
+
+/// The priority of an arm: its capacity for each unit that it sends, in 1024ths.
+fn priority_of(inputs: &NodeInputs, arm: u32) -> u64
+    requires solvable { IsSolvable inputs.now }
+    requires arm { arm < inputs.now.shape.arms }
+    ensures { result ≡ priority_or_more inputs.now arm }
+{
+    1024 * inputs.capacity(arm) / sum_sent(inputs, arm).max(1)
+}
+
+/// Fills in what the shares are made from, but for what the arms send.
+fn fill_demands(inputs: &NodeInputs, into: &mut NodeDemands)
+    requires solvable { IsSolvable inputs.now }
+    requires sending { HoldsSent inputs.now into.old.sending }
+    ensures { Agrees (filled_demands inputs.now) (demands_of into.new) }
+{
+    into.arms = inputs.arms() as usize;
+    into.outs = inputs.outs() as usize;
+    for arm in 0..inputs.arms() {
+        into.priority[arm as usize] = priority_of(inputs, arm);
+    }
+    for out in 0..inputs.outs() {
+        into.supply[out as usize] = inputs.supply(out);
+    }
+}

@@ -1,0 +1,164 @@
+//! The counts that a node step gives.
+ghost use Rattle.std.specs.Prelude.{◌≡◌, ◌<◌, ◌≤◌, ◌*◌, ◌+◌, ◌^◌, max, take, drop, length, IfOk, slice_index, slice_set};
+ghost use Rattle.ltm_node.specs.Shape.{counts_width, no_shape};
+ghost use Rattle.ltm_node.specs.Outputs.{
+  cleared_outputs,
+  left_after_place,
+  entered_after_place,
+  arrived_after_place,
+  left_after,
+  entered_after,
+  arrived_after,
+};
+
+use crate::inputs::NodeInputs;
+use crate::shape::NodeShape;
+use ltm_units::NoMemory;
+use std::alloc::Global;
+use std::marker::Model;
+
+/// The counts of a node at the end of a slot: what has left each arm for each destination, what has entered each
+/// out-link for each destination, and what has arrived at the node, in thousandths of a vehicle.
+#[derive(Drop)]
+pub struct NodeOutputs {
+    shape: NodeShape,
+    counts: Vec<u64>,
+}
+
+impl Model for NodeOutputs {
+    ghost use Rattle.std.specs.Prelude.{◌≤◌, length, take};
+    ghost use Rattle.ltm_node.specs.Shape.{counts_width};
+    ghost use Rattle.ltm_node.specs.Outputs.{Outputs};
+
+    ghost Value = { Outputs };
+
+    ghost view = { λ o. record {
+      shape = o.shape;
+      row = take (counts_width o.shape) o.counts.items;
+      room = length o.counts.items;
+    } };
+
+    ghost invariant = { λ o. counts_width o.shape ≤ length o.counts.items };
+}
+
+impl NodeOutputs {
+    /// Room for the counts of rows of this width, and at least for those of a node without arms and out-links.
+    pub fn create(alloc: Global, room: u32) -> Result<NodeOutputs, NoMemory>
+        ensures { IfOk result (λ o. o ≡ cleared_outputs no_shape (max 1 room)) }
+    {
+        let counts = vec![in alloc; 0u64; room.max(1) as usize]?;
+        Ok(NodeOutputs {
+            shape: NodeShape::empty(),
+            counts,
+        })
+    }
+
+    /// The shape of the node.
+    #[inline]
+    pub fn shape(&self) -> NodeShape
+        ensures { result ≡ self.now.shape }
+    {
+        self.shape
+    }
+
+    /// What has left an arm for a destination by the end of the slot.
+    #[inline]
+    pub fn left(&self, arm: u32, destination: u32) -> u64
+        requires arm { arm < self.now.shape.arms }
+        requires destination { destination < self.now.shape.destinations }
+        ensures { result ≡ left_after self.now arm destination }
+    {
+        self.counts[self.shape.left_after_place(arm, destination)]
+    }
+
+    /// What has entered an out-link for a destination by the end of the slot.
+    #[inline]
+    pub fn entered(&self, out: u32, destination: u32) -> u64
+        requires out { out < self.now.shape.outs }
+        requires destination { destination < self.now.shape.destinations }
+        ensures { result ≡ entered_after self.now out destination }
+    {
+        self.counts[self.shape.entered_after_place(out, destination)]
+    }
+
+    /// What has arrived at the node by the end of the slot.
+    #[inline]
+    pub fn arrived(&self) -> u64
+        ensures { result ≡ arrived_after self.now }
+    {
+        self.counts[self.shape.arrived_after_place()]
+    }
+
+    /// Takes the counts as they were at the beginning of the slot.
+    pub(crate) fn begin(&mut self, inputs: &NodeInputs)
+        requires { counts_width inputs.now.shape ≤ self.old.room }
+        ensures counts { self.new ≡ record {
+          shape = inputs.now.shape;
+          row = take (counts_width inputs.now.shape)
+              (drop (inputs.now.shape.arms * inputs.now.shape.destinations) inputs.now.row);
+          room = self.old.room;
+        } }
+        ensures width { length self.new.row ≡ counts_width inputs.now.shape }
+    {
+        let _room = self.counts.len();
+        let shape = inputs.shape();
+        let from = shape.arms as usize * shape.destinations as usize;
+        let width = shape.counts_width();
+        let counts = &inputs.row()[from..from + width];
+        for place in 0..width {
+            self.counts[place] = counts[place];
+        }
+        self.shape = shape;
+    }
+
+    /// Adds to what has left an arm for a destination.
+    #[inline]
+    pub(crate) fn add_left(&mut self, arm: u32, destination: u32, amount: u64)
+        requires arm { arm < self.old.shape.arms }
+        requires destination { destination < self.old.shape.destinations }
+        requires fits { left_after self.old arm destination + amount < 2 ^ 64 }
+        ensures { self.new ≡ record self.old {
+          row = slice_set self.old.row (left_after_place self.old.shape arm destination)
+              (left_after self.old arm destination + amount);
+        } }
+    {
+        let place = self.shape.left_after_place(arm, destination);
+        self.counts[place] += amount;
+    }
+
+    /// Adds to what has entered an out-link for a destination.
+    #[inline]
+    pub(crate) fn add_entered(&mut self, out: u32, destination: u32, amount: u64)
+        requires out { out < self.old.shape.outs }
+        requires destination { destination < self.old.shape.destinations }
+        requires fits { entered_after self.old out destination + amount < 2 ^ 64 }
+        ensures { self.new ≡ record self.old {
+          row = slice_set self.old.row (entered_after_place self.old.shape out destination)
+              (entered_after self.old out destination + amount);
+        } }
+    {
+        let place = self.shape.entered_after_place(out, destination);
+        self.counts[place] += amount;
+    }
+
+    /// Adds to what has arrived.
+    #[inline]
+    pub(crate) fn add_arrived(&mut self, amount: u64)
+        requires { arrived_after self.old + amount < 2 ^ 64 }
+        ensures { self.new ≡ record self.old {
+          row = slice_set self.old.row (arrived_after_place self.old.shape) (arrived_after self.old + amount);
+        } }
+    {
+        let place = self.shape.arrived_after_place();
+        self.counts[place] += amount;
+    }
+
+    /// The row of all counts.
+    #[cfg(test)]
+    pub(crate) fn row(&self) -> &[u64]
+        ensures { result.now ≡ self.now.row }
+    {
+        let width = self.shape.counts_width();
+        &self.counts[..width]
+    }
+}

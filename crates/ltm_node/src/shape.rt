@@ -1,0 +1,192 @@
+//! How many arms, out-links and destinations a node has, and where its numbers stand in a row.
+ghost use Rattle.std.specs.Prelude.{◌≡◌, ◌+◌, ◌<◌, ◌≤◌, ◌^◌};
+
+/// The shape of a node.
+#[derive(Clone, Copy, Debug, PartialEq, Eq)]
+pub struct NodeShape {
+    /// How many arms the node has: its in-links in order of link number, then its origin where it has an out-link.
+    pub arms: u32,
+    /// How many out-links the node has, in order of link number.
+    pub outs: u32,
+    /// How many destinations the case has.
+    pub destinations: u32,
+    /// The destination that is the node itself.
+    pub own: Option<u32>,
+}
+
+impl NodeShape {
+    ghost use Rattle.ltm_node.specs.Shape.{
+      width,
+      counts_width,
+      no_shape,
+      is_own,
+      sending_place,
+      left_place,
+      entered_place,
+      arrived_place,
+      supply_place,
+      capacity_place,
+      weights_place,
+    };
+    ghost use Rattle.ltm_node.specs.Outputs.{left_after_place, entered_after_place, arrived_after_place};
+
+    /// A node without arms, out-links and destinations.
+    pub(crate) fn empty() -> NodeShape
+        ensures { result ≡ no_shape }
+    {
+        NodeShape {
+            arms: 0,
+            outs: 0,
+            destinations: 0,
+            own: None,
+        }
+    }
+
+    /// How many numbers the row of inputs has.
+    #[inline]
+    pub(crate) fn width(self) -> usize
+        requires { width self < 2 ^ 63 }
+        ensures { result ≡ width self }
+    {
+        let arms = self.arms as usize;
+        let outs = self.outs as usize;
+        let destinations = self.destinations as usize;
+        2 * (arms * destinations) + 2 * (outs * destinations) + 1 + outs + arms
+    }
+
+    /// How many counts the row of outputs has.
+    #[inline]
+    pub(crate) fn counts_width(self) -> usize
+        requires { counts_width self < 2 ^ 63 }
+        ensures { result ≡ counts_width self }
+    {
+        let arms = self.arms as usize;
+        let outs = self.outs as usize;
+        let destinations = self.destinations as usize;
+        arms * destinations + outs * destinations + 1
+    }
+
+    /// Whether a destination is the node itself.
+    #[inline]
+    pub(crate) fn is_own(self, destination: u32) -> bool
+        ensures { result ≡ is_own self destination }
+    {
+        match self.own {
+            Some(own) => own == destination,
+            None => false,
+        }
+    }
+
+    #[inline]
+    pub(crate) fn sending_place(self, arm: u32, destination: u32) -> usize
+        requires fits { width self < 2 ^ 63 }
+        requires arm { arm < self.arms }
+        requires destination { destination < self.destinations }
+        ensures place { result ≡ sending_place self arm destination }
+        ensures within { result < width self }
+    {
+        arm as usize * self.destinations as usize + destination as usize
+    }
+
+    #[inline]
+    pub(crate) fn left_place(self, arm: u32, destination: u32) -> usize
+        requires fits { width self < 2 ^ 63 }
+        requires arm { arm < self.arms }
+        requires destination { destination < self.destinations }
+        ensures place { result ≡ left_place self arm destination }
+        ensures within { result < width self }
+    {
+        let destinations = self.destinations as usize;
+        self.arms as usize * destinations + (arm as usize * destinations + destination as usize)
+    }
+
+    #[inline]
+    pub(crate) fn entered_place(self, out: u32, destination: u32) -> usize
+        requires fits { width self < 2 ^ 63 }
+        requires out { out < self.outs }
+        requires destination { destination < self.destinations }
+        ensures place { result ≡ entered_place self out destination }
+        ensures within { result < width self }
+    {
+        let destinations = self.destinations as usize;
+        2 * (self.arms as usize * destinations)
+            + (out as usize * destinations + destination as usize)
+    }
+
+    #[inline]
+    pub(crate) fn arrived_place(self) -> usize
+        requires { width self < 2 ^ 63 }
+        ensures place { result ≡ arrived_place self }
+        ensures within { result + self.outs + self.arms < width self }
+    {
+        let destinations = self.destinations as usize;
+        2 * (self.arms as usize * destinations) + self.outs as usize * destinations
+    }
+
+    #[inline]
+    pub(crate) fn supply_place(self, out: u32) -> usize
+        requires fits { width self < 2 ^ 63 }
+        requires out { out < self.outs }
+        ensures place { result ≡ supply_place self out }
+        ensures within { result < width self }
+    {
+        self.arrived_place() + 1 + out as usize
+    }
+
+    #[inline]
+    pub(crate) fn capacity_place(self, arm: u32) -> usize
+        requires fits { width self < 2 ^ 63 }
+        requires arm { arm < self.arms }
+        ensures place { result ≡ capacity_place self arm }
+        ensures within { result < width self }
+    {
+        self.arrived_place() + 1 + self.outs as usize + arm as usize
+    }
+
+    #[inline]
+    pub(crate) fn weights_place(self, destination: u32) -> usize
+        requires fits { width self < 2 ^ 63 }
+        requires destination { destination < self.destinations }
+        ensures place { result ≡ weights_place self destination }
+        ensures within { result + self.outs ≤ width self }
+    {
+        self.arrived_place()
+            + 1
+            + self.outs as usize
+            + self.arms as usize
+            + destination as usize * self.outs as usize
+    }
+
+    #[inline]
+    pub(crate) fn left_after_place(self, arm: u32, destination: u32) -> usize
+        requires fits { counts_width self < 2 ^ 63 }
+        requires arm { arm < self.arms }
+        requires destination { destination < self.destinations }
+        ensures place { result ≡ left_after_place self arm destination }
+        ensures within { result < counts_width self }
+    {
+        arm as usize * self.destinations as usize + destination as usize
+    }
+
+    #[inline]
+    pub(crate) fn entered_after_place(self, out: u32, destination: u32) -> usize
+        requires fits { counts_width self < 2 ^ 63 }
+        requires out { out < self.outs }
+        requires destination { destination < self.destinations }
+        ensures place { result ≡ entered_after_place self out destination }
+        ensures within { result < counts_width self }
+    {
+        let destinations = self.destinations as usize;
+        self.arms as usize * destinations + (out as usize * destinations + destination as usize)
+    }
+
+    #[inline]
+    pub(crate) fn arrived_after_place(self) -> usize
+        requires { counts_width self < 2 ^ 63 }
+        ensures place { result ≡ arrived_after_place self }
+        ensures within { result < counts_width self }
+    {
+        let destinations = self.destinations as usize;
+        self.arms as usize * destinations + self.outs as usize * destinations
+    }
+}
