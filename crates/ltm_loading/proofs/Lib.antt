@@ -1,0 +1,13 @@
+pub mod Picks
+pub mod GroupKinds
+pub mod Times
+pub mod Rows
+pub mod Pairs
+pub mod Front
+pub mod Holds
+pub mod Sent
+pub mod Bounds
+pub mod Same
+pub mod One
+pub mod Conserve
+pub mod Setters

@@ -1,0 +1,19 @@
+-- How large the numbers of a loading get.
+use Rattle.std.specs.Prelude.{ℕ, ◌*◌, ◌<◌, ◌≤◌}
+use Rattle.ltm_curve.specs.Counts.{Counts}
+use Rattle.ltm_node.specs.Solvable.{IsSolvable}
+use Rattle.ltm_loading.specs.Setting.{Setting, IsSetting}
+use Rattle.ltm_loading.specs.Groups.{up_of, down_of, dep_of, arr_of}
+use Rattle.ltm_loading.specs.Pairs.{pair_inputs}
+use Rattle.ltm_loading.specs.Loading.{IsFront}
+
+-- what a pair of the front's slot reads is in the range of a node step
+abbrev pub InRange : Type 0
+InRange = (s : Setting) (c : Counts) (t u : ℕ) → IsSetting s → IsFront s c t → t < s.slots → u < s.nodes → IsSolvable (pair_inputs s c u t)
+
+-- a count of the front is at most 160,000 units for each slot so far
+abbrev pub CountsSmall : Type 0
+CountsSmall =
+    (s : Setting) (c : Counts) → IsSetting s → (t : ℕ) → IsFront s c t → t ≤ s.slots → (d : ℕ) → d < s.destinations →
+    ((l : ℕ) → l < s.links → (c (up_of l) d t ≤ t * 160000) × (c (down_of l) d t ≤ t * 160000))
+    × (((u : ℕ) → u < s.nodes → 0 < s.outs u → c (dep_of s u) d t ≤ t * 160000) × (c (arr_of s) d t ≤ t * 160000))

@@ -1,0 +1,67 @@
+//! What holds of every loading of a setting, and of every front of one.
+ghost use Rattle.ltm_loading.specs.LoadingLaws.{
+  NeverFall,
+  FirstInFirstOut,
+  WithinExit,
+  WithinStorage,
+  WithinProduced,
+  Conserved,
+  OneLoading,
+};
+ghost use Rattle.ltm_loading.specs.Ranges.{InRange, CountsSmall};
+ghost use Rattle.ltm_loading.specs.NextPair.{NextPair, NextSlot};
+
+/// No count falls from one boundary to the next.
+pub fn never_fall()
+    ensures { NeverFall }
+{}
+
+/// A destination leaves a link, or an origin, only out of the first units that entered it.
+pub fn first_in_first_out()
+    ensures { FirstInFirstOut }
+{}
+
+/// What leaves a link in a slot is at most its exit limit.
+pub fn within_exit()
+    ensures { WithinExit }
+{}
+
+/// What is on a link is at most its storage.
+pub fn within_storage()
+    ensures { WithinStorage }
+{}
+
+/// No more of a destination leaves an origin than was produced.
+pub fn within_produced()
+    ensures { WithinProduced }
+{}
+
+/// What left the origins for a destination has arrived or is on a link.
+pub fn conserved()
+    ensures { Conserved }
+{}
+
+/// Two loadings of one setting are equal.
+pub fn one_loading()
+    ensures { OneLoading }
+{}
+
+/// What a pair of the front's slot reads is in the range of a node step.
+pub fn in_range()
+    ensures { InRange }
+{}
+
+/// A count of the front is at most 160,000 units for each slot so far.
+pub fn counts_small()
+    ensures { CountsSmall }
+{}
+
+/// Once the node step of a pair is applied to the front, the node of the pair is done too.
+pub fn next_pair()
+    ensures { NextPair }
+{}
+
+/// Once all nodes of a slot are done, the front is one slot longer.
+pub fn next_slot()
+    ensures { NextSlot }
+{}
