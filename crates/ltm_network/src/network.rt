@@ -207,9 +207,9 @@ impl Network {
         Ok(link)
     }
 
-    /// Whether a link of that name may lead between these nodes.
+    /// Whether a link of that name may lead between these nodes: what `add_link` would refuse but for want of memory.
     #[tactic(auto, unfolding(crate::specs::Network::checked))]
-    fn check_link(&self, name: &Name, tail: &Name, head: &Name) -> Result<(), NetworkFault>
+    pub fn check_link(&self, name: &Name, tail: &Name, head: &Name) -> Result<(), NetworkFault>
         ensures { result ≡ checked self.now name.now tail.now head.now }
     {
         if self.find_link(name).is_some() {

@@ -1,0 +1,10 @@
+pub mod Empty
+pub mod Linked
+pub mod Added
+pub mod Kept
+pub mod Places
+pub mod Parts
+pub mod Found
+pub mod Bounds
+pub mod Validity
+pub mod Ranges

@@ -1,0 +1,11 @@
+pub mod Setup
+pub mod Data
+pub mod Reads
+pub mod Cells
+pub mod Valid
+pub mod Check
+pub mod Build
+pub mod IsScenario
+pub mod State
+pub mod Diagrams
+pub mod Tables
