@@ -7,3 +7,6 @@
 mod limits;
 
 pub use limits::LimitTable;
+
+#[cfg(test)]
+mod tests;

@@ -56,6 +56,13 @@ impl LimitTable {
         self.links
     }
 
+    /// How many slots there are.
+    pub fn slots(&self) -> u32
+        ensures { result ≡ self.now.slots }
+    {
+        self.slots
+    }
+
     /// The limit of a link at a slot.
     #[tactic(auto, using(crate::proofs::Rows::limit_at_place, crate::proofs::Rows::place_small, crate::proofs::Rows::limits_long))]
     pub fn limit(&self, link: u32, slot: u32) -> u16

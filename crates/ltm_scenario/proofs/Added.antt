@@ -1,5 +1,5 @@
 -- A node becomes a destination.
-use Rattle.std.proofs.Common.{◌≡◌, ℕ, ◌+◌, ◌<◌, ◌≤◌, ◌==◌, List, [], ◌∷◌, ◌++◌, length, Bool, true, false, cond, if◌then◌else◌, Option, Some, None, Ok, Err, Result, All, get_or, slice_index, nat_le, refl, sym, ap, subst, ◌∙◌, arith, inl, inr, length-append}
+use Rattle.std.proofs.Common.{IfSome, suc, ◌-◌, ◌≡◌, ℕ, ◌+◌, ◌<◌, ◌≤◌, ◌==◌, List, [], ◌∷◌, ◌++◌, length, Bool, true, false, cond, if◌then◌else◌, Option, Some, None, Ok, Err, Result, All, get_or, slice_index, nat_le, refl, sym, ap, subst, ◌∙◌, arith, inl, inr, length-append}
 use Rattle.std.proofs.lemmas.Bool.{cases_lt, ltb-true}
 use Rattle.std.proofs.lemmas.Bool.Decides.{nat_tests}
 use Rattle.std.proofs.lemmas.List.{get_or_push, get_or_append_left, get_or_default}
@@ -101,3 +101,23 @@ added_is_scenario s node next is there done =
                 subst (λ ds. IsScenario (record s { destinations = ds })) same (pushed_is_scenario s node is there none less)
           ] refl e
     ] refl done
+
+-- the place that a node has is its own
+place_tells : (i n : ℕ) (ds : List ℕ) (node : ℕ) → position_from (λ d. d == node) i ds ≡ Some n → (i ≤ n) × (n < i + length ds) × (get_or ds (n - i) 0 ≡ node)
+place_tells i n [] node h = cc
+place_tells i n (d ∷ ds) node h =
+    elim (d == node) as (λ b. (d == node) ≡ b → cond b (Some i) (position_from (λ x. x == node) (i + 1) ds) ≡ Some n → (i ≤ n) × (n < i + length (d ∷ ds)) × (get_or (d ∷ ds) (n - i) 0 ≡ node)) [
+      | true ↦ λ is e.
+          let same : i ≡ n = cc in
+          let here : d ≡ node = grind (arith, nat_tests) in
+          (omega arith, omega arith, ap (λ k. get_or (d ∷ ds) k 0) (let z : n - i ≡ 0 = omega arith in z) ∙ here)
+      | false ↦ λ _ e.
+          let r = place_tells (i + 1) n ds node e in
+          (omega (arith, r.0), omega (arith, r.1), ap (λ k. get_or (d ∷ ds) k 0) (let z : n - i ≡ suc (n - (i + 1)) = omega (arith, r.0) in z) ∙ r.2)
+    ] refl h
+
+pub place_there : (ds : List ℕ) (node : ℕ) (r : Option ℕ) → r ≡ destination_of ds node → IfSome r (λ place. (place < length ds) × (slice_index ds place ≡ node))
+place_there ds node None is = tt
+place_there ds node (Some n) is =
+    let told = place_tells 0 n ds node (sym is) in
+    (omega (arith, told.1), ap (λ k. get_or ds k 0) (let z : n ≡ n - 0 = omega arith in z) ∙ told.2)

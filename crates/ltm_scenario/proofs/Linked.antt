@@ -1,7 +1,7 @@
 -- A scenario with one link more.
-use Rattle.std.proofs.Common.{◌≡◌, ℕ, ◌+◌, ◌<◌, ◌≤◌, ◌==◌, List, [], ◌∷◌, ◌++◌, length, Bool, true, false, cond, if◌then◌else◌, is_some, nat_le, Ok, Err, Result, All, refl, sym, ap, ◌∙◌, arith, length-append}
+use Rattle.std.proofs.Common.{◌≡◌, ℕ, ◌+◌, ◌<◌, ◌≤◌, ◌==◌, List, [], ◌∷◌, ◌++◌, length, map, Bool, true, false, cond, if◌then◌else◌, is_some, nat_le, Ok, Err, Result, All, refl, sym, ap, ◌∙◌, arith, length-append}
 use Rattle.std.proofs.lemmas.Bool.Decides.{nat_tests}
-use Rattle.ltm_limits.specs.Limits as limits
+use Rattle.ltm_units.specs.declared.places.LinkId.{LinkId}
 use Rattle.ltm_diagram.specs.declared.diagram.Diagram.{Diagram}
 use Rattle.ltm_diagram.specs.declared.diagram.Limits.{Limits}
 use Rattle.ltm_diagram.specs.declared.diagram.DiagramFault.{DiagramFault}
@@ -131,3 +131,8 @@ pub is_network_linked : (d next : NetworkData) (name tail head : List ℕ) → c
 is_network_linked d next name tail head taken is =
     let both : ◌≡◌ {A = Result NetworkData NetworkFault} (Ok next) (Ok (network.linked d name tail head)) = sym is ∙ network_linked d name tail head taken in
     cc
+
+-- a function of the numbers of links
+pub map_numbers : (f : ℕ → ℕ) (links : List LinkId) → map (λ (link : LinkId). f link.0) links ≡ map f (map (λ (link : LinkId). link.0) links)
+map_numbers f [] = refl
+map_numbers f (link ∷ links) = ap (λ xs. f link.0 ∷ xs) (map_numbers f links)

@@ -1,5 +1,5 @@
 //! The destinations of a case, in order, and which of them a node is.
-ghost use Rattle.std.specs.Prelude.{◌≡◌, ◌≢◌, ℕ, ◌<◌, ◌≤◌, List, [], ◌∷◌, ◌++◌, length, map, Some, None, IfOk, IfErr, OnOk, OnErr, Ok, Err, slice_index, slice_index_or, vec_len};
+ghost use Rattle.std.specs.Prelude.{◌≡◌, ◌≢◌, ℕ, ◌<◌, ◌≤◌, List, [], ◌∷◌, ◌++◌, length, map, Some, None, IfOk, IfErr, OnOk, OnErr, Ok, Err, IfSome, slice_index, slice_index_or, vec_len};
 ghost use Rattle.ltm_scenario.specs.Reads.{destination_of};
 ghost use Rattle.ltm_scenario.specs.Build.{added};
 
@@ -42,6 +42,7 @@ impl Destinations {
 
     pub fn list(&self) -> &[NodeId]
         ensures nodes { map (λ node. node.0) result.now ≡ self.now }
+        ensures count { length result.now ≡ length self.now }
         ensures few { length result.now ≤ 64 }
     {
         &self.list
@@ -63,14 +64,15 @@ impl Destinations {
     }
 
     /// Which destination the node is.
+    #[tactic(auto, using(crate::proofs::Added::place_there))]
     pub fn place(&self, node: NodeId) -> Option<u32>
         ensures place { result ≡ destination_of self.now node.0 }
+        ensures there { IfSome result (λ place. (place < length self.now) × (slice_index self.now place ≡ node.0)) }
     {
         if (node.0 as usize) < self.places.len() {
-            self.places[node.0 as usize]
-        } else {
-            None
+            return self.places[node.0 as usize];
         }
+        None
     }
 
     /// The place of the node, which becomes the last destination where it was none.

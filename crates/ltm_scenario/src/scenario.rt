@@ -1,18 +1,22 @@
 //! The scenario.
-ghost use Rattle.std.specs.Prelude.{◌≡◌, ◌≢◌, ℕ, ◌<◌, ◌≤◌, ◌↔◌, length, map, slice_get, Some, Ok, Err, IsOk, OnOk, OnErr, IfOk, IfErr};
+ghost use Rattle.std.specs.Prelude.{◌≡◌, ◌≢◌, ℕ, ◌<◌, ◌≤◌, ◌↔◌, length, map, slice_get, Some, Ok, Err, IsOk, OnOk, OnErr, IfOk, IfErr, IfSome};
 ghost use Rattle.ltm_limits.specs.Limits.{limit_at};
 ghost use Rattle.ltm_diagram.specs.Limits.{limits_of};
 ghost use Rattle.ltm_network.specs.Names.{number_of};
 ghost use Rattle.ltm_splits.specs.Rows.{key_of};
 ghost use Rattle.ltm_scenario.specs.Setup.{setup_checked};
 ghost use Rattle.ltm_scenario.specs.Data.{empty_scenario, demand_of, splits_of};
-ghost use Rattle.ltm_scenario.specs.Reads.{destination_of};
+ghost use Rattle.ltm_scenario.specs.Reads.{destination_of, destination_node};
 ghost use Rattle.ltm_scenario.specs.Cells.{cells};
 ghost use Rattle.ltm_scenario.specs.Valid.{IsValid};
 ghost use Rattle.ltm_scenario.specs.Check.{checked};
 ghost use Rattle.ltm_scenario.specs.Build.{with_link, with_destination, with_demand, with_split, with_exit, HasNoSplitAt};
+ghost use Rattle.ltm_scenario.specs.Edits.{edited_all, HaveAmounts};
+ghost use Rattle.ltm_scenario.specs.Shape.{SameShape};
 ghost use Rattle.ltm_scenario.specs.IsScenario.{IsScenario, IsDemandOf, IsSplitOf};
 
+use crate::batch::Batch;
+use crate::edit::{EditCause, EditFault};
 use crate::faults::{DestinationFault, LinkFault, ScenarioFault};
 use crate::setup::{Setup, SetupFault};
 use crate::tables::Tables;
@@ -68,6 +72,7 @@ impl Scenario {
         requires { HasNoSplitAt self.old (number_of self.old.network.nodes tail) }
         ensures ok { OnOk result (with_link self.old name tail head diagram ≡ Ok self.new) }
         ensures number { IfOk result (λ link. link.0 ≡ length self.old.network.links) }
+        ensures splits { self.new.splits ≡ self.old.splits }
         ensures err { OnErr result (self.new ≡ self.old) }
         ensures cause { IfErr result (λ e. e ≢ LinkFault.NoMemory
             → with_link self.old name tail head diagram ≡ Err e) }
@@ -156,6 +161,33 @@ impl Scenario {
         self.tables.cells()
     }
 
+    /// Makes all edits of a batch in order, or changes nothing and names the first that is refused after those before it,
+    /// with its cause. A valid scenario stays valid, and no edit changes its cells.
+    ///
+    /// Each amount is at most 1,000,000,000 units. It costs about what the edits touch.
+    #[tactic(auto, using(crate::proofs::Batches::batch_keeps_valid, crate::proofs::Batches::batch_keeps_shape, crate::proofs::Batches::shape_stays, crate::proofs::Shapes::same_cells))]
+    pub fn accept(&mut self, batch: &Batch) -> Result<(), EditFault>
+        requires valid { IsValid self.old }
+        requires amounts { HaveAmounts batch.now }
+
+        ensures ok { OnOk result (edited_all self.old batch.now ≡ Ok self.new) }
+
+        // All or nothing.
+        ensures err { OnErr result (self.new ≡ self.old) }
+        ensures cause { IfErr result (λ fault. fault.cause ≢ EditCause.NoMemory
+            → edited_all self.old batch.now ≡ Err fault) }
+
+        ensures valid { IsValid self.new }
+        ensures shape { SameShape self.old self.new }
+        ensures cells { cells self.new ≡ cells self.old }
+    {
+        let edits = batch.edits();
+        match self.tables.accept_from(1, edits) {
+            Ok(()) => return Ok(()),
+            Err(fault) => return Err(fault),
+        }
+    }
+
     /// The step, the slots and the capacity of origins.
     pub fn setup(&self) -> &Setup
         ensures setup { result.now ≡ self.now.setup }
@@ -222,14 +254,26 @@ impl Scenario {
 
     /// The nodes that are destinations, in order of becoming one.
     pub fn destinations(&self) -> &[NodeId]
-        ensures { map (λ node. node.0) result.now ≡ self.now.destinations }
+        ensures nodes { map (λ node. node.0) result.now ≡ self.now.destinations }
+        ensures count { length result.now ≡ length self.now.destinations }
     {
         self.tables.destinations()
     }
 
+    /// The node of a destination.
+    pub fn destination_node(&self, destination: u32) -> NodeId
+        requires { destination < length self.now.destinations }
+        ensures node { result.0 ≡ destination_node self.now destination }
+        ensures there { result.0 < length self.now.network.nodes }
+    {
+        self.tables.destination_node(destination)
+    }
+
     /// Which destination a node is, if it is one.
     pub fn own(&self, node: NodeId) -> Option<u32>
-        ensures { result ≡ destination_of self.now.destinations node.0 }
+        ensures place { result ≡ destination_of self.now.destinations node.0 }
+        ensures there { IfSome result (λ place. (place < length self.now.destinations)
+            × (destination_node self.now place ≡ node.0)) }
     {
         self.tables.own(node)
     }

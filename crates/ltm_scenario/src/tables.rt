@@ -1,5 +1,5 @@
 //! The tables of a scenario.
-ghost use Rattle.std.specs.Prelude.{◌≡◌, ◌≢◌, ℕ, ◌<◌, ◌≤◌, ◌==◌, List, [], All, length, map, slice_get, Some, Ok, Err, OnOk, OnErr, IfOk, IfErr};
+ghost use Rattle.std.specs.Prelude.{◌≡◌, ◌≢◌, ℕ, ◌<◌, ◌≤◌, ◌==◌, List, [], All, length, map, slice_get, Some, Ok, Err, OnOk, OnErr, IfOk, IfErr, IfSome};
 ghost use Rattle.std.specs.Option.{option_map};
 ghost use Rattle.ltm_limits.specs.Limits.{limit_at};
 ghost use Rattle.ltm_diagram.specs.Limits.{limits_of};
@@ -13,6 +13,8 @@ ghost use Rattle.ltm_scenario.specs.Reads.{destination_node, destination_of, has
 ghost use Rattle.ltm_scenario.specs.Build.{with_link, linked, with_destination, with_demand, with_split, with_exit, HasNoSplitAt};
 ghost use Rattle.ltm_scenario.specs.State.{demand_state};
 ghost use Rattle.ltm_scenario.specs.IsScenario.{IsScenario, IsDemandOf, IsSplitOf};
+
+mod changes;
 
 use crate::destinations::Destinations;
 use crate::diagrams::Diagrams;
@@ -32,6 +34,7 @@ use std::marker::Model;
 /// Contracts see its data, and beside them the room that undoing an edit needs.
 #[derive(Drop)]
 pub struct Tables {
+    alloc: Global,
     setup: Setup,
     network: Network,
     diagrams: Diagrams,
@@ -62,6 +65,7 @@ impl Tables {
         ensures { result.scenario ≡ empty_scenario setup }
     {
         Tables {
+            alloc,
             setup,
             network: Network::new(alloc),
             diagrams: Diagrams::new(alloc, setup.step),
@@ -71,6 +75,11 @@ impl Tables {
             entry: LimitTable::new(alloc, setup.slots),
             exit: LimitTable::new(alloc, setup.slots),
         }
+    }
+
+    /// Where further memory is taken.
+    pub fn allocator(&self) -> Global {
+        self.alloc
     }
 
     pub fn setup(&self) -> &Setup
@@ -132,7 +141,8 @@ impl Tables {
     }
 
     pub fn destinations(&self) -> &[NodeId]
-        ensures { map (λ node. node.0) result.now ≡ self.now.scenario.destinations }
+        ensures nodes { map (λ node. node.0) result.now ≡ self.now.scenario.destinations }
+        ensures count { length result.now ≡ length self.now.scenario.destinations }
     {
         self.destinations.list()
     }
@@ -156,7 +166,9 @@ impl Tables {
 
     /// Which destination a node is.
     pub fn own(&self, node: NodeId) -> Option<u32>
-        ensures { result ≡ destination_of self.now.scenario.destinations node.0 }
+        ensures place { result ≡ destination_of self.now.scenario.destinations node.0 }
+        ensures there { IfSome result (λ place. (place < length self.now.scenario.destinations)
+            × (destination_node self.now.scenario place ≡ node.0)) }
     {
         self.destinations.place(node)
     }
@@ -172,6 +184,7 @@ impl Tables {
         requires { HasNoSplitAt self.old.scenario (number_of self.old.scenario.network.nodes tail) }
         ensures ok { OnOk result (with_link self.old.scenario name tail head diagram ≡ Ok self.new.scenario) }
         ensures number { IfOk result (λ link. link.0 ≡ length self.old.scenario.network.links) }
+        ensures splits { self.new.scenario.splits ≡ self.old.scenario.splits }
         ensures err { OnErr result (self.new.scenario ≡ self.old.scenario) }
         ensures cause { IfErr result (λ e. e ≢ LinkFault.NoMemory
             → with_link self.old.scenario name tail head diagram ≡ Err e) }
@@ -299,6 +312,7 @@ impl Tables {
         ensures { IfOk result (λ copy. copy.scenario ≡ self.now.scenario) }
     {
         Ok(Tables {
+            alloc: self.alloc,
             setup: self.setup,
             network: self.network.clone()?,
             diagrams: self.diagrams.try_copy()?,
