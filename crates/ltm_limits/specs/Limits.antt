@@ -1,0 +1,36 @@
+-- The limits of links: for each link its limit at each slot.
+use Rattle.std.specs.Prelude.{ℕ, ◌+◌, ◌-◌, List, [], ◌∷◌, ◌++◌, length, take, drop, replicate, slice_index, slice_index_or, slice_set}
+
+-- a limit that was never set: no link passes more in a slot
+abbrev pub never_set : ℕ
+never_set = 32000
+
+-- the limit of a link at a slot
+abbrev pub limit_at : List (List ℕ) → ℕ → ℕ → ℕ
+limit_at limits link slot = slice_index (slice_index_or limits link []) slot
+
+-- the list with these values from a place on
+abbrev pub written : ℕ → List ℕ → List ℕ → List ℕ
+written from values xs = take from xs ++ (values ++ drop (from + length values) xs)
+
+-- the limits with these for one link, from a slot on
+abbrev pub with_values : List (List ℕ) → ℕ → ℕ → List ℕ → List (List ℕ)
+with_values limits link from values = slice_set limits link (written from values (slice_index_or limits link []))
+
+-- the limits with one limit for a link in the slots from .. to - 1
+abbrev pub with_limit : List (List ℕ) → ℕ → ℕ → ℕ → ℕ → List (List ℕ)
+with_limit limits link from to limit = with_values limits link from (replicate (to - from) limit)
+
+-- the limits of a link in some slots from one on
+abbrev pub values_of : List (List ℕ) → ℕ → ℕ → ℕ → List ℕ
+values_of limits link from count = take count (drop from (slice_index_or limits link []))
+
+-- one link more, whose limits were never set
+abbrev pub with_link : List (List ℕ) → ℕ → List (List ℕ)
+with_link limits slots = limits ++ replicate slots never_set ∷ []
+
+-- the limits and the horizon, and how many limits can be written without memory
+pub record LimitsState : Type 0 where
+  pub limits : List (List ℕ)
+  pub slots : ℕ
+  pub places : ℕ

@@ -1,0 +1,17 @@
+pub mod Added
+pub mod Amounts
+pub mod Batches
+pub mod Bounds
+pub mod Empty
+pub mod Found
+pub mod Keeps
+pub mod Kept
+pub mod Linked
+pub mod Parts
+pub mod Places
+pub mod Ranges
+pub mod Rooms
+pub mod Shapes
+pub mod Sums
+pub mod Undoing
+pub mod Validity

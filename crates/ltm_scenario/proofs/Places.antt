@@ -1,0 +1,76 @@
+-- The tables of places, and of limits.
+use Rattle.std.proofs.Common.{◌≡◌, ◌≢◌, ℕ, ◌+◌, ◌-◌, ◌<◌, ◌≤◌, List, [], ◌∷◌, ◌++◌, length, map, take, replicate, get_or, Option, Some, None, Ok, Result, slice_get, refl, sym, ap, ◌∙◌, arith, inl, inr, get_or-set_same, get_or-set_other}
+use Rattle.std.proofs.Math.ListN.{set}
+use Rattle.std.proofs.lemmas.Bool.{cases_lt, cases_eq}
+use Rattle.std.proofs.lemmas.List.{get_or_past, get_or-append_right, get_or_append_left, get_or-replicate, length-replicate, take_all, map-append, map-set, get_or-map, length-map}
+use Rattle.std.proofs.lemmas.Option.{get_or_from_slice_get}
+use Rattle.ltm_units.specs.declared.places.NodeId.{NodeId}
+use Rattle.ltm_diagram.specs.declared.diagram.Diagram.{Diagram}
+use Rattle.ltm_diagram.specs.declared.diagram.Limits.{Limits}
+use Rattle.ltm_diagram.specs.declared.diagram.DiagramFault.{DiagramFault}
+use Rattle.ltm_diagram.specs.Limits.{limits_of}
+use Rattle.ltm_scenario.specs.Reads.{destination_of}
+use Rattle.ltm_scenario.proofs.Added.{place_of_new, place_of_other}
+
+abbrev nowhere : Option ℕ
+nowhere = None
+
+long_none : (n : ℕ) → length (replicate n nowhere) ≡ n
+long_none n = length-replicate n nowhere
+
+-- a table that ends with no places says the same
+padded : (xs : List (Option ℕ)) (n i : ℕ) → get_or (xs ++ replicate n None) i None ≡ get_or xs i None
+padded xs n i =
+    elim (cases_lt i (length xs)) [
+      | inl inside ↦ get_or_append_left xs (replicate n None) None i inside
+      | inr past ↦
+          get_or-append_right xs (replicate n None) (length xs) i None refl past
+          ∙ elim (cases_lt (i - length xs) n) as (λ _. get_or (replicate n None) (i - length xs) None ≡ get_or xs i None) [
+            | inl short ↦ get_or-replicate n (i - length xs) None None short ∙ sym (get_or_past xs i None past)
+            | inr long ↦ get_or_past (replicate n None) (i - length xs) None (omega (arith, long_none n)) ∙ sym (get_or_past xs i None past)
+          ]
+    ]
+
+pub none_padded : (xs ys : List (Option ℕ)) (count n i : ℕ) → length xs ≤ count → ys ≡ take count xs ++ replicate n None → get_or ys i None ≡ get_or xs i None
+none_padded xs ys count n i short is =
+    ap (λ t. get_or t i None) (is ∙ ap (λ t. t ++ replicate n None) (take_all count xs short)) ∙ padded xs n i
+
+-- the places once a node was put last
+pub put_keeps : (ds : List ℕ) (places : List (Option ℕ)) (node : ℕ) → ((n : ℕ) → get_or places n None ≡ destination_of ds n) → destination_of ds node ≡ None → node < length places → (n : ℕ) → get_or (set places node (Some (length ds))) n None ≡ destination_of (ds ++ node ∷ []) n
+put_keeps ds places node kept new inside n =
+    elim (cases_eq node n) [
+      | inl same ↦ ap (λ i. get_or (set places node (Some (length ds))) i None) (sym same) ∙ get_or-set_same places node (Some (length ds)) None inside ∙ sym (place_of_new ds node new) ∙ ap (destination_of (ds ++ node ∷ [])) same
+      | inr apart ↦
+          let other : n ≢ node = λ e. apart (sym e) in
+          get_or-set_other places node n (Some (length ds)) None other ∙ kept n ∙ sym (place_of_other ds node n apart)
+    ]
+
+abbrev pub numbers : List NodeId → List ℕ
+numbers nodes = map (λ (node : NodeId). node.0) nodes
+
+pub numbers-push : (nodes more : List NodeId) (node : NodeId) → more ≡ nodes ++ node ∷ [] → numbers more ≡ numbers nodes ++ node.0 ∷ []
+numbers-push nodes more node is = ap numbers is ∙ map-append (λ (n : NodeId). n.0) nodes (node ∷ [])
+
+-- ---- limits beside diagrams
+abbrev Answer : Type 0
+Answer = Result Limits DiagramFault
+
+abbrev good : Limits → Answer
+good limits = Ok limits
+
+pub limits_beside : (ds : List Diagram) (ls : List Limits) (step link : ℕ) (diagram : Diagram) (limits : Limits) → map (λ d. limits_of d step) ds ≡ map good ls → link < length ds → limits ≡ get_or ls link limits → slice_get ds link ≡ Some diagram → limits_of diagram step ≡ Ok limits
+limits_beside ds ls step link diagram limits beside inside there here =
+    let long : length ls ≡ length ds = sym (length-map ls good) ∙ sym (ap length beside) ∙ length-map ds (λ d. limits_of d step) in
+    let e : Answer = good limits in
+    ap (λ (d : Diagram). limits_of d step) (sym (get_or_from_slice_get ds link diagram diagram here))
+    ∙ sym (get_or-map (λ d. limits_of d step) ds link diagram e inside)
+    ∙ ap (λ xs. get_or xs link e) beside
+    ∙ get_or-map good ls link limits e (omega arith)
+    ∙ ap good (sym there)
+
+pub limits_set : (ds : List Diagram) (ls : List Limits) (step link : ℕ) (diagram : Diagram) (limits : Limits) → map (λ d. limits_of d step) ds ≡ map good ls → limits_of diagram step ≡ Ok limits → map (λ d. limits_of d step) (set ds link diagram) ≡ map good (set ls link limits)
+limits_set ds ls step link diagram limits beside is =
+    map-set (λ d. limits_of d step) ds link diagram
+    ∙ ap (set (map (λ d. limits_of d step) ds) link) is
+    ∙ ap (λ xs. set xs link (Ok limits)) beside
+    ∙ sym (map-set good ls link limits)

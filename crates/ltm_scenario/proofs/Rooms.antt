@@ -1,0 +1,60 @@
+-- Room that does not fall.
+use Rattle.std.proofs.Common.{◌≡◌, ℕ, ◌+◌, ◌*◌, ◌<◌, ◌≤◌, ◌==◌, ◌||◌, not, Bool, true, false, length, refl, sym, ap, subst, ◌∙◌, arith, IsSome, vec_len, List}
+use Rattle.std.proofs.lemmas.Bool.Decides.{nat_tests}
+use Rattle.ltm_demand.specs.declared.row.DemandRow.{DemandRow}
+use Rattle.ltm_demand.specs.Rows as demand
+use Rattle.ltm_demand.specs.Rows.{DemandData, DemandState, CanRestore, takes_no_memory, amount_at}
+use Rattle.ltm_scenario.specs.declared.undo.Undo.{Undo}
+use Rattle.ltm_scenario.specs.declared.undo.Undo.TheVariants.{Demand, Entry, Exit, NewSplit, OldSplit, Diagram}
+use Rattle.ltm_scenario.specs.Data.{ScenarioData, demand_of}
+use Rattle.ltm_scenario.specs.State.{ScenarioState, demand_state, KeepsRoom}
+use Rattle.ltm_scenario.specs.IsScenario.{IsScenario}
+use Rattle.ltm_scenario.specs.Undo.{undone, Fits, CanUndo, Undoes}
+
+pub room_stays : (s : ScenarioState) → KeepsRoom s s
+room_stays s = record { demand = omega arith; entry = omega arith; exit = omega arith }
+
+pub room_through : (a b c : ScenarioState) → KeepsRoom a b → KeepsRoom b c → KeepsRoom a c
+room_through a b c p q = record { demand = omega (arith, p.demand, q.demand); entry = omega (arith, p.entry, q.entry); exit = omega (arith, p.exit, q.exit) }
+
+or_later : (a b c d : Bool) → (c ≡ true → d ≡ true) → (a || (b || c)) ≡ true → (a || (b || d)) ≡ true
+or_later true b c d h e = refl
+or_later false true c d h e = refl
+or_later false false c d h e = h e
+
+room_left : (rows room more : ℕ) → rows + room ≤ rows + more → Rattle.std.proofs.Common.nat_lt 0 room ≡ true → Rattle.std.proofs.Common.nat_lt 0 more ≡ true
+room_left rows room more h e = grind (arith, nat_tests)
+
+-- what could be restored still can where the data are the same and the room is no less
+pub still_restores : (d : DemandData) (room more : ℕ) (row : DemandRow) → length d.rows + room ≤ length d.rows + more → CanRestore (record { demand = d; room = room }) row → CanRestore (record { demand = d; room = more }) row
+still_restores d room more row h can = record {
+  small = can.small;
+  accepted = can.accepted;
+  free = or_later (row.amount.0 == 0) (not (amount_at d.rows row == 0)) _ _ (room_left (length d.rows) room more h) can.free;
+}
+
+fits_in_room : (s : ScenarioData) (a1 a2 a3 b1 b2 b3 : ℕ) (undo : Undo) → length s.demand + a1 ≤ length s.demand + b1 → a2 ≤ b2 → a3 ≤ b3 →
+    Fits (record { scenario = s; demand_room = a1; entry_places = a2; exit_places = a3 }) undo → Fits (record { scenario = s; demand_room = b1; entry_places = b2; exit_places = b3 }) undo
+fits_in_room s a1 a2 a3 b1 b2 b3 (Demand row) h1 h2 h3 fits = still_restores (demand_of s) a1 b1 row h1 fits
+fits_in_room s a1 a2 a3 b1 b2 b3 (Entry link from was) h1 h2 h3 fits = (fits.0, fits.1, omega (arith, fits.2))
+fits_in_room s a1 a2 a3 b1 b2 b3 (Exit link from was) h1 h2 h3 fits = (fits.0, fits.1, omega (arith, fits.2))
+fits_in_room s a1 a2 a3 b1 b2 b3 (NewSplit key) h1 h2 h3 fits = tt
+fits_in_room s a1 a2 a3 b1 b2 b3 (OldSplit key was) h1 h2 h3 fits = fits
+fits_in_room s a1 a2 a3 b1 b2 b3 (Diagram link diagram limits) h1 h2 h3 fits = fits
+
+same_scenario : (old : ScenarioState) (s : ScenarioData) (b1 b2 b3 : ℕ) (undo : Undo) → s ≡ old.scenario → KeepsRoom old (record { scenario = s; demand_room = b1; entry_places = b2; exit_places = b3 }) → CanUndo old undo → CanUndo (record { scenario = s; demand_room = b1; entry_places = b2; exit_places = b3 }) undo
+same_scenario old s b1 b2 b3 undo same room can =
+    let old_rows : length s.demand ≡ length old.scenario.demand = ap (λ (v : ScenarioData). length v.demand) same in
+    subst (λ (v : ScenarioData). CanUndo (record { scenario = v; demand_room = b1; entry_places = b2; exit_places = b3 }) undo) (sym same)
+    (record {
+      scenario = can.scenario;
+      fits = fits_in_room old.scenario old.demand_room old.entry_places old.exit_places b1 b2 b3 undo (omega (arith, room.demand, old_rows)) room.entry room.exit can.fits;
+    })
+
+-- what can be undone still can once later edits are undone
+pub still_undoes : (old new : ScenarioState) (undo : Undo) → new.scenario ≡ old.scenario → KeepsRoom old new → CanUndo old undo → CanUndo new undo
+still_undoes old new undo same room can = same_scenario old new.scenario new.demand_room new.entry_places new.exit_places undo same room can
+
+-- undoing gives back what was before
+pub undone_back : (first second third : ScenarioState) (undo : Undo) (last : ScenarioData) → Undoes first second undo → third.scenario ≡ second.scenario → last ≡ undone third.scenario undo → last ≡ first.scenario
+undone_back first second third undo last undoes same is = is ∙ ap (λ v. undone v undo) same ∙ undoes.back

@@ -1,0 +1,24 @@
+-- What no edit changes fixes the cells.
+use Rattle.std.proofs.Common.{◌≡◌, ℕ, ◌==◌, if◌then◌else◌, ◌+◌, List, length, sum_by, refl, sym, ◌∙◌}
+use Rattle.std.specs.List.{range_with_len}
+use Rattle.ltm_network.specs.Network.{NetworkData, in_links, out_links}
+use Rattle.ltm_scenario.specs.declared.setup.Setup.{Setup}
+use Rattle.ltm_scenario.specs.Data.{ScenarioData}
+use Rattle.ltm_scenario.specs.Cells.{arms_of, width_of, width, widths, cells_of, cells}
+use Rattle.ltm_scenario.specs.Shape.{SameShape}
+
+-- the cells by what they rest on
+pub cells_by : Setup → NetworkData → List ℕ → ℕ
+cells_by setup network destinations =
+    cells_of setup.slots (sum_by (λ node. let ins = length (in_links network node) in let outs = length (out_links network node) in width_of (arms_of ins outs) outs (length destinations)) (range_with_len 0 (length network.nodes)))
+    (length network.links) (length network.nodes) (length destinations)
+
+cells_are : (s : ScenarioData) → cells s ≡ cells_by s.setup s.network s.destinations
+unfolding cells widths cells_by
+cells_are s = refl
+
+pub cells_with : (setup : Setup) (network : NetworkData) (destinations : List ℕ) (s : ScenarioData) → s.setup ≡ setup → s.network ≡ network → s.destinations ≡ destinations → cells s ≡ cells_by setup network destinations
+cells_with setup network destinations s a b c = cells_are s ∙ (λ i. cells_by (a i) (b i) (c i))
+
+pub same_cells : (old new : ScenarioData) → SameShape old new → cells new ≡ cells old
+same_cells old new same = cells_with old.setup old.network old.destinations new same.setup same.network same.destinations ∙ sym (cells_are old)

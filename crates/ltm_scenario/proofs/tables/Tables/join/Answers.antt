@@ -1,0 +1,39 @@
+use Rattle.std.proofs.Common.{◌≡◌, ◌<◌, ap, sym, subst, ◌∙◌, length, Ok, arith}
+use Rattle.ltm_network.specs.Network.{checked, linked as linked_network}
+use Rattle.ltm_network.specs.Names.{number_of}
+use Rattle.ltm_scenario.specs.Build.{linked, HasNoSplitAt}
+use Rattle.ltm_scenario.specs.State.{ScenarioState}
+use Rattle.ltm_scenario.proofs.Linked.{room_for_link, is_network_linked}
+use Rattle.ltm_scenario.proofs.Parts.{with_linked}
+use Rattle.ltm_scenario.proofs.tables.Tables.join.Goals as goal
+
+pub with_link-requires : goal.with_link-requires
+with_link-requires c =
+    let taken : checked c.self.inside.network c.args.name c.args.tail c.args.head ≡ Ok tt = ap (λ (v : ScenarioState). checked v.scenario.network c.args.name c.args.tail c.args.head) c.self.view_is ∙ c.requires.taken in
+    omega (arith, room_for_link c.self.inside.network c.args.name c.args.tail c.args.head taken, c.self.invariant.scenario.entry_for_each)
+
+pub with_link-requires-2 : goal.with_link-requires-2
+with_link-requires-2 c =
+    let taken : checked c.self.inside.network c.args.name c.args.tail c.args.head ≡ Ok tt = ap (λ (v : ScenarioState). checked v.scenario.network c.args.name c.args.tail c.args.head) c.self.view_is ∙ c.requires.taken in
+    omega (arith, room_for_link c.self.inside.network c.args.name c.args.tail c.args.head taken, c.self.invariant.scenario.exit_for_each)
+
+pub returns-clause-ok : goal.returns-clause-ok
+returns-clause-ok c =
+    let taken : checked c.self.inside.network c.args.name c.args.tail c.args.head ≡ Ok tt = ap (λ (v : ScenarioState). checked v.scenario.network c.args.name c.args.tail c.args.head) c.self.view_is ∙ c.requires.taken in
+    let free = subst (λ (v : ScenarioState). HasNoSplitAt v.scenario (number_of v.scenario.network.nodes c.args.tail)) (sym c.self.view_is) c.requires.free in
+    (with_linked c.self.inside c.args.name c.args.tail c.args.head c.args.diagram c.add_link.new.self c.push.new.self c.in_ok-entry.entry c.in_ok-exit.exit
+    c.networks_stay_networks.ensures c.self.invariant taken free
+    (is_network_linked c.self.inside.network c.add_link.new.self c.args.name c.args.tail c.args.head taken c.in-Ok.ensures.ok)
+    (c.push.ensures.step ∙ c.in_ok-reserve.ensures.step) (c.push.ensures.diagrams ∙ ap (λ ds. Rattle.std.proofs.Common.◌++◌ ds (Rattle.std.proofs.Common.◌∷◌ c.args.diagram Rattle.std.proofs.Common.[])) c.in_ok-reserve.ensures.diagrams)
+    c.in_ok-entry.ensures.limits c.in_ok-entry.ensures.slots c.in_ok-exit.ensures.limits c.in_ok-exit.ensures.slots).0
+    ∙ ap (λ (v : ScenarioState). linked v.scenario (linked_network v.scenario.network c.args.name c.args.tail c.args.head) c.args.diagram) c.self.view_is
+
+pub invariant_of-self-2 : goal.invariant_of-self-2
+invariant_of-self-2 c =
+    let taken : checked c.self.inside.network c.args.name c.args.tail c.args.head ≡ Ok tt = ap (λ (v : ScenarioState). checked v.scenario.network c.args.name c.args.tail c.args.head) c.self.view_is ∙ c.requires.taken in
+    let free = subst (λ (v : ScenarioState). HasNoSplitAt v.scenario (number_of v.scenario.network.nodes c.args.tail)) (sym c.self.view_is) c.requires.free in
+    (with_linked c.self.inside c.args.name c.args.tail c.args.head c.args.diagram c.add_link.new.self c.push.new.self c.in_ok-entry.entry c.in_ok-exit.exit
+    c.networks_stay_networks.ensures c.self.invariant taken free
+    (is_network_linked c.self.inside.network c.add_link.new.self c.args.name c.args.tail c.args.head taken c.in-Ok.ensures.ok)
+    (c.push.ensures.step ∙ c.in_ok-reserve.ensures.step) (c.push.ensures.diagrams ∙ ap (λ ds. Rattle.std.proofs.Common.◌++◌ ds (Rattle.std.proofs.Common.◌∷◌ c.args.diagram Rattle.std.proofs.Common.[])) c.in_ok-reserve.ensures.diagrams)
+    c.in_ok-entry.ensures.limits c.in_ok-entry.ensures.slots c.in_ok-exit.ensures.limits c.in_ok-exit.ensures.slots).1

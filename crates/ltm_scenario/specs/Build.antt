@@ -1,0 +1,92 @@
+-- What the calls that build a scenario make of it.
+use Rattle.std.specs.Prelude.{◌≡◌, ℕ, ◌==◌, ◌&&◌, false, All, Bool, nat_le, nat_lt, if◌then◌else◌, min, List, [], ◌∷◌, ◌++◌, length, Option, Some, None, Result, Ok, Err}
+use Rattle.ltm_limits.specs.Limits.{with_link as with_limits_of_link, with_limit}
+use Rattle.ltm_network.specs.Network as network
+use Rattle.ltm_network.specs.Network.{NetworkData}
+use Rattle.ltm_network.specs.declared.network.NetworkFault.{NetworkFault}
+use Rattle.ltm_diagram.specs.declared.diagram.Diagram.{Diagram}
+use Rattle.ltm_diagram.specs.declared.diagram.Limits.{Limits}
+use Rattle.ltm_diagram.specs.declared.diagram.DiagramFault.{DiagramFault}
+use Rattle.ltm_diagram.specs.Limits.{limits_of}
+use Rattle.ltm_demand.specs.declared.row.DemandRow.{DemandRow}
+use Rattle.ltm_demand.specs.declared.row.DemandFault.{DemandFault}
+use Rattle.ltm_demand.specs.declared.row.DemandFault.TheVariants.{BadSlots}
+use Rattle.ltm_demand.specs.Rows as demand
+use Rattle.ltm_demand.specs.Rows.{DemandData}
+use Rattle.ltm_splits.specs.declared.keys.SplitKey.{SplitKey}
+use Rattle.ltm_splits.specs.declared.keys.SplitFault.{SplitFault}
+use Rattle.ltm_splits.specs.Rows as splits
+use Rattle.ltm_splits.specs.Rows.{SplitsData}
+use Rattle.ltm_scenario.specs.declared.faults.LinkFault.{LinkFault}
+use Rattle.ltm_scenario.specs.declared.faults.LinkFault.TheVariants.{Network, Diagram as BadDiagram}
+use Rattle.ltm_scenario.specs.declared.faults.DestinationFault.{DestinationFault}
+use Rattle.ltm_scenario.specs.declared.faults.DestinationFault.TheVariants.{TooMany}
+use Rattle.ltm_scenario.specs.Data.{ScenarioData, demand_of, splits_of}
+use Rattle.ltm_scenario.specs.Reads.{destination_of}
+
+infixl 10 ◌>>=◌
+abbrev pub ◌>>=◌ : {A B F : Type 0} → Result A F → (A → Result B F) → Result B F
+(Ok x) >>= next = next x
+(Err fault) >>= next = Err fault
+
+abbrev pub of_network : {A : Type 0} → Result A NetworkFault → Result A LinkFault
+of_network (Ok x) = Ok x
+of_network (Err fault) = Err (Network fault)
+
+abbrev pub of_diagram : {A : Type 0} → Result A DiagramFault → Result A LinkFault
+of_diagram (Ok x) = Ok x
+of_diagram (Err fault) = Err (BadDiagram fault)
+
+-- the scenario on that network, with its last link's diagram, and limits that were never set
+abbrev pub linked : ScenarioData → NetworkData → Diagram → ScenarioData
+linked s network diagram = record s {
+  network = network;
+  diagrams = s.diagrams ++ diagram ∷ [];
+  entry = with_limits_of_link s.entry s.setup.slots;
+  exit = with_limits_of_link s.exit s.setup.slots;
+}
+
+-- with one link more; what the network refuses comes before what the diagram lacks
+unfoldable pub with_link : ScenarioData → List ℕ → List ℕ → List ℕ → Diagram → Result ScenarioData LinkFault
+with_link s name tail head diagram =
+    of_network (network.with_link s.network name tail head) >>= λ next.
+    of_diagram (limits_of diagram s.setup.step.0) >>= λ _.
+    Ok (linked s next diagram)
+
+abbrev pub most_destinations : ℕ
+most_destinations = 64
+
+-- the destinations once a node is one
+abbrev pub added : List ℕ → ℕ → Option ℕ → Result (List ℕ) DestinationFault
+added destinations node (Some place) = Ok destinations
+added destinations node None = if nat_le most_destinations (length destinations) then Err TooMany else Ok (destinations ++ node ∷ [])
+
+abbrev pub with_destination : ScenarioData → ℕ → Result ScenarioData DestinationFault
+with_destination s node = added s.destinations node (destination_of s.destinations node) >>= λ destinations. Ok (record s { destinations = destinations })
+
+abbrev pub with_demand : ScenarioData → DemandRow → Result ScenarioData DemandFault
+with_demand s row = demand.with_row (demand_of s) row >>= λ next. Ok (record s { demand = next.rows })
+
+abbrev pub with_split : ScenarioData → SplitKey → List ℕ → Result ScenarioData SplitFault
+with_split s key weights = splits.with_row (splits_of s) key weights >>= λ next. Ok (record s { splits = next.rows })
+
+-- some slots, and all of them within the horizon
+abbrev pub are_slots : ScenarioData → ℕ → ℕ → Bool
+are_slots s from to = nat_lt from to && nat_le to s.setup.slots
+
+-- a limit in thousandths of a vehicle: no link passes more than 32 in a slot
+abbrev pub as_limit : ℕ → ℕ
+as_limit amount = min amount 32000
+
+abbrev pub with_entry_limit : ScenarioData → ℕ → ℕ → ℕ → ℕ → ScenarioData
+with_entry_limit s link from to amount = record s { entry = with_limit s.entry link from to (as_limit amount) }
+
+abbrev pub with_exit_limit : ScenarioData → ℕ → ℕ → ℕ → ℕ → ScenarioData
+with_exit_limit s link from to amount = record s { exit = with_limit s.exit link from to (as_limit amount) }
+
+abbrev pub with_exit : ScenarioData → ℕ → ℕ → ℕ → ℕ → Result ScenarioData DemandFault
+with_exit s link from to amount = if are_slots s from to then Ok (with_exit_limit s link from to amount) else Err BadSlots
+
+-- no split row stands at the node
+abbrev pub HasNoSplitAt : ScenarioData → ℕ → Type 0
+HasNoSplitAt s node = All (λ row. (node == row.0.node.0) ≡ false) s.splits

@@ -1,0 +1,35 @@
+-- What holds of the data of every scenario.
+use Rattle.std.specs.Prelude.{◌≡◌, ℕ, ◌<◌, ◌≤◌, ◌==◌, Bool, false, List, length, slice_index, All, Some}
+use Rattle.ltm_network.specs.Network.{out_links}
+use Rattle.ltm_network.specs.IsNetwork.{IsNetwork}
+use Rattle.ltm_demand.specs.declared.row.DemandRow.{DemandRow}
+use Rattle.ltm_splits.specs.Rows.{SplitRow}
+use Rattle.ltm_scenario.specs.Setup.{IsSetup}
+use Rattle.ltm_scenario.specs.Data.{ScenarioData}
+use Rattle.ltm_scenario.specs.Reads.{destination_node, destination_of, has_no_out_link}
+
+-- a demand row starts at a node with an out-link, and does not end where it starts
+pub record IsDemandOf (s : ScenarioData) (row : DemandRow) : Type 0 where
+  pub origin_is_node : row.origin.0 < length s.network.nodes
+  pub origin_has_out_link : has_no_out_link s row.origin.0 ≡ false
+  pub destination_is_one : row.destination < length s.destinations
+  pub ends_differ : (row.origin.0 == destination_node s row.destination) ≡ false
+
+-- a split row has a weight for each out-link of its node, and does not stand at its own destination
+pub record IsSplitOf (s : ScenarioData) (row : SplitRow) : Type 0 where
+  pub node_is_node : row.0.node.0 < length s.network.nodes
+  pub destination_is_one : row.0.destination < length s.destinations
+  pub ends_differ : (row.0.node.0 == destination_node s row.0.destination) ≡ false
+  pub weight_for_each : length row.1 ≡ length (out_links s.network row.0.node.0)
+
+pub record IsScenario (s : ScenarioData) : Type 0 where
+  pub setup : IsSetup s.setup
+  pub network : IsNetwork s.network
+  pub diagram_for_each : length s.diagrams ≡ length s.network.links
+  pub entry_for_each : length s.entry ≡ length s.network.links
+  pub exit_for_each : length s.exit ≡ length s.network.links
+  pub few_destinations : length s.destinations ≤ 64
+  pub destinations_are_nodes : All (λ node. node < length s.network.nodes) s.destinations
+  pub destinations_apart : (destination : ℕ) → destination < length s.destinations → destination_of s.destinations (destination_node s destination) ≡ Some destination
+  pub demand : All (IsDemandOf s) s.demand
+  pub splits : All (IsSplitOf s) s.splits

@@ -1,0 +1,28 @@
+-- The setup of a case.
+use Rattle.std.specs.Prelude.{ℕ, ◌≤◌, ◌&&◌, Bool, nat_le, Result, Ok, Err, if◌then◌else◌}
+use Rattle.ltm_scenario.specs.declared.setup.Setup.{Setup}
+use Rattle.ltm_scenario.specs.declared.setup.SetupFault.{SetupFault}
+use Rattle.ltm_scenario.specs.declared.setup.SetupFault.TheVariants.{Range}
+
+-- a step of 1 to 60,000 ms, 1 to 10,000 slots, 1 to 32,000 units from an origin in a slot
+pub record IsSetup (setup : Setup) : Type 0 where
+  pub step_least : 1 ≤ setup.step.0
+  pub step_most : setup.step.0 ≤ 60000
+  pub slots_least : 1 ≤ setup.slots
+  pub slots_most : setup.slots ≤ 10000
+  pub capacity_least : 1 ≤ setup.origin_capacity.0
+  pub capacity_most : setup.origin_capacity.0 ≤ 32000
+
+abbrev pub is_between : ℕ → ℕ → ℕ → Bool
+is_between least most n = nat_le least n && nat_le n most
+
+-- the first field that is out of its limits, counted from 1
+abbrev pub setup_checked : Setup → Result (Unit {0}) SetupFault
+setup_checked setup =
+    if is_between 1 60000 setup.step.0
+    then (if is_between 1 10000 setup.slots
+    then (if is_between 1 32000 setup.origin_capacity.0
+    then Ok tt
+    else Err (Range 3))
+    else Err (Range 2))
+    else Err (Range 1)

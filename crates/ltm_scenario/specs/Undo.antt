@@ -1,0 +1,40 @@
+-- What undoes an edit.
+use Rattle.std.specs.Prelude.{◌≡◌, ℕ, ◌+◌, ◌*◌, ◌<◌, ◌≤◌, length, slice_set, vec_len, IsSome, Ok}
+use Rattle.ltm_limits.specs.Limits.{with_values}
+use Rattle.ltm_diagram.specs.Limits.{limits_of}
+use Rattle.ltm_demand.specs.Rows.{CanRestore, edited as edited_rows}
+use Rattle.ltm_splits.specs.Rows.{taken_out, put_in, row_of}
+use Rattle.ltm_splits.specs.WeightsLie.{AreWeights}
+use Rattle.ltm_scenario.specs.declared.undo.Undo.{Undo}
+use Rattle.ltm_scenario.specs.declared.undo.Undo.TheVariants.{Demand, Entry, Exit, NewSplit, OldSplit, Diagram}
+use Rattle.ltm_scenario.specs.Data.{ScenarioData}
+use Rattle.ltm_scenario.specs.State.{ScenarioState, demand_state}
+use Rattle.ltm_scenario.specs.IsScenario.{IsScenario}
+
+-- what undoing makes of a scenario
+abbrev pub undone : ScenarioData → Undo → ScenarioData
+undone s (Demand row) = record s { demand = edited_rows s.demand row }
+undone s (Entry link from was) = record s { entry = with_values s.entry link from was.items }
+undone s (Exit link from was) = record s { exit = with_values s.exit link from was.items }
+undone s (NewSplit key) = record s { splits = taken_out s.splits key }
+undone s (OldSplit key was) = record s { splits = put_in s.splits key was.items }
+undone s (Diagram link diagram limits) = record s { diagrams = slice_set s.diagrams link diagram }
+
+-- what undoing asks of the tables, so that it needs no memory
+abbrev pub Fits : ScenarioState → Undo → Type 0
+Fits s (Demand row) = CanRestore (demand_state s) row
+Fits s (Entry link from was) = (link < length s.scenario.entry) × (from + vec_len was ≤ s.scenario.setup.slots) × ((from + vec_len was) * length s.scenario.entry ≤ s.entry_places)
+Fits s (Exit link from was) = (link < length s.scenario.exit) × (from + vec_len was ≤ s.scenario.setup.slots) × ((from + vec_len was) * length s.scenario.exit ≤ s.exit_places)
+Fits s (NewSplit key) = Unit {0}
+Fits s (OldSplit key was) = IsSome (row_of s.scenario.splits key) × AreWeights was.items
+Fits s (Diagram link diagram limits) = (link < length s.scenario.diagrams) × (limits_of diagram s.scenario.setup.step.0 ≡ Ok limits)
+
+-- it can be undone without memory, and then is a scenario
+pub record CanUndo (s : ScenarioState) (undo : Undo) : Type 0 where
+  pub scenario : IsScenario (undone s.scenario undo)
+  pub fits : Fits s undo
+
+-- it gives back what was
+pub record Undoes (old new : ScenarioState) (undo : Undo) : Type 0 where
+  pub back : undone new.scenario undo ≡ old.scenario
+  pub can : CanUndo new undo

@@ -1,0 +1,105 @@
+//! Edits of a scenario, and why one is refused.
+use crate::weights::Weights;
+use ltm_diagram::{Diagram, DiagramFault};
+use ltm_units::{Name, NoMemory, Units};
+
+/// A change of a scenario, by names. Slots run from `from` up to, and without, `to`.
+#[derive(Clone, Copy)]
+pub enum Edit {
+    /// Sets the demand from an origin to a destination over the slots; an amount of 0 takes the row out.
+    Demand {
+        origin: Name,
+        destination: Name,
+        from: u32,
+        to: u32,
+        amount: Units,
+    },
+    /// Sets the entry limit of a link in each of the slots, in thousandths of a vehicle.
+    Limit {
+        link: Name,
+        from: u32,
+        to: u32,
+        amount: Units,
+    },
+    /// Sets the split row of a node and a destination that begins at the slot `from`; an out-link that is not named has
+    /// weight 0.
+    Split {
+        node: Name,
+        destination: Name,
+        from: u32,
+        weights: Weights,
+    },
+    /// Replaces the diagram of a link for the whole horizon.
+    Diagram {
+        link: Name,
+        diagram: Diagram,
+    },
+    /// Sets the exit limit of a link in each of the slots, in thousandths of a vehicle.
+    Exit {
+        link: Name,
+        from: u32,
+        to: u32,
+        amount: Units,
+    },
+}
+
+impl Edit {
+    ghost use Rattle.std.specs.Prelude.{◌≡◌};
+    ghost use Rattle.ltm_scenario.specs.Edits.{amount_of};
+
+    /// The amount of the edit, 0 where its kind has none.
+    pub fn amount(&self) -> Units
+        ensures { result.0 ≡ amount_of self.now }
+    {
+        match *self {
+            Edit::Demand { amount, .. } | Edit::Limit { amount, .. } | Edit::Exit { amount, .. } =>
+                amount,
+            Edit::Split { .. } | Edit::Diagram { .. } => Units(0),
+        }
+    }
+}
+
+/// Why an edit is refused.
+#[derive(Clone, Copy, Debug, PartialEq, Eq)]
+pub enum EditCause {
+    /// No node or link has the name, or a weight's link is no out-link of the node.
+    UnknownName,
+    /// The node is no destination.
+    UnknownDestination,
+    /// The origin has no out-link.
+    NoOrigin,
+    /// The origin, or the node of a split row, is the destination.
+    SameEnds,
+    /// The slots are none, or go past the horizon.
+    BadSlots,
+    /// The origin and the destination have no split row; or the row would be the first of its node and destination and
+    /// begin late; or a weight leads to a node that is not the destination and has no split row for it.
+    OpenSplit,
+    /// All weights are 0.
+    ZeroWeight,
+    /// There would be more than 10,000 demand rows, or more than 50,000 split rows.
+    TooManyRows,
+    /// The diagram sets no limits at the step of the setup.
+    Diagram(DiagramFault),
+    /// Memory was not found.
+    NoMemory,
+}
+
+impl From<NoMemory> for EditCause {
+    ghost use Rattle.std.specs.Prelude.{◌≡◌};
+    ghost use Rattle.ltm_scenario.specs.declared.edit.EditCause.TheVariants as cause;
+
+    ghost from_gives = { λ _ e. e ≡ cause.NoMemory };
+
+    fn from(_e: NoMemory) -> EditCause {
+        EditCause::NoMemory
+    }
+}
+
+/// The first edit of a batch that is refused.
+#[derive(Clone, Copy, Debug, PartialEq, Eq)]
+pub struct EditFault {
+    /// Its place, counted from 1. Where memory was not found the place says nothing.
+    pub place: u32,
+    pub cause: EditCause,
+}

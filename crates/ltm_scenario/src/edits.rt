@@ -1,0 +1,435 @@
+//! Edits, one by one and in batches.
+ghost use Rattle.std.specs.Prelude.{◌≡◌, ◌≢◌, ℕ, ◌+◌, ◌<◌, ◌≤◌, ◌^◌, List, [], All, length, map, Ok, Err, OnOk, OnErr, IfOk, IfErr, sum, ◌==◌, false, true};
+ghost use Rattle.ltm_network.specs.Network.{out_links};
+ghost use Rattle.std.specs.List.{list_all};
+ghost use Rattle.ltm_scenario.specs.Weights.{NamedWeight};
+ghost use Rattle.ltm_scenario.specs.Reads.{has_no_out_link, destination_node};
+ghost use Rattle.ltm_scenario.specs.Build.{are_slots};
+ghost use Rattle.ltm_scenario.specs.Edits.{demand_row, demand_edited, limited_link, limit_edited, exit_edited, split_key, split_row, split_edited, diagram_edited, is_out_link, weight_of, weights_at, is_open, edited, edited_from, cause_of_demand, cause_of_split, amount_of, HaveAmounts};
+ghost use Rattle.ltm_scenario.specs.State.{KeepsRoom};
+ghost use Rattle.ltm_scenario.specs.Undo.{Undoes};
+ghost use Rattle.ltm_scenario.specs.IsScenario.{IsDemandOf, IsSplitOf};
+
+use crate::edit::{Edit, EditCause, EditFault};
+use crate::tables::Tables;
+use crate::undo::Undo;
+use crate::weights::Weights;
+use ltm_demand::{DemandFault, DemandRow};
+use ltm_diagram::Diagram;
+use ltm_splits::{SplitFault, SplitKey};
+use ltm_units::{Name, NoMemory, NodeId, Units};
+
+fn cause_of_demand(fault: DemandFault) -> EditCause
+    ensures { result ≡ cause_of_demand fault }
+{
+    match fault {
+        DemandFault::BadSlots => EditCause::BadSlots,
+        DemandFault::TooManyRows => EditCause::TooManyRows,
+        DemandFault::NoMemory => EditCause::NoMemory,
+    }
+}
+
+fn cause_of_split(fault: SplitFault) -> EditCause
+    ensures { result ≡ cause_of_split fault }
+{
+    match fault {
+        SplitFault::BadSlots => EditCause::BadSlots,
+        SplitFault::ZeroWeight => EditCause::ZeroWeight,
+        SplitFault::TooManyRows => EditCause::TooManyRows,
+        SplitFault::NoMemory => EditCause::NoMemory,
+    }
+}
+
+/// The weight of the link of that name, 0 where it is not named.
+fn weight_of(weights: &[(Name, u32)], name: &Name) -> u32
+    ensures { result ≡ weight_of weights.now name.now }
+{
+    let Some((weight, others)) = weights.split_first() else {
+        return 0;
+    };
+    if weight.0 == *name {
+        return weight.1;
+    }
+    weight_of(others, name)
+}
+
+impl Tables {
+    /// Makes the edits in order, or none of them. The first has the place.
+    #[tactic(auto, using(crate::proofs::Rooms::room_stays, crate::proofs::Rooms::room_through, crate::proofs::Rooms::still_undoes, crate::proofs::Rooms::undone_back))]
+    pub fn accept_from(&mut self, place: u32, edits: &[Edit]) -> Result<(), EditFault>
+        requires places { place + length edits.now < 2 ^ 32 }
+        requires amounts { HaveAmounts edits.now }
+        ensures ok { OnOk result (edited_from place self.old.scenario edits.now ≡ Ok self.new.scenario) }
+        ensures err { OnErr result (self.new.scenario ≡ self.old.scenario) }
+        ensures cause { IfErr result (λ fault. fault.cause ≢ EditCause.NoMemory
+            → edited_from place self.old.scenario edits.now ≡ Err fault) }
+        ensures room { KeepsRoom self.old self.new }
+    {
+        let Some((edit, rest)) = edits.split_first() else {
+            return Ok(());
+        };
+        match self.apply(edit) {
+            Err(cause) => return Err(EditFault { place, cause }),
+            Ok(undo) => match self.accept_from(place + 1, rest) {
+                Ok(()) => return Ok(()),
+                Err(fault) => {
+                    self.undo(undo);
+                    return Err(fault);
+                }
+            },
+        }
+    }
+
+    /// Makes one edit, and gives what undoes it.
+    fn apply(&mut self, edit: &Edit) -> Result<Undo, EditCause>
+        requires { amount_of edit.now ≤ 1000000000 }
+        ensures ok { OnOk result (edited self.old.scenario edit.now ≡ Ok self.new.scenario) }
+        ensures undo { IfOk result (Undoes self.old self.new) }
+        ensures err { OnErr result (self.new.scenario ≡ self.old.scenario) }
+        ensures cause { IfErr result (λ e. e ≢ EditCause.NoMemory → edited self.old.scenario edit.now ≡ Err e) }
+        ensures room { KeepsRoom self.old self.new }
+    {
+        match *edit {
+            Edit::Demand {
+                origin,
+                destination,
+                from,
+                to,
+                amount,
+            } => return self.edit_demand(&origin, &destination, from, to, amount),
+            Edit::Limit {
+                link,
+                from,
+                to,
+                amount,
+            } => return self.edit_entry(&link, from, to, amount),
+            Edit::Split {
+                node,
+                destination,
+                from,
+                weights,
+            } => return self.edit_split(&node, &destination, from, &weights),
+            Edit::Diagram { link, diagram } => return self.edit_diagram(&link, diagram),
+            Edit::Exit {
+                link,
+                from,
+                to,
+                amount,
+            } => return self.edit_exit(&link, from, to, amount),
+        }
+    }
+
+    fn edit_demand(
+        &mut self,
+        origin: &Name,
+        destination: &Name,
+        from: u32,
+        to: u32,
+        amount: Units,
+    ) -> Result<Undo, EditCause>
+        requires { amount.0 ≤ 1000000000 }
+        ensures ok { OnOk result
+            (demand_edited self.old.scenario origin.now destination.now from to amount.0 ≡ Ok self.new.scenario) }
+        ensures undo { IfOk result (Undoes self.old self.new) }
+        ensures err { OnErr result (self.new.scenario ≡ self.old.scenario) }
+        ensures cause { IfErr result (λ e. e ≢ EditCause.NoMemory
+            → demand_edited self.old.scenario origin.now destination.now from to amount.0 ≡ Err e) }
+        ensures room { KeepsRoom self.old self.new }
+    {
+        let row = match self.demand_row(origin, destination, from, to, amount) {
+            Ok(row) => row,
+            Err(cause) => return Err(cause),
+        };
+        match self.change_demand(row) {
+            Ok(undo) => return Ok(undo),
+            Err(fault) => return Err(cause_of_demand(fault)),
+        }
+    }
+
+    /// The row that an edit sets.
+    #[tactic(auto, unfolding(crate::specs::Edits::demand_row))]
+    fn demand_row(
+        &self,
+        origin: &Name,
+        destination: &Name,
+        from: u32,
+        to: u32,
+        amount: Units,
+    ) -> Result<DemandRow, EditCause>
+        ensures row { result ≡ demand_row self.now.scenario origin.now destination.now from to amount.0 }
+        ensures is_row { IfOk result (IsDemandOf self.now.scenario) }
+        ensures amount { IfOk result (λ row. row.amount ≡ amount) }
+    {
+        let Some(origin) = self.network().find_node(origin) else {
+            return Err(EditCause::UnknownName);
+        };
+        let Some(end) = self.network().find_node(destination) else {
+            return Err(EditCause::UnknownName);
+        };
+        let Some(destination) = self.own(end) else {
+            return Err(EditCause::UnknownDestination);
+        };
+        if self.has_no_out_link(origin) {
+            return Err(EditCause::NoOrigin);
+        }
+        if origin.0 == end.0 {
+            return Err(EditCause::SameEnds);
+        }
+        if !self.are_slots(from, to) {
+            return Err(EditCause::BadSlots);
+        }
+        if !self.has_split(origin, destination) {
+            return Err(EditCause::OpenSplit);
+        }
+        Ok(DemandRow {
+            origin,
+            destination,
+            from,
+            to,
+            amount,
+        })
+    }
+
+    fn has_no_out_link(&self, node: NodeId) -> bool
+        requires { node.0 < length self.now.scenario.network.nodes }
+        ensures { result ≡ has_no_out_link self.now.scenario node.0 }
+    {
+        self.network().out_links(node).is_empty()
+    }
+
+    fn are_slots(&self, from: u32, to: u32) -> bool
+        ensures { result ≡ are_slots self.now.scenario from to }
+    {
+        from < to && to <= self.setup().slots
+    }
+
+    /// The link whose limits an edit sets.
+    #[tactic(auto, unfolding(crate::specs::Edits::limited_link))]
+    fn limited_link(&self, name: &Name, from: u32, to: u32) -> Result<u32, EditCause>
+        ensures link { result ≡ limited_link self.now.scenario name.now from to }
+        ensures there { IfOk result (λ link. link < length self.now.scenario.network.links) }
+        ensures slots { OnOk result (are_slots self.now.scenario from to ≡ true) }
+    {
+        let Some(link) = self.network().find_link(name) else {
+            return Err(EditCause::UnknownName);
+        };
+        if !self.are_slots(from, to) {
+            return Err(EditCause::BadSlots);
+        }
+        Ok(link.0)
+    }
+
+    fn edit_entry(
+        &mut self,
+        name: &Name,
+        from: u32,
+        to: u32,
+        amount: Units,
+    ) -> Result<Undo, EditCause>
+        ensures ok { OnOk result (limit_edited self.old.scenario name.now from to amount.0 ≡ Ok self.new.scenario) }
+        ensures undo { IfOk result (Undoes self.old self.new) }
+        ensures err { OnErr result (self.new.scenario ≡ self.old.scenario) }
+        ensures cause { IfErr result (λ e. e ≢ EditCause.NoMemory
+            → limit_edited self.old.scenario name.now from to amount.0 ≡ Err e) }
+        ensures room { KeepsRoom self.old self.new }
+    {
+        let link = match self.limited_link(name, from, to) {
+            Ok(link) => link,
+            Err(cause) => return Err(cause),
+        };
+        match self.change_entry(link, from, to, amount) {
+            Ok(undo) => return Ok(undo),
+            Err(_) => return Err(EditCause::NoMemory),
+        }
+    }
+
+    fn edit_exit(
+        &mut self,
+        name: &Name,
+        from: u32,
+        to: u32,
+        amount: Units,
+    ) -> Result<Undo, EditCause>
+        ensures ok { OnOk result (exit_edited self.old.scenario name.now from to amount.0 ≡ Ok self.new.scenario) }
+        ensures undo { IfOk result (Undoes self.old self.new) }
+        ensures err { OnErr result (self.new.scenario ≡ self.old.scenario) }
+        ensures cause { IfErr result (λ e. e ≢ EditCause.NoMemory
+            → exit_edited self.old.scenario name.now from to amount.0 ≡ Err e) }
+        ensures room { KeepsRoom self.old self.new }
+    {
+        let link = match self.limited_link(name, from, to) {
+            Ok(link) => link,
+            Err(cause) => return Err(cause),
+        };
+        match self.change_exit(link, from, to, amount) {
+            Ok(undo) => return Ok(undo),
+            Err(_) => return Err(EditCause::NoMemory),
+        }
+    }
+
+    #[tactic(auto, unfolding(crate::specs::Edits::diagram_edited))]
+    fn edit_diagram(&mut self, name: &Name, diagram: Diagram) -> Result<Undo, EditCause>
+        ensures ok { OnOk result (diagram_edited self.old.scenario name.now diagram ≡ Ok self.new.scenario) }
+        ensures undo { IfOk result (Undoes self.old self.new) }
+        ensures err { OnErr result (self.new.scenario ≡ self.old.scenario) }
+        ensures cause { IfErr result (λ e. e ≢ EditCause.NoMemory
+            → diagram_edited self.old.scenario name.now diagram ≡ Err e) }
+        ensures room { KeepsRoom self.old self.new }
+    {
+        let Some(link) = self.network().find_link(name) else {
+            return Err(EditCause::UnknownName);
+        };
+        match diagram.limits(self.setup().step) {
+            Ok(limits) => return Ok(self.change_diagram(link.0, diagram, limits)),
+            Err(fault) => return Err(EditCause::Diagram(fault)),
+        }
+    }
+
+    fn edit_split(
+        &mut self,
+        node: &Name,
+        destination: &Name,
+        from: u32,
+        weights: &Weights,
+    ) -> Result<Undo, EditCause>
+        ensures ok { OnOk result
+            (split_edited self.old.scenario node.now destination.now from weights.now ≡ Ok self.new.scenario) }
+        ensures undo { IfOk result (Undoes self.old self.new) }
+        ensures err { OnErr result (self.new.scenario ≡ self.old.scenario) }
+        ensures cause { IfErr result (λ e. e ≢ EditCause.NoMemory
+            → split_edited self.old.scenario node.now destination.now from weights.now ≡ Err e) }
+        ensures room { KeepsRoom self.old self.new }
+    {
+        let key = match self.split_key(node, destination, from, weights.pairs()) {
+            Ok(key) => key,
+            Err(cause) => return Err(cause),
+        };
+        let weights = match self.weights_at(key.node, weights.pairs()) {
+            Ok(weights) => weights,
+            Err(_) => return Err(EditCause::NoMemory),
+        };
+        match self.check_split_edit(key, &weights) {
+            Ok(()) => {}
+            Err(cause) => return Err(cause),
+        }
+        match self.change_split(key, &weights) {
+            Ok(undo) => return Ok(undo),
+            Err(fault) => return Err(cause_of_split(fault)),
+        }
+    }
+
+    /// The key of the row that an edit sets.
+    #[tactic(auto, unfolding(crate::specs::Edits::split_key))]
+    fn split_key(
+        &self,
+        node: &Name,
+        destination: &Name,
+        from: u32,
+        weights: &[(Name, u32)],
+    ) -> Result<SplitKey, EditCause>
+        ensures key { result ≡ split_key self.now.scenario node.now destination.now from weights.now }
+        ensures node { IfOk result (λ key. key.node.0 < length self.now.scenario.network.nodes) }
+        ensures destination { IfOk result (λ key. key.destination < length self.now.scenario.destinations) }
+        ensures ends { IfOk result (λ key. (key.node.0 == destination_node self.now.scenario key.destination) ≡ false) }
+    {
+        let Some(node) = self.network().find_node(node) else {
+            return Err(EditCause::UnknownName);
+        };
+        let Some(end) = self.network().find_node(destination) else {
+            return Err(EditCause::UnknownName);
+        };
+        let Some(destination) = self.own(end) else {
+            return Err(EditCause::UnknownDestination);
+        };
+        if node.0 == end.0 {
+            return Err(EditCause::SameEnds);
+        }
+        if from >= self.setup().slots {
+            return Err(EditCause::BadSlots);
+        }
+        if !self.are_out_links(node, weights) {
+            return Err(EditCause::UnknownName);
+        }
+        Ok(SplitKey {
+            node,
+            destination,
+            from,
+        })
+    }
+
+    /// Whether all weights are those of out-links of the node.
+    fn are_out_links(&self, node: NodeId, weights: &[(Name, u32)]) -> bool
+        ensures { result ≡ list_all (λ w. is_out_link self.now.scenario node.0 w.0) weights.now }
+    {
+        weights
+            .iter()
+            .all(|weight| self.is_out_link(node, &weight.0))
+    }
+
+    fn is_out_link(&self, node: NodeId, name: &Name) -> bool
+        ensures { result ≡ is_out_link self.now.scenario node.0 name.now }
+    {
+        let network = self.network();
+        match network.find_link(name) {
+            Some(link) => network.tail(link).0 == node.0,
+            None => false,
+        }
+    }
+
+    /// A weight for each out-link of the node.
+    fn weights_at(&self, node: NodeId, weights: &[(Name, u32)]) -> Result<Vec<u32>, NoMemory>
+        requires { node.0 < length self.now.scenario.network.nodes }
+        ensures weights { IfOk result (λ row. row.items ≡ weights_at self.now.scenario node.0 weights.now) }
+        ensures each { IfOk result (λ row. length row.items ≡ length (out_links self.now.scenario.network node.0)) }
+    {
+        let network = self.network();
+        let links = network.out_links(node);
+        let mut row = Vec::new(self.allocator());
+        'each: for link in links {
+            let name = network.link_name(*link);
+            row.push(weight_of(weights, &name))?;
+        }
+        Ok(row)
+    }
+
+    /// Whether the weights are not all 0 and lead on.
+    #[tactic(auto, unfolding(crate::specs::Edits::split_row))]
+    fn check_split_edit(&self, key: SplitKey, weights: &[u32]) -> Result<(), EditCause>
+        requires node { key.node.0 < length self.now.scenario.network.nodes }
+        requires destination { key.destination < length self.now.scenario.destinations }
+        ensures ok { OnOk result (split_row self.now.scenario key weights.now ≡ Ok (key, weights.now)) }
+        ensures cause { IfErr result (λ e. split_row self.now.scenario key weights.now ≡ Err e) }
+    {
+        if has_no_weight(weights) {
+            return Err(EditCause::ZeroWeight);
+        }
+        if self.is_open(key, weights) {
+            return Err(EditCause::OpenSplit);
+        }
+        Ok(())
+    }
+
+    /// Whether the row would leave some split open.
+    fn is_open(&self, key: SplitKey, weights: &[u32]) -> bool
+        requires node { key.node.0 < length self.now.scenario.network.nodes }
+        requires destination { key.destination < length self.now.scenario.destinations }
+        ensures { result ≡ is_open self.now.scenario key.node.0 key.destination key.from weights.now }
+    {
+        (key.from != 0 && !self.has_split(key.node, key.destination))
+            || !self.all_lead_on(key.destination, self.network().out_links(key.node), weights)
+    }
+}
+
+/// Whether the weights are all 0.
+#[tactic(auto, using(crate::proofs::Sums::sum_is_zero))]
+fn has_no_weight(weights: &[u32]) -> bool
+    ensures { result ≡ (sum weights.now == 0) }
+{
+    are_zero(weights)
+}
+
+fn are_zero(weights: &[u32]) -> bool
+    ensures { result ≡ list_all (λ weight. weight == 0) weights.now }
+{
+    weights.iter().all(|weight| *weight == 0)
+}

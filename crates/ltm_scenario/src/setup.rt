@@ -1,0 +1,42 @@
+//! The setup of a case.
+ghost use Rattle.std.specs.Prelude.{◌≡◌, ◌&&◌};
+
+use ltm_units::{Millis, Units};
+
+/// How long a slot is, how many there are, and what leaves an origin in one.
+#[derive(Clone, Copy, Debug, PartialEq, Eq)]
+pub struct Setup {
+    /// The length of a slot, 1 to 60,000 ms.
+    pub step: Millis,
+    /// The slots of the horizon, 1 to 10,000.
+    pub slots: u32,
+    /// The most that leaves an origin in a slot, 1 to 32,000 thousandths of a vehicle.
+    pub origin_capacity: Units,
+}
+
+/// Why a setup is none.
+#[derive(Clone, Copy, Debug, PartialEq, Eq)]
+pub enum SetupFault {
+    /// The first field that is out of its limits, counted from 1.
+    Range(u32),
+}
+
+impl Setup {
+    ghost use Rattle.ltm_scenario.specs.Setup.{setup_checked};
+
+    /// Whether each field is within its limits.
+    pub(crate) fn check(&self) -> Result<(), SetupFault>
+        ensures { result ≡ setup_checked self.now }
+    {
+        if !(1..=60_000).contains(&self.step.0) {
+            return Err(SetupFault::Range(1));
+        }
+        if !(1..=10_000).contains(&self.slots) {
+            return Err(SetupFault::Range(2));
+        }
+        if !(1..=32_000).contains(&self.origin_capacity.0) {
+            return Err(SetupFault::Range(3));
+        }
+        Ok(())
+    }
+}

@@ -1,0 +1,203 @@
+//! Changes of one table, and their undoing, which needs no memory.
+ghost use Rattle.std.specs.Prelude.{◌≡◌, ◌≢◌, ℕ, ◌<◌, ◌≤◌, length, true, Ok, Err, OnOk, OnErr, IfOk, IfErr};
+ghost use Rattle.ltm_diagram.specs.Limits.{limits_of};
+ghost use Rattle.ltm_scenario.specs.Build.{with_demand, with_split, with_entry_limit, with_exit_limit, are_slots};
+ghost use Rattle.ltm_scenario.specs.Edits.{with_diagram};
+ghost use Rattle.ltm_scenario.specs.State.{KeepsRoom};
+ghost use Rattle.ltm_scenario.specs.SplitNote.{IsSplitNote};
+ghost use Rattle.ltm_scenario.specs.Undo.{undone, CanUndo, Undoes};
+ghost use Rattle.ltm_scenario.specs.IsScenario.{IsDemandOf, IsSplitOf};
+
+use crate::tables::Tables;
+use crate::undo::Undo;
+use ltm_demand::{DemandFault, DemandRow};
+use ltm_diagram::{Diagram, Limits};
+use ltm_splits::{SplitFault, SplitKey};
+use ltm_units::{NoMemory, Units};
+
+impl Tables {
+    #[tactic(auto, using(crate::proofs::Undoing::demand_undoes, crate::proofs::Parts::with_demand_row, crate::proofs::Parts::with_same_demand))]
+    pub fn change_demand(&mut self, row: DemandRow) -> Result<Undo, DemandFault>
+        requires amount { row.amount.0 ≤ 1000000000 }
+        requires row { IsDemandOf self.old.scenario row }
+        ensures ok { OnOk result (with_demand self.old.scenario row ≡ Ok self.new.scenario) }
+        ensures undo { IfOk result (Undoes self.old self.new) }
+        ensures err { OnErr result (self.new.scenario ≡ self.old.scenario) }
+        ensures cause { IfErr result (λ e. e ≢ DemandFault.NoMemory → with_demand self.old.scenario row ≡ Err e) }
+        ensures room { KeepsRoom self.old self.new }
+    {
+        match self.demand.change(row) {
+            Ok(was) => return Ok(Undo::Demand(DemandRow { amount: was, ..row })),
+            Err(fault) => return Err(fault),
+        }
+    }
+
+    #[tactic(auto, using(crate::proofs::Undoing::entry_undoes))]
+    pub fn change_entry(
+        &mut self,
+        link: u32,
+        from: u32,
+        to: u32,
+        amount: Units,
+    ) -> Result<Undo, NoMemory>
+        requires link { link < length self.old.scenario.network.links }
+        requires slots { are_slots self.old.scenario from to ≡ true }
+        ensures ok { OnOk result (self.new.scenario ≡ with_entry_limit self.old.scenario link from to amount.0) }
+        ensures undo { IfOk result (Undoes self.old self.new) }
+        ensures err { OnErr result (self.new.scenario ≡ self.old.scenario) }
+        ensures room { KeepsRoom self.old self.new }
+    {
+        match self.entry.set(link, from, to, amount.0.min(32_000) as u16) {
+            Ok(was) => return Ok(Undo::Entry { link, from, was }),
+            Err(fault) => return Err(fault),
+        }
+    }
+
+    #[tactic(auto, using(crate::proofs::Undoing::exit_undoes))]
+    pub fn change_exit(
+        &mut self,
+        link: u32,
+        from: u32,
+        to: u32,
+        amount: Units,
+    ) -> Result<Undo, NoMemory>
+        requires link { link < length self.old.scenario.network.links }
+        requires slots { are_slots self.old.scenario from to ≡ true }
+        ensures ok { OnOk result (self.new.scenario ≡ with_exit_limit self.old.scenario link from to amount.0) }
+        ensures undo { IfOk result (Undoes self.old self.new) }
+        ensures err { OnErr result (self.new.scenario ≡ self.old.scenario) }
+        ensures room { KeepsRoom self.old self.new }
+    {
+        match self.exit.set(link, from, to, amount.0.min(32_000) as u16) {
+            Ok(was) => return Ok(Undo::Exit { link, from, was }),
+            Err(fault) => return Err(fault),
+        }
+    }
+
+    /// The split row that stands at a key, to be put back, or that none does.
+    fn note_split(&self, key: SplitKey) -> Result<Undo, NoMemory>
+        ensures { IfOk result (IsSplitNote self.now.scenario.splits key) }
+    {
+        match self.splits.row(key.node, key.destination, key.from) {
+            Some(was) => return Ok(Undo::OldSplit(key, Vec::from_slice(self.alloc, was)?)),
+            None => return Ok(Undo::NewSplit(key)),
+        }
+    }
+
+    #[tactic(auto, using(crate::proofs::Undoing::split_undoes, crate::proofs::Parts::with_split_row, crate::proofs::Parts::with_same_splits))]
+    pub fn change_split(&mut self, key: SplitKey, weights: &[u32]) -> Result<Undo, SplitFault>
+        requires { IsSplitOf self.old.scenario (key, weights.now) }
+        ensures ok { OnOk result (with_split self.old.scenario key weights.now ≡ Ok self.new.scenario) }
+        ensures undo { IfOk result (Undoes self.old self.new) }
+        ensures err { OnErr result (self.new.scenario ≡ self.old.scenario) }
+        ensures cause { IfErr result (λ e. e ≢ SplitFault.NoMemory → with_split self.old.scenario key weights.now ≡ Err e) }
+        ensures room { KeepsRoom self.old self.new }
+    {
+        let undo = match self.note_split(key) {
+            Ok(undo) => undo,
+            Err(_) => return Err(SplitFault::NoMemory),
+        };
+        match self
+            .splits
+            .set(key.node, key.destination, key.from, weights)
+        {
+            Ok(()) => return Ok(undo),
+            Err(fault) => return Err(fault),
+        }
+    }
+
+    #[tactic(auto, using(crate::proofs::Undoing::diagram_undoes, crate::proofs::Undoing::diagrams_changed))]
+    pub fn change_diagram(&mut self, link: u32, diagram: Diagram, limits: Limits) -> Undo
+        requires link { link < length self.old.scenario.network.links }
+        requires limits { limits_of diagram self.old.scenario.setup.step.0 ≡ Ok limits }
+        ensures done { self.new.scenario ≡ with_diagram self.old.scenario link diagram }
+        ensures undo { Undoes self.old self.new result }
+        ensures room { KeepsRoom self.old self.new }
+    {
+        let old_diagram = *self.diagrams.diagram(link);
+        let old_limits = self.diagrams.limits(link);
+        self.diagrams.replace(link, diagram, limits);
+        Undo::Diagram {
+            link,
+            diagram: old_diagram,
+            limits: old_limits,
+        }
+    }
+
+    /// Puts back what an edit took away.
+    pub fn undo(&mut self, undo: Undo)
+        requires { CanUndo self.old undo }
+        ensures scenario { self.new.scenario ≡ undone self.old.scenario undo }
+        ensures room { KeepsRoom self.old self.new }
+    {
+        match undo {
+            Undo::Demand(row) => self.restore_demand(row),
+            Undo::Entry { link, from, was } => self.restore_entry(link, from, was),
+            Undo::Exit { link, from, was } => self.restore_exit(link, from, was),
+            Undo::NewSplit(key) => self.take_out_split(key),
+            Undo::OldSplit(key, was) => self.restore_split(key, was),
+            Undo::Diagram {
+                link,
+                diagram,
+                limits,
+            } => self.restore_diagram(link, diagram, limits),
+        }
+    }
+
+    #[tactic(auto, using(crate::proofs::Undoing::demand_restored))]
+    fn restore_demand(&mut self, row: DemandRow)
+        requires { CanUndo self.old (Undo.Demand row) }
+        ensures scenario { self.new.scenario ≡ undone self.old.scenario (Undo.Demand row) }
+        ensures room { KeepsRoom self.old self.new }
+    {
+        self.demand.restore(row);
+    }
+
+    #[tactic(auto, using(crate::proofs::Undoing::entry_restored))]
+    fn restore_entry(&mut self, link: u32, from: u32, was: Vec<u16>)
+        requires { CanUndo self.old (Undo.Entry link from was) }
+        ensures scenario { self.new.scenario ≡ undone self.old.scenario (Undo.Entry link from was) }
+        ensures room { KeepsRoom self.old self.new }
+    {
+        let mut values = was;
+        self.entry.exchange(link, from, &mut values);
+    }
+
+    #[tactic(auto, using(crate::proofs::Undoing::exit_restored))]
+    fn restore_exit(&mut self, link: u32, from: u32, was: Vec<u16>)
+        requires { CanUndo self.old (Undo.Exit link from was) }
+        ensures scenario { self.new.scenario ≡ undone self.old.scenario (Undo.Exit link from was) }
+        ensures room { KeepsRoom self.old self.new }
+    {
+        let mut values = was;
+        self.exit.exchange(link, from, &mut values);
+    }
+
+    #[tactic(auto, using(crate::proofs::Undoing::splits_restored))]
+    fn take_out_split(&mut self, key: SplitKey)
+        requires { CanUndo self.old (Undo.NewSplit key) }
+        ensures scenario { self.new.scenario ≡ undone self.old.scenario (Undo.NewSplit key) }
+        ensures room { KeepsRoom self.old self.new }
+    {
+        self.splits.take_out(key.node, key.destination, key.from);
+    }
+
+    #[tactic(auto, using(crate::proofs::Undoing::splits_restored))]
+    fn restore_split(&mut self, key: SplitKey, was: Vec<u32>)
+        requires { CanUndo self.old (Undo.OldSplit key was) }
+        ensures scenario { self.new.scenario ≡ undone self.old.scenario (Undo.OldSplit key was) }
+        ensures room { KeepsRoom self.old self.new }
+    {
+        self.splits
+            .put_back(key.node, key.destination, key.from, &was);
+    }
+
+    #[tactic(auto, using(crate::proofs::Undoing::diagrams_restored))]
+    fn restore_diagram(&mut self, link: u32, diagram: Diagram, limits: Limits)
+        requires { CanUndo self.old (Undo.Diagram link diagram limits) }
+        ensures scenario { self.new.scenario ≡ undone self.old.scenario (Undo.Diagram link diagram limits) }
+        ensures room { KeepsRoom self.old self.new }
+    {
+        self.diagrams.replace(link, diagram, limits);
+    }
+}
