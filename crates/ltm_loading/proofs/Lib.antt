@@ -11,3 +11,4 @@ pub mod Same
 pub mod One
 pub mod Conserve
 pub mod Setters
+pub mod SameRows

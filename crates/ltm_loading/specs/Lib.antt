@@ -6,3 +6,4 @@ pub mod Loading
 pub mod LoadingLaws
 pub mod Ranges
 pub mod NextPair
+pub mod ByPlace

@@ -10,6 +10,7 @@ ghost use Rattle.ltm_loading.specs.LoadingLaws.{
 };
 ghost use Rattle.ltm_loading.specs.Ranges.{InRange, CountsSmall};
 ghost use Rattle.ltm_loading.specs.NextPair.{NextPair, NextSlot};
+ghost use Rattle.ltm_loading.specs.ByPlace.{InputsByPlace, CountsByPlace};
 
 /// No count falls from one boundary to the next.
 pub fn never_fall()
@@ -64,4 +65,14 @@ pub fn next_pair()
 /// Once all nodes of a slot are done, the front is one slot longer.
 pub fn next_slot()
     ensures { NextSlot }
+{}
+
+/// The inputs of a pair are known by their numbers: by what they hold at each place of the node's shape.
+pub fn inputs_by_place()
+    ensures { InputsByPlace }
+{}
+
+/// The counts of a node at a boundary are known by their numbers.
+pub fn counts_by_place()
+    ensures { CountsByPlace }
 {}
