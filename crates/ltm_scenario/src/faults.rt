@@ -47,7 +47,7 @@ impl From<NoMemory> for DestinationFault {
 }
 
 /// The first broken rule of a case.
-#[derive(Clone, Copy)]
+#[derive(Clone, Copy, PartialEq, Eq)]
 pub enum ScenarioFault {
     /// The node and the destination lack the split row that a rule asks for: any at all, or one from slot 0 on.
     NoSplit { node: Name, destination: Name },
