@@ -36,6 +36,21 @@ fn refuses_in_order(rt: HostRuntime) -> Result<(), Fail> {
 }
 
 #[test]
+fn has_at_most_fifty_thousand_rows(rt: HostRuntime) -> Result<(), Fail> {
+    let mut splits = Splits::new(rt.alloc(), 10_000);
+    for node in 0..5u32 {
+        for from in 0..10_000u32 {
+            splits.set(NodeId(node), 0, from, &[1])?;
+        }
+    }
+    assert_eq!(rt; splits.row_count(), 50_000);
+    assert!(rt; splits.set(NodeId(5), 0, 0, &[1]) == Err(SplitFault::TooManyRows));
+    assert!(rt; splits.set(NodeId(4), 0, 7, &[2]) == Ok(()));
+    assert_eq!(rt; splits.row_count(), 50_000);
+    Ok(())
+}
+
+#[test]
 fn finds_the_row_in_force(rt: HostRuntime) -> Result<(), Fail> {
     let mut splits = Splits::new(rt.alloc(), 10);
     let rows: [(u32, u32, u32, &[u32]); 5] = [
