@@ -12,3 +12,4 @@ pub mod One
 pub mod Conserve
 pub mod Setters
 pub mod SameRows
+pub mod Reading

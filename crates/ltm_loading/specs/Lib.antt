@@ -7,3 +7,5 @@ pub mod LoadingLaws
 pub mod Ranges
 pub mod NextPair
 pub mod ByPlace
+pub mod Ready
+pub mod Totals

@@ -11,6 +11,7 @@ ghost use Rattle.ltm_loading.specs.LoadingLaws.{
 ghost use Rattle.ltm_loading.specs.Ranges.{InRange, CountsSmall};
 ghost use Rattle.ltm_loading.specs.NextPair.{NextPair, NextSlot};
 ghost use Rattle.ltm_loading.specs.ByPlace.{InputsByPlace, CountsByPlace};
+ghost use Rattle.ltm_loading.specs.Ready.{LinksAreReady, OriginsAreReady};
 
 /// No count falls from one boundary to the next.
 pub fn never_fall()
@@ -75,4 +76,15 @@ pub fn inputs_by_place()
 /// The counts of a node at a boundary are known by their numbers.
 pub fn counts_by_place()
     ensures { CountsByPlace }
+{}
+
+/// At the front no destination has left a link with more than its share of the units that may leave, and what is on a
+/// link has had room for a wave's time.
+pub fn links_are_ready()
+    ensures { LinksAreReady }
+{}
+
+/// At the front no destination has left an origin with more than its share of the units that may leave.
+pub fn origins_are_ready()
+    ensures { OriginsAreReady }
 {}

@@ -10,5 +10,6 @@ mod laws;
 
 pub use laws::{
     conserved, counts_by_place, counts_small, first_in_first_out, in_range, inputs_by_place,
-    never_fall, next_pair, next_slot, one_loading, within_exit, within_produced, within_storage,
+    links_are_ready, never_fall, next_pair, next_slot, one_loading, origins_are_ready, within_exit,
+    within_produced, within_storage,
 };
