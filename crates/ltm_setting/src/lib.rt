@@ -1,0 +1,13 @@
+//! What a loading reads of a scenario, number by number.
+//!
+//! A loading is defined over a `Setting`, a record of numbers, and knows no tables and no names. The word `setting_of`
+//! makes one of a scenario's data, and the calls here read each of its numbers from the tables of a `Scenario`. Each costs
+//! an access or two and takes no memory.
+#![tactic(auto)]
+
+mod readers;
+
+pub use readers::{
+    destination_count, entry_limit, exit_limit, in_links, limits, link_count, node_count,
+    origin_capacity, out_links, own, produced, slot_count, step, weights,
+};

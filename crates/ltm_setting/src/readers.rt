@@ -1,0 +1,180 @@
+//! The numbers of a setting, read from a scenario.
+ghost use Rattle.std.specs.Prelude.{◌≡◌, ◌≤◌, ◌<◌, ℕ, length, slice_index, IfSome, Some, None, All, map};
+ghost use Rattle.ltm_loading.specs.Setting.{Setting};
+ghost use Rattle.ltm_setting.specs.Setting.{setting_of};
+
+use ltm_demand::production_never_falls;
+use ltm_diagram::{Limits, limits_in_range};
+use ltm_scenario::Scenario;
+use ltm_units::{LinkId, Millis, NodeId, Units};
+
+/// The length of a slot, 1 to 60,000 ms.
+#[inline]
+#[tactic(auto, unfolding(crate::specs::Setting::setting_of))]
+pub fn step(scenario: &Scenario) -> Millis
+    ensures value { result.0 ≡ (setting_of scenario.now).step }
+    ensures some { 1 ≤ result.0 }
+    ensures small { result.0 ≤ 60000 }
+{
+    scenario.setup().step
+}
+
+/// How many slots there are, 1 to 10,000.
+#[inline]
+#[tactic(auto, unfolding(crate::specs::Setting::setting_of))]
+pub fn slot_count(scenario: &Scenario) -> u32
+    ensures value { result ≡ (setting_of scenario.now).slots }
+    ensures some { 1 ≤ result }
+    ensures few { result ≤ 10000 }
+{
+    scenario.setup().slots
+}
+
+/// What leaves an origin in a slot, 1 to 32,000 units.
+#[inline]
+#[tactic(auto, unfolding(crate::specs::Setting::setting_of))]
+pub fn origin_capacity(scenario: &Scenario) -> u64
+    ensures value { result ≡ (setting_of scenario.now).origin_capacity }
+    ensures some { 1 ≤ result }
+    ensures small { result ≤ 32000 }
+{
+    scenario.setup().origin_capacity.0
+}
+
+/// How many nodes there are.
+#[inline]
+#[tactic(auto, unfolding(crate::specs::Setting::setting_of))]
+pub fn node_count(scenario: &Scenario) -> u32
+    ensures value { result ≡ (setting_of scenario.now).nodes }
+    ensures few { result ≤ 8000 }
+{
+    scenario.network().nodes()
+}
+
+/// How many links there are.
+#[inline]
+#[tactic(auto, unfolding(crate::specs::Setting::setting_of))]
+pub fn link_count(scenario: &Scenario) -> u32
+    ensures value { result ≡ (setting_of scenario.now).links }
+    ensures few { result ≤ 4000 }
+{
+    scenario.network().links()
+}
+
+/// How many destinations there are.
+#[inline]
+#[tactic(auto, unfolding(crate::specs::Setting::setting_of))]
+pub fn destination_count(scenario: &Scenario) -> u32
+    ensures value { result ≡ (setting_of scenario.now).destinations }
+    ensures few { result ≤ 64 }
+{
+    let _setup = scenario.setup();
+    scenario.destinations().len() as u32
+}
+
+/// The links that enter a node, in order of number.
+#[inline]
+#[tactic(auto, unfolding(crate::specs::Setting::setting_of))]
+pub fn in_links(scenario: &Scenario, node: NodeId) -> &[LinkId]
+    requires { node.0 < (setting_of scenario.now).nodes }
+    ensures count { length result.now ≡ (setting_of scenario.now).ins node.0 }
+    ensures few { length result.now ≤ 4 }
+    ensures links { (i : ℕ) → i < length result.now
+        → slice_index (map (λ link. link.0) result.now) i ≡ (setting_of scenario.now).in_link node.0 i }
+    ensures there { All (λ link. link.0 < (setting_of scenario.now).links) result.now }
+{
+    scenario.network().in_links(node)
+}
+
+/// The links that leave a node, in order of number.
+#[inline]
+#[tactic(auto, unfolding(crate::specs::Setting::setting_of))]
+pub fn out_links(scenario: &Scenario, node: NodeId) -> &[LinkId]
+    requires { node.0 < (setting_of scenario.now).nodes }
+    ensures count { length result.now ≡ (setting_of scenario.now).outs node.0 }
+    ensures few { length result.now ≤ 4 }
+    ensures links { (j : ℕ) → j < length result.now
+        → slice_index (map (λ link. link.0) result.now) j ≡ (setting_of scenario.now).out_link node.0 j }
+    ensures there { All (λ link. link.0 < (setting_of scenario.now).links) result.now }
+{
+    scenario.network().out_links(node)
+}
+
+/// Free-flow time and wave time, capacity and storage of a link.
+#[inline]
+#[tactic(auto, unfolding(crate::specs::Setting::setting_of))]
+pub fn limits(scenario: &Scenario, link: LinkId) -> Limits
+    requires { link.0 < (setting_of scenario.now).links }
+    ensures free_time { result.free_ms ≡ (setting_of scenario.now).free_time link.0 }
+    ensures wave_time { result.wave_ms ≡ (setting_of scenario.now).wave_time link.0 }
+    ensures capacity { result.capacity ≡ (setting_of scenario.now).capacity link.0 }
+    ensures storage { result.storage ≡ (setting_of scenario.now).storage link.0 }
+    ensures small_free_time { result.free_ms ≤ 3600000000 }
+    ensures small_wave_time { result.wave_ms ≤ 3600000000 }
+    ensures small_storage { result.storage ≤ 10000000000 }
+{
+    limits_in_range();
+    let _diagram = scenario.diagram(link);
+    scenario.limits(link)
+}
+
+/// The most that enters a link in a slot, in units.
+#[inline]
+#[tactic(auto, unfolding(crate::specs::Setting::setting_of))]
+pub fn entry_limit(scenario: &Scenario, link: LinkId, slot: u32) -> u64
+    requires link { link.0 < (setting_of scenario.now).links }
+    requires slot { slot < (setting_of scenario.now).slots }
+    ensures { result ≡ (setting_of scenario.now).entry_limit link.0 slot }
+{
+    scenario.entry_limit(link, slot).0
+}
+
+/// The most that leaves a link in a slot, in units.
+#[inline]
+#[tactic(auto, unfolding(crate::specs::Setting::setting_of))]
+pub fn exit_limit(scenario: &Scenario, link: LinkId, slot: u32) -> u64
+    requires link { link.0 < (setting_of scenario.now).links }
+    requires slot { slot < (setting_of scenario.now).slots }
+    ensures { result ≡ (setting_of scenario.now).exit_limit link.0 slot }
+{
+    scenario.exit_limit(link, slot).0
+}
+
+/// Which destination a node is, if it is one.
+#[inline]
+#[tactic(auto, unfolding(crate::specs::Setting::setting_of))]
+pub fn own(scenario: &Scenario, node: NodeId) -> Option<u32>
+    ensures place { result ≡ (setting_of scenario.now).own node.0 }
+    ensures there { IfSome result (λ place. place < (setting_of scenario.now).destinations) }
+{
+    scenario.own(node)
+}
+
+/// What a node has produced of a destination by a boundary, in units.
+#[inline]
+#[tactic(auto, unfolding(crate::specs::Setting::setting_of))]
+pub fn produced(scenario: &Scenario, node: NodeId, destination: u32, boundary: u32) -> u64
+    ensures value { result ≡ (setting_of scenario.now).produced node.0 destination boundary }
+    ensures small { result ≤ 10000000000000 }
+{
+    if boundary == 0 {
+        return 0;
+    }
+    production_never_falls();
+    let demand = scenario.demand();
+    let _rows = demand.rows();
+    demand.by_end(node, destination, boundary - 1).0
+}
+
+/// The weights in force at a node for a destination in a slot, one for each out-link in order; none where no split row is
+/// in force, and then all are 0.
+#[inline]
+#[tactic(auto, unfolding(crate::specs::Setting::setting_of))]
+pub fn weights(scenario: &Scenario, node: NodeId, destination: u32, slot: u32) -> Option<&[u32]>
+    ensures some { IfSome result (λ weights. (j : ℕ) → slice_index weights.now j ≡ (setting_of scenario.now).weight node.0 destination slot j) }
+    ensures count { IfSome result (λ weights. length weights.now ≡ (setting_of scenario.now).outs node.0) }
+    ensures none { result ≡ None → (j : ℕ) → (setting_of scenario.now).weight node.0 destination slot j ≡ 0 }
+{
+    let _setup = scenario.setup();
+    scenario.splits().row_at(node, destination, slot)
+}
