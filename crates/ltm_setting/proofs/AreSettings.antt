@@ -1,11 +1,13 @@
 -- A scenario's data make a setting.
-use Rattle.std.proofs.Common.{◌≡◌, ℕ, zero, suc, ◌+◌, ◌-◌, ◌^◌, ◌<◌, ◌≤◌, List, [], length, get_or, slice_get, slice_index, Option, Some, None, Result, Ok, Err, refl, sym, ap, subst, ◌∙◌, arith}
+use Rattle.std.proofs.Common.{◌≡◌, ℕ, ◌+◌, ◌-◌, ◌^◌, ◌<◌, ◌≤◌, ◌==◌, true, List, length, get_or, slice_index, Option, Some, None, Result, Ok, Err, refl, sym, subst, ◌∙◌, arith}
 use Rattle.std.specs.Prelude.{All, IfSome, IsOk}
 use Rattle.std.specs.Option.{option_map_or}
 use Rattle.std.proofs.lemmas.Bool.{cases_lt}
 use Rattle.std.proofs.lemmas.Bool.Decides.{nat_tests}
 use Rattle.std.proofs.Common.{inl, inr}
 use Rattle.std.proofs.lemmas.Option.{slice_get-get_or}
+use Rattle.std.proofs.lemmas.Iterator.Adapters.{position_from-zero}
+use Rattle.std.proofs.lemmas.List.Quantifiers.{position-Some}
 use Rattle.std.proofs.lemmas.List.{get_or_past}
 use Rattle.ltm_network.specs.Places.{HasPlaces}
 use Rattle.ltm_diagram.specs.declared.diagram.Diagram.{Diagram}
@@ -20,9 +22,8 @@ use Rattle.ltm_splits.specs.Rows.{row_in_force}
 use Rattle.ltm_scenario.specs.Data.{ScenarioData}
 use Rattle.ltm_scenario.specs.IsScenario.{IsScenario}
 use Rattle.ltm_scenario.specs.Reads.{destination_of}
-use Rattle.ltm_scenario.proofs.Added.{place_there}
-use Rattle.ltm_loading.specs.Setting.{IsNetwork, IsSmall, IsSetting}
-use Rattle.ltm_setting.specs.Setting.{or_no_limits, set_by, limits_at, produced_by, weight_in_force, setting_of}
+use Rattle.ltm_loading.specs.Setting.{IsSetting}
+use Rattle.ltm_setting.specs.Setting.{or_no_limits, set_by, limits_at, produced_by, setting_of}
 use Rattle.ltm_setting.proofs.InForce.{in_force}
 
 -- what is said of the limits that a diagram sets holds of the limits that are read
@@ -38,9 +39,14 @@ limits_in_range s ranges is l below =
     subst (λ (o : Option Diagram). AreInRange s.setup.step.0 (set_by s.setup.step.0 o)) (sym (slice_get-get_or s.diagrams l d there))
     (set_limits (AreInRange s.setup.step.0) (limits_of (get_or s.diagrams l d) s.setup.step.0) (is.limits l d there) (λ limits e. ranges (get_or s.diagrams l d) s.setup.step.0 limits e))
 
+same_node : (n u : ℕ) → (n == u) ≡ true → n ≡ u
+same_node n u h = grind (arith, nat_tests)
+
 -- a node's destination is where the node stands
 own_there : (s : ScenarioData) (u d : ℕ) → destination_of s.destinations u ≡ Some d → (d < length s.destinations) × (slice_index s.destinations d ≡ u)
-own_there s u d e = place_there s.destinations u (Some d) (sym e)
+own_there s u d e =
+    let there = position-Some (λ node. node == u) s.destinations d 0 (position_from-zero (λ node. node == u) s.destinations ∙ e) in
+    (there.0, same_node (slice_index s.destinations d) u there.1)
 
 first : (rows : List DemandRow) (u d k : ℕ) → k ≡ 0 → produced_by rows u d k ≡ 0
 first rows u d k h = grind (arith, nat_tests)

@@ -2,7 +2,8 @@
 //!
 //! A loading is defined over a `Setting`, a record of numbers, and knows no tables and no names. The word `setting_of`
 //! makes one of a scenario's data, and the calls here read each of its numbers from the tables of a `Scenario`. Each costs
-//! an access or two and takes no memory.
+//! an access or two and takes no memory. What is read is a setting whatever the scenario (`is_setting`), so every law of
+//! loadings holds of it.
 #![tactic(auto)]
 
 mod laws;
