@@ -1,5 +1,5 @@
 -- A scenario's data make a setting.
-use Rattle.std.proofs.Common.{◌≡◌, ℕ, ◌+◌, ◌-◌, ◌^◌, ◌<◌, ◌≤◌, ◌==◌, true, List, length, get_or, slice_index, Option, Some, None, Result, Ok, Err, refl, sym, subst, ◌∙◌, arith}
+use Rattle.std.proofs.Common.{◌≡◌, ℕ, ◌+◌, ◌-◌, ◌^◌, ◌<◌, ◌≤◌, ◌==◌, true, List, length, get_or, slice_index, Option, Some, None, Result, Ok, Err, refl, ap, sym, subst, ◌∙◌, arith}
 use Rattle.std.specs.Prelude.{All, IfSome, IsOk}
 use Rattle.std.specs.Option.{option_map_or}
 use Rattle.std.proofs.lemmas.Bool.{cases_lt}
@@ -53,6 +53,10 @@ first rows u d k h = grind (arith, nat_tests)
 
 later : (rows : List DemandRow) (u d k : ℕ) → 0 < k → produced_by rows u d k ≡ by_end rows u d (k - 1)
 later rows u d k h = grind (arith, nat_tests)
+
+-- by the boundary at a slot's end it is what was produced by the slot's end
+pub by_next : (rows : List DemandRow) (u d t : ℕ) → produced_by rows u d (t + 1) ≡ by_end rows u d t
+by_next rows u d t = let back : t + 1 - 1 ≡ t = omega arith in later rows u d (t + 1) (omega arith) ∙ ap (by_end rows u d) back
 
 -- what was produced does not fall
 produced_rises : (rows : List DemandRow) (u d k : ℕ) → ((rows : List DemandRow) (o d s t : ℕ) → s ≤ t → by_end rows o d s ≤ by_end rows o d t) → produced_by rows u d k ≤ produced_by rows u d (k + 1)

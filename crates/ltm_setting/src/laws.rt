@@ -1,10 +1,14 @@
-//! A scenario's data make a setting.
+//! A scenario's data make a setting, so what holds of every loading holds of a scenario's.
 ghost use Rattle.ltm_loading.specs.Setting.{IsSetting};
 ghost use Rattle.ltm_setting.specs.Setting.{setting_of};
-ghost use Rattle.ltm_setting.specs.ScenarioLaw.{ScenariosAreSettings};
+ghost use Rattle.ltm_setting.specs.ScenarioLaw.{ScenariosAreSettings, LoadingsOfScenarios};
 
 use ltm_demand::production_never_falls;
 use ltm_diagram::limits_in_range;
+use ltm_loading::{
+    conserved, first_in_first_out, never_fall, one_loading, within_exit, within_produced,
+    within_storage,
+};
 use ltm_network::links_at_their_places;
 use ltm_scenario::Scenario;
 
@@ -16,6 +20,21 @@ pub fn scenarios_are_settings()
     links_at_their_places();
     limits_in_range();
     production_never_falls();
+}
+
+/// What holds of a loading of a scenario: no count falls, first in first out, exit limits, storage and production are
+/// kept, nothing is lost, and there is no other.
+pub fn loadings_of_scenarios()
+    ensures { LoadingsOfScenarios }
+{
+    scenarios_are_settings();
+    never_fall();
+    first_in_first_out();
+    within_exit();
+    within_storage();
+    within_produced();
+    conserved();
+    one_loading();
 }
 
 /// The scenario makes a setting. Costs nothing when it runs.

@@ -9,7 +9,7 @@
 mod laws;
 mod readers;
 
-pub use laws::{is_setting, scenarios_are_settings};
+pub use laws::{is_setting, loadings_of_scenarios, scenarios_are_settings};
 pub use readers::{
     destination_count, entry_limit, exit_limit, in_links, limits, link_count, node_count,
     origin_capacity, out_links, own, produced, slot_count, step, weights,
