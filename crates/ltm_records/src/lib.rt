@@ -1,0 +1,10 @@
+//! The records of a file of fields with commas, one at a time, and the fields of a record, each of its kind.
+//!
+//! A record is read by `csv` with its defaults, but that any number of fields may stand in it and that the header is a
+//! record like the others: a byte order mark at the start is taken off, lines end with LF, CR or CRLF, blank lines are
+//! passed over, and a field may stand in double quotes. Memory follows the longest record and not the file.
+#![tactic(auto)]
+
+mod records;
+
+pub use records::Records;
