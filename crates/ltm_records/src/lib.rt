@@ -5,6 +5,13 @@
 //! passed over, and a field may stand in double quotes. Memory follows the longest record and not the file.
 #![tactic(auto)]
 
+mod fields;
+mod headers;
 mod records;
 
+pub use fields::{name_at, text_at, vehicles_at, whole_at, width};
+pub use headers::{
+    is_demand_header, is_links_header, is_setup_header, is_setup_header_with_signals, is_signals_header,
+    is_splits_header,
+};
 pub use records::Records;
