@@ -173,8 +173,8 @@ impl Curves {
         ensures small { result ≤ 2 ^ 54 }
     {
         let mut sum = 0u64;
-        for destination in 0..self.destinations {
-            sum += self.get(group, destination, boundary);
+        for count in self.row(group, boundary) {
+            sum += *count;
         }
         sum
     }
