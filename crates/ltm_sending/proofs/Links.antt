@@ -3,10 +3,11 @@ use Rattle.std.proofs.Common.{◌≡◌, ℕ, ◌+◌, ◌-◌, ◌<◌, ◌≤�
 use Rattle.ltm_units.specs.Sums.{sum_below}
 use Rattle.ltm_curve.specs.Counts.{Counts, total, Rises}
 use Rattle.ltm_curve.specs.First.{first_units}
+use Rattle.ltm_curve.proofs.Interpolation.{rises_le}
 use Rattle.ltm_curve.proofs.Lasts.{total_rises}
 use Rattle.ltm_loading.specs.Setting.{Setting, IsSetting}
 use Rattle.ltm_loading.specs.Groups.{up_of, down_of}
-use Rattle.ltm_loading.specs.Flows.{earlier, limited, link_goal, link_first, link_sending}
+use Rattle.ltm_loading.specs.Flows.{earlier, limited, link_goal, link_first, link_sending, receiving}
 use Rattle.ltm_loading.specs.Ready.{IsLinkReady}
 use Rattle.ltm_sending.specs.MayLeave.{rest_of, MayLeave, WaitOnLink}
 use Rattle.ltm_sending.proofs.Waiting.{may_leave_by, first_by, none_rests, one_rests, rest_within, nothing_limited, whole_limited}
@@ -92,3 +93,43 @@ pub sends_rest : (s : Setting) (c : Counts) (l t m goal by left limit d off out 
     out ≡ limited limit (goal - left) off → d < m → out ≡ link_sending s c l t d
 sends_rest s c l t m goal by left limit d off out w e f g x =
     g ∙ (ap (λ (z : ℕ). limited z (goal - left) off) e ∙ (ap (limited (s.exit_limit l t) (goal - left)) f ∙ sym (w.sends d x)))
+
+-- the numbers that the code reads of a link to know its room, for m destinations
+pub record HasReadBack (s : Setting) (c : Counts) (l t m up : ℕ) (ago by step wave entered storage : ℕ) : Type 0 where
+  pub reach : ago ≡ earlier (total m (c (up + 1))) step t wave
+  pub before : by ≤ t
+  pub within : ago ≤ total m (c (up + 1)) by
+  pub same_step : step ≡ s.step
+  pub same_wave : wave ≡ s.wave_time l
+  pub all : entered ≡ total m (c up) t
+  pub same_storage : storage ≡ s.storage l
+
+-- no more has left than has entered, and there is room for all that has entered
+pub record HasRoom (s : Setting) (c : Counts) (l t : ℕ) (ago entered storage : ℕ) : Type 0 where
+  pub fewer : ago ≤ entered
+  pub room : entered ≤ ago + storage
+  pub takes : ago + storage - entered ≡ earlier (total s.destinations (c (down_of l))) s.step t (s.wave_time l) + s.storage l - total s.destinations (c (up_of l)) t
+
+room_at : (s : Setting) (c : Counts) (l t : ℕ) (ago by step wave entered storage : ℕ) → IsLinkReady s c l t → HasReadBack s c l t s.destinations (up_of l) ago by step wave entered storage → HasRoom s c l t ago entered storage
+room_at s c l t ago by step wave entered storage ready read =
+    let f : ℕ → ℕ = total s.destinations (c (down_of l)) in
+    let e : earlier f step t wave ≡ earlier f s.step t (s.wave_time l) = ap (λ (z : ℕ). earlier f z t wave) read.same_step ∙ ap (λ (z : ℕ). earlier f s.step t z) read.same_wave in
+    let is_ago : ago ≡ earlier f s.step t (s.wave_time l) = read.reach ∙ e in
+    record {
+      fewer = omega (arith, read.within, rises_le f t (total_rises s.destinations (c (down_of l)) t ready.left_rises) by t read.before (omega arith), ready.sum, ready.part.within, read.all);
+      room = omega (arith, ready.room, is_ago, read.all, read.same_storage);
+      takes = omega (arith, is_ago, read.all, read.same_storage);
+    }
+
+pub has_room : (s : Setting) (c : Counts) (l t m up : ℕ) (ago by step wave entered storage : ℕ) → IsLinkReady s c l t → m ≡ s.destinations → up ≡ up_of l →
+    HasReadBack s c l t m up ago by step wave entered storage → HasRoom s c l t ago entered storage
+has_room s c l t m up ago by step wave entered storage ready e is_up has =
+    room_at s c l t ago by step wave entered storage ready
+    (subst (λ (n : ℕ). HasReadBack s c l t n (up_of l) ago by step wave entered storage) e
+    (subst (λ (g : ℕ). HasReadBack s c l t m g ago by step wave entered storage) is_up has))
+
+pub receives : (s : Setting) (c : Counts) (l t : ℕ) (ago entered storage capacity entry room least out : ℕ) → HasRoom s c l t ago entered storage → capacity ≡ s.capacity l → entry ≡ s.entry_limit l t →
+    room ≡ ago + storage - entered → least ≡ min entry room → out ≡ min capacity least → out ≡ receiving s c l t
+receives s c l t ago entered storage capacity entry room least out has e f g h k =
+    k ∙ (ap (λ (z : ℕ). min z least) e
+    ∙ ap (min (s.capacity l)) (h ∙ (ap (λ (z : ℕ). min z room) f ∙ ap (min (s.entry_limit l t)) (g ∙ has.takes))))

@@ -5,8 +5,8 @@ use Rattle.ltm_curve.specs.Counts.{Counts, total}
 use Rattle.ltm_curve.specs.First.{first_units}
 use Rattle.ltm_curve.specs.FirstLaws.{IsPart}
 use Rattle.ltm_loading.specs.Setting.{Setting}
-use Rattle.ltm_loading.specs.Groups.{up_of, down_of}
-use Rattle.ltm_loading.specs.Flows.{limited, link_sending}
+use Rattle.ltm_loading.specs.Groups.{up_of, down_of, dep_of}
+use Rattle.ltm_loading.specs.Flows.{limited, link_sending, origin_sending}
 
 -- what each destination has of the first units that has not left yet
 abbrev pub rest_of : ℕ → (ℕ → ℕ → ℕ) → (ℕ → ℕ) → ℕ → ℕ → ℕ → ℕ
@@ -28,3 +28,12 @@ pub record WaitOnLink (s : Setting) (c : Counts) (l t destinations : ℕ) (goal 
   pub few : goal ≤ left + 32000
   pub sends : (d : ℕ) → d < destinations → link_sending s c l t d
       ≡ limited (s.exit_limit l t) (goal - left) (rest_of destinations (c (up_of l)) (λ e. c (down_of l) e t) goal by d)
+
+-- of all that an origin has produced by the end of a slot the first `goal` units may leave, so many have left, and the
+-- origin sends the rest
+pub record WaitAtOrigin (s : Setting) (c : Counts) (u t : ℕ) (all goal left : ℕ) : Type 0 where
+  pub leave : MayLeave s.destinations (s.produced u) (λ d. c (dep_of s u) d t) goal (t + 1)
+  pub made : all ≡ total s.destinations (s.produced u) (t + 1)
+  pub gone : left ≡ total s.destinations (c (dep_of s u)) t
+  pub over : left ≤ goal
+  pub sends : (d : ℕ) → origin_sending s c u t d ≡ rest_of s.destinations (s.produced u) (λ e. c (dep_of s u) e t) goal (t + 1) d

@@ -8,6 +8,9 @@
 
 mod ago;
 mod link;
+mod origin;
 mod parts;
+mod produced;
 
-pub use link::send_link;
+pub use link::{receive, send_link};
+pub use origin::send_origin;

@@ -1,9 +1,9 @@
 //! What a link sends and what it can take.
-ghost use Rattle.std.specs.Prelude.{◌≡◌, ℕ, ◌+◌, ◌*◌, ◌^◌, ◌<◌, length, slice_index};
+ghost use Rattle.std.specs.Prelude.{◌≡◌, ℕ, ◌+◌, ◌*◌, ◌^◌, ◌<◌, ◌≤◌, length, slice_index};
 ghost use Rattle.ltm_curve.specs.Table.{groups_of, destinations_of, counts_of};
 ghost use Rattle.ltm_loading.specs.Setting.{IsSetting};
 ghost use Rattle.ltm_loading.specs.Groups.{up_of};
-ghost use Rattle.ltm_loading.specs.Flows.{link_sending};
+ghost use Rattle.ltm_loading.specs.Flows.{link_sending, receiving};
 ghost use Rattle.ltm_setting.specs.Setting.{setting_of};
 ghost use Rattle.ltm_sending.specs.Front.{IsAtFront};
 ghost use Rattle.ltm_sending.specs.MayLeave.{WaitOnLink};
@@ -13,7 +13,7 @@ use crate::parts::{limit_all, send_nothing, take_off};
 use ltm_curve::Curves;
 use ltm_loading::links_are_ready;
 use ltm_scenario::Scenario;
-use ltm_setting::{exit_limit, limits, step};
+use ltm_setting::{entry_limit, exit_limit, limits, step};
 use ltm_units::LinkId;
 
 /// Units that may leave in the order in which they entered: how many ever may, a boundary by which all of these had
@@ -83,4 +83,23 @@ pub fn send_link(scenario: &Scenario, curves: &Curves, link: LinkId, slot: u32, 
     curves.first(up, waiting.goal, waiting.by, into);
     take_off(curves, up + 1, slot, into);
     limit_all(limit, whole, into);
+}
+
+/// What a link can take in a slot, at most 32,000 units: its capacity, its entry limit, and the room that it has had since
+/// its wave time ago.
+pub fn receive(scenario: &Scenario, curves: &Curves, link: LinkId, slot: u32) -> u64
+    requires link { link.0 < (setting_of scenario.now).links }
+    requires setting { IsSetting (setting_of scenario.now) }
+    requires ready { IsAtFront (setting_of scenario.now) curves.now slot }
+    ensures value { result ≡ receiving (setting_of scenario.now) (counts_of curves.now) link.0 slot }
+    ensures small { result ≤ 32000 }
+{
+    links_are_ready();
+    let limits = limits(scenario, link);
+    let up = entered_group(curves, link);
+    let ago = total_ago(curves, up + 1, slot, limits.wave_ms, step(scenario));
+    let entered = curves.total(up, slot);
+    let room = ago.total + limits.storage - entered;
+    let entry = entry_limit(scenario, link, slot);
+    limits.capacity.min(entry.min(room))
 }
