@@ -54,12 +54,7 @@ fn make_room(alloc: Global, scenario: &Scenario) -> Result<Room, NoMemory>
 }
 
 /// The step of a node in a slot.
-fn load_pair(
-    scenario: &Scenario,
-    curves: &mut Curves,
-    pair: Pair,
-    room: Room,
-) -> Room
+fn load_pair(scenario: &Scenario, curves: &mut Curves, pair: Pair, room: Room) -> Room
     requires setting { IsSetting (setting_of scenario.now) }
     requires node { pair.node.0 < (setting_of scenario.now).nodes }
     requires slot { pair.slot < (setting_of scenario.now).slots }
@@ -85,12 +80,7 @@ fn load_pair(
 }
 
 /// The steps of all nodes in a slot.
-fn load_slot(
-    scenario: &Scenario,
-    curves: &mut Curves,
-    slot: u32,
-    room: Room,
-) -> Room
+fn load_slot(scenario: &Scenario, curves: &mut Curves, slot: u32, room: Room) -> Room
     requires setting { IsSetting (setting_of scenario.now) }
     requires slot { slot < (setting_of scenario.now).slots }
     requires working { IsWorking (setting_of scenario.now) curves.old slot }
