@@ -1,4 +1,4 @@
-pub mod Earlier
-pub mod Produced
-pub mod RoadCounts
-pub mod RoadWork
+pub mod Writing
+pub mod Steps
+pub mod Progress
+pub mod Showing

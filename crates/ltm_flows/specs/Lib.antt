@@ -1,4 +1,5 @@
-pub mod OneRoad
-pub mod OneRoadLoading
-pub mod OneRoadLaws
-pub mod OneRoadWork
+pub mod Shaped
+pub mod Applying
+pub mod Working
+pub mod Shown
+pub mod InAll
