@@ -13,7 +13,7 @@ use crate::parts::{limit_all, send_nothing, take_off};
 use ltm_curve::Curves;
 use ltm_loading::links_are_ready;
 use ltm_scenario::Scenario;
-use ltm_setting::{entry_limit, exit_limit, limits, step};
+use ltm_setting::{entry_limit, exit_limit, is_setting, limits, step};
 use ltm_units::LinkId;
 
 /// Units that may leave in the order in which they entered: how many ever may, a boundary by which all of these had
@@ -62,12 +62,12 @@ fn waiting_on(scenario: &Scenario, curves: &Curves, link: LinkId, slot: u32) -> 
 /// each destination in proportion, rounded down.
 pub fn send_link(scenario: &Scenario, curves: &Curves, link: LinkId, slot: u32, into: &mut [u64])
     requires link { link.0 < (setting_of scenario.now).links }
-    requires setting { IsSetting (setting_of scenario.now) }
     requires ready { IsAtFront (setting_of scenario.now) curves.now slot }
     requires room { length into.old ≡ (setting_of scenario.now).destinations }
     ensures { (d : ℕ) → d < (setting_of scenario.now).destinations → slice_index into.new d
         ≡ link_sending (setting_of scenario.now) (counts_of curves.now) link.0 slot d }
 {
+    is_setting(scenario);
     let waiting = waiting_on(scenario, curves, link, slot);
     let whole = waiting.goal - waiting.left;
     if whole == 0 {
@@ -89,11 +89,11 @@ pub fn send_link(scenario: &Scenario, curves: &Curves, link: LinkId, slot: u32, 
 /// its wave time ago.
 pub fn receive(scenario: &Scenario, curves: &Curves, link: LinkId, slot: u32) -> u64
     requires link { link.0 < (setting_of scenario.now).links }
-    requires setting { IsSetting (setting_of scenario.now) }
     requires ready { IsAtFront (setting_of scenario.now) curves.now slot }
     ensures value { result ≡ receiving (setting_of scenario.now) (counts_of curves.now) link.0 slot }
     ensures small { result ≤ 32000 }
 {
+    is_setting(scenario);
     links_are_ready();
     let limits = limits(scenario, link);
     let up = entered_group(curves, link);
