@@ -56,7 +56,9 @@ fn queue_at(scenario: &Scenario, curves: &Curves, node: NodeId, slot: u32) -> Qu
     Queue { all, goal, left }
 }
 
-/// Writes what each destination has of the first `goal` of all units that were produced by a boundary.
+/// Writes what each destination has of the first `goal` of all units that were produced by a boundary: the search for the
+/// boundaries at which they were, kept out of line.
+#[inline(never)]
 fn first_produced(rows: &Produced<'_>, all: u64, goal: u64, boundary: u32, into: &mut [u64])
     requires boundary { boundary ≤ (setting_of rows.now.scenario.now).slots }
     requires all { all ≡ total (setting_of rows.now.scenario.now).destinations ((setting_of rows.now.scenario.now).produced rows.now.node.0) boundary }
