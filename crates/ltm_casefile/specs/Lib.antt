@@ -1,0 +1,5 @@
+pub mod Causes
+pub mod Demand
+pub mod Links
+pub mod Signals
+pub mod Splits
