@@ -5,10 +5,23 @@ use Rattle.ltm_demand.specs.declared.row.DemandRow.{DemandRow}
 use Rattle.ltm_scenario.specs.Data.{ScenarioData}
 use Rattle.ltm_scenario.specs.Reads.{destination_of, has_no_out_link}
 use Rattle.ltm_scenario.specs.Build.{with_destination, with_demand, are_slots, ◌>>=◌}
+use Rattle.ltm_records.specs.Fields.{Fields}
 use Rattle.ltm_casefile.specs.declared.faults.CaseCause.{CaseCause}
 use Rattle.ltm_casefile.specs.declared.faults.CaseCause.TheVariants.{Unknown, NoOrigin, SameEnds, BadSlots, TooManyDestinations, TooManyRows}
 use Rattle.ltm_casefile.specs.declared.demand.DemandRecord.{DemandRecord}
 use Rattle.ltm_casefile.specs.Causes.{refuse, found, taken}
+use Rattle.ltm_casefile.specs.Fields.{has_width, name_in, number_in, amount_in}
+
+-- origin, destination, first slot, slot after the last, vehicles
+unfoldable pub demand_record : Fields → Result DemandRecord CaseCause
+demand_record fields =
+    has_width fields 5 >>= λ _.
+    name_in fields 1 >>= λ origin.
+    name_in fields 2 >>= λ destination.
+    number_in fields 3 >>= λ from.
+    number_in fields 4 >>= λ to.
+    amount_in fields 5 >>= λ amount.
+    Ok (record { origin = origin; destination = destination; from = from; to = to; amount = amount })
 
 -- the origin and the destination by number
 unfoldable pub demand_ends : ScenarioData → DemandRecord → Result (ℕ × ℕ) CaseCause
@@ -33,3 +46,6 @@ with_demand_record s r =
     demand_ends s r >>= λ ends.
     taken (with_destination s ends.1) TooManyDestinations >>= λ next.
     taken (with_demand next (demand_row next r ends)) TooManyRows
+
+abbrev pub demand_added : ScenarioData → Fields → Result ScenarioData CaseCause
+demand_added s fields = demand_record fields >>= λ r. with_demand_record s r

@@ -3,10 +3,13 @@ ghost use Rattle.std.specs.Prelude.{◌≡◌, ◌<◌, ◌≤◌, ◌==◌, len
 ghost use Rattle.ltm_scenario.specs.Reads.{has_no_out_link, destination_of, destination_node};
 ghost use Rattle.ltm_scenario.specs.Build.{with_destination, are_slots};
 ghost use Rattle.ltm_casefile.specs.Causes.{taken, Tells};
-ghost use Rattle.ltm_casefile.specs.Demand.{demand_ends, place_of, with_demand_record};
+ghost use Rattle.csv.specs.Records.{fields_of};
+ghost use Rattle.ltm_casefile.specs.Demand.{demand_record, demand_ends, place_of, with_demand_record, demand_added};
 ghost use Rattle.ltm_casefile.specs.declared.faults.CaseCause.TheVariants.{TooManyDestinations};
 
 use crate::faults::{CaseCause, StepFault};
+use crate::fields::{check_width, read_amount, read_name, read_number};
+use csv::ByteRecord;
 use ltm_demand::{DemandFault, DemandRow};
 use ltm_scenario::{DestinationFault, Scenario};
 use ltm_units::{Name, NodeId, Units};
@@ -22,6 +25,26 @@ pub struct DemandRecord {
     pub to: u32,
     /// Thousandths of a vehicle, at most 1,000,000,000.
     pub amount: Units,
+}
+
+#[tactic(auto, unfolding(crate::specs::Demand::demand_record))]
+fn read_demand(row: &ByteRecord) -> Result<DemandRecord, CaseCause>
+    ensures record { result ≡ demand_record (fields_of row.now) }
+    ensures small { IfOk result (λ r. r.amount.0 ≤ 1000000000) }
+{
+    check_width(row, 5)?;
+    let origin = read_name(row, 1)?;
+    let destination = read_name(row, 2)?;
+    let from = read_number(row, 3)?;
+    let to = read_number(row, 4)?;
+    let amount = read_amount(row, 5)?;
+    Ok(DemandRecord {
+        origin,
+        destination,
+        from,
+        to,
+        amount,
+    })
 }
 
 fn has_no_out_link(scenario: &Scenario, node: NodeId) -> bool
@@ -85,8 +108,7 @@ pub fn add_destination(scenario: &mut Scenario, node: NodeId) -> Result<u32, Ste
     }
 }
 
-/// Sets the demand row.
-pub fn add_demand(scenario: &mut Scenario, row: &DemandRecord) -> Result<(), StepFault>
+fn set_demand(scenario: &mut Scenario, row: &DemandRecord) -> Result<(), StepFault>
     requires { row.now.amount.0 ≤ 1000000000 }
     ensures ok { OnOk result (with_demand_record scenario.old row.now ≡ Ok scenario.new) }
     ensures cause { IfErr result (Tells (with_demand_record scenario.old row.now)) }
@@ -105,4 +127,13 @@ pub fn add_demand(scenario: &mut Scenario, row: &DemandRecord) -> Result<(), Ste
         Err(DemandFault::NoMemory) => return Err(StepFault::NoMemory),
         Err(_) => return Err(StepFault::Cause(CaseCause::TooManyRows)),
     }
+}
+
+/// Sets the demand row of a record, and makes its destination one.
+pub fn add_demand(scenario: &mut Scenario, row: &ByteRecord) -> Result<(), StepFault>
+    ensures ok { OnOk result (demand_added scenario.old (fields_of row.now) ≡ Ok scenario.new) }
+    ensures cause { IfErr result (Tells (demand_added scenario.old (fields_of row.now))) }
+{
+    let record = read_demand(row)?;
+    set_demand(scenario, &record)
 }

@@ -7,7 +7,9 @@
 
 mod demand;
 mod faults;
+mod fields;
 mod links;
+mod setup;
 mod signals;
 mod splits;
 

@@ -1,9 +1,12 @@
 //! Records of signals.
 ghost use Rattle.std.specs.Prelude.{◌≡◌, Ok, OnOk, IfErr};
 ghost use Rattle.ltm_casefile.specs.Causes.{Tells};
-ghost use Rattle.ltm_casefile.specs.Signals.{with_signal_record};
+ghost use Rattle.csv.specs.Records.{fields_of};
+ghost use Rattle.ltm_casefile.specs.Signals.{signal_record, with_signal_record, signal_added};
 
 use crate::faults::{CaseCause, StepFault};
+use crate::fields::{check_width, read_amount, read_name, read_number};
+use csv::ByteRecord;
 use ltm_demand::DemandFault;
 use ltm_scenario::Scenario;
 use ltm_units::{Name, Units};
@@ -20,8 +23,24 @@ pub struct SignalRecord {
     pub amount: Units,
 }
 
-/// Sets the exit limit.
-pub fn add_signal(scenario: &mut Scenario, signal: &SignalRecord) -> Result<(), StepFault>
+#[tactic(auto, unfolding(crate::specs::Signals::signal_record))]
+fn read_signal(row: &ByteRecord) -> Result<SignalRecord, CaseCause>
+    ensures { result ≡ signal_record (fields_of row.now) }
+{
+    check_width(row, 4)?;
+    let link = read_name(row, 1)?;
+    let from = read_number(row, 2)?;
+    let to = read_number(row, 3)?;
+    let amount = read_amount(row, 4)?;
+    Ok(SignalRecord {
+        link,
+        from,
+        to,
+        amount,
+    })
+}
+
+fn set_exit(scenario: &mut Scenario, signal: &SignalRecord) -> Result<(), StepFault>
     ensures ok { OnOk result (with_signal_record scenario.old signal.now ≡ Ok scenario.new) }
     ensures cause { IfErr result (Tells (with_signal_record scenario.old signal.now)) }
 {
@@ -33,4 +52,13 @@ pub fn add_signal(scenario: &mut Scenario, signal: &SignalRecord) -> Result<(), 
         Err(DemandFault::NoMemory) => return Err(StepFault::NoMemory),
         Err(_) => return Err(StepFault::Cause(CaseCause::BadSlots)),
     }
+}
+
+/// Sets the exit limit of a record.
+pub fn add_signal(scenario: &mut Scenario, row: &ByteRecord) -> Result<(), StepFault>
+    ensures ok { OnOk result (signal_added scenario.old (fields_of row.now) ≡ Ok scenario.new) }
+    ensures cause { IfErr result (Tells (signal_added scenario.old (fields_of row.now))) }
+{
+    let signal = read_signal(row)?;
+    set_exit(scenario, &signal)
 }
