@@ -1,0 +1,16 @@
+//! The lines that the program writes, over plain numbers.
+//!
+//! Each line ends with one newline byte. Amounts of traffic are written in vehicles with three decimals, other numbers as
+//! plain decimal digits. A call appends its whole line, or nothing where memory was not found; it costs the length of the
+//! line.
+#![tactic(auto)]
+
+mod links;
+mod pieces;
+mod totals;
+
+pub use links::{link_text, load_link_text};
+pub use totals::totals_text;
+
+#[cfg(test)]
+mod tests;
