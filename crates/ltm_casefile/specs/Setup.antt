@@ -1,0 +1,44 @@
+-- What the setup says.
+use Rattle.std.specs.Prelude.{ℕ, ◌==◌, nat_lt, Bool, if◌then◌else◌, Result, Ok, Err}
+use Rattle.ltm_scenario.specs.declared.setup.Setup.{Setup}
+use Rattle.ltm_scenario.specs.declared.setup.SetupFault.{SetupFault}
+use Rattle.ltm_scenario.specs.declared.setup.SetupFault.TheVariants.{Range as OutOfRange}
+use Rattle.ltm_scenario.specs.Setup.{setup_checked}
+use Rattle.ltm_scenario.specs.Data.{empty_scenario}
+use Rattle.ltm_scenario.specs.Build.{◌>>=◌}
+use Rattle.ltm_units.specs.declared.quantities.Units.{Units}
+use Rattle.ltm_records.specs.Fields.{Fields}
+use Rattle.ltm_casefile.specs.declared.faults.CaseCause.{CaseCause}
+use Rattle.ltm_casefile.specs.declared.faults.CaseCause.TheVariants.{Range}
+use Rattle.ltm_casefile.specs.declared.setup.SetupRecord.{SetupRecord}
+use Rattle.ltm_casefile.specs.declared.setup.Opened.{Opened}
+use Rattle.ltm_casefile.specs.Causes.{refuse}
+use Rattle.ltm_casefile.specs.Fields.{has_width, number_in, amount_in}
+
+-- the fourth field, in a record that has one
+abbrev pub signals_in : ℕ → Fields → Result ℕ CaseCause
+signals_in width fields = if width == 4 then number_in fields 4 else Ok 0
+
+-- step in milliseconds, slots, origin capacity, signals, in a record as wide as its header
+unfoldable pub setup_record : ℕ → Fields → Result SetupRecord CaseCause
+setup_record width fields =
+    has_width fields width >>= λ _.
+    number_in fields 1 >>= λ step.
+    number_in fields 2 >>= λ slots.
+    amount_in fields 3 >>= λ capacity.
+    signals_in width fields >>= λ signals.
+    Ok (record { setup = record { step = record { 0 = step }; slots = slots; origin_capacity = capacity }; signals = signals })
+
+abbrev pub in_range : Result (Unit {0}) SetupFault → Result (Unit {0}) CaseCause
+in_range (Ok x) = Ok tt
+in_range (Err (OutOfRange field)) = Err (Range field)
+
+-- a scenario without links, and whether signals come with it
+abbrev pub opened : SetupRecord → Result Opened CaseCause
+opened r =
+    in_range (setup_checked r.setup) >>= λ _.
+    refuse (nat_lt 1 r.signals) (Range 4) >>= λ _.
+    Ok (record { scenario = empty_scenario r.setup; has_signals = r.signals == 1 })
+
+abbrev pub setup_read : ℕ → Fields → Result Opened CaseCause
+setup_read width fields = setup_record width fields >>= λ r. opened r

@@ -1,0 +1,139 @@
+//! Records of demand.
+ghost use Rattle.std.specs.Prelude.{◌≡◌, ◌<◌, ◌≤◌, ◌==◌, length, false, Some, Ok, OnOk, IfOk, IfErr};
+ghost use Rattle.ltm_scenario.specs.Reads.{has_no_out_link, destination_of, destination_node};
+ghost use Rattle.ltm_scenario.specs.Build.{with_destination, are_slots};
+ghost use Rattle.ltm_casefile.specs.Causes.{taken, Tells};
+ghost use Rattle.csv.specs.Records.{fields_of};
+ghost use Rattle.ltm_casefile.specs.Demand.{demand_record, demand_ends, place_of, with_demand_record, demand_added};
+ghost use Rattle.ltm_casefile.specs.declared.faults.CaseCause.TheVariants.{TooManyDestinations};
+
+use crate::faults::{CaseCause, StepFault};
+use crate::fields::{check_width, read_amount, read_name, read_number};
+use csv::ByteRecord;
+use ltm_demand::{DemandFault, DemandRow};
+use ltm_scenario::{DestinationFault, Scenario};
+use ltm_units::{Name, NodeId, Units};
+
+/// What a record of demand says.
+#[derive(Clone, Copy)]
+pub struct DemandRecord {
+    pub origin: Name,
+    pub destination: Name,
+    /// The first slot.
+    pub from: u32,
+    /// The slot after the last.
+    pub to: u32,
+    /// Thousandths of a vehicle, at most 1,000,000,000.
+    pub amount: Units,
+}
+
+#[tactic(auto, unfolding(crate::specs::Demand::demand_record))]
+fn read_demand(row: &ByteRecord) -> Result<DemandRecord, CaseCause>
+    ensures record { result ≡ demand_record (fields_of row.now) }
+    ensures small { IfOk result (λ r. r.amount.0 ≤ 1000000000) }
+{
+    check_width(row, 5)?;
+    let origin = read_name(row, 1)?;
+    let destination = read_name(row, 2)?;
+    let from = read_number(row, 3)?;
+    let to = read_number(row, 4)?;
+    let amount = read_amount(row, 5)?;
+    Ok(DemandRecord {
+        origin,
+        destination,
+        from,
+        to,
+        amount,
+    })
+}
+
+fn has_no_out_link(scenario: &Scenario, node: NodeId) -> bool
+    requires { node.0 < length scenario.now.network.nodes }
+    ensures { result ≡ has_no_out_link scenario.now node.0 }
+{
+    scenario.network().out_links(node).is_empty()
+}
+
+fn are_slots(scenario: &Scenario, from: u32, to: u32) -> bool
+    ensures { result ≡ are_slots scenario.now from to }
+{
+    from < to && to <= scenario.setup().slots
+}
+
+/// The origin and the destination, both nodes.
+#[tactic(auto, unfolding(crate::specs::Demand::demand_ends))]
+fn find_ends(scenario: &Scenario, row: &DemandRecord) -> Result<(NodeId, NodeId), CaseCause>
+    ensures ok { IfOk result (λ ends. demand_ends scenario.now row.now ≡ Ok (ends.0.0, ends.1.0)) }
+    ensures cause { IfErr result (λ e. demand_ends scenario.now row.now ≡ Err e) }
+    ensures origin { IfOk result (λ ends. ends.0.0 < length scenario.now.network.nodes) }
+    ensures out { IfOk result (λ ends. has_no_out_link scenario.now ends.0.0 ≡ false) }
+    ensures destination { IfOk result (λ ends. ends.1.0 < length scenario.now.network.nodes) }
+    ensures apart { IfOk result (λ ends. (ends.0.0 == ends.1.0) ≡ false) }
+{
+    let network = scenario.network();
+    let Some(origin) = network.find_node(&row.origin) else {
+        return Err(CaseCause::Unknown(1));
+    };
+    let Some(end) = network.find_node(&row.destination) else {
+        return Err(CaseCause::Unknown(2));
+    };
+    if has_no_out_link(scenario, origin) {
+        return Err(CaseCause::NoOrigin);
+    }
+    if origin.0 == end.0 {
+        return Err(CaseCause::SameEnds);
+    }
+    if !are_slots(scenario, row.from, row.to) {
+        return Err(CaseCause::BadSlots);
+    }
+    Ok((origin, end))
+}
+
+/// The place of the node among the destinations, a new last one where it had none.
+pub fn add_destination(scenario: &mut Scenario, node: NodeId) -> Result<u32, StepFault>
+    requires { node.0 < length scenario.old.network.nodes }
+    ensures ok { OnOk result (with_destination scenario.old node.0 ≡ Ok scenario.new) }
+    ensures cause { IfErr result (Tells (taken (with_destination scenario.old node.0) TooManyDestinations)) }
+    ensures place { IfOk result (λ place. place_of scenario.new node.0 ≡ place) }
+    ensures there { IfOk result (λ place. place < length scenario.new.destinations) }
+    ensures node { IfOk result (λ place. destination_node scenario.new place ≡ node.0) }
+    ensures network { scenario.new.network ≡ scenario.old.network }
+    ensures setup { scenario.new.setup ≡ scenario.old.setup }
+{
+    match scenario.add_destination(node) {
+        Ok(place) => return Ok(place),
+        Err(DestinationFault::NoMemory) => return Err(StepFault::NoMemory),
+        Err(DestinationFault::TooMany) =>
+            return Err(StepFault::Cause(CaseCause::TooManyDestinations)),
+    }
+}
+
+fn set_demand(scenario: &mut Scenario, row: &DemandRecord) -> Result<(), StepFault>
+    requires { row.now.amount.0 ≤ 1000000000 }
+    ensures ok { OnOk result (with_demand_record scenario.old row.now ≡ Ok scenario.new) }
+    ensures cause { IfErr result (Tells (with_demand_record scenario.old row.now)) }
+{
+    let (origin, end) = find_ends(scenario, row)?;
+    let destination = add_destination(scenario, end)?;
+    let set = scenario.set_demand(DemandRow {
+        origin,
+        destination,
+        from: row.from,
+        to: row.to,
+        amount: row.amount,
+    });
+    match set {
+        Ok(()) => return Ok(()),
+        Err(DemandFault::NoMemory) => return Err(StepFault::NoMemory),
+        Err(_) => return Err(StepFault::Cause(CaseCause::TooManyRows)),
+    }
+}
+
+/// Sets the demand row of a record, and makes its destination one.
+pub fn add_demand(scenario: &mut Scenario, row: &ByteRecord) -> Result<(), StepFault>
+    ensures ok { OnOk result (demand_added scenario.old (fields_of row.now) ≡ Ok scenario.new) }
+    ensures cause { IfErr result (Tells (demand_added scenario.old (fields_of row.now))) }
+{
+    let record = read_demand(row)?;
+    set_demand(scenario, &record)
+}

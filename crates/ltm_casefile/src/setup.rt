@@ -1,0 +1,76 @@
+//! The record of the setup.
+ghost use Rattle.std.specs.Prelude.{◌≡◌, Ok, Err, IfOk, IfErr};
+ghost use Rattle.csv.specs.Records.{fields_of};
+ghost use Rattle.ltm_casefile.specs.Setup.{signals_in, setup_record, opened, setup_read};
+
+use crate::faults::CaseCause;
+use crate::fields::{check_width, read_amount, read_number};
+use csv::ByteRecord;
+use ltm_scenario::{Scenario, Setup, SetupFault};
+use ltm_units::Millis;
+use std::alloc::Global;
+
+/// What the record of the setup says.
+#[derive(Clone, Copy)]
+pub struct SetupRecord {
+    pub setup: Setup,
+    /// 1 where a file of signals comes with the case.
+    pub signals: u32,
+}
+
+/// A scenario without links, and whether a file of signals comes with the case.
+#[derive(Drop)]
+pub struct Opened {
+    pub scenario: Scenario,
+    pub has_signals: bool,
+}
+
+fn read_signals(width: usize, row: &ByteRecord) -> Result<u32, CaseCause>
+    ensures { result ≡ signals_in width (fields_of row.now) }
+{
+    if width == 4 { read_number(row, 4) } else { Ok(0) }
+}
+
+#[tactic(auto, unfolding(crate::specs::Setup::setup_record))]
+fn read_record(width: usize, row: &ByteRecord) -> Result<SetupRecord, CaseCause>
+    ensures { result ≡ setup_record width (fields_of row.now) }
+{
+    check_width(row, width)?;
+    let step = read_number(row, 1)?;
+    let slots = read_number(row, 2)?;
+    let origin_capacity = read_amount(row, 3)?;
+    let signals = read_signals(width, row)?;
+    let setup = Setup {
+        step: Millis(u64::from(step)),
+        slots,
+        origin_capacity,
+    };
+    Ok(SetupRecord { setup, signals })
+}
+
+fn open(alloc: Global, said: &SetupRecord) -> Result<Opened, CaseCause>
+    ensures ok { IfOk result (λ o. opened said.now ≡ Ok o) }
+    ensures cause { IfErr result (λ e. opened said.now ≡ Err e) }
+{
+    match Scenario::create(alloc, said.setup) {
+        Err(SetupFault::Range(field)) => return Err(CaseCause::Range(field)),
+        Ok(scenario) => {
+            if said.signals > 1 {
+                return Err(CaseCause::Range(4));
+            }
+            return Ok(Opened {
+                scenario,
+                has_signals: said.signals == 1,
+            });
+        }
+    }
+}
+
+/// The scenario of a setup without links, from a record below a header of that width.
+pub fn open_setup(alloc: Global, width: usize, row: &ByteRecord) -> Result<Opened, CaseCause>
+    ensures ok { IfOk result (λ o. setup_read width (fields_of row.now) ≡ Ok o) }
+    ensures cause { IfErr result (λ e. setup_read width (fields_of row.now) ≡ Err e) }
+{
+    let said = read_record(width, row)?;
+    open(alloc, &said)
+}

@@ -1,0 +1,2 @@
+mod Fuel
+mod Taking
