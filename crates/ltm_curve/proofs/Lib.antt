@@ -3,3 +3,4 @@ pub mod Lists
 pub mod Lasts
 pub mod Firsts
 pub mod Places
+pub mod PutOver

@@ -1,5 +1,5 @@
 -- The counts of a value of Curves, as a function of group, destination and boundary.
-use Rattle.std.specs.Prelude.{◌≡◌, ◌≢◌, ℕ, ◌+◌, ◌*◌, ◌<◌, ◌≤◌, ◌⊎◌, slice_index}
+use Rattle.std.specs.Prelude.{◌≡◌, ◌≢◌, ℕ, ◌+◌, ◌*◌, ◌<◌, ◌≤◌, ◌⊎◌, List, slice_index}
 use Rattle.ltm_curve.specs.Counts.{Counts, total}
 use Rattle.ltm_curve.specs.declared.curves.Curves.{Curves}
 
@@ -50,3 +50,9 @@ pub record Sets (old new : Curves) (group destination boundary count : ℕ) : Ty
   pub shape : SameShape new old
   pub here : counts_of new group destination boundary ≡ count
   pub others : (g d k : ℕ) → IsIn old g d k → (g ≢ group) ⊎ ((d ≢ destination) ⊎ (k ≢ boundary)) → counts_of new g d k ≡ counts_of old g d k
+
+-- the counts of one group are set at one boundary, and no other
+pub record SetsRow (old new : Curves) (group boundary : ℕ) (counts : List ℕ) : Type 0 where
+  pub shape : SameShape new old
+  pub here : (d : ℕ) → d < destinations_of old → counts_of new group d boundary ≡ slice_index counts d
+  pub others : (g d k : ℕ) → IsIn old g d k → (g ≢ group) ⊎ (k ≢ boundary) → counts_of new g d k ≡ counts_of old g d k

@@ -39,7 +39,7 @@ impl Curves {
     ghost use Rattle.ltm_curve.specs.Counts.{interpolated, at_time, RisesAt};
     ghost use Rattle.ltm_curve.specs.First.{first_units};
     ghost use Rattle.ltm_curve.specs.FirstLaws.{IsPart};
-    ghost use Rattle.ltm_curve.specs.Table.{groups_of, destinations_of, slots_of, place, counts_of, total_of, HasShape, SameShape, IsIn, IsEmpty, Sets};
+    ghost use Rattle.ltm_curve.specs.Table.{groups_of, destinations_of, slots_of, place, counts_of, total_of, HasShape, SameShape, IsIn, IsEmpty, Sets, SetsRow};
     ghost use Rattle.ltm_curve.specs.CurveLaws.{SameCounts};
 
     /// Curves of this shape whose counts are all 0. There are `slots + 1` boundaries.
@@ -126,6 +126,45 @@ impl Curves {
         self.counts[at] = count;
     }
 
+    /// Where the counts of a group at a boundary begin in the table.
+    fn start(&self, group: u32, boundary: u32) -> usize
+        requires group { group < groups_of self.now }
+        requires boundary { boundary ≤ slots_of self.now }
+        ensures place { result ≡ place self.now group 0 boundary }
+        ensures within { result + destinations_of self.now ≤ length self.now.counts.items }
+    {
+        let _counts = &self.counts;
+        (boundary as usize * self.groups as usize + group as usize) * self.destinations as usize
+    }
+
+    /// The counts of a group at a boundary, one for each destination.
+    #[tactic(auto, unfolding(crate::specs::Table::counts_of))]
+    pub fn row(&self, group: u32, boundary: u32) -> &[u64]
+        requires group { group < groups_of self.now }
+        requires boundary { boundary ≤ slots_of self.now }
+        ensures count { length result.now ≡ destinations_of self.now }
+        ensures counts { (d : ℕ) → d < destinations_of self.now
+            → slice_index result.now d ≡ counts_of self.now group d boundary }
+        ensures small { (d : ℕ) → slice_index result.now d ≤ 2 ^ 48 }
+    {
+        let from = self.start(group, boundary);
+        &self.counts[from..from + self.destinations as usize]
+    }
+
+    /// Changes the counts of a group at a boundary, and no others.
+    #[tactic(auto, unfolding(crate::specs::Table::counts_of))]
+    pub fn set_row(&mut self, group: u32, boundary: u32, counts: &[u64])
+        requires group { group < groups_of self.old }
+        requires boundary { boundary ≤ slots_of self.old }
+        requires count { length counts.now ≡ destinations_of self.old }
+        requires small { (d : ℕ) → d < length counts.now → slice_index counts.now d ≤ 2 ^ 48 }
+        ensures { SetsRow self.old self.new group boundary counts.now }
+    {
+        let from = self.start(group, boundary);
+        let to = from + self.destinations as usize;
+        self.counts[from..to].copy_from_slice(counts);
+    }
+
     /// The total of a group at a boundary, over all destinations.
     pub fn total(&self, group: u32, boundary: u32) -> u64
         requires group { group < groups_of self.now }
@@ -134,8 +173,8 @@ impl Curves {
         ensures small { result ≤ 2 ^ 54 }
     {
         let mut sum = 0u64;
-        for destination in 0..self.destinations {
-            sum += self.get(group, destination, boundary);
+        for count in self.row(group, boundary) {
+            sum += *count;
         }
         sum
     }

@@ -1,4 +1,1 @@
-pub mod Earlier
-pub mod Produced
-pub mod RoadCounts
-pub mod RoadWork
+pub mod Writing

@@ -1,4 +1,2 @@
-pub mod OneRoad
-pub mod OneRoadLoading
-pub mod OneRoadLaws
-pub mod OneRoadWork
+pub mod Shaped
+pub mod Applying

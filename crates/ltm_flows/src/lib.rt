@@ -1,17 +1,11 @@
-//! The loading of one road: how the demand at its tail fills it, and when it leaves at its head.
+//! The loading of a network: slot by slot from an empty network, and the totals of a finished loading.
 //!
-//! A road's loading is what two cumulative counts determine, one at each end of the road (Newell 1993; Yperman 2007).
-//! In each slot no more enters than the origin has waiting and can let out, and than the road can receive; and no more
-//! leaves than has been on the road for its free-flow time, and than its capacity. It stands on `ltm_curve` and
-//! `ltm_units`. A loading takes the memory of its counts once, and costs a few reads and two divisions a slot.
+//! In each slot the step of every node is made from what is counted by the beginning of the slot, and its counts are
+//! written at the end of the slot. The order of the nodes is of no matter, since a link takes at least a slot to pass. It
+//! stands on `ltm_setting`, `ltm_node` and `ltm_curve`. A loading takes the memory of its counts once; a pair of node and
+//! slot takes none.
 #![tactic(auto)]
 
-mod lag;
-mod laws;
-mod road;
+mod node_counts;
 
-pub use laws::{one_road_loading, road_counts_bounded};
-pub use road::{Road, cold_road, generated};
-
-#[cfg(test)]
-mod tests;
+pub use node_counts::apply;

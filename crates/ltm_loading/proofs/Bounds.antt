@@ -34,11 +34,11 @@ arm_capacity_small s u i v x =
 sent_all : (s : Setting) (c : Counts) (t u i : ℕ) → i < arms_of s u → sent (pair_inputs s c u t) i ≡ sum_below s.destinations (sending s c u t i)
 sent_all s c t u i l = sum_below-same s.destinations (node_sending (pair_inputs s c u t) i) (sending s c u t i) (λ d m. (pair_parts s c u t).sending i d l m)
 
-sent_small : (s : Setting) (c : Counts) (t u i : ℕ) → IsSetting s → IsFront s c t → t < s.slots → u < s.nodes → i < arms_of s u → sent (pair_inputs s c u t) i ≤ 32000
+pub sent_small : (s : Setting) (c : Counts) (t u i : ℕ) → IsSetting s → IsFront s c t → t < s.slots → u < s.nodes → i < arms_of s u → sent (pair_inputs s c u t) i ≤ 32000
 sent_small s c t u i v f y x l = omega (arith, sent_all s c t u i l, arm_sent s c t u i v f y x l, arm_capacity_small s u i v x)
 
 -- what arrives in a node step was sent
-arrived_within : (n : Inputs) (o : Outputs) → IsNodeStep n o → arrived_after o ≤ arrived n + sum_below n.shape.destinations (λ d. sum_below n.shape.arms (λ i. node_sending n i d))
+pub arrived_within : (n : Inputs) (o : Outputs) → IsNodeStep n o → arrived_after o ≤ arrived n + sum_below n.shape.destinations (λ d. sum_below n.shape.arms (λ i. node_sending n i d))
 arrived_within n o step =
     let lefts : sum_below n.shape.destinations (λ d. sum_below n.shape.arms (λ i. left_after o i d)) ≤ sum_below n.shape.destinations (λ d. sum_below n.shape.arms (λ i. left n i d) + sum_below n.shape.arms (λ i. node_sending n i d)) =
     sum_below-le n.shape.destinations (λ d. sum_below n.shape.arms (λ i. left_after o i d)) (λ d. sum_below n.shape.arms (λ i. left n i d) + sum_below n.shape.arms (λ i. node_sending n i d))
@@ -59,7 +59,7 @@ arrived_within n o step =
     )
 
 -- one term of a sum that rises by at most r
-term_rises : (n : ℕ) (f g : ℕ → ℕ) (r d : ℕ) → d < n → ((k : ℕ) → k < n → f k ≤ g k) → sum_below n g ≤ sum_below n f + r → g d ≤ f d + r
+pub term_rises : (n : ℕ) (f g : ℕ → ℕ) (r d : ℕ) → d < n → ((k : ℕ) → k < n → f k ≤ g k) → sum_below n g ≤ sum_below n f + r → g d ≤ f d + r
 term_rises n f g r d l up h = omega (arith, sum_below-minus n f g up, le-sum_below n (λ k. g k - f k) d l, up d l)
 
 -- a count that rises by little in each slot
@@ -119,7 +119,7 @@ counts_small_holds s c v t f y d m =
     )
 
 -- the counts that a pair reads
-arm_count_small : (s : Setting) (c : Counts) (t u i d : ℕ) → IsSetting s → IsFront s c t → t ≤ s.slots → u < s.nodes → i < arms_of s u → d < s.destinations → c (arm_group s u i) d t ≤ t * 160000
+pub arm_count_small : (s : Setting) (c : Counts) (t u i d : ℕ) → IsSetting s → IsFront s c t → t ≤ s.slots → u < s.nodes → i < arms_of s u → d < s.destinations → c (arm_group s u i) d t ≤ t * 160000
 arm_count_small s c t u i d v f y x l m =
     elim (cases_lt i (s.ins u)) [
       | inl link ↦
@@ -130,7 +130,7 @@ arm_count_small s c t u i d v f y x l m =
           subst P (sym (pick_second i (s.ins u) (down_of (s.in_link u i)) (dep_of s u) origin)) ((counts_small_holds s c v t f y d m).1.0 u x (omega arith))
     ]
 
-arrived_count_small : (s : Setting) (c : Counts) (t : ℕ) (o : Option ℕ) → IsSetting s → IsFront s c t → t ≤ s.slots → ((d : ℕ) → o ≡ Some d → d < s.destinations) → arrived_by s c o t ≤ t * 160000
+pub arrived_count_small : (s : Setting) (c : Counts) (t : ℕ) (o : Option ℕ) → IsSetting s → IsFront s c t → t ≤ s.slots → ((d : ℕ) → o ≡ Some d → d < s.destinations) → arrived_by s c o t ≤ t * 160000
 arrived_count_small s c t None v f y h = omega arith
 arrived_count_small s c t (Some d) v f y h = (counts_small_holds s c v t f y d (h d refl)).1.1
 

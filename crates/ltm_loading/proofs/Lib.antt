@@ -13,3 +13,5 @@ pub mod Conserve
 pub mod Setters
 pub mod SameRows
 pub mod Reading
+pub mod OneSetter
+pub mod OutputBounds

@@ -9,3 +9,5 @@ pub mod NextPair
 pub mod ByPlace
 pub mod Ready
 pub mod Totals
+pub mod Reads
+pub mod Differing

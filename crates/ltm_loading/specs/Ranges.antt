@@ -1,11 +1,15 @@
 -- How large the numbers of a loading get.
-use Rattle.std.specs.Prelude.{ℕ, ◌*◌, ◌<◌, ◌≤◌}
+use Rattle.std.specs.Prelude.{ℕ, ◌+◌, ◌*◌, ◌<◌, ◌≤◌, slice_index}
 use Rattle.ltm_curve.specs.Counts.{Counts}
+use Rattle.ltm_node.specs.Inputs.{Inputs}
+use Rattle.ltm_node.specs.Outputs.{Outputs}
+use Rattle.ltm_node.specs.Step.{IsNodeStep}
 use Rattle.ltm_node.specs.Solvable.{IsSolvable}
 use Rattle.ltm_loading.specs.Setting.{Setting, IsSetting}
 use Rattle.ltm_loading.specs.Groups.{up_of, down_of, dep_of, arr_of}
 use Rattle.ltm_loading.specs.Pairs.{pair_inputs}
 use Rattle.ltm_loading.specs.Loading.{IsFront}
+use Rattle.ltm_loading.specs.NextPair.{IsFrontTo, IsPairInputs}
 
 -- what a pair of the front's slot reads is in the range of a node step
 abbrev pub InRange : Type 0
@@ -17,3 +21,9 @@ CountsSmall =
     (s : Setting) (c : Counts) → IsSetting s → (t : ℕ) → IsFront s c t → t ≤ s.slots → (d : ℕ) → d < s.destinations →
     ((l : ℕ) → l < s.links → (c (up_of l) d t ≤ t * 160000) × (c (down_of l) d t ≤ t * 160000))
     × (((u : ℕ) → u < s.nodes → 0 < s.outs u → c (dep_of s u) d t ≤ t * 160000) × (c (arr_of s) d t ≤ t * 160000))
+
+-- the numbers of a pair's node step at the front are counts of the next boundary, and as small
+abbrev pub OutputsSmall : Type 0
+OutputsSmall =
+    (s : Setting) (c : Counts) (t u : ℕ) (n : Inputs) (o : Outputs) → IsSetting s → t < s.slots → u < s.nodes → IsFrontTo s c t u →
+    IsPairInputs s c u t n → IsNodeStep n o → (k : ℕ) → slice_index o.row k ≤ (t + 1) * 160000

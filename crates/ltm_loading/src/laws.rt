@@ -8,10 +8,11 @@ ghost use Rattle.ltm_loading.specs.LoadingLaws.{
   Conserved,
   OneLoading,
 };
-ghost use Rattle.ltm_loading.specs.Ranges.{InRange, CountsSmall};
+ghost use Rattle.ltm_loading.specs.Ranges.{InRange, CountsSmall, OutputsSmall};
 ghost use Rattle.ltm_loading.specs.NextPair.{NextPair, NextSlot};
 ghost use Rattle.ltm_loading.specs.ByPlace.{InputsByPlace, CountsByPlace};
 ghost use Rattle.ltm_loading.specs.Ready.{LinksAreReady, OriginsAreReady};
+ghost use Rattle.ltm_loading.specs.Reads.{InputsReadOnly, SetByOnePair};
 
 /// No count falls from one boundary to the next.
 pub fn never_fall()
@@ -56,6 +57,21 @@ pub fn in_range()
 /// A count of the front is at most 160,000 units for each slot so far.
 pub fn counts_small()
     ensures { CountsSmall }
+{}
+
+/// A number that the node step of a pair at the front gives is at most 160,000 units for each slot up to the pair's.
+pub fn outputs_small()
+    ensures { OutputsSmall }
+{}
+
+/// The inputs of a pair are the same for counts that agree at all that the pair reads, up to its slot.
+pub fn inputs_read_only()
+    ensures { InputsReadOnly }
+{}
+
+/// Each count is set by the pairs of one node alone; but what leaves the origin of a node without out-links, by none.
+pub fn set_by_one_pair()
+    ensures { SetByOnePair }
 {}
 
 /// Once the node step of a pair is applied to the front, the node of the pair is done too.

@@ -10,6 +10,7 @@ mod laws;
 
 pub use laws::{
     conserved, counts_by_place, counts_small, first_in_first_out, in_range, inputs_by_place,
-    links_are_ready, never_fall, next_pair, next_slot, one_loading, origins_are_ready, within_exit,
-    within_produced, within_storage,
+    inputs_read_only, links_are_ready, never_fall, next_pair, next_slot, one_loading,
+    origins_are_ready, outputs_small, set_by_one_pair, within_exit, within_produced,
+    within_storage,
 };

@@ -1,5 +1,5 @@
 //! The counts that a node step gives.
-ghost use Rattle.std.specs.Prelude.{◌≡◌, ◌<◌, ◌≤◌, ◌*◌, ◌+◌, ◌^◌, max, take, drop, length, IfOk, slice_index, slice_set};
+ghost use Rattle.std.specs.Prelude.{◌≡◌, ℕ, ◌<◌, ◌≤◌, ◌*◌, ◌+◌, ◌^◌, max, take, drop, length, IfOk, slice_index, slice_set};
 ghost use Rattle.ltm_node.specs.Shape.{counts_width, no_shape};
 ghost use Rattle.ltm_node.specs.Outputs.{
   cleared_outputs,
@@ -79,6 +79,32 @@ impl NodeOutputs {
         ensures { result ≡ entered_after self.now out destination }
     {
         self.counts[self.shape.entered_after_place(out, destination)]
+    }
+
+    /// What has left an arm by the end of the slot, for each destination.
+    #[inline]
+    pub fn left_row(&self, arm: u32) -> &[u64]
+        requires { arm < self.now.shape.arms }
+        ensures count { length result.now ≡ self.now.shape.destinations }
+        ensures counts { (d : ℕ) → d < self.now.shape.destinations
+            → slice_index result.now d ≡ left_after self.now arm d }
+    {
+        let destinations = self.shape.destinations as usize;
+        let from = arm as usize * destinations;
+        &self.counts[from..from + destinations]
+    }
+
+    /// What has entered an out-link by the end of the slot, for each destination.
+    #[inline]
+    pub fn entered_row(&self, out: u32) -> &[u64]
+        requires { out < self.now.shape.outs }
+        ensures count { length result.now ≡ self.now.shape.destinations }
+        ensures counts { (d : ℕ) → d < self.now.shape.destinations
+            → slice_index result.now d ≡ entered_after self.now out d }
+    {
+        let destinations = self.shape.destinations as usize;
+        let from = self.shape.arms as usize * destinations + out as usize * destinations;
+        &self.counts[from..from + destinations]
     }
 
     /// What has arrived at the node by the end of the slot.

@@ -1,18 +1,15 @@
 -- A node becomes a destination.
-use Rattle.std.proofs.Common.{IfSome, suc, ◌-◌, ◌≡◌, ℕ, ◌+◌, ◌<◌, ◌≤◌, ◌==◌, List, [], ◌∷◌, ◌++◌, length, Bool, true, false, cond, if◌then◌else◌, Option, Some, None, Ok, Err, Result, All, get_or, slice_index, nat_le, refl, sym, ap, subst, ◌∙◌, arith, inl, inr, length-append}
-use Rattle.std.proofs.lemmas.Bool.{cases_lt, ltb-true}
+use Rattle.std.proofs.Common.{IfSome, suc, ◌-◌, ◌≡◌, ℕ, ◌+◌, ◌<◌, ◌≤◌, ◌==◌, List, [], ◌∷◌, ◌++◌, length, Bool, true, false, cond, if◌then◌else◌, Option, Some, None, Ok, Err, get_or, slice_index, nat_le, refl, sym, ap, subst, ◌∙◌, arith, inl, inr, length-append}
+use Rattle.std.proofs.lemmas.Bool.{cases_lt}
 use Rattle.std.proofs.lemmas.Bool.Decides.{nat_tests}
-use Rattle.std.proofs.lemmas.List.{get_or_push, get_or_append_left, get_or_default}
+use Rattle.std.proofs.lemmas.List.{get_or_push, get_or_append_left}
 use Rattle.std.proofs.lemmas.List.Elements.{All-push}
 use Rattle.std.specs.List.{position_from}
-use Rattle.ltm_demand.specs.declared.row.DemandRow.{DemandRow}
-use Rattle.ltm_splits.specs.Rows.{SplitRow}
-use Rattle.ltm_scenario.specs.declared.faults.DestinationFault.{DestinationFault}
 use Rattle.ltm_scenario.specs.declared.faults.DestinationFault.TheVariants.{TooMany}
 use Rattle.ltm_scenario.specs.Data.{ScenarioData}
-use Rattle.ltm_scenario.specs.Reads.{destination_of, destination_node}
-use Rattle.ltm_scenario.specs.Build.{added, most_destinations}
-use Rattle.ltm_scenario.specs.IsScenario.{IsScenario, IsDemandOf, IsSplitOf}
+use Rattle.ltm_scenario.specs.Reads.{destination_of}
+use Rattle.ltm_scenario.specs.Build.{added}
+use Rattle.ltm_scenario.specs.IsScenario.{IsScenario}
 
 -- one more element is looked at last
 position_push : (p : ℕ → Bool) (i : ℕ) (xs : List ℕ) (x : ℕ) → position_from p i xs ≡ None → position_from p i (xs ++ x ∷ []) ≡ (if p x then Some (i + length xs) else None)
@@ -56,6 +53,7 @@ pushed_is_scenario s node is there none few =
       setup = is.setup;
       network = is.network;
       diagram_for_each = is.diagram_for_each;
+      limits = is.limits;
       entry_for_each = is.entry_for_each;
       exit_for_each = is.exit_for_each;
       few_destinations = omega arith;
@@ -78,6 +76,8 @@ pushed_is_scenario s node is there none few =
             destination_is_one = omega (arith, old.destination_is_one);
             ends_differ = ap (λ n. (get_or s.demand k d).origin.0 == n) (node_stays s.destinations node (get_or s.demand k d).destination old.destination_is_one) ∙ old.ends_differ;
           };
+      demand_rows = is.demand_rows;
+      weights = is.weights;
       splits = λ k d below.
           let old = is.splits k d below in
           record {

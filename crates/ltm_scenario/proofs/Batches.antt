@@ -1,6 +1,5 @@
 -- Edits, one by one and in batches, keep a scenario valid and its shape.
-use Rattle.std.proofs.Common.{◌≡◌, ℕ, ◌+◌, ◌==◌, ◌&&◌, not, nat_lt, List, [], ◌∷◌, Bool, true, false, cond, Ok, Err, Result, Option, Some, None, sum, min, refl, sym, ap, subst, ◌∙◌}
-use Rattle.std.specs.List.{list_all}
+use Rattle.std.proofs.Common.{◌≡◌, ℕ, ◌+◌, ◌==◌, not, List, [], ◌∷◌, Bool, true, false, Ok, Err, Result, sum, refl, sym, ap, subst, ◌∙◌}
 use Rattle.ltm_diagram.specs.declared.diagram.Diagram.{Diagram}
 use Rattle.ltm_diagram.specs.Limits.{limits_of}
 use Rattle.ltm_network.specs.Network.{find_node, find_link}
@@ -12,7 +11,6 @@ use Rattle.ltm_splits.specs.Rows as splits
 use Rattle.ltm_splits.specs.Rows.{SplitRow, SplitsData, put_in}
 use Rattle.ltm_scenario.specs.declared.edit.Edit.{Edit}
 use Rattle.ltm_scenario.specs.declared.edit.Edit.TheVariants.{Demand, Limit, Split, Diagram as NewDiagram, Exit}
-use Rattle.ltm_scenario.specs.declared.edit.EditFault.{EditFault}
 use Rattle.ltm_scenario.specs.declared.edit.EditCause.{EditCause}
 use Rattle.ltm_scenario.specs.declared.edit.EditCause.TheVariants.{UnknownName, UnknownDestination, NoOrigin, SameEnds, BadSlots, OpenSplit, ZeroWeight, Diagram as BadDiagram}
 use Rattle.ltm_scenario.specs.Weights.{NamedWeight}
@@ -21,7 +19,7 @@ use Rattle.ltm_scenario.specs.Reads.{destination_of, has_no_out_link, has_split}
 use Rattle.ltm_scenario.specs.Shape.{SameShape}
 use Rattle.ltm_scenario.specs.Valid.{IsValid, is_demand_split}
 use Rattle.ltm_scenario.specs.Build.{with_demand, with_split, with_entry_limit, with_exit_limit, are_slots, ◌>>=◌}
-use Rattle.ltm_scenario.specs.Edits.{refuse, found, caused, cause_of_demand, cause_of_split, demand_row, demand_edited, limited_link, limit_edited, exit_edited, split_key, split_row, split_edited, weights_at, is_open, is_out_link, diagram_edited, with_diagram, edited, edited_from, at_place}
+use Rattle.ltm_scenario.specs.Edits.{refuse, found, caused, cause_of_demand, cause_of_split, demand_row, demand_edited, limited_link, limit_edited, exit_edited, split_key, split_row, split_edited, weights_at, is_open, diagram_edited, with_diagram, edited, edited_from, at_place}
 use Rattle.ltm_scenario.proofs.Kept.{with_row_rows, with_split_row_rows}
 use Rattle.ltm_scenario.proofs.Keeps.{split_kept, demand_kept, entry_kept, exit_kept, diagrams_kept}
 

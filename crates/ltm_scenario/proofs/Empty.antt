@@ -1,9 +1,12 @@
 -- A scenario without links.
-use Rattle.std.proofs.Common.{◌≡◌, ℕ, ◌<◌, ◌≤◌, ◌&&◌, [], Bool, true, false, cond, Ok, Err, Result, All, nat_le, refl, arith}
+use Rattle.std.proofs.Common.{◌≡◌, ℕ, ◌≤◌, [], Bool, true, false, cond, Ok, Err, Result, refl, arith}
 use Rattle.std.proofs.lemmas.Bool.Decides.{nat_tests}
 use Rattle.std.proofs.lemmas.List.Elements.{All-nil}
-use Rattle.ltm_network.specs.Network.{NetworkData}
 use Rattle.ltm_network.specs.IsNetwork.{IsNetwork}
+use Rattle.std.specs.List.Sorted.{IsStrictlySortedBy}
+use Rattle.ltm_demand.specs.Rows.{IsDemandRow}
+use Rattle.ltm_demand.specs.Kept.{AreDemandRows}
+use Rattle.ltm_splits.specs.WeightsLie.{AreWeights}
 use Rattle.ltm_scenario.specs.declared.setup.Setup.{Setup}
 use Rattle.ltm_scenario.specs.declared.setup.SetupFault.{SetupFault}
 use Rattle.ltm_scenario.specs.declared.setup.SetupFault.TheVariants.{Range}
@@ -29,16 +32,23 @@ is_setup setup is =
     let capacity = between 1 32000 setup.origin_capacity.0 c.0 in
     record { step_least = step.0; step_most = step.1; slots_least = slots.0; slots_most = slots.1; capacity_least = capacity.0; capacity_most = capacity.1 }
 
+no_rows : (slots : ℕ) → AreDemandRows slots []
+unfolding IsStrictlySortedBy
+no_rows slots = record { ordered = tt; each = All-nil (IsDemandRow slots); few = omega arith }
+
 pub empty_is_scenario : (setup : Setup) → setup_checked setup ≡ Ok tt → IsNetwork (record { nodes = []; links = [] }) → IsScenario (empty_scenario setup)
 empty_is_scenario setup is network = record {
   setup = is_setup setup is;
   network = network;
   diagram_for_each = refl;
+  limits = All-nil _;
   entry_for_each = refl;
   exit_for_each = refl;
   few_destinations = omega arith;
   destinations_are_nodes = All-nil _;
   destinations_apart = λ destination below. absurd (omega arith);
   demand = All-nil (IsDemandOf (empty_scenario setup));
+  demand_rows = no_rows setup.slots;
   splits = All-nil (IsSplitOf (empty_scenario setup));
+  weights = All-nil (λ row. AreWeights row.1);
 }

@@ -1,9 +1,8 @@
 -- Edits keep a scenario valid.
-use Rattle.std.proofs.Common.{◌≡◌, ℕ, ◌+◌, List, [], ◌∷◌, ◌==◌, ◌&&◌, ◌||◌, not, Bool, true, false, cond, refl, sym, ap, subst, ◌∙◌, arith, Ok, Err, Result, nat_lt, nat_le, All}
+use Rattle.std.proofs.Common.{◌≡◌, ℕ, List, [], ◌∷◌, ◌==◌, ◌&&◌, ◌||◌, not, Bool, true, false, refl, sym, ap, ◌∙◌, arith, nat_le}
 use Rattle.std.proofs.lemmas.Bool.Decides.{nat_tests}
 use Rattle.std.proofs.lemmas.List.Sums.{AllPass-from_list_all, list_all-from_AllPass}
 use Rattle.std.specs.List.{list_any, list_all, zip}
-use Rattle.std.specs.declared.cmp.Ordering.{Ordering}
 use Rattle.std.specs.declared.cmp.Ordering.TheVariants.{Less, Equal, Greater}
 use Rattle.std.specs.Ordering.{match_ordering}
 use Rattle.std.specs.BTreeMap.{insert_entry}
@@ -14,8 +13,8 @@ use Rattle.ltm_splits.specs.declared.keys.SplitKey.{SplitKey}
 use Rattle.ltm_splits.specs.Rows.{SplitRow, split_cmp, is_of, put_in}
 use Rattle.ltm_scenario.specs.Data.{ScenarioData}
 use Rattle.ltm_scenario.specs.Reads.{destination_node, has_split}
-use Rattle.ltm_scenario.specs.Cells.{cells, widths, most_cells}
-use Rattle.ltm_scenario.specs.Valid.{IsValid, has_start, leads_on, all_lead_on, is_demand_split, is_split_begun, is_split_led, is_small}
+use Rattle.ltm_scenario.specs.Cells.{most_cells}
+use Rattle.ltm_scenario.specs.Valid.{IsValid, has_start, leads_on, all_lead_on, is_demand_split, is_split_begun, is_split_led}
 use Rattle.ltm_scenario.specs.Edits.{is_open}
 use Rattle.ltm_scenario.proofs.Kept.{split_exact, All-edited}
 use Rattle.ltm_scenario.proofs.Shapes.{cells_with}

@@ -1,6 +1,5 @@
 -- Rows and limits keep a scenario one.
-use Rattle.std.proofs.Common.{◌≡◌, ℕ, ◌+◌, ◌<◌, ◌≤◌, ◌==◌, List, [], ◌∷◌, ◌++◌, length, Bool, true, false, cond, not, Ok, Err, Result, All, nat_le, nat_lt, sum, refl, sym, ap, subst, ◌∙◌, arith}
-use Rattle.std.proofs.lemmas.Bool.Decides.{nat_tests}
+use Rattle.std.proofs.Common.{◌≡◌, ℕ, ◌==◌, List, [], ◌∷◌, ◌++◌, length, true, false, cond, not, Ok, Err, All, nat_le, nat_lt, sum, refl, sym, ap, subst, ◌∙◌}
 use Rattle.std.proofs.lemmas.List.Elements.{All-nil, All-cons, All-head, All-tail, All-append, All-filter}
 use Rattle.std.proofs.Math.ListN.{length-set}
 use Rattle.std.specs.declared.cmp.Ordering.{Ordering}
@@ -8,17 +7,17 @@ use Rattle.std.specs.declared.cmp.Ordering.TheVariants.{Less, Equal, Greater}
 use Rattle.std.specs.Ordering.{match_ordering, ordering_then, is_lt, is_gt}
 use Rattle.std.specs.BTreeMap.{insert_entry}
 use Rattle.std.proofs.lemmas.Map.Lookups.{exact_unsigned}
-use Rattle.ltm_limits.specs.Limits.{with_limit, with_values}
+use Rattle.ltm_limits.specs.Limits.{with_values}
 use Rattle.ltm_demand.specs.declared.row.DemandRow.{DemandRow}
 use Rattle.ltm_demand.specs.declared.row.DemandFault.TheVariants.{BadSlots, TooManyRows}
 use Rattle.ltm_demand.specs.Rows as demand
 use Rattle.ltm_demand.specs.Rows.{DemandData, row_cmp, before, behind, shown, edited, has_slots}
+use Rattle.ltm_demand.specs.Kept.{AreDemandRows}
 use Rattle.ltm_splits.specs.declared.keys.SplitKey.{SplitKey}
 use Rattle.ltm_splits.specs.declared.keys.SplitFault.TheVariants.{BadSlots as SplitSlots, ZeroWeight, TooManyRows as SplitRows}
 use Rattle.ltm_splits.specs.Rows as splits
-use Rattle.ltm_splits.specs.Rows.{SplitRow, SplitsData, split_cmp, is_over, put_in}
+use Rattle.ltm_splits.specs.Rows.{SplitRow, SplitsData, HaveWeights, split_cmp, is_over, put_in}
 use Rattle.ltm_scenario.specs.Data.{ScenarioData, demand_of, splits_of}
-use Rattle.ltm_scenario.specs.Build.{with_exit_limit, with_entry_limit}
 use Rattle.ltm_scenario.specs.IsScenario.{IsScenario, IsDemandOf, IsSplitOf}
 
 -- a row that is set stands among rows that stood before
@@ -42,24 +41,27 @@ with_row_rows d next row is =
       ] e
     ] is
 
-with_demand_rows : (s : ScenarioData) (rows : List DemandRow) → IsScenario s → All (IsDemandOf s) rows → IsScenario (record s { demand = rows })
-with_demand_rows s rows is all = record {
+with_demand_rows : (s : ScenarioData) (rows : List DemandRow) → IsScenario s → All (IsDemandOf s) rows → AreDemandRows s.setup.slots rows → IsScenario (record s { demand = rows })
+with_demand_rows s rows is all kept = record {
   setup = is.setup;
   network = is.network;
   diagram_for_each = is.diagram_for_each;
+  limits = is.limits;
   entry_for_each = is.entry_for_each;
   exit_for_each = is.exit_for_each;
   few_destinations = is.few_destinations;
   destinations_are_nodes = is.destinations_are_nodes;
   destinations_apart = is.destinations_apart;
   demand = λ k d below. let r = all k d below in record { origin_is_node = r.origin_is_node; origin_has_out_link = r.origin_has_out_link; destination_is_one = r.destination_is_one; ends_differ = r.ends_differ };
+  demand_rows = kept;
   splits = λ k d below. let r = is.splits k d below in record { node_is_node = r.node_is_node; destination_is_one = r.destination_is_one; ends_differ = r.ends_differ; weight_for_each = r.weight_for_each };
+  weights = is.weights;
 }
 
-pub demand_is_scenario : (s : ScenarioData) (row : DemandRow) (next : DemandData) → IsScenario s → IsDemandOf s row → demand.with_row (demand_of s) row ≡ Ok next → IsScenario (record s { demand = next.rows })
-demand_is_scenario s row next is here done =
+pub demand_is_scenario : (s : ScenarioData) (row : DemandRow) (next : DemandData) → IsScenario s → IsDemandOf s row → demand.with_row (demand_of s) row ≡ Ok next → AreDemandRows next.slots next.rows → IsScenario (record s { demand = next.rows })
+demand_is_scenario s row next is here done kept =
     let rows : next ≡ record { slots = s.setup.slots; rows = edited s.demand row } = with_row_rows (demand_of s) next row done in
-    subst (λ (rs : List DemandRow). IsScenario (record s { demand = rs })) (sym (ap (λ (d : DemandData). d.rows) rows)) (with_demand_rows s (edited s.demand row) is (All-edited (IsDemandOf s) s.demand row is.demand here))
+    subst (λ (rs : List DemandRow). IsScenario (record s { demand = rs })) (sym (ap (λ (d : DemandData). d.rows) rows)) (with_demand_rows s (edited s.demand row) is (All-edited (IsDemandOf s) s.demand row is.demand here) (subst (λ (d : DemandData). AreDemandRows d.slots d.rows) rows kept))
 
 -- ---- splits
 both_equal : (a b : Ordering) → ordering_then a b ≡ Equal → (a ≡ Equal) × (b ≡ Equal)
@@ -85,18 +87,21 @@ All-put_in P (e ∷ es) key weights all here =
       | Greater ↦ λ _. All-cons P e (insert_entry split_cmp es key weights) (All-head P e es all) (All-put_in P es key weights (All-tail P e es all) here)
     ] refl
 
-with_split_rows : (s : ScenarioData) (rows : List SplitRow) → IsScenario s → All (IsSplitOf s) rows → IsScenario (record s { splits = rows })
-with_split_rows s rows is all = record {
+with_split_rows : (s : ScenarioData) (rows : List SplitRow) → IsScenario s → All (IsSplitOf s) rows → HaveWeights rows → IsScenario (record s { splits = rows })
+with_split_rows s rows is all weights = record {
   setup = is.setup;
   network = is.network;
   diagram_for_each = is.diagram_for_each;
+  limits = is.limits;
   entry_for_each = is.entry_for_each;
   exit_for_each = is.exit_for_each;
   few_destinations = is.few_destinations;
   destinations_are_nodes = is.destinations_are_nodes;
   destinations_apart = is.destinations_apart;
   demand = λ k d below. let r = is.demand k d below in record { origin_is_node = r.origin_is_node; origin_has_out_link = r.origin_has_out_link; destination_is_one = r.destination_is_one; ends_differ = r.ends_differ };
+  demand_rows = is.demand_rows;
   splits = λ k d below. let r = all k d below in record { node_is_node = r.node_is_node; destination_is_one = r.destination_is_one; ends_differ = r.ends_differ; weight_for_each = r.weight_for_each };
+  weights = weights;
 }
 
 -- the data once a split row is set
@@ -113,10 +118,10 @@ with_split_row_rows d next key weights is =
       ] e
     ] is
 
-pub split_is_scenario : (s : ScenarioData) (key : SplitKey) (weights : List ℕ) (next : SplitsData) → IsScenario s → IsSplitOf s (key, weights) → splits.with_row (splits_of s) key weights ≡ Ok next → IsScenario (record s { splits = next.rows })
-split_is_scenario s key weights next is here done =
+pub split_is_scenario : (s : ScenarioData) (key : SplitKey) (weights : List ℕ) (next : SplitsData) → IsScenario s → IsSplitOf s (key, weights) → splits.with_row (splits_of s) key weights ≡ Ok next → HaveWeights next.rows → IsScenario (record s { splits = next.rows })
+split_is_scenario s key weights next is here done have =
     let rows : next ≡ splits.with_rows (splits_of s) (put_in s.splits key weights) = with_split_row_rows (splits_of s) next key weights done in
-    subst (λ (rs : List SplitRow). IsScenario (record s { splits = rs })) (sym (ap (λ (d : SplitsData). d.rows) rows)) (with_split_rows s (put_in s.splits key weights) is (All-put_in (IsSplitOf s) s.splits key weights is.splits here))
+    subst (λ (rs : List SplitRow). IsScenario (record s { splits = rs })) (sym (ap (λ (d : SplitsData). d.rows) rows)) (with_split_rows s (put_in s.splits key weights) is (All-put_in (IsSplitOf s) s.splits key weights is.splits here) (subst (λ (d : SplitsData). HaveWeights d.rows) rows have))
 
 -- ---- limits
 pub entry_is_scenario : (s : ScenarioData) (link from : ℕ) (values : List ℕ) → IsScenario s → IsScenario (record s { entry = with_values s.entry link from values })
@@ -124,13 +129,16 @@ entry_is_scenario s link from values is = record {
   setup = is.setup;
   network = is.network;
   diagram_for_each = is.diagram_for_each;
+  limits = is.limits;
   entry_for_each = length-set s.entry link _ ∙ is.entry_for_each;
   exit_for_each = is.exit_for_each;
   few_destinations = is.few_destinations;
   destinations_are_nodes = is.destinations_are_nodes;
   destinations_apart = is.destinations_apart;
   demand = λ k d below. let r = is.demand k d below in record { origin_is_node = r.origin_is_node; origin_has_out_link = r.origin_has_out_link; destination_is_one = r.destination_is_one; ends_differ = r.ends_differ };
+  demand_rows = is.demand_rows;
   splits = λ k d below. let r = is.splits k d below in record { node_is_node = r.node_is_node; destination_is_one = r.destination_is_one; ends_differ = r.ends_differ; weight_for_each = r.weight_for_each };
+  weights = is.weights;
 }
 
 pub exit_is_scenario : (s : ScenarioData) (link from : ℕ) (values : List ℕ) → IsScenario s → IsScenario (record s { exit = with_values s.exit link from values })
@@ -138,11 +146,14 @@ exit_is_scenario s link from values is = record {
   setup = is.setup;
   network = is.network;
   diagram_for_each = is.diagram_for_each;
+  limits = is.limits;
   entry_for_each = is.entry_for_each;
   exit_for_each = length-set s.exit link _ ∙ is.exit_for_each;
   few_destinations = is.few_destinations;
   destinations_are_nodes = is.destinations_are_nodes;
   destinations_apart = is.destinations_apart;
   demand = λ k d below. let r = is.demand k d below in record { origin_is_node = r.origin_is_node; origin_has_out_link = r.origin_has_out_link; destination_is_one = r.destination_is_one; ends_differ = r.ends_differ };
+  demand_rows = is.demand_rows;
   splits = λ k d below. let r = is.splits k d below in record { node_is_node = r.node_is_node; destination_is_one = r.destination_is_one; ends_differ = r.ends_differ; weight_for_each = r.weight_for_each };
+  weights = is.weights;
 }

@@ -1,6 +1,7 @@
 -- A scenario with one link more.
-use Rattle.std.proofs.Common.{◌≡◌, ℕ, ◌+◌, ◌<◌, ◌≤◌, ◌==◌, List, [], ◌∷◌, ◌++◌, length, map, Bool, true, false, cond, if◌then◌else◌, is_some, nat_le, Ok, Err, Result, All, refl, sym, ap, ◌∙◌, arith, length-append}
+use Rattle.std.proofs.Common.{◌≡◌, ℕ, ◌+◌, ◌<◌, ◌≤◌, ◌==◌, List, [], ◌∷◌, ◌++◌, length, map, Bool, true, false, if◌then◌else◌, is_some, nat_le, Ok, Err, Result, IsOk, refl, sym, ap, ◌∙◌, arith, length-append}
 use Rattle.std.proofs.lemmas.Bool.Decides.{nat_tests}
+use Rattle.std.proofs.lemmas.List.Elements.{All-push}
 use Rattle.ltm_units.specs.declared.places.LinkId.{LinkId}
 use Rattle.ltm_diagram.specs.declared.diagram.Diagram.{Diagram}
 use Rattle.ltm_diagram.specs.declared.diagram.Limits.{Limits}
@@ -12,13 +13,11 @@ use Rattle.ltm_network.specs.Names.{place_of, named, number_of}
 use Rattle.ltm_network.specs.Numbers.{numbers_of}
 use Rattle.ltm_network.specs.Network as network
 use Rattle.ltm_network.specs.Network.{NetworkData, Link, out_links, leaves, checked}
-use Rattle.ltm_network.specs.IsNetwork.{IsNetwork, NetworksStay}
+use Rattle.ltm_network.specs.IsNetwork.{NetworksStay}
 use Rattle.ltm_demand.specs.declared.row.DemandRow.{DemandRow}
 use Rattle.ltm_splits.specs.Rows.{SplitRow}
-use Rattle.ltm_scenario.specs.declared.faults.LinkFault.{LinkFault}
 use Rattle.ltm_scenario.specs.declared.faults.LinkFault.TheVariants.{Network, Diagram as BadDiagram}
 use Rattle.ltm_scenario.specs.Data.{ScenarioData}
-use Rattle.ltm_scenario.specs.Reads.{has_no_out_link}
 use Rattle.ltm_scenario.specs.Build.{with_link, linked, of_network, of_diagram, ◌>>=◌, HasNoSplitAt}
 use Rattle.ltm_scenario.specs.IsScenario.{IsScenario, IsDemandOf, IsSplitOf}
 
@@ -93,20 +92,23 @@ split_stays s name tail head diagram row apart is =
       weight_for_each = is.weight_for_each ∙ sym same;
     }
 
-pub linked_is_scenario : (s : ScenarioData) (name tail head : List ℕ) (diagram : Diagram) → NetworksStay → IsScenario s → checked s.network name tail head ≡ Ok tt → HasNoSplitAt s (number_of s.network.nodes tail) → IsScenario (linked s (network.linked s.network name tail head) diagram)
-linked_is_scenario s name tail head diagram stay is taken free =
+pub linked_is_scenario : (s : ScenarioData) (name tail head : List ℕ) (diagram : Diagram) → NetworksStay → IsScenario s → checked s.network name tail head ≡ Ok tt → HasNoSplitAt s (number_of s.network.nodes tail) → IsOk (limits_of diagram s.setup.step.0) → IsScenario (linked s (network.linked s.network name tail head) diagram)
+linked_is_scenario s name tail head diagram stay is taken free sets =
     let next : NetworkData = network.linked s.network name tail head in
     record {
       setup = is.setup;
       network = stay.more s.network next name tail head is.network (network_linked s.network name tail head taken);
       diagram_for_each = length-append s.diagrams (diagram ∷ []) ∙ ap (λ n. n + 1) is.diagram_for_each ∙ sym (length-append s.network.links _);
+      limits = All-push (λ d. IsOk (limits_of d s.setup.step.0)) s.diagrams diagram is.limits sets;
       entry_for_each = length-append s.entry _ ∙ ap (λ n. n + 1) is.entry_for_each ∙ sym (length-append s.network.links _);
       exit_for_each = length-append s.exit _ ∙ ap (λ n. n + 1) is.exit_for_each ∙ sym (length-append s.network.links _);
       few_destinations = is.few_destinations;
       destinations_are_nodes = λ k d below. omega (arith, is.destinations_are_nodes k d below, named_longer s.network.nodes tail, named_longer (named s.network.nodes tail) head);
       destinations_apart = is.destinations_apart;
       demand = λ k d below. demand_stays s name tail head diagram _ (is.demand k d below);
+      demand_rows = is.demand_rows;
       splits = λ k d below. split_stays s name tail head diagram _ (free k d below) (is.splits k d below);
+      weights = is.weights;
     }
 
 -- ---- a link that is taken finds room

@@ -1,18 +1,20 @@
 -- The tables of a scenario once one of them changes.
-use Rattle.std.proofs.Common.{◌≡◌, ℕ, ◌<◌, List, [], ◌∷◌, ◌++◌, Ok, Err, Result, refl, sym, ap, subst, ◌∙◌}
+use Rattle.std.proofs.Common.{◌≡◌, ℕ, ◌<◌, List, [], ◌∷◌, ◌++◌, Ok, Err, Result, IsOk, refl, sym, ap, subst, ◌∙◌}
 use Rattle.ltm_limits.specs.Limits.{LimitsState, with_link as with_limits_of_link}
 use Rattle.ltm_diagram.specs.declared.diagram.Diagram.{Diagram}
+use Rattle.ltm_diagram.specs.Limits.{limits_of}
 use Rattle.ltm_network.specs.Network.{NetworkData, linked as linked_network, checked}
 use Rattle.ltm_network.specs.Names.{number_of}
 use Rattle.ltm_network.specs.IsNetwork.{NetworksStay}
 use Rattle.ltm_demand.specs.declared.row.DemandRow.{DemandRow}
 use Rattle.ltm_demand.specs.Rows as demand
 use Rattle.ltm_demand.specs.Rows.{DemandData, DemandState}
+use Rattle.ltm_demand.specs.Kept.{AreDemandRows}
 use Rattle.ltm_splits.specs.declared.keys.SplitKey.{SplitKey}
 use Rattle.ltm_splits.specs.Rows as splits
-use Rattle.ltm_splits.specs.Rows.{SplitsData}
+use Rattle.ltm_splits.specs.Rows.{SplitsData, HaveWeights}
 use Rattle.ltm_scenario.specs.declared.tables.Tables.TheInside.{Inside}
-use Rattle.ltm_scenario.specs.Data.{ScenarioData, demand_of, splits_of}
+use Rattle.ltm_scenario.specs.Data.{demand_of, splits_of}
 use Rattle.ltm_scenario.specs.Reads.{destination_of}
 use Rattle.ltm_scenario.specs.Build.{added, linked, HasNoSplitAt}
 use Rattle.ltm_scenario.specs.Diagrams.{DiagramsState}
@@ -29,11 +31,11 @@ splits_there : (t : Inside) → AreTables t → t.splits ≡ splits_of (scenario
 splits_there t are = let P : ℕ → SplitsData = λ n. record { slots = n; rows = t.splits.rows } in ap P are.splits_slots
 
 -- the demand with a row, and the same demand with other room
-pub with_demand_row : (t : Inside) (next : DemandState) (row : DemandRow) → AreTables t → IsDemandOf (scenario_in t) row → demand.with_row t.demand.demand row ≡ Ok next.demand → AreTables (record t { demand = next })
-with_demand_row t next row are is done =
+pub with_demand_row : (t : Inside) (next : DemandState) (row : DemandRow) → AreTables t → IsDemandOf (scenario_in t) row → demand.with_row t.demand.demand row ≡ Ok next.demand → AreDemandRows next.demand.slots next.demand.rows → AreTables (record t { demand = next })
+with_demand_row t next row are is done kept =
     let there : demand.with_row (demand_of (scenario_in t)) row ≡ Ok next.demand = ap (λ d. demand.with_row d row) (sym (demand_there t are)) ∙ done in
     record {
-      scenario = demand_is_scenario (scenario_in t) row next.demand are.scenario is there;
+      scenario = demand_is_scenario (scenario_in t) row next.demand are.scenario is there kept;
       step = are.step;
       demand_slots = ap (λ (d : DemandData). d.slots) (with_row_rows (demand_of (scenario_in t)) next.demand row there);
       splits_slots = are.splits_slots;
@@ -51,11 +53,11 @@ with_same_demand t next are same = record {
   exit_slots = are.exit_slots;
 }
 
-pub with_split_row : (t : Inside) (next : SplitsData) (key : SplitKey) (weights : List ℕ) → AreTables t → IsSplitOf (scenario_in t) (key, weights) → splits.with_row t.splits key weights ≡ Ok next → AreTables (record t { splits = next })
-with_split_row t next key weights are is done =
+pub with_split_row : (t : Inside) (next : SplitsData) (key : SplitKey) (weights : List ℕ) → AreTables t → IsSplitOf (scenario_in t) (key, weights) → splits.with_row t.splits key weights ≡ Ok next → HaveWeights next.rows → AreTables (record t { splits = next })
+with_split_row t next key weights are is done have =
     let there : splits.with_row (splits_of (scenario_in t)) key weights ≡ Ok next = ap (λ d. splits.with_row d key weights) (sym (splits_there t are)) ∙ done in
     record {
-      scenario = split_is_scenario (scenario_in t) key weights next are.scenario is there;
+      scenario = split_is_scenario (scenario_in t) key weights next are.scenario is there have;
       step = are.step;
       demand_slots = are.demand_slots;
       splits_slots = ap (λ (d : SplitsData). d.slots) (with_split_row_rows (splits_of (scenario_in t)) next key weights there);
@@ -80,11 +82,11 @@ pub with_same_destinations : (t : Inside) (next : List ℕ) → AreTables t → 
 with_same_destinations t next are same = subst (λ (ds : List ℕ). AreTables (record t { destinations = ds })) (sym same) are
 
 -- a link more
-pub with_linked : (t : Inside) (name tail head : List ℕ) (diagram : Diagram) (network : NetworkData) (diagrams : DiagramsState) (entry exit : LimitsState) → NetworksStay → AreTables t → checked t.network name tail head ≡ Ok tt → HasNoSplitAt (scenario_in t) (number_of t.network.nodes tail) →
+pub with_linked : (t : Inside) (name tail head : List ℕ) (diagram : Diagram) (network : NetworkData) (diagrams : DiagramsState) (entry exit : LimitsState) → NetworksStay → AreTables t → checked t.network name tail head ≡ Ok tt → HasNoSplitAt (scenario_in t) (number_of t.network.nodes tail) → IsOk (limits_of diagram t.setup.step.0) →
     network ≡ linked_network t.network name tail head → diagrams.step ≡ t.diagrams.step → diagrams.diagrams ≡ t.diagrams.diagrams ++ diagram ∷ [] →
     entry.limits ≡ with_limits_of_link t.entry.limits t.entry.slots → entry.slots ≡ t.entry.slots → exit.limits ≡ with_limits_of_link t.exit.limits t.exit.slots → exit.slots ≡ t.exit.slots →
     (scenario_in (record t { network = network; diagrams = diagrams; entry = entry; exit = exit }) ≡ linked (scenario_in t) (linked_network t.network name tail head) diagram) × AreTables (record t { network = network; diagrams = diagrams; entry = entry; exit = exit })
-with_linked t name tail head diagram network diagrams entry exit stay are taken free network_is step_is diagrams_are entry_is entry_slots exit_is exit_slots =
+with_linked t name tail head diagram network diagrams entry exit stay are taken free sets network_is step_is diagrams_are entry_is entry_slots exit_is exit_slots =
     let same : scenario_in (record t { network = network; diagrams = diagrams; entry = entry; exit = exit }) ≡ linked (scenario_in t) (linked_network t.network name tail head) diagram =
     λ i. record (scenario_in t) {
       network = network_is i;
@@ -94,7 +96,7 @@ with_linked t name tail head diagram network diagrams entry exit stay are taken 
     } in (
       same,
       record {
-        scenario = subst IsScenario (sym same) (linked_is_scenario (scenario_in t) name tail head diagram stay are.scenario taken free);
+        scenario = subst IsScenario (sym same) (linked_is_scenario (scenario_in t) name tail head diagram stay are.scenario taken free sets);
         step = step_is ∙ are.step;
         demand_slots = are.demand_slots;
         splits_slots = are.splits_slots;

@@ -2,13 +2,11 @@
 use Rattle.std.proofs.Common.{◌≡◌, ℕ, ◌+◌, ◌*◌, ◌<◌, ◌≤◌, ◌==◌, ◌||◌, not, Bool, true, false, length, refl, sym, ap, subst, ◌∙◌, arith, IsSome, vec_len, List}
 use Rattle.std.proofs.lemmas.Bool.Decides.{nat_tests}
 use Rattle.ltm_demand.specs.declared.row.DemandRow.{DemandRow}
-use Rattle.ltm_demand.specs.Rows as demand
-use Rattle.ltm_demand.specs.Rows.{DemandData, DemandState, CanRestore, takes_no_memory, amount_at}
+use Rattle.ltm_demand.specs.Rows.{DemandData, CanRestore, amount_at}
 use Rattle.ltm_scenario.specs.declared.undo.Undo.{Undo}
 use Rattle.ltm_scenario.specs.declared.undo.Undo.TheVariants.{Demand, Entry, Exit, NewSplit, OldSplit, Diagram}
 use Rattle.ltm_scenario.specs.Data.{ScenarioData, demand_of}
-use Rattle.ltm_scenario.specs.State.{ScenarioState, demand_state, KeepsRoom}
-use Rattle.ltm_scenario.specs.IsScenario.{IsScenario}
+use Rattle.ltm_scenario.specs.State.{ScenarioState, KeepsRoom}
 use Rattle.ltm_scenario.specs.Undo.{undone, Fits, CanUndo, Undoes}
 
 pub room_stays : (s : ScenarioState) → KeepsRoom s s

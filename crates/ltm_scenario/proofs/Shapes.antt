@@ -1,10 +1,10 @@
 -- What no edit changes fixes the cells.
-use Rattle.std.proofs.Common.{◌≡◌, ℕ, ◌==◌, if◌then◌else◌, ◌+◌, List, length, sum_by, refl, sym, ◌∙◌}
+use Rattle.std.proofs.Common.{◌≡◌, ℕ, List, length, sum_by, refl, sym, ◌∙◌}
 use Rattle.std.specs.List.{range_with_len}
 use Rattle.ltm_network.specs.Network.{NetworkData, in_links, out_links}
 use Rattle.ltm_scenario.specs.declared.setup.Setup.{Setup}
 use Rattle.ltm_scenario.specs.Data.{ScenarioData}
-use Rattle.ltm_scenario.specs.Cells.{arms_of, width_of, width, widths, cells_of, cells}
+use Rattle.ltm_scenario.specs.Cells.{arms_of, width_of, widths, cells_of, cells}
 use Rattle.ltm_scenario.specs.Shape.{SameShape}
 
 -- the cells by what they rest on

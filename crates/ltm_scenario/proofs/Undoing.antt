@@ -1,8 +1,10 @@
 -- What an edit of one table changes, and how it is undone.
-use Rattle.std.proofs.Common.{◌≡◌, ℕ, ◌+◌, ◌-◌, ◌*◌, ◌<◌, ◌≤◌, List, length, slice_set, get_or, Ok, Some, None, IsSome, Option, refl, sym, ap, subst, ◌∙◌, arith, vec_len}
+use Rattle.std.proofs.Common.{◌≡◌, ℕ, ◌+◌, ◌-◌, ◌*◌, ◌<◌, ◌≤◌, List, length, slice_set, get_or, Ok, Some, None, IsSome, IsOk, Option, refl, sym, ap, subst, ◌∙◌, arith, vec_len}
 use Rattle.std.specs.Global.{Vec}
 use Rattle.std.proofs.Math.ListN.{set, length-set}
+use Rattle.std.specs.Result.{is_ok}
 use Rattle.std.proofs.lemmas.List.{set-set, set-get_or}
+use Rattle.std.proofs.lemmas.List.Elements.{All-set}
 use Rattle.ltm_limits.specs.Limits.{LimitsState, with_values}
 use Rattle.ltm_diagram.specs.declared.diagram.Diagram.{Diagram as LinkDiagram}
 use Rattle.ltm_diagram.specs.declared.diagram.Limits.{Limits}
@@ -18,7 +20,7 @@ use Rattle.ltm_scenario.specs.declared.undo.Undo.{Undo}
 use Rattle.ltm_scenario.specs.declared.undo.Undo.TheVariants.{Demand, Entry, Exit, NewSplit, OldSplit, Diagram}
 use Rattle.ltm_scenario.specs.Data.{ScenarioData}
 use Rattle.ltm_scenario.specs.Diagrams.{DiagramsState}
-use Rattle.ltm_scenario.specs.State.{ScenarioState, demand_state}
+use Rattle.ltm_scenario.specs.State.{ScenarioState}
 use Rattle.ltm_scenario.specs.IsScenario.{IsScenario}
 use Rattle.ltm_scenario.specs.SplitNote.{IsSplitNote}
 use Rattle.ltm_scenario.specs.Tables.{scenario_in, state_in, AreTables}
@@ -130,26 +132,29 @@ splits_restored t next rows are is done =
     )
 
 -- ---- diagrams
-diagram_is_scenario : (s : ScenarioData) (link : ℕ) (diagram : LinkDiagram) → IsScenario s → IsScenario (record s { diagrams = slice_set s.diagrams link diagram })
-diagram_is_scenario s link diagram is = record {
+diagram_is_scenario : (s : ScenarioData) (link : ℕ) (diagram : LinkDiagram) → IsScenario s → IsOk (limits_of diagram s.setup.step.0) → IsScenario (record s { diagrams = slice_set s.diagrams link diagram })
+diagram_is_scenario s link diagram is sets = record {
   setup = is.setup;
   network = is.network;
   diagram_for_each = length-set s.diagrams link diagram ∙ is.diagram_for_each;
+  limits = All-set (λ d. IsOk (limits_of d s.setup.step.0)) s.diagrams link diagram sets is.limits;
   entry_for_each = is.entry_for_each;
   exit_for_each = is.exit_for_each;
   few_destinations = is.few_destinations;
   destinations_are_nodes = is.destinations_are_nodes;
   destinations_apart = is.destinations_apart;
   demand = λ k d below. let r = is.demand k d below in record { origin_is_node = r.origin_is_node; origin_has_out_link = r.origin_has_out_link; destination_is_one = r.destination_is_one; ends_differ = r.ends_differ };
+  demand_rows = is.demand_rows;
   splits = λ k d below. let r = is.splits k d below in record { node_is_node = r.node_is_node; destination_is_one = r.destination_is_one; ends_differ = r.ends_differ; weight_for_each = r.weight_for_each };
+  weights = is.weights;
 }
 
-pub diagrams_changed : (t : Inside) (next : DiagramsState) (link : ℕ) (diagram : LinkDiagram) → AreTables t → next.step ≡ t.diagrams.step → next.diagrams ≡ slice_set t.diagrams.diagrams link diagram → (scenario_in (record t { diagrams = next }) ≡ record (scenario_in t) { diagrams = slice_set t.diagrams.diagrams link diagram }) × AreTables (record t { diagrams = next })
-diagrams_changed t next link diagram are step done =
+pub diagrams_changed : (t : Inside) (next : DiagramsState) (link : ℕ) (diagram : LinkDiagram) (limits : Limits) → AreTables t → limits_of diagram t.setup.step.0 ≡ Ok limits → next.step ≡ t.diagrams.step → next.diagrams ≡ slice_set t.diagrams.diagrams link diagram → (scenario_in (record t { diagrams = next }) ≡ record (scenario_in t) { diagrams = slice_set t.diagrams.diagrams link diagram }) × AreTables (record t { diagrams = next })
+diagrams_changed t next link diagram limits are sets step done =
     let same : scenario_in (record t { diagrams = next }) ≡ record (scenario_in t) { diagrams = slice_set t.diagrams.diagrams link diagram } = ap (λ ds. record (scenario_in t) { diagrams = ds }) done in (
       same,
       record {
-        scenario = subst IsScenario (sym same) (diagram_is_scenario (scenario_in t) link diagram are.scenario);
+        scenario = subst IsScenario (sym same) (diagram_is_scenario (scenario_in t) link diagram are.scenario (ap is_ok sets));
         step = step ∙ are.step;
         demand_slots = are.demand_slots;
         splits_slots = are.splits_slots;
@@ -158,8 +163,8 @@ diagrams_changed t next link diagram are step done =
       },
     )
 
-pub diagrams_restored : (t : Inside) (next : DiagramsState) (link : ℕ) (diagram : LinkDiagram) (limits : Limits) → AreTables t → next.step ≡ t.diagrams.step → next.diagrams ≡ slice_set t.diagrams.diagrams link diagram → (scenario_in (record t { diagrams = next }) ≡ undone (scenario_in t) (Diagram link diagram limits)) × AreTables (record t { diagrams = next })
-diagrams_restored t next link diagram limits are step done = diagrams_changed t next link diagram are step done
+pub diagrams_restored : (t : Inside) (next : DiagramsState) (link : ℕ) (diagram : LinkDiagram) (limits : Limits) → AreTables t → limits_of diagram t.setup.step.0 ≡ Ok limits → next.step ≡ t.diagrams.step → next.diagrams ≡ slice_set t.diagrams.diagrams link diagram → (scenario_in (record t { diagrams = next }) ≡ undone (scenario_in t) (Diagram link diagram limits)) × AreTables (record t { diagrams = next })
+diagrams_restored t next link diagram limits are sets step done = diagrams_changed t next link diagram limits are sets step done
 
 pub diagram_undoes : (t : Inside) (next : DiagramsState) (link : ℕ) (diagram old : LinkDiagram) (limits : Limits) → AreTables t → link < length t.diagrams.diagrams → next.diagrams ≡ slice_set t.diagrams.diagrams link diagram → old ≡ get_or t.diagrams.diagrams link old → limits_of old t.setup.step.0 ≡ Ok limits → Undoes (state_in t) (state_in (record t { diagrams = next })) (Diagram link old limits)
 diagram_undoes t next link diagram old limits are inside done was sets =

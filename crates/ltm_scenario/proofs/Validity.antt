@@ -1,12 +1,11 @@
 -- No rule is broken exactly where all four hold.
-use Rattle.std.proofs.Common.{◌≡◌, ℕ, List, [], ◌∷◌, ◌&&◌, ◌↔◌, IsOk, Bool, true, false, cond, Ok, Err, Result, refl, sym, ap, ◌∙◌}
+use Rattle.std.proofs.Common.{◌≡◌, List, [], ◌∷◌, ◌&&◌, ◌↔◌, IsOk, Bool, true, false, Ok, Err, refl, sym, ap, ◌∙◌}
 use Rattle.std.specs.List.{list_all, zip}
-use Rattle.ltm_demand.specs.declared.row.DemandRow.{DemandRow}
 use Rattle.ltm_splits.specs.Rows.{SplitRow}
 use Rattle.ltm_network.specs.Network.{out_links}
 use Rattle.ltm_scenario.specs.declared.faults.ScenarioFault.{ScenarioFault}
 use Rattle.ltm_scenario.specs.Data.{ScenarioData}
-use Rattle.ltm_scenario.specs.Valid.{IsValid, leads_on, is_demand_split, is_split_begun, is_split_led, is_small, all_lead_on}
+use Rattle.ltm_scenario.specs.Valid.{IsValid, leads_on, is_demand_split, is_split_begun, is_split_led, is_small}
 use Rattle.ltm_scenario.specs.Check.{Checked, need, ◌>>>◌, first_over, no_split, demand_row_checked, weight_checked, weights_checked, split_row_checked, cells_checked, checked}
 
 needed : (b : Bool) (fault : ScenarioFault) → need b fault ≡ Ok tt → b ≡ true

@@ -1,11 +1,8 @@
 -- What edits make of a scenario, or the first cause to refuse one.
-use Rattle.std.specs.Prelude.{◌≡◌, ℕ, ◌+◌, ◌==◌, ◌≤◌, ◌&&◌, ◌||◌, not, Bool, false, nat_lt, if◌then◌else◌, List, [], ◌∷◌, All, map, sum, slice_set, Option, Some, None, Result, Ok, Err}
+use Rattle.std.specs.Prelude.{ℕ, ◌+◌, ◌==◌, ◌≤◌, ◌&&◌, ◌||◌, not, Bool, false, nat_lt, if◌then◌else◌, List, [], ◌∷◌, All, map, sum, slice_set, Option, Some, None, Result, Ok, Err}
 use Rattle.std.specs.List.{list_all}
 use Rattle.std.specs.Option.{option_map_or}
-use Rattle.ltm_units.specs.declared.quantities.Units.{Units}
 use Rattle.ltm_diagram.specs.declared.diagram.Diagram.{Diagram}
-use Rattle.ltm_diagram.specs.declared.diagram.Limits.{Limits}
-use Rattle.ltm_diagram.specs.declared.diagram.DiagramFault.{DiagramFault}
 use Rattle.ltm_diagram.specs.Limits.{limits_of}
 use Rattle.ltm_network.specs.Names.{same}
 use Rattle.ltm_network.specs.Network.{find_node, find_link, link_name, tail_of, out_links}

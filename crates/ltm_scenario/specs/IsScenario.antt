@@ -1,9 +1,11 @@
 -- What holds of the data of every scenario.
-use Rattle.std.specs.Prelude.{◌≡◌, ℕ, ◌<◌, ◌≤◌, ◌==◌, Bool, false, List, length, slice_index, All, Some}
+use Rattle.std.specs.Prelude.{◌≡◌, ℕ, ◌<◌, ◌≤◌, ◌==◌, false, length, All, Some, IsOk}
 use Rattle.ltm_network.specs.Network.{out_links}
 use Rattle.ltm_network.specs.IsNetwork.{IsNetwork}
+use Rattle.ltm_diagram.specs.Limits.{limits_of}
 use Rattle.ltm_demand.specs.declared.row.DemandRow.{DemandRow}
-use Rattle.ltm_splits.specs.Rows.{SplitRow}
+use Rattle.ltm_demand.specs.Kept.{AreDemandRows}
+use Rattle.ltm_splits.specs.Rows.{SplitRow, HaveWeights}
 use Rattle.ltm_scenario.specs.Setup.{IsSetup}
 use Rattle.ltm_scenario.specs.Data.{ScenarioData}
 use Rattle.ltm_scenario.specs.Reads.{destination_node, destination_of, has_no_out_link}
@@ -26,10 +28,14 @@ pub record IsScenario (s : ScenarioData) : Type 0 where
   pub setup : IsSetup s.setup
   pub network : IsNetwork s.network
   pub diagram_for_each : length s.diagrams ≡ length s.network.links
+  -- each diagram sets limits at the step
+  pub limits : All (λ diagram. IsOk (limits_of diagram s.setup.step.0)) s.diagrams
   pub entry_for_each : length s.entry ≡ length s.network.links
   pub exit_for_each : length s.exit ≡ length s.network.links
   pub few_destinations : length s.destinations ≤ 64
   pub destinations_are_nodes : All (λ node. node < length s.network.nodes) s.destinations
   pub destinations_apart : (destination : ℕ) → destination < length s.destinations → destination_of s.destinations (destination_node s destination) ≡ Some destination
   pub demand : All (IsDemandOf s) s.demand
+  pub demand_rows : AreDemandRows s.setup.slots s.demand
   pub splits : All (IsSplitOf s) s.splits
+  pub weights : HaveWeights s.splits

@@ -1,5 +1,5 @@
 -- What undoes an edit.
-use Rattle.std.specs.Prelude.{◌≡◌, ℕ, ◌+◌, ◌*◌, ◌<◌, ◌≤◌, length, slice_set, vec_len, IsSome, Ok}
+use Rattle.std.specs.Prelude.{◌≡◌, ◌+◌, ◌*◌, ◌<◌, ◌≤◌, length, slice_set, vec_len, IsSome, Ok}
 use Rattle.ltm_limits.specs.Limits.{with_values}
 use Rattle.ltm_diagram.specs.Limits.{limits_of}
 use Rattle.ltm_demand.specs.Rows.{CanRestore, edited as edited_rows}

@@ -257,10 +257,10 @@ impl Tables {
         ensures err { OnErr result (self.new.scenario ≡ self.old.scenario) }
         ensures cause { IfErr result (λ e. e ≢ DemandFault.NoMemory → with_demand self.old.scenario row ≡ Err e) }
     {
-        match self.demand.set(row) {
-            Ok(()) => return Ok(()),
-            Err(fault) => return Err(fault),
-        }
+        let answer = self.demand.set(row);
+        // What every demand keeps of its rows is kept of the scenario's.
+        let _rows = self.demand.rows();
+        answer
     }
 
     #[tactic(auto, using(crate::proofs::Parts::with_split_row, crate::proofs::Parts::with_same_splits))]

@@ -23,17 +23,20 @@ filter_holds P Q p f (x ∷ xs) all =
       | false ↦ λ is. filter_holds P Q p f xs all.1
     ] refl
 
-of_pair : (s : ScenarioData) (n d t : ℕ) (row : SplitRow) → IsSplitOf s row → (is_of n d row && nat_le row.0.from t) ≡ true → length row.1 ≡ length (out_links s.network n)
-of_pair s n d t row one is = let node : row.0.node.0 ≡ n = grind (arith, nat_tests) in one.weight_for_each ∙ ap (λ u. length (out_links s.network u)) node
-
 kept : (W : List ℕ → Type 0) (o : Option SplitRow) → IfSome o (λ row. W row.1) → IfSome (option_map (λ row. row.1) o) W
 kept W None h = tt
 kept W (Some row) h = h
 
+-- what the weights of each row of the pair are, the weights in force are
+pub in_force : (P : SplitRow → Type 0) (W : List ℕ → Type 0) (rows : List SplitRow) (n d t : ℕ) → ((row : SplitRow) → P row → (is_of n d row && nat_le row.0.from t) ≡ true → W row.1) → All P rows → IfSome (row_in_force rows n d t) W
+in_force P W rows n d t f all =
+    kept W (last_or None (begun rows n d t))
+    (last_holds (λ row. W row.1) None (begun rows n d t) tt
+    (filter_holds P (λ row. W row.1) (λ row. is_of n d row && nat_le row.0.from t) f rows (recursion_from_All P rows all)))
+
+of_pair : (s : ScenarioData) (n d t : ℕ) (row : SplitRow) → IsSplitOf s row → (is_of n d row && nat_le row.0.from t) ≡ true → length row.1 ≡ length (out_links s.network n)
+of_pair s n d t row one is = let node : row.0.node.0 ≡ n = grind (arith, nat_tests) in one.weight_for_each ∙ ap (λ u. length (out_links s.network u)) node
+
 -- it has a weight for each out-link
 pub weight_for_each : (s : ScenarioData) (n d t : ℕ) → All (IsSplitOf s) s.splits → IfSome (row_in_force s.splits n d t) (λ w. length w ≡ length (out_links s.network n))
-weight_for_each s n d t all =
-    let W : List ℕ → Type 0 = λ w. length w ≡ length (out_links s.network n) in
-    kept W (last_or None (begun s.splits n d t))
-    (last_holds (λ row. W row.1) None (begun s.splits n d t) tt
-    (filter_holds (IsSplitOf s) (λ row. W row.1) (λ row. is_of n d row && nat_le row.0.from t) (of_pair s n d t) s.splits (recursion_from_All (IsSplitOf s) s.splits all)))
+weight_for_each s n d t all = in_force (IsSplitOf s) (λ w. length w ≡ length (out_links s.network n)) s.splits n d t (of_pair s n d t) all

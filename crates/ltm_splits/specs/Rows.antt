@@ -29,7 +29,7 @@ pub record SplitsData : Type 0 where
 abbrev pub IsOrdered : List SplitRow → Type 0
 IsOrdered rows = IsStrictlySortedBy split_cmp (keys_of rows)
 
--- each row has weights: at most four, and not all of them 0
+-- each row has weights: at most four, not all of them 0, and each fits 32 bits
 abbrev pub HaveWeights : List SplitRow → Type 0
 HaveWeights rows = All (λ row. AreWeights row.1) rows
 

@@ -6,7 +6,7 @@ ghost use Rattle.ltm_splits.specs.WeightsLie.{AreWeights};
 use crate::keys::{SplitFault, SplitKey};
 use crate::node_table::NodeTable;
 use crate::rows::Rows;
-use crate::weights::{Weights, are_zero};
+use crate::weights::{Weights, are_zero, fit_32_bits};
 use ltm_units::{NoMemory, NodeId};
 use std::alloc::Global;
 use std::marker::Model;
@@ -82,6 +82,7 @@ impl Splits {
         ensures err { OnErr result (self.new ≡ self.old) }
         ensures cause { IfErr result (λ e. e ≢ SplitFault.NoMemory → with_row self.old (key_of node.0 destination from) weights.now ≡ Err e) }
         ensures slots { self.new.slots ≡ self.old.slots }
+        ensures have_weights { HaveWeights self.new.rows }
         ensures no_memory { result ≡ Err SplitFault.NoMemory → row_of self.old.rows (key_of node.0 destination from) ≡ None }
 
         // The row stands, and putting back what stood there before gives back the very rows.
@@ -100,6 +101,7 @@ impl Splits {
             destination,
             from,
         };
+        fit_32_bits(weights);
         let weights = Weights::of(weights);
         if self.replace(key, weights) {
             return Ok(());
@@ -168,6 +170,7 @@ impl Splits {
         requires stands { IsSome (row_of self.old.rows (key_of node.0 destination from)) }
         requires weights { AreWeights weights.now }
         ensures rows { self.new ≡ with_rows self.old (put_in self.old.rows (key_of node.0 destination from) weights.now) }
+        ensures have_weights { HaveWeights self.new.rows }
     {
         let key = SplitKey {
             node,
@@ -179,7 +182,8 @@ impl Splits {
 
     /// Takes out the row with that key, as to undo a `set`, and leaves all others. No memory is taken.
     pub fn take_out(&mut self, node: NodeId, destination: u32, from: u32)
-        ensures { self.new ≡ with_rows self.old (taken_out self.old.rows (key_of node.0 destination from)) }
+        ensures rows { self.new ≡ with_rows self.old (taken_out self.old.rows (key_of node.0 destination from)) }
+        ensures have_weights { HaveWeights self.new.rows }
     {
         let key = SplitKey {
             node,
@@ -207,6 +211,7 @@ impl Splits {
         requires { AreWeights weights }
         ensures stood { result ≡ is_some (row_of self.old.rows key) }
         ensures rows { self.new ≡ (if result then with_rows self.old (put_in self.old.rows key weights) else self.old) }
+        ensures have_weights { HaveWeights self.new.rows }
         ensures stands { IsTrue result → row_of self.new.rows key ≡ Some weights }
         ensures back { IsTrue result → put_back self.new.rows key (row_of self.old.rows key) ≡ self.old.rows }
     {
@@ -220,6 +225,7 @@ impl Splits {
         requires weights { AreWeights weights }
         ensures ok { OnOk result (self.new ≡ with_rows self.old (put_in self.old.rows key weights)) }
         ensures err { OnErr result (self.new ≡ self.old) }
+        ensures have_weights { HaveWeights self.new.rows }
         ensures stands { OnOk result (row_of self.new.rows key ≡ Some weights) }
         ensures back { OnOk result (put_back self.new.rows key (row_of self.old.rows key) ≡ self.old.rows) }
     {

@@ -1,5 +1,5 @@
 //! The weights of a row, as they lie in a table.
-ghost use Rattle.std.specs.Prelude.{◌≡◌, ◌==◌, ◌≤◌, ◌<◌, length, sum};
+ghost use Rattle.std.specs.Prelude.{◌≡◌, ◌==◌, ◌≤◌, ◌<◌, ◌^◌, All, length, sum};
 ghost use Rattle.std.specs.List.{list_all};
 ghost use Rattle.ltm_splits.specs.WeightsLie.{AreWeights};
 
@@ -49,6 +49,11 @@ impl Weights {
         &self.values[..self.len as usize]
     }
 }
+
+/// Each weight fits 32 bits. The function does nothing but read them.
+pub fn fit_32_bits(weights: &[u32])
+    ensures { All (λ weight. weight < 2 ^ 32) weights.now }
+{}
 
 /// Whether the weights are without sum.
 pub fn are_zero(weights: &[u32]) -> bool

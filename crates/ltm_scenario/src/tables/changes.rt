@@ -26,7 +26,10 @@ impl Tables {
         ensures cause { IfErr result (λ e. e ≢ DemandFault.NoMemory → with_demand self.old.scenario row ≡ Err e) }
         ensures room { KeepsRoom self.old self.new }
     {
-        match self.demand.change(row) {
+        let was = self.demand.change(row);
+        // What every demand keeps of its rows is kept of the scenario's.
+        let _rows = self.demand.rows();
+        match was {
             Ok(was) => return Ok(Undo::Demand(DemandRow { amount: was, ..row })),
             Err(fault) => return Err(fault),
         }
@@ -144,7 +147,6 @@ impl Tables {
         }
     }
 
-    #[tactic(auto, using(crate::proofs::Undoing::demand_restored))]
     fn restore_demand(&mut self, row: DemandRow)
         requires { CanUndo self.old (Undo.Demand row) }
         ensures scenario { self.new.scenario ≡ undone self.old.scenario (Undo.Demand row) }

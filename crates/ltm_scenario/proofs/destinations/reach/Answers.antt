@@ -1,4 +1,4 @@
-use Rattle.std.proofs.Common.{◌+◌, ◌-◌, arith}
+use Rattle.std.proofs.Common.{◌+◌, arith}
 use Rattle.ltm_scenario.proofs.Places.{none_padded}
 use Rattle.ltm_scenario.proofs.destinations.reach.Goals as goal
 

@@ -1,4 +1,4 @@
-use Rattle.std.proofs.Common.{◌≡◌, sym, ap, ◌∙◌, Some}
+use Rattle.std.proofs.Common.{sym, ap, ◌∙◌, Some}
 use Rattle.ltm_scenario.specs.Reads.{destination_of}
 use Rattle.ltm_scenario.proofs.Added.{place_of_new}
 use Rattle.ltm_scenario.proofs.destinations.Destinations.add.Goals as goal

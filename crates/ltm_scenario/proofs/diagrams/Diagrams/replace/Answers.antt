@@ -1,4 +1,4 @@
-use Rattle.std.proofs.Common.{◌≡◌, ap, sym, ◌∙◌, Ok}
+use Rattle.std.proofs.Common.{ap, ◌∙◌}
 use Rattle.ltm_diagram.specs.Limits.{limits_of}
 use Rattle.ltm_scenario.specs.Diagrams.{DiagramsState}
 use Rattle.ltm_scenario.proofs.Places.{limits_set}

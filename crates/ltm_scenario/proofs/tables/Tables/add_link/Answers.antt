@@ -1,4 +1,4 @@
-use Rattle.std.proofs.Common.{◌≡◌, ap, sym, ◌∙◌, Ok, Err}
+use Rattle.std.proofs.Common.{ap, sym, ◌∙◌}
 use Rattle.ltm_diagram.specs.Limits.{limits_of}
 use Rattle.ltm_network.specs.Network.{checked}
 use Rattle.ltm_scenario.specs.State.{ScenarioState}

@@ -11,7 +11,7 @@ use Rattle.ltm_scenario.proofs.tables.Tables.change_split.Goals as goal
 pub invariant_of-self : goal.invariant_of-self
 invariant_of-self c =
     with_split_row c.self.inside c.set.new.self c.args.key c.args.weights.now c.self.invariant
-    (subst (λ (v : ScenarioState). IsSplitOf v.scenario (c.args.key, c.args.weights.now)) (sym c.self.view_is) c.requires) c.in-Ok-set.ensures.ok
+    (subst (λ (v : ScenarioState). IsSplitOf v.scenario (c.args.key, c.args.weights.now)) (sym c.self.view_is) c.requires) c.in-Ok-set.ensures.ok c.set.ensures.have_weights
 
 pub returns-in-Ok-set-clause-undo : goal.returns-in-Ok-set-clause-undo
 returns-in-Ok-set-clause-undo c =

@@ -1,6 +1,5 @@
-use Rattle.std.proofs.Common.{◌≡◌, sym, ap, ◌∙◌, List}
+use Rattle.std.proofs.Common.{sym, ap, ◌∙◌}
 use Rattle.std.proofs.lemmas.List.Elements.{All-rest}
-use Rattle.ltm_splits.specs.Rows.{SplitRow}
 use Rattle.ltm_scenario.specs.Data.{ScenarioData}
 use Rattle.ltm_scenario.specs.Check.{first_over, split_row_checked, ◌>>>◌}
 use Rattle.ltm_scenario.specs.IsScenario.{IsSplitOf}

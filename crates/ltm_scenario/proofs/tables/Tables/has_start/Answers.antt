@@ -1,4 +1,4 @@
-use Rattle.std.proofs.Common.{◌≡◌, is_some, ap, ◌∙◌}
+use Rattle.std.proofs.Common.{is_some, ap, ◌∙◌}
 use Rattle.ltm_splits.specs.Rows.{SplitsData, key_of, row_of}
 use Rattle.ltm_scenario.proofs.Found.{start_tells}
 use Rattle.ltm_scenario.proofs.tables.Tables.has_start.Goals as goal

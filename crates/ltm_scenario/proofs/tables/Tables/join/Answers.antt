@@ -1,4 +1,6 @@
-use Rattle.std.proofs.Common.{◌≡◌, ◌<◌, ap, sym, subst, ◌∙◌, length, Ok, arith}
+use Rattle.std.proofs.Common.{◌≡◌, ◌<◌, ap, sym, subst, ◌∙◌, length, Ok, IsOk, arith}
+use Rattle.std.specs.Result.{is_ok}
+use Rattle.ltm_diagram.specs.Limits.{limits_of}
 use Rattle.ltm_network.specs.Network.{checked, linked as linked_network}
 use Rattle.ltm_network.specs.Names.{number_of}
 use Rattle.ltm_scenario.specs.Build.{linked, HasNoSplitAt}
@@ -21,8 +23,9 @@ pub returns-clause-ok : goal.returns-clause-ok
 returns-clause-ok c =
     let taken : checked c.self.inside.network c.args.name c.args.tail c.args.head ≡ Ok tt = ap (λ (v : ScenarioState). checked v.scenario.network c.args.name c.args.tail c.args.head) c.self.view_is ∙ c.requires.taken in
     let free = subst (λ (v : ScenarioState). HasNoSplitAt v.scenario (number_of v.scenario.network.nodes c.args.tail)) (sym c.self.view_is) c.requires.free in
+    let sets : IsOk (limits_of c.args.diagram c.self.inside.setup.step.0) = ap is_ok (ap (λ (v : ScenarioState). limits_of c.args.diagram v.scenario.setup.step.0) c.self.view_is ∙ c.requires.limits) in
     (with_linked c.self.inside c.args.name c.args.tail c.args.head c.args.diagram c.add_link.new.self c.push.new.self c.in_ok-entry.entry c.in_ok-exit.exit
-    c.networks_stay_networks.ensures c.self.invariant taken free
+    c.networks_stay_networks.ensures c.self.invariant taken free sets
     (is_network_linked c.self.inside.network c.add_link.new.self c.args.name c.args.tail c.args.head taken c.in-Ok.ensures.ok)
     (c.push.ensures.step ∙ c.in_ok-reserve.ensures.step) (c.push.ensures.diagrams ∙ ap (λ ds. Rattle.std.proofs.Common.◌++◌ ds (Rattle.std.proofs.Common.◌∷◌ c.args.diagram Rattle.std.proofs.Common.[])) c.in_ok-reserve.ensures.diagrams)
     c.in_ok-entry.ensures.limits c.in_ok-entry.ensures.slots c.in_ok-exit.ensures.limits c.in_ok-exit.ensures.slots).0
@@ -32,8 +35,9 @@ pub invariant_of-self-2 : goal.invariant_of-self-2
 invariant_of-self-2 c =
     let taken : checked c.self.inside.network c.args.name c.args.tail c.args.head ≡ Ok tt = ap (λ (v : ScenarioState). checked v.scenario.network c.args.name c.args.tail c.args.head) c.self.view_is ∙ c.requires.taken in
     let free = subst (λ (v : ScenarioState). HasNoSplitAt v.scenario (number_of v.scenario.network.nodes c.args.tail)) (sym c.self.view_is) c.requires.free in
+    let sets : IsOk (limits_of c.args.diagram c.self.inside.setup.step.0) = ap is_ok (ap (λ (v : ScenarioState). limits_of c.args.diagram v.scenario.setup.step.0) c.self.view_is ∙ c.requires.limits) in
     (with_linked c.self.inside c.args.name c.args.tail c.args.head c.args.diagram c.add_link.new.self c.push.new.self c.in_ok-entry.entry c.in_ok-exit.exit
-    c.networks_stay_networks.ensures c.self.invariant taken free
+    c.networks_stay_networks.ensures c.self.invariant taken free sets
     (is_network_linked c.self.inside.network c.add_link.new.self c.args.name c.args.tail c.args.head taken c.in-Ok.ensures.ok)
     (c.push.ensures.step ∙ c.in_ok-reserve.ensures.step) (c.push.ensures.diagrams ∙ ap (λ ds. Rattle.std.proofs.Common.◌++◌ ds (Rattle.std.proofs.Common.◌∷◌ c.args.diagram Rattle.std.proofs.Common.[])) c.in_ok-reserve.ensures.diagrams)
     c.in_ok-entry.ensures.limits c.in_ok-entry.ensures.slots c.in_ok-exit.ensures.limits c.in_ok-exit.ensures.slots).1

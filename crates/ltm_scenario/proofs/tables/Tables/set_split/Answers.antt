@@ -9,4 +9,4 @@ pub invariant_of-self : goal.invariant_of-self
 invariant_of-self c =
     with_split_row c.self.inside c.set.new.self (key_of c.args.node.0 c.args.destination c.args.from) c.args.weights.now c.self.invariant
     (subst (λ (v : ScenarioState). IsSplitOf v.scenario (key_of c.args.node.0 c.args.destination c.args.from, c.args.weights.now)) (sym c.self.view_is) c.requires)
-    c.in-Ok.ensures.ok
+    c.in-Ok.ensures.ok c.set.ensures.have_weights

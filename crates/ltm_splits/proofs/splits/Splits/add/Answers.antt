@@ -31,3 +31,9 @@ returns-clause-stands c =
     let none : row_of (rows_of_all c.self.inside.table) c.args.key ≡ None = ap (λ (v : SplitsData). row_of v.rows c.args.key) c.self.view_is ∙ c.requires.new in
     let a = added c.self.inside.table c.args.key.node.0 c.args.key.destination c.args.key.from c.args.weights c.make_room.new.self c.insert.new.self c.in_ok-make_room.ensures.node c.in_ok-make_room.ensures.destination c.make_room.ensures.rows none c.in_ok-insert.ensures.ok c.self.invariant.0 c.requires.weights c.self.invariant.2 in
     a.there_now
+
+pub returns-clause-have_weights : goal.returns-clause-have_weights
+returns-clause-have_weights c =
+    let none : row_of (rows_of_all c.self.inside.table) c.args.key ≡ None = ap (λ (v : SplitsData). row_of v.rows c.args.key) c.self.view_is ∙ c.requires.new in
+    let a = added c.self.inside.table c.args.key.node.0 c.args.key.destination c.args.key.from c.args.weights c.make_room.new.self c.insert.new.self c.in_ok-make_room.ensures.node c.in_ok-make_room.ensures.destination c.make_room.ensures.rows none c.in_ok-insert.ensures.ok c.self.invariant.0 c.requires.weights c.self.invariant.2 in
+    a.weighted

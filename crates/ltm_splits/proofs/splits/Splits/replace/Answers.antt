@@ -29,3 +29,7 @@ pub returns-clause-stands : goal.returns-clause-stands
 returns-clause-stands c =
     let r = replaced c.self.inside.table c.args.key.node.0 c.args.key.destination c.args.key.from c.args.weights c.replace.result c.replace.new.self c.replace.ensures.stood c.replace.ensures.rows c.self.invariant.0 c.requires c.self.invariant.2 in
     λ stands. r.there_now stands
+
+pub returns-clause-have_weights : goal.returns-clause-have_weights
+returns-clause-have_weights c =
+    (replaced c.self.inside.table c.args.key.node.0 c.args.key.destination c.args.key.from c.args.weights c.replace.result c.replace.new.self c.replace.ensures.stood c.replace.ensures.rows c.self.invariant.0 c.requires c.self.invariant.2).weighted

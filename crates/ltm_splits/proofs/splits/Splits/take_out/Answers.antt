@@ -22,12 +22,20 @@ invariant_of-self-else-remove c =
     let is : length (rows_of_all c.remove.new.self) + 0 ≡ length (rows_of_all c.self.inside.table) = r.count in
     (r.ordered, omega (arith, c.self.invariant.1), r.weighted)
 
-pub returns-then-remove : goal.returns-then-remove
-returns-then-remove c =
+pub returns-then-remove-clause-rows : goal.returns-then-remove-clause-rows
+returns-then-remove-clause-rows c =
     let r = removed c.self.inside.table c.args.node.0 c.args.destination c.args.from true c.remove.new.self (sym c.if-remove.true ∙ c.remove.ensures.stood) c.remove.ensures.rows c.self.invariant.0 c.self.invariant.2 in
     ap (with_slots_rows c.self.inside.slots) r.rows ∙ ap (λ (v : SplitsData). with_rows v (taken_out v.rows (key_of c.args.node.0 c.args.destination c.args.from))) c.self.view_is
 
-pub returns-else-remove : goal.returns-else-remove
-returns-else-remove c =
+pub returns-else-remove-clause-rows : goal.returns-else-remove-clause-rows
+returns-else-remove-clause-rows c =
     let r = removed c.self.inside.table c.args.node.0 c.args.destination c.args.from false c.remove.new.self (sym c.if-remove.false ∙ c.remove.ensures.stood) c.remove.ensures.rows c.self.invariant.0 c.self.invariant.2 in
     ap (with_slots_rows c.self.inside.slots) r.rows ∙ ap (λ (v : SplitsData). with_rows v (taken_out v.rows (key_of c.args.node.0 c.args.destination c.args.from))) c.self.view_is
+
+pub returns-then-remove-clause-have_weights : goal.returns-then-remove-clause-have_weights
+returns-then-remove-clause-have_weights c =
+    (removed c.self.inside.table c.args.node.0 c.args.destination c.args.from true c.remove.new.self (sym c.if-remove.true ∙ c.remove.ensures.stood) c.remove.ensures.rows c.self.invariant.0 c.self.invariant.2).weighted
+
+pub returns-else-remove-clause-have_weights : goal.returns-else-remove-clause-have_weights
+returns-else-remove-clause-have_weights c =
+    (removed c.self.inside.table c.args.node.0 c.args.destination c.args.from false c.remove.new.self (sym c.if-remove.false ∙ c.remove.ensures.stood) c.remove.ensures.rows c.self.invariant.0 c.self.invariant.2).weighted
