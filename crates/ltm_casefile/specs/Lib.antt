@@ -1,7 +1,11 @@
+pub mod Case
 pub mod Causes
 pub mod Demand
+pub mod Faults
 pub mod Fields
 pub mod Links
+pub mod Rows
 pub mod Setup
 pub mod Signals
 pub mod Splits
+pub mod Tables

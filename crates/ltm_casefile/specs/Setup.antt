@@ -1,5 +1,5 @@
 -- What the setup says.
-use Rattle.std.specs.Prelude.{ℕ, ◌==◌, nat_lt, Bool, if◌then◌else◌, Result, Ok, Err}
+use Rattle.std.specs.Prelude.{ℕ, ◌==◌, ◌||◌, not, nat_lt, Bool, if◌then◌else◌, List, [], ◌∷◌, length, Result, Ok, Err}
 use Rattle.ltm_scenario.specs.declared.setup.Setup.{Setup}
 use Rattle.ltm_scenario.specs.declared.setup.SetupFault.{SetupFault}
 use Rattle.ltm_scenario.specs.declared.setup.SetupFault.TheVariants.{Range as OutOfRange}
@@ -8,12 +8,17 @@ use Rattle.ltm_scenario.specs.Data.{empty_scenario}
 use Rattle.ltm_scenario.specs.Build.{◌>>=◌}
 use Rattle.ltm_units.specs.declared.quantities.Units.{Units}
 use Rattle.ltm_records.specs.Fields.{Fields}
+use Rattle.ltm_records.specs.Headers.{is_setup_header, is_setup_header_with_signals}
 use Rattle.ltm_casefile.specs.declared.faults.CaseCause.{CaseCause}
-use Rattle.ltm_casefile.specs.declared.faults.CaseCause.TheVariants.{Range}
+use Rattle.ltm_casefile.specs.declared.faults.CaseCause.TheVariants.{Range, Rows}
+use Rattle.ltm_casefile.specs.declared.faults.CaseFault.{CaseFault}
+use Rattle.ltm_casefile.specs.declared.faults.CaseFault.TheVariants.{Bad}
+use Rattle.ltm_casefile.specs.declared.faults.File.TheVariants as file
 use Rattle.ltm_casefile.specs.declared.setup.SetupRecord.{SetupRecord}
 use Rattle.ltm_casefile.specs.declared.setup.Opened.{Opened}
 use Rattle.ltm_casefile.specs.Causes.{refuse}
 use Rattle.ltm_casefile.specs.Fields.{has_width, number_in, amount_in}
+use Rattle.ltm_casefile.specs.Rows.{at_row, below_header}
 
 -- the fourth field, in a record that has one
 abbrev pub signals_in : ℕ → Fields → Result ℕ CaseCause
@@ -42,3 +47,18 @@ opened r =
 
 abbrev pub setup_read : ℕ → Fields → Result Opened CaseCause
 setup_read width fields = setup_record width fields >>= λ r. opened r
+
+abbrev pub heads_setup : Fields → Bool
+heads_setup fields = is_setup_header fields || is_setup_header_with_signals fields
+
+-- exactly one record, below a header of that width
+abbrev pub only_row : ℕ → List Fields → Result Opened CaseFault
+only_row width [] = Err (Bad file.Setup 2 Rows)
+only_row width (row ∷ rows) =
+    at_row file.Setup 2 (setup_read width row) >>= λ o.
+    at_row file.Setup 3 (refuse (not (length rows == 0)) Rows) >>= λ _.
+    Ok o
+
+-- what the records of the setup say
+unfoldable pub setup_of : List Fields → Result Opened CaseFault
+setup_of rows = below_header file.Setup heads_setup (λ header. only_row (length header)) rows

@@ -6,11 +6,23 @@ use Rattle.ltm_splits.specs.Rows.{key_of}
 use Rattle.ltm_scenario.specs.Data.{ScenarioData}
 use Rattle.ltm_scenario.specs.Build.{with_destination, with_split, ◌>>=◌}
 use Rattle.ltm_scenario.specs.Edits.{is_out_link, weights_at}
+use Rattle.ltm_records.specs.Fields.{Fields}
 use Rattle.ltm_casefile.specs.declared.faults.CaseCause.{CaseCause}
 use Rattle.ltm_casefile.specs.declared.faults.CaseCause.TheVariants.{Unknown, SameEnds, BadSlots, ZeroWeight, TooManyDestinations, TooManyRows}
 use Rattle.ltm_casefile.specs.declared.splits.SplitRecord.{SplitRecord}
 use Rattle.ltm_casefile.specs.Causes.{refuse, found, taken}
+use Rattle.ltm_casefile.specs.Fields.{has_width, name_in, number_in, weights_in}
 use Rattle.ltm_casefile.specs.Demand.{place_of}
+
+-- node, destination, first slot, weights by out-link
+unfoldable pub split_record : Fields → Result SplitRecord CaseCause
+split_record fields =
+    has_width fields 4 >>= λ _.
+    name_in fields 1 >>= λ node.
+    name_in fields 2 >>= λ destination.
+    number_in fields 3 >>= λ from.
+    weights_in fields 4 >>= λ weights.
+    Ok (record { node = node; destination = destination; from = from; weights = weights })
 
 -- the node and the destination by number
 unfoldable pub split_ends : ScenarioData → SplitRecord → Result (ℕ × ℕ) CaseCause
@@ -29,3 +41,6 @@ with_split_record s r =
     refuse (sum (weights_at s ends.0 r.weights) == 0) ZeroWeight >>= λ _.
     taken (with_destination s ends.1) TooManyDestinations >>= λ next.
     taken (with_split next (key_of ends.0 (place_of next ends.1) r.from) (weights_at s ends.0 r.weights)) TooManyRows
+
+abbrev pub split_added : ScenarioData → Fields → Result ScenarioData CaseCause
+split_added s fields = split_record fields >>= λ r. with_split_record s r

@@ -1,11 +1,12 @@
 //! The fields of a record, each of its kind, or the cause that names the field. Fields are counted from 1.
 ghost use Rattle.std.specs.Prelude.{◌≡◌, ◌≤◌, IfOk};
 ghost use Rattle.csv.specs.Records.{fields_of};
-ghost use Rattle.ltm_casefile.specs.Fields.{has_width, name_in, number_in, amount_in};
+ghost use Rattle.ltm_casefile.specs.Fields.{has_width, name_in, number_in, amount_in, weights_in};
 
 use crate::faults::CaseCause;
 use csv::ByteRecord;
-use ltm_records::{name_at, vehicles_at, whole_at, width};
+use ltm_records::{name_at, read_weights, text_at, vehicles_at, whole_at, width};
+use ltm_scenario::Weights;
 use ltm_units::{Name, Units};
 
 pub fn check_width(row: &ByteRecord, fields: usize) -> Result<(), CaseCause>
@@ -46,6 +47,20 @@ pub fn read_amount(row: &ByteRecord, field: u32) -> Result<Units, CaseCause>
 {
     match vehicles_at(row, (field - 1) as usize) {
         Some(amount) => Ok(amount),
+        None => Err(CaseCause::Field(field)),
+    }
+}
+
+/// One to four weights, each with the name of a link, no name twice.
+pub fn read_split_weights(row: &ByteRecord, field: u32) -> Result<Weights, CaseCause>
+    requires { 1 ≤ field }
+    ensures { result ≡ weights_in (fields_of row.now) field }
+{
+    let Some(entries) = read_weights(text_at(row, (field - 1) as usize)) else {
+        return Err(CaseCause::Field(field));
+    };
+    match Weights::of(entries.as_slice()) {
+        Some(weights) => Ok(weights),
         None => Err(CaseCause::Field(field)),
     }
 }

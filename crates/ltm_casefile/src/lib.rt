@@ -12,5 +12,7 @@ mod links;
 mod setup;
 mod signals;
 mod splits;
+mod tables;
+mod texts;
 
 pub use faults::{CaseCause, CaseFault, File};

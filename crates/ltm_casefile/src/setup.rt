@@ -1,11 +1,14 @@
 //! The record of the setup.
 ghost use Rattle.std.specs.Prelude.{◌≡◌, Ok, Err, IfOk, IfErr};
 ghost use Rattle.csv.specs.Records.{fields_of};
-ghost use Rattle.ltm_casefile.specs.Setup.{signals_in, setup_record, opened, setup_read};
+ghost use Rattle.ltm_records.specs.Left.{records_of};
+ghost use Rattle.ltm_casefile.specs.Faults.{Agrees};
+ghost use Rattle.ltm_casefile.specs.Setup.{signals_in, setup_record, opened, setup_read, heads_setup, only_row, setup_of};
 
-use crate::faults::CaseCause;
+use crate::faults::{CaseCause, CaseFault, File};
 use crate::fields::{check_width, read_amount, read_number};
 use csv::ByteRecord;
+use ltm_records::{Records, is_setup_header, is_setup_header_with_signals, width};
 use ltm_scenario::{Scenario, Setup, SetupFault};
 use ltm_units::Millis;
 use std::alloc::Global;
@@ -67,10 +70,64 @@ fn open(alloc: Global, said: &SetupRecord) -> Result<Opened, CaseCause>
 }
 
 /// The scenario of a setup without links, from a record below a header of that width.
-pub fn open_setup(alloc: Global, width: usize, row: &ByteRecord) -> Result<Opened, CaseCause>
+fn open_row(alloc: Global, width: usize, row: &ByteRecord) -> Result<Opened, CaseCause>
     ensures ok { IfOk result (λ o. setup_read width (fields_of row.now) ≡ Ok o) }
     ensures cause { IfErr result (λ e. setup_read width (fields_of row.now) ≡ Err e) }
 {
     let said = read_record(width, row)?;
     open(alloc, &said)
+}
+
+fn heads_setup(row: &ByteRecord) -> bool
+    ensures { result ≡ heads_setup (fields_of row.now) }
+{
+    is_setup_header(row) || is_setup_header_with_signals(row)
+}
+
+fn bad(row: u32, cause: CaseCause) -> CaseFault
+    ensures { result ≡ CaseFault.Bad File.Setup row cause }
+{
+    CaseFault::Bad {
+        file: File::Setup,
+        row,
+        cause,
+    }
+}
+
+/// What the one record below a header of that width says.
+fn open_only_row(
+    alloc: Global,
+    width: usize,
+    records: &mut Records,
+    row: &mut ByteRecord,
+) -> Result<Opened, CaseFault>
+    ensures ok { IfOk result (λ o. only_row width records.old ≡ Ok o) }
+    ensures fault { IfErr result (Agrees (only_row width records.old)) }
+{
+    if !records.next(row)? {
+        return Err(bad(2, CaseCause::Rows));
+    }
+    let opened = match open_row(alloc, width, row) {
+        Ok(opened) => opened,
+        Err(cause) => return Err(bad(2, cause)),
+    };
+    if records.next(row)? {
+        return Err(bad(3, CaseCause::Rows));
+    }
+    Ok(opened)
+}
+
+/// The scenario of a setup without links, and whether a file of signals comes with the case.
+#[tactic(auto, unfolding(crate::specs::Setup::setup_of))]
+pub fn open_setup(alloc: Global, text: &[u8]) -> Result<Opened, CaseFault>
+    ensures ok { IfOk result (λ o. setup_of (records_of text.now) ≡ Ok o) }
+    ensures fault { IfErr result (Agrees (setup_of (records_of text.now))) }
+{
+    let mut records = Records::of(alloc, text);
+    let mut row = ByteRecord::new(alloc);
+    if !records.next(&mut row)? || !heads_setup(&row) {
+        return Err(bad(1, CaseCause::Header));
+    }
+    let fields = width(&row);
+    open_only_row(alloc, fields, &mut records, &mut row)
 }

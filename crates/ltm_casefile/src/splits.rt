@@ -4,11 +4,13 @@ ghost use Rattle.std.specs.List.{list_all};
 ghost use Rattle.ltm_network.specs.Network.{out_links};
 ghost use Rattle.ltm_scenario.specs.Edits.{is_out_link, weight_of, weights_at};
 ghost use Rattle.ltm_casefile.specs.Causes.{Tells};
-ghost use Rattle.ltm_casefile.specs.Splits.{split_ends, with_split_record};
+ghost use Rattle.csv.specs.Records.{fields_of};
+ghost use Rattle.ltm_casefile.specs.Splits.{split_record, split_ends, with_split_record, split_added};
 
 use crate::demand::add_destination;
 use crate::faults::{CaseCause, StepFault};
-use ltm_network::Network;
+use crate::fields::{check_width, read_name, read_number, read_split_weights};
+use csv::ByteRecord;
 use ltm_scenario::{Scenario, Weights};
 use ltm_splits::SplitFault;
 use ltm_units::{Name, NoMemory, NodeId};
@@ -22,6 +24,23 @@ pub struct SplitRecord {
     /// The first slot in which the row may be in force.
     pub from: u32,
     pub weights: Weights,
+}
+
+#[tactic(auto, unfolding(crate::specs::Splits::split_record))]
+fn read_split(row: &ByteRecord) -> Result<SplitRecord, CaseCause>
+    ensures { result ≡ split_record (fields_of row.now) }
+{
+    check_width(row, 4)?;
+    let node = read_name(row, 1)?;
+    let destination = read_name(row, 2)?;
+    let from = read_number(row, 3)?;
+    let weights = read_split_weights(row, 4)?;
+    Ok(SplitRecord {
+        node,
+        destination,
+        from,
+        weights,
+    })
 }
 
 /// Whether all weights are those of out-links of the node.
@@ -120,8 +139,7 @@ fn are_zero(weights: &[u32]) -> bool
     weights.iter().all(|weight| *weight == 0)
 }
 
-/// Sets the split row.
-pub fn add_split(
+fn set_split(
     alloc: Global,
     scenario: &mut Scenario,
     row: &SplitRecord,
@@ -140,4 +158,17 @@ pub fn add_split(
         Err(SplitFault::NoMemory) => return Err(StepFault::NoMemory),
         Err(_) => return Err(StepFault::Cause(CaseCause::TooManyRows)),
     }
+}
+
+/// Sets the split row of a record, and makes its destination one.
+pub fn add_split(
+    alloc: Global,
+    scenario: &mut Scenario,
+    row: &ByteRecord,
+) -> Result<(), StepFault>
+    ensures ok { OnOk result (split_added scenario.old (fields_of row.now) ≡ Ok scenario.new) }
+    ensures cause { IfErr result (Tells (split_added scenario.old (fields_of row.now))) }
+{
+    let split = read_split(row)?;
+    set_split(alloc, scenario, &split)
 }

@@ -1,2 +1,4 @@
 mod Fuel
+mod Padding
+mod Pieces
 mod Taking

@@ -1,5 +1,5 @@
 -- What one read of a reader does to the records that it has left.
-use Rattle.std.proofs.Common.{ℕ, suc, ◌≡◌, ◌+◌, List, [], ◌∷◌, length, Option, Some, None, true, false, Bool, refl, ap, sym, ◌∙◌, add-one}
+use Rattle.std.proofs.Common.{ℕ, ◌≡◌, List, [], ◌∷◌, length, Option, Some, None, true, false, Bool, refl, ap, add-one}
 use Rattle.std.specs.Prelude.{if◌then◌else◌}
 use Rattle.csv.specs.Machine.{Read, next_record}
 use Rattle.csv.specs.Reading.{default_config, records_from, records_next, NextIs, ReadsNext, ReadRecord, source_of, pending_of, has_failed}

@@ -1,5 +1,5 @@
 -- The weights that a text tells: entries with one space between two, each a name, `=` and a whole number.
-use Rattle.std.specs.Prelude.{ℕ, ◌==◌, ◌-◌, ◌&&◌, Bool, nat_le, List, [], ◌∷◌, ◌++◌, length, replicate, slice_index_or, Option, Some, None, if◌then◌else◌}
+use Rattle.std.specs.Prelude.{ℕ, ◌==◌, Bool, nat_le, List, [], ◌∷◌, length, Option, Some, None, if◌then◌else◌}
 use Rattle.std.specs.List.{slice_split, before_first, after_first}
 use Rattle.ltm_units.specs.Words.{is_name}
 use Rattle.ltm_units.specs.Numbers.{whole}
@@ -39,3 +39,8 @@ at_most_four None = None
 -- the pieces between spaces are one to four entries
 abbrev pub weights_of : List ℕ → Option (List Entry)
 weights_of text = at_most_four (entries_of (slice_split is_space text))
+
+-- the pieces of what stands behind a space, if there is one
+abbrev pub pieces_behind : Option (List ℕ) → List (List ℕ)
+pieces_behind (Some text) = slice_split is_space text
+pieces_behind None = []

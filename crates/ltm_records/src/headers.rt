@@ -18,7 +18,10 @@ fn has(row: &ByteRecord, place: usize, name: &[u8]) -> bool
 pub fn is_setup_header(row: &ByteRecord) -> bool
     ensures { result ≡ header.is_setup_header (fields_of row.now) }
 {
-    width(row) == 3 && has(row, 0, b"step_ms") && has(row, 1, b"slots") && has(row, 2, b"origin_capacity")
+    width(row) == 3
+        && has(row, 0, b"step_ms")
+        && has(row, 1, b"slots")
+        && has(row, 2, b"origin_capacity")
 }
 
 /// Whether the record is `step_ms,slots,origin_capacity,signals`.

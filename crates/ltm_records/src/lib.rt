@@ -8,10 +8,15 @@
 mod fields;
 mod headers;
 mod records;
+mod weights;
 
 pub use fields::{name_at, text_at, vehicles_at, whole_at, width};
 pub use headers::{
-    is_demand_header, is_links_header, is_setup_header, is_setup_header_with_signals, is_signals_header,
-    is_splits_header,
+    is_demand_header, is_links_header, is_setup_header, is_setup_header_with_signals,
+    is_signals_header, is_splits_header,
 };
 pub use records::Records;
+pub use weights::{Entries, read_weights};
+
+#[cfg(test)]
+mod tests;

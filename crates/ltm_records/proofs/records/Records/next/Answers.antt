@@ -1,5 +1,4 @@
-use Rattle.std.proofs.Common.{◌≡◌, [], Some, true, false, Bor, List, ℕ, refl}
-use Rattle.csv.specs.Records.{fields_of}
+use Rattle.std.proofs.Common.{Some, Bor, List, ℕ, refl}
 use Rattle.ltm_records.proofs.Taking.{taken, ended}
 use Rattle.ltm_records.proofs.records.Records.next.Goals as goal
 

@@ -1,0 +1,41 @@
+-- What is behind a fault of a case.
+use Rattle.std.specs.Prelude.{◌≡◌, ℕ, Bool, true, Option, Some, None, IsSomeAnd, Result, Ok, Err}
+use Rattle.ltm_io.specs.declared.doc.Doc.{Doc}
+use Rattle.ltm_io.specs.declared.doc.Doc.TheVariants as doc
+use Rattle.ltm_io.specs.Faults.{Rose}
+use Rattle.ltm_casefile.specs.declared.faults.File.{File}
+use Rattle.ltm_casefile.specs.declared.faults.File.TheVariants as file
+use Rattle.ltm_casefile.specs.declared.faults.CaseFault.{CaseFault}
+use Rattle.ltm_casefile.specs.declared.faults.CaseFault.TheVariants.{Folder, TooLong, Bad, NoMemory}
+
+-- the file of a folder
+abbrev pub doc_of : File → Option Doc
+doc_of file.Setup = Some doc.Setup
+doc_of file.Links = Some doc.Links
+doc_of file.Demand = Some doc.Demand
+doc_of file.Splits = Some doc.Splits
+doc_of file.Signals = Some doc.Signals
+doc_of file.Whole = None
+
+-- a fault that lies in the files is the one of the definition; that a folder did not give a file, or memory was not
+-- found, does not lie in them
+abbrev pub Agrees : {A : Type 0} → Result A CaseFault → CaseFault → Type 0
+Agrees said (Folder f) = Unit {0}
+Agrees said (TooLong f) = said ≡ Err (TooLong f)
+Agrees said (Bad f row cause) = said ≡ Err (Bad f row cause)
+Agrees said NoMemory = Unit {0}
+
+-- a file that the folder did not give is one of its own, of which this holds
+abbrev pub NotGiven : (Doc → Type 0) → CaseFault → Type 0
+NotGiven holds (Folder f) = IsSomeAnd (doc_of f) holds
+NotGiven holds (TooLong f) = Unit {0}
+NotGiven holds (Bad f row cause) = Unit {0}
+NotGiven holds NoMemory = Unit {0}
+
+-- the count of faults of a file that the folder did not give has risen
+abbrev pub HasRisen : (Doc → ℕ) → (Doc → ℕ) → CaseFault → Type 0
+HasRisen before now fault = NotGiven (λ d. Rose (before d) (now d)) fault
+
+-- the files ask for the one that the folder did not give
+abbrev pub WasAsked : (Doc → Bool) → CaseFault → Type 0
+WasAsked asks fault = NotGiven (λ d. asks d ≡ true) fault

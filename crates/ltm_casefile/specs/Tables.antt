@@ -1,0 +1,42 @@
+-- The files with any number of records: each adds to the scenario.
+use Rattle.std.specs.Prelude.{ℕ, Bool, List, Result}
+use Rattle.ltm_scenario.specs.Data.{ScenarioData}
+use Rattle.ltm_records.specs.Fields.{Fields}
+use Rattle.ltm_records.specs.Headers.{is_links_header, is_demand_header, is_splits_header, is_signals_header}
+use Rattle.ltm_casefile.specs.declared.faults.CaseCause.{CaseCause}
+use Rattle.ltm_casefile.specs.declared.faults.CaseFault.{CaseFault}
+use Rattle.ltm_casefile.specs.declared.faults.File.{File}
+use Rattle.ltm_casefile.specs.declared.faults.File.TheVariants as file
+use Rattle.ltm_casefile.specs.declared.tables.Table.{Table}
+use Rattle.ltm_casefile.specs.declared.tables.Table.TheVariants as table
+use Rattle.ltm_casefile.specs.Rows.{rows_from, below_header}
+use Rattle.ltm_casefile.specs.Links.{link_added}
+use Rattle.ltm_casefile.specs.Demand.{demand_added}
+use Rattle.ltm_casefile.specs.Splits.{split_added}
+use Rattle.ltm_casefile.specs.Signals.{signal_added}
+
+abbrev pub file_of : Table → File
+file_of table.Links = file.Links
+file_of table.Demand = file.Demand
+file_of table.Splits = file.Splits
+file_of table.Signals = file.Signals
+
+abbrev pub heads : Table → Fields → Bool
+heads table.Links fields = is_links_header fields
+heads table.Demand fields = is_demand_header fields
+heads table.Splits fields = is_splits_header fields
+heads table.Signals fields = is_signals_header fields
+
+-- what one record makes of a scenario
+abbrev pub row_added : Table → ScenarioData → Fields → Result ScenarioData CaseCause
+row_added table.Links s fields = link_added s fields
+row_added table.Demand s fields = demand_added s fields
+row_added table.Splits s fields = split_added s fields
+row_added table.Signals s fields = signal_added s fields
+
+abbrev pub rows_added : Table → ℕ → ScenarioData → List Fields → Result ScenarioData CaseFault
+rows_added t row s rows = rows_from (file_of t) (row_added t) row s rows
+
+-- what a file's records make of a scenario
+unfoldable pub table_added : Table → ScenarioData → List Fields → Result ScenarioData CaseFault
+table_added t s rows = below_header (file_of t) (heads t) (λ _. rows_added t 2 s) rows

@@ -1,0 +1,123 @@
+//! The files with any number of records: each adds to the scenario, up to the first that is not taken.
+ghost use Rattle.std.specs.Prelude.{◌≡◌, [], Ok, Err, OnOk, IfErr};
+ghost use Rattle.csv.specs.Records.{fields_of};
+ghost use Rattle.ltm_records.specs.Left.{records_of};
+ghost use Rattle.ltm_casefile.specs.Causes.{Tells};
+ghost use Rattle.ltm_casefile.specs.Faults.{Agrees};
+ghost use Rattle.ltm_casefile.specs.Tables.{file_of, heads, row_added, rows_added, table_added};
+
+use crate::demand::add_demand;
+use crate::faults::{CaseCause, CaseFault, File, StepFault};
+use crate::links::add_link;
+use crate::signals::add_signal;
+use crate::splits::add_split;
+use csv::ByteRecord;
+use ltm_records::{Records, is_demand_header, is_links_header, is_signals_header, is_splits_header};
+use ltm_scenario::Scenario;
+use std::alloc::Global;
+
+/// A file with any number of records.
+#[derive(Clone, Copy, Debug, PartialEq, Eq)]
+pub enum Table {
+    Links,
+    Demand,
+    Splits,
+    Signals,
+}
+
+impl Table {
+    fn file(self) -> File
+        ensures { result ≡ file_of self }
+    {
+        match self {
+            Table::Links => File::Links,
+            Table::Demand => File::Demand,
+            Table::Splits => File::Splits,
+            Table::Signals => File::Signals,
+        }
+    }
+
+    fn heads(self, row: &ByteRecord) -> bool
+        ensures { result ≡ heads self (fields_of row.now) }
+    {
+        match self {
+            Table::Links => is_links_header(row),
+            Table::Demand => is_demand_header(row),
+            Table::Splits => is_splits_header(row),
+            Table::Signals => is_signals_header(row),
+        }
+    }
+
+    fn add_row(
+        self,
+        alloc: Global,
+        scenario: &mut Scenario,
+        row: &ByteRecord,
+    ) -> Result<(), StepFault>
+        requires { self ≡ Table.Links → scenario.old.splits ≡ [] }
+        ensures ok { OnOk result (row_added self scenario.old (fields_of row.now) ≡ Ok scenario.new) }
+        ensures cause { IfErr result (Tells (row_added self scenario.old (fields_of row.now))) }
+        ensures splits { self ≡ Table.Links → scenario.new.splits ≡ [] }
+    {
+        match self {
+            Table::Links => return add_link(scenario, row),
+            Table::Demand => return add_demand(scenario, row),
+            Table::Splits => return add_split(alloc, scenario, row),
+            Table::Signals => return add_signal(scenario, row),
+        }
+    }
+
+    /// Adds the records that are left, the first of which is in row 2. No file has as many records as a `u32` counts.
+    fn add_rows(
+        self,
+        alloc: Global,
+        scenario: &mut Scenario,
+        records: &mut Records,
+        row: &mut ByteRecord,
+    ) -> Result<(), CaseFault>
+        requires { self ≡ Table.Links → scenario.old.splits ≡ [] }
+        ensures ok { OnOk result (rows_added self 2 scenario.old records.old ≡ Ok scenario.new) }
+        ensures fault { IfErr result (Agrees (rows_added self 2 scenario.old records.old)) }
+    {
+        for number in 2..u32::MAX {
+            if !records.next(row)? {
+                return Ok(());
+            }
+            match self.add_row(alloc, scenario, row) {
+                Ok(()) => {}
+                Err(StepFault::NoMemory) => return Err(CaseFault::NoMemory),
+                Err(StepFault::Cause(cause)) =>
+                    return Err(CaseFault::Bad {
+                        file: self.file(),
+                        row: number,
+                        cause,
+                    }),
+            }
+        }
+        Err(CaseFault::NoMemory)
+    }
+
+    /// Adds the records of a file to the scenario, which has no split rows before the links are added.
+    #[tactic(auto, unfolding(crate::specs::Tables::table_added))]
+    pub fn add_to(
+        self,
+        alloc: Global,
+        scenario: &mut Scenario,
+        text: &[u8],
+    ) -> Result<(), CaseFault>
+        requires { self ≡ Table.Links → scenario.old.splits ≡ [] }
+        ensures ok { OnOk result (table_added self scenario.old (records_of text.now) ≡ Ok scenario.new) }
+        ensures fault { IfErr result (Agrees (table_added self scenario.old (records_of text.now))) }
+    {
+        let mut records = Records::of(alloc, text);
+        let mut row = ByteRecord::new(alloc);
+        if !records.next(&mut row)? || !self.heads(&row) {
+            return Err(CaseFault::Bad {
+                file: self.file(),
+                row: 1,
+                cause: CaseCause::Header,
+            });
+        }
+        self.add_rows(alloc, scenario, &mut records, &mut row)
+    }
+}

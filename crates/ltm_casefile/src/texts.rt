@@ -1,0 +1,102 @@
+//! The files of a case, as bytes.
+ghost use Rattle.std.specs.Prelude.{◌≡◌, ◌≢◌, ◌≤◌, ℕ, Ok, Err, IfOk, IfErr, IfSome, Some, None, option_map, true, false};
+ghost use Rattle.ltm_io.specs.Folder.{Files};
+ghost use Rattle.ltm_io.specs.declared.doc.Doc.{Doc};
+ghost use Rattle.ltm_casefile.specs.declared.faults.File.{File};
+ghost use Rattle.ltm_casefile.specs.Case.{sized, texts_of, signals_of, is_of_each};
+ghost use Rattle.ltm_casefile.specs.Faults.{doc_of, Agrees, HasRisen, WasAsked};
+
+use crate::faults::{CaseFault, File};
+use ltm_io::{Doc, Fetched, Folder};
+use std::alloc::Global;
+use std::marker::Model;
+
+/// The most bytes that a file of a case may have.
+const MOST: u64 = 16_777_216;
+
+/// The bytes of the files that each case has.
+#[derive(Drop)]
+pub struct Texts {
+    pub setup: Vec<u8>,
+    pub links: Vec<u8>,
+    pub demand: Vec<u8>,
+    pub splits: Vec<u8>,
+}
+
+impl Model for Texts {
+    ghost use Rattle.ltm_casefile.specs.Case.{CaseTexts};
+
+    ghost Value = { CaseTexts };
+
+    ghost view = { λ t. record { setup = t.setup.items; links = t.links.items; demand = t.demand.items; splits = t.splits.items } };
+}
+
+/// The bytes of one file of the folder.
+fn fetch<F: Folder>(
+    alloc: Global,
+    folder: &mut F,
+    doc: Doc,
+    file: File,
+) -> Result<Vec<u8>, CaseFault>
+    requires { doc_of file ≡ Some doc }
+    ensures keeps { F.told folder.new ≡ F.told folder.old }
+    ensures later { (d : Doc) → F.faults folder.old d ≤ F.faults folder.new d }
+    ensures others { (d : Doc) → d ≢ doc → F.faults folder.new d ≡ F.faults folder.old d }
+    ensures ok { IfOk result (λ v. IfSome (F.told folder.old) (λ files. sized file (files doc) ≡ Ok v.items)) }
+    ensures fault { IfErr result (λ e. IfSome (F.told folder.old) (λ files. Agrees (sized file (files doc)) e)) }
+    ensures risen { IfErr result (HasRisen (F.faults folder.old) (F.faults folder.new)) }
+    ensures given { (f : File) → result ≡ Err (CaseFault.Folder f) → f ≡ file }
+{
+    let mut bytes = Vec::new(alloc);
+    match folder.fetch(doc, &mut bytes, MOST) {
+        Fetched::Found => Ok(bytes),
+        Fetched::TooLong => Err(CaseFault::TooLong(file)),
+        Fetched::Failed => Err(CaseFault::Folder(file)),
+        Fetched::NoMemory => Err(CaseFault::NoMemory),
+    }
+}
+
+/// The bytes of the files that each case has, fetched in order.
+#[tactic(auto, unfolding(crate::specs::Case::texts_of))]
+pub fn fetch_texts<F: Folder>(alloc: Global, folder: &mut F) -> Result<Texts, CaseFault>
+    ensures keeps { F.told folder.new ≡ F.told folder.old }
+    ensures later { (d : Doc) → F.faults folder.old d ≤ F.faults folder.new d }
+    ensures others { (d : Doc) → is_of_each d ≡ false → F.faults folder.new d ≡ F.faults folder.old d }
+    ensures ok { IfOk result (λ t. IfSome (F.told folder.old) (λ files. texts_of files ≡ Ok t)) }
+    ensures fault { IfErr result (λ e. IfSome (F.told folder.old) (λ files. Agrees (texts_of files) e)) }
+    ensures risen { IfErr result (HasRisen (F.faults folder.old) (F.faults folder.new)) }
+    ensures asked { IfErr result (WasAsked is_of_each) }
+{
+    let setup = fetch(alloc, folder, Doc::Setup, File::Setup)?;
+    let links = fetch(alloc, folder, Doc::Links, File::Links)?;
+    let demand = fetch(alloc, folder, Doc::Demand, File::Demand)?;
+    let splits = fetch(alloc, folder, Doc::Splits, File::Splits)?;
+    Ok(Texts {
+        setup,
+        links,
+        demand,
+        splits,
+    })
+}
+
+/// The bytes of the signals, fetched where they are asked for.
+pub fn fetch_signals<F: Folder>(
+    alloc: Global,
+    folder: &mut F,
+    asked: bool,
+) -> Result<Option<Vec<u8>>, CaseFault>
+    ensures keeps { F.told folder.new ≡ F.told folder.old }
+    ensures later { (d : Doc) → F.faults folder.old d ≤ F.faults folder.new d }
+    ensures others { (d : Doc) → d ≢ Doc.Signals → F.faults folder.new d ≡ F.faults folder.old d }
+    ensures unasked { asked ≡ false → (d : Doc) → F.faults folder.new d ≡ F.faults folder.old d }
+    ensures ok { IfOk result (λ v. IfSome (F.told folder.old) (λ files. signals_of files asked ≡ Ok (option_map (λ bytes. bytes.items) v))) }
+    ensures fault { IfErr result (λ e. IfSome (F.told folder.old) (λ files. Agrees (signals_of files asked) e)) }
+    ensures risen { IfErr result (HasRisen (F.faults folder.old) (F.faults folder.new)) }
+    ensures asked { IfErr result (λ e. e ≢ CaseFault.NoMemory → asked ≡ true) }
+{
+    if !asked {
+        return Ok(None);
+    }
+    let bytes = fetch(alloc, folder, Doc::Signals, File::Signals)?;
+    Ok(Some(bytes))
+}

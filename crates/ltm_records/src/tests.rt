@@ -1,0 +1,126 @@
+use crate::{
+    Entries, Records, is_demand_header, is_links_header, is_setup_header,
+    is_setup_header_with_signals, is_signals_header, is_splits_header, name_at, read_weights,
+    text_at, vehicles_at, whole_at, width,
+};
+use csv::ByteRecord;
+use ltm_units::{Name, NoMemory, Units};
+use std::alloc::Global;
+use std::test::Fail;
+
+/// Whether the entries are those of the list; no list stands for no entries.
+fn are(found: Option<Entries>, want: &[(&str, u32)]) -> bool {
+    let Some(entries) = found else {
+        return want.is_empty();
+    };
+    if entries.as_slice().len() != want.len() {
+        return false;
+    }
+    for (entry, pair) in entries.as_slice().iter().zip(want) {
+        if entry.0.bytes() != pair.0.as_bytes() || entry.1 != pair.1 {
+            return false;
+        }
+    }
+    true
+}
+
+#[test]
+fn reads_weights(rt: HostRuntime) {
+    let cases: [(&str, &[(&str, u32)]); 18] = [
+        ("b=1", &[("b", 1)]),
+        ("b=1 c=0", &[("b", 1), ("c", 0)]),
+        ("b=1 b=1", &[("b", 1), ("b", 1)]),
+        ("z-1=4294967295", &[("z-1", 4_294_967_295)]),
+        ("a=1 b=2 c=3 d=4", &[("a", 1), ("b", 2), ("c", 3), ("d", 4)]),
+        ("a=1 b=2 c=3 d=4 e=5", &[]),
+        ("b=4294967296", &[]),
+        ("", &[]),
+        ("b=-1", &[]),
+        ("=1", &[]),
+        ("b=", &[]),
+        ("b", &[]),
+        ("b 1", &[]),
+        ("b==1", &[]),
+        (" b=1", &[]),
+        ("b=1 ", &[]),
+        ("b=1  c=1", &[]),
+        ("b=1,c=1", &[]),
+    ];
+    for (text, want) in cases {
+        assert!(rt; are(read_weights(text.as_bytes()), want), "at {text}");
+    }
+}
+
+/// The text's only record.
+fn row_of(alloc: Global, text: &str) -> Result<ByteRecord, NoMemory> {
+    let mut row = ByteRecord::new(alloc);
+    Records::of(alloc, text.as_bytes()).next(&mut row)?;
+    Ok(row)
+}
+
+#[test]
+fn reads_records(rt: HostRuntime) -> Result<(), Fail> {
+    let text =
+        b"\xef\xbb\xbfstep_ms,slots,origin_capacity\r\n\r\n1000,\"10\",\"a,\"\"b\"\r\n\n5,,x,y";
+    let mut records = Records::of(rt.alloc(), text);
+    let mut row = ByteRecord::new(rt.alloc());
+    assert!(rt; records.next(&mut row)?);
+    assert!(rt; is_setup_header(&row));
+    assert!(rt; records.next(&mut row)?);
+    assert!(rt; width(&row) == 3);
+    assert!(rt; whole_at(&row, 1) == Some(10));
+    assert!(rt; text_at(&row, 2) == b"a,\"b".as_slice());
+    assert!(rt; records.next(&mut row)?);
+    assert!(rt; width(&row) == 4);
+    assert!(rt; text_at(&row, 1).is_empty());
+    assert!(rt; text_at(&row, 3) == b"y".as_slice());
+    assert!(rt; text_at(&row, 4).is_empty());
+    assert!(rt; !records.next(&mut row)?);
+    assert!(rt; !records.next(&mut row)?);
+    Ok(())
+}
+
+#[test]
+fn reads_fields(rt: HostRuntime) -> Result<(), Fail> {
+    let row = row_of(rt.alloc(), "n-1,007,7.25,b c")?;
+    assert!(rt; name_at(&row, 0) == Name::read(b"n-1"));
+    assert!(rt; name_at(&row, 3).is_none());
+    assert!(rt; whole_at(&row, 1) == Some(7));
+    assert!(rt; whole_at(&row, 2).is_none());
+    assert!(rt; vehicles_at(&row, 2) == Some(Units(7250)));
+    assert!(rt; vehicles_at(&row, 0).is_none());
+    Ok(())
+}
+
+/// Which of the headers the record is.
+fn headers_of(row: &ByteRecord) -> [bool; 6] {
+    [
+        is_setup_header(row),
+        is_setup_header_with_signals(row),
+        is_links_header(row),
+        is_demand_header(row),
+        is_splits_header(row),
+        is_signals_header(row),
+    ]
+}
+
+#[test]
+fn knows_headers(rt: HostRuntime) -> Result<(), Fail> {
+    let headers: [&str; 6] = [
+        "step_ms,slots,origin_capacity",
+        "step_ms,slots,origin_capacity,signals",
+        "link,from,to,length_m,free_kmh,wave_kmh,jam_per_km",
+        "origin,destination,from_slot,to_slot,vehicles",
+        "node,destination,from_slot,weights",
+        "link,from_slot,to_slot,vehicles",
+    ];
+    for (place, text) in headers.iter().enumerate() {
+        let row = row_of(rt.alloc(), text)?;
+        for (k, is) in headers_of(&row).iter().enumerate() {
+            assert!(rt; *is == (k == place), "at {text}");
+        }
+    }
+    let row = row_of(rt.alloc(), "step_ms,slots,origin_capacity ")?;
+    assert!(rt; headers_of(&row) == [false; 6]);
+    Ok(())
+}
