@@ -51,3 +51,8 @@ total_small c g k = omega (arith, sum_below-most c.destinations (λ d. counts_of
 pub same_table : (xs ys : List ℕ) (g d k a b m n : ℕ) → xs ≡ ys → a ≡ b → m ≡ n → slice_index xs ((k * a + g) * m + d) ≡ slice_index ys ((k * b + g) * n + d)
 same_table xs ys g d k a b m n e f h =
     ap (λ (zs : List ℕ). slice_index zs ((k * a + g) * m + d)) e ∙ (ap (λ (z : ℕ). slice_index ys ((k * z + g) * m + d)) f ∙ ap (λ (z : ℕ). slice_index ys ((k * b + g) * z + d)) h)
+
+-- curves of one shape and one table have all their counts in common
+pub same_everywhere : (a b : Curves) → SameShape a b → a.counts.items ≡ b.counts.items → counts_of a ≡ counts_of b
+unfolding counts_of
+same_everywhere a b s e = λ i g d k. same_table a.counts.items b.counts.items g d k a.groups b.groups a.destinations b.destinations e s.groups s.destinations i

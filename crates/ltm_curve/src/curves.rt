@@ -241,7 +241,8 @@ impl Curves {
     /// Takes over all counts of other curves of the same shape.
     pub fn copy_from(&mut self, other: &Curves)
         requires { SameShape self.old other.now }
-        ensures { SameCounts self.new other.now }
+        ensures same { SameCounts self.new other.now }
+        ensures all { counts_of self.new ≡ counts_of other.now }
     {
         self.counts
             .as_mut_slice()

@@ -1,1 +1,4 @@
 pub mod Writing
+pub mod Steps
+pub mod Progress
+pub mod Showing

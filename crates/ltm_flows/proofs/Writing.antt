@@ -48,10 +48,10 @@ still_shaped s now new g k row shape set = record {
   same_slots = set.shape.slots ∙ shape.same_slots;
 }
 
-pick_first : (i n x y : ℕ) → i < n → cond (nat_lt i n) x y ≡ x
+pub pick_first : (i n x y : ℕ) → i < n → cond (nat_lt i n) x y ≡ x
 pick_first i n x y l = grind (arith, nat_tests)
 
-pick_second : (i n x y : ℕ) → n ≤ i → cond (nat_lt i n) x y ≡ y
+pub pick_second : (i n x y : ℕ) → n ≤ i → cond (nat_lt i n) x y ≡ y
 pick_second i n x y l = grind (arith, nat_tests)
 
 -- the groups of a node's arms

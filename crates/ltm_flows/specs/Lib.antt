@@ -1,2 +1,5 @@
 pub mod Shaped
 pub mod Applying
+pub mod Working
+pub mod Shown
+pub mod InAll

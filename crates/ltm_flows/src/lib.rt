@@ -6,6 +6,13 @@
 //! slot takes none.
 #![tactic(auto)]
 
+mod cold_loading;
+mod loading;
 mod node_counts;
+mod tables;
+mod totals;
 
+pub use cold_loading::{Reader, cold, fresh};
+pub use loading::Loading;
 pub use node_counts::apply;
+pub use totals::Totals;

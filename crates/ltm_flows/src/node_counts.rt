@@ -15,7 +15,7 @@ use ltm_curve::Curves;
 use ltm_loading::counts_by_place;
 use ltm_node::NodeOutputs;
 use ltm_scenario::Scenario;
-use ltm_setting::{in_links, link_count, node_count, out_links, own, slot_count};
+use ltm_setting::{in_links, is_setting, link_count, node_count, out_links, own, slot_count};
 use ltm_units::{NodeId, Pair};
 
 /// The group of what has left by an arm of a node.
@@ -111,7 +111,6 @@ fn write_sink(scenario: &Scenario, curves: &mut Curves, node: NodeId, boundary: 
 
 /// Writes the counts of a node at the end of a slot, and no others. The outputs are of the node's shape. Takes no memory.
 pub fn apply(scenario: &Scenario, curves: &mut Curves, pair: Pair, outputs: &NodeOutputs)
-    requires setting { IsSetting (setting_of scenario.now) }
     requires node { pair.node.0 < (setting_of scenario.now).nodes }
     requires slot { pair.slot < (setting_of scenario.now).slots }
     requires shape { IsShaped (setting_of scenario.now) curves.old }
@@ -123,6 +122,7 @@ pub fn apply(scenario: &Scenario, curves: &mut Curves, pair: Pair, outputs: &Nod
     ensures applies { Applies (setting_of scenario.now) pair.node.0 (pair.slot + 1) outputs.now.row
         (counts_of curves.old) (counts_of curves.new) }
 {
+    is_setting(scenario);
     counts_by_place();
     let _slots = slot_count(scenario);
     let boundary = pair.slot + 1;

@@ -1,5 +1,5 @@
 //! The inputs of a pair of node and slot.
-ghost use Rattle.std.specs.Prelude.{◌≡◌, ◌<◌, ◌≤◌, ◌*◌, ◌+◌, ◌↔◌, max, length, IsTrue, IfOk, slice_set};
+ghost use Rattle.std.specs.Prelude.{◌≡◌, ◌<◌, ◌≤◌, ◌*◌, ◌+◌, ◌↔◌, max, length, IsTrue, IfOk, slice_set, take, drop, ◌++◌};
 ghost use Rattle.ltm_node.specs.Shape.{
   width,
   no_shape,
@@ -80,6 +80,17 @@ impl NodeInputs {
         for place in 0..width {
             self.numbers[place] = 0;
         }
+        self.shape = shape;
+    }
+
+    /// Takes a shape, for a caller that then writes every number: what numbers the row holds is not told.
+    #[inline]
+    pub fn reshape(&mut self, shape: NodeShape)
+        requires { width shape ≤ self.old.room }
+        ensures shape { self.new.shape ≡ shape }
+        ensures room { self.new.room ≡ self.old.room }
+        ensures width { length self.new.row ≡ width shape }
+    {
         self.shape = shape;
     }
 
@@ -299,6 +310,26 @@ impl NodeInputs {
     {
         let place = self.shape.weights_place(destination) + out as usize;
         self.numbers[place] = value;
+    }
+
+    /// Sets the number at a place of the row.
+    #[inline]
+    pub fn put(&mut self, place: usize, value: u64)
+        requires { place < width self.old.shape }
+        ensures { self.new ≡ record self.old { row = slice_set self.old.row place value } }
+    {
+        self.numbers[place] = value;
+    }
+
+    /// Sets the numbers of the row from a place on.
+    #[inline]
+    pub fn put_all(&mut self, from: usize, numbers: &[u64])
+        requires { from + length numbers.now ≤ width self.old.shape }
+        ensures { self.new ≡ record self.old {
+          row = take from self.old.row ++ (numbers.now ++ drop (from + length numbers.now) self.old.row);
+        } }
+    {
+        self.numbers[from..from + numbers.len()].copy_from_slice(numbers);
     }
 
     /// Takes a shape and all numbers of its row.

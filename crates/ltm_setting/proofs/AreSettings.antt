@@ -15,7 +15,8 @@ use Rattle.ltm_diagram.specs.Limits.{limits_of}
 use Rattle.ltm_diagram.specs.InRange.{AreInRange, LimitsInRange}
 use Rattle.ltm_demand.specs.declared.row.DemandRow.{DemandRow}
 use Rattle.ltm_demand.specs.Produced.{by_end}
-use Rattle.ltm_splits.specs.Rows.{SplitRow, row_in_force}
+use Rattle.ltm_splits.specs.WeightsLie.{AreWeights}
+use Rattle.ltm_splits.specs.Rows.{row_in_force}
 use Rattle.ltm_scenario.specs.Data.{ScenarioData}
 use Rattle.ltm_scenario.specs.IsScenario.{IsScenario}
 use Rattle.ltm_scenario.specs.Reads.{destination_of}
@@ -24,23 +25,18 @@ use Rattle.ltm_loading.specs.Setting.{IsNetwork, IsSmall, IsSetting}
 use Rattle.ltm_setting.specs.Setting.{or_no_limits, set_by, limits_at, produced_by, weight_in_force, setting_of}
 use Rattle.ltm_setting.proofs.InForce.{in_force}
 
--- what is not yet said of every scenario
-pub record HasNumbers (s : ScenarioData) : Type 0 where
-  pub limits : All (λ diagram. IsOk (limits_of diagram s.setup.step.0)) s.diagrams
-  pub weights : All (λ (row : SplitRow). All (λ w. w < 2 ^ 32) row.1) s.splits
-
 -- what is said of the limits that a diagram sets holds of the limits that are read
 set_limits : (P : Limits → Type 0) (r : Result Limits DiagramFault) → IsOk r → ((limits : Limits) → r ≡ Ok limits → P limits) → P (or_no_limits r)
 set_limits P (Ok limits) is h = h limits refl
 set_limits P (Err fault) is h = cc
 
 -- the limits of each link are in range
-limits_in_range : (s : ScenarioData) → LimitsInRange → IsScenario s → HasNumbers s → (l : ℕ) → l < length s.network.links → AreInRange s.setup.step.0 (limits_at s l)
-limits_in_range s ranges is has l below =
+limits_in_range : (s : ScenarioData) → LimitsInRange → IsScenario s → (l : ℕ) → l < length s.network.links → AreInRange s.setup.step.0 (limits_at s l)
+limits_in_range s ranges is l below =
     let d : Diagram = record { length_m = 0; free_kmh = 0; wave_kmh = 0; jam_per_km = 0 } in
     let there : l < length s.diagrams = omega (arith, is.diagram_for_each) in
     subst (λ (o : Option Diagram). AreInRange s.setup.step.0 (set_by s.setup.step.0 o)) (sym (slice_get-get_or s.diagrams l d there))
-    (set_limits (AreInRange s.setup.step.0) (limits_of (get_or s.diagrams l d) s.setup.step.0) (has.limits l d there) (λ limits e. ranges (get_or s.diagrams l d) s.setup.step.0 limits e))
+    (set_limits (AreInRange s.setup.step.0) (limits_of (get_or s.diagrams l d) s.setup.step.0) (is.limits l d there) (λ limits e. ranges (get_or s.diagrams l d) s.setup.step.0 limits e))
 
 -- a node's destination is where the node stands
 own_there : (s : ScenarioData) (u d : ℕ) → destination_of s.destinations u ≡ Some d → (d < length s.destinations) × (slice_index s.destinations d ≡ u)
@@ -71,10 +67,10 @@ small_in_force : (o : Option (List ℕ)) (j : ℕ) → IfSome o (All (λ w. w < 
 small_in_force None j h = omega arith
 small_in_force (Some ws) j h = small_weight ws j h
 
-pub is_setting : (s : ScenarioData) → HasPlaces s.network → LimitsInRange → ((rows : List DemandRow) (o d s t : ℕ) → s ≤ t → by_end rows o d s ≤ by_end rows o d t) → IsScenario s → HasNumbers s → IsSetting (setting_of s)
+pub is_setting : (s : ScenarioData) → HasPlaces s.network → LimitsInRange → ((rows : List DemandRow) (o d s t : ℕ) → s ≤ t → by_end rows o d s ≤ by_end rows o d t) → IsScenario s → IsSetting (setting_of s)
 unfolding setting_of
-is_setting s places ranges rises is has =
-    let limits : (l : ℕ) → l < length s.network.links → AreInRange s.setup.step.0 (limits_at s l) = limits_in_range s ranges is has in
+is_setting s places ranges rises is =
+    let limits : (l : ℕ) → l < length s.network.links → AreInRange s.setup.step.0 (limits_at s l) = limits_in_range s ranges is in
     record {
       network = record {
         head_is_node = is.network.head_is_node;
@@ -101,7 +97,7 @@ is_setting s places ranges rises is has =
         few_destinations = is.few_destinations;
         capacities = λ l x. (limits l x).capacity_most;
         origin_capacity = is.setup.capacity_most;
-        weights = λ u d t j x m y z. small_in_force (row_in_force s.splits u d t) j (in_force (λ row. All (λ w. w < 2 ^ 32) row.1) (All (λ w. w < 2 ^ 32)) s.splits u d t (λ row h test. h) has.weights);
+        weights = λ u d t j x m y z. small_in_force (row_in_force s.splits u d t) j (in_force (λ row. AreWeights row.1) (All (λ w. w < 2 ^ 32)) s.splits u d t (λ row have test. have.2) is.weights);
       };
       some_step = is.setup.step_least;
       some_capacity = λ l x. (limits l x).capacity_least;

@@ -5,8 +5,10 @@
 //! an access or two and takes no memory.
 #![tactic(auto)]
 
+mod laws;
 mod readers;
 
+pub use laws::{is_setting, scenarios_are_settings};
 pub use readers::{
     destination_count, entry_limit, exit_limit, in_links, limits, link_count, node_count,
     origin_capacity, out_links, own, produced, slot_count, step, weights,

@@ -1,0 +1,10 @@
+use Rattle.std.proofs.Common.{◌≡◌, ◌<◌, ℕ, length, map, slice_index}
+use Rattle.ltm_loading.specs.Totals.{generated}
+use Rattle.ltm_setting.specs.Setting.{setting_of}
+use Rattle.ltm_flows.proofs.tables.generated_by_boundary.Given as goal
+
+abbrev pub invariant-loop-boundary : goal.invariant-loop-boundary
+invariant-loop-boundary l = record {
+  count : length l.table.items ≡ l.boundary;
+  amounts : (k : ℕ) → k < l.boundary → slice_index (map (λ units. units.0) l.table.items) k ≡ generated (setting_of l.scenario) k;
+}

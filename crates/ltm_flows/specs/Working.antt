@@ -1,0 +1,32 @@
+-- How far a cold loading has come.
+use Rattle.std.specs.Prelude.{◌≡◌, ℕ, ◌<◌, ◌≤◌}
+use Rattle.ltm_curve.specs.Counts.{Counts}
+use Rattle.ltm_curve.specs.declared.curves.Curves.{Curves}
+use Rattle.ltm_curve.specs.Table.{counts_of}
+use Rattle.ltm_node.specs.Shape.{width}
+use Rattle.ltm_loading.specs.Setting.{Setting}
+use Rattle.ltm_loading.specs.Groups.{dep_of}
+use Rattle.ltm_loading.specs.Pairs.{shape_at}
+use Rattle.ltm_loading.specs.Loading.{IsFront}
+use Rattle.ltm_loading.specs.NextPair.{IsFrontTo}
+use Rattle.ltm_flows.specs.Shaped.{IsShaped}
+
+-- nothing leaves the origin of a node without out-links
+abbrev pub NoOrigins : Setting → Counts → Type 0
+NoOrigins s c = (u d k : ℕ) → u < s.nodes → s.outs u ≡ 0 → d < s.destinations → k ≤ s.slots → c (dep_of s u) d k ≡ 0
+
+-- all slots before one are done
+pub record IsWorking (s : Setting) (c : Curves) (slot : ℕ) : Type 0 where
+  pub shape : IsShaped s c
+  pub front : IsFront s (counts_of c) slot
+  pub no_origins : NoOrigins s (counts_of c)
+
+-- within a slot the first nodes are done
+pub record IsWorkingAt (s : Setting) (c : Curves) (slot nodes : ℕ) : Type 0 where
+  pub shape : IsShaped s c
+  pub front : IsFrontTo s (counts_of c) slot nodes
+  pub no_origins : NoOrigins s (counts_of c)
+
+-- there is room for the inputs of each node
+abbrev pub HasRoom : Setting → ℕ → Type 0
+HasRoom s room = (u : ℕ) → u < s.nodes → width (shape_at s u) ≤ room

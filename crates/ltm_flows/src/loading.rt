@@ -1,0 +1,230 @@
+//! A finished loading, as others read it.
+ghost use Rattle.std.specs.Prelude.{◌≡◌, ◌≤◌, ◌<◌, ◌+◌, ◌*◌, ◌-◌, ℕ, length, IfOk};
+ghost use Rattle.ltm_units.specs.Sums.{sum_below};
+ghost use Rattle.ltm_curve.specs.Table.{groups_of, destinations_of, slots_of, counts_of, total_of};
+ghost use Rattle.ltm_loading.specs.Setting.{Setting, IsSetting};
+ghost use Rattle.ltm_loading.specs.Groups.{up_of, down_of};
+ghost use Rattle.ltm_loading.specs.Loading.{IsLoading};
+ghost use Rattle.ltm_loading.specs.Totals.{arrived, entered_link, left_link};
+ghost use Rattle.ltm_setting.specs.Setting.{setting_of};
+ghost use Rattle.ltm_flows.specs.Shaped.{IsShaped};
+
+use crate::tables::{free_times, generated_by_boundary};
+use crate::totals::Totals;
+use ltm_curve::Curves;
+use ltm_loading::counts_small;
+use ltm_scenario::Scenario;
+use ltm_setting::{is_setting, link_count, node_count, step};
+use ltm_units::{LinkId, Millis, NoMemory, Units};
+use std::alloc::Global;
+
+/// A finished loading with its version, its curves, the free-flow times of its links and what its origins have produced.
+///
+/// It stands on its own: the scenario may change once the loading is made.
+#[derive(Drop)]
+pub struct Loading {
+    version: u64,
+    step: Millis,
+    links: u32,
+    nodes: u32,
+    free: Vec<Millis>,
+    generated: Vec<Units>,
+    curves: Curves,
+    ghost few_links: { links ≤ 4000 },
+    ghost few_nodes: { nodes ≤ 8000 },
+    ghost few_destinations: { destinations_of curves ≤ 64 },
+    ghost groups: { groups_of curves ≡ 2 * links + nodes + 1 },
+    ghost times: { length free.items ≡ links },
+    ghost amounts: { length generated.items ≡ slots_of curves + 1 },
+    ghost small: { (g d k : ℕ) → g < groups_of curves → d < destinations_of curves → k ≤ slots_of curves
+        → counts_of curves g d k ≤ 1600000000 },
+}
+
+impl Loading {
+    ghost use Rattle.ltm_flows.specs.Shown.{
+      version_of,
+      step_of,
+      links_of,
+      nodes_of,
+      curves_of,
+      last_of,
+      free_of,
+      generated_of,
+      Shows,
+    };
+    ghost use Rattle.ltm_flows.specs.InAll.{AreTotals};
+
+    /// The loading of a scenario, from its finished curves, which are kept.
+    pub fn of(
+        alloc: Global,
+        scenario: &Scenario,
+        curves: Curves,
+        version: u64,
+    ) -> Result<Loading, NoMemory>
+        requires shape { IsShaped (setting_of scenario.now) curves }
+        requires loading { IsLoading (setting_of scenario.now) (counts_of curves) }
+        ensures { IfOk result (Shows (setting_of scenario.now) version) }
+    {
+        counts_small();
+        is_setting(scenario);
+        let free = free_times(alloc, scenario)?;
+        let generated = generated_by_boundary(alloc, scenario)?;
+        Ok(Loading {
+            version,
+            step: step(scenario),
+            links: link_count(scenario),
+            nodes: node_count(scenario),
+            free,
+            generated,
+            curves,
+        })
+    }
+
+    /// The loading of a scenario, from its finished curves, of which it keeps a copy.
+    pub fn create(
+        alloc: Global,
+        scenario: &Scenario,
+        curves: &Curves,
+        version: u64,
+    ) -> Result<Loading, NoMemory>
+        requires shape { IsShaped (setting_of scenario.now) curves.now }
+        requires loading { IsLoading (setting_of scenario.now) (counts_of curves.now) }
+        ensures { IfOk result (Shows (setting_of scenario.now) version) }
+    {
+        let mut copy = Curves::create(
+            alloc,
+            curves.groups(),
+            curves.destinations(),
+            curves.slots(),
+        )?;
+        copy.copy_from(curves);
+        Loading::of(alloc, scenario, copy, version)
+    }
+
+    /// The version that it is the loading of.
+    pub fn version(&self) -> u64
+        ensures { result ≡ version_of self.now }
+    {
+        self.version
+    }
+
+    /// Its curves.
+    pub fn curves(&self) -> &Curves
+        ensures { result.now ≡ curves_of self.now }
+    {
+        &self.curves
+    }
+
+    /// The length of a slot.
+    pub fn step(&self) -> Millis
+        ensures { result.0 ≡ step_of self.now }
+    {
+        self.step
+    }
+
+    /// How many slots there are; the last boundary has the same number.
+    pub fn slots(&self) -> u32
+        ensures { result ≡ last_of self.now }
+    {
+        self.curves.slots()
+    }
+
+    /// How many links there are.
+    pub fn links(&self) -> u32
+        ensures { result ≡ links_of self.now }
+    {
+        self.links
+    }
+
+    /// How many nodes there are.
+    pub fn nodes(&self) -> u32
+        ensures { result ≡ nodes_of self.now }
+    {
+        self.nodes
+    }
+
+    /// The free-flow time of a link.
+    pub fn free(&self, link: LinkId) -> Millis
+        requires { link.0 < links_of self.now }
+        ensures { result.0 ≡ free_of self.now link.0 }
+    {
+        self.free[link.0 as usize]
+    }
+
+    /// What all origins have produced by a boundary.
+    pub fn generated(&self, boundary: u32) -> Units
+        requires { boundary ≤ last_of self.now }
+        ensures { result.0 ≡ generated_of self.now boundary }
+    {
+        self.generated[boundary as usize]
+    }
+
+    /// What has arrived at its destination by a boundary.
+    pub fn arrived(&self, boundary: u32) -> Units
+        requires { boundary ≤ last_of self.now }
+        ensures { (s : Setting) (version : ℕ) → Shows s version self.now
+            → result.0 ≡ arrived s (counts_of (curves_of self.now)) boundary }
+    {
+        Units(self.curves.total(2 * self.links + self.nodes, boundary))
+    }
+
+    /// What has entered a link by the last boundary.
+    pub fn entered(&self, link: LinkId) -> Units
+        requires { link.0 < links_of self.now }
+        ensures { (s : Setting) (version : ℕ) → Shows s version self.now
+            → result.0 ≡ entered_link s (counts_of (curves_of self.now)) link.0 s.slots }
+    {
+        Units(self.curves.total(2 * link.0, self.curves.slots()))
+    }
+
+    /// What has left a link by the last boundary.
+    pub fn left(&self, link: LinkId) -> Units
+        requires { link.0 < links_of self.now }
+        ensures { (s : Setting) (version : ℕ) → Shows s version self.now
+            → result.0 ≡ left_link s (counts_of (curves_of self.now)) link.0 s.slots }
+    {
+        Units(self.curves.total(2 * link.0 + 1, self.curves.slots()))
+    }
+
+    /// What is on the links at the last boundary.
+    fn on_links(&self) -> u64
+        ensures { result ≡ sum_below (links_of self.now) (λ l. total_of (curves_of self.now) (up_of l) (last_of self.now)
+            - total_of (curves_of self.now) (down_of l) (last_of self.now)) }
+    {
+        let last = self.curves.slots();
+        let mut sum = 0;
+        for link in 0..self.links {
+            let entered = self.curves.total(2 * link, last);
+            let left = self.curves.total(2 * link + 1, last);
+            sum += entered.saturating_sub(left);
+        }
+        sum
+    }
+
+    /// What has left the origins by the last boundary.
+    fn departed(&self) -> u64
+        ensures { result ≡ sum_below (nodes_of self.now) (λ u. total_of (curves_of self.now) (2 * links_of self.now + u) (last_of self.now)) }
+    {
+        let last = self.curves.slots();
+        let mut sum = 0;
+        for node in 0..self.nodes {
+            sum += self.curves.total(2 * self.links + node, last);
+        }
+        sum
+    }
+
+    /// What the loading comes to in all at the last boundary.
+    pub fn totals(&self) -> Totals
+        ensures { (s : Setting) (version : ℕ) → Shows s version self.now
+            → AreTotals s (counts_of (curves_of self.now)) s.slots result }
+    {
+        let last = self.slots();
+        let generated = self.generated(last);
+        Totals {
+            generated,
+            arrived: self.arrived(last),
+            on_links: Units(self.on_links()),
+            waiting: Units(generated.0.saturating_sub(self.departed())),
+        }
+    }
+}

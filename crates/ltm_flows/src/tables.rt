@@ -1,0 +1,64 @@
+//! What a loading keeps of a scenario: the free-flow times of its links, and what its origins produce.
+ghost use Rattle.std.specs.Prelude.{◌≡◌, ◌≤◌, ◌<◌, ◌+◌, ◌*◌, ℕ, length, map, slice_index, IfOk};
+ghost use Rattle.ltm_units.specs.Sums.{sum_below};
+ghost use Rattle.ltm_curve.specs.Counts.{total};
+ghost use Rattle.ltm_loading.specs.Totals.{generated};
+ghost use Rattle.ltm_setting.specs.Setting.{setting_of};
+
+use ltm_scenario::Scenario;
+use ltm_setting::{destination_count, limits, link_count, node_count, produced, slot_count};
+use ltm_units::{LinkId, Millis, NoMemory, NodeId, Units};
+use std::alloc::Global;
+
+/// The free-flow time of each link.
+pub(crate) fn free_times(alloc: Global, scenario: &Scenario) -> Result<Vec<Millis>, NoMemory>
+    ensures count { IfOk result (λ times. length times.items ≡ (setting_of scenario.now).links) }
+    ensures times { IfOk result (λ times. (l : ℕ) → l < (setting_of scenario.now).links
+        → slice_index (map (λ time. time.0) times.items) l ≡ (setting_of scenario.now).free_time l) }
+{
+    let mut times = Vec::new(alloc);
+    for link in 0..link_count(scenario) {
+        let limits = limits(scenario, LinkId(link));
+        times.push(Millis(limits.free_ms))?;
+    }
+    Ok(times)
+}
+
+/// What the origin of a node has produced by a boundary, for all destinations.
+fn produced_at(scenario: &Scenario, node: NodeId, boundary: u32) -> u64
+    ensures total { result ≡ total (setting_of scenario.now).destinations ((setting_of scenario.now).produced node.0) boundary }
+    ensures small { result ≤ 640000000000000 }
+{
+    let mut sum = 0;
+    for destination in 0..destination_count(scenario) {
+        sum += produced(scenario, node, destination, boundary);
+    }
+    sum
+}
+
+/// What all origins have produced by a boundary.
+fn generated_at(scenario: &Scenario, boundary: u32) -> u64
+    ensures { result ≡ generated (setting_of scenario.now) boundary }
+{
+    let mut sum = 0;
+    for node in 0..node_count(scenario) {
+        sum += produced_at(scenario, NodeId(node), boundary);
+    }
+    sum
+}
+
+/// What all origins have produced by each boundary.
+pub(crate) fn generated_by_boundary(
+    alloc: Global,
+    scenario: &Scenario,
+) -> Result<Vec<Units>, NoMemory>
+    ensures count { IfOk result (λ table. length table.items ≡ (setting_of scenario.now).slots + 1) }
+    ensures amounts { IfOk result (λ table. (k : ℕ) → k ≤ (setting_of scenario.now).slots
+        → slice_index (map (λ units. units.0) table.items) k ≡ generated (setting_of scenario.now) k) }
+{
+    let mut table = Vec::new(alloc);
+    for boundary in 0..slot_count(scenario) + 1 {
+        table.push(Units(generated_at(scenario, boundary)))?;
+    }
+    Ok(table)
+}

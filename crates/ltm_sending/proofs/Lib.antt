@@ -1,0 +1,4 @@
+pub mod Past
+pub mod Waiting
+pub mod Links
+pub mod Origins

@@ -1,0 +1,28 @@
+use Rattle.std.proofs.Common.{◌≡◌, ◌<◌, arith, ap, get_or-set_same, sym, ◌-◌, ◌∙◌, slice_index, slice_set}
+use Rattle.ltm_curve.specs.Table.{counts_of, destinations_of}
+use Rattle.ltm_setting.specs.Setting.{setting_of}
+use Rattle.ltm_sending.proofs.Origins.{sends_nothing, sends_one, sends_rest, behind}
+use Rattle.ltm_sending.proofs.origin.send_origin.Goals as goal
+
+pub returns-then-queue : goal.returns-then-queue
+returns-then-queue c d x =
+    c.send_nothing.ensures d (omega arith)
+    ∙ sym (sends_nothing (setting_of c.args.scenario.now) (counts_of c.args.curves.now) c.args.node.0 c.args.slot _ _ _ d c.queue_at-queue.ensures c.if-queue.true x)
+
+pub returns-then-into-eq1 : goal.returns-then-into-eq1
+returns-then-into-eq1 c d x =
+    let first : d ≡ 0 = omega arith in
+    let rest = c.queue_at-queue.result.goal - c.queue_at-queue.result.left in
+    ap (slice_index (slice_set c.args.into.now 0 rest)) first
+    ∙ (get_or-set_same c.args.into.now 0 rest 0 (omega arith)
+    ∙ sym (sends_one (setting_of c.args.scenario.now) (counts_of c.args.curves.now) c.args.node.0 c.args.slot _ _ _ d c.queue_at-queue.ensures (omega arith) x))
+
+pub take_off-requires-clause-behind : goal.take_off-requires-clause-behind
+take_off-requires-clause-behind c d x =
+    let inside : d < (setting_of c.args.scenario.now).destinations = omega (arith, c.requires.ready.shape.same_destinations) in
+    behind (setting_of c.args.scenario.now) (counts_of c.args.curves.now) c.args.node.0 c.args.slot _ _ _ _ d _ c.queue_at-queue.ensures c.departed_group.ensures (c.first_produced.ensures d inside) inside
+
+pub returns : goal.returns
+returns c d x =
+    let inside : d < destinations_of c.args.curves.now = omega (arith, c.requires.ready.shape.same_destinations) in
+    sends_rest (setting_of c.args.scenario.now) (counts_of c.args.curves.now) c.args.node.0 c.args.slot _ _ _ _ d _ _ c.queue_at-queue.ensures c.departed_group.ensures (c.first_produced.ensures d x) (c.take_off.ensures d inside)

@@ -1,0 +1,16 @@
+//! What a link and an origin send in a slot, by destination, and what a link can take, at the front of a loading.
+//!
+//! All is read from a scenario and from the curves of a loading that are done up to the slot; nothing is changed and no
+//! memory is taken. A call costs a few totals of a boundary; where something leaves for one of several destinations, also
+//! a search for the boundaries at which it entered. It stands on `ltm_setting` and `ltm_curve`. (Sending and receiving of
+//! a link: Yperman 2007, after Newell 1993. Composition by destination, origins and whole units are this engine's own.)
+#![tactic(auto)]
+
+mod ago;
+mod link;
+mod origin;
+mod parts;
+mod produced;
+
+pub use link::{receive, send_link};
+pub use origin::send_origin;

@@ -1,0 +1,105 @@
+//! What a link sends and what it can take.
+ghost use Rattle.std.specs.Prelude.{◌≡◌, ℕ, ◌+◌, ◌*◌, ◌^◌, ◌<◌, ◌≤◌, length, slice_index};
+ghost use Rattle.ltm_curve.specs.Table.{groups_of, destinations_of, counts_of};
+ghost use Rattle.ltm_loading.specs.Setting.{IsSetting};
+ghost use Rattle.ltm_loading.specs.Groups.{up_of};
+ghost use Rattle.ltm_loading.specs.Flows.{link_sending, receiving};
+ghost use Rattle.ltm_setting.specs.Setting.{setting_of};
+ghost use Rattle.ltm_sending.specs.Front.{IsAtFront};
+ghost use Rattle.ltm_sending.specs.MayLeave.{WaitOnLink};
+
+use crate::ago::total_ago;
+use crate::parts::{limit_all, send_nothing, take_off};
+use ltm_curve::Curves;
+use ltm_loading::links_are_ready;
+use ltm_scenario::Scenario;
+use ltm_setting::{entry_limit, exit_limit, limits, step};
+use ltm_units::LinkId;
+
+/// Units that may leave in the order in which they entered: how many ever may, a boundary by which all of these had
+/// entered, and how many have left.
+#[derive(Clone, Copy)]
+struct Waiting {
+    goal: u64,
+    by: u32,
+    left: u64,
+}
+
+/// The group of what has entered a link; the next one is what has left it.
+#[inline]
+fn entered_group(curves: &Curves, link: LinkId) -> u32
+    requires { 2 * link.0 + 1 < groups_of curves.now }
+    ensures group { result ≡ up_of link.0 }
+    ensures next { result + 1 < 2 ^ 32 }
+{
+    let _groups = curves.groups();
+    2 * link.0
+}
+
+/// The units that may leave a link by the end of a slot.
+#[inline]
+fn waiting_on(scenario: &Scenario, curves: &Curves, link: LinkId, slot: u32) -> Waiting
+    requires link { link.0 < (setting_of scenario.now).links }
+    requires setting { IsSetting (setting_of scenario.now) }
+    requires ready { IsAtFront (setting_of scenario.now) curves.now slot }
+    ensures { WaitOnLink (setting_of scenario.now) (counts_of curves.now) link.0 slot (destinations_of curves.now) result.goal result.by result.left }
+{
+    links_are_ready();
+    let limits = limits(scenario, link);
+    let up = entered_group(curves, link);
+    let ago = total_ago(curves, up, slot, limits.free_ms, step(scenario));
+    let left = curves.total(up + 1, slot);
+    let goal = ago.total.min(left + limits.capacity);
+    Waiting {
+        goal,
+        by: ago.by,
+        left,
+    }
+}
+
+/// Writes what a link sends of each destination in a slot: of the units that entered it at least its free-flow time ago,
+/// in their order, those that have not left yet, as many as its capacity and its exit limit let pass. The exit limit cuts
+/// each destination in proportion, rounded down.
+pub fn send_link(scenario: &Scenario, curves: &Curves, link: LinkId, slot: u32, into: &mut [u64])
+    requires link { link.0 < (setting_of scenario.now).links }
+    requires setting { IsSetting (setting_of scenario.now) }
+    requires ready { IsAtFront (setting_of scenario.now) curves.now slot }
+    requires room { length into.old ≡ (setting_of scenario.now).destinations }
+    ensures { (d : ℕ) → d < (setting_of scenario.now).destinations → slice_index into.new d
+        ≡ link_sending (setting_of scenario.now) (counts_of curves.now) link.0 slot d }
+{
+    let waiting = waiting_on(scenario, curves, link, slot);
+    let whole = waiting.goal - waiting.left;
+    if whole == 0 {
+        send_nothing(into);
+        return;
+    }
+    let limit = exit_limit(scenario, link, slot);
+    if into.len() == 1 {
+        into[0] = whole.min(limit);
+        return;
+    }
+    let up = entered_group(curves, link);
+    curves.first(up, waiting.goal, waiting.by, into);
+    take_off(curves, up + 1, slot, into);
+    limit_all(limit, whole, into);
+}
+
+/// What a link can take in a slot, at most 32,000 units: its capacity, its entry limit, and the room that it has had since
+/// its wave time ago.
+pub fn receive(scenario: &Scenario, curves: &Curves, link: LinkId, slot: u32) -> u64
+    requires link { link.0 < (setting_of scenario.now).links }
+    requires setting { IsSetting (setting_of scenario.now) }
+    requires ready { IsAtFront (setting_of scenario.now) curves.now slot }
+    ensures value { result ≡ receiving (setting_of scenario.now) (counts_of curves.now) link.0 slot }
+    ensures small { result ≤ 32000 }
+{
+    links_are_ready();
+    let limits = limits(scenario, link);
+    let up = entered_group(curves, link);
+    let ago = total_ago(curves, up + 1, slot, limits.wave_ms, step(scenario));
+    let entered = curves.total(up, slot);
+    let room = ago.total + limits.storage - entered;
+    let entry = entry_limit(scenario, link, slot);
+    limits.capacity.min(entry.min(room))
+}

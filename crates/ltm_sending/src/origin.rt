@@ -1,0 +1,98 @@
+//! What the origin of a node sends.
+ghost use Rattle.std.specs.Prelude.{◌≡◌, ℕ, ◌+◌, ◌^◌, ◌<◌, ◌≤◌, length, slice_index};
+ghost use Rattle.ltm_curve.specs.Counts.{total};
+ghost use Rattle.ltm_curve.specs.First.{first_units};
+ghost use Rattle.ltm_curve.specs.FirstLaws.{IsPart};
+ghost use Rattle.ltm_curve.specs.Table.{groups_of, counts_of};
+ghost use Rattle.ltm_loading.specs.Setting.{IsSetting};
+ghost use Rattle.ltm_loading.specs.Groups.{dep_of};
+ghost use Rattle.ltm_loading.specs.Flows.{origin_sending};
+ghost use Rattle.ltm_setting.specs.Setting.{setting_of};
+ghost use Rattle.ltm_sending.specs.Front.{IsAtFront};
+ghost use Rattle.ltm_sending.specs.MayLeave.{WaitAtOrigin};
+
+use crate::parts::{send_nothing, take_off};
+use crate::produced::Produced;
+use ltm_curve::{Curves, Rows, first_of};
+use ltm_loading::origins_are_ready;
+use ltm_scenario::Scenario;
+use ltm_setting::{link_count, origin_capacity};
+use ltm_units::NodeId;
+
+/// Units that may leave in the order in which they were produced: how many there are, how many of them ever may leave,
+/// and how many have left.
+#[derive(Clone, Copy)]
+struct Queue {
+    all: u64,
+    goal: u64,
+    left: u64,
+}
+
+/// The group of what has left the origin of a node.
+#[inline]
+fn departed_group(scenario: &Scenario, curves: &Curves, node: NodeId) -> u32
+    requires { dep_of (setting_of scenario.now) node.0 < groups_of curves.now }
+    ensures { result ≡ dep_of (setting_of scenario.now) node.0 }
+{
+    let _groups = curves.groups();
+    2 * link_count(scenario) + node.0
+}
+
+/// The units that may leave an origin by the end of a slot.
+#[inline]
+fn queue_at(scenario: &Scenario, curves: &Curves, node: NodeId, slot: u32) -> Queue
+    requires node { node.0 < (setting_of scenario.now).nodes }
+    requires some_out { 0 < (setting_of scenario.now).outs node.0 }
+    requires setting { IsSetting (setting_of scenario.now) }
+    requires ready { IsAtFront (setting_of scenario.now) curves.now slot }
+    ensures { WaitAtOrigin (setting_of scenario.now) (counts_of curves.now) node.0 slot result.all result.goal result.left }
+{
+    origins_are_ready();
+    let rows = Produced { scenario, node };
+    let all = rows.total(slot + 1);
+    let departed = departed_group(scenario, curves, node);
+    let left = curves.total(departed, slot);
+    let goal = all.min(left + origin_capacity(scenario));
+    Queue { all, goal, left }
+}
+
+/// Writes what each destination has of the first `goal` of all units that were produced by a boundary.
+fn first_produced(rows: &Produced<'_>, all: u64, goal: u64, boundary: u32, into: &mut [u64])
+    requires boundary { boundary ≤ (setting_of rows.now.scenario.now).slots }
+    requires all { all ≡ total (setting_of rows.now.scenario.now).destinations ((setting_of rows.now.scenario.now).produced rows.now.node.0) boundary }
+    requires part { IsPart (setting_of rows.now.scenario.now).destinations ((setting_of rows.now.scenario.now).produced rows.now.node.0) goal boundary }
+    requires room { length into.old ≡ (setting_of rows.now.scenario.now).destinations }
+    ensures { (d : ℕ) → d < (setting_of rows.now.scenario.now).destinations → slice_index into.new d
+        ≡ first_units (setting_of rows.now.scenario.now).destinations ((setting_of rows.now.scenario.now).produced rows.now.node.0) goal boundary d }
+{
+    if goal == all {
+        rows.write(boundary, into);
+    } else {
+        first_of(rows, goal, boundary, into);
+    }
+}
+
+/// Writes what the origin of a node sends of each destination in a slot: of the units that the node has produced by the
+/// end of the slot, in their order, those that have not left yet, as many as the capacity of origins lets pass.
+pub fn send_origin(scenario: &Scenario, curves: &Curves, node: NodeId, slot: u32, into: &mut [u64])
+    requires node { node.0 < (setting_of scenario.now).nodes }
+    requires some_out { 0 < (setting_of scenario.now).outs node.0 }
+    requires setting { IsSetting (setting_of scenario.now) }
+    requires ready { IsAtFront (setting_of scenario.now) curves.now slot }
+    requires room { length into.old ≡ (setting_of scenario.now).destinations }
+    ensures { (d : ℕ) → d < (setting_of scenario.now).destinations → slice_index into.new d
+        ≡ origin_sending (setting_of scenario.now) (counts_of curves.now) node.0 slot d }
+{
+    let queue = queue_at(scenario, curves, node, slot);
+    if queue.goal == queue.left {
+        send_nothing(into);
+        return;
+    }
+    if into.len() == 1 {
+        into[0] = queue.goal - queue.left;
+        return;
+    }
+    let rows = Produced { scenario, node };
+    first_produced(&rows, queue.all, queue.goal, slot + 1, into);
+    take_off(curves, departed_group(scenario, curves, node), slot, into);
+}
