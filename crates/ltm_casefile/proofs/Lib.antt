@@ -1,3 +1,4 @@
+pub mod Fetching
 pub mod Numbers
 pub mod Places
 pub mod Sums

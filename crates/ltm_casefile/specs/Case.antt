@@ -1,5 +1,5 @@
 -- The scenario that the files of a folder describe, or the first fault.
-use Rattle.std.specs.Prelude.{ℕ, Bool, true, false, nat_le, if◌then◌else◌, List, length, Option, Some, None, Result, Ok, Err}
+use Rattle.std.specs.Prelude.{ℕ, Bool, true, false, nat_le, ◌&&◌, ◌||◌, if◌then◌else◌, List, length, Option, Some, None, Result, Ok, Err}
 use Rattle.ltm_io.specs.declared.doc.Doc.{Doc}
 use Rattle.ltm_io.specs.declared.doc.Doc.TheVariants as doc
 use Rattle.ltm_io.specs.Folder.{Files}
@@ -73,14 +73,33 @@ sound s (Err fault) = Err (Bad file.Whole 0 (cause_of_whole fault))
 abbrev pub whole : ScenarioData → Result ScenarioData CaseFault
 whole s = sound s (checked s)
 
+-- ---- what comes from the folder, and what is made of it
+-- a scenario without links, and the files that fill it
+pub record CaseParts : Type 0 where
+  pub scenario : ScenarioData
+  pub texts : CaseTexts
+  pub signals : Option (List ℕ)
+
 -- what the setup opens, once the files are there that each case has
 abbrev pub opened_of : Files → Result Opened CaseFault
 opened_of files = texts_of files >>= λ texts. setup_of (records_of texts.setup)
 
-abbrev pub has_signals : Result Opened CaseFault → Bool
-has_signals (Ok opened) = opened.has_signals
-has_signals (Err fault) = false
+-- the files are there, then the setup says what comes with them
+unfoldable pub parts_of : Files → Result CaseParts CaseFault
+parts_of files =
+    texts_of files >>= λ texts.
+    setup_of (records_of texts.setup) >>= λ opened.
+    signals_of files opened.has_signals >>= λ signals.
+    Ok (record { scenario = opened.scenario; texts = texts; signals = signals })
 
+-- the files fill the scenario, and then it is whole
+abbrev pub built : CaseParts → Result ScenarioData CaseFault
+built parts = filled parts.scenario parts.texts parts.signals >>= λ s. whole s
+
+abbrev pub case_of : Files → Result ScenarioData CaseFault
+case_of files = parts_of files >>= λ parts. built parts
+
+-- ---- which files a case has
 -- the files that each case has
 abbrev pub is_of_each : Doc → Bool
 is_of_each doc.Setup = true
@@ -89,21 +108,18 @@ is_of_each doc.Demand = true
 is_of_each doc.Splits = true
 is_of_each other = false
 
+abbrev pub is_signals : Doc → Bool
+is_signals doc.Signals = true
+is_signals other = false
+
 -- the files that a case may have
 abbrev pub is_case_file : Doc → Bool
-is_case_file doc.Signals = true
-is_case_file other = is_of_each other
+is_case_file d = is_of_each d || is_signals d
+
+abbrev pub has_signals : Result Opened CaseFault → Bool
+has_signals (Ok opened) = opened.has_signals
+has_signals (Err fault) = false
 
 -- the files that a case has: the signals where its setup asks for them
 abbrev pub asks_for : Files → Doc → Bool
-asks_for files doc.Signals = has_signals (opened_of files)
-asks_for files other = is_of_each other
-
--- the files are there, then the setup says what comes with them, then they fill the scenario, and then it is whole
-unfoldable pub case_of : Files → Result ScenarioData CaseFault
-case_of files =
-    texts_of files >>= λ texts.
-    setup_of (records_of texts.setup) >>= λ opened.
-    signals_of files opened.has_signals >>= λ signals.
-    filled opened.scenario texts signals >>= λ s.
-    whole s
+asks_for files d = is_of_each d || (is_signals d && has_signals (opened_of files))

@@ -25,6 +25,13 @@ Agrees said (TooLong f) = said ≡ Err (TooLong f)
 Agrees said (Bad f row cause) = said ≡ Err (Bad f row cause)
 Agrees said NoMemory = Unit {0}
 
+-- a call that asks no folder for a file finds the fault of the definition, or no memory
+abbrev pub Says : {A : Type 0} → Result A CaseFault → CaseFault → Type 0
+Says said (Folder f) = ⊥
+Says said (TooLong f) = ⊥
+Says said (Bad f row cause) = said ≡ Err (Bad f row cause)
+Says said NoMemory = Unit {0}
+
 -- a file that the folder did not give is one of its own, of which this holds
 abbrev pub NotGiven : (Doc → Type 0) → CaseFault → Type 0
 NotGiven holds (Folder f) = IsSomeAnd (doc_of f) holds

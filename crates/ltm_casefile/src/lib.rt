@@ -5,14 +5,17 @@
 //! at a time. A record costs a few look-ups by name; a file is read as far as its first fault.
 #![tactic(auto)]
 
+mod case;
 mod demand;
 mod faults;
 mod fields;
 mod links;
+mod parts;
 mod setup;
 mod signals;
 mod splits;
 mod tables;
 mod texts;
 
+pub use case::read_case;
 pub use faults::{CaseCause, CaseFault, File};

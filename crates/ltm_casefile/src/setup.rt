@@ -1,8 +1,8 @@
 //! The record of the setup.
-ghost use Rattle.std.specs.Prelude.{◌≡◌, Ok, Err, IfOk, IfErr};
+ghost use Rattle.std.specs.Prelude.{◌≡◌, [], Ok, Err, IfOk, IfErr};
 ghost use Rattle.csv.specs.Records.{fields_of};
 ghost use Rattle.ltm_records.specs.Left.{records_of};
-ghost use Rattle.ltm_casefile.specs.Faults.{Agrees};
+ghost use Rattle.ltm_casefile.specs.Faults.{Says};
 ghost use Rattle.ltm_casefile.specs.Setup.{signals_in, setup_record, opened, setup_read, heads_setup, only_row, setup_of};
 
 use crate::faults::{CaseCause, CaseFault, File};
@@ -53,6 +53,7 @@ fn read_record(width: usize, row: &ByteRecord) -> Result<SetupRecord, CaseCause>
 
 fn open(alloc: Global, said: &SetupRecord) -> Result<Opened, CaseCause>
     ensures ok { IfOk result (λ o. opened said.now ≡ Ok o) }
+    ensures empty { IfOk result (λ o. o.scenario.splits ≡ []) }
     ensures cause { IfErr result (λ e. opened said.now ≡ Err e) }
 {
     match Scenario::create(alloc, said.setup) {
@@ -72,6 +73,7 @@ fn open(alloc: Global, said: &SetupRecord) -> Result<Opened, CaseCause>
 /// The scenario of a setup without links, from a record below a header of that width.
 fn open_row(alloc: Global, width: usize, row: &ByteRecord) -> Result<Opened, CaseCause>
     ensures ok { IfOk result (λ o. setup_read width (fields_of row.now) ≡ Ok o) }
+    ensures empty { IfOk result (λ o. o.scenario.splits ≡ []) }
     ensures cause { IfErr result (λ e. setup_read width (fields_of row.now) ≡ Err e) }
 {
     let said = read_record(width, row)?;
@@ -102,7 +104,8 @@ fn open_only_row(
     row: &mut ByteRecord,
 ) -> Result<Opened, CaseFault>
     ensures ok { IfOk result (λ o. only_row width records.old ≡ Ok o) }
-    ensures fault { IfErr result (Agrees (only_row width records.old)) }
+    ensures empty { IfOk result (λ o. o.scenario.splits ≡ []) }
+    ensures fault { IfErr result (Says (only_row width records.old)) }
 {
     if !records.next(row)? {
         return Err(bad(2, CaseCause::Rows));
@@ -121,7 +124,8 @@ fn open_only_row(
 #[tactic(auto, unfolding(crate::specs::Setup::setup_of))]
 pub fn open_setup(alloc: Global, text: &[u8]) -> Result<Opened, CaseFault>
     ensures ok { IfOk result (λ o. setup_of (records_of text.now) ≡ Ok o) }
-    ensures fault { IfErr result (Agrees (setup_of (records_of text.now))) }
+    ensures empty { IfOk result (λ o. o.scenario.splits ≡ []) }
+    ensures fault { IfErr result (Says (setup_of (records_of text.now))) }
 {
     let mut records = Records::of(alloc, text);
     let mut row = ByteRecord::new(alloc);

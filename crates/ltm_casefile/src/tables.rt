@@ -3,7 +3,7 @@ ghost use Rattle.std.specs.Prelude.{◌≡◌, [], Ok, Err, OnOk, IfErr};
 ghost use Rattle.csv.specs.Records.{fields_of};
 ghost use Rattle.ltm_records.specs.Left.{records_of};
 ghost use Rattle.ltm_casefile.specs.Causes.{Tells};
-ghost use Rattle.ltm_casefile.specs.Faults.{Agrees};
+ghost use Rattle.ltm_casefile.specs.Faults.{Says};
 ghost use Rattle.ltm_casefile.specs.Tables.{file_of, heads, row_added, rows_added, table_added};
 
 use crate::demand::add_demand;
@@ -77,7 +77,7 @@ impl Table {
     ) -> Result<(), CaseFault>
         requires { self ≡ Table.Links → scenario.old.splits ≡ [] }
         ensures ok { OnOk result (rows_added self 2 scenario.old records.old ≡ Ok scenario.new) }
-        ensures fault { IfErr result (Agrees (rows_added self 2 scenario.old records.old)) }
+        ensures fault { IfErr result (Says (rows_added self 2 scenario.old records.old)) }
     {
         for number in 2..u32::MAX {
             if !records.next(row)? {
@@ -107,7 +107,7 @@ impl Table {
     ) -> Result<(), CaseFault>
         requires { self ≡ Table.Links → scenario.old.splits ≡ [] }
         ensures ok { OnOk result (table_added self scenario.old (records_of text.now) ≡ Ok scenario.new) }
-        ensures fault { IfErr result (Agrees (table_added self scenario.old (records_of text.now))) }
+        ensures fault { IfErr result (Says (table_added self scenario.old (records_of text.now))) }
     {
         let mut records = Records::of(alloc, text);
         let mut row = ByteRecord::new(alloc);

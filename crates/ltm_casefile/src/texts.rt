@@ -1,9 +1,9 @@
 //! The files of a case, as bytes.
-ghost use Rattle.std.specs.Prelude.{◌≡◌, ◌≢◌, ◌≤◌, ℕ, Ok, Err, IfOk, IfErr, IfSome, Some, None, option_map, true, false};
+ghost use Rattle.std.specs.Prelude.{◌≡◌, ◌&&◌, ◌≢◌, ◌≤◌, ℕ, Ok, Err, IfOk, IfErr, IfSome, Some, None, option_map, true, false};
 ghost use Rattle.ltm_io.specs.Folder.{Files};
 ghost use Rattle.ltm_io.specs.declared.doc.Doc.{Doc};
 ghost use Rattle.ltm_casefile.specs.declared.faults.File.{File};
-ghost use Rattle.ltm_casefile.specs.Case.{sized, texts_of, signals_of, is_of_each};
+ghost use Rattle.ltm_casefile.specs.Case.{sized, texts_of, signals_of, is_of_each, is_signals};
 ghost use Rattle.ltm_casefile.specs.Faults.{doc_of, Agrees, HasRisen, WasAsked};
 
 use crate::faults::{CaseFault, File};
@@ -29,6 +29,14 @@ impl Model for Texts {
     ghost Value = { CaseTexts };
 
     ghost view = { λ t. record { setup = t.setup.items; links = t.links.items; demand = t.demand.items; splits = t.splits.items } };
+}
+
+impl Texts {
+    pub fn setup(&self) -> &[u8]
+        ensures { result.now ≡ self.now.setup }
+    {
+        &self.setup
+    }
 }
 
 /// The bytes of one file of the folder.
@@ -92,7 +100,7 @@ pub fn fetch_signals<F: Folder>(
     ensures ok { IfOk result (λ v. IfSome (F.told folder.old) (λ files. signals_of files asked ≡ Ok (option_map (λ bytes. bytes.items) v))) }
     ensures fault { IfErr result (λ e. IfSome (F.told folder.old) (λ files. Agrees (signals_of files asked) e)) }
     ensures risen { IfErr result (HasRisen (F.faults folder.old) (F.faults folder.new)) }
-    ensures asked { IfErr result (λ e. e ≢ CaseFault.NoMemory → asked ≡ true) }
+    ensures asked { IfErr result (WasAsked (λ d. is_signals d && asked)) }
 {
     if !asked {
         return Ok(None);

@@ -1,0 +1,132 @@
+//! The scenario of a case.
+ghost use Rattle.std.specs.Prelude.{◌≡◌, ◌≤◌, ◌⊎◌, ℕ, [], Ok, Err, IfOk, IfErr, OnOk, IfSome, Some, None, option_map, true, false};
+ghost use Rattle.ltm_io.specs.Folder.{Files};
+ghost use Rattle.ltm_io.specs.Faults.{Rose};
+ghost use Rattle.ltm_io.specs.declared.doc.Doc.{Doc};
+ghost use Rattle.ltm_scenario.specs.Valid.{IsValid};
+ghost use Rattle.ltm_casefile.specs.Case.{case_of, built, filled, with_signals, whole, cause_of_whole, is_case_file, asks_for};
+ghost use Rattle.ltm_casefile.specs.Faults.{Agrees, Says, HasRisen, WasAsked};
+
+use crate::faults::{CaseCause, CaseFault, File};
+use crate::tables::Table;
+use crate::parts::{Parts, fetch_parts};
+use crate::texts::Texts;
+use ltm_io::Folder;
+use ltm_scenario::{Scenario, ScenarioFault};
+use std::alloc::Global;
+
+fn add_signals(
+    alloc: Global,
+    scenario: &mut Scenario,
+    signals: &Option<Vec<u8>>,
+) -> Result<(), CaseFault>
+    ensures ok { OnOk result (with_signals scenario.old (option_map (λ bytes. bytes.items) signals.now) ≡ Ok scenario.new) }
+    ensures fault { IfErr result (Says (with_signals scenario.old (option_map (λ bytes. bytes.items) signals.now))) }
+{
+    match signals {
+        Some(bytes) => return Table::Signals.add_to(alloc, scenario, bytes),
+        None => return Ok(()),
+    }
+}
+
+/// Adds what the files say to a scenario without split rows: links, demand, splits, signals.
+#[tactic(auto, unfolding(crate::specs::Case::filled))]
+fn fill(
+    alloc: Global,
+    scenario: &mut Scenario,
+    texts: &Texts,
+    signals: &Option<Vec<u8>>,
+) -> Result<(), CaseFault>
+    requires { scenario.old.splits ≡ [] }
+    ensures ok { OnOk result (filled scenario.old texts.now (option_map (λ bytes. bytes.items) signals.now) ≡ Ok scenario.new) }
+    ensures fault { IfErr result (Says (filled scenario.old texts.now (option_map (λ bytes. bytes.items) signals.now))) }
+{
+    match Table::Links.add_to(alloc, scenario, &texts.links) {
+        Ok(()) => {}
+        Err(fault) => return Err(fault),
+    }
+    match Table::Demand.add_to(alloc, scenario, &texts.demand) {
+        Ok(()) => {}
+        Err(fault) => return Err(fault),
+    }
+    match Table::Splits.add_to(alloc, scenario, &texts.splits) {
+        Ok(()) => {}
+        Err(fault) => return Err(fault),
+    }
+    add_signals(alloc, scenario, signals)
+}
+
+fn cause_of(fault: ScenarioFault) -> CaseCause
+    ensures { result ≡ cause_of_whole fault }
+{
+    match fault {
+        ScenarioFault::NoSplit { node, destination } => CaseCause::NoSplit { node, destination },
+        ScenarioFault::CellsOver(cells) => CaseCause::CellsOver(cells),
+    }
+}
+
+/// Whether the rules of a valid case hold; the first that is broken.
+fn check(scenario: &Scenario) -> Result<(), CaseFault>
+    ensures ok { OnOk result (whole scenario.now ≡ Ok scenario.now) }
+    ensures valid { OnOk result (IsValid scenario.now) }
+    ensures fault { IfErr result (Says (whole scenario.now)) }
+{
+    match scenario.check() {
+        Ok(()) => Ok(()),
+        Err(fault) => Err(CaseFault::Bad {
+            file: File::Whole,
+            row: 0,
+            cause: cause_of(fault),
+        }),
+    }
+}
+
+/// The scenario that the parts of a case make, where it is valid.
+fn build(alloc: Global, parts: Parts) -> Result<Scenario, CaseFault>
+    requires { parts.scenario.splits ≡ [] }
+    ensures ok { IfOk result (λ scenario. built parts ≡ Ok scenario) }
+    ensures valid { IfOk result IsValid }
+    ensures fault { IfErr result (Says (built parts)) }
+{
+    let Parts {
+        mut scenario,
+        texts,
+        signals,
+    } = parts;
+    fill(alloc, &mut scenario, &texts, &signals)?;
+    check(&scenario)?;
+    Ok(scenario)
+}
+
+/// The valid scenario that the files of a folder describe, or the first fault: first a file that is missing, cannot be
+/// read or is too long, in the order setup, links, demand, splits; then what the setup says; then the file of signals,
+/// where the setup asks for it, likewise; then what links, demand, splits and signals say; then the whole case.
+///
+/// Each file is fetched once, and its records are read up to its first fault.
+pub fn read_case<F: Folder>(alloc: Global, folder: &mut F) -> Result<Scenario, CaseFault>
+    ensures ok { IfOk result (λ scenario. IfSome (F.told folder.old) (λ files. case_of files ≡ Ok scenario)) }
+    ensures valid { IfOk result IsValid }
+
+    // Too long a file and a bad case are told as they are.
+    ensures fault { IfErr result (λ e. IfSome (F.told folder.old) (λ files. Agrees (case_of files) e)) }
+
+    // A file is not given only where its count of faults rose in this call, and the case has such a file.
+    ensures risen { IfErr result (HasRisen (F.faults folder.old) (F.faults folder.new)) }
+    ensures asked { IfErr result (λ e. IfSome (F.told folder.old) (λ files. WasAsked (asks_for files) e)) }
+
+    ensures keeps { F.told folder.new ≡ F.told folder.old }
+    ensures later { (d : Doc) → F.faults folder.old d ≤ F.faults folder.new d }
+    ensures others { (d : Doc) → is_case_file d ≡ false → F.faults folder.new d ≡ F.faults folder.old d }
+    ensures unasked { IfSome (F.told folder.old) (λ files.
+        (d : Doc) → asks_for files d ≡ false → F.faults folder.new d ≡ F.faults folder.old d) }
+
+    // Where no count rose of a file that the case has, the answer is the one of the files, or memory was not found.
+    ensures complete { (files : Files) → F.told folder.old ≡ Some files
+        → ((d : Doc) → asks_for files d ≡ true → Rose (F.faults folder.old d) (F.faults folder.new d) → ⊥)
+        → (result ≡ case_of files) ⊎ (result ≡ Err CaseFault.NoMemory) }
+{
+    match fetch_parts(alloc, folder) {
+        Ok(parts) => return build(alloc, parts),
+        Err(fault) => return Err(fault),
+    }
+}
