@@ -13,29 +13,13 @@ ghost use Rattle.ltm_flows.specs.Working.{IsWorking, IsWorkingAt, HasRoom};
 
 use crate::node_counts::apply;
 use ltm_curve::Curves;
+use ltm_inputs::{inputs_of, widest};
 use ltm_loading::{inputs_by_place, next_pair, next_slot, outputs_small};
 use ltm_node::{NodeInputs, NodeOutputs, solve};
 use ltm_scenario::Scenario;
 use ltm_setting::{destination_count, is_setting, link_count, node_count, slot_count};
 use ltm_units::{NoMemory, NodeId, Pair, Steps};
 use std::alloc::Global;
-
-/// Stands for ltm_inputs.
-pub trait Reader {
-    fn inputs_of(&self, scenario: &Scenario, curves: &Curves, pair: Pair, into: &mut NodeInputs)
-        requires setting { IsSetting (setting_of scenario.now) }
-        requires node { pair.node.0 < (setting_of scenario.now).nodes }
-        requires slot { pair.slot < (setting_of scenario.now).slots }
-        requires shape { IsShaped (setting_of scenario.now) curves.now }
-        requires front { IsFront (setting_of scenario.now) (counts_of curves.now) pair.slot }
-        requires room { width (shape_at (setting_of scenario.now) pair.node.0) ≤ into.old.room }
-        ensures inputs { IsPairInputs (setting_of scenario.now) (counts_of curves.now) pair.node.0 pair.slot into.new }
-        ensures room { into.new.room ≡ into.old.room }
-        ensures solvable { IsSolvable into.new };
-
-    fn widest(&self, scenario: &Scenario) -> u32
-        ensures { HasRoom (setting_of scenario.now) result };
-}
 
 /// Room for the step of any node.
 #[derive(Drop)]
@@ -59,24 +43,18 @@ pub fn fresh(alloc: Global, scenario: &Scenario) -> Result<Curves, NoMemory>
 }
 
 /// Room for the step of any node of a scenario.
-fn make_room<R: Reader>(alloc: Global, scenario: &Scenario, reader: &R) -> Result<Room, NoMemory>
+fn make_room(alloc: Global, scenario: &Scenario) -> Result<Room, NoMemory>
     ensures inputs { IfOk result (λ room. HasRoom (setting_of scenario.now) room.inputs.room) }
     ensures outputs { IfOk result (λ room. HasRoom (setting_of scenario.now) room.outputs.room) }
 {
-    let widest = reader.widest(scenario);
+    let widest = widest(scenario);
     let inputs = NodeInputs::create(alloc, widest)?;
     let outputs = NodeOutputs::create(alloc, widest)?;
     Ok(Room { inputs, outputs })
 }
 
 /// The step of a node in a slot.
-fn load_pair<R: Reader>(
-    scenario: &Scenario,
-    curves: &mut Curves,
-    pair: Pair,
-    room: Room,
-    reader: &R,
-) -> Room
+fn load_pair(scenario: &Scenario, curves: &mut Curves, pair: Pair, room: Room) -> Room
     requires setting { IsSetting (setting_of scenario.now) }
     requires node { pair.node.0 < (setting_of scenario.now).nodes }
     requires slot { pair.slot < (setting_of scenario.now).slots }
@@ -94,7 +72,7 @@ fn load_pair<R: Reader>(
         mut inputs,
         outputs,
     } = room;
-    reader.inputs_of(scenario, curves, pair, &mut inputs);
+    inputs_of(scenario, curves, pair, &mut inputs);
     let mut steps = Steps::new();
     let (inputs, outputs) = solve(inputs, outputs, &mut steps).release();
     apply(scenario, curves, pair, &outputs);
@@ -102,13 +80,7 @@ fn load_pair<R: Reader>(
 }
 
 /// The steps of all nodes in a slot.
-fn load_slot<R: Reader>(
-    scenario: &Scenario,
-    curves: &mut Curves,
-    slot: u32,
-    room: Room,
-    reader: &R,
-) -> Room
+fn load_slot(scenario: &Scenario, curves: &mut Curves, slot: u32, room: Room) -> Room
     requires setting { IsSetting (setting_of scenario.now) }
     requires slot { slot < (setting_of scenario.now).slots }
     requires working { IsWorking (setting_of scenario.now) curves.old slot }
@@ -122,21 +94,21 @@ fn load_slot<R: Reader>(
     let mut room = room;
     for node in 0..node_count(scenario) {
         let node = NodeId(node);
-        room = load_pair(scenario, curves, Pair { node, slot }, room, reader);
+        room = load_pair(scenario, curves, Pair { node, slot }, room);
     }
     room
 }
 
 /// The loading of a scenario: slot by slot from an empty network, all nodes of a slot in order of number.
-pub fn cold<R: Reader>(alloc: Global, scenario: &Scenario, reader: &R) -> Result<Curves, NoMemory>
+pub fn cold(alloc: Global, scenario: &Scenario) -> Result<Curves, NoMemory>
     ensures shape { IfOk result (λ c. IsShaped (setting_of scenario.now) c) }
     ensures loading { IfOk result (λ c. IsLoading (setting_of scenario.now) (counts_of c)) }
 {
     is_setting(scenario);
     let mut curves = fresh(alloc, scenario)?;
-    let mut room = make_room(alloc, scenario, reader)?;
+    let mut room = make_room(alloc, scenario)?;
     for slot in 0..slot_count(scenario) {
-        room = load_slot(scenario, &mut curves, slot, room, reader);
+        room = load_slot(scenario, &mut curves, slot, room);
     }
     Ok(curves)
 }

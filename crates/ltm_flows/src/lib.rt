@@ -2,7 +2,7 @@
 //!
 //! In each slot the step of every node is made from what is counted by the beginning of the slot, and its counts are
 //! written at the end of the slot. The order of the nodes is of no matter, since a link takes at least a slot to pass. It
-//! stands on `ltm_setting`, `ltm_node` and `ltm_curve`. A loading takes the memory of its counts once; a pair of node and
+//! stands on `ltm_inputs` and `ltm_node`. A loading takes the memory of its counts once; a pair of node and
 //! slot takes none.
 #![tactic(auto)]
 
@@ -12,7 +12,7 @@ mod node_counts;
 mod tables;
 mod totals;
 
-pub use cold_loading::{Reader, cold, fresh};
+pub use cold_loading::{cold, fresh};
 pub use loading::Loading;
 pub use node_counts::apply;
 pub use totals::Totals;

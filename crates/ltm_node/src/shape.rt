@@ -44,7 +44,7 @@ impl NodeShape {
 
     /// How many numbers the row of inputs has.
     #[inline]
-    pub(crate) fn width(self) -> usize
+    pub fn width(self) -> usize
         requires { width self < 2 ^ 63 }
         ensures { result ≡ width self }
     {

@@ -1,0 +1,5 @@
+pub mod Lists
+pub mod Putting
+pub mod Arms
+pub mod Widths
+pub mod Whole

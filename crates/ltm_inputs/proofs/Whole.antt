@@ -1,0 +1,116 @@
+-- The parts of a pair's row, joined.
+use Rattle.std.proofs.Common.{◌≡◌, ℕ, ◌+◌, ◌*◌, List, ◌++◌, length, length-append, take, arith, sym, subst, ◌∙◌}
+use Rattle.std.proofs.lemmas.List.{take_all}
+use Rattle.ltm_curve.specs.Counts.{Counts}
+use Rattle.ltm_curve.proofs.Lists.{length-list_below}
+use Rattle.ltm_node.specs.declared.shape.NodeShape.{NodeShape}
+use Rattle.ltm_node.specs.Shape.{width}
+use Rattle.ltm_node.specs.Inputs.{Inputs}
+use Rattle.ltm_node.specs.Solvable.{IsSolvable}
+use Rattle.ltm_loading.specs.Setting.{Setting}
+use Rattle.ltm_loading.specs.Groups.{up_of}
+use Rattle.ltm_loading.specs.Flows.{receiving}
+use Rattle.ltm_loading.specs.Pairs.{arms_of, shape_at, sending, arm_group, arm_capacity, arrived_by, pair_row, pair_inputs}
+use Rattle.ltm_loading.specs.NextPair.{IsPairInputs}
+use Rattle.ltm_loading.proofs.Rows.{length-grid}
+use Rattle.ltm_inputs.specs.Parts.{sending_part, left_part, entered_part, arrived_part, supply_part, capacity_part, weights_part}
+use Rattle.ltm_inputs.specs.Puts.{Puts}
+use Rattle.ltm_inputs.proofs.Putting.{puts_then}
+
+-- how many numbers each part has
+pub record Sizes (s : Setting) (c : Counts) (u t : ℕ) : Type 0 where
+  pub sends : length (sending_part s c u t) ≡ arms_of s u * s.destinations
+  pub left : length (left_part s c u t) ≡ arms_of s u * s.destinations
+  pub entered : length (entered_part s c u t) ≡ s.outs u * s.destinations
+  pub arrived : length (arrived_part s c u t) ≡ 1
+  pub supply : length (supply_part s c u t) ≡ s.outs u
+  pub capacity : length (capacity_part s u) ≡ arms_of s u
+  pub weights : length (weights_part s u t) ≡ s.destinations * s.outs u
+
+pub sizes : (s : Setting) (c : Counts) (u t : ℕ) → Sizes s c u t
+sizes s c u t = record {
+  sends = length-grid (arms_of s u) s.destinations (sending s c u t);
+  left = length-grid (arms_of s u) s.destinations (λ i d. c (arm_group s u i) d t);
+  entered = length-grid (s.outs u) s.destinations (λ j d. c (up_of (s.out_link u j)) d t);
+  arrived = length-list_below 1 (λ k. arrived_by s c (s.own u) t);
+  supply = length-list_below (s.outs u) (λ j. receiving s c (s.out_link u j) t);
+  capacity = length-list_below (arms_of s u) (arm_capacity s u);
+  weights = length-grid s.destinations (s.outs u) (λ d j. s.weight u d t j);
+}
+
+-- all parts, one behind the other
+pub whole_row : (s : Setting) (c : Counts) (u t : ℕ) (n0 n1 n2 n3 n4 n5 n6 n7 : Inputs) (p2 p3 p4 p5 p6 p7 : ℕ) →
+    Puts n0 n1 0 (sending_part s c u t) → Puts n1 n2 p2 (left_part s c u t) → Puts n2 n3 p3 (entered_part s c u t) → Puts n3 n4 p4 (arrived_part s c u t) → Puts n4 n5 p5 (supply_part s c u t) →
+    Puts n5 n6 p6 (capacity_part s u) → Puts n6 n7 p7 (weights_part s u t) →
+    p2 ≡ arms_of s u * s.destinations → p3 ≡ p2 + arms_of s u * s.destinations → p4 ≡ p3 + s.outs u * s.destinations → p5 ≡ p4 + 1 → p6 ≡ p5 + s.outs u → p7 ≡ p6 + arms_of s u →
+    Puts n0 n7 0 (pair_row s c u t)
+whole_row s c u t n0 n1 n2 n3 n4 n5 n6 n7 p2 p3 p4 p5 p6 p7 q1 q2 q3 q4 q5 q6 q7 e2 e3 e4 e5 e6 e7 =
+    let z : Sizes s c u t = sizes s c u t in
+    let x1 : List ℕ = sending_part s c u t in
+    let x2 : List ℕ = left_part s c u t in
+    let x3 : List ℕ = entered_part s c u t in
+    let x4 : List ℕ = arrived_part s c u t in
+    let x5 : List ℕ = supply_part s c u t in
+    let x6 : List ℕ = capacity_part s u in
+    let x7 : List ℕ = weights_part s u t in
+    let r6 : Puts n5 n7 p6 (x6 ++ x7) = puts_then n5 n6 n7 p6 p7 x6 x7 q6 q7 (omega (arith, z.capacity)) in
+    let r5 : Puts n4 n7 p5 (x5 ++ (x6 ++ x7)) = puts_then n4 n5 n7 p5 p6 x5 (x6 ++ x7) q5 r6 (omega (arith, z.supply)) in
+    let r4 : Puts n3 n7 p4 (x4 ++ (x5 ++ (x6 ++ x7))) = puts_then n3 n4 n7 p4 p5 x4 (x5 ++ (x6 ++ x7)) q4 r5 (omega (arith, z.arrived)) in
+    let r3 : Puts n2 n7 p3 (x3 ++ (x4 ++ (x5 ++ (x6 ++ x7)))) = puts_then n2 n3 n7 p3 p4 x3 (x4 ++ (x5 ++ (x6 ++ x7))) q3 r4 (omega (arith, z.entered)) in
+    let r2 : Puts n1 n7 p2 (x2 ++ (x3 ++ (x4 ++ (x5 ++ (x6 ++ x7))))) = puts_then n1 n2 n7 p2 p3 x2 (x3 ++ (x4 ++ (x5 ++ (x6 ++ x7)))) q2 r3 (omega (arith, z.left)) in
+    puts_then n0 n1 n7 0 p2 x1 (x2 ++ (x3 ++ (x4 ++ (x5 ++ (x6 ++ x7))))) q1 r2 (omega (arith, z.sends))
+
+row_size : (s : Setting) (c : Counts) (u t : ℕ) → length (pair_row s c u t) ≡ width (shape_at s u)
+row_size s c u t =
+    let z : Sizes s c u t = sizes s c u t in
+    let x1 : List ℕ = sending_part s c u t in
+    let x2 : List ℕ = left_part s c u t in
+    let x3 : List ℕ = entered_part s c u t in
+    let x4 : List ℕ = arrived_part s c u t in
+    let x5 : List ℕ = supply_part s c u t in
+    let x6 : List ℕ = capacity_part s u in
+    let x7 : List ℕ = weights_part s u t in
+    omega (
+      arith,
+      z.sends,
+      z.left,
+      z.entered,
+      z.arrived,
+      z.supply,
+      z.capacity,
+      z.weights,
+      length-append x1 (x2 ++ (x3 ++ (x4 ++ (x5 ++ (x6 ++ x7))))),
+      length-append x2 (x3 ++ (x4 ++ (x5 ++ (x6 ++ x7)))),
+      length-append x3 (x4 ++ (x5 ++ (x6 ++ x7))),
+      length-append x4 (x5 ++ (x6 ++ x7)),
+      length-append x5 (x6 ++ x7),
+      length-append x6 x7,
+    )
+
+-- a row that is written from its first place on is that row
+pub written_row : (s : Setting) (c : Counts) (u t : ℕ) (old new : Inputs) → old.shape ≡ shape_at s u → length old.row ≡ width (shape_at s u) → Puts old new 0 (pair_row s c u t) → IsPairInputs s c u t new
+written_row s c u t old new shape size p =
+    let xs : List ℕ = pair_row s c u t in
+    let count : length (pair_row s c u t) ≡ width (shape_at s u) = row_size s c u t in
+    let whole : take (0 + length xs) new.row ≡ new.row = take_all (0 + length xs) new.row (omega (arith, p.size)) in
+    record { shape = p.shape ∙ shape; row = sym whole ∙ p.written }
+
+-- the conditions of a node step speak of shape and row alone
+pub solvable_inputs : (s : Setting) (c : Counts) (u t : ℕ) (n : Inputs) → IsPairInputs s c u t n → IsSolvable (pair_inputs s c u t) → IsSolvable n
+solvable_inputs s c u t n p h =
+    let with_room : IsSolvable (record { shape = shape_at s u; row = pair_row s c u t; room = n.room }) = record {
+      few_arms = h.few_arms;
+      few_outs = h.few_outs;
+      few_destinations = h.few_destinations;
+      some_capacity = h.some_capacity;
+      capacities = h.capacities;
+      within_capacity = h.within_capacity;
+      supplies = h.supplies;
+      weights = h.weights;
+      left_counts = h.left_counts;
+      entered_counts = h.entered_counts;
+      arrived_count = h.arrived_count;
+    } in
+    let with_row : IsSolvable (record { shape = shape_at s u; row = n.row; room = n.room }) =
+    subst (λ (z : List ℕ). IsSolvable (record { shape = shape_at s u; row = z; room = n.room })) (sym p.row) with_room in
+    subst (λ (z : NodeShape). IsSolvable (record { shape = z; row = n.row; room = n.room })) (sym p.shape) with_row

@@ -1,0 +1,18 @@
+//! What a node reads in a slot: the inputs of its node step, from a scenario and the counts of a loading so far.
+//!
+//! The row of inputs is written part by part in its layout, from the first number to the last: what each arm sends, what
+//! has left each arm, what has entered each out-link, what has arrived, what each out-link can take, the capacity of each
+//! arm, and the weights. The counts of a link for all destinations are copied at once. A call takes no memory. It stands
+//! on `ltm_sending`, `ltm_setting` and `ltm_node`.
+#![tactic(auto)]
+
+mod counts;
+mod flows;
+mod inputs;
+mod limits;
+mod numbers;
+mod shapes;
+mod weights;
+
+pub use inputs::inputs_of;
+pub use shapes::{shape_of, widest};

@@ -1,0 +1,50 @@
+//! The shape of a node: how many arms, out-links and destinations its inputs speak of.
+ghost use Rattle.std.specs.Prelude.{◌≡◌, ◌<◌, ◌≤◌};
+ghost use Rattle.ltm_node.specs.Shape.{width};
+ghost use Rattle.ltm_loading.specs.Pairs.{shape_at};
+ghost use Rattle.ltm_setting.specs.Setting.{setting_of};
+ghost use Rattle.ltm_inputs.specs.Widest.{IsWidest};
+
+use ltm_node::NodeShape;
+use ltm_scenario::Scenario;
+use ltm_setting::{destination_count, in_links, node_count, out_links, own};
+use ltm_units::NodeId;
+
+/// The shape of a node of a scenario: at most 5 arms, 4 out-links and 64 destinations.
+#[inline]
+pub fn shape_of(scenario: &Scenario, node: NodeId) -> NodeShape
+    requires { node.0 < (setting_of scenario.now).nodes }
+    ensures shape { result ≡ shape_at (setting_of scenario.now) node.0 }
+    ensures few_arms { result.arms ≤ 5 }
+    ensures few_outs { result.outs ≤ 4 }
+    ensures few_destinations { result.destinations ≤ 64 }
+{
+    let ins = in_links(scenario, node).len() as u32;
+    let outs = out_links(scenario, node).len() as u32;
+    NodeShape {
+        arms: ins + 1.min(outs),
+        outs,
+        destinations: destination_count(scenario),
+        own: own(scenario, node),
+    }
+}
+
+/// How many numbers the inputs of a node are.
+fn width_of(scenario: &Scenario, node: NodeId) -> u32
+    requires { node.0 < (setting_of scenario.now).nodes }
+    ensures { result ≡ width (shape_at (setting_of scenario.now) node.0) }
+{
+    shape_of(scenario, node).width() as u32
+}
+
+/// The greatest count of numbers that the inputs of a node are, 0 where there is no node: the room that the inputs of any
+/// pair need.
+pub fn widest(scenario: &Scenario) -> u32
+    ensures { IsWidest (setting_of scenario.now) (setting_of scenario.now).nodes result }
+{
+    let mut widest = 0;
+    for node in 0..node_count(scenario) {
+        widest = widest.max(width_of(scenario, NodeId(node)));
+    }
+    widest
+}
