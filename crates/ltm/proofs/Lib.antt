@@ -1,2 +1,4 @@
-pub mod WholeRecords
 pub mod OneWord
+pub mod MissingFile
+pub mod Refused
+pub mod Reported

@@ -1,42 +1,34 @@
--- The two lines that report the loading of a road.
-use Rattle.std.specs.Prelude.{ℕ, ◌-◌, ◌≡◌, List, ◌++◌, codes}
-use Rattle.ltm_units.specs.Numbers.{vehicles_text}
+-- What `load` reports of a scenario: the totals at the end of the horizon, and what entered and left each link.
+use Rattle.std.specs.Prelude.{ℕ, zero, suc, ◌≡◌, List, [], ◌++◌, length}
 use Rattle.ltm_curve.specs.Counts.{Counts}
-use Rattle.ltm_flows.specs.OneRoad.{produced}
-use Rattle.ltm_flows.specs.OneRoadLoading.{IsRoadLoading, up, down, dep, arr}
-use Rattle.ltm.specs.declared.one_road.NamedRoad.{NamedRoad}
+use Rattle.ltm_network.specs.Network.{link_name}
+use Rattle.ltm_scenario.specs.Data.{ScenarioData}
+use Rattle.ltm_loading.specs.Setting.{Setting}
+use Rattle.ltm_loading.specs.Loading.{IsLoading}
+use Rattle.ltm_loading.specs.Totals.{generated, arrived, on_links, waiting, entered_link, left_link}
+use Rattle.ltm_setting.specs.Setting.{setting_of}
+use Rattle.ltm_report.specs.Totals.{totals_line}
+use Rattle.ltm_report.specs.Links.{load_link_line}
 
--- a word and an amount
-unfoldable pub labelled : List ℕ → ℕ → List ℕ
-labelled word amount = word ++ vehicles_text amount
+-- the texts of the numbers below n, in order
+abbrev pub texts_below : ℕ → (ℕ → List ℕ) → List ℕ
+texts_below zero text = []
+texts_below (suc n) text = texts_below n text ++ text n
 
-unfoldable pub first_words : List ℕ
-first_words = codes "version 0 generated "
+-- the totals at the last boundary, of version 0
+unfoldable pub totals_text_of : Setting → Counts → List ℕ
+totals_text_of s c = totals_line 0 (generated s s.slots) (arrived s c s.slots) (on_links s c s.slots) (waiting s c s.slots)
 
-unfoldable pub came : ℕ → ℕ → List ℕ
-came generated arrived = first_words ++ vehicles_text generated ++ labelled (codes " arrived ") arrived
+-- what entered and left a link by the last boundary
+unfoldable pub link_text_of : ScenarioData → Counts → ℕ → List ℕ
+link_text_of s c link =
+    let setting = setting_of s in
+    load_link_line (link_name s.network link) (entered_link setting c link setting.slots) (left_link setting c link setting.slots)
 
-unfoldable pub stays : ℕ → ℕ → List ℕ
-stays on_links waiting = labelled (codes " on_links ") on_links ++ labelled (codes " waiting ") waiting
+-- the totals, and each link in order of number
+unfoldable pub load_report : ScenarioData → Counts → List ℕ
+load_report s c = totals_text_of (setting_of s) c ++ texts_below (length s.network.links) (link_text_of s c)
 
--- the totals at the end of the horizon, as `version 0 generated 1.000 arrived 1.000 on_links 0.000 waiting 0.000`
-abbrev pub totals_line : ℕ → ℕ → ℕ → ℕ → List ℕ
-totals_line generated arrived on_links waiting = came generated arrived ++ stays on_links waiting ++ codes "\n"
-
--- what entered and left a link, as `link a in 1.000 out 1.000`
-abbrev pub link_line : List ℕ → ℕ → ℕ → List ℕ
-link_line name up down = codes "link " ++ name ++ labelled (codes " in ") up ++ labelled (codes " out ") down ++ codes "\n"
-
--- the lines of a road with these numbers generated, arrived, departed, entered and left
-abbrev pub lines : List ℕ → ℕ → ℕ → ℕ → ℕ → ℕ → List ℕ
-lines name generated arrived departed entered gone =
-    totals_line generated arrived (entered - gone) (generated - departed) ++ link_line name entered gone
-
--- the lines of counts of a road, at the last boundary
-abbrev pub report : NamedRoad → Counts → List ℕ
-report r c =
-    let end = r.road.slots in lines r.name (produced r.road end) (arr c end) (dep c end) (up c end) (down c end)
-
--- the text reports the loading of the road
-abbrev pub IsReport : NamedRoad → List ℕ → Type 0
-IsReport r text = (c : Counts) × IsRoadLoading r.road c × (text ≡ report r c)
+-- the text reports the loading of the scenario
+abbrev pub IsReport : ScenarioData → List ℕ → Type 0
+IsReport s text = (c : Counts) × IsLoading (setting_of s) c × (text ≡ load_report s c)

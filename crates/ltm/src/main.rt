@@ -1,13 +1,9 @@
-//! The program `ltm`: loads a case of one road on one thread and reports its totals and its link.
+//! The program `ltm`: loads a case on one thread and reports its totals and its links.
 //!
-//! `main` only makes the real folder and output and calls `run_alone`, whose contract is that of the whole program. The
-//! other modules are its private parts, in the order in which it uses them.
+//! `main` only makes the real folder and output and calls `run_alone`, whose contract is that of the whole program. It
+//! stands on `ltm_casefile`, which reads the case, `ltm_flows`, which loads it, and `ltm_report`, which writes the lines.
 #![tactic(auto)]
 
-mod fields;
-mod files;
-mod one_road;
-mod records;
 mod report;
 mod run;
 

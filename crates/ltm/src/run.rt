@@ -1,17 +1,23 @@
 //! The top call: what the words ask for, over a folder and an output.
-ghost use Rattle.std.specs.Prelude.{◌≡◌, ◌≤◌, ◌↔◌, ◌⊎◌, ℕ, List, [], ◌∷◌, map, string_bytes, codes, IfSome, IsTrue, Some, Ok, Err, true};
+ghost use Rattle.std.specs.Prelude.{◌≡◌, ◌↔◌, ◌⊎◌, ℕ, List, [], ◌∷◌, map, string_bytes, codes, IfOk, IfErr, IfSome, Some, Ok, Err, true, false};
 ghost use Rattle.ltm_io.specs.Faults.{Rose};
 ghost use Rattle.ltm_io.specs.Sink.{appended, AppendsFront};
 ghost use Rattle.ltm_io.specs.Folder.{Files};
 ghost use Rattle.ltm_io.specs.declared.doc.Doc.{Doc};
-ghost use Rattle.ltm.specs.declared.one_road.NamedRoad.{NamedRoad};
-ghost use Rattle.ltm.specs.Case.{case_of};
+ghost use Rattle.ltm_scenario.specs.Data.{ScenarioData};
+ghost use Rattle.ltm_casefile.specs.declared.faults.File.{File};
+ghost use Rattle.ltm_casefile.specs.declared.faults.CaseCause.{CaseCause};
+ghost use Rattle.ltm_casefile.specs.declared.faults.CaseFault.{CaseFault};
+ghost use Rattle.ltm_casefile.specs.Case.{case_of, is_case_file};
+ghost use Rattle.ltm_casefile.specs.Faults.{Agrees, HasRisen, WasAsked};
+ghost use Rattle.ltm_report.specs.CaseFaults.{bad_case_line, too_long_line};
 ghost use Rattle.ltm.specs.Report.{IsReport};
-ghost use Rattle.ltm.specs.Program.{AsksLoad, usage_line, not_one_road_line, is_case_file, IsNotOneRoad, IsLoadReport, WritesFront, WritesLoadFront, IsCalm, number_of};
+ghost use Rattle.ltm.specs.Program.{AsksLoad, Describes, FileFailed, IsCalm, WritesFront, WritesLoadFront, number_of, status_of, usage_line};
 
-use crate::files::{CaseFault, read_case};
 use crate::report::report_of;
+use ltm_casefile::{CaseCause, CaseFault, File, read_case};
 use ltm_io::{Folder, Sink, SinkError, write_all_known};
+use ltm_report::{case_fault_text, too_long_text};
 use std::alloc::Global;
 
 /// How the program ended. Its number is the exit status of the process.
@@ -21,14 +27,16 @@ pub enum Status {
     Ok,
     /// 2: the words are no command, and the usage line is written.
     Usage,
-    /// 3: a file could not be fetched, and nothing is written.
+    /// 3: a file of the case could not be fetched, and nothing is written.
     FolderFault,
     /// 5: the output failed, and a front of what was to be written is there.
     WriteFault,
+    /// 6: the files are no valid case, and the line of the first fault is written.
+    BadCase,
+    /// 7: a file of the case has more bytes than are read, and a line that says so is written.
+    TooLong,
     /// 9: memory was not found, and a front of what was to be written, or nothing, is there.
     NoMemory,
-    /// 10: the files are no case of one road, and a line that says so is written.
-    NotLine,
 }
 
 impl Status {
@@ -41,8 +49,9 @@ impl Status {
             Status::Usage => 2,
             Status::FolderFault => 3,
             Status::WriteFault => 5,
+            Status::BadCase => 6,
+            Status::TooLong => 7,
             Status::NoMemory => 9,
-            Status::NotLine => 10,
         }
     }
 }
@@ -84,44 +93,91 @@ fn usage_text() -> &'static [u8]
     b"usage: ltm load | ltm session N | ltm try START NODES\n"
 }
 
-#[tactic(auto, unfolding(crate::specs::Program::not_one_road_line))]
-fn not_one_road_text() -> &'static [u8]
-    ensures { result.now ≡ not_one_road_line }
+/// Says that a file has more bytes than are read.
+fn refuse_length<W: Sink>(alloc: Global, file: File, output: &mut W) -> Status
+    ensures answers { (result ≡ Status.TooLong) ⊎ ((result ≡ Status.WriteFault) ⊎ (result ≡ Status.NoMemory)) }
+    ensures wrote { result ≡ Status.TooLong → W.written output.new ≡ appended (too_long_line file) (W.written output.old) }
+    ensures front { (W.written output.new ≡ W.written output.old)
+        ⊎ AppendsFront (W.written output.old) (W.written output.new) (too_long_line file) }
+    ensures cause { result ≡ Status.WriteFault → Rose (W.faults output.old) (W.faults output.new) }
 {
-    b"not one road\n"
+    let mut line = Vec::new(alloc);
+    match too_long_text(alloc, file, &mut line) {
+        Ok(()) => write_text(output, line.as_slice(), Status::TooLong),
+        Err(_) => Status::NoMemory,
+    }
 }
 
-/// Loads the folder's case and writes its report, or says that the files are no case of one road.
+/// Says what is wrong with the case.
+fn refuse_case<W: Sink>(
+    alloc: Global,
+    file: File,
+    row: u32,
+    cause: CaseCause,
+    output: &mut W,
+) -> Status
+    ensures answers { (result ≡ Status.BadCase) ⊎ ((result ≡ Status.WriteFault) ⊎ (result ≡ Status.NoMemory)) }
+    ensures wrote { result ≡ Status.BadCase → W.written output.new ≡ appended (bad_case_line file row cause) (W.written output.old) }
+    ensures front { (W.written output.new ≡ W.written output.old)
+        ⊎ AppendsFront (W.written output.old) (W.written output.new) (bad_case_line file row cause) }
+    ensures cause { result ≡ Status.WriteFault → Rose (W.faults output.old) (W.faults output.new) }
+{
+    let fault = CaseFault::Bad { file, row, cause };
+    let mut line = Vec::new(alloc);
+    match case_fault_text(alloc, &fault, &mut line) {
+        Ok(()) => write_text(output, line.as_slice(), Status::BadCase),
+        Err(_) => Status::NoMemory,
+    }
+}
+
+/// The report of the folder's case, or why there is none.
+#[tactic(auto, using(crate::proofs::MissingFile::failed))]
+fn report_case<F: Folder>(alloc: Global, folder: &mut F) -> Result<Vec<u8>, CaseFault>
+    ensures keeps { F.told folder.new ≡ F.told folder.old }
+    ensures others { (d : Doc) → is_case_file d ≡ false → F.faults folder.new d ≡ F.faults folder.old d }
+    ensures report { IfOk result (λ text. (s : ScenarioData) × Describes (F.told folder.old) (Ok s) × IsReport s text.items) }
+    ensures fault { IfErr result (λ e. IfSome (F.told folder.old) (λ files. Agrees (case_of files) e)) }
+    ensures failed { (file : File) → result ≡ Err (CaseFault.Folder file)
+        → FileFailed (F.told folder.old) (F.faults folder.old) (F.faults folder.new) }
+{
+    let scenario = read_case(alloc, folder)?;
+    let text = report_of(alloc, &scenario)?;
+    Ok(text)
+}
+
+/// Loads the folder's case and writes its report, or says why there is none.
 fn load<F: Folder, W: Sink>(alloc: Global, folder: &mut F, output: &mut W) -> Status
     ensures keeps { F.told folder.new ≡ F.told folder.old }
+    ensures others { (d : Doc) → is_case_file d ≡ false → F.faults folder.new d ≡ F.faults folder.old d }
     ensures usage { result ≡ Status.Usage → ⊥ }
-    ensures folder_fault { result ≡ Status.FolderFault
-        → ((d : Doc) × IsTrue (is_case_file d) × Rose (F.faults folder.old d) (F.faults folder.new d))
+    ensures folder_fault { result ≡ Status.FolderFault → FileFailed (F.told folder.old) (F.faults folder.old) (F.faults folder.new)
         × (W.written output.new ≡ W.written output.old) }
     ensures write_fault { result ≡ Status.WriteFault → Rose (W.faults output.old) (W.faults output.new) }
-    ensures ok { result ≡ Status.Ok → (text : List ℕ) × IfSome (F.told folder.old) (λ files. IsLoadReport files text)
+    ensures ok { result ≡ Status.Ok → (s : ScenarioData) × (text : List ℕ) × Describes (F.told folder.old) (Ok s) × IsReport s text
         × (W.written output.new ≡ appended text (W.written output.old)) }
-    ensures not_line { result ≡ Status.NotLine → IfSome (F.told folder.old) IsNotOneRoad
-        × (W.written output.new ≡ appended not_one_road_line (W.written output.old)) }
+    ensures bad_case { result ≡ Status.BadCase → (file : File) × (row : ℕ) × (cause : CaseCause)
+        × Describes (F.told folder.old) (Err (CaseFault.Bad file row cause))
+        × (W.written output.new ≡ appended (bad_case_line file row cause) (W.written output.old)) }
+    ensures too_long { result ≡ Status.TooLong → (file : File) × Describes (F.told folder.old) (Err (CaseFault.TooLong file))
+        × (W.written output.new ≡ appended (too_long_line file) (W.written output.old)) }
     ensures front { WritesLoadFront (F.told folder.old) (W.written output.old) (W.written output.new) }
+    ensures missing { (files : Files) (file : File) → F.told folder.old ≡ Some files → case_of files ≡ Err (CaseFault.Folder file)
+        → (result ≡ Status.FolderFault) ⊎ (result ≡ Status.NoMemory) }
 {
-    match read_case(alloc, folder) {
-        Ok(road) => match report_of(alloc, &road) {
-            Ok(text) => write_text(output, text.as_slice(), Status::Ok),
-            Err(_) => Status::NoMemory,
-        },
-        Err(CaseFault::Folder) => Status::FolderFault,
-        Err(CaseFault::TooLong) => write_text(output, not_one_road_text(), Status::NotLine),
-        Err(CaseFault::NotOneRoad) => write_text(output, not_one_road_text(), Status::NotLine),
+    match report_case(alloc, folder) {
+        Ok(text) => write_text(output, text.as_slice(), Status::Ok),
+        Err(CaseFault::Folder(_)) => Status::FolderFault,
+        Err(CaseFault::TooLong(file)) => refuse_length(alloc, file, output),
+        Err(CaseFault::Bad { file, row, cause }) => refuse_case(alloc, file, row, cause, output),
         Err(CaseFault::NoMemory) => Status::NoMemory,
     }
 }
 
 /// Does what the words ask for, over this folder and this output.
 ///
-/// The one command is the word `load`: the four files of the case are fetched in order and read, the road is loaded
-/// (Yperman 2007) and the totals line and the link line are written. Everything is decided in this order: the words,
-/// the fetches, what the files say, the writing.
+/// The one command is the word `load`: the files of the case are fetched in order and read, the network is loaded
+/// (Yperman 2007; Himpe et al. 2016) and the totals line and a line for each link are written. Everything is decided in
+/// this order: the words, the fetches, what the files say, the writing.
 pub fn run_alone<F: Folder, W: Sink>(
     alloc: Global,
     words: &[String],
@@ -129,6 +185,7 @@ pub fn run_alone<F: Folder, W: Sink>(
     output: &mut W,
 ) -> Status
     ensures keeps { F.told folder.new ≡ F.told folder.old }
+    ensures others { (d : Doc) → is_case_file d ≡ false → F.faults folder.new d ≡ F.faults folder.old d }
 
     // The words decide between the usage line and a loading.
     ensures usage { result ≡ Status.Usage → (AsksLoad (map string_bytes words.now) → ⊥)
@@ -138,26 +195,29 @@ pub fn run_alone<F: Folder, W: Sink>(
 
     // A fault of the outside is told only where a count of faults rose.
     ensures folder_fault { result ≡ Status.FolderFault → AsksLoad (map string_bytes words.now)
-        × ((d : Doc) × IsTrue (is_case_file d) × Rose (F.faults folder.old d) (F.faults folder.new d))
+        × FileFailed (F.told folder.old) (F.faults folder.old) (F.faults folder.new)
         × (W.written output.new ≡ W.written output.old) }
     ensures write_fault { result ≡ Status.WriteFault → Rose (W.faults output.old) (W.faults output.new) }
     ensures front { WritesFront (map string_bytes words.now) (F.told folder.old) (W.written output.old) (W.written output.new) }
 
     // What the files say decides between the report and a refusal.
     ensures ok { result ≡ Status.Ok → AsksLoad (map string_bytes words.now)
-        × ((text : List ℕ) × IfSome (F.told folder.old) (λ files. IsLoadReport files text)
+        × ((s : ScenarioData) × (text : List ℕ) × Describes (F.told folder.old) (Ok s) × IsReport s text
         × (W.written output.new ≡ appended text (W.written output.old))) }
-    ensures not_line { result ≡ Status.NotLine → AsksLoad (map string_bytes words.now)
-        × IfSome (F.told folder.old) IsNotOneRoad
-        × (W.written output.new ≡ appended not_one_road_line (W.written output.old)) }
+    ensures bad_case { result ≡ Status.BadCase → AsksLoad (map string_bytes words.now)
+        × ((file : File) × (row : ℕ) × (cause : CaseCause)
+        × Describes (F.told folder.old) (Err (CaseFault.Bad file row cause))
+        × (W.written output.new ≡ appended (bad_case_line file row cause) (W.written output.old))) }
+    ensures too_long { result ≡ Status.TooLong → AsksLoad (map string_bytes words.now)
+        × ((file : File) × Describes (F.told folder.old) (Err (CaseFault.TooLong file))
+        × (W.written output.new ≡ appended (too_long_line file) (W.written output.old))) }
 
-    // With no fault of the outside, a road is reported and anything else is refused.
-    ensures complete { (files : Files) (road : NamedRoad) → IsCalm F.faults folder.old folder.new → (Rose (W.faults output.old) (W.faults output.new) → ⊥)
-        → AsksLoad (map string_bytes words.now) → F.told folder.old ≡ Some files → case_of files ≡ Ok road
-        → (result ≡ Status.Ok) ⊎ (result ≡ Status.NoMemory) }
-    ensures refuses { (files : Files) → IsCalm F.faults folder.old folder.new → (Rose (W.faults output.old) (W.faults output.new) → ⊥)
-        → AsksLoad (map string_bytes words.now) → F.told folder.old ≡ Some files → IsNotOneRoad files
-        → (result ≡ Status.NotLine) ⊎ (result ≡ Status.NoMemory) }
+    // With no fault of the outside, the status is what the files say; a missing file is a fault of the outside.
+    ensures complete { (files : Files) → F.told folder.old ≡ Some files → AsksLoad (map string_bytes words.now)
+        → IsCalm files (F.faults folder.old) (F.faults folder.new) → (Rose (W.faults output.old) (W.faults output.new) → ⊥)
+        → (result ≡ status_of (case_of files)) ⊎ (result ≡ Status.NoMemory) }
+    ensures missing { (files : Files) (file : File) → F.told folder.old ≡ Some files → AsksLoad (map string_bytes words.now)
+        → case_of files ≡ Err (CaseFault.Folder file) → (result ≡ Status.FolderFault) ⊎ (result ≡ Status.NoMemory) }
 {
     if asks_load(words) {
         load(alloc, folder, output)

@@ -1,0 +1,5 @@
+pub mod Pieces
+pub mod Totals
+pub mod Links
+pub mod Causes
+pub mod CaseFaults

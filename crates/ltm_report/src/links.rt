@@ -1,0 +1,79 @@
+//! The lines of one link: what entered and what left it up to the end of the horizon.
+ghost use Rattle.std.specs.Prelude.{◌≡◌, ◌++◌, OnOk, OnErr};
+ghost use Rattle.ltm_report.specs.Links.{name_piece, through_piece, load_link_line, link_line};
+
+use crate::pieces::{push_amount, push_newline, push_text, push_version};
+use ltm_units::{Name, NoMemory, Units};
+use std::alloc::Global;
+
+#[tactic(auto, unfolding(crate::specs::Links::name_piece))]
+fn push_name(into: &mut Vec<u8>, name: &Name) -> Result<(), NoMemory>
+    ensures { OnOk result (into.new.items ≡ into.old.items ++ name_piece name.now) }
+{
+    push_text(into, b"link ")?;
+    push_text(into, name.bytes())
+}
+
+#[tactic(auto, unfolding(crate::specs::Links::through_piece))]
+fn push_through(
+    alloc: Global,
+    into: &mut Vec<u8>,
+    entered: Units,
+    gone: Units,
+) -> Result<(), NoMemory>
+    ensures { OnOk result (into.new.items ≡ into.old.items ++ through_piece entered.0 gone.0) }
+{
+    push_amount(alloc, into, b" in ", entered)?;
+    push_amount(alloc, into, b" out ", gone)
+}
+
+#[tactic(auto, unfolding(crate::specs::Links::load_link_line))]
+fn push_link(
+    alloc: Global,
+    into: &mut Vec<u8>,
+    name: &Name,
+    entered: Units,
+    gone: Units,
+) -> Result<(), NoMemory>
+    ensures { OnOk result (into.new.items ≡ into.old.items ++ load_link_line name.now entered.0 gone.0) }
+{
+    push_name(into, name)?;
+    push_through(alloc, into, entered, gone)?;
+    push_newline(into)
+}
+
+/// Appends what entered and what left a link of a loading, as `link a in 1.000 out 0.500`.
+pub fn load_link_text(
+    alloc: Global,
+    name: &Name,
+    entered: Units,
+    gone: Units,
+    into: &mut Vec<u8>,
+) -> Result<(), NoMemory>
+    ensures ok { OnOk result (into.new.items ≡ into.old.items ++ load_link_line name.now entered.0 gone.0) }
+    ensures err { OnErr result (into.new.items ≡ into.old.items) }
+{
+    let mut line = Vec::new(alloc);
+    push_link(alloc, &mut line, name, entered, gone)?;
+    push_text(into, line.as_slice())
+}
+
+/// Appends what entered and what left a link of a version, as `version 3 link a in 1.000 out 0.500`.
+#[tactic(auto, unfolding(crate::specs::Links::link_line))]
+pub fn link_text(
+    alloc: Global,
+    version: u64,
+    name: &Name,
+    entered: Units,
+    gone: Units,
+    into: &mut Vec<u8>,
+) -> Result<(), NoMemory>
+    ensures ok { OnOk result (into.new.items ≡ into.old.items ++ link_line version name.now entered.0 gone.0) }
+    ensures err { OnErr result (into.new.items ≡ into.old.items) }
+{
+    let mut line = Vec::new(alloc);
+    push_version(alloc, &mut line, version)?;
+    push_text(&mut line, b" ")?;
+    push_link(alloc, &mut line, name, entered, gone)?;
+    push_text(into, line.as_slice())
+}

@@ -1,0 +1,120 @@
+use crate::{case_fault_text, link_text, load_link_text, too_long_text, totals_text};
+use ltm_casefile::{CaseCause, CaseFault, File};
+use ltm_diagram::{DiagramFault, Field};
+use ltm_network::NetworkFault;
+use ltm_units::{Name, NoMemory, Units};
+use std::alloc::Global;
+use std::test::Fail;
+
+fn lines(alloc: Global, name: &Name) -> Result<Vec<u8>, NoMemory> {
+    let mut text: Vec<u8> = Vec::new(alloc);
+    totals_text(
+        alloc,
+        12,
+        Units(5_000),
+        Units(4_000),
+        Units(999),
+        Units(1),
+        &mut text,
+    )?;
+    load_link_text(alloc, name, Units(1_000), Units(500), &mut text)?;
+    link_text(alloc, 3, name, Units(1_000_000), Units(0), &mut text)?;
+    Ok(text)
+}
+
+#[test]
+fn writes_lines_of_a_loading(rt: HostRuntime) -> Result<(), Fail> {
+    let name = Name::read(b"a-1").ok_or("a name")?;
+    let want =
+        "version 12 generated 5.000 arrived 4.000 on_links 0.999 waiting 0.001\nlink a-1 in 1.000 out 0.500\nversion 3 link a-1 in 1000.000 out 0.000\n";
+    assert!(rt; lines(rt.alloc(), &name)?.as_slice() == want.as_bytes());
+    Ok(())
+}
+
+fn refusal(alloc: Global, file: File, row: u32, cause: CaseCause) -> Result<Vec<u8>, NoMemory> {
+    let mut text: Vec<u8> = Vec::new(alloc);
+    case_fault_text(alloc, &CaseFault::Bad { file, row, cause }, &mut text)?;
+    Ok(text)
+}
+
+#[test]
+fn refuses_cases(rt: HostRuntime) -> Result<(), Fail> {
+    let node = Name::read(b"n1").ok_or("a name")?;
+    let destination = Name::read(b"n2").ok_or("a name")?;
+    let times = DiagramFault::StepTooLong {
+        free_ms: 2000,
+        wave_ms: 4000,
+    };
+    let cases = [
+        (
+            File::Setup,
+            1,
+            CaseCause::Header,
+            "bad case setup row 1 Header\n",
+        ),
+        (
+            File::Demand,
+            7,
+            CaseCause::Field(5),
+            "bad case demand row 7 Field 5\n",
+        ),
+        (
+            File::Setup,
+            2,
+            CaseCause::Range(2),
+            "bad case setup row 2 Range 2\n",
+        ),
+        (
+            File::Signals,
+            2,
+            CaseCause::Unknown(1),
+            "bad case signals row 2 Unknown 1\n",
+        ),
+        (
+            File::Links,
+            3,
+            CaseCause::Network(NetworkFault::TwiceNamed),
+            "bad case links row 3 TwiceNamed\n",
+        ),
+        (
+            File::Links,
+            2,
+            CaseCause::Diagram(DiagramFault::Over(Field::Wave)),
+            "bad case links row 2 Over wave_kmh\n",
+        ),
+        (
+            File::Links,
+            2,
+            CaseCause::Diagram(times),
+            "bad case links row 2 StepTooLong 2000 4000\n",
+        ),
+        (
+            File::Splits,
+            2,
+            CaseCause::TooManyDestinations,
+            "bad case splits row 2 TooManyDestinations\n",
+        ),
+        (
+            File::Whole,
+            0,
+            CaseCause::NoSplit { node, destination },
+            "bad case whole row 0 NoSplit n1 n2\n",
+        ),
+        (
+            File::Whole,
+            0,
+            CaseCause::CellsOver(54_000_001),
+            "bad case whole row 0 CellsOver 54000001\n",
+        ),
+    ];
+    for (file, row, cause, want) in cases {
+        assert!(rt;
+            refusal(rt.alloc(), file, row, cause)?.as_slice() == want.as_bytes(),
+            "at {want}"
+        );
+    }
+    let mut text: Vec<u8> = Vec::new(rt.alloc());
+    too_long_text(rt.alloc(), File::Setup, &mut text)?;
+    assert!(rt; text.as_slice() == b"too long setup\n".as_slice());
+    Ok(())
+}
