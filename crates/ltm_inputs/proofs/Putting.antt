@@ -96,6 +96,12 @@ rows_begin n at w f =
     let none : 0 ≡ 0 * w = omega arith in
     record { place = omega arith; puts = subst (λ (z : ℕ). Puts n n at (list_below z (λ k. f (k / w) (k % w)))) none (puts_none n at) }
 
+-- a table without columns
+pub puts_narrow : (n : Inputs) (at h w : ℕ) (f : ℕ → ℕ → ℕ) → w ≡ 0 → Puts n n at (grid h w f)
+puts_narrow n at h w f e =
+    let none : 0 ≡ h * w = omega (arith, ap (λ (z : ℕ). h * z) e) in
+    subst (λ (z : ℕ). Puts n n at (list_below z (λ k. f (k / w) (k % w)))) none (puts_none n at)
+
 pub rows_place : (a b : Inputs) (at next n i w : ℕ) (f : ℕ → ℕ → ℕ) → HasPlaces a at (n * w) → PutsRows a b at next i w f → i < n → HasPlaces b next w
 rows_place a b at next n i w f h p l =
     let more : w * (i + 1) ≤ w * n = mul-le-mul_left w (omega arith) in

@@ -1,7 +1,6 @@
 //! What the arms of a node send in a slot, and what its out-links can take.
 ghost use Rattle.std.specs.Prelude.{◌≡◌, ℕ, ◌*◌, ◌<◌, All, length};
 ghost use Rattle.ltm_curve.specs.Table.{counts_of};
-ghost use Rattle.ltm_loading.specs.Setting.{IsSetting};
 ghost use Rattle.ltm_loading.specs.Flows.{link_sending};
 ghost use Rattle.ltm_loading.specs.Pairs.{arms_of, grid};
 ghost use Rattle.ltm_setting.specs.Setting.{setting_of};
@@ -27,7 +26,6 @@ fn put_link_sending(
     at: usize,
     into: &mut NodeInputs,
 )
-    requires setting { IsSetting (setting_of scenario.now) }
     requires ready { IsAtFront (setting_of scenario.now) curves.now slot }
     requires links { All (λ link. link.0 < (setting_of scenario.now).links) links.now }
     requires amounts { length amounts.old ≡ (setting_of scenario.now).destinations }
@@ -51,7 +49,6 @@ pub(crate) fn put_sending(
     at: usize,
     into: &mut NodeInputs,
 )
-    requires setting { IsSetting (setting_of scenario.now) }
     requires node { pair.node.0 < (setting_of scenario.now).nodes }
     requires ready { IsAtFront (setting_of scenario.now) curves.now pair.slot }
     requires places { HasPlaces into.old at (arms_of (setting_of scenario.now) pair.node.0 * (setting_of scenario.now).destinations) }
@@ -75,7 +72,6 @@ pub(crate) fn put_supply(
     at: usize,
     into: &mut NodeInputs,
 )
-    requires setting { IsSetting (setting_of scenario.now) }
     requires node { pair.node.0 < (setting_of scenario.now).nodes }
     requires ready { IsAtFront (setting_of scenario.now) curves.now pair.slot }
     requires places { HasPlaces into.old at ((setting_of scenario.now).outs pair.node.0) }

@@ -3,7 +3,6 @@ ghost use Rattle.std.specs.Prelude.{◌≡◌, ◌<◌, ◌≤◌, length};
 ghost use Rattle.ltm_curve.specs.Table.{counts_of};
 ghost use Rattle.ltm_node.specs.Shape.{width};
 ghost use Rattle.ltm_node.specs.Solvable.{IsSolvable};
-ghost use Rattle.ltm_loading.specs.Setting.{IsSetting};
 ghost use Rattle.ltm_loading.specs.Pairs.{shape_at, pair_row};
 ghost use Rattle.ltm_loading.specs.NextPair.{IsPairInputs};
 ghost use Rattle.ltm_setting.specs.Setting.{setting_of};
@@ -30,7 +29,6 @@ fn put_row(
     shape: NodeShape,
     into: &mut NodeInputs,
 )
-    requires setting { IsSetting (setting_of scenario.now) }
     requires node { pair.node.0 < (setting_of scenario.now).nodes }
     requires ready { IsAtFront (setting_of scenario.now) curves.now pair.slot }
     requires shape { shape ≡ shape_at (setting_of scenario.now) pair.node.0 }

@@ -16,3 +16,6 @@ mod weights;
 
 pub use inputs::inputs_of;
 pub use shapes::{shape_of, widest};
+
+#[cfg(test)]
+mod tests;

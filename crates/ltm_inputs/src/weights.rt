@@ -37,6 +37,9 @@ pub(crate) fn put_weights(scenario: &Scenario, pair: Pair, at: usize, into: &mut
     ensures { Puts into.old into.new at (weights_part (setting_of scenario.now) pair.node.0 pair.slot) }
 {
     let outs = out_links(scenario, pair.node).len();
+    if outs == 0 {
+        return;
+    }
     let mut place = at;
     for destination in 0..destination_count(scenario) {
         put_weights_of(scenario, pair, destination, place, into);

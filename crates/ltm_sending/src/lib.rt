@@ -14,3 +14,6 @@ mod produced;
 
 pub use link::{receive, send_link};
 pub use origin::send_origin;
+
+#[cfg(test)]
+mod tests;

@@ -13,7 +13,7 @@ use crate::parts::{limit_all, send_nothing, take_off};
 use ltm_curve::Curves;
 use ltm_loading::links_are_ready;
 use ltm_scenario::Scenario;
-use ltm_setting::{entry_limit, exit_limit, limits, step};
+use ltm_setting::{entry_limit, exit_limit, is_setting, limits, step};
 use ltm_units::LinkId;
 
 /// Units that may leave in the order in which they entered: how many ever may, a boundary by which all of these had
@@ -57,43 +57,64 @@ fn waiting_on(scenario: &Scenario, curves: &Curves, link: LinkId, slot: u32) -> 
     }
 }
 
+/// Writes what a link sends of each destination, out of the units that wait: the search for the boundaries at which they
+/// entered, kept out of line.
+#[inline(never)]
+fn send_parts(
+    scenario: &Scenario,
+    curves: &Curves,
+    link: LinkId,
+    slot: u32,
+    waiting: Waiting,
+    into: &mut [u64],
+)
+    requires link { link.0 < (setting_of scenario.now).links }
+    requires ready { IsAtFront (setting_of scenario.now) curves.now slot }
+    requires waiting { WaitOnLink (setting_of scenario.now) (counts_of curves.now) link.0 slot (destinations_of curves.now) waiting.goal waiting.by waiting.left }
+    requires room { length into.old ≡ (setting_of scenario.now).destinations }
+    ensures { (d : ℕ) → d < (setting_of scenario.now).destinations → slice_index into.new d
+        ≡ link_sending (setting_of scenario.now) (counts_of curves.now) link.0 slot d }
+{
+    let up = entered_group(curves, link);
+    curves.first(up, waiting.goal, waiting.by, into);
+    take_off(curves, up + 1, slot, into);
+    let limit = exit_limit(scenario, link, slot);
+    limit_all(limit, waiting.goal - waiting.left, into);
+}
+
 /// Writes what a link sends of each destination in a slot: of the units that entered it at least its free-flow time ago,
 /// in their order, those that have not left yet, as many as its capacity and its exit limit let pass. The exit limit cuts
 /// each destination in proportion, rounded down.
 pub fn send_link(scenario: &Scenario, curves: &Curves, link: LinkId, slot: u32, into: &mut [u64])
     requires link { link.0 < (setting_of scenario.now).links }
-    requires setting { IsSetting (setting_of scenario.now) }
     requires ready { IsAtFront (setting_of scenario.now) curves.now slot }
     requires room { length into.old ≡ (setting_of scenario.now).destinations }
     ensures { (d : ℕ) → d < (setting_of scenario.now).destinations → slice_index into.new d
         ≡ link_sending (setting_of scenario.now) (counts_of curves.now) link.0 slot d }
 {
+    is_setting(scenario);
     let waiting = waiting_on(scenario, curves, link, slot);
     let whole = waiting.goal - waiting.left;
     if whole == 0 {
         send_nothing(into);
         return;
     }
-    let limit = exit_limit(scenario, link, slot);
     if into.len() == 1 {
-        into[0] = whole.min(limit);
+        into[0] = whole.min(exit_limit(scenario, link, slot));
         return;
     }
-    let up = entered_group(curves, link);
-    curves.first(up, waiting.goal, waiting.by, into);
-    take_off(curves, up + 1, slot, into);
-    limit_all(limit, whole, into);
+    send_parts(scenario, curves, link, slot, waiting, into);
 }
 
 /// What a link can take in a slot, at most 32,000 units: its capacity, its entry limit, and the room that it has had since
 /// its wave time ago.
 pub fn receive(scenario: &Scenario, curves: &Curves, link: LinkId, slot: u32) -> u64
     requires link { link.0 < (setting_of scenario.now).links }
-    requires setting { IsSetting (setting_of scenario.now) }
     requires ready { IsAtFront (setting_of scenario.now) curves.now slot }
     ensures value { result ≡ receiving (setting_of scenario.now) (counts_of curves.now) link.0 slot }
     ensures small { result ≤ 32000 }
 {
+    is_setting(scenario);
     links_are_ready();
     let limits = limits(scenario, link);
     let up = entered_group(curves, link);

@@ -16,7 +16,7 @@ use crate::produced::Produced;
 use ltm_curve::{Curves, Rows, first_of};
 use ltm_loading::origins_are_ready;
 use ltm_scenario::Scenario;
-use ltm_setting::{link_count, origin_capacity};
+use ltm_setting::{is_setting, link_count, origin_capacity};
 use ltm_units::NodeId;
 
 /// Units that may leave in the order in which they were produced: how many there are, how many of them ever may leave,
@@ -56,7 +56,9 @@ fn queue_at(scenario: &Scenario, curves: &Curves, node: NodeId, slot: u32) -> Qu
     Queue { all, goal, left }
 }
 
-/// Writes what each destination has of the first `goal` of all units that were produced by a boundary.
+/// Writes what each destination has of the first `goal` of all units that were produced by a boundary: the search for the
+/// boundaries at which they were, kept out of line.
+#[inline(never)]
 fn first_produced(rows: &Produced<'_>, all: u64, goal: u64, boundary: u32, into: &mut [u64])
     requires boundary { boundary ≤ (setting_of rows.now.scenario.now).slots }
     requires all { all ≡ total (setting_of rows.now.scenario.now).destinations ((setting_of rows.now.scenario.now).produced rows.now.node.0) boundary }
@@ -77,12 +79,12 @@ fn first_produced(rows: &Produced<'_>, all: u64, goal: u64, boundary: u32, into:
 pub fn send_origin(scenario: &Scenario, curves: &Curves, node: NodeId, slot: u32, into: &mut [u64])
     requires node { node.0 < (setting_of scenario.now).nodes }
     requires some_out { 0 < (setting_of scenario.now).outs node.0 }
-    requires setting { IsSetting (setting_of scenario.now) }
     requires ready { IsAtFront (setting_of scenario.now) curves.now slot }
     requires room { length into.old ≡ (setting_of scenario.now).destinations }
     ensures { (d : ℕ) → d < (setting_of scenario.now).destinations → slice_index into.new d
         ≡ origin_sending (setting_of scenario.now) (counts_of curves.now) node.0 slot d }
 {
+    is_setting(scenario);
     let queue = queue_at(scenario, curves, node, slot);
     if queue.goal == queue.left {
         send_nothing(into);

@@ -6,13 +6,13 @@ use Rattle.ltm_sending.proofs.link.receive.Goals as goal
 
 pub total_ago-ago-requires-clause-rises : goal.total_ago-ago-requires-clause-rises
 total_ago-ago-requires-clause-rises c =
-    left_rises (setting_of c.args.scenario.now) (counts_of c.args.curves.now) c.args.link.0 c.args.slot _ c.entered_group-up.result (c.links_are_ready.ensures _ _ _ _ c.requires.setting c.requires.ready.front c.requires.link) c.requires.ready.shape.same_destinations c.entered_group-up.ensures.group
+    left_rises (setting_of c.args.scenario.now) (counts_of c.args.curves.now) c.args.link.0 c.args.slot _ c.entered_group-up.result (c.links_are_ready.ensures _ _ _ _ c.is_setting.ensures.setting c.requires.ready.front c.requires.link) c.requires.ready.shape.same_destinations c.entered_group-up.ensures.group
 
 pub overflow_add-room : goal.overflow_add-room
 overflow_add-room c =
     let has =
     has_room (setting_of c.args.scenario.now) (counts_of c.args.curves.now) c.args.link.0 c.args.slot _ c.entered_group-up.result c.total_ago-ago.result.total _ c.step.result.0 c.limits-limits.result.wave_ms c.total-entered.result c.limits-limits.result.storage
-    (c.links_are_ready.ensures _ _ _ _ c.requires.setting c.requires.ready.front c.requires.link) c.requires.ready.shape.same_destinations c.entered_group-up.ensures.group
+    (c.links_are_ready.ensures _ _ _ _ c.is_setting.ensures.setting c.requires.ready.front c.requires.link) c.requires.ready.shape.same_destinations c.entered_group-up.ensures.group
     (record {
       reach = c.total_ago-ago.ensures.total;
       before = c.total_ago-ago.ensures.by;
@@ -28,7 +28,7 @@ pub overflow_sub-room : goal.overflow_sub-room
 overflow_sub-room c =
     let has =
     has_room (setting_of c.args.scenario.now) (counts_of c.args.curves.now) c.args.link.0 c.args.slot _ c.entered_group-up.result c.total_ago-ago.result.total _ c.step.result.0 c.limits-limits.result.wave_ms c.total-entered.result c.limits-limits.result.storage
-    (c.links_are_ready.ensures _ _ _ _ c.requires.setting c.requires.ready.front c.requires.link) c.requires.ready.shape.same_destinations c.entered_group-up.ensures.group
+    (c.links_are_ready.ensures _ _ _ _ c.is_setting.ensures.setting c.requires.ready.front c.requires.link) c.requires.ready.shape.same_destinations c.entered_group-up.ensures.group
     (record {
       reach = c.total_ago-ago.ensures.total;
       before = c.total_ago-ago.ensures.by;
@@ -44,7 +44,7 @@ pub returns-clause-value : goal.returns-clause-value
 returns-clause-value c =
     let has =
     has_room (setting_of c.args.scenario.now) (counts_of c.args.curves.now) c.args.link.0 c.args.slot _ c.entered_group-up.result c.total_ago-ago.result.total _ c.step.result.0 c.limits-limits.result.wave_ms c.total-entered.result c.limits-limits.result.storage
-    (c.links_are_ready.ensures _ _ _ _ c.requires.setting c.requires.ready.front c.requires.link) c.requires.ready.shape.same_destinations c.entered_group-up.ensures.group
+    (c.links_are_ready.ensures _ _ _ _ c.is_setting.ensures.setting c.requires.ready.front c.requires.link) c.requires.ready.shape.same_destinations c.entered_group-up.ensures.group
     (record {
       reach = c.total_ago-ago.ensures.total;
       before = c.total_ago-ago.ensures.by;
@@ -57,4 +57,4 @@ returns-clause-value c =
     receives (setting_of c.args.scenario.now) (counts_of c.args.curves.now) c.args.link.0 c.args.slot _ _ _ _ _ _ _ _ has c.limits-limits.ensures.capacity c.entry_limit-entry.ensures refl c.min.ensures c.min-2.ensures
 
 pub returns-clause-small : goal.returns-clause-small
-returns-clause-small c = omega (arith, c.requires.setting.small.capacities c.args.link.0 c.requires.link)
+returns-clause-small c = omega (arith, c.is_setting.ensures.setting.small.capacities c.args.link.0 c.requires.link)

@@ -1,7 +1,7 @@
 use Rattle.std.proofs.Common.{◌≡◌, ◌<◌, arith, ap, get_or-set_same, sym, ◌∙◌, slice_index, slice_set}
 use Rattle.ltm_curve.specs.Table.{counts_of, destinations_of}
 use Rattle.ltm_setting.specs.Setting.{setting_of}
-use Rattle.ltm_sending.proofs.Links.{sends_nothing, sends_one, rest_is, rest_fits, sends_rest}
+use Rattle.ltm_sending.proofs.Links.{sends_nothing, sends_one}
 use Rattle.ltm_sending.proofs.link.send_link.Goals as goal
 
 pub returns-then-whole-eq0 : goal.returns-then-whole-eq0
@@ -17,18 +17,4 @@ returns-then-into-eq1 c d x =
     ap (slice_index (slice_set c.args.into.now 0 c.min.result)) first
     ∙ (get_or-set_same c.args.into.now 0 c.min.result 0 (omega arith)
     ∙ (c.min.ensures
-    ∙ sym (sends_one (setting_of c.args.scenario.now) (counts_of c.args.curves.now) c.args.link.0 c.args.slot (destinations_of c.args.curves.now) _ _ _ c.exit_limit-limit.result d c.waiting_on-waiting.ensures (omega (arith, c.requires.ready.shape.same_destinations)) (omega arith) c.exit_limit-limit.ensures inside)))
-
-pub limit_all-requires-clause-parts : goal.limit_all-requires-clause-parts
-limit_all-requires-clause-parts c d x =
-    let inside : d < destinations_of c.args.curves.now = omega (arith, c.requires.ready.shape.same_destinations) in
-    rest_fits (setting_of c.args.scenario.now) (counts_of c.args.curves.now) c.args.link.0 c.args.slot (destinations_of c.args.curves.now) _ _ _ d _ c.waiting_on-waiting.ensures
-    (rest_is (counts_of c.args.curves.now) c.args.link.0 c.args.slot (destinations_of c.args.curves.now) c.entered_group-up.result _ _ d _ _ c.entered_group-up.ensures.group (c.first.ensures d inside) (c.take_off.ensures d inside))
-    inside
-
-pub returns : goal.returns
-returns c d x =
-    let inside : d < destinations_of c.args.curves.now = omega (arith, c.requires.ready.shape.same_destinations) in
-    sends_rest (setting_of c.args.scenario.now) (counts_of c.args.curves.now) c.args.link.0 c.args.slot (destinations_of c.args.curves.now) _ _ _ c.exit_limit-limit.result d _ _ c.waiting_on-waiting.ensures c.exit_limit-limit.ensures
-    (rest_is (counts_of c.args.curves.now) c.args.link.0 c.args.slot (destinations_of c.args.curves.now) c.entered_group-up.result _ _ d _ _ c.entered_group-up.ensures.group (c.first.ensures d inside) (c.take_off.ensures d inside))
-    (c.limit_all.ensures d (omega arith)) inside
+    ∙ sym (sends_one (setting_of c.args.scenario.now) (counts_of c.args.curves.now) c.args.link.0 c.args.slot (destinations_of c.args.curves.now) _ _ _ c.exit_limit.result d c.waiting_on-waiting.ensures (omega (arith, c.requires.ready.shape.same_destinations)) (omega arith) c.exit_limit.ensures inside)))
