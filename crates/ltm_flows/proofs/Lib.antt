@@ -2,3 +2,4 @@ pub mod Writing
 pub mod Steps
 pub mod Progress
 pub mod Showing
+pub mod Amounts

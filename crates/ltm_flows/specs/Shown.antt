@@ -45,3 +45,9 @@ pub record Shows (s : Setting) (number : ℕ) (l : Loading) : Type 0 where
   pub nodes : nodes_of l ≡ s.nodes
   pub free : (i : ℕ) → i < s.links → free_of l i ≡ s.free_time i
   pub generated : (k : ℕ) → k ≤ s.slots → generated_of l k ≡ generated s k
+
+-- a loading has the sizes of a setting
+pub record Fits (s : Setting) (l : Loading) : Type 0 where
+  pub shape : IsShaped s (curves_of l)
+  pub links : links_of l ≡ s.links
+  pub nodes : nodes_of l ≡ s.nodes

@@ -9,7 +9,7 @@ ghost use Rattle.ltm_loading.specs.Totals.{arrived, entered_link, left_link};
 ghost use Rattle.ltm_setting.specs.Setting.{setting_of};
 ghost use Rattle.ltm_flows.specs.Shaped.{IsShaped};
 
-use crate::tables::{free_times, generated_by_boundary};
+use crate::tables::{free_times, generated_by_boundary, write_free_times, write_generated};
 use crate::totals::Totals;
 use ltm_curve::Curves;
 use ltm_loading::counts_small;
@@ -51,6 +51,7 @@ impl Loading {
       free_of,
       generated_of,
       Shows,
+      Fits,
     };
     ghost use Rattle.ltm_flows.specs.InAll.{AreTotals};
 
@@ -99,6 +100,23 @@ impl Loading {
         )?;
         copy.copy_from(curves);
         Loading::of(alloc, scenario, copy, version)
+    }
+
+    /// Becomes the loading of another scenario with as many links, nodes, destinations and slots, from its finished
+    /// curves. Takes no memory.
+    pub fn refresh(&mut self, scenario: &Scenario, curves: &Curves, version: u64)
+        requires fits { Fits (setting_of scenario.now) self.old }
+        requires shape { IsShaped (setting_of scenario.now) curves.now }
+        requires loading { IsLoading (setting_of scenario.now) (counts_of curves.now) }
+        ensures { Shows (setting_of scenario.now) version self.new }
+    {
+        counts_small();
+        is_setting(scenario);
+        write_free_times(scenario, &mut self.free);
+        write_generated(scenario, &mut self.generated);
+        self.curves.copy_from(curves);
+        self.step = step(scenario);
+        self.version = version;
     }
 
     /// The version that it is the loading of.

@@ -62,3 +62,25 @@ pub(crate) fn generated_by_boundary(
     }
     Ok(table)
 }
+
+/// Writes the free-flow time of each link.
+pub(crate) fn write_free_times(scenario: &Scenario, into: &mut [Millis])
+    requires { length into.old ≡ (setting_of scenario.now).links }
+    ensures { (l : ℕ) → l < (setting_of scenario.now).links
+        → slice_index (map (λ time. time.0) into.new) l ≡ (setting_of scenario.now).free_time l }
+{
+    for link in 0..link_count(scenario) {
+        into[link as usize] = Millis(limits(scenario, LinkId(link)).free_ms);
+    }
+}
+
+/// Writes what all origins have produced by each boundary.
+pub(crate) fn write_generated(scenario: &Scenario, into: &mut [Units])
+    requires { length into.old ≡ (setting_of scenario.now).slots + 1 }
+    ensures { (k : ℕ) → k ≤ (setting_of scenario.now).slots
+        → slice_index (map (λ units. units.0) into.new) k ≡ generated (setting_of scenario.now) k }
+{
+    for boundary in 0..slot_count(scenario) + 1 {
+        into[boundary as usize] = Units(generated_at(scenario, boundary));
+    }
+}

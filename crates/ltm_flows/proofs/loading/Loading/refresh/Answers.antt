@@ -1,0 +1,32 @@
+use Rattle.std.proofs.Common.{◌∙◌, ap, sym, subst, length, arith}
+use Rattle.std.proofs.lemmas.List.{with_items_is}
+use Rattle.ltm_curve.specs.Counts.{Counts}
+use Rattle.ltm_loading.specs.Loading.{IsLoading}
+use Rattle.ltm_setting.specs.Setting.{setting_of}
+use Rattle.ltm_flows.proofs.Showing.{all_small}
+use Rattle.ltm_flows.proofs.loading.Loading.refresh.Goals as goal
+
+pub invariant_of-self-clause-times : goal.invariant_of-self-clause-times
+invariant_of-self-clause-times c =
+    ap length (with_items_is c.args.self.now.free c.write_free_times.new.into (c.write_free_times.auto.into ∙ c.deref_mut.ensures.len))
+    ∙ (c.write_free_times.auto.into ∙ (ap length c.deref_mut.ensures.value ∙ c.args.self.now.times))
+
+pub invariant_of-self-clause-amounts : goal.invariant_of-self-clause-amounts
+invariant_of-self-clause-amounts c =
+    omega (
+      arith,
+      ap length (with_items_is c.args.self.now.generated c.write_generated.new.into (c.write_generated.auto.into ∙ c.deref_mut-2.ensures.len)),
+      c.write_generated.auto.into ∙ (ap length c.deref_mut-2.ensures.value ∙ c.args.self.now.amounts),
+      c.copy_from.ensures.same.shape.slots,
+      c.requires.shape.same_slots,
+      c.requires.fits.shape.same_slots,
+    )
+
+pub invariant_of-self-clause-small : goal.invariant_of-self-clause-small
+invariant_of-self-clause-small c =
+    all_small (setting_of c.args.scenario.now) c.copy_from.new.self c.counts_small.ensures c.is_setting.ensures.setting (record {
+      same_groups = c.copy_from.ensures.same.shape.groups ∙ c.requires.shape.same_groups;
+      same_destinations = c.copy_from.ensures.same.shape.destinations ∙ c.requires.shape.same_destinations;
+      same_slots = c.copy_from.ensures.same.shape.slots ∙ c.requires.shape.same_slots;
+    })
+    (subst (λ (z : Counts). IsLoading (setting_of c.args.scenario.now) z) (sym c.copy_from.ensures.all) c.requires.loading)
