@@ -28,7 +28,9 @@ fn part_of(units: u64, rest: u64, step: u64) -> u64
     requires step { step ≤ 60000 }
     ensures { result ≡ units * rest / step }
 {
-    if units < 1 << 44 {
+    if units == 0 {
+        0
+    } else if units < 1 << 44 {
         units * rest / step
     } else {
         (u128::from(units) * u128::from(rest) / u128::from(step)) as u64
@@ -160,6 +162,21 @@ impl Curves {
         requires small { (d : ℕ) → d < length counts.now → slice_index counts.now d ≤ 2 ^ 48 }
         ensures { SetsRow self.old self.new group boundary counts.now }
     {
+        if counts.len() == 1 {
+            self.set(group, 0, boundary, counts[0]);
+        } else {
+            self.copy_row(group, boundary, counts);
+        }
+    }
+
+    /// The same for any number of destinations, in one copy.
+    fn copy_row(&mut self, group: u32, boundary: u32, counts: &[u64])
+        requires group { group < groups_of self.old }
+        requires boundary { boundary ≤ slots_of self.old }
+        requires count { length counts.now ≡ destinations_of self.old }
+        requires small { (d : ℕ) → d < length counts.now → slice_index counts.now d ≤ 2 ^ 48 }
+        ensures { SetsRow self.old self.new group boundary counts.now }
+    {
         let from = self.start(group, boundary);
         let to = from + self.destinations as usize;
         self.counts[from..to].copy_from_slice(counts);
@@ -167,6 +184,20 @@ impl Curves {
 
     /// The total of a group at a boundary, over all destinations.
     pub fn total(&self, group: u32, boundary: u32) -> u64
+        requires group { group < groups_of self.now }
+        requires boundary { boundary ≤ slots_of self.now }
+        ensures total { result ≡ total_of self.now group boundary }
+        ensures small { result ≤ 2 ^ 54 }
+    {
+        if self.destinations == 1 {
+            self.get(group, 0, boundary)
+        } else {
+            self.sum_row(group, boundary)
+        }
+    }
+
+    /// The same for any number of destinations.
+    fn sum_row(&self, group: u32, boundary: u32) -> u64
         requires group { group < groups_of self.now }
         requires boundary { boundary ≤ slots_of self.now }
         ensures total { result ≡ total_of self.now group boundary }

@@ -41,8 +41,32 @@ fn put_link_sending(
     }
 }
 
-/// Writes what each arm of a node sends in a slot.
-pub(crate) fn put_sending(
+/// Writes what each arm of a node sends in a slot, by way of room for the amounts of one arm.
+fn put_arms(
+    scenario: &Scenario,
+    curves: &Curves,
+    pair: Pair,
+    amounts: &mut [u64],
+    at: usize,
+    into: &mut NodeInputs,
+)
+    requires node { pair.node.0 < (setting_of scenario.now).nodes }
+    requires ready { IsAtFront (setting_of scenario.now) curves.now pair.slot }
+    requires amounts { length amounts.old ≡ (setting_of scenario.now).destinations }
+    requires places { HasPlaces into.old at (arms_of (setting_of scenario.now) pair.node.0 * (setting_of scenario.now).destinations) }
+    ensures { Puts into.old into.new at (sending_part (setting_of scenario.now) (counts_of curves.now) pair.node.0 pair.slot) }
+{
+    let links = in_links(scenario, pair.node);
+    put_link_sending(scenario, curves, links, pair.slot, amounts, at, into);
+    if !out_links(scenario, pair.node).is_empty() {
+        send_origin(scenario, curves, pair.node, pair.slot, amounts);
+        into.put_all(at + links.len() * amounts.len(), amounts);
+    }
+}
+
+/// Writes what each arm of a node sends in a slot, for any number of destinations.
+#[inline(never)]
+fn put_all_sending(
     scenario: &Scenario,
     curves: &Curves,
     pair: Pair,
@@ -56,11 +80,27 @@ pub(crate) fn put_sending(
 {
     let mut amounts = [0u64; 64];
     let amounts = &mut amounts[..destination_count(scenario) as usize];
-    let links = in_links(scenario, pair.node);
-    put_link_sending(scenario, curves, links, pair.slot, amounts, at, into);
-    if !out_links(scenario, pair.node).is_empty() {
-        send_origin(scenario, curves, pair.node, pair.slot, amounts);
-        into.put_all(at + links.len() * amounts.len(), amounts);
+    put_arms(scenario, curves, pair, amounts, at, into);
+}
+
+/// Writes what each arm of a node sends in a slot. With one destination no room is cleared.
+pub(crate) fn put_sending(
+    scenario: &Scenario,
+    curves: &Curves,
+    pair: Pair,
+    at: usize,
+    into: &mut NodeInputs,
+)
+    requires node { pair.node.0 < (setting_of scenario.now).nodes }
+    requires ready { IsAtFront (setting_of scenario.now) curves.now pair.slot }
+    requires places { HasPlaces into.old at (arms_of (setting_of scenario.now) pair.node.0 * (setting_of scenario.now).destinations) }
+    ensures { Puts into.old into.new at (sending_part (setting_of scenario.now) (counts_of curves.now) pair.node.0 pair.slot) }
+{
+    if destination_count(scenario) == 1 {
+        let mut amount = [0u64; 1];
+        put_arms(scenario, curves, pair, &mut amount, at, into);
+    } else {
+        put_all_sending(scenario, curves, pair, at, into);
     }
 }
 

@@ -329,6 +329,21 @@ impl NodeInputs {
           row = take from self.old.row ++ (numbers.now ++ drop (from + length numbers.now) self.old.row);
         } }
     {
+        if numbers.len() == 1 {
+            let _row = self.row();
+            self.put(from, numbers[0]);
+        } else {
+            self.put_many(from, numbers);
+        }
+    }
+
+    /// The same for any count of numbers, in one copy.
+    fn put_many(&mut self, from: usize, numbers: &[u64])
+        requires { from + length numbers.now ≤ width self.old.shape }
+        ensures { self.new ≡ record self.old {
+          row = take from self.old.row ++ (numbers.now ++ drop (from + length numbers.now) self.old.row);
+        } }
+    {
         self.numbers[from..from + numbers.len()].copy_from_slice(numbers);
     }
 

@@ -8,7 +8,7 @@ use Rattle.ltm_setting.specs.Setting.{setting_of}
 use Rattle.ltm_inputs.specs.Parts.{link_at}
 use Rattle.ltm_inputs.proofs.Arms.{some_out, no_out, arms_alone, arms_origin}
 use Rattle.ltm_inputs.proofs.Putting.{puts_below, places_kept}
-use Rattle.ltm_inputs.proofs.flows.put_sending.Goals as goal
+use Rattle.ltm_inputs.proofs.flows.put_arms.Goals as goal
 
 pub returns-then-not-is_empty : goal.returns-then-not-is_empty
 returns-then-not-is_empty c =

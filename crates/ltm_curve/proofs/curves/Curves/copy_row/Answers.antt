@@ -1,7 +1,7 @@
 use Rattle.std.proofs.Common.{◌≡◌, ℕ, ◌+◌, ◌^◌, List, ◌∙◌, arith, refl, ap, sym, length, slice_index}
 use Rattle.std.proofs.lemmas.List.{with_items_is}
 use Rattle.ltm_curve.proofs.PutOver.{put_over, length_over, small_over, sets_row_holds}
-use Rattle.ltm_curve.proofs.curves.Curves.set_row.Goals as goal
+use Rattle.ltm_curve.proofs.curves.Curves.copy_row.Goals as goal
 
 pub invariant_of-self : goal.invariant_of-self
 invariant_of-self c =
