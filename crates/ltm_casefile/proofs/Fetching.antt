@@ -1,5 +1,5 @@
 -- What comes of the files, once some were fetched.
-use Rattle.std.proofs.Common.{◌≡◌, ℕ, ◌+◌, ◌≤◌, ◌&&◌, ◌||◌, List, Bool, true, false, Option, Some, None, Result, Ok, Err, IfSome, refl, sym, ap, ◌∙◌, subst, arith}
+use Rattle.std.proofs.Common.{◌≡◌, ℕ, ◌≤◌, ◌&&◌, ◌||◌, List, Bool, true, false, Option, Some, None, Ok, IfSome, refl, sym, ap, ◌∙◌, subst, arith}
 use Rattle.std.specs.Prelude.{IsSomeAnd}
 use Rattle.ltm_io.specs.declared.doc.Doc.{Doc}
 use Rattle.std.proofs.Math.Bool.{or-true}
@@ -11,7 +11,7 @@ use Rattle.ltm_records.specs.Left.{records_of}
 use Rattle.ltm_casefile.specs.declared.faults.CaseFault.{CaseFault}
 use Rattle.ltm_casefile.specs.declared.faults.CaseFault.TheVariants.{Folder, TooLong, Bad, NoMemory}
 use Rattle.ltm_casefile.specs.declared.setup.Opened.{Opened}
-use Rattle.ltm_casefile.specs.Case.{CaseTexts, CaseParts, texts_of, signals_of, parts_of, opened_of, has_signals, is_of_each, is_signals, asks_for}
+use Rattle.ltm_casefile.specs.Case.{CaseTexts, texts_of, signals_of, parts_of, opened_of, has_signals, is_of_each, is_signals, asks_for}
 use Rattle.ltm_casefile.specs.Setup.{setup_of}
 use Rattle.ltm_casefile.specs.Faults.{doc_of, Agrees, NotGiven, HasRisen, WasAsked}
 
@@ -69,10 +69,10 @@ others_stay files texts opened before mid now there is first then unasked d none
     let each : is_of_each d ≡ false = left_false (is_of_each d) (is_signals d && has_signals (opened_of files)) none in
     let signals : (is_signals d && opened.has_signals) ≡ false = ap (λ b. is_signals d && b) (sym same) ∙ right_false (is_of_each d) (is_signals d && has_signals (opened_of files)) none in
     let late : now d ≡ mid d =
-        elim opened.has_signals as (λ b. opened.has_signals ≡ b → now d ≡ mid d) [
-          | true ↦ λ yes. then d (signals_false d opened.has_signals signals yes)
-          | false ↦ λ no. unasked no d
-        ] refl in
+    elim opened.has_signals as (λ b. opened.has_signals ≡ b → now d ≡ mid d) [
+      | true ↦ λ yes. then d (signals_false d opened.has_signals signals yes)
+      | false ↦ λ no. unasked no d
+    ] refl in
     late ∙ first d each
 
 -- ---- the same, where the folder tells its files

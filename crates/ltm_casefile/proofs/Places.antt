@@ -1,5 +1,5 @@
 -- The place of a destination.
-use Rattle.std.proofs.Common.{suc, ◌-◌, ◌≡◌, ℕ, ◌+◌, ◌<◌, ◌≤◌, ◌==◌, List, [], ◌∷◌, length, Bool, true, false, cond, Some, None, get_or, slice_index, refl, ap, ◌∙◌, arith}
+use Rattle.std.proofs.Common.{suc, ◌-◌, ◌≡◌, ℕ, ◌+◌, ◌<◌, ◌≤◌, ◌==◌, List, [], ◌∷◌, length, true, false, cond, Some, get_or, slice_index, refl, ap, ◌∙◌, arith}
 use Rattle.std.proofs.lemmas.Bool.Decides.{nat_tests}
 use Rattle.std.specs.List.{position_from}
 use Rattle.ltm_scenario.specs.Reads.{destination_of}

@@ -1,5 +1,5 @@
 -- What is behind a fault of a case.
-use Rattle.std.specs.Prelude.{◌≡◌, ℕ, Bool, true, Option, Some, None, IsSomeAnd, Result, Ok, Err}
+use Rattle.std.specs.Prelude.{◌≡◌, ℕ, Bool, true, Option, Some, None, IsSomeAnd, Result, Err}
 use Rattle.ltm_io.specs.declared.doc.Doc.{Doc}
 use Rattle.ltm_io.specs.declared.doc.Doc.TheVariants as doc
 use Rattle.ltm_io.specs.Faults.{Rose}

@@ -1,12 +1,10 @@
 -- What the setup says.
 use Rattle.std.specs.Prelude.{ℕ, ◌==◌, ◌||◌, not, nat_lt, Bool, if◌then◌else◌, List, [], ◌∷◌, length, Result, Ok, Err}
-use Rattle.ltm_scenario.specs.declared.setup.Setup.{Setup}
 use Rattle.ltm_scenario.specs.declared.setup.SetupFault.{SetupFault}
 use Rattle.ltm_scenario.specs.declared.setup.SetupFault.TheVariants.{Range as OutOfRange}
 use Rattle.ltm_scenario.specs.Setup.{setup_checked}
 use Rattle.ltm_scenario.specs.Data.{empty_scenario}
 use Rattle.ltm_scenario.specs.Build.{◌>>=◌}
-use Rattle.ltm_units.specs.declared.quantities.Units.{Units}
 use Rattle.ltm_records.specs.Fields.{Fields}
 use Rattle.ltm_records.specs.Headers.{is_setup_header, is_setup_header_with_signals}
 use Rattle.ltm_casefile.specs.declared.faults.CaseCause.{CaseCause}

@@ -8,8 +8,8 @@ ghost use Rattle.ltm_casefile.specs.Case.{case_of, built, filled, with_signals, 
 ghost use Rattle.ltm_casefile.specs.Faults.{Agrees, Says, HasRisen, WasAsked};
 
 use crate::faults::{CaseCause, CaseFault, File};
-use crate::tables::Table;
 use crate::parts::{Parts, fetch_parts};
+use crate::tables::Table;
 use crate::texts::Texts;
 use ltm_io::Folder;
 use ltm_scenario::{Scenario, ScenarioFault};

@@ -103,8 +103,9 @@ pub fn add_destination(scenario: &mut Scenario, node: NodeId) -> Result<u32, Ste
     match scenario.add_destination(node) {
         Ok(place) => return Ok(place),
         Err(DestinationFault::NoMemory) => return Err(StepFault::NoMemory),
-        Err(DestinationFault::TooMany) =>
-            return Err(StepFault::Cause(CaseCause::TooManyDestinations)),
+        Err(DestinationFault::TooMany) => return Err(StepFault::Cause(
+            CaseCause::TooManyDestinations,
+        )),
     }
 }
 

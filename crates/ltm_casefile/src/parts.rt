@@ -48,12 +48,11 @@ pub fn fetch_parts<F: Folder>(alloc: Global, folder: &mut F) -> Result<Parts, Ca
     let texts = fetch_texts(alloc, folder)?;
     let opened = open_setup(alloc, texts.setup())?;
     match fetch_signals(alloc, folder, opened.has_signals) {
-        Ok(signals) =>
-            return Ok(Parts {
-                scenario: opened.scenario,
-                texts,
-                signals,
-            }),
+        Ok(signals) => return Ok(Parts {
+            scenario: opened.scenario,
+            texts,
+            signals,
+        }),
         Err(fault) => return Err(fault),
     }
 }

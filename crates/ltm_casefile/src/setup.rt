@@ -31,7 +31,11 @@ pub struct Opened {
 fn read_signals(width: usize, row: &ByteRecord) -> Result<u32, CaseCause>
     ensures { result ≡ signals_in width (fields_of row.now) }
 {
-    if width == 4 { read_number(row, 4) } else { Ok(0) }
+    if width == 4 {
+        read_number(row, 4)
+    } else {
+        Ok(0)
+    }
 }
 
 #[tactic(auto, unfolding(crate::specs::Setup::setup_record))]

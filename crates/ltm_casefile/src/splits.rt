@@ -139,11 +139,7 @@ fn are_zero(weights: &[u32]) -> bool
     weights.iter().all(|weight| *weight == 0)
 }
 
-fn set_split(
-    alloc: Global,
-    scenario: &mut Scenario,
-    row: &SplitRecord,
-) -> Result<(), StepFault>
+fn set_split(alloc: Global, scenario: &mut Scenario, row: &SplitRecord) -> Result<(), StepFault>
     ensures ok { OnOk result (with_split_record scenario.old row.now ≡ Ok scenario.new) }
     ensures cause { IfErr result (Tells (with_split_record scenario.old row.now)) }
 {
@@ -161,11 +157,7 @@ fn set_split(
 }
 
 /// Sets the split row of a record, and makes its destination one.
-pub fn add_split(
-    alloc: Global,
-    scenario: &mut Scenario,
-    row: &ByteRecord,
-) -> Result<(), StepFault>
+pub fn add_split(alloc: Global, scenario: &mut Scenario, row: &ByteRecord) -> Result<(), StepFault>
     ensures ok { OnOk result (split_added scenario.old (fields_of row.now) ≡ Ok scenario.new) }
     ensures cause { IfErr result (Tells (split_added scenario.old (fields_of row.now))) }
 {

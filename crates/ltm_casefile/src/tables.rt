@@ -12,7 +12,9 @@ use crate::links::add_link;
 use crate::signals::add_signal;
 use crate::splits::add_split;
 use csv::ByteRecord;
-use ltm_records::{Records, is_demand_header, is_links_header, is_signals_header, is_splits_header};
+use ltm_records::{
+    Records, is_demand_header, is_links_header, is_signals_header, is_splits_header,
+};
 use ltm_scenario::Scenario;
 use std::alloc::Global;
 
@@ -86,12 +88,11 @@ impl Table {
             match self.add_row(alloc, scenario, row) {
                 Ok(()) => {}
                 Err(StepFault::NoMemory) => return Err(CaseFault::NoMemory),
-                Err(StepFault::Cause(cause)) =>
-                    return Err(CaseFault::Bad {
-                        file: self.file(),
-                        row: number,
-                        cause,
-                    }),
+                Err(StepFault::Cause(cause)) => return Err(CaseFault::Bad {
+                    file: self.file(),
+                    row: number,
+                    cause,
+                }),
             }
         }
         Err(CaseFault::NoMemory)

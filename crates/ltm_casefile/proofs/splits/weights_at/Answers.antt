@@ -1,8 +1,8 @@
-use Rattle.std.proofs.Common.{◌≡◌, ℕ, length, map, ap, ◌∙◌}
+use Rattle.std.proofs.Common.{length, map, ap, ◌∙◌}
 use Rattle.std.proofs.lemmas.List.{take_all, length-map}
 use Rattle.ltm_units.specs.declared.places.LinkId.{LinkId}
 use Rattle.ltm_network.specs.Network.{NetworkData, link_name, out_links}
-use Rattle.ltm_scenario.specs.Edits.{weight_of, weights_at}
+use Rattle.ltm_scenario.specs.Edits.{weight_of}
 use Rattle.ltm_casefile.proofs.Numbers.{map_numbers}
 use Rattle.ltm_casefile.proofs.splits.weights_at.Goals as goal
 
