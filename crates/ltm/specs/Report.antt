@@ -3,6 +3,7 @@ use Rattle.std.specs.Prelude.{ℕ, zero, suc, ◌≡◌, List, [], ◌++◌, len
 use Rattle.ltm_curve.specs.Counts.{Counts}
 use Rattle.ltm_network.specs.Network.{link_name}
 use Rattle.ltm_scenario.specs.Data.{ScenarioData}
+use Rattle.ltm_scenario.specs.IsScenario.{IsScenario}
 use Rattle.ltm_loading.specs.Setting.{Setting}
 use Rattle.ltm_loading.specs.Loading.{IsLoading}
 use Rattle.ltm_loading.specs.Totals.{generated, arrived, on_links, waiting, entered_link, left_link}
@@ -29,6 +30,6 @@ link_text_of s c link =
 unfoldable pub load_report : ScenarioData → Counts → List ℕ
 load_report s c = totals_text_of (setting_of s) c ++ texts_below (length s.network.links) (link_text_of s c)
 
--- the text reports the loading of the scenario
+-- the text reports the loading of the scenario; where the data are those of a scenario there is no other loading
 abbrev pub IsReport : ScenarioData → List ℕ → Type 0
-IsReport s text = (c : Counts) × IsLoading (setting_of s) c × (text ≡ load_report s c)
+IsReport s text = (c : Counts) × IsScenario s × IsLoading (setting_of s) c × (text ≡ load_report s c)

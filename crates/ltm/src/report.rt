@@ -74,6 +74,7 @@ fn push_links(
 pub fn report_of(alloc: Global, scenario: &Scenario) -> Result<Vec<u8>, NoMemory>
     ensures { IfOk result (λ text. IsReport scenario.now text.items) }
 {
+    let _setup = scenario.setup();
     let curves = cold(alloc, scenario)?;
     let loading = Loading::of(alloc, scenario, curves, 0)?;
     let mut text = Vec::new(alloc);

@@ -227,4 +227,6 @@ pub fn run_alone<F: Folder, W: Sink>(
 }
 
 #[cfg(test)]
+mod networks;
+#[cfg(test)]
 mod tests;

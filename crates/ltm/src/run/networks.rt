@@ -1,0 +1,118 @@
+//! Cases of whole networks: those of the folder `examples`, and two whose output was computed by another engine.
+use super::{Status, run_alone};
+use ltm_io::{Doc, MemFolder, MemSink};
+use ltm_units::NoMemory;
+use std::alloc::Global;
+use std::process::Abort;
+use std::test::Fail;
+
+/// The files of a case, and what `load` writes of it.
+#[derive(Clone, Copy)]
+struct Network {
+    setup: &'static str,
+    links: &'static str,
+    demand: &'static str,
+    splits: &'static str,
+    signals: &'static str,
+    report: &'static str,
+}
+
+/// A queue on a road spills back from a narrower one to the origin.
+fn spillback() -> Network {
+    Network {
+        setup: "step_ms,slots,origin_capacity\n1000,16,1\n",
+        links: "link,from,to,length_m,free_kmh,wave_kmh,jam_per_km\na,n1,n2,20,36,18,150\nb,n2,n3,20,36,18,60\n",
+        demand: "origin,destination,from_slot,to_slot,vehicles\nn1,n3,0,10,7\n",
+        splits: "node,destination,from_slot,weights\nn1,n3,0,a=1\nn2,n3,0,b=1\n",
+        signals: "link,from_slot,to_slot,vehicles\n",
+        report: "version 0 generated 7.000 arrived 2.400 on_links 2.600 waiting 2.000\nlink a in 5.000 out 2.800\nlink b in 2.800 out 2.400\n",
+    }
+}
+
+/// Two roads join, and part for two destinations.
+fn merge() -> Network {
+    Network {
+        setup: "step_ms,slots,origin_capacity\n1000,16,1\n",
+        links: "link,from,to,length_m,free_kmh,wave_kmh,jam_per_km\nwest,w,m,20,36,18,150\nsouth,s,m,20,36,18,300\nmain,m,d,20,36,18,180\neast,d,e,20,36,18,150\nnorth,d,n,20,36,18,150\n",
+        demand: "origin,destination,from_slot,to_slot,vehicles\nw,e,0,4,2\nw,n,0,4,1\ns,n,0,4,3\n",
+        splits: "node,destination,from_slot,weights\nw,e,0,west=1\nm,e,0,main=1\nd,e,0,east=1\nw,n,0,west=1\ns,n,0,south=1\nm,n,0,main=1\nd,n,0,north=1\n",
+        signals: "link,from_slot,to_slot,vehicles\n",
+        report: "version 0 generated 6.000 arrived 5.790 on_links 0.210 waiting 0.000\nlink west in 3.000 out 3.000\nlink south in 3.000 out 3.000\nlink main in 6.000 out 6.000\nlink east in 2.000 out 1.859\nlink north in 4.000 out 3.931\n",
+    }
+}
+
+/// A signal lets a quarter of a vehicle out in a slot.
+fn signal() -> Network {
+    Network {
+        setup: "step_ms,slots,origin_capacity,signals\n1000,4,1,1\n",
+        links: "link,from,to,length_m,free_kmh,wave_kmh,jam_per_km\na,n1,n2,20,36,18,150\n",
+        demand: "origin,destination,from_slot,to_slot,vehicles\nn1,n2,0,2,1\n",
+        splits: "node,destination,from_slot,weights\nn1,n2,0,a=1\n",
+        signals: "link,from_slot,to_slot,vehicles\na,0,4,0.250\n",
+        report: "version 0 generated 1.000 arrived 0.500 on_links 0.500 waiting 0.000\nlink a in 1.000 out 0.500\n",
+    }
+}
+
+/// Two destinations, and a split row that takes the place of another in slot 5.
+fn late_split_row() -> Network {
+    Network {
+        setup: "step_ms,slots,origin_capacity\n1000,12,1\n",
+        links: "link,from,to,length_m,free_kmh,wave_kmh,jam_per_km\na,n1,n2,20,36,18,150\nb,n2,n3,20,36,18,150\nc,n2,n4,25,36,18,150\nd,n4,n3,30,36,18,120\n",
+        demand: "origin,destination,from_slot,to_slot,vehicles\nn1,n3,0,6,4\nn1,n4,2,5,1.5\nn2,n3,1,3,0.7\n",
+        splits: "node,destination,from_slot,weights\nn1,n3,0,a=1\nn1,n4,0,a=1\nn2,n3,0,b=2 c=1\nn2,n4,0,c=1\nn4,n3,0,d=1\nn2,n3,5,b=1\n",
+        signals: "link,from_slot,to_slot,vehicles\n",
+        report: "version 0 generated 6.200 arrived 4.493 on_links 1.707 waiting 0.000\nlink a in 5.500 out 4.897\nlink b in 3.534 out 2.833\nlink c in 2.063 out 1.660\nlink d in 0.663 out 0.663\n",
+    }
+}
+
+/// The same, with signals of which the later goes over the earlier.
+fn later_signals() -> Network {
+    Network {
+        setup: "step_ms,slots,origin_capacity,signals\n1000,12,1,1\n",
+        links: "link,from,to,length_m,free_kmh,wave_kmh,jam_per_km\na,n1,n2,20,36,18,150\nb,n2,n3,20,36,18,150\nc,n2,n4,25,36,18,150\nd,n4,n3,30,36,18,120\n",
+        demand: "origin,destination,from_slot,to_slot,vehicles\nn1,n3,0,6,4\nn1,n4,2,5,1.5\nn2,n3,1,3,0.7\n",
+        splits: "node,destination,from_slot,weights\nn1,n3,0,a=1\nn1,n4,0,a=1\nn2,n3,0,b=2 c=1\nn2,n4,0,c=1\nn4,n3,0,d=1\nn2,n3,5,b=1\n",
+        signals: "link,from_slot,to_slot,vehicles\nb,2,8,0.2\nb,4,6,1\na,0,12,0\n",
+        report: "version 0 generated 6.200 arrived 0.700 on_links 2.999 waiting 2.501\nlink a in 2.999 out 0.000\nlink b in 0.466 out 0.466\nlink c in 0.234 out 0.234\nlink d in 0.234 out 0.234\n",
+    }
+}
+
+fn folder_of(alloc: Global, network: &Network) -> Result<MemFolder, NoMemory> {
+    let mut folder = MemFolder::create(alloc, &[])?;
+    folder.put(Doc::Setup, network.setup.as_bytes())?;
+    folder.put(Doc::Links, network.links.as_bytes())?;
+    folder.put(Doc::Demand, network.demand.as_bytes())?;
+    folder.put(Doc::Splits, network.splits.as_bytes())?;
+    folder.put(Doc::Signals, network.signals.as_bytes())?;
+    Ok(folder)
+}
+
+/// The case is loaded, and the report is written.
+fn expect_report<R: Abort + AllocGlobal>(rt: &R, network: &Network) -> Result<(), Fail> {
+    let alloc = rt.alloc();
+    let mut words = Vec::new(alloc);
+    words.push(String::from_str(alloc, "load")?)?;
+    let mut folder = folder_of(alloc, network)?;
+    let mut output = MemSink::create(alloc, 1000, &[])?;
+    let got = run_alone(alloc, words.as_slice(), &mut folder, &mut output);
+    assert!(rt; got == Status::Ok);
+    assert!(rt;
+        output.written() == network.report.as_bytes(),
+        "at {}",
+        network.report
+    );
+    Ok(())
+}
+
+#[test]
+fn loads_the_examples(rt: HostRuntime) -> Result<(), Fail> {
+    expect_report(&rt, &spillback())?;
+    expect_report(&rt, &merge())?;
+    expect_report(&rt, &signal())
+}
+
+#[test]
+fn later_rows_go_over_earlier_ones(rt: HostRuntime) -> Result<(), Fail> {
+    expect_report(&rt, &late_split_row())?;
+    expect_report(&rt, &later_signals())
+}
