@@ -43,13 +43,9 @@ fn push_link(
         ≡ into.old.items ++ link_text_of scenario.now (counts_of (curves_of loading.now)) link.0) }
 {
     let name = scenario.network().link_name(link);
-    load_link_text(
-        alloc,
-        &name,
-        loading.entered(link),
-        loading.left(link),
-        into,
-    )
+    let entered = loading.entered(link);
+    let gone = loading.left(link);
+    load_link_text(alloc, &name, entered, gone, into)
 }
 
 fn push_links(
