@@ -41,12 +41,12 @@ fn accept(
     scenario.accept(&batch)
 }
 
-/// The loading of a scenario.
+/// The loading of a scenario, under version 1.
 fn loading_of<R: Abort + AllocGlobal>(rt: &R, scenario: &Scenario) -> Loading {
     let Ok(curves) = cold(rt.alloc(), scenario) else {
         panic!(rt; "no memory");
     };
-    match Loading::of(rt.alloc(), scenario, curves, 0) {
+    match Loading::create(rt.alloc(), scenario, &curves, 1) {
         Ok(loading) => loading,
         Err(_) => panic!(rt; "no memory"),
     }
@@ -54,6 +54,7 @@ fn loading_of<R: Abort + AllocGlobal>(rt: &R, scenario: &Scenario) -> Loading {
 
 /// Generated, arrived, on links and waiting are these, in units.
 fn expect_totals(rt: &impl Abort, loading: &Loading, expected: [u64; 4]) {
+    assert!(rt; loading.version() == 1);
     let totals = loading.totals();
     let found = [
         totals.generated.0,
