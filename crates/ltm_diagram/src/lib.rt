@@ -4,9 +4,11 @@
 //! Stands on `ltm_units` alone. A call costs a few divisions and takes no memory.
 #![tactic(auto)]
 
+mod delay;
 mod diagram;
 mod laws;
 
+pub use delay::{Delay, Delays};
 pub use diagram::{Diagram, DiagramFault, Field, Limits};
 pub use laws::limits_in_range;
 

@@ -15,3 +15,4 @@ pub mod Shapes
 pub mod Sums
 pub mod Undoing
 pub mod Validity
+pub mod Beside

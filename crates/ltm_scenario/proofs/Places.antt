@@ -50,27 +50,3 @@ numbers nodes = map (λ (node : NodeId). node.0) nodes
 
 pub numbers-push : (nodes more : List NodeId) (node : NodeId) → more ≡ nodes ++ node ∷ [] → numbers more ≡ numbers nodes ++ node.0 ∷ []
 numbers-push nodes more node is = ap numbers is ∙ map-append (λ (n : NodeId). n.0) nodes (node ∷ [])
-
--- ---- limits beside diagrams
-abbrev Answer : Type 0
-Answer = Result Limits DiagramFault
-
-abbrev good : Limits → Answer
-good limits = Ok limits
-
-pub limits_beside : (ds : List Diagram) (ls : List Limits) (step link : ℕ) (diagram : Diagram) (limits : Limits) → map (λ d. limits_of d step) ds ≡ map good ls → link < length ds → limits ≡ get_or ls link limits → slice_get ds link ≡ Some diagram → limits_of diagram step ≡ Ok limits
-limits_beside ds ls step link diagram limits beside inside there here =
-    let long : length ls ≡ length ds = sym (length-map ls good) ∙ sym (ap length beside) ∙ length-map ds (λ d. limits_of d step) in
-    let e : Answer = good limits in
-    ap (λ (d : Diagram). limits_of d step) (sym (get_or_from_slice_get ds link diagram diagram here))
-    ∙ sym (get_or-map (λ d. limits_of d step) ds link diagram e inside)
-    ∙ ap (λ xs. get_or xs link e) beside
-    ∙ get_or-map good ls link limits e (omega arith)
-    ∙ ap good (sym there)
-
-pub limits_set : (ds : List Diagram) (ls : List Limits) (step link : ℕ) (diagram : Diagram) (limits : Limits) → map (λ d. limits_of d step) ds ≡ map good ls → limits_of diagram step ≡ Ok limits → map (λ d. limits_of d step) (set ds link diagram) ≡ map good (set ls link limits)
-limits_set ds ls step link diagram limits beside is =
-    map-set (λ d. limits_of d step) ds link diagram
-    ∙ ap (set (map (λ d. limits_of d step) ds) link) is
-    ∙ ap (λ xs. set xs link (Ok limits)) beside
-    ∙ sym (map-set good ls link limits)

@@ -16,3 +16,4 @@ pub mod Undo
 pub mod Valid
 pub mod Weights
 pub mod WeightsBack
+pub mod Timed

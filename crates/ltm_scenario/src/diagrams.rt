@@ -1,42 +1,51 @@
 //! The diagram of each link, and the limits that it sets.
 ghost use Rattle.std.specs.Prelude.{◌≡◌, ℕ, ◌+◌, ◌<◌, ◌≤◌, List, [], ◌∷◌, ◌++◌, length, slice_get, slice_set, Some, Ok, IfOk, OnOk};
 ghost use Rattle.ltm_diagram.specs.Limits.{limits_of};
-ghost use Rattle.ltm_diagram.specs.InRange.{AreInRange};
+ghost use Rattle.ltm_diagram.specs.Delays.{AreDelays};
 
-use ltm_diagram::{Diagram, Limits};
+use ltm_diagram::{Delays, Diagram, Limits, limits_in_range};
 use ltm_units::{Millis, NoMemory};
 use std::alloc::Global;
 use std::marker::Model;
+
+/// The limits of a link, and its times counted in slots, so that a loading divides by no step.
+#[derive(Clone, Copy)]
+pub struct Timed {
+    pub limits: Limits,
+    pub delays: Delays,
+}
 
 /// The diagrams by link number, and beside them the limits that they set at the step.
 #[derive(Drop)]
 pub struct Diagrams {
     step: Millis,
     diagrams: Vec<Diagram>,
-    limits: Vec<Limits>,
+    timed: Vec<Timed>,
 }
 
 impl Model for Diagrams {
-    ghost use Rattle.std.specs.Prelude.{◌≡◌, ◌-◌, map, min, Ok, vec_len, vec_capacity};
-    ghost use Rattle.ltm_diagram.specs.Limits.{limits_of};
+    ghost use Rattle.std.specs.Prelude.{◌-◌, min, vec_len, vec_capacity};
     ghost use Rattle.ltm_scenario.specs.Diagrams.{DiagramsState};
+    ghost use Rattle.ltm_scenario.specs.Timed.{AreTimed};
 
     ghost Value = { DiagramsState };
 
-    ghost view = { λ d. record { step = d.step.0; diagrams = d.diagrams.items; room = min (vec_capacity d.diagrams - vec_len d.diagrams) (vec_capacity d.limits - vec_len d.limits) } };
+    ghost view = { λ d. record { step = d.step.0; diagrams = d.diagrams.items; room = min (vec_capacity d.diagrams - vec_len d.diagrams) (vec_capacity d.timed - vec_len d.timed) } };
 
-    ghost invariant = { λ d. map (λ diagram. limits_of diagram d.step.0) d.diagrams.items ≡ map Ok d.limits.items };
+    ghost invariant = { λ d. AreTimed d.step.0 d.diagrams.items d.timed.items };
 }
 
 impl Diagrams {
     pub fn new(alloc: Global, step: Millis) -> Diagrams
+        requires some { 1 ≤ step.0 }
+        requires most { step.0 ≤ 60000 }
         ensures step { result.step ≡ step.0 }
         ensures diagrams { result.diagrams ≡ [] }
     {
         Diagrams {
             step,
             diagrams: Vec::new(alloc),
-            limits: Vec::new(alloc),
+            timed: Vec::new(alloc),
         }
     }
 
@@ -51,7 +60,27 @@ impl Diagrams {
         requires { link < length self.now.diagrams }
         ensures limits { (diagram : Diagram) → slice_get self.now.diagrams link ≡ Some diagram → limits_of diagram self.now.step ≡ Ok result }
     {
-        self.limits[link as usize]
+        self.timed[link as usize].limits
+    }
+
+    /// The times of a link, counted in slots.
+    pub fn delays(&self, link: u32) -> Delays
+        requires { link < length self.now.diagrams }
+        ensures delays { (diagram : Diagram) → (limits : Limits) → slice_get self.now.diagrams link ≡ Some diagram
+            → limits_of diagram self.now.step ≡ Ok limits → AreDelays self.now.step limits result }
+    {
+        self.timed[link as usize].delays
+    }
+
+    /// Limits with their times counted in slots.
+    fn timed(&self, diagram: &Diagram, limits: Limits) -> Timed
+        requires { limits_of diagram.now self.now.step ≡ Ok limits }
+        ensures limits { result.limits ≡ limits }
+        ensures delays { AreDelays self.now.step result.limits result.delays }
+    {
+        limits_in_range();
+        let delays = Delays::of(&limits, self.step);
+        Timed { limits, delays }
     }
 
     /// Makes room for one link more.
@@ -61,7 +90,7 @@ impl Diagrams {
         ensures ok { OnOk result (0 < self.new.room) }
     {
         self.diagrams.reserve(1)?;
-        self.limits.reserve(1)?;
+        self.timed.reserve(1)?;
         Ok(())
     }
 
@@ -72,11 +101,12 @@ impl Diagrams {
         ensures step { self.new.step ≡ self.old.step }
         ensures diagrams { self.new.diagrams ≡ self.old.diagrams ++ diagram ∷ [] }
     {
+        let timed = self.timed(&diagram, limits);
         match self.diagrams.push(diagram) {
             Ok(()) => {}
             Err(_) => unreachable!(),
         }
-        match self.limits.push(limits) {
+        match self.timed.push(timed) {
             Ok(()) => {}
             Err(_) => unreachable!(),
         }
@@ -90,8 +120,9 @@ impl Diagrams {
         ensures diagrams { self.new.diagrams ≡ slice_set self.old.diagrams link diagram }
         ensures room { self.new.room ≡ self.old.room }
     {
+        let timed = self.timed(&diagram, limits);
         self.diagrams[link as usize] = diagram;
-        self.limits[link as usize] = limits;
+        self.timed[link as usize] = timed;
     }
 
     /// An equal one, on the same allocator.
@@ -103,7 +134,7 @@ impl Diagrams {
         Ok(Diagrams {
             step: self.step,
             diagrams: Vec::from_slice(alloc, self.diagrams.as_slice())?,
-            limits: Vec::from_slice(alloc, self.limits.as_slice())?,
+            timed: Vec::from_slice(alloc, self.timed.as_slice())?,
         })
     }
 }

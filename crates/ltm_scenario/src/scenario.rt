@@ -2,6 +2,7 @@
 ghost use Rattle.std.specs.Prelude.{◌≡◌, ◌≢◌, ℕ, ◌<◌, ◌≤◌, ◌↔◌, length, map, slice_get, Some, Ok, Err, IsOk, OnOk, OnErr, IfOk, IfErr, IfSome};
 ghost use Rattle.ltm_limits.specs.Limits.{limit_at};
 ghost use Rattle.ltm_diagram.specs.Limits.{limits_of};
+ghost use Rattle.ltm_diagram.specs.Delays.{AreDelays};
 ghost use Rattle.ltm_network.specs.Names.{number_of};
 ghost use Rattle.ltm_splits.specs.Rows.{key_of};
 ghost use Rattle.ltm_scenario.specs.Setup.{setup_checked};
@@ -21,7 +22,7 @@ use crate::faults::{DestinationFault, LinkFault, ScenarioFault};
 use crate::setup::{Setup, SetupFault};
 use crate::tables::Tables;
 use ltm_demand::{Demand, DemandFault, DemandRow};
-use ltm_diagram::{Diagram, Limits};
+use ltm_diagram::{Delays, Diagram, Limits};
 use ltm_network::Network;
 use ltm_splits::{SplitFault, Splits};
 use ltm_units::{LinkId, Name, NoMemory, NodeId, Units};
@@ -218,6 +219,15 @@ impl Scenario {
             → limits_of diagram self.now.setup.step.0 ≡ Ok result }
     {
         self.tables.limits(link)
+    }
+
+    /// The times of a link, counted in slots.
+    pub fn delays(&self, link: LinkId) -> Delays
+        requires { link.0 < length self.now.network.links }
+        ensures { (diagram : Diagram) → (limits : Limits) → slice_get self.now.diagrams link.0 ≡ Some diagram
+            → limits_of diagram self.now.setup.step.0 ≡ Ok limits → AreDelays self.now.setup.step.0 limits result }
+    {
+        self.tables.delays(link)
     }
 
     /// The most that enters a link in a slot, in thousandths of a vehicle.

@@ -4,6 +4,7 @@ ghost use Rattle.std.specs.Option.{option_map};
 ghost use Rattle.ltm_limits.specs.Limits.{limit_at};
 ghost use Rattle.ltm_diagram.specs.Limits.{limits_of};
 ghost use Rattle.ltm_diagram.specs.InRange.{AreInRange};
+ghost use Rattle.ltm_diagram.specs.Delays.{AreDelays};
 ghost use Rattle.ltm_network.specs.Network.{checked, linked as linked_network, out_links};
 ghost use Rattle.ltm_network.specs.Names.{number_of};
 ghost use Rattle.ltm_splits.specs.Rows.{key_of};
@@ -21,7 +22,7 @@ use crate::diagrams::Diagrams;
 use crate::faults::{DestinationFault, LinkFault};
 use crate::setup::Setup;
 use ltm_demand::{Demand, DemandFault, DemandRow};
-use ltm_diagram::{Diagram, Limits};
+use ltm_diagram::{Delays, Diagram, Limits};
 use ltm_limits::LimitTable;
 use ltm_network::{Network, networks_stay_networks};
 use ltm_splits::{SplitFault, Splits};
@@ -108,6 +109,15 @@ impl Tables {
             → limits_of diagram self.now.scenario.setup.step.0 ≡ Ok result }
     {
         self.diagrams.limits(link.0)
+    }
+
+    pub fn delays(&self, link: LinkId) -> Delays
+        requires { link.0 < length self.now.scenario.network.links }
+        ensures delays { (diagram : Diagram) → (limits : Limits) → slice_get self.now.scenario.diagrams link.0 ≡ Some diagram
+            → limits_of diagram self.now.scenario.setup.step.0 ≡ Ok limits
+            → AreDelays self.now.scenario.setup.step.0 limits result }
+    {
+        self.diagrams.delays(link.0)
     }
 
     pub fn entry_limit(&self, link: LinkId, slot: u32) -> Units

@@ -1,31 +1,58 @@
 -- Totals some time ago.
-use Rattle.std.proofs.Common.{◌≡◌, ℕ, ◌+◌, ◌-◌, ◌*◌, ◌/◌, ◌%◌, ◌<◌, ◌≤◌, arith}
+use Rattle.std.proofs.Common.{◌≡◌, ℕ, zero, suc, ◌+◌, ◌-◌, ◌*◌, ◌<◌, ◌≤◌, true, false, cond, nat_lt, sym, ap, ◌∙◌, arith}
 use Rattle.std.proofs.Math.Nat.{mul-le-mul_right}
-use Rattle.std.proofs.lemmas.Nat.{mod_below}
-use Rattle.std.proofs.lemmas.Bool.{cases_lt}
-use Rattle.std.proofs.Common.{inl, inr, ap}
+use Rattle.std.proofs.lemmas.Bool.Decides.{nat_tests}
 use Rattle.ltm_curve.specs.Counts.{interpolated, Rises}
-use Rattle.ltm_curve.proofs.Interpolation.{interpolated_past, part_within}
+use Rattle.ltm_curve.proofs.Interpolation.{interpolated_past, interpolated_past_none, part_within}
+use Rattle.ltm_loading.specs.Flows.{earlier}
 
--- a boundary that is not the last, where something is past it
-not_last : (t h x : ℕ) → 0 < h → x ≤ t * h → 0 < x % h → x / h < t
-not_last t h x pos within some =
-    elim (cases_lt (x / h) t) [
-      | inl low ↦ low
-      | inr high ↦ let back : t * h ≤ x / h * h = mul-le-mul_right h high in absurd (omega arith)
-    ]
+-- slots that are as long as a step and a rest are one, and two where a rest is left
+pub long_enough : (slots step rest : ℕ) → rest < step → step + rest ≤ slots * step → (1 ≤ slots) × (0 < rest → 2 ≤ slots)
+long_enough zero step rest below long = absurd (omega arith)
+long_enough (suc zero) step rest below long = (omega arith, λ some. absurd (omega arith))
+long_enough (suc (suc slots)) step rest below long = (omega arith, λ some. omega arith)
 
--- a moment at least a step before the end of a slot is not after its start
-pub before_slot : (next t h delay : ℕ) → next ≡ t → h ≤ delay → (next + 1) * h - delay ≤ t * h
-before_slot next t h delay e l = let same : (next + 1) * h ≡ (t + 1) * h = ap (λ (z : ℕ). (z + 1) * h) e in let more : (t + 1) * h ≡ t * h + h = omega arith in omega arith
+below_is : (a b : ℕ) → a < b → nat_lt a b ≡ true
+below_is a b l = grind (arith, nat_tests)
+
+not_below_is : (a b : ℕ) → b ≤ a → nat_lt a b ≡ false
+not_below_is a b l = grind (arith, nat_tests)
+
+-- before the start nothing is counted
+pub earlier_none : (f : ℕ → ℕ) (step slot slots rest time : ℕ) → slots * step ≡ time + rest → rest < step → slot + 1 < slots → earlier f step slot time ≡ 0
+earlier_none f step slot slots rest time whole below before =
+    let far : (slot + 1 + 1) * step ≤ slots * step = mul-le-mul_right step (omega (arith, before)) in
+    let more : (slot + 1 + 1) * step ≡ (slot + 1) * step + step = omega arith in
+    ap (λ b. cond b 0 (interpolated f step ((slot + 1) * step - time))) (below_is ((slot + 1) * step) time (omega (arith, far, more)))
+
+-- from then on it is what is counted a rest past a boundary
+pub earlier_at : (f : ℕ → ℕ) (step slot slots rest time : ℕ) → slots * step ≡ time + rest → slots ≤ slot + 1 → earlier f step slot time ≡ interpolated f step ((slot + 1 - slots) * step + rest)
+earlier_at f step slot slots rest time whole since =
+    let parts : (slot + 1 - slots + slots) * step ≡ (slot + 1 - slots) * step + slots * step = omega arith in
+    let all : slot + 1 - slots + slots ≡ slot + 1 = omega arith in
+    let end : (slot + 1) * step ≡ (slot + 1 - slots) * step + slots * step = ap (λ (z : ℕ). z * step) (sym all) ∙ parts in
+    ap (λ b. cond b 0 (interpolated f step ((slot + 1) * step - time))) (not_below_is ((slot + 1) * step) time (omega (arith, end)))
+    ∙ ap (interpolated f step) (omega (arith, end))
 
 -- what is found past a boundary is reached by the next
-pub reached_next : (f : ℕ → ℕ) (t h x found : ℕ) → 0 < h → Rises f t → x ≤ t * h → 0 < x % h → found ≡ interpolated f h (x / h * h + x % h) → found ≤ f (x / h + 1)
-reached_next f t h x found pos rise within some e =
-    let below : x % h < h = mod_below x h pos in
+pub reached_next : (f : ℕ → ℕ) (slot step boundary rest found : ℕ) → Rises f slot → boundary < slot → rest < step → found ≡ interpolated f step (boundary * step + rest) → found ≤ f (boundary + 1)
+reached_next f slot step boundary rest found rise within below e =
     omega (
       arith,
-      interpolated_past f h (x / h) (x % h) below,
-      part_within (f (x / h + 1) - f (x / h)) (x % h) h (omega arith),
-      rise (x / h) (not_last t h x pos within some),
+      e,
+      interpolated_past f step boundary rest below,
+      part_within (f (boundary + 1) - f boundary) rest step (omega arith),
+      rise boundary within,
     )
+
+-- the same as the code finds it
+pub found_past : (f : ℕ → ℕ) (step slot slots rest time boundary left found : ℕ) → slots * step ≡ time + rest → slots ≤ slot + 1 → boundary ≡ slot + 1 - slots → left ≡ rest → found ≡ interpolated f step (boundary * step + left) → found ≡ earlier f step slot time
+found_past f step slot slots rest time boundary left found whole since is_boundary is_left is =
+    is
+    ∙ (ap (λ (z : ℕ). interpolated f step (z * step + left)) is_boundary
+    ∙ (ap (λ (z : ℕ). interpolated f step ((slot + 1 - slots) * step + z)) is_left
+    ∙ sym (earlier_at f step slot slots rest time whole since)))
+
+-- with no rest it is reached by the boundary
+pub reached_here : (f : ℕ → ℕ) (step boundary rest found : ℕ) → rest < step → rest ≡ 0 → found ≡ interpolated f step (boundary * step + rest) → found ≤ f boundary
+reached_here f step boundary rest found below none e = omega (arith, e, interpolated_past_none f step boundary rest below none)

@@ -1,10 +1,12 @@
 //! Totals some time ago.
-ghost use Rattle.std.specs.Prelude.{◌≡◌, ◌+◌, ◌*◌, ◌<◌, ◌≤◌};
+ghost use Rattle.std.specs.Prelude.{◌≡◌, ℕ, ◌+◌, ◌*◌, ◌<◌, ◌≤◌};
 ghost use Rattle.ltm_curve.specs.Counts.{Rises};
 ghost use Rattle.ltm_curve.specs.Table.{groups_of, slots_of, total_of};
+ghost use Rattle.ltm_diagram.specs.Delays.{IsDelay};
 ghost use Rattle.ltm_loading.specs.Flows.{earlier};
 
 use ltm_curve::Curves;
+use ltm_diagram::Delay;
 use ltm_units::Millis;
 
 /// A total some time ago, and a boundary by which it was reached.
@@ -14,27 +16,28 @@ pub(crate) struct Ago {
     pub(crate) by: u32,
 }
 
-/// The total of a group so many milliseconds before the end of a slot, 0 before the start. The time is at least a step,
-/// so no boundary after the slot's start is read.
+/// The total of a group so long before the end of a slot, 0 before the start. The time is at least a step, so no boundary
+/// after the slot's start is read.
 #[inline]
-pub(crate) fn total_ago(curves: &Curves, group: u32, slot: u32, delay: u64, step: Millis) -> Ago
+#[tactic(auto, using(crate::proofs::Past::long_enough))]
+pub(crate) fn total_ago(curves: &Curves, group: u32, slot: u32, delay: Delay, step: Millis) -> Ago
     requires group { group < groups_of curves.now }
     requires slot { slot ≤ slots_of curves.now }
-    requires some_step { 1 ≤ step.0 }
     requires small_step { step.0 ≤ 60000 }
-    requires delay { step.0 ≤ delay }
+    requires rest { delay.rest < step.0 }
+    requires long { step.0 + delay.rest ≤ delay.slots * step.0 }
     requires rises { Rises (total_of curves.now group) slot }
-    ensures total { result.total ≡ earlier (total_of curves.now group) step.0 slot delay }
+    ensures total { (time : ℕ) → IsDelay step.0 time delay → result.total ≡ earlier (total_of curves.now group) step.0 slot time }
     ensures by { result.by ≤ slot }
     ensures reached { result.total ≤ total_of curves.now group result.by }
 {
-    let end = (u64::from(slot) + 1) * step.0;
-    if end < delay {
+    let end = u64::from(slot) + 1;
+    let slots = u64::from(delay.slots);
+    if end < slots {
         return Ago { total: 0, by: 0 };
     }
-    let time = end - delay;
-    let boundary = (time / step.0) as u32;
-    let rest = Millis(time % step.0);
+    let boundary = (end - slots) as u32;
+    let rest = Millis(u64::from(delay.rest));
     let total = curves.past(group, boundary, rest, step);
     let by = if rest.0 == 0 { boundary } else { boundary + 1 };
     Ago { total, by }

@@ -13,7 +13,7 @@ use crate::parts::{limit_all, send_nothing, take_off};
 use ltm_curve::Curves;
 use ltm_loading::links_are_ready;
 use ltm_scenario::Scenario;
-use ltm_setting::{entry_limit, exit_limit, is_setting, limits, step};
+use ltm_setting::{delays, entry_limit, exit_limit, is_setting, limits, step};
 use ltm_units::LinkId;
 
 /// Units that may leave in the order in which they entered: how many ever may, a boundary by which all of these had
@@ -47,7 +47,8 @@ fn waiting_on(scenario: &Scenario, curves: &Curves, link: LinkId, slot: u32) -> 
     links_are_ready();
     let limits = limits(scenario, link);
     let up = entered_group(curves, link);
-    let ago = total_ago(curves, up, slot, limits.free_ms, step(scenario));
+    let free = delays(scenario, link).free;
+    let ago = total_ago(curves, up, slot, free, step(scenario));
     let left = curves.total(up + 1, slot);
     let goal = ago.total.min(left + limits.capacity);
     Waiting {
@@ -118,7 +119,8 @@ pub fn receive(scenario: &Scenario, curves: &Curves, link: LinkId, slot: u32) ->
     links_are_ready();
     let limits = limits(scenario, link);
     let up = entered_group(curves, link);
-    let ago = total_ago(curves, up + 1, slot, limits.wave_ms, step(scenario));
+    let wave = delays(scenario, link).wave;
+    let ago = total_ago(curves, up + 1, slot, wave, step(scenario));
     let entered = curves.total(up, slot);
     let room = ago.total + limits.storage - entered;
     let entry = entry_limit(scenario, link, slot);

@@ -1,6 +1,7 @@
 use crate::ago::total_ago;
 use crate::parts::limit_all;
 use ltm_curve::Curves;
+use ltm_diagram::Delay;
 use ltm_units::Millis;
 use std::process::Abort;
 
@@ -24,8 +25,10 @@ fn total_before(rt: &impl Abort, curves: &Curves, slot: u32, delay: u64) -> u64 
     assert!(rt; curves.slots() == 2);
     assert!(rt; slot <= 2);
     assert!(rt; delay >= 1000);
+    assert!(rt; delay <= 10_000);
     assert!(rt; curves.total(0, 0) <= curves.total(0, 1));
     assert!(rt; curves.total(0, 1) <= curves.total(0, 2));
+    let delay = Delay::of(Millis(delay), Millis(1000));
     total_ago(curves, 0, slot, delay, Millis(1000)).total
 }
 

@@ -1,10 +1,11 @@
 //! The numbers of a setting, read from a scenario.
 ghost use Rattle.std.specs.Prelude.{◌≡◌, ◌≤◌, ◌<◌, ℕ, length, slice_index, IfSome, Some, None, All, map};
+ghost use Rattle.ltm_diagram.specs.Delays.{IsDelay};
 ghost use Rattle.ltm_loading.specs.Setting.{Setting};
 ghost use Rattle.ltm_setting.specs.Setting.{setting_of};
 
 use ltm_demand::production_never_falls;
-use ltm_diagram::{Limits, limits_in_range};
+use ltm_diagram::{Delays, Limits, limits_in_range};
 use ltm_scenario::Scenario;
 use ltm_units::{LinkId, Millis, NodeId, Units};
 
@@ -116,6 +117,19 @@ pub fn limits(scenario: &Scenario, link: LinkId) -> Limits
     limits_in_range();
     let _diagram = scenario.diagram(link);
     scenario.limits(link)
+}
+
+/// Free-flow time and wave time of a link, counted in slots.
+#[inline]
+#[tactic(auto, unfolding(crate::specs::Setting::setting_of))]
+pub fn delays(scenario: &Scenario, link: LinkId) -> Delays
+    requires { link.0 < (setting_of scenario.now).links }
+    ensures free { IsDelay (setting_of scenario.now).step ((setting_of scenario.now).free_time link.0) result.free }
+    ensures wave { IsDelay (setting_of scenario.now).step ((setting_of scenario.now).wave_time link.0) result.wave }
+{
+    let _diagram = scenario.diagram(link);
+    let _limits = scenario.limits(link);
+    scenario.delays(link)
 }
 
 /// The most that enters a link in a slot, in units.

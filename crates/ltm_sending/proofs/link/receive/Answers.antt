@@ -1,5 +1,6 @@
-use Rattle.std.proofs.Common.{arith, refl}
+use Rattle.std.proofs.Common.{ℕ, arith, refl, sym, subst}
 use Rattle.ltm_curve.specs.Table.{counts_of}
+use Rattle.ltm_diagram.specs.Delays.{IsDelay}
 use Rattle.ltm_setting.specs.Setting.{setting_of}
 use Rattle.ltm_sending.proofs.Links.{left_rises, has_room, receives}
 use Rattle.ltm_sending.proofs.link.receive.Goals as goal
@@ -11,14 +12,14 @@ total_ago-ago-requires-clause-rises c =
 pub overflow_add-room : goal.overflow_add-room
 overflow_add-room c =
     let has =
-    has_room (setting_of c.args.scenario.now) (counts_of c.args.curves.now) c.args.link.0 c.args.slot _ c.entered_group-up.result c.total_ago-ago.result.total _ c.step.result.0 c.limits-limits.result.wave_ms c.total-entered.result c.limits-limits.result.storage
+    has_room (setting_of c.args.scenario.now) (counts_of c.args.curves.now) c.args.link.0 c.args.slot _ c.entered_group-up.result c.total_ago-ago.result.total _ c.step.result.0 ((setting_of c.args.scenario.now).wave_time c.args.link.0) c.total-entered.result c.limits-limits.result.storage
     (c.links_are_ready.ensures _ _ _ _ c.is_setting.ensures.setting c.requires.ready.front c.requires.link) c.requires.ready.shape.same_destinations c.entered_group-up.ensures.group
     (record {
-      reach = c.total_ago-ago.ensures.total;
+      reach = c.total_ago-ago.ensures.total ((setting_of c.args.scenario.now).wave_time c.args.link.0) (subst (λ (h : ℕ). IsDelay h ((setting_of c.args.scenario.now).wave_time c.args.link.0) c.delays.result.wave) (sym c.step.ensures.value) c.delays.ensures.wave);
       before = c.total_ago-ago.ensures.by;
       within = c.total_ago-ago.ensures.reached;
       same_step = c.step.ensures.value;
-      same_wave = c.limits-limits.ensures.wave_time;
+      same_wave = refl;
       all = c.total-entered.ensures.total;
       same_storage = c.limits-limits.ensures.storage;
     }) in
@@ -27,14 +28,14 @@ overflow_add-room c =
 pub overflow_sub-room : goal.overflow_sub-room
 overflow_sub-room c =
     let has =
-    has_room (setting_of c.args.scenario.now) (counts_of c.args.curves.now) c.args.link.0 c.args.slot _ c.entered_group-up.result c.total_ago-ago.result.total _ c.step.result.0 c.limits-limits.result.wave_ms c.total-entered.result c.limits-limits.result.storage
+    has_room (setting_of c.args.scenario.now) (counts_of c.args.curves.now) c.args.link.0 c.args.slot _ c.entered_group-up.result c.total_ago-ago.result.total _ c.step.result.0 ((setting_of c.args.scenario.now).wave_time c.args.link.0) c.total-entered.result c.limits-limits.result.storage
     (c.links_are_ready.ensures _ _ _ _ c.is_setting.ensures.setting c.requires.ready.front c.requires.link) c.requires.ready.shape.same_destinations c.entered_group-up.ensures.group
     (record {
-      reach = c.total_ago-ago.ensures.total;
+      reach = c.total_ago-ago.ensures.total ((setting_of c.args.scenario.now).wave_time c.args.link.0) (subst (λ (h : ℕ). IsDelay h ((setting_of c.args.scenario.now).wave_time c.args.link.0) c.delays.result.wave) (sym c.step.ensures.value) c.delays.ensures.wave);
       before = c.total_ago-ago.ensures.by;
       within = c.total_ago-ago.ensures.reached;
       same_step = c.step.ensures.value;
-      same_wave = c.limits-limits.ensures.wave_time;
+      same_wave = refl;
       all = c.total-entered.ensures.total;
       same_storage = c.limits-limits.ensures.storage;
     }) in
@@ -43,14 +44,14 @@ overflow_sub-room c =
 pub returns-clause-value : goal.returns-clause-value
 returns-clause-value c =
     let has =
-    has_room (setting_of c.args.scenario.now) (counts_of c.args.curves.now) c.args.link.0 c.args.slot _ c.entered_group-up.result c.total_ago-ago.result.total _ c.step.result.0 c.limits-limits.result.wave_ms c.total-entered.result c.limits-limits.result.storage
+    has_room (setting_of c.args.scenario.now) (counts_of c.args.curves.now) c.args.link.0 c.args.slot _ c.entered_group-up.result c.total_ago-ago.result.total _ c.step.result.0 ((setting_of c.args.scenario.now).wave_time c.args.link.0) c.total-entered.result c.limits-limits.result.storage
     (c.links_are_ready.ensures _ _ _ _ c.is_setting.ensures.setting c.requires.ready.front c.requires.link) c.requires.ready.shape.same_destinations c.entered_group-up.ensures.group
     (record {
-      reach = c.total_ago-ago.ensures.total;
+      reach = c.total_ago-ago.ensures.total ((setting_of c.args.scenario.now).wave_time c.args.link.0) (subst (λ (h : ℕ). IsDelay h ((setting_of c.args.scenario.now).wave_time c.args.link.0) c.delays.result.wave) (sym c.step.ensures.value) c.delays.ensures.wave);
       before = c.total_ago-ago.ensures.by;
       within = c.total_ago-ago.ensures.reached;
       same_step = c.step.ensures.value;
-      same_wave = c.limits-limits.ensures.wave_time;
+      same_wave = refl;
       all = c.total-entered.ensures.total;
       same_storage = c.limits-limits.ensures.storage;
     }) in
