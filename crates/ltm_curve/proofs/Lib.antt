@@ -4,3 +4,4 @@ pub mod Lasts
 pub mod Firsts
 pub mod Places
 pub mod PutOver
+pub mod Totals

@@ -8,7 +8,7 @@ use Rattle.ltm_curve.specs.Counts.{at_time}
 use Rattle.ltm_curve.specs.declared.curves.Curves.{Curves}
 use Rattle.ltm_curve.specs.Table.{groups_of, destinations_of, slots_of, place, counts_of, total_of, IsIn, SameShape, Sets}
 use Rattle.ltm_curve.specs.CurveLaws.{SameCounts, CountsTellAll}
-use Rattle.ltm_units.proofs.Sums.{sum_below-same, sum_below-most}
+use Rattle.ltm_units.proofs.Sums.{sum_below-same, sum_below-most, le-sum_below}
 use Rattle.ltm_curve.proofs.Interpolation.{interpolated_same}
 
 pub same_place : (a b : Curves) (g d k : ℕ) → SameShape a b → place a g d k ≡ place b g d k
@@ -46,6 +46,21 @@ counts_tell_all_holds a b s g x = (λ k y. same_totals a b s g k x y, λ step ti
 pub total_small : (c : Curves) (g k : ℕ) → total_of c g k ≤ 2 ^ 54
 unfolding counts_of
 total_small c g k = omega (arith, sum_below-most c.destinations (λ d. counts_of c g d k) (2 ^ 48) (λ d l. c.small (place c g d k)), mul-le-mul_right (2 ^ 48) c.few)
+
+-- with one destination a count lies at the number of its row
+pub place_alone : (c : Curves) (g k : ℕ) → destinations_of c ≡ 1 → place c g 0 k ≡ k * c.groups + g
+place_alone c g k one = let e : (k * c.groups + g) * c.destinations ≡ (k * c.groups + g) * 1 = ap (λ (z : ℕ). (k * c.groups + g) * z) one in omega arith
+
+pub within_alone : (c : Curves) (at : ℕ) → destinations_of c ≡ 1 → at < (c.slots + 1) * c.groups → at < length c.counts.items
+within_alone c at one l = let e : (c.slots + 1) * c.groups * c.destinations ≡ (c.slots + 1) * c.groups * 1 = ap (λ (z : ℕ). (c.slots + 1) * c.groups * z) one in omega (arith, c.long)
+
+-- a count is within its total
+pub count_within : (c : Curves) (g d k : ℕ) → d < destinations_of c → counts_of c g d k ≤ total_of c g k
+count_within c g d k l = le-sum_below (destinations_of c) (λ e. counts_of c g e k) d l
+
+-- curves of one shape have as many rows
+pub same_rows_of : (a b : Curves) → SameShape a b → (a.slots + 1) * a.groups ≡ (b.slots + 1) * b.groups
+same_rows_of a b s = ap (λ (z : ℕ). (z + 1) * a.groups) s.slots ∙ ap (λ (z : ℕ). (b.slots + 1) * z) s.groups
 
 -- a place in the same table is the same count
 pub same_table : (xs ys : List ℕ) (g d k a b m n : ℕ) → xs ≡ ys → a ≡ b → m ≡ n → slice_index xs ((k * a + g) * m + d) ≡ slice_index ys ((k * b + g) * n + d)

@@ -48,7 +48,7 @@ small_over a e xs ys most l m same all new i =
     ]
 
 -- a place outside of a row
-outside : (r r2 d w : ℕ) → r2 ≢ r → d < w → (r2 * w + d < r * w) ⊎ (r * w + w ≤ r2 * w + d)
+pub outside : (r r2 d w : ℕ) → r2 ≢ r → d < w → (r2 * w + d < r * w) ⊎ (r * w + w ≤ r2 * w + d)
 outside r r2 d w differs l =
     elim (cases_lt r2 r) [
       | inl less ↦ inl (omega (arith, mul-le-mul_right w less))

@@ -67,22 +67,38 @@ fn end_of<R: Rows>(rows: &R, n: u64, last: u32) -> u32
     halve(rows, n, low, high)
 }
 
-/// Writes the units of each destination that enter in a slot.
-fn entries_of<R: Rows>(rows: &R, slot: u32, into: &mut [u64])
+/// Writes what each destination has of a part of the units that enter in a slot, which are written beside.
+fn split_entries<R: Rows>(rows: &R, slot: u32, part: u64, parts: &mut [u64], into: &mut [u64])
     requires next { slot + 1 < 2 ^ 32 }
     requires slot { slot < R.end rows.now }
     requires rise { RowsRise (R.width rows.now) (R.rows rows.now) (slot + 1) }
+    requires fits { total (R.width rows.now) (R.rows rows.now) (slot + 1) < 2 ^ 64 }
+    requires something { part < sum (entries (R.width rows.now) (R.rows rows.now) slot) }
     requires room { length into.old ≡ R.width rows.now }
-    ensures { into.new ≡ entries (R.width rows.now) (R.rows rows.now) slot }
+    requires places { length parts.old ≡ R.width rows.now }
+    ensures { into.new ≡ nested_split part (entries (R.width rows.now) (R.rows rows.now) slot) }
 {
-    for destination in 0..rows.destinations() {
-        let after = rows.count(destination, slot + 1);
-        let before = rows.count(destination, slot);
-        into[destination as usize] = after - before;
-    }
+    rows.write_entries(slot, parts);
+    nested(part, parts, into);
 }
 
-/// Writes what each destination has of a part of the units that enter in a slot.
+/// The same for any number of destinations, beside a list of the longest length.
+#[inline(never)]
+fn shares_of_many<R: Rows>(rows: &R, slot: u32, part: u64, into: &mut [u64])
+    requires next { slot + 1 < 2 ^ 32 }
+    requires slot { slot < R.end rows.now }
+    requires rise { RowsRise (R.width rows.now) (R.rows rows.now) (slot + 1) }
+    requires fits { total (R.width rows.now) (R.rows rows.now) (slot + 1) < 2 ^ 64 }
+    requires something { part < sum (entries (R.width rows.now) (R.rows rows.now) slot) }
+    requires room { length into.old ≡ R.width rows.now }
+    ensures { into.new ≡ nested_split part (entries (R.width rows.now) (R.rows rows.now) slot) }
+{
+    let destinations = rows.destinations() as usize;
+    let mut parts = [0u64; 64];
+    split_entries(rows, slot, part, &mut parts[..destinations], into);
+}
+
+/// The same beside a short list where that is enough, since a list begins with zeros.
 fn shares_of<R: Rows>(rows: &R, slot: u32, part: u64, into: &mut [u64])
     requires next { slot + 1 < 2 ^ 32 }
     requires slot { slot < R.end rows.now }
@@ -92,33 +108,12 @@ fn shares_of<R: Rows>(rows: &R, slot: u32, part: u64, into: &mut [u64])
     requires room { length into.old ≡ R.width rows.now }
     ensures { into.new ≡ nested_split part (entries (R.width rows.now) (R.rows rows.now) slot) }
 {
-    let mut entries = [0u64; 64];
-    let parts = &mut entries[..rows.destinations() as usize];
-    entries_of(rows, slot, parts);
-    nested(part, parts, into);
-}
-
-/// Writes the counts of all destinations at a boundary.
-fn write_counts<R: Rows>(rows: &R, boundary: u32, into: &mut [u64])
-    requires boundary { boundary ≤ R.end rows.now }
-    requires room { length into.old ≡ R.width rows.now }
-    ensures { (d : ℕ) → d < R.width rows.now → slice_index into.new d ≡ R.rows rows.now d boundary }
-{
-    for destination in 0..rows.destinations() {
-        into[destination as usize] = rows.count(destination, boundary);
+    if into.len() > 8 {
+        shares_of_many(rows, slot, part, into);
+        return;
     }
-}
-
-/// Adds the counts of all destinations at a boundary.
-fn add_counts<R: Rows>(rows: &R, boundary: u32, into: &mut [u64])
-    requires boundary { boundary ≤ R.end rows.now }
-    requires room { length into.old ≡ R.width rows.now }
-    requires fits { (d : ℕ) → d < R.width rows.now → slice_index into.old d + R.rows rows.now d boundary < 2 ^ 64 }
-    ensures { (d : ℕ) → d < R.width rows.now → slice_index into.new d ≡ slice_index into.old d + R.rows rows.now d boundary }
-{
-    for destination in 0..rows.destinations() {
-        into[destination as usize] += rows.count(destination, boundary);
-    }
+    let mut parts = [0u64; 8];
+    split_entries(rows, slot, part, &mut parts[..into.len()], into);
 }
 
 /// Writes what each destination has of the first n units of some rows, among those that entered by boundary `last`.
@@ -139,9 +134,9 @@ pub fn first_of<R: Rows>(rows: &R, n: u64, last: u32, into: &mut [u64])
     let end = end_of(rows, n, last);
     let part = n - rows.total(end);
     if part == 0 {
-        write_counts(rows, end, into);
+        rows.write(end, into);
     } else {
         shares_of(rows, end, part, into);
-        add_counts(rows, end, into);
+        rows.add(end, into);
     }
 }

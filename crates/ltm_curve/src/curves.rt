@@ -1,9 +1,12 @@
 //! A table of cumulative counts.
 //!
 //! All counts of one boundary lie side by side, group after group, so that a loading walks through memory in order and
-//! further boundaries can be added at the end. Only `place` and the words `counts_of` and `place` of
-//! `specs/Table.antt` know this; no contract does.
-ghost use Rattle.std.specs.Prelude.{◌≡◌, ℕ, ◌+◌, ◌*◌, ◌^◌, ◌<◌, ◌≤◌, ◌/◌, ◌%◌, length, slice_index, IfOk, ℤ, pos, ◌≤ℤ◌};
+//! further boundaries can be added at the end. Only `place`, `row_number` and the words `counts_of` and `place` of
+//! `specs/Table.antt` know this; no contract does. With two destinations or more the totals of the groups lie in a dense
+//! table of their own, in the same order, so that looking back at totals reads few numbers; with one the count is the
+//! total.
+ghost use Rattle.std.specs.Prelude.{◌≡◌, ℕ, ◌+◌, ◌*◌, ◌^◌, ◌<◌, ◌≤◌, ◌/◌, ◌%◌, length, sum, replicate, slice_index, IfOk, ℤ, pos, ◌≤ℤ◌};
+ghost use Rattle.ltm_curve.specs.Totals.{AreTotals};
 
 use crate::composition::first_of;
 use crate::group::Group;
@@ -17,9 +20,13 @@ pub struct Curves {
     destinations: u32,
     slots: u32,
     counts: Vec<u64>,
+    totals: Vec<u64>,
     ghost long: { length counts.items ≡ (slots + 1) * groups * destinations },
     ghost few: { destinations ≤ 64 },
     ghost small: { (i : ℕ) → slice_index counts.items i ≤ 2 ^ 48 },
+    ghost no_totals: { destinations < 2 → length totals.items ≡ 0 },
+    ghost all_totals: { 2 ≤ destinations → length totals.items ≡ (slots + 1) * groups },
+    ghost sums: { 2 ≤ destinations → AreTotals totals.items counts.items destinations ((slots + 1) * groups) },
 }
 
 /// The part of some units that falls into the first `rest` milliseconds of a step, rounded down.
@@ -35,6 +42,29 @@ fn part_of(units: u64, rest: u64, step: u64) -> u64
     } else {
         (u128::from(units) * u128::from(rest) / u128::from(step)) as u64
     }
+}
+
+/// The sum of the counts of a row.
+fn sum_of(counts: &[u64]) -> u64
+    requires fits { sum counts.now < 2 ^ 64 }
+    ensures { result ≡ sum counts.now }
+{
+    counts.iter().sum()
+}
+
+/// Takes over all numbers of another table of the same length.
+fn copy_all(table: &mut Vec<u64>, other: &Vec<u64>)
+    requires { length table.old.items ≡ length other.now.items }
+    ensures { table.new.items ≡ other.now.items }
+{
+    table.as_mut_slice().copy_from_slice(other.as_slice());
+}
+
+/// So many zeros.
+fn zeros(alloc: Global, count: usize) -> Result<Vec<u64>, NoMemory>
+    ensures { IfOk result (λ zeros. zeros.items ≡ replicate count 0) }
+{
+    vec![in alloc; 0u64; count].map_err(|_| NoMemory)
 }
 
 impl Curves {
@@ -63,15 +93,15 @@ impl Curves {
         let Some(size) = rows.checked_mul(destinations as usize) else {
             return Err(NoMemory);
         };
-        match vec![in alloc; 0u64; size] {
-            Ok(counts) => Ok(Curves {
-                groups,
-                destinations,
-                slots,
-                counts,
-            }),
-            Err(_) => Err(NoMemory),
-        }
+        let counts = zeros(alloc, size)?;
+        let totals = zeros(alloc, if destinations < 2 { 0 } else { rows })?;
+        Ok(Curves {
+            groups,
+            destinations,
+            slots,
+            counts,
+            totals,
+        })
     }
 
     /// How many groups there are.
@@ -118,14 +148,63 @@ impl Curves {
         self.counts[at]
     }
 
+    /// The number of the row of a group at a boundary, which is also the place of its total.
+    fn row_number(&self, group: u32, boundary: u32) -> usize
+        requires group { group < groups_of self.now }
+        requires boundary { boundary ≤ slots_of self.now }
+        ensures number { result ≡ boundary * self.now.groups + group }
+        ensures within { result < (self.now.slots + 1) * self.now.groups }
+    {
+        boundary as usize * self.groups as usize + group as usize
+    }
+
     /// Changes a count, and no other.
     pub fn set(&mut self, group: u32, destination: u32, boundary: u32, count: u64)
         requires place { IsIn self.old group destination boundary }
         requires small { count ≤ 2 ^ 48 }
         ensures { Sets self.old self.new group destination boundary count }
     {
-        let at = self.place(group, destination, boundary);
+        if self.destinations == 1 {
+            self.set_only(group, boundary, count);
+        } else {
+            self.set_one(group, destination, boundary, count);
+        }
+    }
+
+    /// The same where there is one destination, whose count is the total.
+    fn set_only(&mut self, group: u32, boundary: u32, count: u64)
+        requires place { IsIn self.old group 0 boundary }
+        requires only { destinations_of self.old ≡ 1 }
+        requires small { count ≤ 2 ^ 48 }
+        ensures { Sets self.old self.new group 0 boundary count }
+    {
+        let at = self.row_number(group, boundary);
         self.counts[at] = count;
+    }
+
+    /// The same where there are several destinations: the total changes by as much.
+    fn set_one(&mut self, group: u32, destination: u32, boundary: u32, count: u64)
+        requires place { IsIn self.old group destination boundary }
+        requires several { 2 ≤ destinations_of self.old }
+        requires small { count ≤ 2 ^ 48 }
+        ensures { Sets self.old self.new group destination boundary count }
+    {
+        let others = self.others(group, destination, boundary);
+        let row = self.row_number(group, boundary);
+        let place = self.place(group, destination, boundary);
+        self.totals[row] = others + count;
+        self.counts[place] = count;
+    }
+
+    /// The total of a group at a boundary without one of several destinations.
+    #[tactic(auto, using(crate::proofs::Places::count_within, crate::proofs::Places::total_small))]
+    fn others(&self, group: u32, destination: u32, boundary: u32) -> u64
+        requires place { IsIn self.now group destination boundary }
+        requires several { 2 ≤ destinations_of self.now }
+        ensures total { result + counts_of self.now group destination boundary ≡ total_of self.now group boundary }
+        ensures small { result ≤ 2 ^ 54 }
+    {
+        self.kept_total(group, boundary) - self.get(group, destination, boundary)
     }
 
     /// Where the counts of a group at a boundary begin in the table.
@@ -163,51 +242,52 @@ impl Curves {
         ensures { SetsRow self.old self.new group boundary counts.now }
     {
         if counts.len() == 1 {
-            self.set(group, 0, boundary, counts[0]);
-        } else {
+            self.set_only(group, boundary, counts[0]);
+        } else if counts.len() > 1 {
             self.copy_row(group, boundary, counts);
         }
     }
 
-    /// The same for any number of destinations, in one copy.
+    /// The same where there are several destinations, in one copy and one sum.
     fn copy_row(&mut self, group: u32, boundary: u32, counts: &[u64])
         requires group { group < groups_of self.old }
         requires boundary { boundary ≤ slots_of self.old }
         requires count { length counts.now ≡ destinations_of self.old }
+        requires several { 2 ≤ destinations_of self.old }
         requires small { (d : ℕ) → d < length counts.now → slice_index counts.now d ≤ 2 ^ 48 }
         ensures { SetsRow self.old self.new group boundary counts.now }
     {
+        let row = self.row_number(group, boundary);
         let from = self.start(group, boundary);
         let to = from + self.destinations as usize;
+        self.totals[row] = sum_of(counts);
         self.counts[from..to].copy_from_slice(counts);
     }
 
     /// The total of a group at a boundary, over all destinations.
+    #[tactic(auto, using(crate::proofs::Places::total_small))]
     pub fn total(&self, group: u32, boundary: u32) -> u64
         requires group { group < groups_of self.now }
         requires boundary { boundary ≤ slots_of self.now }
         ensures total { result ≡ total_of self.now group boundary }
         ensures small { result ≤ 2 ^ 54 }
     {
-        if self.destinations == 1 {
-            self.get(group, 0, boundary)
-        } else {
-            self.sum_row(group, boundary)
+        match self.destinations {
+            0 => 0,
+            1 => self.get(group, 0, boundary),
+            _ => self.kept_total(group, boundary),
         }
     }
 
-    /// The same for any number of destinations.
-    fn sum_row(&self, group: u32, boundary: u32) -> u64
+    /// The same where there are several destinations.
+    #[tactic(auto, unfolding(crate::specs::Table::counts_of))]
+    fn kept_total(&self, group: u32, boundary: u32) -> u64
         requires group { group < groups_of self.now }
         requires boundary { boundary ≤ slots_of self.now }
-        ensures total { result ≡ total_of self.now group boundary }
-        ensures small { result ≤ 2 ^ 54 }
+        requires several { 2 ≤ destinations_of self.now }
+        ensures { result ≡ total_of self.now group boundary }
     {
-        let mut sum = 0u64;
-        for count in self.row(group, boundary) {
-            sum += *count;
-        }
-        sum
+        self.totals[self.row_number(group, boundary)]
     }
 
     /// The total of a group `rest` milliseconds past a boundary, interpolated and rounded down.
@@ -275,8 +355,7 @@ impl Curves {
         ensures same { SameCounts self.new other.now }
         ensures all { counts_of self.new ≡ counts_of other.now }
     {
-        self.counts
-            .as_mut_slice()
-            .copy_from_slice(other.counts.as_slice());
+        copy_all(&mut self.counts, &other.counts);
+        copy_all(&mut self.totals, &other.totals);
     }
 }

@@ -32,4 +32,23 @@ impl Rows for Group<'_> {
     fn total(&self, boundary: u32) -> u64 {
         self.curves.total(self.group, boundary)
     }
+
+    fn write(&self, boundary: u32, into: &mut [u64]) {
+        into.copy_from_slice(self.curves.row(self.group, boundary));
+    }
+
+    fn add(&self, boundary: u32, into: &mut [u64]) {
+        let row = self.curves.row(self.group, boundary);
+        for destination in 0..row.len() {
+            into[destination] += row[destination];
+        }
+    }
+
+    fn write_entries(&self, slot: u32, into: &mut [u64]) {
+        let before = self.curves.row(self.group, slot);
+        let after = self.curves.row(self.group, slot + 1);
+        for destination in 0..before.len() {
+            into[destination] = after[destination] - before[destination];
+        }
+    }
 }

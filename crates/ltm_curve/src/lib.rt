@@ -6,8 +6,8 @@
 //! counts at the two ends of a link: Newell 1993, Yperman 2007. Whole units, floors and counts by destination are this
 //! engine's own.)
 //!
-//! It stands on `ltm_units` alone. `create` takes all memory; no later call takes any. A read or a write costs one
-//! access to one flat table, a total one access for each destination, a time one division more.
+//! It stands on `ltm_units` alone. `create` takes all memory; no later call takes any. A read costs one access to one
+//! flat table, and so does a total; a write keeps the total of its row, and a time costs one division more.
 #![tactic(auto)]
 
 mod composition;

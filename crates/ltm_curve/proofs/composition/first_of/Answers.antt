@@ -17,8 +17,8 @@ pub shares_of-requires-clause-fits : goal.shares_of-requires-clause-fits
 shares_of-requires-clause-fits g c =
     omega (arith, next_within (g.R.Rows.width c.args.rows.now) (g.R.Rows.rows c.args.rows.now) c.args.n c.args.last c.end_of-end.result c.requires.part c.end_of-end.ensures.below (omega arith))
 
-pub add_counts-requires-clause-fits : goal.add_counts-requires-clause-fits
-add_counts-requires-clause-fits g c = λ d l.
+pub add-requires-clause-fits : goal.add-requires-clause-fits
+add-requires-clause-fits g c = λ d l.
     let share : slice_index c.shares_of.new.into d ≡ slice_index (nested_split (c.args.n - total (g.R.Rows.width c.args.rows.now) (g.R.Rows.rows c.args.rows.now) c.end_of-end.result) (entries (g.R.Rows.width c.args.rows.now) (g.R.Rows.rows c.args.rows.now) c.end_of-end.result)) d =
     ap (λ (xs : List ℕ). slice_index xs d) c.shares_of.ensures
     ∙ ap (λ (z : ℕ). slice_index (nested_split (c.args.n - z) (entries (g.R.Rows.width c.args.rows.now) (g.R.Rows.rows c.args.rows.now) c.end_of-end.result)) d) c.total.ensures in

@@ -1,7 +1,11 @@
-use Rattle.std.proofs.Common.{◌≡◌, ℕ, ◌+◌, ◌^◌, List, ◌∙◌, arith, refl, ap, sym, length, slice_index}
-use Rattle.std.proofs.lemmas.List.{with_items_is}
+use Rattle.std.proofs.Common.{◌≡◌, ℕ, ◌+◌, ◌*◌, ◌^◌, List, ◌∙◌, arith, refl, ap, sym, length, slice_index}
+use Rattle.std.proofs.lemmas.List.{with_items_is, length-set}
 use Rattle.ltm_curve.proofs.PutOver.{put_over, length_over, small_over, sets_row_holds}
+use Rattle.ltm_curve.proofs.Totals.{list_small, totals_over}
 use Rattle.ltm_curve.proofs.curves.Curves.copy_row.Goals as goal
+
+pub sum_of-requires : goal.sum_of-requires
+sum_of-requires c = omega (arith, list_small c.args.counts.now (omega (arith, c.args.self.now.few, c.requires.count)) c.requires.small)
 
 pub invariant_of-self : goal.invariant_of-self
 invariant_of-self c =
@@ -20,6 +24,12 @@ invariant_of-self c =
         ap (λ (xs : List ℕ). slice_index xs i) all,
         small_over from to items c.args.counts.now (2 ^ 48) (omega arith) (omega (arith, c.start-from.ensures.within)) (omega (arith, c.requires.count)) c.args.self.now.small c.requires.small i,
       );
+      no_totals = λ few. length-set c.args.self.now.totals.items c.row_number-row.result _ ∙ c.args.self.now.no_totals few;
+      all_totals = λ several. length-set c.args.self.now.totals.items c.row_number-row.result _ ∙ c.args.self.now.all_totals several;
+      sums = λ several.
+          totals_over c.args.self.now.totals.items items _ c.args.counts.now c.args.self.now.destinations _ c.row_number-row.result from c.sum_of.result (c.args.self.now.sums several) all c.requires.count
+          (c.start-from.ensures.place ∙ ap (λ (z : ℕ). z * c.args.self.now.destinations + 0) (sym c.row_number-row.ensures.number) ∙ omega arith)
+          (omega (arith, c.start-from.ensures.within)) (omega (arith, c.args.self.now.all_totals several)) c.sum_of.ensures;
     }
 
 pub returns : goal.returns

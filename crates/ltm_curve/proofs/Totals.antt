@@ -1,0 +1,116 @@
+-- The totals of the rows of a table, as the table changes.
+use Rattle.std.proofs.Common.{◌≡◌, ◌≢◌, ℕ, ◌+◌, ◌*◌, ◌^◌, ◌<◌, ◌≤◌, List, length, replicate, sum, slice_index, slice_set, arith, inl, inr, ap, sym, ◌∙◌, get_or-set_same, get_or-set_other}
+use Rattle.std.proofs.Math.Nat.{mul-le-mul_right}
+use Rattle.std.proofs.lemmas.Bool.{cases_eq, cases_lt}
+use Rattle.std.proofs.lemmas.List.{get_or-replicate, get_or_past, length-replicate}
+use Rattle.std.proofs.lemmas.Nat.{same_from_place}
+use Rattle.ltm_units.specs.Sums.{sum_below}
+use Rattle.ltm_units.proofs.Sums.{sum_below-same, sum_below-change, sum_below-most, sum_below-zero, le-sum_below}
+use Rattle.ltm_curve.specs.Totals.{row_sum, AreTotals}
+use Rattle.ltm_curve.proofs.Lists.{sum_below-list}
+use Rattle.ltm_curve.proofs.PutOver.{put_over, before_over, in_over, after_over, outside}
+
+-- a count is within the sum of its row
+pub count_within : (table : List ℕ) (width row d : ℕ) → d < width → slice_index table (row * width + d) ≤ row_sum table width row
+count_within table width row d l = le-sum_below width (λ e. slice_index table (row * width + e)) d l
+
+-- sums of rows of small counts are small
+pub row_small : (table : List ℕ) (width row : ℕ) → width ≤ 64 → ((i : ℕ) → slice_index table i ≤ 2 ^ 48) → row_sum table width row ≤ 2 ^ 54
+row_small table width row few small =
+    omega (arith, sum_below-most width (λ d. slice_index table (row * width + d)) (2 ^ 48) (λ d l. small (row * width + d)), mul-le-mul_right (2 ^ 48) few)
+
+-- the sum of a list of few small counts is small
+pub list_small : (counts : List ℕ) → length counts ≤ 64 → ((d : ℕ) → d < length counts → slice_index counts d ≤ 2 ^ 48) → sum counts ≤ 2 ^ 54
+list_small counts few small =
+    omega (arith, sum_below-list counts, sum_below-most (length counts) (slice_index counts) (2 ^ 48) small, mul-le-mul_right (2 ^ 48) few)
+
+-- one count is set
+set_here : (table : List ℕ) (width row d v : ℕ) → d < width → row * width + d < length table → row_sum (slice_set table (row * width + d) v) width row + slice_index table (row * width + d) ≡ row_sum table width row + v
+set_here table width row d v l within =
+    let at : ℕ = row * width + d in
+    let others : (e : ℕ) → e < width → e ≢ d → slice_index (slice_set table (row * width + d) v) (row * width + e) ≡ slice_index table (row * width + e) =
+    λ e m ne. get_or-set_other table (row * width + d) (row * width + e) v 0 (λ same. ne (omega arith)) in
+    omega (
+      arith,
+      get_or-set_same table (row * width + d) v 0 within,
+      sum_below-change width (λ e. slice_index (slice_set table (row * width + d) v) (row * width + e)) (λ e. slice_index table (row * width + e)) d l others,
+    )
+
+set_elsewhere : (table : List ℕ) (width row other d v : ℕ) → d < width → other ≢ row → row_sum (slice_set table (row * width + d) v) width other ≡ row_sum table width other
+set_elsewhere table width row other d v l differs =
+    sum_below-same width (λ e. slice_index (slice_set table (row * width + d) v) (other * width + e)) (λ e. slice_index table (other * width + e))
+    (λ e m. get_or-set_other table (row * width + d) (other * width + e) v 0 (λ same. differs (same_from_place other e row d width m l same).0))
+
+pub totals_set : (totals table : List ℕ) (width rows row at d others v : ℕ) → AreTotals totals table width rows → d < width → at ≡ row * width + d → at < length table → row < length totals →
+    others + slice_index table at ≡ row_sum table width row → AreTotals (slice_set totals row (others + v)) (slice_set table at v) width rows
+totals_set totals table width rows row at d others v all l is_at within place is_total = λ other m.
+    elim (cases_eq other row) [
+      | inl same ↦
+          let here : slice_index (slice_set totals row (others + v)) row ≡ others + v = get_or-set_same totals row (others + v) 0 place in
+          let first : slice_index table at ≡ slice_index table (row * width + d) = ap (slice_index table) is_at in
+          let sums : others + v ≡ row_sum (slice_set table (row * width + d) v) width row = omega (arith, set_here table width row d v l (omega arith)) in
+          ap (λ (z : ℕ). slice_index (slice_set totals row (others + v)) z) same
+          ∙ (here
+          ∙ (sums ∙ (ap (λ (z : ℕ). row_sum (slice_set table z v) width row) (sym is_at) ∙ ap (λ (z : ℕ). row_sum (slice_set table at v) width z) (sym same))))
+      | inr differs ↦
+          get_or-set_other totals row other (others + v) 0 differs
+          ∙ (all other m ∙ (sym (set_elsewhere table width row other d v l differs) ∙ ap (λ (z : ℕ). row_sum (slice_set table z v) width other) (sym is_at)))
+    ]
+
+-- a small number is set among small ones
+pub set_small : (table : List ℕ) (at v most : ℕ) → at < length table → v ≤ most → ((i : ℕ) → slice_index table i ≤ most) → (i : ℕ) → slice_index (slice_set table at v) i ≤ most
+set_small table at v most within new all i =
+    elim (cases_eq i at) [
+      | inl same ↦ let e : slice_index (slice_set table at v) i ≡ slice_index (slice_set table at v) at = ap (slice_index (slice_set table at v)) same in omega (arith, get_or-set_same table at v 0 within)
+      | inr differs ↦ omega (arith, get_or-set_other table at i v 0 differs, all i)
+    ]
+
+-- one row is written over
+over_here : (table counts : List ℕ) (width row : ℕ) → length counts ≡ width → row * width + width ≤ length table → row_sum (put_over (row * width) (row * width + width) table counts) width row ≡ sum counts
+over_here table counts width row long within =
+    sum_below-same width (λ d. slice_index (put_over (row * width) (row * width + width) table counts) (row * width + d)) (slice_index counts)
+    (λ d l. in_over (row * width) (row * width + width) table counts d (omega arith) within (omega arith))
+    ∙ (ap (λ (n : ℕ). sum_below n (slice_index counts)) (sym long) ∙ sum_below-list counts)
+
+over_elsewhere : (table counts : List ℕ) (width row other : ℕ) → length counts ≡ width → row * width + width ≤ length table → other ≢ row → row_sum (put_over (row * width) (row * width + width) table counts) width other ≡ row_sum table width other
+over_elsewhere table counts width row other long within differs =
+    sum_below-same width (λ d. slice_index (put_over (row * width) (row * width + width) table counts) (other * width + d)) (λ d. slice_index table (other * width + d))
+    (λ d l. elim (outside row other d width differs l) [
+      | inl before ↦ before_over (row * width) (row * width + width) table counts (other * width + d) (omega arith) within before
+      | inr after ↦ after_over (row * width) (row * width + width) table counts (other * width + d) (omega arith) within (omega arith) after
+    ])
+
+pub totals_over : (totals table new counts : List ℕ) (width rows row from total : ℕ) → AreTotals totals table width rows → new ≡ put_over from (from + width) table counts → length counts ≡ width → from ≡ row * width →
+    from + width ≤ length table → row < length totals → total ≡ sum counts → AreTotals (slice_set totals row total) new width rows
+totals_over totals table new counts width rows row from total all put long is_from within place is_sum = λ other m.
+    let here : new ≡ put_over (row * width) (row * width + width) table counts = put ∙ ap (λ (z : ℕ). put_over z (z + width) table counts) is_from in
+    let room : row * width + width ≤ length table = omega arith in
+    ap (λ (z : ℕ). z) (elim (cases_eq other row) [
+      | inl same ↦
+          ap (λ (z : ℕ). slice_index (slice_set totals row total) z) same
+          ∙ (get_or-set_same totals row total 0 place
+          ∙ (is_sum ∙ (sym (over_here table counts width row long room) ∙ ap (λ (z : ℕ). row_sum (put_over (row * width) (row * width + width) table counts) width z) (sym same))))
+      | inr differs ↦ get_or-set_other totals row other total 0 differs ∙ (all other m ∙ sym (over_elsewhere table counts width row other long room differs))
+    ])
+    ∙ ap (λ (xs : List ℕ). row_sum xs width other) (sym here)
+
+-- tables of zeros
+pub zero_index : (n i : ℕ) → slice_index (replicate n 0) i ≡ 0
+zero_index n i = elim (cases_lt i n) [ inl low ↦ get_or-replicate n i 0 0 low | inr past ↦ get_or_past (replicate n 0) i 0 (omega (arith, length-replicate {A = ℕ} n 0)) ]
+
+pub zeros_small : (table : List ℕ) (n most : ℕ) → table ≡ replicate n 0 → (i : ℕ) → slice_index table i ≤ most
+zeros_small table n most e i = omega (arith, ap (λ (xs : List ℕ). slice_index xs i) e, zero_index n i)
+
+pub zeros_total : (totals table : List ℕ) (m n width rows : ℕ) → totals ≡ replicate m 0 → table ≡ replicate n 0 → AreTotals totals table width rows
+zeros_total totals table m n width rows e f = λ row l.
+    omega (
+      arith,
+      zeros_small totals m 0 e row,
+      sum_below-zero width (λ d. slice_index table (row * width + d)) (λ d k. let none : slice_index table (row * width + d) ≤ 0 = zeros_small table n 0 f (row * width + d) in omega arith),
+    )
+
+-- the same tables of one shape
+pub totals_same : (totals table others other : List ℕ) (width rows wide long : ℕ) → totals ≡ others → table ≡ other → width ≡ wide → rows ≡ long → AreTotals others other wide long → AreTotals totals table width rows
+totals_same totals table others other width rows wide long e f g h all = λ row l.
+    ap (λ (xs : List ℕ). slice_index xs row) e
+    ∙ (all row (omega arith) ∙ (ap (λ (n : ℕ). row_sum other n row) (sym g) ∙ ap (λ (xs : List ℕ). row_sum xs width row) (sym f)))
