@@ -2,6 +2,7 @@ pub mod Demands
 pub mod Inputs
 pub mod Laws
 pub mod Moving
+pub mod Narrow
 pub mod Outputs
 pub mod Shape
 pub mod Solution

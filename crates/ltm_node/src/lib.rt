@@ -8,6 +8,7 @@
 mod inputs;
 mod laws;
 mod moves;
+mod narrow;
 mod node_step;
 mod outputs;
 mod shape;

@@ -1,7 +1,7 @@
 //! The node step.
 //!
 //! All arms first send all, in one pass and without any fraction. Only where an out-link then gets more than it can take
-//! are the shares worked out, and the pass made again with them.
+//! are the shares worked out, and the pass made again with them. A narrow node has a shorter way.
 ghost use Rattle.std.specs.Prelude.{◌≡◌, ◌<◌, ◌≤◌, ◌*◌, ◌/◌, ◌+◌, ℕ, IsTrue, slice_index};
 ghost use Rattle.ltm_units.specs.Sums.{sum_below};
 ghost use Rattle.ltm_shares.specs.Demands.{demands_of};
@@ -13,6 +13,7 @@ ghost use Rattle.ltm_node.specs.Moving.{HoldsSent, FitsSupply, Agrees, priority_
 
 use crate::inputs::NodeInputs;
 use crate::moves::move_all;
+use crate::narrow::step_narrow;
 use crate::outputs::NodeOutputs;
 use ltm_shares::{NodeDemands, Shares, shares};
 
@@ -23,6 +24,9 @@ pub fn write_step(inputs: &NodeInputs, outputs: &mut NodeOutputs)
     ensures step { IsNodeStep inputs.now outputs.new }
     ensures room { outputs.new.room ≡ outputs.old.room }
 {
+    if step_narrow(inputs, outputs) {
+        return;
+    }
     let mut sent = [0u64; 20];
     if !send_whole(inputs, outputs, &mut sent) {
         send_shares(inputs, outputs, &sent);

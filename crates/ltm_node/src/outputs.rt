@@ -61,6 +61,26 @@ impl NodeOutputs {
         self.shape
     }
 
+    /// Takes a shape, for a caller that then writes every count: what counts the row holds is not told.
+    #[inline]
+    pub(crate) fn reshape(&mut self, shape: NodeShape)
+        requires { counts_width shape ≤ self.old.room }
+        ensures shape { self.new.shape ≡ shape }
+        ensures room { self.new.room ≡ self.old.room }
+        ensures width { length self.new.row ≡ counts_width shape }
+    {
+        self.shape = shape;
+    }
+
+    /// Sets the count at a place of the row.
+    #[inline]
+    pub(crate) fn put(&mut self, place: usize, value: u64)
+        requires { place < counts_width self.old.shape }
+        ensures { self.new ≡ record self.old { row = slice_set self.old.row place value } }
+    {
+        self.counts[place] = value;
+    }
+
     /// What has left an arm for a destination by the end of the slot.
     #[inline]
     pub fn left(&self, arm: u32, destination: u32) -> u64

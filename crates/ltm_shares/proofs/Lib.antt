@@ -1,3 +1,4 @@
-pub mod Unique
+pub mod Factors
 pub mod Levels
 pub mod Steps
+pub mod Unique

@@ -1,3 +1,4 @@
 pub mod Demands
+pub mod Factors
 pub mod Rounds
 pub mod Shares

@@ -8,6 +8,7 @@
 #![tactic(auto)]
 
 mod demands;
+mod factor;
 mod laws;
 mod rounds;
 mod share;

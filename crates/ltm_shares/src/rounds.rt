@@ -48,10 +48,7 @@ pub fn shares(demands: &NodeDemands) -> Shares
         }
     }
     finish(demands, &mut progress);
-    Shares {
-        denominator: progress.denominator,
-        numerators: progress.numerators,
-    }
+    Shares::over(progress.denominator, progress.numerators)
 }
 
 /// How the arms that are not fixed weigh on an out-link.

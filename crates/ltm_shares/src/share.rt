@@ -1,10 +1,8 @@
 //! The shares of the arms of a node.
 ghost use Rattle.std.specs.Prelude.{◌≡◌, ℕ, ◌<◌, ◌≤◌, ◌*◌, ◌/◌, ◌^◌, slice_index};
+ghost use Rattle.ltm_shares.specs.Factors.{AreFactors};
 
-use crate::wide::product;
-
-/// Below this a share of at most 32,000 is worked out in 64 bits.
-const NARROW: u128 = 0x2_0000_0000_0000;
+use crate::factor::{WHOLE, factor_of, nearest_below};
 
 /// The shares of the arms: an arm gets `numerators[arm] / denominator` of all that it sends.
 #[derive(Drop)]
@@ -13,8 +11,11 @@ pub struct Shares {
     pub denominator: u128,
     /// One for each arm.
     pub numerators: [u128; 5],
+    /// The share of each arm in 2^-48ths, rounded down.
+    factors: [u64; 5],
     ghost positive: { 0 < denominator },
     ghost small: { denominator ≤ 163840000 ^ 4 },
+    ghost in_factors: { AreFactors denominator numerators factors },
 }
 
 impl Shares {
@@ -26,6 +27,25 @@ impl Shares {
         Shares {
             denominator: 1,
             numerators: [1; 5],
+            factors: [WHOLE; 5],
+        }
+    }
+
+    /// The shares with these numerators.
+    pub(crate) fn over(denominator: u128, numerators: [u128; 5]) -> Shares
+        requires positive { 0 < denominator }
+        requires small { denominator ≤ 163840000 ^ 4 }
+        ensures denominator { result.denominator ≡ denominator }
+        ensures numerators { result.numerators ≡ numerators }
+    {
+        let mut factors = [0u64; 5];
+        for arm in 0..5usize {
+            factors[arm] = factor_of(numerators[arm], denominator);
+        }
+        Shares {
+            denominator,
+            numerators,
+            factors,
         }
     }
 
@@ -37,13 +57,11 @@ impl Shares {
         requires amount { amount ≤ 32000 }
         ensures { result ≡ slice_index self.now.numerators arm * amount / self.now.denominator }
     {
-        let numerator = self.numerators[arm];
-        if numerator == self.denominator {
-            return amount;
+        let scaled = self.factors[arm] * amount;
+        let low = scaled / WHOLE;
+        if scaled % WHOLE + amount <= WHOLE {
+            return low;
         }
-        if self.denominator < NARROW {
-            return numerator as u64 * amount / self.denominator as u64;
-        }
-        (product(numerator, u128::from(amount)) / self.denominator) as u64
+        nearest_below(self.numerators[arm], self.denominator, amount, low)
     }
 }

@@ -1,0 +1,31 @@
+use Rattle.std.specs.Prelude.{◌≡◌, ℕ, ◌+◌, ◌<◌, ◌≤◌, length, slice_index}
+use Rattle.ltm_node.specs.Shape.{counts_width}
+use Rattle.ltm_node.specs.Inputs.{Inputs, left, entered, arrived}
+use Rattle.ltm_node.specs.Outputs.{Outputs}
+use Rattle.ltm_node.specs.Step.{gone}
+use Rattle.ltm_node.specs.declared.shape.NodeShape.{NodeShape}
+
+-- a node with at most one out-link, in a case with one destination
+pub record IsNarrow (s : NodeShape) : Type 0 where
+  pub few_outs : s.outs ≤ 1
+  pub one_destination : s.destinations ≡ 1
+
+-- the share of each arm is 1
+abbrev pub whole : ℕ → ℕ
+whole arm = 1
+
+-- what an arm moves to the one destination where its share is 1
+abbrev pub leaves : Inputs → ℕ → ℕ
+leaves n arm = gone n 1 whole arm 0
+
+-- the counts of the first arms are those at the next boundary, at shares of 1
+pub record HaveLeft (n : Inputs) (first : ℕ) (o : Outputs) : Type 0 where
+  pub shape : o.shape ≡ n.shape
+  pub width : length o.row ≡ counts_width n.shape
+  pub left : (arm : ℕ) → arm < first → slice_index o.row arm ≡ left n arm 0 + leaves n arm
+
+-- the same of all arms, and what enters the out-link and what arrives are these amounts
+pub record HaveMoved (n : Inputs) (entering arriving : ℕ) (o : Outputs) : Type 0 where
+  pub arms : HaveLeft n n.shape.arms o
+  pub entered : 0 < n.shape.outs → slice_index o.row n.shape.arms ≡ entered n 0 0 + entering
+  pub arrived : slice_index o.row (n.shape.arms + n.shape.outs) ≡ arrived n + arriving

@@ -1,0 +1,70 @@
+//! A fraction of at most 1 as a whole number of 2^-48ths.
+//!
+//! With it a share of an amount is one product and a shift in nearly all cases.
+ghost use Rattle.std.specs.Prelude.{◌≡◌, ◌<◌, ◌≤◌, ◌*◌, ◌+◌, ◌/◌, ◌^◌};
+ghost use Rattle.ltm_shares.specs.Factors.{factor};
+
+use crate::wide::product;
+
+/// How many 2^-48ths a whole is.
+pub const WHOLE: u64 = 0x1_0000_0000_0000;
+
+/// Below this a numerator is brought to 2^-48ths in one division.
+const NARROW: u128 = 0x8000_0000_0000_0000_0000;
+
+/// How many 2^-48ths a fraction of at most 1 is, rounded down.
+pub fn factor_of(numerator: u128, denominator: u128) -> u64
+    requires positive { 0 < denominator }
+    requires small { denominator ≤ 163840000 ^ 4 }
+    ensures { numerator ≤ denominator → result ≡ factor numerator denominator }
+{
+    if numerator >= denominator {
+        return WHOLE;
+    }
+    if denominator < NARROW {
+        return (product(numerator, u128::from(WHOLE)) / denominator) as u64;
+    }
+    long_factor(numerator, denominator)
+}
+
+/// The same for a fraction below 1 by three divisions, where one product would be too large.
+fn long_factor(numerator: u128, denominator: u128) -> u64
+    requires below_one { numerator < denominator }
+    requires small { denominator ≤ 163840000 ^ 4 }
+    ensures { result ≡ factor numerator denominator }
+{
+    let (first, rest) = digit(numerator, denominator);
+    let (second, rest) = digit(rest, denominator);
+    let (third, _) = digit(rest, denominator);
+    first * 0x1_0000_0000 + second * 0x1_0000 + third
+}
+
+/// How many 2^-16ths a fraction below 1 is, and the numerator of what remains of the next 2^-16th.
+fn digit(numerator: u128, denominator: u128) -> (u64, u128)
+    requires below_one { numerator < denominator }
+    requires small { denominator ≤ 163840000 ^ 4 }
+    ensures whole { numerator * 2 ^ 16 ≡ result.0 * denominator + result.1 }
+    ensures digit { result.0 < 2 ^ 16 }
+    ensures below_one { result.1 < denominator }
+{
+    let scaled = product(numerator, 0x1_0000);
+    ((scaled / denominator) as u64, scaled % denominator)
+}
+
+/// A fraction of an amount, rounded down, that is one of two neighbours: the greater one where the fraction reaches it.
+#[inline(never)]
+pub fn nearest_below(numerator: u128, denominator: u128, amount: u64, low: u64) -> u64
+    requires fraction { numerator ≤ denominator }
+    requires small { denominator ≤ 163840000 ^ 4 }
+    requires amount { amount ≤ 32000 }
+    requires low { low ≤ 32000 }
+    requires at_least { low * denominator ≤ numerator * amount }
+    requires below { numerator * amount < (low + 2) * denominator }
+    ensures { result ≡ numerator * amount / denominator }
+{
+    if product(u128::from(low) + 1, denominator) <= product(numerator, u128::from(amount)) {
+        low + 1
+    } else {
+        low
+    }
+}
