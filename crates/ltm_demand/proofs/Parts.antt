@@ -1,7 +1,8 @@
 -- What one row has produced.
-use Rattle.std.proofs.Common.{◌≡◌, ℕ, ◌+◌, ◌-◌, ◌*◌, ◌/◌, ◌<◌, ◌≤◌, nat_le, nat_lt, true, false, cond, arith, refl, ap, ◌∙◌}
-use Rattle.std.proofs.Math.Nat.{div-le_of_le-mul, mul-le-mul_left, div-mul-le_self}
+use Rattle.std.proofs.Common.{◌≡◌, ℕ, ◌+◌, ◌-◌, ◌*◌, ◌/◌, ◌<◌, ◌≤◌, nat_le, nat_lt, true, false, cond, arith, refl, sym, ap, ◌∙◌, inl, inr}
+use Rattle.std.proofs.Math.Nat.{div-le_of_le-mul, mul-le-mul_left, div-mul-le_self, mul-div_cancel}
 use Rattle.std.proofs.lemmas.Nat.{le-div}
+use Rattle.std.proofs.lemmas.Bool.{cases_lt}
 use Rattle.std.proofs.lemmas.Bool.Decides.{nat_tests}
 use Rattle.ltm_demand.specs.declared.row.DemandRow.{DemandRow}
 use Rattle.ltm_demand.specs.Produced.{produced, part, joins}
@@ -26,6 +27,9 @@ pub produced_before : (from to amount t : ℕ) → nat_lt t from ≡ true → pr
 unfolding produced
 produced_before from to amount t early = ap (λ b. cond b 0 (cond (nat_le to (t + 1)) amount (amount * (t + 1 - from) / (to - from)))) early
 
+pub produced_start : (from to amount t : ℕ) → t < from → produced from to amount t ≡ 0
+produced_start from to amount t early = produced_before from to amount t (grind (arith, nat_tests))
+
 -- from its last slot on it has produced everything, so two such slots are alike
 pub produced_after : (from to amount t : ℕ) → from ≤ t → to ≤ t + 1 → produced from to amount t ≡ amount
 unfolding produced
@@ -49,6 +53,22 @@ produced_between : (from to amount t : ℕ) → nat_lt t from ≡ false → nat_
 unfolding produced
 produced_between from to amount t started going =
     ap (λ b. cond b 0 (cond (nat_le to (t + 1)) amount (amount * (t + 1 - from) / (to - from)))) started ∙ ap (λ b. cond b amount (amount * (t + 1 - from) / (to - from))) going
+
+-- over its own slots it has produced in proportion
+pub produced_going : (from to amount t : ℕ) → from ≤ t → t < to → produced from to amount t ≡ amount * (t + 1 - from) / (to - from)
+produced_going from to amount t started going = elim (cases_lt (t + 1) to) [
+  | inl before ↦ produced_between from to amount t (grind (arith, nat_tests)) (grind (arith, nat_tests))
+  | inr last ↦
+      let whole : t + 1 - from ≡ to - from = omega arith in
+      let some : 0 < to - from = omega arith in
+      produced_after from to amount t started last ∙ sym (ap (λ k. amount * k / (to - from)) whole ∙ mul-div_cancel amount some)
+]
+
+-- what is told of one more slot of its own
+pub paced : (from to amount t a p s told : ℕ) → from ≤ t → t < to → a ≡ amount → s ≡ to - from → p + from ≡ t → told ≡ a * (p + 1) / s → told ≡ produced from to amount t
+paced from to amount t a p s told started going amounts slots passed is =
+    let more : p + 1 ≡ t + 1 - from = omega arith in
+    is ∙ ap (λ n. n * (p + 1) / s) amounts ∙ ap (λ k. amount * k / s) more ∙ ap (λ n. amount * (t + 1 - from) / n) slots ∙ sym (produced_going from to amount t started going)
 
 -- what a row has produced never falls
 pub produced_rises : (from to amount s t : ℕ) → s ≤ t → produced from to amount s ≤ produced from to amount t

@@ -1,6 +1,6 @@
 -- Reading a table of units, and what a longer one says.
 use Rattle.std.proofs.Common.{◌≡◌, ℕ, zero, suc, ◌-◌, ◌<◌, ◌≤◌, List, [], ◌∷◌, ◌++◌, length, slice_index, slice_index_or, arith, refl, sym, ◌∙◌, inl, inr}
-use Rattle.std.proofs.lemmas.List.{get_or_default, get_or_past, get_or_append_left, get_or_push, length_push}
+use Rattle.std.proofs.lemmas.List.{get_or_default, get_or_past}
 use Rattle.std.proofs.lemmas.Bool.{cases_lt}
 use Rattle.ltm_demand.specs.Tables.{reached}
 
@@ -12,19 +12,15 @@ pub reached_past : (units : List ℕ) (t : ℕ) → length units ≤ t → reach
 unfolding reached
 reached_past units t past = get_or_past units t _ past
 
--- one more place with the last amount says nothing new
-pub reached_push : (units : List ℕ) (last t : ℕ) → last ≡ slice_index units (length units - 1) → reached (units ++ last ∷ []) t ≡ reached units t
-reached_push units last t is = elim (cases_lt t (length units)) [
-  | inl inside ↦
-      reached_at (units ++ last ∷ []) t (omega (arith, length_push units last)) ∙ get_or_append_left units (last ∷ []) 0 t inside ∙ sym (reached_at units t inside)
-  | inr past ↦
-      let new_last : slice_index (units ++ last ∷ []) (length (units ++ last ∷ []) - 1) ≡ last = get_or_push units last 0 (length (units ++ last ∷ []) - 1) (omega (arith, length_push units last)) in
-      elim (cases_lt t (length (units ++ last ∷ []))) [
-        | inl here ↦
-            let at_end : length units ≡ t = omega (arith, length_push units last) in
-            reached_at (units ++ last ∷ []) t here ∙ get_or_push units last 0 t at_end ∙ is ∙ sym (reached_past units t past)
-        | inr beyond ↦ reached_past (units ++ last ∷ []) t beyond ∙ new_last ∙ is ∙ sym (reached_past units t past)
-      ]
+-- more places with the last amount say nothing new
+pub reached_longer : (old new : List ℕ) (last n t : ℕ) → last ≡ slice_index old (length old - 1) → length old < n → length new ≡ n →
+    ((k d : ℕ) → k < n → k < length old → slice_index_or new k d ≡ slice_index_or old k d) → ((k d : ℕ) → length old ≤ k → k < n → slice_index_or new k d ≡ last) → reached new t ≡ reached old t
+reached_longer old new last n t is longer long front back = elim (cases_lt t (length old)) [
+  | inl inside ↦ reached_at new t (omega arith) ∙ front t 0 (omega arith) inside ∙ sym (reached_at old t inside)
+  | inr past ↦ elim (cases_lt t n) [
+    | inl here ↦ reached_at new t (omega arith) ∙ back t 0 past here ∙ is ∙ sym (reached_past old t past)
+    | inr beyond ↦ reached_past new t (omega arith) ∙ back (length new - 1) 0 (omega arith) (omega arith) ∙ is ∙ sym (reached_past old t past)
+  ]
 ]
 
 -- one more empty table says nothing new

@@ -244,6 +244,7 @@ impl Demand {
     ///
     /// A row has produced nothing before its first slot, everything from its last slot on, and between them its amount
     /// in proportion to its slots, floored.
+    #[inline]
     pub fn by_end(&self, origin: NodeId, destination: u32, slot: u32) -> Units
         ensures { result.0 ≡ by_end self.now.demand.rows origin.0 destination slot }
     {

@@ -8,6 +8,7 @@ ghost use Rattle.ltm_demand.specs.Tables.{reached, table_of, told, IsShifted, Is
 ghost use Rattle.ltm_demand.specs.Rows.{with_amount};
 
 use crate::DemandRow;
+use crate::shifting::shift;
 use ltm_units::NoMemory;
 use std::alloc::Global;
 use std::marker::Model;
@@ -60,26 +61,8 @@ impl Model for PairTable {
     ghost invariant = { λ p. vec_len p.units < 2 ^ 32 };
 }
 
-/// Raises a table from one amount of a row to another, from the row's first slot on.
-#[tactic(auto, using(crate::proofs::Parts::produced_before))]
-fn shift(units: &mut Vec<u64>, from: u32, to: u32, was: u64, now: u64)
-    requires was { was ≤ 1000000000 }
-    requires now { now ≤ 1000000000 }
-    requires slots { from < to }
-    requires short { vec_len units.old < 2 ^ 32 }
-    requires has { (t : ℕ) → t < vec_len units.old → produced from to was t ≤ slice_index units.old.items t }
-    requires room { (t : ℕ) → t < vec_len units.old → slice_index units.old.items t < 2 ^ 63 }
-    ensures len { vec_len units.new ≡ vec_len units.old }
-    ensures shifted { (t : ℕ) → t < vec_len units.old → slice_index units.new.items t + produced from to was t ≡ slice_index units.old.items t + produced from to now t }
-{
-    let count = units.len();
-    for slot in from as usize..count {
-        let rest = units[slot] - produced_by(from, to, was, slot as u64);
-        units[slot] = rest + produced_by(from, to, now, slot as u64);
-    }
-}
-
 /// The last place of a table, 0 where it has none.
+#[inline]
 fn last_of(units: &Vec<u64>) -> u64
     ensures { result ≡ slice_index units.now.items (vec_len units.now - 1) }
 {
@@ -88,15 +71,14 @@ fn last_of(units: &Vec<u64>) -> u64
 }
 
 /// Sees to it that a table has a place for each slot below `to`, and says what it said.
-#[tactic(auto, using(crate::proofs::Reach::reached_push))]
 fn grow(units: &mut Vec<u64>, to: u32) -> Result<(), NoMemory>
     ensures same { (t : ℕ) → reached units.new.items t ≡ reached units.old.items t }
     ensures ok { OnOk result (to ≤ vec_len units.new) }
     ensures len { vec_len units.new ≤ max (vec_len units.old) to }
 {
     let last = last_of(units);
-    for place in units.len()..to as usize {
-        units.push(last)?;
+    if units.len() < to as usize {
+        units.resize(to as usize, last)?;
     }
     Ok(())
 }
@@ -112,6 +94,7 @@ impl PairTable {
 
     /// The units by the end of a slot.
     #[tactic(auto, using(crate::proofs::Reach::reached_at, crate::proofs::Reach::reached_past))]
+    #[inline]
     fn by_end(&self, slot: u32) -> u64
         ensures { result ≡ reached self.now slot }
     {
@@ -194,6 +177,7 @@ impl OriginTables {
         }
     }
 
+    #[inline]
     fn by_end(&self, destination: u32, slot: u32) -> u64
         ensures { result ≡ reached (slice_index_or self.now destination []) slot }
     {
@@ -286,6 +270,7 @@ impl Production {
 
     /// The units by the end of a slot.
     #[tactic(auto, using(crate::proofs::Reach::reached_no_origin), unfolding(crate::specs::Tables::table_of))]
+    #[inline]
     pub fn by_end(&self, origin: u32, destination: u32, slot: u32) -> u64
         ensures { result ≡ told self.now origin destination slot }
     {

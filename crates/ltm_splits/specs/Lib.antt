@@ -4,3 +4,4 @@ pub mod Entries
 pub mod WeightsLie
 pub mod WeightsBack
 pub mod Latest
+pub mod RowLists

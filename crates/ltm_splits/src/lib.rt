@@ -1,8 +1,9 @@
 //! Split rows: how the traffic of a node for a destination is spread over the node's out-links, from a slot on.
 //!
 //! A table stands on nothing but the shared words of `ltm_units`. To ask for the row in force costs two steps through
-//! flat lists and a search by halving among the rows of one node and one destination; to set a row costs a move of
-//! that short list at most. Contracts see a table as its horizon and the list of its rows in the order of their keys.
+//! flat lists where a node and a destination have one row, which lies in the second of them, and a search by halving
+//! where they have more; to set a row costs a move of that short list at most. Contracts see a table as its horizon and
+//! the list of its rows in the order of their keys.
 #![tactic(auto)]
 
 mod keys;
@@ -10,6 +11,7 @@ mod laws;
 mod node_rows;
 mod node_table;
 mod pair_rows;
+mod row_list;
 mod rows;
 mod splits;
 mod weights;

@@ -40,6 +40,7 @@ impl NodeRows {
     }
 
     /// The rows of the node and the destination.
+    #[inline]
     pub fn pair(&self, destination: u32) -> Option<&PairRows>
         ensures { unwrap_or (option_copied result) [] ≡ slice_index_or self.now destination [] }
     {
@@ -60,9 +61,8 @@ impl NodeRows {
         ensures lists { (d : ℕ) → slice_index_or self.new d [] ≡ slice_index_or self.old d [] }
         ensures rows { (node : ℕ) → rows_of_node node self.new ≡ rows_of_node node self.old }
     {
-        let alloc = *self.pairs.allocator();
         'room: while self.pairs.len() <= destination as usize {
-            self.pairs.push(PairRows::new(alloc))?;
+            self.pairs.push(PairRows::new())?;
         }
         Ok(())
     }
@@ -88,7 +88,8 @@ impl NodeRows {
             (self.new ≡ slice_set self.old destination (insert_entry nat_cmp (slice_index_or self.old destination []) from weights)) }
         ensures err { OnErr result (self.new ≡ self.old) }
     {
-        self.pairs[destination as usize].insert(from, weights)
+        let alloc = *self.pairs.allocator();
+        self.pairs[destination as usize].insert(alloc, from, weights)
     }
 
     /// Takes out the row with that first slot, where there is one.

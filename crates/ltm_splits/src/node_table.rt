@@ -41,6 +41,7 @@ impl NodeTable {
     }
 
     /// The rows of the node and the destination.
+    #[inline]
     pub fn pair(&self, node: NodeId, destination: u32) -> Option<&PairRows>
         ensures { unwrap_or (option_copied result) [] ≡ entries_at self.now node.0 destination }
     {

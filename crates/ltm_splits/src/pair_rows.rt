@@ -7,40 +7,61 @@ ghost use Rattle.std.specs.Ordering.{nat_cmp};
 ghost use Rattle.ltm_splits.specs.Entries.{IsRising, IsAt, IsGap, IsCount, entry_in_force};
 ghost use Rattle.ltm_splits.specs.WeightsLie.{AreWeights};
 
+use crate::row_list::RowList;
 use crate::weights::Weights;
 use ltm_units::NoMemory;
 use std::alloc::Global;
 use std::marker::Model;
 
-/// First slots that rise, each with the weights from then on: mostly one, found by halving where there are more.
+/// First slots that rise, each with the weights from then on: mostly one, which is read without a search.
 #[derive(Drop)]
 pub struct PairRows {
-    rows: Vec<(u32, Weights)>,
+    rows: RowList,
 }
 
 impl Model for PairRows {
     ghost use Rattle.ltm_splits.specs.Table.{Entry};
     ghost use Rattle.ltm_splits.specs.Entries.{IsRising};
+    ghost use Rattle.ltm_splits.specs.RowLists.{entries_of};
     ghost use Rattle.std.specs.Prelude.{List};
 
     ghost Value = { List Entry };
 
-    ghost view = { λ p. p.rows.items };
+    ghost view = { λ p. entries_of p.rows };
 
-    ghost invariant = { λ p. IsRising p.rows.items };
+    ghost invariant = { λ p. IsRising (entries_of p.rows) };
 }
 
 impl PairRows {
-    pub fn new(alloc: Global) -> PairRows
+    pub fn new() -> PairRows
         ensures { result ≡ [] }
     {
         PairRows {
-            rows: Vec::new(alloc),
+            rows: RowList::Empty,
         }
     }
 
     /// The weights of the last row that begins at or before the slot.
+    #[inline]
     pub fn at(&self, slot: u32) -> Option<&[u32]>
+        ensures weights { option_copied result ≡ entry_in_force self.now slot }
+        ensures some { IfSome result (λ weights. AreWeights weights.now) }
+    {
+        match &self.rows {
+            RowList::Empty => None,
+            RowList::One(row) => {
+                if row[0].0 > slot {
+                    return None;
+                }
+                Some(row[0].1.as_slice())
+            }
+            RowList::More(_) => self.last_begun(slot),
+        }
+    }
+
+    // The same of however many rows.
+    #[inline(never)]
+    fn last_begun(&self, slot: u32) -> Option<&[u32]>
         ensures weights { option_copied result ≡ entry_in_force self.now slot }
         ensures some { IfSome result (λ weights. AreWeights weights.now) }
     {
@@ -48,14 +69,15 @@ impl PairRows {
         if count == 0 {
             return None;
         }
-        Some(self.rows[count - 1].1.as_slice())
+        let last = count - 1;
+        Some(self.rows.as_slice()[last].1.as_slice())
     }
 
     /// The first slot of the first row.
     pub fn begins(&self) -> Option<u32>
         ensures { result ≡ option_map (λ e. e.0) (slice_get self.now 0) }
     {
-        self.rows.first().map(|row| row.0)
+        self.rows.as_slice().first().map(|row| row.0)
     }
 
     /// The weights of the row with exactly that first slot.
@@ -64,7 +86,7 @@ impl PairRows {
         ensures some { IfSome result (λ weights. AreWeights weights.now) }
     {
         match self.search(from) {
-            Ok(place) => Some(self.rows[place].1.as_slice()),
+            Ok(place) => Some(self.rows.as_slice()[place].1.as_slice()),
             Err(_) => None,
         }
     }
@@ -73,7 +95,7 @@ impl PairRows {
     pub fn rows(&self) -> &[(u32, Weights)]
         ensures { result.now ≡ self.now }
     {
-        &self.rows
+        self.rows.as_slice()
     }
 
     /// Gives the row with that first slot other weights, where there is one.
@@ -83,7 +105,7 @@ impl PairRows {
     {
         match self.search(from) {
             Ok(place) => {
-                self.rows[place] = (from, weights);
+                self.rows.replace(place, (from, weights));
                 true
             }
             Err(_) => false,
@@ -91,14 +113,14 @@ impl PairRows {
     }
 
     /// Adds a row with a first slot that no row has.
-    pub fn insert(&mut self, from: u32, weights: Weights) -> Result<(), NoMemory>
+    pub fn insert(&mut self, alloc: Global, from: u32, weights: Weights) -> Result<(), NoMemory>
         requires { lookup (is_at (nat_cmp from)) self.old ≡ None }
         ensures ok { OnOk result (self.new ≡ insert_entry nat_cmp self.old from weights) }
         ensures err { OnErr result (self.new ≡ self.old) }
     {
         match self.search(from) {
             Ok(_) => unreachable!(),
-            Err(place) => Ok(self.rows.insert(place, (from, weights))?),
+            Err(place) => Ok(self.rows.insert(alloc, place, (from, weights))?),
         }
     }
 
@@ -119,8 +141,9 @@ impl PairRows {
     pub fn try_copy(&self) -> Result<PairRows, NoMemory>
         ensures { IfOk result (λ copy. copy ≡ self.now) }
     {
-        let rows = Vec::from_slice(*self.rows.allocator(), &self.rows)?;
-        Ok(PairRows { rows })
+        Ok(PairRows {
+            rows: self.rows.try_copy()?,
+        })
     }
 
     // Where the row with that first slot is, or where it would go.
@@ -129,13 +152,15 @@ impl PairRows {
         ensures gap { IfErr result (IsGap self.now from) }
         ensures rising { IsRising self.now }
     {
-        self.rows.binary_search_by_key(&from, |row| row.0)
+        self.rows
+            .as_slice()
+            .binary_search_by_key(&from, |row| row.0)
     }
 
     // How many rows begin at or before the slot.
     fn count_begun(&self, slot: u32) -> usize
         ensures { IsCount self.now slot result }
     {
-        self.rows.partition_point(|row| row.0 <= slot)
+        self.rows.as_slice().partition_point(|row| row.0 <= slot)
     }
 }

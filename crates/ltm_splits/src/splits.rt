@@ -116,6 +116,7 @@ impl Splits {
     }
 
     /// The weights in force at the slot: those of the row with the greatest first slot at or before it.
+    #[inline]
     pub fn row_at(&self, node: NodeId, destination: u32, slot: u32) -> Option<&[u32]>
         ensures weights { option_copied result ≡ row_in_force self.now.rows node.0 destination slot }
         ensures some { IfSome result (λ weights. AreWeights weights.now) }

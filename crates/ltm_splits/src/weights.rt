@@ -42,6 +42,7 @@ impl Weights {
         }
     }
 
+    #[inline]
     pub fn as_slice(&self) -> &[u32]
         ensures weights { result.now ≡ self.now }
         ensures some { AreWeights self.now }

@@ -9,7 +9,7 @@ unreachable-requires c =
     cc
 
 pub invariant_of-self-in-Err : goal.invariant_of-self-in-Err
-invariant_of-self-in-Err c = rw c.in_ok-insert-in-Err.ensures.items (rising_insert _ c.self.invariant c.args.from c.args.weights c.in-Err.place (rw c.self.view_is c.in-Err.ensures.gap))
+invariant_of-self-in-Err c = rw c.in_ok-insert-in-Err.ensures.ok (rising_insert _ c.self.invariant c.args.from c.args.weights c.in-Err.place (rw c.self.view_is c.in-Err.ensures.gap))
 
 pub returns-clause-ok : goal.returns-clause-ok
-returns-clause-ok c = rw (c.in_ok-insert-in-Err.ensures.items, c.self.view_is) (put_gap c.args.from c.args.weights c.args.self.now c.in-Err.place c.in-Err.ensures.gap)
+returns-clause-ok c = rw (c.in_ok-insert-in-Err.ensures.ok, c.self.view_is) (put_gap c.args.from c.args.weights c.args.self.now c.in-Err.place c.in-Err.ensures.gap)

@@ -1,0 +1,16 @@
+use Rattle.std.proofs.Common.{◌≡◌, ℕ, ◌+◌, ◌-◌, ◌<◌, ◌≤◌, length, slice_index}
+use Rattle.ltm_demand.specs.Produced.{produced}
+use Rattle.ltm_demand.proofs.shifting.shift_during.Given as goal
+
+abbrev pub invariant-loop-slot : goal.invariant-loop-slot
+invariant-loop-slot l = record {
+  long : length l.units ≡ length l.fn.units;
+  gone_amount : l.gone.amount ≡ l.was;
+  gone_slots : l.gone.slots ≡ l.to - l.from;
+  gone_passed : l.gone.passed + l.from ≡ l.slot;
+  come_amount : l.come.amount ≡ l.now;
+  come_slots : l.come.slots ≡ l.to - l.from;
+  come_passed : l.come.passed + l.from ≡ l.slot;
+  done : (t : ℕ) → t < l.slot → slice_index l.units t + produced l.from l.to l.was t ≡ slice_index l.fn.units t + produced l.from l.to l.now t;
+  left : (t : ℕ) → l.slot ≤ t → slice_index l.units t ≡ slice_index l.fn.units t;
+}
