@@ -1,16 +1,16 @@
-use Rattle.std.proofs.Common.{◌≡◌, ◌≢◌, ℕ, ◌+◌, ◌*◌, ◌<◌, ◌≤◌, ◌⊎◌, List, set, length, slice_index, arith, inl, inr, ap, ◌∙◌, sym, subst}
+use Rattle.std.proofs.Common.{◌≡◌, ◌≢◌, ℕ, zero, suc, ◌+◌, ◌*◌, ◌<◌, ◌≤◌, ◌⊎◌, List, set, length, slice_index, arith, inl, inr, ap, ◌∙◌, refl, sym, subst}
 use Rattle.std.proofs.Math.ListN.{length-set}
 use Rattle.std.proofs.lemmas.Bool.{cases_eq, cases_lt}
 use Rattle.std.proofs.lemmas.List.{get_or-set_other, get_or-set_same}
 use Rattle.std.proofs.lemmas.Nat.{same_from_place, mul-add-lt}
 use Rattle.ltm_units.specs.Sums.{sum_below}
-use Rattle.ltm_units.proofs.Sums.{sum_below_more, sum_below-zero}
+use Rattle.ltm_units.proofs.Sums.{sum_below_more, sum_below-zero, sum_below-change}
 use Rattle.ltm_node.specs.Shape.{counts_width}
 use Rattle.ltm_node.specs.Inputs.{Inputs, left, entered}
-use Rattle.ltm_node.specs.Outputs.{Outputs, left_after, entered_after, arrived_after, left_after_place, entered_after_place, arrived_after_place}
+use Rattle.ltm_node.specs.Outputs.{left_after_place, entered_after_place, arrived_after_place}
 use Rattle.ltm_node.specs.Solvable.{IsSolvable}
-use Rattle.ltm_node.specs.Step.{moved, sunk, gone}
-use Rattle.ltm_node.specs.Moving.{IsMoved, IsEntering}
+use Rattle.ltm_node.specs.Step.{moved, sunk, gone, come}
+use Rattle.ltm_node.specs.Moving.{IsMoving}
 
 -- ---- places
 
@@ -23,45 +23,17 @@ left_low n i d l m = omega (arith, mul-add-lt i n.shape.destinations d n.shape.a
 pub entered_low : (n : Inputs) (j d : ℕ) → j < n.shape.outs → d < n.shape.destinations → entered_after_place n.shape j d < arrived_after_place n.shape
 entered_low n j d l m = omega (arith, mul-add-lt j n.shape.destinations d n.shape.outs l m)
 
--- ---- the row after a call
+-- a pair of destination and arm before the next one is before this one, or is this one
+pub pair_cases : (b a d i : ℕ) → a < 8 → i < 8 → d * 8 + i < b * 8 + (a + 1) → (d * 8 + i < b * 8 + a) ⊎ ((i ≡ a) × (d ≡ b))
+pair_cases b a d i al il less =
+    elim (cases_lt (d * 8 + i) (b * 8 + a)) [ inl low ↦ inl low | inr high ↦ inr (omega arith, omega arith) ]
 
-pub left_added : (n : Inputs) (o o' : Outputs) (i d v : ℕ) → o.shape ≡ n.shape →
-    (let to : Outputs = record { shape = o.shape; row = set o.row (left_after_place o.shape i d) (left_after o i d + v); room = o.room } in o' ≡ to) →
-    o'.row ≡ set o.row (left_after_place n.shape i d) (slice_index o.row (left_after_place n.shape i d) + v)
-left_added n o o' i d v s e = ap (λ (m : Outputs). m.row) e ∙ ap (λ z. set o.row (left_after_place z i d) (slice_index o.row (left_after_place z i d) + v)) s
+-- ---- an arm moves by one more out-link
 
-pub entered_added : (n : Inputs) (o o' : Outputs) (j d v : ℕ) → o.shape ≡ n.shape →
-    (let to : Outputs = record { shape = o.shape; row = set o.row (entered_after_place o.shape j d) (entered_after o j d + v); room = o.room } in o' ≡ to) →
-    o'.row ≡ set o.row (entered_after_place n.shape j d) (slice_index o.row (entered_after_place n.shape j d) + v)
-entered_added n o o' j d v s e = ap (λ (m : Outputs). m.row) e ∙ ap (λ z. set o.row (entered_after_place z j d) (slice_index o.row (entered_after_place z j d) + v)) s
-
-pub arrived_added : (n : Inputs) (o o' : Outputs) (v : ℕ) → o.shape ≡ n.shape →
-    (let to : Outputs = record { shape = o.shape; row = set o.row (arrived_after_place o.shape) (arrived_after o + v); room = o.room } in o' ≡ to) →
-    o'.row ≡ set o.row (arrived_after_place n.shape) (slice_index o.row (arrived_after_place n.shape) + v)
-arrived_added n o o' v s e = ap (λ (m : Outputs). m.row) e ∙ ap (λ z. set o.row (arrived_after_place z) (slice_index o.row (arrived_after_place z) + v)) s
-
--- ---- one amount, by all out-links
-
-pub entering_starts : (n : Inputs) (e : ℕ) (p : ℕ → ℕ) (a b : ℕ) (row sent : List ℕ) → b < n.shape.destinations → IsMoved n e p a b row sent → IsEntering n e p a b 0 row sent
-entering_starts n e p a b row sent bl h = record {
-  width = h.width;
-  left_done = h.left_done;
-  left_rest = h.left_rest;
-  entered_done = h.entered_done;
-  entered_here = λ j jl less. absurd (omega arith);
-  entered_there = λ j jl more. h.entered_rest j b jl bl (omega arith);
-  entered_rest = λ j d jl dl more. h.entered_rest j d jl dl (omega arith);
-  arrived = h.arrived;
-  sent_done = h.sent_done;
-  sent_here = λ j jl less. absurd (omega arith);
-  sent_there = λ j jl more. h.sent_now j jl;
-  sent_rest = h.sent_rest;
-}
-
-pub entering_on : (n : Inputs) (e : ℕ) (p : ℕ → ℕ) (a b k v : ℕ) (row sent row' sent' : List ℕ) → IsSolvable n → IsEntering n e p a b k row sent → a < n.shape.arms → b < n.shape.destinations → k < n.shape.outs → length sent ≡ 20 → v ≡ moved n e p a b k →
+pub entered_on : (n : Inputs) (e : ℕ) (p : ℕ → ℕ) (b a k v : ℕ) (row sent row' sent' : List ℕ) → IsSolvable n → IsMoving n e p b a k row sent → a < n.shape.arms → b < n.shape.destinations → k < n.shape.outs → length sent ≡ 20 → v ≡ moved n e p a b k →
     row' ≡ set row (entered_after_place n.shape k b) (slice_index row (entered_after_place n.shape k b) + v) →
-    sent' ≡ set sent (a * 4 + k) (slice_index sent (a * 4 + k) + v) → IsEntering n e p a b (k + 1) row' sent'
-entering_on n e p a b k v row sent row' sent' s h al bl kl long is er es =
+    sent' ≡ set sent (a * 4 + k) (slice_index sent (a * 4 + k) + v) → IsMoving n e p b a (k + 1) row' sent'
+entered_on n e p b a k v row sent row' sent' s h al bl kl long is er es =
     let at : ℕ = entered_after_place n.shape k b in
     let x : ℕ = slice_index row at + v in
     let y : ℕ = slice_index sent (a * 4 + k) + v in
@@ -69,54 +41,102 @@ entering_on n e p a b k v row sent row' sent' s h al bl kl long is er es =
     let here : slice_index row' at ≡ x = ap (λ z. slice_index z at) er ∙ get_or-set_same row at x 0 (omega (arith, entered_low n k b kl bl, h.width)) in
     let other_sent : (q : ℕ) → q ≢ a * 4 + k → slice_index sent' q ≡ slice_index sent q = λ q ne. ap (λ z. slice_index z q) es ∙ get_or-set_other sent (a * 4 + k) q y 0 ne in
     let here_sent : slice_index sent' (a * 4 + k) ≡ y = ap (λ z. slice_index z (a * 4 + k)) es ∙ get_or-set_same sent (a * 4 + k) y 0 (omega (arith, s.few_arms, s.few_outs)) in
+    let was_sent : slice_index sent (a * 4 + k) ≡ sum_below b (λ d. moved n e p a d k) = h.sent_rest a k al kl (omega arith) in
     let differs : (j d : ℕ) → d < n.shape.destinations → (j ≡ k → d ≡ b → ⊥) → entered_after_place n.shape j d ≢ at = λ j d dl ne.
     let apart : j * n.shape.destinations + d ≢ k * n.shape.destinations + b = places_differ n.shape.destinations j d k b dl bl ne in omega arith in
+    let few : n.shape.outs ≤ 4 = s.few_outs in
     record {
       width = ap length er ∙ (length-set row at x ∙ h.width);
       left_done = λ i d il dl less. other (left_after_place n.shape i d) (omega (arith, left_low n i d il dl)) ∙ h.left_done i d il dl less;
       left_rest = λ i d il dl more. other (left_after_place n.shape i d) (omega (arith, left_low n i d il dl)) ∙ h.left_rest i d il dl more;
       entered_done = λ j d jl dl less. other (entered_after_place n.shape j d) (differs j d dl (λ _ eq. absurd (omega arith))) ∙ h.entered_done j d jl dl less;
-      entered_here = λ j jl less. elim (cases_eq j k) [
+      entered_here = λ j jl _ less. elim (cases_eq j k) [
         | inl eq ↦
             let P : ℕ → Type 0 = λ z. slice_index row' (entered_after_place n.shape z b) ≡ entered n z b + (sum_below a (λ i. moved n e p i b z) + moved n e p a b z) in
-            let was : slice_index row at ≡ entered n k b + sum_below a (λ i. moved n e p i b k) = h.entered_there k kl (omega arith) in
+            let was : slice_index row at ≡ entered n k b + sum_below a (λ i. moved n e p i b k) = h.entered_there k kl bl (omega arith) in
             subst P (sym eq) (omega arith)
-        | inr ne ↦ other (entered_after_place n.shape j b) (differs j b bl (λ same _. ne same)) ∙ h.entered_here j jl (omega arith)
+        | inr ne ↦ other (entered_after_place n.shape j b) (differs j b bl (λ same _. ne same)) ∙ h.entered_here j jl bl (omega arith)
       ];
-      entered_there = λ j jl more. other (entered_after_place n.shape j b) (differs j b bl (λ same _. absurd (omega arith))) ∙ h.entered_there j jl (omega arith);
+      entered_there = λ j jl _ more. other (entered_after_place n.shape j b) (differs j b bl (λ same _. absurd (omega arith))) ∙ h.entered_there j jl bl (omega arith);
       entered_rest = λ j d jl dl more. other (entered_after_place n.shape j d) (differs j d dl (λ _ eq. absurd (omega arith))) ∙ h.entered_rest j d jl dl more;
       arrived = other (arrived_after_place n.shape) (omega (arith, entered_low n k b kl bl)) ∙ h.arrived;
-      sent_done = λ i j il jl. other_sent (i * 4 + j) (omega (arith, s.few_outs)) ∙ h.sent_done i j il jl;
-      sent_here = λ j jl less. elim (cases_eq j k) [
+      sent_done = λ i j il jl less. elim (cases_eq (i * 4 + j) (a * 4 + k)) [
         | inl eq ↦
-            let P : ℕ → Type 0 = λ z. slice_index sent' (a * 4 + z) ≡ sum_below b (λ d. moved n e p a d z) + moved n e p a b z in
-            let was : slice_index sent (a * 4 + k) ≡ sum_below b (λ d. moved n e p a d k) = h.sent_there k kl (omega arith) in
-            subst P (sym eq) (omega arith)
-        | inr ne ↦ other_sent (a * 4 + j) (omega arith) ∙ h.sent_here j jl (omega arith)
+            let one : i ≡ a = omega arith in
+            let two : j ≡ k = omega arith in
+            let P : ℕ → Type 0 = λ z. slice_index sent' (z * 4 + j) ≡ sum_below b (λ d. moved n e p z d j) + moved n e p z b j in
+            let Q : ℕ → Type 0 = λ z. slice_index sent' (a * 4 + z) ≡ sum_below b (λ d. moved n e p a d z) + moved n e p a b z in
+            subst P (sym one) (subst Q (sym two) (omega arith))
+        | inr ne ↦ other_sent (i * 4 + j) ne ∙ h.sent_done i j il jl (omega arith)
       ];
-      sent_there = λ j jl more. other_sent (a * 4 + j) (omega arith) ∙ h.sent_there j jl (omega arith);
-      sent_rest = λ i j il jl. other_sent (i * 4 + j) (omega (arith, s.few_outs)) ∙ h.sent_rest i j il jl;
+      sent_rest = λ i j il jl more. other_sent (i * 4 + j) (omega arith) ∙ h.sent_rest i j il jl (omega arith);
     }
 
--- a place before the next one is before this one, or is this one
-pub left_next_cases : (a b i d : ℕ) → b < 64 → d < 64 → i * 64 + d < a * 64 + (b + 1) → (i * 64 + d < a * 64 + b) ⊎ ((i ≡ a) × (d ≡ b))
-left_next_cases a b i d bl dl less =
-    elim (cases_lt (i * 64 + d) (a * 64 + b)) [ inl low ↦ inl low | inr high ↦ inr (omega arith, omega arith) ]
+-- a number of the row is read and written at one place
+pub row_added : (row : List ℕ) (q at v : ℕ) → q ≡ at → set row q (slice_index row q + v) ≡ set row at (slice_index row at + v)
+row_added row q at v e = ap (λ z. set row z (slice_index row z + v)) e
 
-pub entering_ends : (n : Inputs) (e : ℕ) (p : ℕ → ℕ) (a b total : ℕ) (row sent row' : List ℕ) → IsSolvable n → IsEntering n e p a b n.shape.outs row sent → a < n.shape.arms → b < n.shape.destinations →
-    total ≡ sum_below n.shape.outs (λ j. moved n e p a b j) → sunk n e p a b ≡ 0 →
-    row' ≡ set row (left_after_place n.shape a b) (slice_index row (left_after_place n.shape a b) + total) → IsMoved n e p a (b + 1) row' sent
-entering_ends n e p a b total row sent row' s h al bl is none er =
+-- an arm moves nothing by some out-links
+pub entered_past : (n : Inputs) (e : ℕ) (p : ℕ → ℕ) (b a k m : ℕ) (row sent : List ℕ) → IsSolvable n → IsMoving n e p b a k row sent → k ≤ m → m ≤ n.shape.outs →
+    ((j : ℕ) → k ≤ j → j < m → moved n e p a b j ≡ 0) → IsMoving n e p b a m row sent
+entered_past n e p b a k m row sent s h km mo none =
+    let few : n.shape.outs ≤ 4 = s.few_outs in
+    record {
+      width = h.width;
+      left_done = h.left_done;
+      left_rest = h.left_rest;
+      entered_done = h.entered_done;
+      entered_here = λ j jl bl less. elim (cases_lt j k) [
+        | inl low ↦ h.entered_here j jl bl low
+        | inr high ↦ omega (arith, h.entered_there j jl bl high, none j high less)
+      ];
+      entered_there = λ j jl bl more. h.entered_there j jl bl (omega arith);
+      entered_rest = h.entered_rest;
+      arrived = h.arrived;
+      sent_done = λ i j il jl less. elim (cases_lt (i * 4 + j) (a * 4 + k)) [
+        | inl low ↦ h.sent_done i j il jl low
+        | inr high ↦
+            let one : i ≡ a = omega arith in
+            let P : ℕ → Type 0 = λ z. slice_index sent (z * 4 + j) ≡ sum_below b (λ d. moved n e p z d j) + moved n e p z b j in
+            let Q : ℕ → Type 0 = λ z. slice_index sent (z * 4 + j) ≡ sum_below b (λ d. moved n e p z d j) in
+            let was : slice_index sent (a * 4 + j) ≡ sum_below b (λ d. moved n e p a d j) = subst Q one (h.sent_rest i j il jl high) in
+            subst P (sym one) (omega (arith, none j (omega arith) (omega arith)))
+      ];
+      sent_rest = λ i j il jl more. h.sent_rest i j il jl (omega arith);
+    }
+
+-- an arm moves by one out-link alone
+pub entered_alone : (n : Inputs) (e : ℕ) (p : ℕ → ℕ) (b a k v : ℕ) (row sent row' sent' : List ℕ) → IsSolvable n → IsMoving n e p b a 0 row sent → a < n.shape.arms → b < n.shape.destinations → k < n.shape.outs → length sent ≡ 20 → v ≡ moved n e p a b k →
+    ((j : ℕ) → (j ≡ k → ⊥) → moved n e p a b j ≡ 0) →
+    row' ≡ set row (entered_after_place n.shape k b) (slice_index row (entered_after_place n.shape k b) + v) →
+    sent' ≡ set sent (a * 4 + k) (slice_index sent (a * 4 + k) + v) → IsMoving n e p b a n.shape.outs row' sent'
+entered_alone n e p b a k v row sent row' sent' s h al bl kl long is none er es =
+    let before : IsMoving n e p b a k row sent = entered_past n e p b a 0 k row sent s h (omega arith) (omega arith) (λ j _ less. none j (λ same. absurd (omega arith))) in
+    let after : IsMoving n e p b a (k + 1) row' sent' = entered_on n e p b a k v row sent row' sent' s before al bl kl long is er es in
+    entered_past n e p b a (k + 1) n.shape.outs row' sent' s after (omega arith) (omega arith) (λ j more _. none j (λ same. absurd (omega arith)))
+
+-- what is moved by one out-link alone is all that is moved
+pub sum_alone : (m : ℕ) (f : ℕ → ℕ) (k : ℕ) → k < m → ((j : ℕ) → (j ≡ k → ⊥) → f j ≡ 0) → f k ≡ sum_below m f
+sum_alone m f k l none =
+    omega (arith, sum_below-change m f (λ _. 0) k l (λ j _ ne. none j ne), sum_below-zero m (λ _. 0) (λ j _. refl))
+
+-- ---- what left an arm is added
+
+pub left_on : (n : Inputs) (e : ℕ) (p : ℕ → ℕ) (b a v : ℕ) (row sent row' : List ℕ) → IsSolvable n → IsMoving n e p b a n.shape.outs row sent → a < n.shape.arms → b < n.shape.destinations →
+    v ≡ sum_below n.shape.outs (λ j. moved n e p a b j) → sunk n e p a b ≡ 0 →
+    row' ≡ set row (left_after_place n.shape a b) (slice_index row (left_after_place n.shape a b) + v) → IsMoving n e p b (a + 1) 0 row' sent
+left_on n e p b a v row sent row' s h al bl is none er =
     let at : ℕ = left_after_place n.shape a b in
-    let x : ℕ = slice_index row at + total in
+    let x : ℕ = slice_index row at + v in
     let low : at < n.shape.arms * n.shape.destinations = left_low n a b al bl in
     let other : (q : ℕ) → q ≢ at → slice_index row' q ≡ slice_index row q = λ q ne. ap (λ z. slice_index z q) er ∙ get_or-set_other row at q x 0 ne in
     let here : slice_index row' at ≡ x = ap (λ z. slice_index z at) er ∙ get_or-set_same row at x 0 (omega (arith, h.width)) in
     let was : slice_index row at ≡ left n a b = h.left_rest a b al bl (omega arith) in
-    let few : n.shape.destinations ≤ 64 = s.few_destinations in
+    let arms : n.shape.arms ≤ 5 = s.few_arms in
+    let outs : n.shape.outs ≤ 4 = s.few_outs in
     record {
       width = ap length er ∙ (length-set row at x ∙ h.width);
-      left_done = λ i d il dl less. elim (left_next_cases a b i d (omega arith) (omega arith) less) [
+      left_done = λ i d il dl less. elim (pair_cases b a d i (omega arith) (omega arith) less) [
         | inl before ↦ other (left_after_place n.shape i d) (places_differ n.shape.destinations i d a b dl bl (λ one two. absurd (omega arith))) ∙ h.left_done i d il dl before
         | inr same ↦
             let P : ℕ → Type 0 = λ z. slice_index row' (left_after_place n.shape z d) ≡ left n z d + gone n e p z d in
@@ -124,26 +144,22 @@ entering_ends n e p a b total row sent row' s h al bl is none er =
             subst P (sym same.0) (subst Q (sym same.1) (omega arith))
       ];
       left_rest = λ i d il dl more. other (left_after_place n.shape i d) (places_differ n.shape.destinations i d a b dl bl (λ one two. absurd (omega arith))) ∙ h.left_rest i d il dl (omega arith);
-      entered_done = λ j d jl dl less. other (entered_after_place n.shape j d) (omega arith) ∙ elim (cases_eq d b) [
-        | inl eq ↦
-            let P : ℕ → Type 0 = λ z. slice_index row (entered_after_place n.shape j z) ≡ entered n j z + (sum_below a (λ i. moved n e p i z j) + moved n e p a z j) in
-            subst P (sym eq) (h.entered_here j jl jl)
-        | inr ne ↦ h.entered_done j d jl dl (omega arith)
-      ];
-      entered_rest = λ j d jl dl more. other (entered_after_place n.shape j d) (omega arith) ∙ h.entered_rest j d jl dl (omega arith);
-      arrived = other (arrived_after_place n.shape) (omega arith) ∙ omega (arith, h.arrived, sum_below_more (λ d. sunk n e p a d) b);
-      sent_done = h.sent_done;
-      sent_now = λ j jl. h.sent_here j jl jl ∙ sym (sum_below_more (λ d. moved n e p a d j) b);
-      sent_rest = h.sent_rest;
+      entered_done = λ j d jl dl less. other (entered_after_place n.shape j d) (omega arith) ∙ h.entered_done j d jl dl less;
+      entered_here = λ j jl _ less. absurd (omega arith);
+      entered_there = λ j jl _ more. other (entered_after_place n.shape j b) (omega arith) ∙ omega (arith, h.entered_here j jl bl jl, sum_below_more (λ i. moved n e p i b j) a);
+      entered_rest = λ j d jl dl more. other (entered_after_place n.shape j d) (omega arith) ∙ h.entered_rest j d jl dl more;
+      arrived = other (arrived_after_place n.shape) (omega arith) ∙ omega (arith, h.arrived, sum_below_more (λ i. sunk n e p i b) a);
+      sent_done = λ i j il jl less. h.sent_done i j il jl (omega arith);
+      sent_rest = λ i j il jl more. h.sent_rest i j il jl (omega arith);
     }
 
--- ---- an amount for the sink
+-- ---- an arm moves to the sink
 
-pub sinking : (n : Inputs) (e : ℕ) (p : ℕ → ℕ) (a b v : ℕ) (row sent row' row'' : List ℕ) → IsSolvable n → IsMoved n e p a b row sent → a < n.shape.arms → b < n.shape.destinations →
+pub sunk_on : (n : Inputs) (e : ℕ) (p : ℕ → ℕ) (b a v : ℕ) (row sent row' row'' : List ℕ) → IsSolvable n → IsMoving n e p b a 0 row sent → a < n.shape.arms → b < n.shape.destinations →
     v ≡ sunk n e p a b → ((j : ℕ) → moved n e p a b j ≡ 0) →
     row' ≡ set row (left_after_place n.shape a b) (slice_index row (left_after_place n.shape a b) + v) →
-    row'' ≡ set row' (arrived_after_place n.shape) (slice_index row' (arrived_after_place n.shape) + v) → IsMoved n e p a (b + 1) row'' sent
-sinking n e p a b v row sent row' row'' s h al bl is none er er' =
+    row'' ≡ set row' (arrived_after_place n.shape) (slice_index row' (arrived_after_place n.shape) + v) → IsMoving n e p b (a + 1) 0 row'' sent
+sunk_on n e p b a v row sent row' row'' s h al bl is none er er' =
     let at : ℕ = left_after_place n.shape a b in
     let end : ℕ = arrived_after_place n.shape in
     let x : ℕ = slice_index row at + v in
@@ -158,10 +174,12 @@ sinking n e p a b v row sent row' row'' s h al bl is none er er' =
     let was : slice_index row at ≡ left n a b = h.left_rest a b al bl (omega arith) in
     let had : slice_index row' end ≡ slice_index row end = ap (λ z. slice_index z end) er ∙ get_or-set_other row at end x 0 (omega arith) in
     let nothing : sum_below n.shape.outs (λ j. moved n e p a b j) ≡ 0 = sum_below-zero n.shape.outs (λ j. moved n e p a b j) (λ j jl. none j) in
-    let few : n.shape.destinations ≤ 64 = s.few_destinations in
+    let past : IsMoving n e p b a n.shape.outs row sent = entered_past n e p b a 0 n.shape.outs row sent s h (omega arith) (omega arith) (λ j _ _. none j) in
+    let arms : n.shape.arms ≤ 5 = s.few_arms in
+    let outs : n.shape.outs ≤ 4 = s.few_outs in
     record {
       width = ap length er' ∙ (length-set row' end y ∙ wide);
-      left_done = λ i d il dl less. elim (left_next_cases a b i d (omega arith) (omega arith) less) [
+      left_done = λ i d il dl less. elim (pair_cases b a d i (omega arith) (omega arith) less) [
         | inl before ↦ other (left_after_place n.shape i d) (places_differ n.shape.destinations i d a b dl bl (λ one two. absurd (omega arith))) (omega (arith, left_low n i d il dl)) ∙ h.left_done i d il dl before
         | inr same ↦
             let P : ℕ → Type 0 = λ z. slice_index row'' (left_after_place n.shape z d) ≡ left n z d + gone n e p z d in
@@ -169,29 +187,27 @@ sinking n e p a b v row sent row' row'' s h al bl is none er er' =
             subst P (sym same.0) (subst Q (sym same.1) (omega arith))
       ];
       left_rest = λ i d il dl more. other (left_after_place n.shape i d) (places_differ n.shape.destinations i d a b dl bl (λ one two. absurd (omega arith))) (omega (arith, left_low n i d il dl)) ∙ h.left_rest i d il dl (omega arith);
-      entered_done = λ j d jl dl less. other (entered_after_place n.shape j d) (omega arith) (omega (arith, entered_low n j d jl dl)) ∙ elim (cases_eq d b) [
-        | inl eq ↦
-            let P : ℕ → Type 0 = λ z. slice_index row (entered_after_place n.shape j z) ≡ entered n j z + (sum_below a (λ i. moved n e p i z j) + moved n e p a z j) in
-            subst P (sym eq) (omega (arith, h.entered_rest j b jl bl (omega arith), none j))
-        | inr ne ↦ h.entered_done j d jl dl (omega arith)
-      ];
-      entered_rest = λ j d jl dl more. other (entered_after_place n.shape j d) (omega arith) (omega (arith, entered_low n j d jl dl)) ∙ h.entered_rest j d jl dl (omega arith);
-      arrived = omega (arith, there, had, h.arrived, sum_below_more (λ d. sunk n e p a d) b);
-      sent_done = h.sent_done;
-      sent_now = λ j jl. omega (arith, h.sent_now j jl, sum_below_more (λ d. moved n e p a d j) b, none j);
-      sent_rest = h.sent_rest;
+      entered_done = λ j d jl dl less. other (entered_after_place n.shape j d) (omega arith) (omega (arith, entered_low n j d jl dl)) ∙ h.entered_done j d jl dl less;
+      entered_here = λ j jl _ less. absurd (omega arith);
+      entered_there = λ j jl _ more. other (entered_after_place n.shape j b) (omega arith) (omega (arith, entered_low n j b jl bl)) ∙ omega (arith, past.entered_here j jl bl jl, sum_below_more (λ i. moved n e p i b j) a);
+      entered_rest = λ j d jl dl more. other (entered_after_place n.shape j d) (omega arith) (omega (arith, entered_low n j d jl dl)) ∙ h.entered_rest j d jl dl more;
+      arrived = omega (arith, there, had, h.arrived, sum_below_more (λ i. sunk n e p i b) a);
+      sent_done = λ i j il jl less. past.sent_done i j il jl (omega arith);
+      sent_rest = λ i j il jl more. h.sent_rest i j il jl (omega arith);
     }
 
--- ---- an amount of nothing
+-- ---- an arm moves nothing
 
-pub nothing_moves : (n : Inputs) (e : ℕ) (p : ℕ → ℕ) (a b : ℕ) (row sent : List ℕ) → IsSolvable n → IsMoved n e p a b row sent → a < n.shape.arms → b < n.shape.destinations →
-    sunk n e p a b ≡ 0 → ((j : ℕ) → moved n e p a b j ≡ 0) → IsMoved n e p a (b + 1) row sent
-nothing_moves n e p a b row sent s h al bl dry none =
+pub nothing_on : (n : Inputs) (e : ℕ) (p : ℕ → ℕ) (b a : ℕ) (row sent : List ℕ) → IsSolvable n → IsMoving n e p b a 0 row sent → a < n.shape.arms → b < n.shape.destinations →
+    sunk n e p a b ≡ 0 → ((j : ℕ) → moved n e p a b j ≡ 0) → IsMoving n e p b (a + 1) 0 row sent
+nothing_on n e p b a row sent s h al bl dry none =
     let nothing : sum_below n.shape.outs (λ j. moved n e p a b j) ≡ 0 = sum_below-zero n.shape.outs (λ j. moved n e p a b j) (λ j jl. none j) in
-    let few : n.shape.destinations ≤ 64 = s.few_destinations in
+    let past : IsMoving n e p b a n.shape.outs row sent = entered_past n e p b a 0 n.shape.outs row sent s h (omega arith) (omega arith) (λ j _ _. none j) in
+    let arms : n.shape.arms ≤ 5 = s.few_arms in
+    let outs : n.shape.outs ≤ 4 = s.few_outs in
     record {
       width = h.width;
-      left_done = λ i d il dl less. elim (left_next_cases a b i d (omega arith) (omega arith) less) [
+      left_done = λ i d il dl less. elim (pair_cases b a d i (omega arith) (omega arith) less) [
         | inl before ↦ h.left_done i d il dl before
         | inr same ↦
             let P : ℕ → Type 0 = λ z. slice_index row (left_after_place n.shape z d) ≡ left n z d + gone n e p z d in
@@ -199,37 +215,49 @@ nothing_moves n e p a b row sent s h al bl dry none =
             subst P (sym same.0) (subst Q (sym same.1) (omega (arith, h.left_rest a b al bl (omega arith))))
       ];
       left_rest = λ i d il dl more. h.left_rest i d il dl (omega arith);
-      entered_done = λ j d jl dl less. elim (cases_eq d b) [
-        | inl eq ↦
-            let P : ℕ → Type 0 = λ z. slice_index row (entered_after_place n.shape j z) ≡ entered n j z + (sum_below a (λ i. moved n e p i z j) + moved n e p a z j) in
-            subst P (sym eq) (omega (arith, h.entered_rest j b jl bl (omega arith), none j))
-        | inr ne ↦ h.entered_done j d jl dl (omega arith)
-      ];
-      entered_rest = λ j d jl dl more. h.entered_rest j d jl dl (omega arith);
-      arrived = omega (arith, h.arrived, sum_below_more (λ d. sunk n e p a d) b);
-      sent_done = h.sent_done;
-      sent_now = λ j jl. omega (arith, h.sent_now j jl, sum_below_more (λ d. moved n e p a d j) b, none j);
-      sent_rest = h.sent_rest;
+      entered_done = h.entered_done;
+      entered_here = λ j jl _ less. absurd (omega arith);
+      entered_there = λ j jl _ more. omega (arith, past.entered_here j jl bl jl, sum_below_more (λ i. moved n e p i b j) a);
+      entered_rest = h.entered_rest;
+      arrived = omega (arith, h.arrived, sum_below_more (λ i. sunk n e p i b) a);
+      sent_done = λ i j il jl less. past.sent_done i j il jl (omega arith);
+      sent_rest = λ i j il jl more. h.sent_rest i j il jl (omega arith);
     }
 
--- ---- the next arm
+-- ---- the next destination
 
-pub next_arm : (n : Inputs) (e : ℕ) (p : ℕ → ℕ) (a : ℕ) (row sent : List ℕ) → IsSolvable n → IsMoved n e p a n.shape.destinations row sent → IsMoved n e p (a + 1) 0 row sent
-next_arm n e p a row sent s h =
-    let few : n.shape.destinations ≤ 64 = s.few_destinations in
+pub next_destination : (n : Inputs) (e : ℕ) (p : ℕ → ℕ) (b : ℕ) (row sent : List ℕ) → IsSolvable n → IsMoving n e p b n.shape.arms 0 row sent → IsMoving n e p (b + 1) 0 0 row sent
+next_destination n e p b row sent s h =
+    let arms : n.shape.arms ≤ 5 = s.few_arms in
+    let outs : n.shape.outs ≤ 4 = s.few_outs in
     record {
       width = h.width;
       left_done = λ i d il dl less. h.left_done i d il dl (omega arith);
       left_rest = λ i d il dl more. h.left_rest i d il dl (omega arith);
-      entered_done = λ j d jl dl less. absurd (omega arith);
-      entered_rest = λ j d jl dl more. omega (arith, h.entered_done j d jl dl dl, sum_below_more (λ i. moved n e p i d j) a);
-      arrived = omega (arith, h.arrived, sum_below_more (λ i. sum_below n.shape.destinations (λ d. sunk n e p i d)) a);
-      sent_done = λ i j il jl. elim (cases_eq i a) [
+      entered_done = λ j d jl dl less. elim (cases_eq d b) [
         | inl eq ↦
-            let P : ℕ → Type 0 = λ z. slice_index sent (z * 4 + j) ≡ sum_below n.shape.destinations (λ d. moved n e p z d j) in
-            subst P (sym eq) (h.sent_now j jl)
-        | inr ne ↦ h.sent_done i j (omega arith) jl
+            let P : ℕ → Type 0 = λ z. slice_index row (entered_after_place n.shape j z) ≡ entered n j z + come n e p j z in
+            subst P (sym eq) (h.entered_there j jl (omega arith) (omega arith))
+        | inr ne ↦ h.entered_done j d jl dl (omega arith)
       ];
-      sent_now = λ j jl. h.sent_rest (a + 1) j (omega arith) jl;
-      sent_rest = λ i j il jl. h.sent_rest i j (omega arith) jl;
+      entered_here = λ j jl _ less. absurd (omega arith);
+      entered_there = λ j jl bl more. omega (arith, h.entered_rest j (b + 1) jl bl (omega arith));
+      entered_rest = λ j d jl dl more. h.entered_rest j d jl dl (omega arith);
+      arrived = omega (arith, h.arrived, sum_below_more (λ d. sum_below n.shape.arms (λ i. sunk n e p i d)) b);
+      sent_done = λ i j il jl less. absurd (omega arith);
+      sent_rest = λ i j il jl more. omega (arith, h.sent_done i j il jl (omega arith), sum_below_more (λ d. moved n e p i d j) b);
     }
+
+-- ---- a destination to which nothing moves
+
+nothing_by : (n : Inputs) (e : ℕ) (p : ℕ → ℕ) (b a : ℕ) (row sent : List ℕ) → IsSolvable n → IsMoving n e p b 0 0 row sent → a ≤ n.shape.arms → b < n.shape.destinations →
+    ((i : ℕ) → sunk n e p i b ≡ 0) → ((i j : ℕ) → moved n e p i b j ≡ 0) → IsMoving n e p b a 0 row sent
+nothing_by n e p b zero row sent s h al bl dry none = h
+nothing_by n e p b (suc a) row sent s h al bl dry none =
+    let before : IsMoving n e p b a 0 row sent = nothing_by n e p b a row sent s h (omega arith) bl dry none in
+    let next : a + 1 ≡ suc a = omega arith in
+    subst (λ (z : ℕ). IsMoving n e p b z 0 row sent) next (nothing_on n e p b a row sent s before (omega arith) bl (dry a) (none a))
+
+pub nothing_to : (n : Inputs) (e : ℕ) (p : ℕ → ℕ) (b : ℕ) (row sent : List ℕ) → IsSolvable n → IsMoving n e p b 0 0 row sent → b < n.shape.destinations →
+    ((i : ℕ) → sunk n e p i b ≡ 0) → ((i j : ℕ) → moved n e p i b j ≡ 0) → IsMoving n e p (b + 1) 0 0 row sent
+nothing_to n e p b row sent s h bl dry none = next_destination n e p b row sent s (nothing_by n e p b n.shape.arms row sent s h (omega arith) bl dry none)

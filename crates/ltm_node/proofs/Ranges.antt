@@ -1,11 +1,11 @@
-use Rattle.std.proofs.Common.{◌≡◌, ℕ, zero, suc, ◌+◌, ◌-◌, ◌*◌, ◌/◌, ◌^◌, ◌<◌, ◌≤◌, Bool, true, false, cond, List, [], ◌∷◌, sum, drop, set, slice_index, get_or, length, arith, ap, ◌∙◌, sym, subst}
+use Rattle.std.proofs.Common.{◌≡◌, ℕ, zero, suc, ◌+◌, ◌-◌, ◌*◌, ◌/◌, ◌^◌, ◌<◌, ◌≤◌, Bool, true, false, cond, List, [], ◌∷◌, sum, drop, slice_index, get_or, length, arith, refl, ap, ◌∙◌, sym}
 use Rattle.std.proofs.Math.Nat.{mul-le-mul_right, mul-le-mul_left, div-le_of_le-mul, mul-div_right}
-use Rattle.std.proofs.lemmas.List.{get_or-take, get_or-drop, get_or-set_same}
+use Rattle.std.proofs.lemmas.List.{get_or-take, get_or-drop}
 use Rattle.std.proofs.lemmas.List.Sums.{sum_by-cons}
 use Rattle.ltm_units.specs.Sums.{sum_below}
 use Rattle.ltm_units.specs.Nested.{nested_split}
 use Rattle.ltm_units.proofs.Sums.{sum_below-le, le-sum_below, sum_below-most}
-use Rattle.ltm_units.proofs.Splits.{nested_split-le}
+use Rattle.ltm_units.proofs.Splits.{nested_split-le, nested_split-zero}
 use Rattle.ltm_node.specs.Shape.{is_own, weights_place}
 use Rattle.ltm_node.specs.Inputs.{Inputs, sending, weight, weights}
 use Rattle.ltm_node.specs.Demands.{part, to_sink, sent, sent_into}
@@ -59,13 +59,13 @@ moved_in_small n e p j d k h f m few = sum_below-most k (λ i. moved n e p i d j
 pub sent_by_small : (n : Inputs) (e : ℕ) (p : ℕ → ℕ) (i j k : ℕ) → IsSolvable n → p i ≤ e → i < n.shape.arms → k ≤ n.shape.destinations → sum_below k (λ d. moved n e p i d j) ≤ k * 32000
 sent_by_small n e p i j k h f l few = sum_below-most k (λ d. moved n e p i d j) 32000 (λ d b. moved_small n e p i d j h f l (omega arith))
 
-pub sunk_by_small : (n : Inputs) (e : ℕ) (p : ℕ → ℕ) (i k : ℕ) → IsSolvable n → p i ≤ e → i < n.shape.arms → k ≤ n.shape.destinations → sum_below k (λ d. sunk n e p i d) ≤ k * 32000
-sunk_by_small n e p i k h f l few = sum_below-most k (λ d. sunk n e p i d) 32000 (λ d b. sunk_small n e p i d h f l (omega arith))
+pub sunk_at_small : (n : Inputs) (e : ℕ) (p : ℕ → ℕ) (d k : ℕ) → IsSolvable n → ((i : ℕ) → i < n.shape.arms → p i ≤ e) → d < n.shape.destinations → k ≤ n.shape.arms → sum_below k (λ i. sunk n e p i d) ≤ k * 32000
+sunk_at_small n e p d k h f m few = sum_below-most k (λ i. sunk n e p i d) 32000 (λ i b. sunk_small n e p i d h (f i (omega arith)) (omega arith) m)
 
-pub sunk_all_small : (n : Inputs) (e : ℕ) (p : ℕ → ℕ) (k : ℕ) → IsSolvable n → ((i : ℕ) → i < n.shape.arms → p i ≤ e) → k ≤ n.shape.arms → sum_below k (λ i. sum_below n.shape.destinations (λ d. sunk n e p i d)) ≤ k * 2048000
+pub sunk_all_small : (n : Inputs) (e : ℕ) (p : ℕ → ℕ) (k : ℕ) → IsSolvable n → ((i : ℕ) → i < n.shape.arms → p i ≤ e) → k ≤ n.shape.destinations → sum_below k (λ d. sum_below n.shape.arms (λ i. sunk n e p i d)) ≤ k * 160000
 sunk_all_small n e p k h f few =
-    sum_below-most k (λ i. sum_below n.shape.destinations (λ d. sunk n e p i d)) 2048000
-    (λ i b. omega (arith, sunk_by_small n e p i n.shape.destinations h (f i (omega arith)) (omega arith) (omega arith), h.few_destinations))
+    sum_below-most k (λ d. sum_below n.shape.arms (λ i. sunk n e p i d)) 160000
+    (λ d b. omega (arith, sunk_at_small n e p d n.shape.arms h f (omega arith) (omega arith), h.few_arms))
 
 -- ---- weights
 
@@ -81,30 +81,60 @@ weight_of n d k l =
     get_or-take (weights_place n.shape d + n.shape.outs - weights_place n.shape d) (drop (weights_place n.shape d) n.row) k 0 (omega arith)
     ∙ get_or-drop (weights_place n.shape d) n.row k 0
 
-pub weights_fit : (n : Inputs) (d : ℕ) (xs : List ℕ) → n.shape.outs ≤ 4 → ((k : ℕ) → k < n.shape.outs → weight n d k ≤ 4294967295) → xs ≡ weights n d → length xs ≡ n.shape.outs → sum xs < 2 ^ 64
+pub weights_fit : (n : Inputs) (d : ℕ) (xs : List ℕ) → n.shape.outs ≤ 4 → ((k : ℕ) → k < n.shape.outs → weight n d k ≤ 4294967295) → xs ≡ weights n d → length xs ≡ n.shape.outs → sum xs < 2 ^ 40
 weights_fit n d xs few small is long =
     omega (arith, sum_most xs 4294967295 (λ k l. omega (arith, ap (λ z. get_or z k 0) is, weight_of n d k (omega arith), small k (omega arith))), mul-le-mul_right 4294967295 few)
 
 -- ---- one out-link
 
-pub share_of_one : (m y : ℕ) → 0 < y → m * y / y ≡ m
+nothing_of : (p e x : ℕ) → x ≡ 0 → p * x / e ≡ 0
+nothing_of p e x none = omega (arith, mul-le-mul_left p (let z : x ≤ 0 = omega arith in z))
+
+share_of_one : (m y : ℕ) → 0 < y → m * y / y ≡ m
 share_of_one m y some = let turned : m * y ≡ y * m = omega arith in ap (λ z. z / y) turned ∙ mul-div_right m some
 
-pub split_one : (xs : List ℕ) (m y : ℕ) → length xs ≡ 1 → y ≡ get_or xs 0 y → slice_index (nested_split m xs) 0 ≡ m * y / y
-split_one [] m y long is = absurd (omega arith)
-split_one (x ∷ []) m y long is =
-    let e : x + sum [] ≡ y = omega arith in
-    let f : m * x ≡ m * y = ap (λ z. m * z) (sym is) in
-    ap (λ t. m * x / t) e ∙ ap (λ t. t / y) f
-split_one (x ∷ y' ∷ ys) m y long is = absurd (omega arith)
+weight_within : (xs : List ℕ) (k : ℕ) → get_or xs k 0 ≤ sum xs
+weight_within [] k = omega arith
+weight_within (x ∷ xs) zero = omega (arith, sum_by-cons (λ y. y) x xs)
+weight_within (x ∷ xs) (suc k) = omega (arith, weight_within xs k, sum_by-cons (λ y. y) x xs)
 
-pub split_one_at : (n : Inputs) (d j m y r : ℕ) (xs parts : List ℕ) → j < n.shape.outs → length xs ≡ n.shape.outs → length xs ≡ 1 → xs ≡ weights n d → y ≡ get_or xs 0 y → r ≡ m * y / y → length parts ≡ 4 →
-    slice_index (set parts 0 r) j ≡ slice_index (nested_split m (weights n d)) j
-split_one_at n d j m y r xs parts l long one is read share four =
-    let first : j ≡ 0 = omega arith in
-    let P : ℕ → Type 0 = λ k. slice_index (set parts 0 r) k ≡ slice_index (nested_split m (weights n d)) k in
-    let here : slice_index (set parts 0 r) 0 ≡ r = get_or-set_same parts 0 r 0 (omega arith) in
-    subst P (sym first) (here ∙ (share ∙ (sym (split_one xs m y one read) ∙ ap (λ z. slice_index (nested_split m z) 0) is)))
+-- where one weight is the sum of all, its out-link gets all of an amount, and the others nothing
+pub split_only : (xs : List ℕ) (m k : ℕ) → get_or xs k 0 ≡ sum xs → 0 < sum xs → slice_index (nested_split m xs) k ≡ m
+split_only [] m k only some = absurd (omega arith)
+split_only (x ∷ xs) m zero only some =
+    let whole : sum (x ∷ xs) ≡ x + sum xs = sum_by-cons (λ y. y) x xs in
+    let none : x + sum xs ≡ x = omega arith in
+    ap (λ t. m * x / t) none ∙ share_of_one m x (omega arith)
+split_only (x ∷ xs) m (suc k) only some =
+    let whole : sum (x ∷ xs) ≡ x + sum xs = sum_by-cons (λ y. y) x xs in
+    let within : get_or xs k 0 ≤ sum xs = weight_within xs k in
+    let none : m * x / (x + sum xs) ≡ 0 = nothing_of m (x + sum xs) x (omega arith) in
+    let all : m - m * x / (x + sum xs) ≡ m = omega arith in
+    ap (λ z. slice_index (nested_split z xs) k) all ∙ split_only xs m k (omega arith) (omega arith)
+
+pub split_others : (xs : List ℕ) (m k j : ℕ) → get_or xs k 0 ≡ sum xs → 0 < sum xs → (j ≡ k → ⊥) → slice_index (nested_split m xs) j ≡ 0
+split_others [] m k j only some ne = absurd (omega arith)
+split_others (x ∷ xs) m zero zero only some ne = absurd (ne refl)
+split_others (x ∷ xs) m zero (suc j) only some ne =
+    let whole : sum (x ∷ xs) ≡ x + sum xs = sum_by-cons (λ y. y) x xs in
+    let none : x + sum xs ≡ x = omega arith in
+    let all : m * x / (x + sum xs) ≡ m = ap (λ t. m * x / t) none ∙ share_of_one m x (omega arith) in
+    let rest : slice_index (nested_split (m - m * x / (x + sum xs)) xs) j ≤ m - m * x / (x + sum xs) = nested_split-le xs (m - m * x / (x + sum xs)) j in
+    omega arith
+split_others (x ∷ xs) m (suc k) zero only some ne =
+    let whole : sum (x ∷ xs) ≡ x + sum xs = sum_by-cons (λ y. y) x xs in
+    let within : get_or xs k 0 ≤ sum xs = weight_within xs k in
+    nothing_of m (x + sum xs) x (omega arith)
+split_others (x ∷ xs) m (suc k) (suc j) only some ne =
+    let whole : sum (x ∷ xs) ≡ x + sum xs = sum_by-cons (λ y. y) x xs in
+    let within : get_or xs k 0 ≤ sum xs = weight_within xs k in
+    split_others xs (m - m * x / (x + sum xs)) k j (omega arith) (omega arith) (λ same. ne (ap suc same))
+
+-- where no weight is above 0, nothing is split
+pub split_none : (xs : List ℕ) (m k : ℕ) → sum xs ≡ 0 → slice_index (nested_split m xs) k ≡ 0
+split_none xs m k none =
+    let least : slice_index (nested_split 0 xs) k ≤ 0 = nested_split-le xs 0 k in
+    ap (λ z. slice_index z k) (nested_split-zero xs m none) ∙ omega arith
 
 -- ---- the destination that is the node, and the others
 
@@ -114,9 +144,6 @@ part_is n amount i d j x elsewhere is e =
 
 pub moved_is : (n : Inputs) (e : ℕ) (p : ℕ → ℕ) (i d j x v : ℕ) → x ≡ part n i d j → v ≡ p i * x / e → v ≡ moved n e p i d j
 moved_is n e p i d j x v is share = share ∙ ap (λ z. p i * z / e) is
-
-nothing_of : (p e x : ℕ) → x ≡ 0 → p * x / e ≡ 0
-nothing_of p e x none = omega (arith, mul-le-mul_left p (let z : x ≤ 0 = omega arith in z))
 
 pub sunk_elsewhere : (n : Inputs) (e : ℕ) (p : ℕ → ℕ) (i d : ℕ) → is_own n.shape d ≡ false → sunk n e p i d ≡ 0
 sunk_elsewhere n e p i d elsewhere = nothing_of (p i) e (to_sink n i d) (ap (λ (b : Bool). cond b (sending n i d) 0) elsewhere)
@@ -134,3 +161,19 @@ moved_nothing n e p i d j none = nothing_of (p i) e (part n i d j) (omega (arith
 
 pub sunk_nothing : (n : Inputs) (e : ℕ) (p : ℕ → ℕ) (i d : ℕ) → sending n i d ≡ 0 → sunk n e p i d ≡ 0
 sunk_nothing n e p i d none = nothing_of (p i) e (to_sink n i d) (omega (arith, to_sink_le n i d))
+
+-- ---- the only out-link for a destination, and the others
+
+pub moved_by_one : (n : Inputs) (e : ℕ) (p : ℕ → ℕ) (i d k v : ℕ) → is_own n.shape d ≡ false → k < n.shape.outs → weight n d k ≡ sum (weights n d) → 0 < sum (weights n d) → v ≡ p i * sending n i d / e → v ≡ moved n e p i d k
+moved_by_one n e p i d k v elsewhere l only some share =
+    let all : slice_index (nested_split (sending n i d) (weights n d)) k ≡ sending n i d = split_only (weights n d) (sending n i d) k (weight_of n d k l ∙ only) some in
+    moved_is n e p i d k (sending n i d) v (part_is n (sending n i d) i d k (sending n i d) elsewhere refl (sym all)) share
+
+pub moved_by_others : (n : Inputs) (e : ℕ) (p : ℕ → ℕ) (i d k j : ℕ) → is_own n.shape d ≡ false → k < n.shape.outs → weight n d k ≡ sum (weights n d) → 0 < sum (weights n d) → (j ≡ k → ⊥) → moved n e p i d j ≡ 0
+moved_by_others n e p i d k j elsewhere l only some ne =
+    let none : slice_index (nested_split (sending n i d) (weights n d)) j ≡ 0 = split_others (weights n d) (sending n i d) k j (weight_of n d k l ∙ only) some ne in
+    nothing_of (p i) e (part n i d j) (sym (part_is n (sending n i d) i d j 0 elsewhere refl (sym none)))
+
+pub moved_nowhere : (n : Inputs) (e : ℕ) (p : ℕ → ℕ) (i d j : ℕ) → is_own n.shape d ≡ false → sum (weights n d) ≡ 0 → moved n e p i d j ≡ 0
+moved_nowhere n e p i d j elsewhere nothing =
+    nothing_of (p i) e (part n i d j) (sym (part_is n (sending n i d) i d j 0 elsewhere refl (sym (split_none (weights n d) (sending n i d) j nothing))))

@@ -6,60 +6,44 @@ use Rattle.ltm_node.specs.Shape.{counts_width}
 use Rattle.ltm_node.specs.Inputs.{Inputs, left, entered, arrived, supply, capacity}
 use Rattle.ltm_node.specs.Outputs.{left_after_place, entered_after_place, arrived_after_place}
 use Rattle.ltm_node.specs.Demands.{sent, sent_into}
-use Rattle.ltm_node.specs.Step.{moved, sunk, gone}
+use Rattle.ltm_node.specs.Step.{moved, sunk, gone, come}
 
 -- no arm's share is more than all
 pub record AreFractions (n : Inputs) (shares : Shares) : Type 0 where
   pub positive : 0 < shares.denominator
   pub at_most_all : (i : ℕ) → i < n.shape.arms → slice_index shares.numerators i ≤ shares.denominator
 
--- the counts in the row are those of the inputs, what the arms before `a` move to all destinations,
--- and what the arm `a` moves to the destinations before `b`; `sent` has the sums for each out-link
-pub record IsMoved (n : Inputs) (e : ℕ) (p : ℕ → ℕ) (a b : ℕ) (row sent : List ℕ) : Type 0 where
+-- to the destinations before `b` all arms have moved, and to `b` the arms before `a`, and the arm `a`
+-- by the out-links before `k`: the row holds the counts of the inputs and what has been moved, and
+-- `sent` the sums for each arm and out-link; what left an arm for a destination is added last
+pub record IsMoving (n : Inputs) (e : ℕ) (p : ℕ → ℕ) (b a k : ℕ) (row sent : List ℕ) : Type 0 where
   pub width : length row ≡ counts_width n.shape
-  pub left_done : (i d : ℕ) → i < n.shape.arms → d < n.shape.destinations → i * 64 + d < a * 64 + b →
+  pub left_done : (i d : ℕ) → i < n.shape.arms → d < n.shape.destinations → d * 8 + i < b * 8 + a →
       slice_index row (left_after_place n.shape i d) ≡ left n i d + gone n e p i d
-  pub left_rest : (i d : ℕ) → i < n.shape.arms → d < n.shape.destinations → a * 64 + b ≤ i * 64 + d →
+  pub left_rest : (i d : ℕ) → i < n.shape.arms → d < n.shape.destinations → b * 8 + a ≤ d * 8 + i →
       slice_index row (left_after_place n.shape i d) ≡ left n i d
   pub entered_done : (j d : ℕ) → j < n.shape.outs → d < n.shape.destinations → d < b →
-      slice_index row (entered_after_place n.shape j d) ≡ entered n j d + (sum_below a (λ i. moved n e p i d j) + moved n e p a d j)
-  pub entered_rest : (j d : ℕ) → j < n.shape.outs → d < n.shape.destinations → b ≤ d →
-      slice_index row (entered_after_place n.shape j d) ≡ entered n j d + sum_below a (λ i. moved n e p i d j)
-  pub arrived : slice_index row (arrived_after_place n.shape)
-      ≡ arrived n + (sum_below a (λ i. sum_below n.shape.destinations (λ d. sunk n e p i d)) + sum_below b (λ d. sunk n e p a d))
-  pub sent_done : (i j : ℕ) → i < a → j < n.shape.outs →
-      slice_index sent (i * 4 + j) ≡ sum_below n.shape.destinations (λ d. moved n e p i d j)
-  pub sent_now : (j : ℕ) → j < n.shape.outs → slice_index sent (a * 4 + j) ≡ sum_below b (λ d. moved n e p a d j)
-  pub sent_rest : (i j : ℕ) → a < i → j < n.shape.outs → slice_index sent (i * 4 + j) ≡ 0
-
--- the same at the shares of a node
-abbrev pub IsMovedAt : Inputs → Shares → ℕ → ℕ → List ℕ → List ℕ → Type 0
-IsMovedAt n shares a b row sent = IsMoved n shares.denominator (slice_index shares.numerators) a b row sent
-
--- the same once what the arm moves to the destination `b` by the out-links before `k` is added, but
--- not yet to what left the arm
-pub record IsEntering (n : Inputs) (e : ℕ) (p : ℕ → ℕ) (a b k : ℕ) (row sent : List ℕ) : Type 0 where
-  pub width : length row ≡ counts_width n.shape
-  pub left_done : (i d : ℕ) → i < n.shape.arms → d < n.shape.destinations → i * 64 + d < a * 64 + b →
-      slice_index row (left_after_place n.shape i d) ≡ left n i d + gone n e p i d
-  pub left_rest : (i d : ℕ) → i < n.shape.arms → d < n.shape.destinations → a * 64 + b ≤ i * 64 + d →
-      slice_index row (left_after_place n.shape i d) ≡ left n i d
-  pub entered_done : (j d : ℕ) → j < n.shape.outs → d < n.shape.destinations → d < b →
-      slice_index row (entered_after_place n.shape j d) ≡ entered n j d + (sum_below a (λ i. moved n e p i d j) + moved n e p a d j)
-  pub entered_here : (j : ℕ) → j < n.shape.outs → j < k →
+      slice_index row (entered_after_place n.shape j d) ≡ entered n j d + come n e p j d
+  pub entered_here : (j : ℕ) → j < n.shape.outs → b < n.shape.destinations → j < k →
       slice_index row (entered_after_place n.shape j b) ≡ entered n j b + (sum_below a (λ i. moved n e p i b j) + moved n e p a b j)
-  pub entered_there : (j : ℕ) → j < n.shape.outs → k ≤ j →
+  pub entered_there : (j : ℕ) → j < n.shape.outs → b < n.shape.destinations → k ≤ j →
       slice_index row (entered_after_place n.shape j b) ≡ entered n j b + sum_below a (λ i. moved n e p i b j)
   pub entered_rest : (j d : ℕ) → j < n.shape.outs → d < n.shape.destinations → b < d →
-      slice_index row (entered_after_place n.shape j d) ≡ entered n j d + sum_below a (λ i. moved n e p i d j)
+      slice_index row (entered_after_place n.shape j d) ≡ entered n j d
   pub arrived : slice_index row (arrived_after_place n.shape)
-      ≡ arrived n + (sum_below a (λ i. sum_below n.shape.destinations (λ d. sunk n e p i d)) + sum_below b (λ d. sunk n e p a d))
-  pub sent_done : (i j : ℕ) → i < a → j < n.shape.outs →
-      slice_index sent (i * 4 + j) ≡ sum_below n.shape.destinations (λ d. moved n e p i d j)
-  pub sent_here : (j : ℕ) → j < n.shape.outs → j < k →
-      slice_index sent (a * 4 + j) ≡ sum_below b (λ d. moved n e p a d j) + moved n e p a b j
-  pub sent_there : (j : ℕ) → j < n.shape.outs → k ≤ j → slice_index sent (a * 4 + j) ≡ sum_below b (λ d. moved n e p a d j)
-  pub sent_rest : (i j : ℕ) → a < i → j < n.shape.outs → slice_index sent (i * 4 + j) ≡ 0
+      ≡ arrived n + (sum_below b (λ d. sum_below n.shape.arms (λ i. sunk n e p i d)) + sum_below a (λ i. sunk n e p i b))
+  pub sent_done : (i j : ℕ) → i < n.shape.arms → j < n.shape.outs → i * 4 + j < a * 4 + k →
+      slice_index sent (i * 4 + j) ≡ sum_below b (λ d. moved n e p i d j) + moved n e p i b j
+  pub sent_rest : (i j : ℕ) → i < n.shape.arms → j < n.shape.outs → a * 4 + k ≤ i * 4 + j →
+      slice_index sent (i * 4 + j) ≡ sum_below b (λ d. moved n e p i d j)
+
+-- the same at the shares of a node, between two arms
+abbrev pub IsMovingAt : Inputs → Shares → ℕ → ℕ → List ℕ → List ℕ → Type 0
+IsMovingAt n shares b a row sent = IsMoving n shares.denominator (slice_index shares.numerators) b a 0 row sent
+
+-- the same between two destinations
+abbrev pub IsMovedAt : Inputs → Shares → ℕ → List ℕ → List ℕ → Type 0
+IsMovedAt n shares b row sent = IsMovingAt n shares b 0 row sent
 
 -- `sent` holds what each arm sends into each out-link
 abbrev pub HoldsSent : Inputs → List ℕ → Type 0

@@ -13,6 +13,7 @@ mod node_step;
 mod outputs;
 mod shape;
 mod solved;
+mod split;
 
 pub use inputs::NodeInputs;
 pub use laws::{

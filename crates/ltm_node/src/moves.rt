@@ -1,184 +1,264 @@
-//! What the arms of a node move at given shares.
-ghost use Rattle.std.specs.Prelude.{◌≡◌, ◌<◌, ◌≤◌, ◌*◌, ◌/◌, ◌+◌, ◌^◌, ℕ, false, true, length, sum, slice_index};
-ghost use Rattle.ltm_units.specs.Nested.{nested_split};
+//! What the arms of a node move at given shares, destination by destination.
+//!
+//! All that goes to a destination is split over the same weights, so they are looked at once for all arms; where one
+//! out-link alone has a weight above 0, nothing is split at all.
+ghost use Rattle.std.specs.Prelude.{◌≡◌, ◌<◌, ◌≤◌, ◌*◌, ◌/◌, ◌+◌, ℕ, false, true, sum, slice_index};
 ghost use Rattle.ltm_node.specs.Shape.{is_own};
-ghost use Rattle.ltm_node.specs.Inputs.{sending, weight, weights};
+ghost use Rattle.ltm_node.specs.Inputs.{weight, weights};
+ghost use Rattle.ltm_node.specs.Demands.{part};
 ghost use Rattle.ltm_node.specs.Solvable.{IsSolvable};
-ghost use Rattle.ltm_node.specs.Moving.{AreFractions, IsMovedAt};
+ghost use Rattle.ltm_node.specs.Moving.{AreFractions, IsMovedAt, IsMovingAt};
 
 use crate::inputs::NodeInputs;
-use crate::outputs::NodeOutputs;
+use crate::split::{only_out, split_parts, whole_weight};
 use ltm_shares::Shares;
-use ltm_units::nested;
 
-/// Writes what each out-link gets of an amount for a destination: its nested split over the weights, and nothing where
-/// no weight is above 0.
-fn split_parts(inputs: &NodeInputs, destination: u32, amount: u64, parts: &mut [u64; 4])
-    requires few_outs { inputs.now.shape.outs ≤ 4 }
-    requires destination { destination < inputs.now.shape.destinations }
-    requires weights { (j : ℕ) → j < inputs.now.shape.outs → weight inputs.now destination j ≤ 4294967295 }
-    ensures { (j : ℕ) → j < inputs.now.shape.outs →
-        slice_index parts.new j ≡ slice_index (nested_split amount (weights inputs.now destination)) j }
-{
-    let weights = inputs.weights(destination);
-    if weights.len() == 1 {
-        parts[0] = only_part(amount, weights[0]);
-        return;
-    }
-    split_over(amount, weights, &mut parts[..weights.len()]);
-}
-
-/// What the only out-link gets of an amount.
+/// What an arm moves of an amount: its share, rounded down.
 #[inline]
-fn only_part(amount: u64, weight: u64) -> u64
-    ensures { result ≡ amount * weight / weight }
+fn share_of(shares: &Shares, arm: u32, amount: u64) -> u64
+    requires arm { arm < 5 }
+    requires fraction { slice_index shares.now.numerators arm ≤ shares.now.denominator }
+    requires amount { amount ≤ 32000 }
+    ensures { result ≡ slice_index shares.now.numerators arm * amount / shares.now.denominator }
 {
-    if weight == 0 { 0 } else { amount }
-}
-
-/// Writes the nested split of the amount over the weights; zeros where no weight is above 0.
-fn split_over(amount: u64, weights: &[u64], parts: &mut [u64])
-    requires lengths { length weights.now ≡ length parts.old }
-    requires fits { sum weights.now < 2 ^ 64 }
-    ensures { parts.new ≡ nested_split amount weights.now }
-{
-    let total: u64 = weights.iter().sum();
-    if total == 0 {
-        nested(0, weights, parts);
+    if amount == 0 {
+        0
     } else {
-        nested(amount, weights, parts);
+        shares.of(arm as usize, amount)
     }
 }
 
-/// Moves an amount of an arm for a destination that is not the node.
+/// Adds what an arm moves to a destination by the only out-link there.
+#[inline]
 fn send_amount(
     inputs: &NodeInputs,
     shares: &Shares,
-    arm: u32,
     destination: u32,
-    amount: u64,
-    outputs: &mut NodeOutputs,
+    out: u32,
+    arm: u32,
+    row: &mut [u64],
     sent: &mut [u64; 20],
 )
     requires solvable { IsSolvable inputs.now }
     requires fractions { AreFractions inputs.now shares.now }
-    requires arm { arm < inputs.now.shape.arms }
     requires destination { destination < inputs.now.shape.destinations }
-    requires amount { amount ≡ sending inputs.now arm destination }
     requires elsewhere { is_own inputs.now.shape destination ≡ false }
-    requires shape { outputs.old.shape ≡ inputs.now.shape }
-    requires before { IsMovedAt inputs.now shares.now arm destination outputs.old.row sent.old }
-    ensures shape { outputs.new.shape ≡ inputs.now.shape }
-    ensures room { outputs.new.room ≡ outputs.old.room }
-    ensures after { IsMovedAt inputs.now shares.now arm (destination + 1) outputs.new.row sent.new }
+    requires out { out < inputs.now.shape.outs }
+    requires only { weight inputs.now destination out ≡ sum (weights inputs.now destination) }
+    requires some { 0 < sum (weights inputs.now destination) }
+    requires arm { arm < inputs.now.shape.arms }
+    requires before { IsMovingAt inputs.now shares.now destination arm row.old sent.old }
+    ensures after { IsMovingAt inputs.now shares.now destination (arm + 1) row.new sent.new }
 {
-    let mut parts = [0u64; 4];
-    split_parts(inputs, destination, amount, &mut parts);
+    let shape = inputs.shape();
+    let moved = share_of(shares, arm, inputs.sending(arm, destination));
+    row[shape.entered_after_place(out, destination)] += moved;
+    sent[arm as usize * 4 + out as usize] += moved;
+    row[shape.left_after_place(arm, destination)] += moved;
+}
+
+/// Adds what all arms move to a destination by the only out-link there.
+fn send_by_one(
+    inputs: &NodeInputs,
+    shares: &Shares,
+    destination: u32,
+    out: u32,
+    row: &mut [u64],
+    sent: &mut [u64; 20],
+)
+    requires solvable { IsSolvable inputs.now }
+    requires fractions { AreFractions inputs.now shares.now }
+    requires destination { destination < inputs.now.shape.destinations }
+    requires elsewhere { is_own inputs.now.shape destination ≡ false }
+    requires out { out < inputs.now.shape.outs }
+    requires only { weight inputs.now destination out ≡ sum (weights inputs.now destination) }
+    requires some { 0 < sum (weights inputs.now destination) }
+    requires before { IsMovedAt inputs.now shares.now destination row.old sent.old }
+    ensures after { IsMovedAt inputs.now shares.now (destination + 1) row.new sent.new }
+{
+    for arm in 0..inputs.arms() {
+        send_amount(inputs, shares, destination, out, arm, row, sent);
+    }
+}
+
+/// Adds what an arm moves of the parts of an amount, each by its out-link.
+fn send_parts(
+    inputs: &NodeInputs,
+    shares: &Shares,
+    destination: u32,
+    arm: u32,
+    parts: &[u64; 4],
+    row: &mut [u64],
+    sent: &mut [u64; 20],
+)
+    requires solvable { IsSolvable inputs.now }
+    requires fractions { AreFractions inputs.now shares.now }
+    requires destination { destination < inputs.now.shape.destinations }
+    requires elsewhere { is_own inputs.now.shape destination ≡ false }
+    requires arm { arm < inputs.now.shape.arms }
+    requires parts { (j : ℕ) → j < inputs.now.shape.outs → slice_index parts.now j ≡ part inputs.now arm destination j }
+    requires before { IsMovingAt inputs.now shares.now destination arm row.old sent.old }
+    ensures after { IsMovingAt inputs.now shares.now destination (arm + 1) row.new sent.new }
+{
+    let shape = inputs.shape();
     let mut total = 0u64;
-    for out in 0..inputs.outs() {
-        let moved = shares.of(arm as usize, parts[out as usize]);
-        outputs.add_entered(out, destination, moved);
+    for out in 0..shape.outs {
+        let moved = share_of(shares, arm, parts[out as usize]);
+        row[shape.entered_after_place(out, destination)] += moved;
         sent[arm as usize * 4 + out as usize] += moved;
         total += moved;
     }
-    outputs.add_left(arm, destination, total);
+    row[shape.left_after_place(arm, destination)] += total;
 }
 
-/// Moves an amount of an arm to the sink.
-fn sink_amount(
+/// Adds what an arm moves to a destination by several out-links.
+fn send_split(
     inputs: &NodeInputs,
     shares: &Shares,
-    arm: u32,
     destination: u32,
-    amount: u64,
-    outputs: &mut NodeOutputs,
-    sent: &[u64; 20],
-)
-    requires solvable { IsSolvable inputs.now }
-    requires fractions { AreFractions inputs.now shares.now }
-    requires arm { arm < inputs.now.shape.arms }
-    requires destination { destination < inputs.now.shape.destinations }
-    requires amount { amount ≡ sending inputs.now arm destination }
-    requires here { is_own inputs.now.shape destination ≡ true }
-    requires shape { outputs.old.shape ≡ inputs.now.shape }
-    requires before { IsMovedAt inputs.now shares.now arm destination outputs.old.row sent.now }
-    ensures shape { outputs.new.shape ≡ inputs.now.shape }
-    ensures room { outputs.new.room ≡ outputs.old.room }
-    ensures after { IsMovedAt inputs.now shares.now arm (destination + 1) outputs.new.row sent.now }
-{
-    let sunk = shares.of(arm as usize, amount);
-    outputs.add_left(arm, destination, sunk);
-    outputs.add_arrived(sunk);
-}
-
-/// Moves what an arm sends to a destination.
-fn move_amount(
-    inputs: &NodeInputs,
-    shares: &Shares,
+    total: u64,
     arm: u32,
-    destination: u32,
-    outputs: &mut NodeOutputs,
+    row: &mut [u64],
     sent: &mut [u64; 20],
 )
     requires solvable { IsSolvable inputs.now }
     requires fractions { AreFractions inputs.now shares.now }
-    requires arm { arm < inputs.now.shape.arms }
     requires destination { destination < inputs.now.shape.destinations }
-    requires shape { outputs.old.shape ≡ inputs.now.shape }
-    requires before { IsMovedAt inputs.now shares.now arm destination outputs.old.row sent.old }
-    ensures shape { outputs.new.shape ≡ inputs.now.shape }
-    ensures room { outputs.new.room ≡ outputs.old.room }
-    ensures after { IsMovedAt inputs.now shares.now arm (destination + 1) outputs.new.row sent.new }
+    requires elsewhere { is_own inputs.now.shape destination ≡ false }
+    requires total { total ≡ sum (weights inputs.now destination) }
+    requires arm { arm < inputs.now.shape.arms }
+    requires before { IsMovingAt inputs.now shares.now destination arm row.old sent.old }
+    ensures after { IsMovingAt inputs.now shares.now destination (arm + 1) row.new sent.new }
 {
     let amount = inputs.sending(arm, destination);
     if amount == 0 {
         return;
     }
-    if inputs.is_own(destination) {
-        sink_amount(inputs, shares, arm, destination, amount, outputs, sent);
-    } else {
-        send_amount(inputs, shares, arm, destination, amount, outputs, sent);
-    }
+    let mut parts = [0u64; 4];
+    split_parts(inputs, destination, amount, total, &mut parts);
+    send_parts(inputs, shares, destination, arm, &parts, row, sent);
 }
 
-/// Moves what an arm sends.
-fn move_arm(
+/// Adds what all arms move to a destination by several out-links.
+fn send_by_several(
     inputs: &NodeInputs,
     shares: &Shares,
-    arm: u32,
-    outputs: &mut NodeOutputs,
+    destination: u32,
+    total: u64,
+    row: &mut [u64],
     sent: &mut [u64; 20],
 )
     requires solvable { IsSolvable inputs.now }
     requires fractions { AreFractions inputs.now shares.now }
-    requires arm { arm < inputs.now.shape.arms }
-    requires shape { outputs.old.shape ≡ inputs.now.shape }
-    requires before { IsMovedAt inputs.now shares.now arm 0 outputs.old.row sent.old }
-    ensures shape { outputs.new.shape ≡ inputs.now.shape }
-    ensures room { outputs.new.room ≡ outputs.old.room }
-    ensures after { IsMovedAt inputs.now shares.now (arm + 1) 0 outputs.new.row sent.new }
-{
-    for destination in 0..inputs.destinations() {
-        move_amount(inputs, shares, arm, destination, outputs, sent);
-    }
-}
-
-/// Moves what all arms send.
-pub fn move_all(
-    inputs: &NodeInputs,
-    shares: &Shares,
-    outputs: &mut NodeOutputs,
-    sent: &mut [u64; 20],
-)
-    requires solvable { IsSolvable inputs.now }
-    requires fractions { AreFractions inputs.now shares.now }
-    requires shape { outputs.old.shape ≡ inputs.now.shape }
-    requires before { IsMovedAt inputs.now shares.now 0 0 outputs.old.row sent.old }
-    ensures shape { outputs.new.shape ≡ inputs.now.shape }
-    ensures room { outputs.new.room ≡ outputs.old.room }
-    ensures after { IsMovedAt inputs.now shares.now inputs.now.shape.arms 0 outputs.new.row sent.new }
+    requires destination { destination < inputs.now.shape.destinations }
+    requires elsewhere { is_own inputs.now.shape destination ≡ false }
+    requires total { total ≡ sum (weights inputs.now destination) }
+    requires before { IsMovedAt inputs.now shares.now destination row.old sent.old }
+    ensures after { IsMovedAt inputs.now shares.now (destination + 1) row.new sent.new }
 {
     for arm in 0..inputs.arms() {
-        move_arm(inputs, shares, arm, outputs, sent);
+        send_split(inputs, shares, destination, total, arm, row, sent);
+    }
+}
+
+/// Adds what an arm moves to the sink.
+#[inline]
+fn sink_amount(
+    inputs: &NodeInputs,
+    shares: &Shares,
+    destination: u32,
+    arm: u32,
+    row: &mut [u64],
+    sent: &[u64; 20],
+)
+    requires solvable { IsSolvable inputs.now }
+    requires fractions { AreFractions inputs.now shares.now }
+    requires destination { destination < inputs.now.shape.destinations }
+    requires here { is_own inputs.now.shape destination ≡ true }
+    requires arm { arm < inputs.now.shape.arms }
+    requires before { IsMovingAt inputs.now shares.now destination arm row.old sent.now }
+    ensures after { IsMovingAt inputs.now shares.now destination (arm + 1) row.new sent.now }
+{
+    let shape = inputs.shape();
+    let sunk = share_of(shares, arm, inputs.sending(arm, destination));
+    row[shape.left_after_place(arm, destination)] += sunk;
+    row[shape.arrived_after_place()] += sunk;
+}
+
+/// Adds what all arms move to the sink.
+fn sink_all(
+    inputs: &NodeInputs,
+    shares: &Shares,
+    destination: u32,
+    row: &mut [u64],
+    sent: &[u64; 20],
+)
+    requires solvable { IsSolvable inputs.now }
+    requires fractions { AreFractions inputs.now shares.now }
+    requires destination { destination < inputs.now.shape.destinations }
+    requires here { is_own inputs.now.shape destination ≡ true }
+    requires before { IsMovedAt inputs.now shares.now destination row.old sent.now }
+    ensures after { IsMovedAt inputs.now shares.now (destination + 1) row.new sent.now }
+{
+    for arm in 0..inputs.arms() {
+        sink_amount(inputs, shares, destination, arm, row, sent);
+    }
+}
+
+/// Adds what all arms move to a destination that is not the node. Nothing moves where no weight is above 0.
+fn send_all(
+    inputs: &NodeInputs,
+    shares: &Shares,
+    destination: u32,
+    row: &mut [u64],
+    sent: &mut [u64; 20],
+)
+    requires solvable { IsSolvable inputs.now }
+    requires fractions { AreFractions inputs.now shares.now }
+    requires destination { destination < inputs.now.shape.destinations }
+    requires elsewhere { is_own inputs.now.shape destination ≡ false }
+    requires before { IsMovedAt inputs.now shares.now destination row.old sent.old }
+    ensures after { IsMovedAt inputs.now shares.now (destination + 1) row.new sent.new }
+{
+    let total = whole_weight(inputs, destination);
+    if total == 0 {
+        return;
+    }
+    match only_out(inputs, destination, total) {
+        Some(out) => send_by_one(inputs, shares, destination, out, row, sent),
+        None => send_by_several(inputs, shares, destination, total, row, sent),
+    }
+}
+
+/// Adds what all arms move to a destination.
+fn move_to(
+    inputs: &NodeInputs,
+    shares: &Shares,
+    destination: u32,
+    row: &mut [u64],
+    sent: &mut [u64; 20],
+)
+    requires solvable { IsSolvable inputs.now }
+    requires fractions { AreFractions inputs.now shares.now }
+    requires destination { destination < inputs.now.shape.destinations }
+    requires before { IsMovedAt inputs.now shares.now destination row.old sent.old }
+    ensures after { IsMovedAt inputs.now shares.now (destination + 1) row.new sent.new }
+{
+    if inputs.is_own(destination) {
+        sink_all(inputs, shares, destination, row, sent);
+    } else {
+        send_all(inputs, shares, destination, row, sent);
+    }
+}
+
+/// Adds what all arms move to all destinations; `sent` gets what each arm moves into each out-link.
+pub fn move_all(inputs: &NodeInputs, shares: &Shares, row: &mut [u64], sent: &mut [u64; 20])
+    requires solvable { IsSolvable inputs.now }
+    requires fractions { AreFractions inputs.now shares.now }
+    requires before { IsMovedAt inputs.now shares.now 0 row.old sent.old }
+    ensures after { IsMovedAt inputs.now shares.now inputs.now.shape.destinations row.new sent.new }
+{
+    for destination in 0..inputs.destinations() {
+        move_to(inputs, shares, destination, row, sent);
     }
 }

@@ -12,7 +12,6 @@ ghost use Rattle.ltm_node.specs.Step.{IsNodeStep};
 ghost use Rattle.ltm_node.specs.Moving.{HoldsSent, FitsSupply, Agrees, priority_or_more, filled_demands};
 
 use crate::inputs::NodeInputs;
-use crate::moves::move_all;
 use crate::narrow::step_narrow;
 use crate::outputs::NodeOutputs;
 use ltm_shares::{NodeDemands, Shares, shares};
@@ -44,8 +43,7 @@ fn send_whole(inputs: &NodeInputs, outputs: &mut NodeOutputs, sent: &mut [u64; 2
     ensures room { outputs.new.room ≡ outputs.old.room }
 {
     let whole = Shares::whole();
-    outputs.begin(inputs);
-    move_all(inputs, &whole, outputs, sent);
+    outputs.advance(inputs, &whole, sent);
     fits_supply(inputs, sent)
 }
 
@@ -66,9 +64,8 @@ fn send_shares(inputs: &NodeInputs, outputs: &mut NodeOutputs, sent: &[u64; 20])
     };
     fill_demands(inputs, &mut demands);
     let parts = shares(&demands);
-    outputs.begin(inputs);
     let mut moved = [0u64; 20];
-    move_all(inputs, &parts, outputs, &mut moved);
+    outputs.advance(inputs, &parts, &mut moved);
 }
 
 /// Whether no out-link gets more than it can take where each arm sends all.

@@ -1,5 +1,5 @@
 //! The counts that a node step gives.
-ghost use Rattle.std.specs.Prelude.{◌≡◌, ℕ, ◌<◌, ◌≤◌, ◌*◌, ◌+◌, ◌^◌, max, take, drop, length, IfOk, slice_index, slice_set};
+ghost use Rattle.std.specs.Prelude.{◌≡◌, ℕ, ◌<◌, ◌≤◌, ◌*◌, ◌+◌, ◌^◌, max, take, drop, length, IfOk, slice_index};
 ghost use Rattle.ltm_node.specs.Shape.{counts_width, no_shape};
 ghost use Rattle.ltm_node.specs.Outputs.{
   cleared_outputs,
@@ -10,9 +10,13 @@ ghost use Rattle.ltm_node.specs.Outputs.{
   entered_after,
   arrived_after,
 };
+ghost use Rattle.ltm_node.specs.Solvable.{IsSolvable};
+ghost use Rattle.ltm_node.specs.Moving.{AreFractions, IsMovedAt};
 
 use crate::inputs::NodeInputs;
+use crate::moves::move_all;
 use crate::shape::NodeShape;
+use ltm_shares::Shares;
 use ltm_units::NoMemory;
 use std::alloc::Global;
 use std::marker::Model;
@@ -136,7 +140,7 @@ impl NodeOutputs {
     }
 
     /// Takes the counts as they were at the beginning of the slot.
-    pub(crate) fn begin(&mut self, inputs: &NodeInputs)
+    fn begin(&mut self, inputs: &NodeInputs)
         requires { counts_width inputs.now.shape ≤ self.old.room }
         ensures counts { self.new ≡ record {
           shape = inputs.now.shape;
@@ -150,53 +154,38 @@ impl NodeOutputs {
         let shape = inputs.shape();
         let from = shape.arms as usize * shape.destinations as usize;
         let width = shape.counts_width();
-        let counts = &inputs.row()[from..from + width];
-        for place in 0..width {
-            self.counts[place] = counts[place];
-        }
+        self.counts[0..width].copy_from_slice(&inputs.row()[from..from + width]);
         self.shape = shape;
     }
 
-    /// Adds to what has left an arm for a destination.
-    #[inline]
-    pub(crate) fn add_left(&mut self, arm: u32, destination: u32, amount: u64)
-        requires arm { arm < self.old.shape.arms }
-        requires destination { destination < self.old.shape.destinations }
-        requires fits { left_after self.old arm destination + amount < 2 ^ 64 }
-        ensures { self.new ≡ record self.old {
-          row = slice_set self.old.row (left_after_place self.old.shape arm destination)
-              (left_after self.old arm destination + amount);
-        } }
+    /// Adds what the arms move at these shares to the counts that they are; `sent` gets what each arm moves into each
+    /// out-link.
+    fn add_moves(&mut self, inputs: &NodeInputs, shares: &Shares, sent: &mut [u64; 20])
+        requires solvable { IsSolvable inputs.now }
+        requires fractions { AreFractions inputs.now shares.now }
+        requires shape { self.old.shape ≡ inputs.now.shape }
+        requires before { IsMovedAt inputs.now shares.now 0 self.old.row sent.old }
+        ensures shape { self.new.shape ≡ inputs.now.shape }
+        ensures room { self.new.room ≡ self.old.room }
+        ensures after { IsMovedAt inputs.now shares.now inputs.now.shape.destinations self.new.row sent.new }
     {
-        let place = self.shape.left_after_place(arm, destination);
-        self.counts[place] += amount;
+        let width = self.shape.counts_width();
+        move_all(inputs, shares, &mut self.counts[0..width], sent);
     }
 
-    /// Adds to what has entered an out-link for a destination.
-    #[inline]
-    pub(crate) fn add_entered(&mut self, out: u32, destination: u32, amount: u64)
-        requires out { out < self.old.shape.outs }
-        requires destination { destination < self.old.shape.destinations }
-        requires fits { entered_after self.old out destination + amount < 2 ^ 64 }
-        ensures { self.new ≡ record self.old {
-          row = slice_set self.old.row (entered_after_place self.old.shape out destination)
-              (entered_after self.old out destination + amount);
-        } }
+    /// Takes the counts at the end of the slot where the arms move at these shares; `sent` gets what each arm moves into
+    /// each out-link.
+    pub(crate) fn advance(&mut self, inputs: &NodeInputs, shares: &Shares, sent: &mut [u64; 20])
+        requires solvable { IsSolvable inputs.now }
+        requires fractions { AreFractions inputs.now shares.now }
+        requires room { counts_width inputs.now.shape ≤ self.old.room }
+        requires nothing { (k : ℕ) → slice_index sent.old k ≡ 0 }
+        ensures shape { self.new.shape ≡ inputs.now.shape }
+        ensures room { self.new.room ≡ self.old.room }
+        ensures after { IsMovedAt inputs.now shares.now inputs.now.shape.destinations self.new.row sent.new }
     {
-        let place = self.shape.entered_after_place(out, destination);
-        self.counts[place] += amount;
-    }
-
-    /// Adds to what has arrived.
-    #[inline]
-    pub(crate) fn add_arrived(&mut self, amount: u64)
-        requires { arrived_after self.old + amount < 2 ^ 64 }
-        ensures { self.new ≡ record self.old {
-          row = slice_set self.old.row (arrived_after_place self.old.shape) (arrived_after self.old + amount);
-        } }
-    {
-        let place = self.shape.arrived_after_place();
-        self.counts[place] += amount;
+        self.begin(inputs);
+        self.add_moves(inputs, shares, sent);
     }
 
     /// The row of all counts.
