@@ -3,8 +3,9 @@ use Rattle.std.proofs.Math.ListN.{length-set}
 use Rattle.std.proofs.Math.Seq.{take-set-lt}
 use Rattle.std.proofs.lemmas.List.{get_or-take, get_or-replicate, length-take-le, length-replicate}
 use Rattle.std.proofs.lemmas.Grind.{same_number_lists}
-use Rattle.ltm_node.specs.Shape.{width}
+use Rattle.ltm_node.specs.Shape.{width, counts_width}
 use Rattle.ltm_node.specs.Inputs.{Inputs, cleared_inputs}
+use Rattle.ltm_node.specs.Outputs.{Outputs}
 use Rattle.ltm_node.specs.declared.shape.NodeShape.{NodeShape}
 
 take_written : (w : ℕ) (items : List ℕ) (p q v : ℕ) → p < w → p ≡ q → take w (set items p v) ≡ set (take w items) q v
@@ -20,6 +21,18 @@ inputs_written shape items now p q v seen l e =
     (let left : Inputs = record { shape = shape; row = take (width shape) (set items p v); room = length (set items p v) } in
     let right : Inputs = record { shape = m.shape; row = set m.row q v; room = m.room } in left ≡ right) in
     let row : take (width shape) (set items p v) ≡ set (take (width shape) items) q v = take_written (width shape) items p q v l e in
+    let room : length (set items p v) ≡ length items = length-set items p v in
+    subst Goal seen (rw (row, room) refl)
+
+pub outputs_written : (shape : NodeShape) (items : List ℕ) (now : Outputs) (p q v : ℕ) →
+    (let seen : Outputs = record { shape = shape; row = take (counts_width shape) items; room = length items } in seen ≡ now) → p < counts_width shape → p ≡ q →
+    (let left : Outputs = record { shape = shape; row = take (counts_width shape) (set items p v); room = length (set items p v) } in
+    let right : Outputs = record { shape = now.shape; row = set now.row q v; room = now.room } in left ≡ right)
+outputs_written shape items now p q v seen l e =
+    let Goal : Outputs → Type 0 = λ m.
+    (let left : Outputs = record { shape = shape; row = take (counts_width shape) (set items p v); room = length (set items p v) } in
+    let right : Outputs = record { shape = m.shape; row = set m.row q v; room = m.room } in left ≡ right) in
+    let row : take (counts_width shape) (set items p v) ≡ set (take (counts_width shape) items) q v = take_written (counts_width shape) items p q v l e in
     let room : length (set items p v) ≡ length items = length-set items p v in
     subst Goal seen (rw (row, room) refl)
 
