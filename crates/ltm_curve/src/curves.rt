@@ -60,6 +60,20 @@ fn copy_all(table: &mut Vec<u64>, other: &Vec<u64>)
     table.as_mut_slice().copy_from_slice(other.as_slice());
 }
 
+/// Copies a row of several counts: two, as in a case with two destinations, one by one and without a call.
+#[inline]
+fn copy_row(into: &mut [u64], counts: &[u64])
+    requires { length into.old ≡ length counts.now }
+    ensures { into.new ≡ counts.now }
+{
+    if counts.len() == 2 {
+        into[0] = counts[0];
+        into[1] = counts[1];
+    } else {
+        into.copy_from_slice(counts);
+    }
+}
+
 /// So many zeros.
 fn zeros(alloc: Global, count: usize) -> Result<Vec<u64>, NoMemory>
     ensures { IfOk result (λ zeros. zeros.items ≡ replicate count 0) }
@@ -261,7 +275,7 @@ impl Curves {
         let from = self.start(group, boundary);
         let to = from + self.destinations as usize;
         self.totals[row] = sum_of(counts);
-        self.counts[from..to].copy_from_slice(counts);
+        copy_row(&mut self.counts[from..to], counts);
     }
 
     /// The total of a group at a boundary, over all destinations.

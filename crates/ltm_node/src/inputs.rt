@@ -344,7 +344,7 @@ impl NodeInputs {
           row = take from self.old.row ++ (numbers.now ++ drop (from + length numbers.now) self.old.row);
         } }
     {
-        self.numbers[from..from + numbers.len()].copy_from_slice(numbers);
+        copy_numbers(&mut self.numbers[from..from + numbers.len()], numbers);
     }
 
     /// Takes a shape and all numbers of its row.
@@ -357,5 +357,19 @@ impl NodeInputs {
             self.numbers[place] = *number;
         }
         self.shape = shape;
+    }
+}
+
+/// Copies some numbers: two of them, as in a case with two destinations, one by one and without a call.
+#[inline]
+fn copy_numbers(into: &mut [u64], numbers: &[u64])
+    requires { length into.old ≡ length numbers.now }
+    ensures { into.new ≡ numbers.now }
+{
+    if numbers.len() == 2 {
+        into[0] = numbers[0];
+        into[1] = numbers[1];
+    } else {
+        into.copy_from_slice(numbers);
     }
 }

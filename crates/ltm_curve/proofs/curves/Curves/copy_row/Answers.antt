@@ -12,10 +12,10 @@ invariant_of-self c =
     let from : ℕ = c.start-from.result in
     let to : ℕ = from + c.args.self.now.destinations in
     let items : List ℕ = c.args.self.now.counts.items in
-    let written : put_over from to c.deref_mut.result.now c.copy_from_slice.new.self ≡ put_over from to items c.args.counts.now =
-    ap (λ (xs : List ℕ). put_over from to xs c.copy_from_slice.new.self) c.deref_mut.ensures.value ∙ ap (put_over from to items) c.copy_from_slice.ensures.after in
+    let written : put_over from to c.deref_mut.result.now c.copy_row.new.into ≡ put_over from to items c.args.counts.now =
+    ap (λ (xs : List ℕ). put_over from to xs c.copy_row.new.into) c.deref_mut.ensures.value ∙ ap (put_over from to items) c.copy_row.ensures in
     let long : length (put_over from to items c.args.counts.now) ≡ length items = length_over from to items c.args.counts.now (omega arith) (omega (arith, c.start-from.ensures.within)) (omega (arith, c.requires.count)) in
-    let all = with_items_is c.args.self.now.counts (put_over from to c.deref_mut.result.now c.copy_from_slice.new.self) (ap length written ∙ (long ∙ (ap length (sym c.deref_mut.ensures.value) ∙ c.deref_mut.ensures.len))) ∙ written in
+    let all = with_items_is c.args.self.now.counts (put_over from to c.deref_mut.result.now c.copy_row.new.into) (ap length written ∙ (long ∙ (ap length (sym c.deref_mut.ensures.value) ∙ c.deref_mut.ensures.len))) ∙ written in
     record {
       long = ap length all ∙ (long ∙ c.args.self.now.long);
       few = c.args.self.now.few;
@@ -37,9 +37,9 @@ returns c =
     let from : ℕ = c.start-from.result in
     let to : ℕ = from + c.args.self.now.destinations in
     let items : List ℕ = c.args.self.now.counts.items in
-    let written : put_over from to c.deref_mut.result.now c.copy_from_slice.new.self ≡ put_over from to items c.args.counts.now =
-    ap (λ (xs : List ℕ). put_over from to xs c.copy_from_slice.new.self) c.deref_mut.ensures.value ∙ ap (put_over from to items) c.copy_from_slice.ensures.after in
+    let written : put_over from to c.deref_mut.result.now c.copy_row.new.into ≡ put_over from to items c.args.counts.now =
+    ap (λ (xs : List ℕ). put_over from to xs c.copy_row.new.into) c.deref_mut.ensures.value ∙ ap (put_over from to items) c.copy_row.ensures in
     let long : length (put_over from to items c.args.counts.now) ≡ length items = length_over from to items c.args.counts.now (omega arith) (omega (arith, c.start-from.ensures.within)) (omega (arith, c.requires.count)) in
     sets_row_holds c.args.self.now _ c.args.group c.args.boundary from c.args.counts.now c.requires.group c.requires.count (record { groups = refl; destinations = refl; slots = refl })
     c.start-from.ensures.place c.start-from.ensures.within
-    (with_items_is c.args.self.now.counts (put_over from to c.deref_mut.result.now c.copy_from_slice.new.self) (ap length written ∙ (long ∙ (ap length (sym c.deref_mut.ensures.value) ∙ c.deref_mut.ensures.len))) ∙ written)
+    (with_items_is c.args.self.now.counts (put_over from to c.deref_mut.result.now c.copy_row.new.into) (ap length written ∙ (long ∙ (ap length (sym c.deref_mut.ensures.value) ∙ c.deref_mut.ensures.len))) ∙ written)
