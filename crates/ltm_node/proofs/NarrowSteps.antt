@@ -1,7 +1,7 @@
 -- A narrow node: at most one out-link, in a case with one destination.
 use Rattle.std.proofs.Common.{◌≡◌, ℕ, ◌+◌, ◌-◌, ◌*◌, ◌/◌, ◌<◌, ◌≤◌, true, false, List, [], ◌∷◌, sum, drop, set, slice_index, get_or, length, arith, inl, inr, refl, ap, ◌∙◌, sym, subst}
 use Rattle.std.proofs.Math.ListN.{length-set}
-use Rattle.std.proofs.Math.Nat.{mul-le-mul_left, mul-div_right}
+use Rattle.std.proofs.Math.Nat.{mul-le-mul_left, mul-div_right, mul-div_cancel}
 use Rattle.std.proofs.lemmas.Bool.{cases_eq}
 use Rattle.std.proofs.lemmas.List.{get_or-set_other, get_or-set_same, length-take}
 use Rattle.ltm_units.specs.Sums.{sum_below}
@@ -11,10 +11,10 @@ use Rattle.ltm_shares.specs.Shares.{AreShares, inflow}
 use Rattle.ltm_node.specs.Shape.{is_own, counts_width, weights_place}
 use Rattle.ltm_node.specs.Inputs.{Inputs, sending, left, entered, arrived, supply, weight, weights}
 use Rattle.ltm_node.specs.Outputs.{Outputs, left_after_place, entered_after_place, arrived_after_place}
-use Rattle.ltm_node.specs.Demands.{part, sent_into, demands}
+use Rattle.ltm_node.specs.Demands.{part, sent_into, priority, demands}
 use Rattle.ltm_node.specs.Solvable.{IsSolvable}
 use Rattle.ltm_node.specs.Step.{moved, sunk, gone, come, sunk_in_all, MovesAtShares, IsNodeStep}
-use Rattle.ltm_node.specs.Narrow.{IsNarrow, HaveLeft, HaveMoved, whole, leaves}
+use Rattle.ltm_node.specs.Narrow.{IsNarrow, HaveLeft, HaveMoved, HaveShifted, whole, leaves}
 use Rattle.ltm_node.specs.declared.shape.NodeShape.{NodeShape}
 use Rattle.ltm_node.proofs.Ranges.{weight_of, part_is, moved_own, moved_out_small, sunk_small, sunk_elsewhere, sunk_is}
 
@@ -185,4 +185,80 @@ step_to_out n o total s elsewhere is small h =
       numerators = whole;
       shares = whole_shares_narrow n s.one_destination fits;
       moves = moves_narrow n o total 0 s h into (sym (sunk_out n s.one_destination elsewhere));
+    } ∣₁
+
+-- ---- one arm, and an out-link that is short
+
+pub some_out : (n : Inputs) (total : ℕ) → IsNarrow n.shape → is_own n.shape 0 ≡ false → total ≡ sum_below n.shape.arms (leaves n) → 0 < total → n.shape.outs ≡ 1
+some_out n total s elsewhere is some =
+    elim (cases_eq n.shape.outs 0) [
+      | inl none ↦ absurd (omega (arith, is, sum_below-zero n.shape.arms (leaves n) (λ i l. nothing_without_out n i elsewhere none)))
+      | inr ne ↦ omega (arith, s.few_outs)
+    ]
+
+part_is_total : (n : Inputs) (total : ℕ) → n.shape.arms ≡ 1 → n.shape.outs ≡ 1 → is_own n.shape 0 ≡ false → total ≡ sum_below n.shape.arms (leaves n) → part n 0 0 0 ≡ total
+part_is_total n total one out elsewhere is =
+    sym (is ∙ (sum_of_one n.shape.arms (leaves n) one ∙ (leaves_to_out n 0 elsewhere out ∙ moved_is_part n 0 0 0)))
+
+shares_short : (n : Inputs) (total : ℕ) → IsNarrow n.shape → n.shape.arms ≡ 1 → n.shape.outs ≡ 1 → part n 0 0 0 ≡ total → supply n 0 < total → AreShares (demands n) total (λ i. supply n 0)
+shares_short n total s one out is short =
+    let x : ℕ = supply n 0 in
+    let into : sent_into n 0 0 ≡ total = sum_of_one n.shape.destinations (λ d. part n 0 d 0) s.one_destination ∙ is in
+    let full : inflow (demands n) (λ i. x) 0 ≡ x * total = sum_of_one n.shape.arms (λ i. x * sent_into n i 0) one ∙ ap (λ z. x * z) into in
+    record {
+      positive = omega arith;
+      at_most_all = λ i l. omega arith;
+      within_supply = λ j l.
+          let P : ℕ → Type 0 = λ z. inflow (demands n) (λ i. x) z ≤ supply n z * total in
+          let only : j ≡ 0 = omega (arith, out) in
+          subst P (sym only) (omega (arith, full));
+      held_back = λ i l less.
+          let only : i ≡ 0 = omega (arith, one) in (
+            0,
+            record {
+              is_out = omega (arith, out);
+              uses = subst (λ (z : ℕ). 0 < sent_into n z 0) (sym only) (omega (arith, into));
+              full = full;
+              greatest = λ k m u.
+                  let same : i ≡ k = omega (arith, one) in
+                  omega (arith, ap (λ z. x * priority n z) same);
+            },
+          );
+    }
+
+pub step_short : (n : Inputs) (o : Outputs) (total : ℕ) → IsNarrow n.shape → n.shape.arms ≡ 1 → n.shape.outs ≡ 1 → is_own n.shape 0 ≡ false → total ≡ sum_below n.shape.arms (leaves n) → supply n 0 < total → HaveShifted n (supply n 0) o → IsNodeStep n o
+step_short n o total s one out elsewhere sum short h =
+    let x : ℕ = supply n 0 in
+    let p : ℕ → ℕ = λ i. x in
+    let is : part n 0 0 0 ≡ total = part_is_total n total one out elsewhere sum in
+    let goes : moved n total p 0 0 0 ≡ x =
+    let some : 0 < total = omega arith in ap (λ z. x * z / total) is ∙ mul-div_cancel x some in
+    let gone_is : gone n total p 0 0 ≡ x = omega (arith, sum_of_one n.shape.outs (λ j. moved n total p 0 0 j) out, sunk_elsewhere n total p 0 0 elsewhere, goes) in
+    let come_is : come n total p 0 0 ≡ x = sum_of_one n.shape.arms (λ i. moved n total p i 0 0) one ∙ goes in
+    let dry : sunk_in_all n total p ≡ 0 =
+    sum_below-zero n.shape.arms (λ i. sum_below n.shape.destinations (λ d. sunk n total p i d))
+    (λ i l. sum_of_one n.shape.destinations (λ d. sunk n total p i d) s.one_destination ∙ sunk_elsewhere n total p i 0 elsewhere) in
+    ∣ record {
+      denominator = total;
+      numerators = p;
+      shares = shares_short n total s one out is short;
+      moves = record {
+        shape = h.shape;
+        width = h.width;
+        left = λ i d il dl.
+            let P : ℕ → Type 0 = λ z. slice_index o.row (left_after_place o.shape i z) ≡ left n i z + gone n total p i z in
+            let Q : ℕ → Type 0 = λ z. slice_index o.row (left_after_place o.shape z 0) ≡ left n z 0 + gone n total p z 0 in
+            let first : d ≡ 0 = omega (arith, s.one_destination) in
+            let only : i ≡ 0 = omega (arith, one) in
+            subst P (sym first) (subst Q (sym only) (ap (λ z. slice_index o.row (left_after_place z 0 0)) h.shape ∙ (ap (slice_index o.row) (arm_place n.shape 0 s.one_destination) ∙ (h.left ∙ ap (λ z. left n 0 0 + z) (sym gone_is)))));
+        entered = λ j d jl dl.
+            let P : ℕ → Type 0 = λ z. slice_index o.row (entered_after_place o.shape j z) ≡ entered n j z + come n total p j z in
+            let Q : ℕ → Type 0 = λ z. slice_index o.row (entered_after_place o.shape z 0) ≡ entered n z 0 + come n total p z 0 in
+            let first : d ≡ 0 = omega (arith, s.one_destination) in
+            let only : j ≡ 0 = omega (arith, out) in
+            subst P (sym first) (subst Q (sym only) (ap (λ z. slice_index o.row (entered_after_place z 0 0)) h.shape ∙ (ap (slice_index o.row) (out_place n.shape s.one_destination ∙ one) ∙ (h.entered ∙ ap (λ z. entered n 0 0 + z) (sym come_is)))));
+        arrived =
+            let last : arrived_after_place n.shape ≡ 2 = omega (arith, last_place n.shape s.one_destination, one, out) in
+            ap (λ z. slice_index o.row (arrived_after_place z)) h.shape ∙ (ap (slice_index o.row) last ∙ (h.arrived ∙ omega (arith, dry)));
+      };
     } ∣₁

@@ -29,3 +29,11 @@ pub record HaveMoved (n : Inputs) (entering arriving : ℕ) (o : Outputs) : Type
   pub arms : HaveLeft n n.shape.arms o
   pub entered : 0 < n.shape.outs → slice_index o.row n.shape.arms ≡ entered n 0 0 + entering
   pub arrived : slice_index o.row (n.shape.arms + n.shape.outs) ≡ arrived n + arriving
+
+-- the counts of a node with one arm and one out-link, where this amount moves
+pub record HaveShifted (n : Inputs) (amount : ℕ) (o : Outputs) : Type 0 where
+  pub shape : o.shape ≡ n.shape
+  pub width : length o.row ≡ counts_width n.shape
+  pub left : slice_index o.row 0 ≡ left n 0 0 + amount
+  pub entered : slice_index o.row 1 ≡ entered n 0 0 + amount
+  pub arrived : slice_index o.row 2 ≡ arrived n

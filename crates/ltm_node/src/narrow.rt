@@ -2,19 +2,19 @@
 //!
 //! All that its arms send goes one way, so each count is written once: at the place `arm` what has left an arm, behind
 //! the arms what has entered the out-link, and last what has arrived.
-ghost use Rattle.std.specs.Prelude.{◌≡◌, ℕ, ◌<◌, ◌≤◌, IsTrue, IsFalse};
+ghost use Rattle.std.specs.Prelude.{◌≡◌, ℕ, ◌<◌, ◌≤◌, false, IsTrue, IsFalse};
 ghost use Rattle.ltm_units.specs.Sums.{sum_below};
-ghost use Rattle.ltm_node.specs.Shape.{counts_width};
+ghost use Rattle.ltm_node.specs.Shape.{counts_width, is_own};
 ghost use Rattle.ltm_node.specs.Inputs.{sending, supply};
 ghost use Rattle.ltm_node.specs.Solvable.{IsSolvable};
 ghost use Rattle.ltm_node.specs.Step.{IsNodeStep};
-ghost use Rattle.ltm_node.specs.Narrow.{IsNarrow, HaveLeft, HaveMoved, leaves};
+ghost use Rattle.ltm_node.specs.Narrow.{IsNarrow, HaveLeft, HaveMoved, HaveShifted, leaves};
 
 use crate::inputs::NodeInputs;
 use crate::outputs::NodeOutputs;
 
-/// Writes the counts at the end of the slot where the node is narrow and its out-link can take all that is sent to it;
-/// whether it did.
+/// Writes the counts at the end of the slot where the node is narrow, and its out-link can take all that is sent to it or
+/// is sent to by one arm alone; whether it did.
 #[inline]
 pub fn step_narrow(inputs: &NodeInputs, outputs: &mut NodeOutputs) -> bool
     requires solvable { IsSolvable inputs.now }
@@ -40,10 +40,46 @@ fn write_narrow(inputs: &NodeInputs, outputs: &mut NodeOutputs) -> bool
         return true;
     }
     if total > can_take(inputs) {
-        return false;
+        return write_short(inputs, outputs, total);
     }
     write_rest(inputs, outputs, total, 0);
     true
+}
+
+/// Writes the counts where the out-link is sent more than it can take, if there is one arm alone: it moves what the
+/// out-link can take. Whether it did.
+fn write_short(inputs: &NodeInputs, outputs: &mut NodeOutputs, total: u64) -> bool
+    requires solvable { IsSolvable inputs.now }
+    requires narrow { IsNarrow inputs.now.shape }
+    requires out { inputs.now.shape.outs ≡ 1 }
+    requires elsewhere { is_own inputs.now.shape 0 ≡ false }
+    requires total { total ≡ sum_below inputs.now.shape.arms (leaves inputs.now) }
+    requires short { supply inputs.now 0 < total }
+    requires before { HaveLeft inputs.now inputs.now.shape.arms outputs.old }
+    ensures step { IsTrue result → IsNodeStep inputs.now outputs.new }
+    ensures room { outputs.new.room ≡ outputs.old.room }
+{
+    if inputs.arms() != 1 {
+        return false;
+    }
+    shift(inputs, outputs, inputs.supply(0));
+    true
+}
+
+/// Writes the counts where there are one arm and one out-link, and this amount moves.
+fn shift(inputs: &NodeInputs, outputs: &mut NodeOutputs, amount: u64)
+    requires solvable { IsSolvable inputs.now }
+    requires narrow { IsNarrow inputs.now.shape }
+    requires arm { inputs.now.shape.arms ≡ 1 }
+    requires out { inputs.now.shape.outs ≡ 1 }
+    requires amount { amount ≤ 32000 }
+    requires before { HaveLeft inputs.now 1 outputs.old }
+    ensures after { HaveShifted inputs.now amount outputs.new }
+    ensures room { outputs.new.room ≡ outputs.old.room }
+{
+    outputs.put(0, inputs.left(0, 0) + amount);
+    outputs.put(1, inputs.entered(0, 0) + amount);
+    outputs.put(2, inputs.arrived());
 }
 
 /// What the out-link can take, if there is one.

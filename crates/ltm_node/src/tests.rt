@@ -217,6 +217,14 @@ fn moves_at_one_share_an_arm(rt: HostRuntime) -> Result<(), NoMemory> {
         &[1, 2, 0, 0, 0, 0, 0, 2, 1000, 1, 1],
         &[0, 1, 0, 1, 0],
     )?;
+    // one arm alone moves what its only out-link can take
+    gives(
+        &rt,
+        rt.alloc(),
+        shape(1, 1, 1),
+        &[300, 5, 6, 7, 200, 1000, 3],
+        &[205, 206, 7],
+    )?;
     // two out-links are short, one after the other
     gives(
         &rt,
@@ -264,6 +272,14 @@ fn moves_all_where_there_is_room(rt: HostRuntime) -> Result<(), NoMemory> {
         &[10, 7, 5, 6, 1, 2, 3, 4, 0, 100, 100, 1000, 3, 1, 0, 1],
         &[15, 13, 8, 2, 6, 11, 0],
     )?;
+    // all goes one way
+    gives(
+        &rt,
+        rt.alloc(),
+        shape(2, 1, 1),
+        &[30, 12, 1, 2, 3, 4, 100, 50, 60, 7],
+        &[31, 14, 45, 4],
+    )?;
     // a destination without a split stays
     gives(
         &rt,
@@ -285,6 +301,14 @@ fn moves_to_the_sink(rt: HostRuntime) -> Result<(), NoMemory> {
         shape_of(2, 0, 2, 1),
         &[3, 5, 0, 7, 1, 2, 3, 4, 10, 100, 100],
         &[1, 7, 3, 11, 22],
+    )?;
+    // all is for the node, whatever its out-link can take
+    gives(
+        &rt,
+        rt.alloc(),
+        shape_of(1, 1, 1, 0),
+        &[5, 1, 2, 3, 0, 9, 1],
+        &[6, 2, 8],
     )?;
     // a short out-link holds back what stands in one queue with it; weights for the node itself do not count
     gives(

@@ -1,8 +1,8 @@
 use Rattle.std.specs.Prelude.{◌≡◌, ℕ, ◌*◌, ◌/◌, ◌^◌, ◌<◌, ◌≤◌, List, slice_index}
 
--- how many 2^-48ths a fraction is, rounded down
+-- how many 2^-32nds a fraction is, rounded down
 abbrev pub factor : ℕ → ℕ → ℕ
-factor numerator denominator = numerator * 2 ^ 48 / denominator
+factor numerator denominator = numerator * 2 ^ 32 / denominator
 
 -- the factors of those of five fractions that are at most 1
 abbrev pub AreFactors : ℕ → List ℕ → List ℕ → Type 0

@@ -1,4 +1,4 @@
-//! A fraction of at most 1 as a whole number of 2^-48ths.
+//! A fraction of at most 1 as a whole number of 2^-32nds.
 //!
 //! With it a share of an amount is one product and a shift in nearly all cases.
 ghost use Rattle.std.specs.Prelude.{◌≡◌, ◌<◌, ◌≤◌, ◌*◌, ◌+◌, ◌/◌, ◌^◌};
@@ -6,13 +6,16 @@ ghost use Rattle.ltm_shares.specs.Factors.{factor};
 
 use crate::wide::product;
 
-/// How many 2^-48ths a whole is.
-pub const WHOLE: u64 = 0x1_0000_0000_0000;
+/// How many 2^-32nds a whole is.
+pub const WHOLE: u64 = 0x1_0000_0000;
 
-/// Below this a numerator is brought to 2^-48ths in one division.
-const NARROW: u128 = 0x8000_0000_0000_0000_0000;
+/// Below this a fraction is brought to 2^-32nds in 64 bits.
+const NARROW: u128 = 0x1_0000_0000;
 
-/// How many 2^-48ths a fraction of at most 1 is, rounded down.
+/// Below this it is brought to them in one division.
+const WIDE: u128 = 0x8000_0000_0000_0000_0000_0000;
+
+/// How many 2^-32nds a fraction of at most 1 is, rounded down.
 pub fn factor_of(numerator: u128, denominator: u128) -> u64
     requires positive { 0 < denominator }
     requires small { denominator ≤ 163840000 ^ 4 }
@@ -21,22 +24,28 @@ pub fn factor_of(numerator: u128, denominator: u128) -> u64
     if numerator >= denominator {
         return WHOLE;
     }
-    if denominator < NARROW {
-        return (product(numerator, u128::from(WHOLE)) / denominator) as u64;
+    if numerator == 0 {
+        return 0;
     }
-    long_factor(numerator, denominator)
+    if denominator < NARROW {
+        return numerator as u64 * WHOLE / denominator as u64;
+    }
+    wide_factor(numerator, denominator)
 }
 
-/// The same for a fraction below 1 by three divisions, where one product would be too large.
-fn long_factor(numerator: u128, denominator: u128) -> u64
+/// The same for a fraction below 1, in 128 bits.
+#[inline(never)]
+fn wide_factor(numerator: u128, denominator: u128) -> u64
     requires below_one { numerator < denominator }
     requires small { denominator ≤ 163840000 ^ 4 }
     ensures { result ≡ factor numerator denominator }
 {
+    if denominator < WIDE {
+        return (product(numerator, u128::from(WHOLE)) / denominator) as u64;
+    }
     let (first, rest) = digit(numerator, denominator);
-    let (second, rest) = digit(rest, denominator);
-    let (third, _) = digit(rest, denominator);
-    first * 0x1_0000_0000 + second * 0x1_0000 + third
+    let (second, _) = digit(rest, denominator);
+    first * 0x1_0000 + second
 }
 
 /// How many 2^-16ths a fraction below 1 is, and the numerator of what remains of the next 2^-16th.

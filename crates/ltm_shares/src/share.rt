@@ -11,7 +11,7 @@ pub struct Shares {
     pub denominator: u128,
     /// One for each arm.
     pub numerators: [u128; 5],
-    /// The share of each arm in 2^-48ths, rounded down.
+    /// The share of each arm in 2^-32nds, rounded down.
     factors: [u64; 5],
     ghost positive: { 0 < denominator },
     ghost small: { denominator ≤ 163840000 ^ 4 },
