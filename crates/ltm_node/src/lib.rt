@@ -13,6 +13,7 @@ mod outputs;
 mod shape;
 mod solved;
 mod split;
+mod turns;
 
 pub use inputs::NodeInputs;
 pub use laws::{
