@@ -105,20 +105,24 @@ entered_past n e p b a k m row sent s h km mo none =
       sent_rest = λ i j il jl more. h.sent_rest i j il jl (omega arith);
     }
 
--- an arm moves by one out-link alone
-pub entered_alone : (n : Inputs) (e : ℕ) (p : ℕ → ℕ) (b a k v : ℕ) (row sent row' sent' : List ℕ) → IsSolvable n → IsMoving n e p b a 0 row sent → a < n.shape.arms → b < n.shape.destinations → k < n.shape.outs → length sent ≡ 20 → v ≡ moved n e p a b k →
-    ((j : ℕ) → (j ≡ k → ⊥) → moved n e p a b j ≡ 0) →
-    row' ≡ set row (entered_after_place n.shape k b) (slice_index row (entered_after_place n.shape k b) + v) →
-    sent' ≡ set sent (a * 4 + k) (slice_index sent (a * 4 + k) + v) → IsMoving n e p b a n.shape.outs row' sent'
-entered_alone n e p b a k v row sent row' sent' s h al bl kl long is none er es =
-    let before : IsMoving n e p b a k row sent = entered_past n e p b a 0 k row sent s h (omega arith) (omega arith) (λ j _ less. none j (λ same. absurd (omega arith))) in
-    let after : IsMoving n e p b a (k + 1) row' sent' = entered_on n e p b a k v row sent row' sent' s before al bl kl long is er es in
-    entered_past n e p b a (k + 1) n.shape.outs row' sent' s after (omega arith) (omega arith) (λ j more _. none j (λ same. absurd (omega arith)))
-
 -- what is moved by one out-link alone is all that is moved
-pub sum_alone : (m : ℕ) (f : ℕ → ℕ) (k : ℕ) → k < m → ((j : ℕ) → (j ≡ k → ⊥) → f j ≡ 0) → f k ≡ sum_below m f
+pub sum_alone : (m : ℕ) (f : ℕ → ℕ) (k : ℕ) → k < m → ((j : ℕ) → j < m → (j ≡ k → ⊥) → f j ≡ 0) → f k ≡ sum_below m f
 sum_alone m f k l none =
-    omega (arith, sum_below-change m f (λ _. 0) k l (λ j _ ne. none j ne), sum_below-zero m (λ _. 0) (λ j _. refl))
+    omega (arith, sum_below-change m f (λ _. 0) k l none, sum_below-zero m (λ _. 0) (λ j _. refl))
+
+-- what is moved by two out-links alone is all that is moved
+pub sum_pair : (m : ℕ) (f : ℕ → ℕ) (k l : ℕ) → k < l → l < m → ((j : ℕ) → (j ≡ k → ⊥) → (j ≡ l → ⊥) → f j ≡ 0) → f k + f l ≡ sum_below m f
+sum_pair zero f k l h b none = absurd (omega arith)
+sum_pair (suc m) f k l h b none =
+    elim (cases_lt l m) [
+      | inl low ↦
+          let rest : f k + f l ≡ sum_below m f = sum_pair m f k l h low none in
+          let top : f m ≡ 0 = none m (λ same. absurd (omega arith)) (λ same. absurd (omega arith)) in omega arith
+      | inr high ↦
+          let at : l ≡ m = omega arith in
+          let one : f k ≡ sum_below m f = sum_alone m f k (omega arith) (λ j jl ne. none j ne (λ same. absurd (omega arith))) in
+          let last : f l ≡ f m = ap f at in omega arith
+    ]
 
 -- ---- what left an arm is added
 

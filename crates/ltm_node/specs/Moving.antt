@@ -3,7 +3,9 @@ use Rattle.ltm_units.specs.Sums.{sum_below}
 use Rattle.ltm_shares.specs.declared.share.Shares.{Shares}
 use Rattle.ltm_shares.specs.Shares.{Demands}
 use Rattle.ltm_node.specs.Shape.{counts_width}
-use Rattle.ltm_node.specs.Inputs.{Inputs, left, entered, arrived, supply, capacity}
+use Rattle.ltm_node.specs.declared.turns.Load.{Load}
+use Rattle.ltm_node.specs.declared.turns.Turn.{Turn}
+use Rattle.ltm_node.specs.Inputs.{Inputs, sending, left, entered, arrived, supply, capacity}
 use Rattle.ltm_node.specs.Outputs.{left_after_place, entered_after_place, arrived_after_place}
 use Rattle.ltm_node.specs.Demands.{sent, sent_into}
 use Rattle.ltm_node.specs.Step.{moved, sunk, gone, come}
@@ -37,13 +39,32 @@ pub record IsMoving (n : Inputs) (e : ℕ) (p : ℕ → ℕ) (b a k : ℕ) (row 
   pub sent_rest : (i j : ℕ) → i < n.shape.arms → j < n.shape.outs → a * 4 + k ≤ i * 4 + j →
       slice_index sent (i * 4 + j) ≡ sum_below b (λ d. moved n e p i d j)
 
--- the same at the shares of a node, between two arms
-abbrev pub IsMovingAt : Inputs → Shares → ℕ → ℕ → List ℕ → List ℕ → Type 0
-IsMovingAt n shares b a row sent = IsMoving n shares.denominator (slice_index shares.numerators) b a 0 row sent
+-- the same at the shares of a node
+abbrev pub IsMovingTo : Inputs → Shares → ℕ → ℕ → ℕ → List ℕ → List ℕ → Type 0
+IsMovingTo n shares b a k row sent = IsMoving n shares.denominator (slice_index shares.numerators) b a k row sent
 
--- the same between two destinations
+-- between two arms
+abbrev pub IsMovingAt : Inputs → Shares → ℕ → ℕ → List ℕ → List ℕ → Type 0
+IsMovingAt n shares b a row sent = IsMovingTo n shares b a 0 row sent
+
+-- between two destinations
 abbrev pub IsMovedAt : Inputs → Shares → ℕ → List ℕ → List ℕ → Type 0
 IsMovedAt n shares b row sent = IsMovingAt n shares b 0 row sent
+
+-- what an arm moves to a destination by an out-link, at these shares
+abbrev pub moved_at : Inputs → Shares → ℕ → ℕ → ℕ → ℕ
+moved_at n shares arm destination out = moved n shares.denominator (slice_index shares.numerators) arm destination out
+
+-- what an arm sends to the destination, with the place of the count that has left it
+pub record IsLoad (n : Inputs) (destination : ℕ) (load : Load) : Type 0 where
+  pub arm : load.arm < n.shape.arms
+  pub amount : load.amount ≡ sending n load.arm destination
+  pub place : load.place ≡ left_after_place n.shape load.arm destination
+
+-- an out-link, with the place of the count that has entered it for the destination
+pub record IsTurn (n : Inputs) (destination : ℕ) (turn : Turn) : Type 0 where
+  pub out : turn.out < n.shape.outs
+  pub place : turn.place ≡ entered_after_place n.shape turn.out destination
 
 -- `sent` holds what each arm sends into each out-link
 abbrev pub HoldsSent : Inputs → List ℕ → Type 0

@@ -14,6 +14,7 @@ mod outputs;
 mod shape;
 mod solved;
 mod split;
+mod turns;
 
 pub use inputs::NodeInputs;
 pub use laws::{

@@ -1,61 +1,17 @@
 //! What the arms of a node move at given shares, destination by destination.
 //!
-//! All that goes to a destination is split over the same weights, so they are looked at once for all arms; where one
-//! out-link alone has a weight above 0, nothing is split at all.
-ghost use Rattle.std.specs.Prelude.{◌≡◌, ◌<◌, ◌≤◌, ◌*◌, ◌/◌, ◌+◌, ℕ, false, true, sum, slice_index};
+//! All that goes to a destination is split over the same weights, so they are looked at once for all arms. Where one
+//! out-link alone has a weight above 0, nothing is split at all; where two have, the second takes the rest.
+ghost use Rattle.std.specs.Prelude.{◌≡◌, ◌<◌, ◌+◌, ◌^◌, ℕ, false, true, sum};
 ghost use Rattle.ltm_node.specs.Shape.{is_own};
 ghost use Rattle.ltm_node.specs.Inputs.{weight, weights};
-ghost use Rattle.ltm_node.specs.Demands.{part};
 ghost use Rattle.ltm_node.specs.Solvable.{IsSolvable};
-ghost use Rattle.ltm_node.specs.Moving.{AreFractions, IsMovedAt, IsMovingAt};
+ghost use Rattle.ltm_node.specs.Moving.{AreFractions, IsMovedAt};
 
 use crate::inputs::NodeInputs;
-use crate::split::{only_out, split_parts, whole_weight};
+use crate::split::{first_out, next_out, whole_weight};
+use crate::turns::{load_of, send_alone, send_pair, send_split, sink_amount, turn_of};
 use ltm_shares::Shares;
-
-/// What an arm moves of an amount: its share, rounded down.
-#[inline]
-fn share_of(shares: &Shares, arm: u32, amount: u64) -> u64
-    requires arm { arm < 5 }
-    requires fraction { slice_index shares.now.numerators arm ≤ shares.now.denominator }
-    requires amount { amount ≤ 32000 }
-    ensures { result ≡ slice_index shares.now.numerators arm * amount / shares.now.denominator }
-{
-    if amount == 0 {
-        0
-    } else {
-        shares.of(arm as usize, amount)
-    }
-}
-
-/// Adds what an arm moves to a destination by the only out-link there.
-#[inline]
-fn send_amount(
-    inputs: &NodeInputs,
-    shares: &Shares,
-    destination: u32,
-    out: u32,
-    arm: u32,
-    row: &mut [u64],
-    sent: &mut [u64; 20],
-)
-    requires solvable { IsSolvable inputs.now }
-    requires fractions { AreFractions inputs.now shares.now }
-    requires destination { destination < inputs.now.shape.destinations }
-    requires elsewhere { is_own inputs.now.shape destination ≡ false }
-    requires out { out < inputs.now.shape.outs }
-    requires only { weight inputs.now destination out ≡ sum (weights inputs.now destination) }
-    requires some { 0 < sum (weights inputs.now destination) }
-    requires arm { arm < inputs.now.shape.arms }
-    requires before { IsMovingAt inputs.now shares.now destination arm row.old sent.old }
-    ensures after { IsMovingAt inputs.now shares.now destination (arm + 1) row.new sent.new }
-{
-    let shape = inputs.shape();
-    let moved = share_of(shares, arm, inputs.sending(arm, destination));
-    row[shape.entered_after_place(out, destination)] += moved;
-    sent[arm as usize * 4 + out as usize] += moved;
-    row[shape.left_after_place(arm, destination)] += moved;
-}
 
 /// Adds what all arms move to a destination by the only out-link there.
 fn send_by_one(
@@ -76,18 +32,23 @@ fn send_by_one(
     requires before { IsMovedAt inputs.now shares.now destination row.old sent.old }
     ensures after { IsMovedAt inputs.now shares.now (destination + 1) row.new sent.new }
 {
-    for arm in 0..inputs.arms() {
-        send_amount(inputs, shares, destination, out, arm, row, sent);
+    let shape = inputs.shape();
+    let amounts = inputs.row();
+    let turn = turn_of(inputs, destination, out);
+    for arm in 0..shape.arms {
+        let load = load_of(inputs, shape, amounts, destination, arm);
+        send_alone(inputs, shares, destination, turn, load, row, sent);
     }
 }
 
-/// Adds what an arm moves of the parts of an amount, each by its out-link.
-fn send_parts(
+/// Adds what all arms move to a destination by the only two out-links there.
+fn send_by_two(
     inputs: &NodeInputs,
     shares: &Shares,
     destination: u32,
-    arm: u32,
-    parts: &[u64; 4],
+    first: u32,
+    second: u32,
+    total: u64,
     row: &mut [u64],
     sent: &mut [u64; 20],
 )
@@ -95,48 +56,33 @@ fn send_parts(
     requires fractions { AreFractions inputs.now shares.now }
     requires destination { destination < inputs.now.shape.destinations }
     requires elsewhere { is_own inputs.now.shape destination ≡ false }
-    requires arm { arm < inputs.now.shape.arms }
-    requires parts { (j : ℕ) → j < inputs.now.shape.outs → slice_index parts.now j ≡ part inputs.now arm destination j }
-    requires before { IsMovingAt inputs.now shares.now destination arm row.old sent.old }
-    ensures after { IsMovingAt inputs.now shares.now destination (arm + 1) row.new sent.new }
+    requires second { second < inputs.now.shape.outs }
+    requires order { first < second }
+    requires total { total ≡ sum (weights inputs.now destination) }
+    requires small { total < 2 ^ 40 }
+    requires both { weight inputs.now destination first + weight inputs.now destination second ≡ total }
+    requires rest { 0 < weight inputs.now destination second }
+    requires before { IsMovedAt inputs.now shares.now destination row.old sent.old }
+    ensures after { IsMovedAt inputs.now shares.now (destination + 1) row.new sent.new }
 {
     let shape = inputs.shape();
-    let mut total = 0u64;
-    for out in 0..shape.outs {
-        let moved = share_of(shares, arm, parts[out as usize]);
-        row[shape.entered_after_place(out, destination)] += moved;
-        sent[arm as usize * 4 + out as usize] += moved;
-        total += moved;
+    let amounts = inputs.row();
+    let one = turn_of(inputs, destination, first);
+    let other = turn_of(inputs, destination, second);
+    for arm in 0..shape.arms {
+        let load = load_of(inputs, shape, amounts, destination, arm);
+        send_pair(
+            inputs,
+            shares,
+            destination,
+            one,
+            other,
+            total,
+            load,
+            row,
+            sent,
+        );
     }
-    row[shape.left_after_place(arm, destination)] += total;
-}
-
-/// Adds what an arm moves to a destination by several out-links.
-fn send_split(
-    inputs: &NodeInputs,
-    shares: &Shares,
-    destination: u32,
-    total: u64,
-    arm: u32,
-    row: &mut [u64],
-    sent: &mut [u64; 20],
-)
-    requires solvable { IsSolvable inputs.now }
-    requires fractions { AreFractions inputs.now shares.now }
-    requires destination { destination < inputs.now.shape.destinations }
-    requires elsewhere { is_own inputs.now.shape destination ≡ false }
-    requires total { total ≡ sum (weights inputs.now destination) }
-    requires arm { arm < inputs.now.shape.arms }
-    requires before { IsMovingAt inputs.now shares.now destination arm row.old sent.old }
-    ensures after { IsMovingAt inputs.now shares.now destination (arm + 1) row.new sent.new }
-{
-    let amount = inputs.sending(arm, destination);
-    if amount == 0 {
-        return;
-    }
-    let mut parts = [0u64; 4];
-    split_parts(inputs, destination, amount, total, &mut parts);
-    send_parts(inputs, shares, destination, arm, &parts, row, sent);
 }
 
 /// Adds what all arms move to a destination by several out-links.
@@ -156,33 +102,12 @@ fn send_by_several(
     requires before { IsMovedAt inputs.now shares.now destination row.old sent.old }
     ensures after { IsMovedAt inputs.now shares.now (destination + 1) row.new sent.new }
 {
-    for arm in 0..inputs.arms() {
-        send_split(inputs, shares, destination, total, arm, row, sent);
-    }
-}
-
-/// Adds what an arm moves to the sink.
-#[inline]
-fn sink_amount(
-    inputs: &NodeInputs,
-    shares: &Shares,
-    destination: u32,
-    arm: u32,
-    row: &mut [u64],
-    sent: &[u64; 20],
-)
-    requires solvable { IsSolvable inputs.now }
-    requires fractions { AreFractions inputs.now shares.now }
-    requires destination { destination < inputs.now.shape.destinations }
-    requires here { is_own inputs.now.shape destination ≡ true }
-    requires arm { arm < inputs.now.shape.arms }
-    requires before { IsMovingAt inputs.now shares.now destination arm row.old sent.now }
-    ensures after { IsMovingAt inputs.now shares.now destination (arm + 1) row.new sent.now }
-{
     let shape = inputs.shape();
-    let sunk = share_of(shares, arm, inputs.sending(arm, destination));
-    row[shape.left_after_place(arm, destination)] += sunk;
-    row[shape.arrived_after_place()] += sunk;
+    let amounts = inputs.row();
+    for arm in 0..shape.arms {
+        let load = load_of(inputs, shape, amounts, destination, arm);
+        send_split(inputs, shares, destination, total, load, row, sent);
+    }
 }
 
 /// Adds what all arms move to the sink.
@@ -200,8 +125,45 @@ fn sink_all(
     requires before { IsMovedAt inputs.now shares.now destination row.old sent.now }
     ensures after { IsMovedAt inputs.now shares.now (destination + 1) row.new sent.now }
 {
-    for arm in 0..inputs.arms() {
-        sink_amount(inputs, shares, destination, arm, row, sent);
+    let shape = inputs.shape();
+    let amounts = inputs.row();
+    for arm in 0..shape.arms {
+        let load = load_of(inputs, shape, amounts, destination, arm);
+        sink_amount(inputs, shares, destination, load, row, sent);
+    }
+}
+
+/// Adds what all arms move to a destination that is not the node, where this is the first out-link with a weight above 0.
+fn send_from(
+    inputs: &NodeInputs,
+    shares: &Shares,
+    destination: u32,
+    total: u64,
+    first: u32,
+    row: &mut [u64],
+    sent: &mut [u64; 20],
+)
+    requires solvable { IsSolvable inputs.now }
+    requires fractions { AreFractions inputs.now shares.now }
+    requires destination { destination < inputs.now.shape.destinations }
+    requires elsewhere { is_own inputs.now.shape destination ≡ false }
+    requires total { total ≡ sum (weights inputs.now destination) }
+    requires small { total < 2 ^ 40 }
+    requires some { 0 < total }
+    requires first { first < inputs.now.shape.outs }
+    requires before { IsMovedAt inputs.now shares.now destination row.old sent.old }
+    ensures after { IsMovedAt inputs.now shares.now (destination + 1) row.new sent.new }
+{
+    let weight = inputs.weight(destination, first);
+    if weight == total {
+        send_by_one(inputs, shares, destination, first, row, sent);
+        return;
+    }
+    match next_out(inputs, destination, first, total - weight) {
+        Some(second) => {
+            send_by_two(inputs, shares, destination, first, second, total, row, sent);
+        }
+        None => send_by_several(inputs, shares, destination, total, row, sent),
     }
 }
 
@@ -224,8 +186,8 @@ fn send_all(
     if total == 0 {
         return;
     }
-    match only_out(inputs, destination, total) {
-        Some(out) => send_by_one(inputs, shares, destination, out, row, sent),
+    match first_out(inputs, destination) {
+        Some(first) => send_from(inputs, shares, destination, total, first, row, sent),
         None => send_by_several(inputs, shares, destination, total, row, sent),
     }
 }

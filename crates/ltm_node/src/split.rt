@@ -8,14 +8,14 @@ use crate::inputs::NodeInputs;
 
 /// The part of what is left of an amount that goes to one of the weights that are left.
 #[inline]
-fn part_of(left: u64, weight: u64, rest: u64) -> u64
+pub fn part_of(left: u64, weight: u64, rest: u64) -> u64
     requires left { left ≤ 32000 }
     requires weight { weight ≤ rest }
     requires rest { rest < 2 ^ 40 }
     ensures part { result ≡ left * weight / rest }
     ensures within { result ≤ left }
 {
-    if weight == 0 {
+    if weight == 0 || left == 0 {
         0
     } else if weight == rest {
         left
@@ -79,13 +79,30 @@ pub fn whole_weight(inputs: &NodeInputs, destination: u32) -> u64
     sum_of(inputs.weights(destination))
 }
 
-/// The out-link that alone has a weight above 0 for a destination, if there is one.
-pub fn only_out(inputs: &NodeInputs, destination: u32, total: u64) -> Option<u32>
+/// The first out-link with a weight above 0 for a destination, if there is one.
+pub fn first_out(inputs: &NodeInputs, destination: u32) -> Option<u32>
     requires destination { destination < inputs.now.shape.destinations }
-    ensures { (out : ℕ) → result ≡ Some out → (out < inputs.now.shape.outs) × (weight inputs.now destination out ≡ total) }
+    ensures { (out : ℕ) → result ≡ Some out → out < inputs.now.shape.outs }
 {
     for out in 0..inputs.outs() {
-        if inputs.weight(destination, out) == total {
+        if inputs.weight(destination, out) != 0 {
+            return Some(out);
+        }
+    }
+    None
+}
+
+/// The next out-link after one that has this weight for a destination, if there is one.
+pub fn next_out(inputs: &NodeInputs, destination: u32, after: u32, rest: u64) -> Option<u32>
+    requires destination { destination < inputs.now.shape.destinations }
+    requires after { after < inputs.now.shape.outs }
+    ensures out { (out : ℕ) → result ≡ Some out → out < inputs.now.shape.outs }
+    ensures order { (out : ℕ) → result ≡ Some out → after < out }
+    ensures rest { (out : ℕ) → result ≡ Some out → weight inputs.now destination out ≡ rest }
+{
+    let outs = inputs.outs();
+    for out in after + 1..outs {
+        if inputs.weight(destination, out) == rest {
             return Some(out);
         }
     }
