@@ -3,3 +3,4 @@ pub mod Applying
 pub mod Working
 pub mod Shown
 pub mod InAll
+pub mod Amounts

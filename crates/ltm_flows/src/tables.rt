@@ -4,9 +4,12 @@ ghost use Rattle.ltm_units.specs.Sums.{sum_below};
 ghost use Rattle.ltm_curve.specs.Counts.{total};
 ghost use Rattle.ltm_loading.specs.Totals.{generated};
 ghost use Rattle.ltm_setting.specs.Setting.{setting_of};
+ghost use Rattle.ltm_flows.specs.Amounts.{units_at};
 
 use ltm_scenario::Scenario;
-use ltm_setting::{destination_count, limits, link_count, node_count, produced, slot_count};
+use ltm_setting::{
+    destination_count, is_setting, limits, link_count, node_count, produced, slot_count,
+};
 use ltm_units::{LinkId, Millis, NoMemory, NodeId, Units};
 use std::alloc::Global;
 
@@ -36,15 +39,45 @@ fn produced_at(scenario: &Scenario, node: NodeId, boundary: u32) -> u64
     sum
 }
 
-/// What all origins have produced by a boundary.
-fn generated_at(scenario: &Scenario, boundary: u32) -> u64
-    ensures { result ≡ generated (setting_of scenario.now) boundary }
+/// Writes that nothing has been produced.
+fn clear(into: &mut [Units])
+    ensures { (k : ℕ) → units_at into.new k ≡ 0 }
 {
-    let mut sum = 0;
-    for node in 0..node_count(scenario) {
-        sum += produced_at(scenario, NodeId(node), boundary);
+    for place in 0..into.len() {
+        into[place] = Units(0);
     }
-    sum
+}
+
+/// Adds what the origin of a node has produced by each boundary.
+fn add_produced(scenario: &Scenario, node: NodeId, into: &mut [Units])
+    requires count { length into.old ≡ (setting_of scenario.now).slots + 1 }
+    requires few { node.0 < 8000 }
+    requires small { (k : ℕ) → units_at into.old k ≤ node.0 * 640000000000000 }
+    ensures sums { (k : ℕ) → k ≤ (setting_of scenario.now).slots → units_at into.new k
+        ≡ units_at into.old k + total (setting_of scenario.now).destinations ((setting_of scenario.now).produced node.0) k }
+    ensures small { (k : ℕ) → units_at into.new k ≤ (node.0 + 1) * 640000000000000 }
+{
+    for boundary in 0..slot_count(scenario) + 1 {
+        let produced = produced_at(scenario, node, boundary);
+        let sum = into[boundary as usize].0 + produced;
+        into[boundary as usize] = Units(sum);
+    }
+}
+
+/// Writes what all origins have produced by each boundary. An origin that has produced nothing by the last boundary is
+/// passed over.
+pub(crate) fn write_generated(scenario: &Scenario, into: &mut [Units])
+    requires { length into.old ≡ (setting_of scenario.now).slots + 1 }
+    ensures { (k : ℕ) → k ≤ (setting_of scenario.now).slots → units_at into.new k ≡ generated (setting_of scenario.now) k }
+{
+    is_setting(scenario);
+    clear(into);
+    for node in 0..node_count(scenario) {
+        let node = NodeId(node);
+        if produced_at(scenario, node, slot_count(scenario)) > 0 {
+            add_produced(scenario, node, into);
+        }
+    }
 }
 
 /// What all origins have produced by each boundary.
@@ -54,12 +87,10 @@ pub(crate) fn generated_by_boundary(
 ) -> Result<Vec<Units>, NoMemory>
     ensures count { IfOk result (λ table. length table.items ≡ (setting_of scenario.now).slots + 1) }
     ensures amounts { IfOk result (λ table. (k : ℕ) → k ≤ (setting_of scenario.now).slots
-        → slice_index (map (λ units. units.0) table.items) k ≡ generated (setting_of scenario.now) k) }
+        → units_at table.items k ≡ generated (setting_of scenario.now) k) }
 {
-    let mut table = Vec::new(alloc);
-    for boundary in 0..slot_count(scenario) + 1 {
-        table.push(Units(generated_at(scenario, boundary)))?;
-    }
+    let mut table = vec![in alloc; Units(0); slot_count(scenario) as usize + 1]?;
+    write_generated(scenario, &mut table);
     Ok(table)
 }
 
@@ -71,16 +102,5 @@ pub(crate) fn write_free_times(scenario: &Scenario, into: &mut [Millis])
 {
     for link in 0..link_count(scenario) {
         into[link as usize] = Millis(limits(scenario, LinkId(link)).free_ms);
-    }
-}
-
-/// Writes what all origins have produced by each boundary.
-pub(crate) fn write_generated(scenario: &Scenario, into: &mut [Units])
-    requires { length into.old ≡ (setting_of scenario.now).slots + 1 }
-    ensures { (k : ℕ) → k ≤ (setting_of scenario.now).slots
-        → slice_index (map (λ units. units.0) into.new) k ≡ generated (setting_of scenario.now) k }
-{
-    for boundary in 0..slot_count(scenario) + 1 {
-        into[boundary as usize] = Units(generated_at(scenario, boundary));
     }
 }

@@ -1,11 +1,29 @@
-use Rattle.std.proofs.Common.{arith}
+use Rattle.std.proofs.Common.{◌≡◌, ℕ, ◌+◌, ◌*◌, ◌≤◌, List, arith, sym, ap, subst, ◌∙◌}
 use Rattle.ltm_units.specs.declared.quantities.Units.{Units}
-use Rattle.ltm_loading.specs.Totals.{generated}
+use Rattle.ltm_units.proofs.Sums.{sum_below_more}
+use Rattle.ltm_curve.specs.Counts.{total}
 use Rattle.ltm_setting.specs.Setting.{setting_of}
-use Rattle.ltm_flows.proofs.Amounts.{written}
+use Rattle.ltm_flows.specs.Amounts.{units_at}
+use Rattle.ltm_flows.proofs.Amounts.{none_before}
 use Rattle.ltm_flows.proofs.tables.write_generated.Goals as goal
+use Rattle.ltm_flows.proofs.tables.write_generated.Goals.{then-produced_at-gt0, else-produced_at-gt0}
 
-pub loop-boundary-preserved : goal.loop-boundary-preserved
-loop-boundary-preserved c =
-    written (λ (units : Units). units.0) c.loop-boundary.into c.loop-boundary.boundary _ (generated (setting_of c.args.scenario.now)) (omega (arith, c.loop-boundary.auto.into, c.requires, c.loop-boundary-test.true, c.slot_count-boundary-end.ensures.value)) c.generated_at.ensures
-    c.loop-boundary.invariant
+pub loop-node-preserved : goal.loop-node-preserved
+loop-node-preserved c =
+    let s = setting_of c.args.scenario.now in
+    let made : ℕ → ℕ → ℕ = λ k u. total s.destinations (s.produced u) k in
+    elim c.if-produced_at-gt0.branch [
+      | then-produced_at-gt0 w ↦ record {
+        sums = λ k l. ap (λ (xs : List Units). units_at xs k) w.into-is
+            ∙ (w.add_produced.ensures.sums k l ∙ (ap (λ (z : ℕ). z + made k c.loop-node.node) (c.loop-node.invariant.sums k l) ∙ sym (sum_below_more (made k) c.loop-node.node)));
+        small = λ k. subst (λ (xs : List Units). units_at xs k ≤ (c.loop-node.node + 1) * 640000000000000) (sym w.into-is) (w.add_produced.ensures.small k);
+      }
+      | else-produced_at-gt0 w ↦ record {
+        sums = λ k l.
+            let none : made k c.loop-node.node ≡ 0 = none_before s.destinations (s.produced c.loop-node.node) s.slots k
+            (c.is_setting.ensures.setting.produced_rises c.loop-node.node (omega (arith, c.loop-node-test.true, c.node_count-node-end.ensures.value)))
+            (ap (λ (z : ℕ). made z c.loop-node.node) (sym c.slot_count.ensures.value) ∙ (sym c.produced_at.ensures.total ∙ omega (arith, w.if-produced_at-gt0.false))) l in
+            ap (λ (xs : List Units). units_at xs k) w.into-is ∙ (c.loop-node.invariant.sums k l ∙ omega (arith, none, sum_below_more (made k) c.loop-node.node));
+        small = λ k. subst (λ (xs : List Units). units_at xs k ≤ (c.loop-node.node + 1) * 640000000000000) (sym w.into-is) (omega (arith, c.loop-node.invariant.small k));
+      }
+    ]
