@@ -1,5 +1,5 @@
 //! How an amount for a destination is split over the weights of the out-links.
-ghost use Rattle.std.specs.Prelude.{◌≡◌, ◌<◌, ◌≤◌, ◌*◌, ◌/◌, ◌^◌, ℕ, Some, length, sum, slice_index};
+ghost use Rattle.std.specs.Prelude.{◌≡◌, ◌<◌, ◌≤◌, ◌*◌, ◌/◌, ◌^◌, ◌≢◌, ℕ, Some, None, length, sum, slice_index};
 ghost use Rattle.ltm_units.specs.Nested.{nested_split};
 ghost use Rattle.ltm_node.specs.Inputs.{weight, weights};
 ghost use Rattle.ltm_node.specs.Solvable.{IsSolvable};
@@ -82,7 +82,9 @@ pub fn whole_weight(inputs: &NodeInputs, destination: u32) -> u64
 /// The first out-link with a weight above 0 for a destination, if there is one.
 pub fn first_out(inputs: &NodeInputs, destination: u32) -> Option<u32>
     requires destination { destination < inputs.now.shape.destinations }
-    ensures { (out : ℕ) → result ≡ Some out → out < inputs.now.shape.outs }
+    ensures out { (out : ℕ) → result ≡ Some out → out < inputs.now.shape.outs }
+    ensures some { (out : ℕ) → result ≡ Some out → 0 < weight inputs.now destination out }
+    ensures none { result ≡ None → (out : ℕ) → out < inputs.now.shape.outs → weight inputs.now destination out ≡ 0 }
 {
     for out in 0..inputs.outs() {
         if inputs.weight(destination, out) != 0 {
@@ -99,6 +101,7 @@ pub fn next_out(inputs: &NodeInputs, destination: u32, after: u32, rest: u64) ->
     ensures out { (out : ℕ) → result ≡ Some out → out < inputs.now.shape.outs }
     ensures order { (out : ℕ) → result ≡ Some out → after < out }
     ensures rest { (out : ℕ) → result ≡ Some out → weight inputs.now destination out ≡ rest }
+    ensures none { result ≡ None → (out : ℕ) → after < out → out < inputs.now.shape.outs → weight inputs.now destination out ≢ rest }
 {
     let outs = inputs.outs();
     for out in after + 1..outs {

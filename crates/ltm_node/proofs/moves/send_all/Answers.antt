@@ -17,4 +17,4 @@ returns-then-total-eq0 c =
     }
 
 pub send_from-requires-clause-first : goal.send_from-requires-clause-first
-send_from-requires-clause-first c = c.in-Some.ensures c.in-Some.first refl
+send_from-requires-clause-first c = c.in-Some.ensures.out c.in-Some.first refl
