@@ -8,7 +8,7 @@ use ltm_units::{Millis, NoMemory};
 use std::alloc::Global;
 use std::marker::Model;
 
-/// The limits of a link, and its times counted in slots, so that a loading divides by no step.
+/// The limits of a link, and its times counted in slots, so that a loading finds a boundary without a division.
 #[derive(Clone, Copy)]
 pub struct Timed {
     pub limits: Limits,
