@@ -3,7 +3,7 @@ ghost use Rattle.ltm_setting.specs.Setting.{setting_of};
 
 use ltm_curve::Rows;
 use ltm_scenario::Scenario;
-use ltm_setting::{destination_count, produced};
+use ltm_setting::{destination_count, produced, produced_total};
 use ltm_units::NodeId;
 
 /// What a node has produced of each destination by each boundary.
@@ -29,10 +29,6 @@ impl Rows for Produced<'_> {
     }
 
     fn total(&self, boundary: u32) -> u64 {
-        let mut sum = 0u64;
-        for destination in 0..destination_count(self.scenario) {
-            sum += produced(self.scenario, self.node, destination, boundary);
-        }
-        sum
+        produced_total(self.scenario, self.node, boundary)
     }
 }
