@@ -4,7 +4,7 @@ use Rattle.std.proofs.Math.Nat.{mul-le-mul_right}
 use Rattle.std.proofs.lemmas.Bool.{cases_lt}
 use Rattle.ltm_units.proofs.Sums.{sum_below-same}
 use Rattle.ltm_curve.specs.Blocks.{IsCarried}
-use Rattle.ltm_curve.specs.Totals.{row_sum, AreTotals}
+use Rattle.ltm_curve.specs.Totals.{AreTotals}
 
 -- numbers that are small stay small
 pub small_carried : (old new : List ℕ) (width block most : ℕ) → IsCarried old new width block → ((i : ℕ) → slice_index old i < most) → (i : ℕ) → slice_index new i < most

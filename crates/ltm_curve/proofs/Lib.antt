@@ -7,3 +7,6 @@ pub mod PutOver
 pub mod Totals
 pub mod Blocks
 pub mod Mixing
+pub mod Cells
+pub mod Copying
+pub mod Longer

@@ -1,5 +1,5 @@
 -- Where counts lie in the table.
-use Rattle.std.proofs.Common.{◌≡◌, ◌≢◌, ℕ, ◌+◌, ◌*◌, ◌^◌, ◌<◌, ◌≤◌, List, length, slice_index, slice_set, ℤ, pos, negsuc, ◌≤ℤ◌, arith, refl, inl, inr, ap, sym, ◌∙◌, get_or-set_same, get_or-set_other}
+use Rattle.std.proofs.Common.{◌≡◌, ◌≢◌, ℕ, ◌+◌, ◌*◌, ◌^◌, ◌<◌, ◌≤◌, ◌++◌, List, length, replicate, slice_index, slice_set, ℤ, pos, negsuc, ◌≤ℤ◌, arith, refl, inl, inr, ap, sym, ◌∙◌, get_or-set_same, get_or-set_other}
 use Rattle.std.proofs.Math.Nat.{mul-le-mul_right}
 use Rattle.std.proofs.lemmas.Bool.{cases_lt}
 use Rattle.std.proofs.lemmas.Nat.{same_from_place}
@@ -12,6 +12,7 @@ use Rattle.ltm_curve.specs.Blocks.{IsCarried}
 use Rattle.ltm_curve.specs.CurveLaws.{SameCounts, CountsTellAll}
 use Rattle.ltm_units.proofs.Sums.{sum_below-same, sum_below-most, le-sum_below}
 use Rattle.ltm_curve.proofs.Interpolation.{interpolated_same}
+use Rattle.ltm_curve.proofs.Longer.{at_old, at_new}
 
 pub same_place : (a b : Curves) (g d k : ℕ) → SameShape a b → place a g d k ≡ place b g d k
 same_place a b g d k s = ap (λ (z : ℕ). (k * z + g) * a.destinations + d) s.groups ∙ ap (λ (z : ℕ). (k * b.groups + g) * z + d) s.destinations
@@ -102,3 +103,25 @@ carries_holds old new k s h = record {
         | inr from ↦ h.from (place old g d i) 0 (omega (arith, place_from old g d i (k + 2) (omega arith)))
       ];
 }
+
+-- as many slots more are as many places more
+pub rows_within : (less more groups : ℕ) → less ≤ more → (less + 1) * groups ≤ (more + 1) * groups
+rows_within less more groups l = mul-le-mul_right groups (let x : less + 1 ≤ more + 1 = omega arith in x)
+
+pub places_within : (less more groups width : ℕ) → less ≤ more → (less + 1) * groups * width ≤ (more + 1) * groups * width
+places_within less more groups width l = mul-le-mul_right width (rows_within less more groups l)
+
+-- where zeros come behind the table, the counts that were there stay, and further ones are 0
+pub kept_in : (old new : Curves) (n g d k : ℕ) → groups_of new ≡ groups_of old → destinations_of new ≡ destinations_of old → new.counts.items ≡ old.counts.items ++ replicate n 0 → IsIn old g d k → counts_of new g d k ≡ counts_of old g d k
+unfolding counts_of
+kept_in old new n g d k e f longer x =
+    let at : place new g d k ≡ place old g d k = ap (λ (z : ℕ). (k * z + g) * new.destinations + d) e ∙ ap (λ (z : ℕ). (k * old.groups + g) * z + d) f in
+    let below : place old g d k < (old.slots + 1) * (old.groups * old.destinations) = place_below old g d k (old.slots + 1) x.is_group x.is_destination (omega (arith, x.is_boundary)) in
+    ap (slice_index new.counts.items) at ∙ (ap (λ (xs : List ℕ). slice_index xs (place old g d k)) longer ∙ at_old old.counts.items n (place old g d k) (omega (arith, old.long)))
+
+pub none_past : (old new : Curves) (n g d k : ℕ) → groups_of new ≡ groups_of old → destinations_of new ≡ destinations_of old → new.counts.items ≡ old.counts.items ++ replicate n 0 → slots_of old < k → counts_of new g d k ≡ 0
+unfolding counts_of
+none_past old new n g d k e f longer l =
+    let at : place new g d k ≡ place old g d k = ap (λ (z : ℕ). (k * z + g) * new.destinations + d) e ∙ ap (λ (z : ℕ). (k * old.groups + g) * z + d) f in
+    let past : (old.slots + 1) * (old.groups * old.destinations) ≤ place old g d k = place_from old g d k (old.slots + 1) (omega arith) in
+    ap (slice_index new.counts.items) at ∙ (ap (λ (xs : List ℕ). slice_index xs (place old g d k)) longer ∙ at_new old.counts.items n (place old g d k) (omega (arith, old.long)))

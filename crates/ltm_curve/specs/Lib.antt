@@ -5,3 +5,6 @@ pub mod First
 pub mod FirstLaws
 pub mod Table
 pub mod CurveLaws
+pub mod MarkedCount
+pub mod Cells
+pub mod Copying

@@ -12,6 +12,10 @@ destinations_of c = c.destinations
 abbrev pub slots_of : Curves → ℕ
 slots_of c = c.slots
 
+-- for how many slots there is room
+abbrev pub room_of : Curves → ℕ
+room_of c = c.room
+
 -- the place of a count: all counts of one boundary lie side by side
 abbrev pub place : Curves → ℕ → ℕ → ℕ → ℕ
 place c group destination boundary = (boundary * c.groups + group) * c.destinations + destination

@@ -6,11 +6,14 @@
 //! two destinations or more the totals of the groups lie in a dense table of their own, in the same order, so that looking
 //! back at totals reads few numbers; with one the count is the total.
 ghost use Rattle.std.specs.Prelude.{◌≡◌, ℕ, ◌+◌, ◌*◌, ◌^◌, ◌<◌, ◌≤◌, length, sum, replicate, slice_index, IfOk};
+ghost use Rattle.std.specs.Vec.{vec_capacity};
 ghost use Rattle.ltm_curve.specs.Totals.{AreTotals};
-ghost use Rattle.ltm_curve.specs.Blocks.{IsCarried};
 
 use ltm_units::NoMemory;
 use std::alloc::Global;
+
+mod copies;
+mod room;
 
 /// Groups of rows of counts: a count, in thousandths of a vehicle, for each group, destination and boundary.
 #[derive(Drop)]
@@ -18,6 +21,7 @@ pub struct Curves {
     groups: u32,
     destinations: u32,
     slots: u32,
+    room: u32,
     counts: Vec<u32>,
     totals: Vec<u64>,
     ghost long: { length counts.items ≡ (slots + 1) * groups * destinations },
@@ -26,6 +30,9 @@ pub struct Curves {
     ghost no_totals: { destinations < 2 → length totals.items ≡ 0 },
     ghost all_totals: { 2 ≤ destinations → length totals.items ≡ (slots + 1) * groups },
     ghost sums: { 2 ≤ destinations → AreTotals totals.items counts.items destinations ((slots + 1) * groups) },
+    ghost within: { slots ≤ room },
+    ghost counts_room: { (room + 1) * groups * destinations ≤ vec_capacity counts },
+    ghost totals_room: { 2 ≤ destinations → (room + 1) * groups ≤ vec_capacity totals },
 }
 
 /// The sum of the counts of a row.
@@ -34,25 +41,6 @@ fn sum_of(counts: &[u64]) -> u64
     ensures { result ≡ sum counts.now }
 {
     counts.iter().sum()
-}
-
-/// Takes over all numbers of another table of the same length.
-fn copy_all<T: Copy>(table: &mut Vec<T>, other: &Vec<T>)
-    requires { length table.old.items ≡ length other.now.items }
-    ensures { table.new.items ≡ other.now.items }
-{
-    table.as_mut_slice().copy_from_slice(other.as_slice());
-}
-
-/// Carries a block of numbers of a table of such blocks on to the next block.
-fn carry_block<T: Copy>(table: &mut Vec<T>, width: usize, block: usize)
-    requires within { (block + 2) * width ≤ length table.old.items }
-    ensures { IsCarried table.old.items table.new.items width block }
-{
-    let _length = table.len();
-    let from = block * width;
-    let to = from + width;
-    table.as_mut_slice().copy_within(from..to, to);
 }
 
 /// Writes a row of counts in 32 bits.
@@ -80,9 +68,16 @@ fn zero_totals(alloc: Global, many: usize) -> Result<Vec<u64>, NoMemory>
     vec![in alloc; 0u64; many].map_err(|_| NoMemory)
 }
 
+/// How many totals are kept of so many rows: none where there is one destination, whose count is the total.
+fn total_count(destinations: u32, rows: usize) -> usize
+    ensures several { 2 ≤ destinations → result ≡ rows }
+    ensures alone { destinations < 2 → result ≡ 0 }
+{
+    if destinations < 2 { 0 } else { rows }
+}
+
 impl Curves {
-    ghost use Rattle.ltm_curve.specs.Table.{groups_of, destinations_of, slots_of, place, counts_of, total_of, HasShape, SameShape, IsIn, IsEmpty, Sets, SetsRow, Carries};
-    ghost use Rattle.ltm_curve.specs.CurveLaws.{SameCounts};
+    ghost use Rattle.ltm_curve.specs.Table.{groups_of, destinations_of, slots_of, place, counts_of, total_of, HasShape, IsIn, IsEmpty, Sets, SetsRow};
 
     /// Curves of this shape whose counts are all 0. There are `slots + 1` boundaries.
     #[tactic(auto, unfolding(crate::specs::Table::counts_of))]
@@ -104,11 +99,12 @@ impl Curves {
             return Err(NoMemory);
         };
         let counts = zero_counts(alloc, size)?;
-        let totals = zero_totals(alloc, if destinations < 2 { 0 } else { rows })?;
+        let totals = zero_totals(alloc, total_count(destinations, rows))?;
         Ok(Curves {
             groups,
             destinations,
             slots,
+            room: slots,
             counts,
             totals,
         })
@@ -298,30 +294,5 @@ impl Curves {
         ensures { result ≡ total_of self.now group boundary }
     {
         self.totals[self.row_number(group, boundary)]
-    }
-
-    /// Carries the counts of all groups at a boundary on to the next boundary, and changes no other.
-    pub fn carry(&mut self, boundary: u32)
-        requires { boundary < slots_of self.old }
-        ensures { Carries self.old self.new boundary }
-    {
-        carry_block(
-            &mut self.counts,
-            self.groups as usize * self.destinations as usize,
-            boundary as usize,
-        );
-        if self.destinations > 1 {
-            carry_block(&mut self.totals, self.groups as usize, boundary as usize);
-        }
-    }
-
-    /// Takes over all counts of other curves of the same shape.
-    pub fn copy_from(&mut self, other: &Curves)
-        requires { SameShape self.old other.now }
-        ensures same { SameCounts self.new other.now }
-        ensures all { counts_of self.new ≡ counts_of other.now }
-    {
-        copy_all(&mut self.counts, &other.counts);
-        copy_all(&mut self.totals, &other.totals);
     }
 }

@@ -10,6 +10,7 @@
 //! flat table, and so does a total; a write keeps the total of its row, and a time costs one division more.
 #![tactic(auto)]
 
+mod changed;
 mod composition;
 mod curves;
 mod group;
@@ -18,6 +19,7 @@ mod rows;
 mod share;
 mod times;
 
+pub use changed::Changed;
 pub use composition::first_less_of;
 pub use curves::Curves;
 pub use laws::{

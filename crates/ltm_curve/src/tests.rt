@@ -1,4 +1,4 @@
-use crate::Curves;
+use crate::{Changed, Curves};
 use ltm_units::Millis;
 use std::process::Abort;
 
@@ -75,4 +75,28 @@ fn first_units_and_copies(rt: HostRuntime) {
     }
     copy.carry(1);
     assert!(rt; copy.get(0, 0, 2) == 300 && copy.get(0, 1, 2) == 100 && copy.total(0, 2) == 400);
+}
+
+// Curves of one slot grow to three, and so do the cells that were changed.
+#[test]
+fn longer_curves_and_cells(rt: HostRuntime) {
+    let Ok(mut curves) = Curves::create(rt.alloc(), 1, 1, 1) else {
+        panic!(rt; "no memory");
+    };
+    let Ok(mut changed) = Changed::create(rt.alloc(), 1, 1) else {
+        panic!(rt; "no memory");
+    };
+    curves.set(0, 0, 1, 500);
+    let (Ok(()), Ok(())) = (curves.reserve(3), changed.reserve(3)) else {
+        panic!(rt; "no memory");
+    };
+    assert!(rt; curves.room() >= 3 && changed.room() >= 3);
+    curves.lengthen(3);
+    changed.lengthen(3);
+    assert!(rt; curves.slots() == 3 && curves.get(0, 0, 1) == 500 && curves.get(0, 0, 3) == 0);
+    changed.put(0, 3);
+    changed.put(0, 3);
+    assert!(rt; changed.has(0, 3) && !changed.has(0, 2) && changed.count() == 1);
+    changed.clear();
+    assert!(rt; !changed.has(0, 3) && changed.count() == 0);
 }

@@ -1,4 +1,4 @@
-use Rattle.std.proofs.Common.{◌≡◌, ℕ, ◌-◌, ◌<◌, slice_index, slice_set, get_or-set_same, arith, ap, ◌∙◌}
+use Rattle.std.proofs.Common.{◌≡◌, ◌-◌, slice_index, slice_set, get_or-set_same, arith, ap, ◌∙◌}
 use Rattle.ltm_curve.specs.First.{first_units}
 use Rattle.ltm_curve.proofs.Firsts.{part_inside, only_one}
 use Rattle.ltm_curve.proofs.composition.first_less_of.Goals as goal

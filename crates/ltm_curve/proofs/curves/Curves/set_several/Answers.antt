@@ -19,6 +19,9 @@ invariant_of-self c =
     record {
       long = ap length all ∙ (long ∙ c.args.self.now.long);
       few = c.args.self.now.few;
+      within = c.args.self.now.within;
+      counts_room = c.args.self.now.counts_room;
+      totals_room = c.args.self.now.totals_room;
       small = λ i. omega (
         arith,
         ap (λ (xs : List ℕ). slice_index xs i) all,

@@ -1,5 +1,5 @@
 use Rattle.std.proofs.Common.{◌-◌, slice_index, arith}
-use Rattle.ltm_curve.specs.First.{entries, mixed}
+use Rattle.ltm_curve.specs.First.{mixed}
 use Rattle.ltm_curve.specs.Table.{destinations_of, counts_of}
 use Rattle.ltm_curve.proofs.Firsts.{sum-entries}
 use Rattle.ltm_curve.proofs.Lists.{written}

@@ -1,0 +1,121 @@
+//! Which counts were changed.
+ghost use Rattle.std.specs.Prelude.{◌≡◌, ℕ, ◌+◌, ◌-◌, ◌<◌, ◌≤◌, false, IfOk, OnOk, OnErr, MatchOption};
+ghost use Rattle.ltm_marks.specs.Marks.{rows_of};
+ghost use Rattle.ltm_curve.specs.MarkedCount.{marked_count};
+
+use ltm_marks::Marks;
+use ltm_units::NoMemory;
+use std::alloc::Global;
+
+/// A set of cells, each a group of counts at a boundary: those in which some count was changed.
+#[derive(Drop)]
+pub struct Changed {
+    marks: Marks,
+    count: u64,
+    ghost some_boundary: { 1 ≤ rows_of marks },
+    ghost counted: { count ≡ marked_count marks },
+}
+
+impl Changed {
+    ghost use Rattle.ltm_curve.specs.Cells.{cell_groups, cell_slots, cell_room, is_changed, changed_count, IsCell, HasCells, NoneChanged, SameCells, PutsCell, IsNextCell, NoNextCell};
+
+    /// The cells of so many groups and of `slots + 1` boundaries, none of them changed. There is want of memory also where
+    /// either is more than 65,536.
+    pub fn create(alloc: Global, groups: u32, slots: u32) -> Result<Changed, NoMemory>
+        ensures shape { IfOk result (λ c. HasCells c groups slots) }
+        ensures none { IfOk result NoneChanged }
+    {
+        if groups > 65_536 || slots >= 65_536 {
+            return Err(NoMemory);
+        }
+        let marks = Marks::create(alloc, groups as usize, slots as usize + 1)?;
+        Ok(Changed { marks, count: 0 })
+    }
+
+    /// Puts a cell into the set, and changes no other.
+    pub fn put(&mut self, group: u32, boundary: u32)
+        requires { IsCell self.old group boundary }
+        ensures { PutsCell self.old self.new group boundary }
+    {
+        let _width = self.marks.width();
+        let _rows = self.marks.rows();
+        if !self.has(group, boundary) {
+            self.marks.mark(group as usize, boundary as usize);
+            self.count += 1;
+        }
+    }
+
+    /// Whether a cell is in the set.
+    #[inline]
+    pub fn has(&self, group: u32, boundary: u32) -> bool
+        requires { IsCell self.now group boundary }
+        ensures { result ≡ is_changed self.now group boundary }
+    {
+        self.marks.is_marked(group as usize, boundary as usize)
+    }
+
+    /// How many cells are in the set.
+    #[inline]
+    pub fn count(&self) -> u64
+        ensures { result ≡ changed_count self.now }
+    {
+        self.count
+    }
+
+    /// Takes all cells out of the set.
+    pub fn clear(&mut self)
+        ensures shape { HasCells self.new (cell_groups self.old) (cell_slots self.old) }
+        ensures none { NoneChanged self.new }
+    {
+        self.marks.clear();
+        self.count = 0;
+    }
+
+    /// The first group, not below one, whose cell at a boundary is in the set; none exactly where there is none. Cells are
+    /// looked at 64 at a time.
+    pub(crate) fn next(&self, group: u32, boundary: u32) -> Option<u32>
+        requires { boundary ≤ cell_slots self.now }
+        ensures { MatchOption result (NoNextCell self.now group boundary) (IsNextCell self.now group boundary) }
+    {
+        let _width = self.marks.width();
+        match self.marks.next_marked(boundary as usize, group as usize) {
+            Some(next) => Some(next as u32),
+            None => None,
+        }
+    }
+
+    /// Makes room for so many slots. Nothing else that is seen changes; with want of memory nothing at all. There is want
+    /// of memory also past 65,535 slots.
+    pub fn reserve(&mut self, slots: u32) -> Result<(), NoMemory>
+        ensures same { SameCells self.old self.new }
+        ensures room { OnOk result (slots ≤ cell_room self.new) }
+        ensures no_less { cell_room self.old ≤ cell_room self.new }
+        ensures stays { OnErr result (cell_room self.new ≡ cell_room self.old) }
+    {
+        if slots >= 65_536 {
+            return Err(NoMemory);
+        }
+        self.marks.reserve(slots as usize + 1)
+    }
+
+    /// The greatest number of slots for which there is room.
+    pub fn room(&self) -> u32
+        ensures value { result ≡ cell_room self.now }
+        ensures within { cell_slots self.now ≤ result }
+    {
+        let _marks = &self.marks;
+        (self.marks.room() - 1) as u32
+    }
+
+    /// Raises the number of slots within the room. No cell at a new boundary is in the set.
+    pub fn lengthen(&mut self, slots: u32)
+        requires slots { cell_slots self.old ≤ slots }
+        requires room { slots ≤ cell_room self.old }
+        ensures shape { HasCells self.new (cell_groups self.old) slots }
+        ensures room { cell_room self.new ≡ cell_room self.old }
+        ensures cells { (g k : ℕ) → is_changed self.new g k ≡ is_changed self.old g k }
+        ensures none { (g k : ℕ) → g < cell_groups self.old → cell_slots self.old < k → is_changed self.new g k ≡ false }
+    {
+        self.marks.lengthen(slots as usize + 1);
+    }
+}
