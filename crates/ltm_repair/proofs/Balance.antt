@@ -10,7 +10,7 @@ use Rattle.ltm_repair.specs.Counting.{claims_out}
 use Rattle.ltm_repair.specs.State.{RepairState, now}
 use Rattle.ltm_repair.specs.Repair.{IsRepair}
 use Rattle.ltm_repair.specs.Events.{CoreEvent, Look, Claim, GiveBack, Commit, Accept, Publish, Settle, Stay, Happens}
-use Rattle.ltm_repair.specs.Runs.{in_all, claim_in, give_back_in, commit_in, commits_in, batch_in}
+use Rattle.ltm_repair.specs.Runs.{in_all, look_in, claim_in, give_back_in, commit_in, work_in, commits_in, batch_in}
 use Rattle.ltm_repair.specs.Work.{ClaimsBalance, WorkIsBounded}
 use Rattle.ltm_repair.proofs.Cases.{cases_option}
 use Rattle.ltm_loading.proofs.PairSums.{sum_pairs-change}
@@ -81,9 +81,14 @@ claims_balance s e (x ∷ xs) is run plain =
     omega (event_out s x run.0 is run.1 none.first, there, arith)
 
 -- ---- bounds
+four_kinds : (events : List CoreEvent) → in_all work_in events ≡ in_all look_in events + in_all claim_in events + commits_in events + in_all give_back_in events
+four_kinds [] = refl
+four_kinds (x ∷ xs) = omega (four_kinds xs, arith)
+
 pub work_is_bounded : WorkIsBounded
 work_is_bounded s e events is none run plain =
     omega (
+      four_kinds events,
       claims_balance s e events is run plain,
       none,
       commits_are_bounded s e events is run plain,

@@ -34,6 +34,10 @@ abbrev pub batch_in : CoreEvent → ℕ
 batch_in Accept = 1
 batch_in other = 0
 
+-- 1 where the event is what a worker does: a claim with or without a pair, a commit, or a give-back
+abbrev pub work_in : CoreEvent → ℕ
+work_in x = look_in x + claim_in x + commit_in x + give_back_in x
+
 -- 1 where the event commits this pair
 abbrev pub commit_of : ℕ → ℕ → CoreEvent → ℕ
 commit_of u t (Commit w v) = if (u == w) && (t == v) then 1 else 0

@@ -9,7 +9,7 @@ use Rattle.ltm_repair.specs.Counting.{left_to_do, undone, claims_out}
 use Rattle.ltm_repair.specs.State.{RepairState, now}
 use Rattle.ltm_repair.specs.Repair.{IsRepair}
 use Rattle.ltm_repair.specs.Events.{CoreEvent, Accepted}
-use Rattle.ltm_repair.specs.Runs.{CoreRun, in_all, look_in, claim_in, give_back_in, commits_of, commits_in, AcceptsNothing}
+use Rattle.ltm_repair.specs.Runs.{CoreRun, in_all, look_in, claim_in, give_back_in, work_in, commits_of, commits_in, AcceptsNothing}
 
 -- between two accepted batches no pair is committed twice
 abbrev pub NoneTwice : Type 0
@@ -61,10 +61,9 @@ ClaimsBalance =
     claims_out (now e).nodes (now e).slots e.desk + (commits_in events + in_all give_back_in events)
     ≡ claims_out (now s).nodes (now s).slots s.desk + in_all claim_in events
 
--- so from no claims out, the claims, commits, give-backs and looks of a schedule are at most two for each pair, two for each
--- give-back, and the looks
+-- so from no claims out, a schedule has at most two events for each pair, two for each give-back, and the claims that found
+-- no pair
 abbrev pub WorkIsBounded : Type 0
 WorkIsBounded =
     (s e : RepairState) (events : List CoreEvent) → IsRepair s → claims_out (now s).nodes (now s).slots s.desk ≡ 0 → CoreRun s events e → AcceptsNothing events →
-    in_all claim_in events + commits_in events + in_all give_back_in events + in_all look_in events
-    ≤ 2 * ((now s).nodes * (now s).slots) + 2 * in_all give_back_in events + in_all look_in events
+    in_all work_in events ≤ 2 * ((now s).nodes * (now s).slots) + 2 * in_all give_back_in events + in_all look_in events
