@@ -11,4 +11,5 @@ pub mod Runs
 pub mod Work
 pub mod Settling
 pub mod Balance
+pub mod Index
 pub mod Making

@@ -10,4 +10,5 @@ pub mod Answers
 pub mod Kept
 pub mod Work
 pub mod Settling
+pub mod Index
 pub mod Making

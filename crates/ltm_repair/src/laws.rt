@@ -24,6 +24,7 @@ ghost use Rattle.ltm_repair.specs.Settling.{
   SettlesExactly,
   CountIsBounded,
 };
+ghost use Rattle.ltm_repair.specs.Index.{IndexStaysCurrent};
 ghost use Rattle.ltm_repair.specs.Making.{
   IdleIsFront,
   ClaimsAreSolvable,
@@ -124,6 +125,11 @@ pub fn settles_exactly()
 /// The count never passes the pairs for each batch since the last settle count.
 pub fn count_is_bounded()
     ensures { CountIsBounded }
+{}
+
+/// An index that has the positions of each idle pair has them after every move of the desk.
+pub fn index_stays_current()
+    ensures { IndexStaysCurrent }
 {}
 
 /// Where all earlier pairs are idle, the counts are the front of a loading.
