@@ -13,3 +13,4 @@ pub mod Settling
 pub mod Balance
 pub mod Index
 pub mod Making
+pub mod OneRoad

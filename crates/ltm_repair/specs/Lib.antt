@@ -12,3 +12,4 @@ pub mod Work
 pub mod Settling
 pub mod Index
 pub mod Making
+pub mod OneRoad

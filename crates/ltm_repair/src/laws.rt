@@ -31,6 +31,7 @@ ghost use Rattle.ltm_repair.specs.Making.{
   AppliedSets,
   AnswersAreEvents,
 };
+ghost use Rattle.ltm_repair.specs.OneRoad.{OneRoadIsRepaired};
 
 /// A repair that begins with a loading, shown and kept and at rest, has all the facts.
 pub fn opening_is_repair()
@@ -150,4 +151,9 @@ pub fn applied_sets()
 /// Whatever a call answers, an event has happened.
 pub fn answers_are_events()
     ensures { AnswersAreEvents }
+{}
+
+/// One road whose entry is closed for a slot: every repair, in whatever order, commits 5 of the 8 pairs, each once.
+pub fn one_road_is_repaired()
+    ensures { OneRoadIsRepaired }
 {}
