@@ -3,6 +3,8 @@ ghost use Rattle.ltm_repair.specs.Kept.{
   OpeningIsRepair,
   RunsKeepFacts,
   RestIsLoading,
+  ShownIsLoading,
+  PublishingShowsAll,
   RunsTakeNothingBack,
   ClaimsHaveChanged,
   BatchesWakeTouched,
@@ -46,6 +48,16 @@ pub fn runs_keep_facts()
 /// At rest the working counts are the loading of the setting as it is now.
 pub fn rest_is_loading()
     ensures { RestIsLoading }
+{}
+
+/// What is shown is the loading of as many batches as are shown; where these are all, the repair is at rest.
+pub fn shown_is_loading()
+    ensures { ShownIsLoading }
+{}
+
+/// After publishing, and after a settle count, what is shown is the loading of all batches.
+pub fn publishing_shows_all()
+    ensures { PublishingShowsAll }
 {}
 
 /// The shown number never falls, and accepted batches stay.
