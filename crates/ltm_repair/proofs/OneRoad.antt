@@ -11,7 +11,7 @@ use Rattle.ltm_repair.specs.State.{RepairState, now}
 use Rattle.ltm_repair.specs.Repair.{IsOpening}
 use Rattle.ltm_repair.specs.Events.{CoreEvent}
 use Rattle.ltm_repair.specs.Runs.{commits_of, commits_in}
-use Rattle.ltm_repair.specs.OneRoad.{road_opening, IsClosure, ClosureCommits, OneRoadIsRepaired}
+use Rattle.ltm_repair.specs.OneRoad.{road_opening, RepairsClosure, ClosureCommits, OneRoadIsRepaired}
 use Rattle.ltm_repair.proofs.Work.{commits_differences, commits_are_differing}
 
 opening : IsOpening road_opening
@@ -30,24 +30,24 @@ opening = record {
 abbrev differs : ℕ → ℕ → ℕ
 differs u t = unlike (row_of (one_road 32000) open_counts u t) (Some (pair_row (one_road 0) closed_counts u t))
 
-one_pair : (s m e : RepairState) (touched : ℕ → ℕ → Bool) (events : List CoreEvent) → IsClosure s m e touched events → (u t : ℕ) → u < 2 → t < 4 → commits_of u t events ≡ differs u t
+one_pair : (s m e : RepairState) (touched : ℕ → ℕ → Bool) (events : List CoreEvent) → RepairsClosure s m e touched events → (u t : ℕ) → u < 2 → t < 4 → commits_of u t events ≡ differs u t
 one_pair s m e touched events h u t x l =
     let first : IsLoading (now s) open_counts = rw h.was_open open_loading in
     let second : IsLoading (now m) closed_counts = rw h.is_closed closed_loading in
     let node : u < (now m).nodes = rw h.is_closed x in
     let slot : t < (now m).slots = rw h.is_closed l in
     let count : commits_of u t events ≡ unlike (row_of (now s) open_counts u t) (Some (pair_row (now m) closed_counts u t)) =
-    commits_differences s m e touched events open_counts closed_counts h.repair h.rest h.batch h.run h.no_other h.rest_again first second u t node slot in
+    commits_differences s m e touched events open_counts closed_counts h.repair first second u t node slot in
     let P : Setting → Setting → Type 0 = λ q r. commits_of u t events ≡ unlike (row_of q open_counts u t) (Some (pair_row r closed_counts u t)) in
     let over : P (one_road 32000) (now m) = subst (λ (q : Setting). P q (now m)) h.was_open count in
     subst (λ (r : Setting). P (one_road 32000) r) h.is_closed over
 
-in_all : (s m e : RepairState) (touched : ℕ → ℕ → Bool) (events : List CoreEvent) → IsClosure s m e touched events → commits_in events ≡ 5
+in_all : (s m e : RepairState) (touched : ℕ → ℕ → Bool) (events : List CoreEvent) → RepairsClosure s m e touched events → commits_in events ≡ 5
 in_all s m e touched events h =
     let first : IsLoading (now s) open_counts = rw h.was_open open_loading in
     let second : IsLoading (now m) closed_counts = rw h.is_closed closed_loading in
     let count : commits_in events ≡ differing (now s) (now m) open_counts closed_counts =
-    commits_are_differing s m e touched events open_counts closed_counts h.repair h.rest h.batch h.run h.no_other h.rest_again first second in
+    commits_are_differing s m e touched events open_counts closed_counts h.repair first second in
     let P : Setting → Setting → Type 0 = λ q r. commits_in events ≡ differing q r open_counts closed_counts in
     let over : P (one_road 32000) (now m) = subst (λ (q : Setting). P q (now m)) h.was_open count in
     let there : P (one_road 32000) (one_road 0) = subst (λ (r : Setting). P (one_road 32000) r) h.is_closed over in
@@ -56,7 +56,7 @@ in_all s m e touched events h =
 four : (a b c d w x y z : ℕ) → a ≡ w → b ≡ x → c ≡ y → d ≡ z → a ∷ b ∷ c ∷ d ∷ [] ≡ w ∷ x ∷ y ∷ z ∷ []
 four a b c d w x y z p q r s = rw (p, q, r, s) refl
 
-closure : (s m e : RepairState) (touched : ℕ → ℕ → Bool) (events : List CoreEvent) → IsClosure s m e touched events → ClosureCommits events
+closure : (s m e : RepairState) (touched : ℕ → ℕ → Bool) (events : List CoreEvent) → RepairsClosure s m e touched events → ClosureCommits events
 unfolding unlike
 closure s m e touched events h =
     let pair : (u t : ℕ) → u < 2 → t < 4 → commits_of u t events ≡ differs u t = one_pair s m e touched events h in

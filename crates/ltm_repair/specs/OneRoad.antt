@@ -2,11 +2,11 @@
 use Rattle.std.specs.Prelude.{◌≡◌, ℕ, List, [], ◌∷◌, map, Some, None, Bool, false}
 use Rattle.ltm_loading.specs.Pairs.{pair_row}
 use Rattle.ltm_loading.specs.OneRoad.{one_road, open_counts}
-use Rattle.ltm_repair.specs.Desk.{IsAtRest}
 use Rattle.ltm_repair.specs.State.{RepairState, now}
-use Rattle.ltm_repair.specs.Repair.{IsRepair, IsOpening}
-use Rattle.ltm_repair.specs.Events.{CoreEvent, Accepted}
-use Rattle.ltm_repair.specs.Runs.{CoreRun, commits_of, commits_in, AcceptsNothing}
+use Rattle.ltm_repair.specs.Repair.{IsOpening}
+use Rattle.ltm_repair.specs.Events.{CoreEvent}
+use Rattle.ltm_repair.specs.Runs.{commits_of, commits_in}
+use Rattle.ltm_repair.specs.Work.{RepairsOneBatch}
 
 -- the open road, loaded and kept
 abbrev pub road_opening : RepairState
@@ -21,16 +21,11 @@ road_opening = record {
   changed = λ g k. false;
 }
 
--- the entry is closed for slot 0 at rest, and the repair is at rest again
-pub record IsClosure (s m e : RepairState) (touched : ℕ → ℕ → Bool) (events : List CoreEvent) : Type 0 where
-  pub repair : IsRepair s
+-- a repair of the open road after its entry is closed for slot 0
+pub record RepairsClosure (s m e : RepairState) (touched : ℕ → ℕ → Bool) (events : List CoreEvent) : Type 0 where
   pub was_open : now s ≡ one_road 32000
-  pub rest : IsAtRest (now s) s.desk
-  pub batch : Accepted s touched m
   pub is_closed : now m ≡ one_road 0
-  pub run : CoreRun m events e
-  pub no_other : AcceptsNothing events
-  pub rest_again : IsAtRest (now e) e.desk
+  pub repair : RepairsOneBatch s m e touched events
 
 -- how often each pair of a node was committed, slot by slot
 abbrev pub commits_at : ℕ → List CoreEvent → List ℕ
@@ -45,4 +40,4 @@ pub record ClosureCommits (events : List CoreEvent) : Type 0 where
 -- the open road is where a repair can begin; every repair of the closure, in whatever order, makes these commits
 pub record OneRoadIsRepaired : Type 0 where
   pub opening : IsOpening road_opening
-  pub closure : (s m e : RepairState) (touched : ℕ → ℕ → Bool) (events : List CoreEvent) → IsClosure s m e touched events → ClosureCommits events
+  pub closure : (s m e : RepairState) (touched : ℕ → ℕ → Bool) (events : List CoreEvent) → RepairsClosure s m e touched events → ClosureCommits events
