@@ -8,7 +8,8 @@ use crate::lists::{put_first, take_out};
 use ltm_units::{LinkId, NoMemory};
 use std::alloc::Global;
 
-/// For each link and boundary the slots that read there, as a list. A slot stands in at most one list of a link.
+/// For each link and boundary the slots that read there, as a list. A slot stands in at most one list of a link, and the
+/// boundary of that list is its entry.
 #[derive(Drop)]
 pub struct ReadIndex {
     slots: u32,
@@ -35,7 +36,8 @@ fn slot_named(pointer: u32) -> Option<u32>
 impl ReadIndex {
     ghost use Rattle.ltm_index.specs.Lists.{links_of, slots_of, room_of, list_of, Lifts, Places, SameLists, IsEmpty, IsEmptyFrom};
 
-    /// An index of so many links and slots, in which every list is empty. There is one boundary more than slots.
+    /// An index of so many links and slots, at most 4,000 and 10,000, in which every list is empty. There is one boundary
+    /// more than slots.
     pub fn create(alloc: Global, links: u32, slots: u32) -> Result<ReadIndex, NoMemory>
         requires links { links ≤ 4000 }
         requires slots { slots ≤ 10000 }
@@ -98,7 +100,8 @@ impl ReadIndex {
         slot_named(self.pointer_after(link, boundary, after))
     }
 
-    /// Makes room for a horizon of so many slots, and changes nothing else. With want of memory nothing changes.
+    /// Makes room for a horizon of so many slots, at most 10,000, and changes nothing else. With want of memory nothing
+    /// changes.
     pub fn reserve(&mut self, slots: u32) -> Result<(), NoMemory>
         requires { slots ≤ 10000 }
         ensures same { SameLists self.old self.new }
