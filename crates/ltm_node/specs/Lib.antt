@@ -4,7 +4,9 @@ pub mod Laws
 pub mod Moving
 pub mod Narrow
 pub mod Outputs
+pub mod Portion
 pub mod Shape
 pub mod Solution
 pub mod Solvable
+pub mod Splitting
 pub mod Step

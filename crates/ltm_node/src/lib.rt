@@ -7,14 +7,15 @@
 
 mod inputs;
 mod laws;
+mod loads;
 mod moves;
 mod narrow;
 mod node_step;
 mod outputs;
+mod portion;
 mod shape;
 mod solved;
 mod split;
-mod turns;
 
 pub use inputs::NodeInputs;
 pub use laws::{

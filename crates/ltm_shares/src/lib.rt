@@ -11,10 +11,12 @@ mod demands;
 mod factor;
 mod laws;
 mod rounds;
+mod sent;
 mod share;
 mod wide;
 
 pub use demands::NodeDemands;
 pub use laws::one_solution;
 pub use rounds::shares;
+pub use sent::{ARMS, OUTS, Sent};
 pub use share::Shares;
