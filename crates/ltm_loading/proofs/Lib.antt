@@ -21,3 +21,4 @@ pub mod ReadsSame
 pub mod Unlike
 pub mod PairSums
 pub mod DifferingLaws
+pub mod OneRoad

@@ -12,3 +12,4 @@ pub mod Totals
 pub mod Networks
 pub mod Reads
 pub mod Differing
+pub mod OneRoad

@@ -34,6 +34,7 @@ ghost use Rattle.ltm_loading.specs.Differing.{
   DifferencesAddUp,
   DifferingEitherWay,
 };
+ghost use Rattle.ltm_loading.specs.OneRoad.{OneRoadIsWorked};
 
 /// No count falls from one boundary to the next.
 pub fn never_fall()
@@ -186,4 +187,9 @@ pub fn differences_add_up()
 /// With equal horizons, as many pairs differ the one way as the other.
 pub fn differing_either_way()
     ensures { DifferingEitherWay }
+{}
+
+/// What the pairs of one road read before and after its entry is closed for a slot, worked by hand: 5 of 8 differ.
+pub fn one_road_is_worked()
+    ensures { OneRoadIsWorked }
 {}
