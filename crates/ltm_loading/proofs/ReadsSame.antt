@@ -4,7 +4,7 @@ use Rattle.std.proofs.lemmas.Bool.{cases_lt}
 use Rattle.ltm_units.specs.Sums.{sum_below}
 use Rattle.ltm_units.proofs.Sums.{sum_below-same}
 use Rattle.ltm_curve.specs.Counts.{Counts, total}
-use Rattle.ltm_curve.specs.First.{list_below, first_units}
+use Rattle.ltm_curve.specs.First.{list_below, last_within, first_units}
 use Rattle.ltm_loading.specs.Setting.{Setting}
 use Rattle.ltm_loading.specs.Groups.{up_of, down_of, dep_of, arr_of}
 use Rattle.ltm_loading.specs.Flows.{earlier, limited, link_goal, link_first, link_sending, origin_goal, origin_sending, receiving}
@@ -12,7 +12,7 @@ use Rattle.ltm_loading.specs.Pairs.{arms_of, sending, arm_group, arm_capacity, a
 use Rattle.ltm_loading.proofs.Picks.{pick_first, pick_second}
 use Rattle.ltm_loading.proofs.Same.{list_below-same, grid-same, total-same, first_units-same}
 use Rattle.ltm_loading.specs.Networks.{SameNetwork, SameFor}
-use Rattle.ltm_loading.specs.Reads.{SettingReadOnly, InputsByParts}
+use Rattle.ltm_loading.specs.Reads.{PositionReadOnly, SettingReadOnly, InputsByParts}
 
 -- a table with other sides of the same lengths
 grid_over : (h w h' w' : ℕ) (f g : ℕ → ℕ → ℕ) → h ≡ h' → w ≡ w' → ((i k : ℕ) → i < h' → k < w' → f i k ≡ g i k) → grid h w f ≡ grid h' w' g
@@ -141,3 +141,8 @@ setting_read_only_holds r s c u t h =
       origin_capacity = h.origin_capacity;
       weight = h.weight;
     })
+
+pub position_read_only_holds : PositionReadOnly
+position_read_only_holds r s c u t i h x =
+    ap (λ (f : ℕ → ℕ). last_within f (link_goal r c (s.in_link u i) t) t) (total_over r s (c (up_of (s.in_link u i))) h.network)
+    ∙ ap (λ n. last_within (total s.destinations (c (up_of (s.in_link u i)))) n t) (goal_over r s c (s.in_link u i) t h.network h.step (h.free_time i x) (h.in_capacity i x))

@@ -4,8 +4,9 @@
 -- units a slot and its storage 3000 units. n1 produces 500 units for n2 in each of the slots 0 and 1.
 use Rattle.std.specs.Prelude.{◌≡◌, ℕ, ◌==◌, List, [], ◌∷◌, map, slice_index, slice_index_or, if◌then◌else◌, Some, None}
 use Rattle.ltm_curve.specs.Counts.{Counts}
-use Rattle.ltm_loading.specs.Setting.{Setting}
+use Rattle.ltm_loading.specs.Setting.{Setting, IsSetting}
 use Rattle.ltm_loading.specs.Pairs.{pair_row}
+use Rattle.ltm_loading.specs.Loading.{IsLoading}
 use Rattle.ltm_loading.specs.Differing.{differing}
 
 -- n1 is node 0; n2 is node 1 and destination 0; so many units may enter a in slot 0
@@ -51,10 +52,13 @@ closed_counts = road_counts (0 ∷ 0 ∷ 500 ∷ 1000 ∷ 1000 ∷ []) (0 ∷ 0 
 abbrev pub rows_of : ℕ → Counts → ℕ → List (List ℕ)
 rows_of limit counts node = map (pair_row (one_road limit) counts node) (0 ∷ 1 ∷ 2 ∷ 3 ∷ [])
 
--- n1 reads what its origin sends, what has left it, what has entered a, no arrivals, what a can take, a capacity and a
--- weight; n2 reads what a sends, what has left it, what has arrived, and the capacity of a. Slots 0 to 2 of n1 and slots 2
--- and 3 of n2 differ.
+-- both are loadings. n1 reads what its origin sends, what has left it, what has entered a, no arrivals, what a can take, a
+-- capacity and a weight; n2 reads what a sends, what has left it, what has arrived, and the capacity of a. Slots 0 to 2 of n1
+-- and slots 2 and 3 of n2 differ.
 pub record OneRoadIsWorked : Type 0 where
+  pub setting : (limit : ℕ) → IsSetting (one_road limit)
+  pub before : IsLoading (one_road 32000) open_counts
+  pub after : IsLoading (one_road 0) closed_counts
   pub n1_before : rows_of 32000 open_counts 0 ≡
       (500 ∷ 0 ∷ 0 ∷ 0 ∷ 500 ∷ 1000 ∷ 1 ∷ []) ∷ (500 ∷ 500 ∷ 500 ∷ 0 ∷ 500 ∷ 1000 ∷ 1 ∷ [])
       ∷ (0 ∷ 1000 ∷ 1000 ∷ 0 ∷ 500 ∷ 1000 ∷ 1 ∷ []) ∷ (0 ∷ 1000 ∷ 1000 ∷ 0 ∷ 500 ∷ 1000 ∷ 1 ∷ []) ∷ []

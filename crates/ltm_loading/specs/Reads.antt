@@ -3,7 +3,7 @@ use Rattle.std.specs.Prelude.{◌≡◌, ℕ, ◌<◌, ◌≤◌, ◌⊎◌, Som
 use Rattle.ltm_curve.specs.Counts.{Counts}
 use Rattle.ltm_loading.specs.Setting.{Setting, IsSetting}
 use Rattle.ltm_loading.specs.Groups.{up_of, down_of, dep_of, arr_of, groups}
-use Rattle.ltm_loading.specs.Flows.{link_sending, origin_sending, receiving}
+use Rattle.ltm_loading.specs.Flows.{position, link_sending, origin_sending, receiving}
 use Rattle.ltm_loading.specs.Pairs.{arrived_by, pair_row, count_row}
 use Rattle.ltm_loading.specs.Networks.{SameNetwork, SameFor}
 use Rattle.ltm_loading.specs.NextPair.{IsOf}
@@ -27,6 +27,11 @@ InputsReadOnly =
 -- two settings of one network that give a pair the same numbers give it the same inputs
 abbrev pub SettingReadOnly : Type 0
 SettingReadOnly = (r s : Setting) (c : Counts) (u t : ℕ) → SameFor r s u t → pair_row r c u t ≡ pair_row s c u t
+
+-- and its in-links the same positions
+abbrev pub PositionReadOnly : Type 0
+PositionReadOnly =
+    (r s : Setting) (c : Counts) (u t i : ℕ) → SameFor r s u t → i < s.ins u → position r c (s.in_link u i) t ≡ position s c (s.in_link u i) t
 
 -- each part of what a pair reads is the same of two settings of one network and two counts
 pub record ReadsSame (r s : Setting) (a b : Counts) (u t : ℕ) : Type 0 where

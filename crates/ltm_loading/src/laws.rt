@@ -24,6 +24,7 @@ ghost use Rattle.ltm_loading.specs.Ready.{LinksAreReady, OriginsAreReady};
 ghost use Rattle.ltm_loading.specs.Reads.{
   InputsReadOnly,
   SettingReadOnly,
+  PositionReadOnly,
   InputsByParts,
   CountsSetOnly,
   SetByOnePair,
@@ -121,6 +122,11 @@ pub fn inputs_read_only()
 /// for a pair, the pair does not notice.
 pub fn setting_read_only()
     ensures { SettingReadOnly }
+{}
+
+/// So are the positions of its in-links: the boundaries by which no more has entered than may have left.
+pub fn position_read_only()
+    ensures { PositionReadOnly }
 {}
 
 /// Inputs of which each part is the same are the same.

@@ -14,7 +14,7 @@ use Rattle.ltm_repair.specs.State.{RepairState, now, AreLoadings, batch_differen
 use Rattle.ltm_repair.specs.Repair.{AreOfOneNetwork, ShowsALoading, CountsTheWork, IsRepair}
 use Rattle.ltm_repair.specs.Events.{Accepted}
 use Rattle.ltm_repair.proofs.Networks.{network_refl, network_trans, groups_same}
-use Rattle.ltm_repair.proofs.Keeps.{accept_keeps}
+use Rattle.ltm_repair.proofs.KeepsBatch.{accept_keeps}
 use Rattle.ltm_repair.proofs.Waits.{all_undone}
 use Rattle.ltm_repair.proofs.LeftToDo.{accept_left, accept_strays}
 use Rattle.ltm_repair.proofs.Books.{settled_within}

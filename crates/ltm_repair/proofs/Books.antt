@@ -9,7 +9,8 @@ use Rattle.ltm_repair.specs.State.{RepairState, now, all_differences}
 use Rattle.ltm_repair.specs.Repair.{AreOfOneNetwork, ShowsALoading, CountsTheWork, IsRepair}
 use Rattle.ltm_repair.specs.Events.{SameBooks, OnlyDesk, Looked, Claimed, GaveBack, Committed, Published, Settled}
 use Rattle.ltm_repair.proofs.Cases.{cases_option}
-use Rattle.ltm_repair.proofs.Keeps.{drop_keeps, take_keeps, give_back_keeps, commit_keeps}
+use Rattle.ltm_repair.proofs.Keeps.{drop_keeps, take_keeps, give_back_keeps}
+use Rattle.ltm_repair.proofs.KeepsCommit.{commit_keeps}
 use Rattle.ltm_repair.proofs.Waits.{commit_undone, calm_undone, rest_undone, drop_calm, take_calm, give_back_calm}
 use Rattle.ltm_repair.proofs.LeftToDo.{rest_done, rest_home, commit_done, commit_strays}
 

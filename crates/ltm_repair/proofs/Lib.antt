@@ -2,6 +2,8 @@ pub mod Cases
 pub mod Networks
 pub mod Fronts
 pub mod Keeps
+pub mod KeepsCommit
+pub mod KeepsBatch
 pub mod Waits
 pub mod LeftToDo
 pub mod Books
@@ -11,4 +13,6 @@ pub mod Runs
 pub mod Work
 pub mod Settling
 pub mod Balance
+pub mod Index
 pub mod Making
+pub mod OneRoad

@@ -1,5 +1,5 @@
 -- How what code does makes an event.
-use Rattle.std.proofs.Common.{ℕ, ◌+◌, ◌<◌, arith, inl, inr, refl, sym, subst, Bool, true, false, List}
+use Rattle.std.proofs.Common.{◌≡◌, ℕ, ◌+◌, ◌<◌, arith, inl, inr, ap, refl, sym, subst, Bool, true, false, List}
 use Rattle.std.specs.Prelude.{◌⊎◌, Option, Some, None}
 use Rattle.std.proofs.lemmas.Bool.{cases_eq}
 use Rattle.ltm_node.specs.Solvable.{IsSolvable}
@@ -10,7 +10,7 @@ use Rattle.ltm_loading.proofs.Setters.{same_step}
 use Rattle.ltm_loading.proofs.Unlike.{unlike_cases}
 use Rattle.ltm_repair.specs.Facts.{IsClaim}
 use Rattle.ltm_repair.specs.State.{RepairState}
-use Rattle.ltm_repair.specs.Events.{GiveBack, Stay, Happens}
+use Rattle.ltm_repair.specs.Events.{GiveBack, Stay, Settled, Happens}
 use Rattle.ltm_repair.specs.Answers.{ClaimAnswer, Got, NotYet, Rest, CommitAnswer, Done, Stale, PublishAnswer, Shown, NotAtRest, IsKept, AnswersClaim, AnswersCommit, AnswersGiveBack, AnswersAccept, AnswersPublish, AnswersSettle}
 use Rattle.ltm_repair.specs.Making.{IdleIsFront, ClaimsAreSolvable, AppliedSets, claim_event, commit_event, accept_event, publish_event, settle_event, AnswersAreEvents}
 use Rattle.ltm_repair.proofs.Fronts.{idle_front}
@@ -67,12 +67,20 @@ accept_happens s e next touched true h = (touched, (h.taken refl).0)
 accept_happens s e next touched false h = h.refused refl
 
 publish_happens : (s e : RepairState) (answer : PublishAnswer) → AnswersPublish s answer e → Happens s (publish_event answer) e
-publish_happens s e (Shown version) h = (h.shown (λ none. cc)).1
-publish_happens s e NotAtRest h = h.not_at_rest refl
+publish_happens s e (Shown version) h =
+    elim (cases_eq version s.accepted) [
+      | inl same ↦ h.shown (ap (λ z. Shown z) same)
+      | inr other ↦ absurd (let none : Shown version ≡ NotAtRest = (h.not_at_rest (λ same. other (cc))).0 in cc)
+    ]
+publish_happens s e NotAtRest h = (h.not_at_rest (λ shown. cc)).1
 
 settle_happens : (s e : RepairState) (answer : Option ℕ) → AnswersSettle s answer e → Happens s (settle_event answer) e
-settle_happens s e (Some n) h = h.told n refl
-settle_happens s e None h = h.none refl
+settle_happens s e (Some n) h =
+    elim (cases_eq n s.commits) [
+      | inl same ↦ subst (λ z. Settled s z e) (sym same) (h.told (ap (λ z. Some z) same))
+      | inr other ↦ absurd (let none : Some n ≡ None = (h.none (λ same. other (cc))).0 in cc)
+    ]
+settle_happens s e None h = (h.none (λ told. cc)).1
 
 pub answers_are_events : AnswersAreEvents
 answers_are_events = record {

@@ -1,12 +1,13 @@
 -- What every run of events keeps.
-use Rattle.std.proofs.Common.{◌≡◌, ℕ, arith, inl, inr, sym, refl, ◌∙◌, Bool, true, false, ◌||◌, List, [], ◌∷◌}
+use Rattle.std.proofs.Common.{◌≡◌, ℕ, arith, inl, inr, subst, sym, refl, ◌∙◌, Bool, true, false, ◌||◌, List, [], ◌∷◌}
 use Rattle.std.specs.Prelude.{◌⊎◌, ◌≢◌, Option, None, is_some}
+use Rattle.ltm_loading.specs.Loading.{IsLoading}
 use Rattle.ltm_repair.specs.Desk.{Desk}
 use Rattle.ltm_repair.specs.Moves.{DropsSettled}
 use Rattle.ltm_repair.specs.State.{RepairState, now}
 use Rattle.ltm_repair.specs.Repair.{IsRepair}
 use Rattle.ltm_repair.specs.Events.{CoreEvent, Look, Claim, GiveBack, Commit, Accept, Publish, Settle, Stay, SameBooks, Happens}
-use Rattle.ltm_repair.specs.Kept.{RunsKeepFacts, RestIsLoading, NothingIsTakenBack, RunsTakeNothingBack, ClaimsHaveChanged, BatchesWakeTouched, OthersWakeNone}
+use Rattle.ltm_repair.specs.Kept.{RunsKeepFacts, RestIsLoading, ShownIsLoading, PublishingShowsAll, NothingIsTakenBack, RunsTakeNothingBack, ClaimsHaveChanged, BatchesWakeTouched, OthersWakeNone}
 use Rattle.ltm_repair.proofs.Cases.{cases_pair, cases_option, or_one}
 use Rattle.ltm_repair.proofs.Fronts.{rest_loads}
 use Rattle.ltm_repair.proofs.Books.{look_repair, claim_repair, give_back_repair, commit_repair, publish_repair, settle_repair}
@@ -28,6 +29,22 @@ runs_keep_facts s e (x ∷ xs) is run = runs_keep_facts run.0 e xs (event_keeps 
 
 pub rest_is_loading : RestIsLoading
 rest_is_loading s is rest = rest_loads (now s) s.desk is.desk rest
+
+pub shown_is_loading : ShownIsLoading
+shown_is_loading s is = record {
+  prefix = is.shows.loading;
+  up_to_date = λ current.
+      let P : ℕ → Type 0 = λ k. IsLoading (s.settings k) s.shown in (subst P current is.shows.loading, is.up_to_date current);
+}
+
+shows_all : (e : RepairState) → IsRepair e → e.shown_at ≡ e.accepted → (e.shown_at ≡ e.accepted) × IsLoading (now e) e.shown
+shows_all e is current = (current, ((shown_is_loading e is).up_to_date current).0)
+
+pub publishing_shows_all : PublishingShowsAll
+publishing_shows_all s e is step = elim step [
+  | inl published ↦ shows_all e (publish_repair s e is published) (published.shown_at ∙ sym published.accepted)
+  | inr told ↦ shows_all e (settle_repair s told.0 e is told.1) (told.1.shown_at ∙ told.1.up_to_date ∙ sym told.1.accepted)
+]
 
 -- ---- nothing is taken back
 same_books : (s e : RepairState) → SameBooks s e → NothingIsTakenBack s e

@@ -227,17 +227,18 @@ kept_over s m touched a is rest took first u t node slot =
     ]
 
 pub commits_differences : CommitsDifferences
-commits_differences s m e touched events a b is rest took run plain ends first second u t node slot =
-    let middle : IsRepair m = accept_repair s touched m is took in
-    let count : commits_of u t events ≡ unlike (m.desk.kept u t) (Some (pair_row (now m) b u t)) = run_exact m e events b middle run plain ends second u t node slot in
-    count ∙ ap (λ z. unlike z (Some (pair_row (now m) b u t))) (kept_over s m touched a is rest took first u t node slot)
+commits_differences s m e touched events a b h first second u t node slot =
+    let middle : IsRepair m = accept_repair s touched m h.repair h.batch in
+    let count : commits_of u t events ≡ unlike (m.desk.kept u t) (Some (pair_row (now m) b u t)) = run_exact m e events b middle h.run h.no_other h.rest_again second u t node slot in
+    count ∙ ap (λ z. unlike z (Some (pair_row (now m) b u t))) (kept_over s m touched a h.repair h.rest h.batch first u t node slot)
 
 pub commits_are_differing : CommitsAreDiffering
 unfolding left_to_do differing
-commits_are_differing s m e touched events a b is rest took run plain ends first second =
-    let middle : IsRepair m = accept_repair s touched m is took in
+commits_are_differing s m e touched events a b h first second =
+    let middle : IsRepair m = accept_repair s touched m h.repair h.batch in
     let F : ℕ → ℕ → ℕ = λ u t. unlike (m.desk.kept u t) (Some (pair_row (now m) b u t)) in
     let G : ℕ → ℕ → ℕ = λ u t. unlike (row_of (now s) a u t) (Some (pair_row (now m) b u t)) in
     let same : sum_pairs (now m).nodes (now m).slots F ≡ sum_pairs (now m).nodes (now m).slots G =
-    sum_pairs-same (now m).nodes (now m).slots F G (λ u t node slot. ap (λ z. unlike z (Some (pair_row (now m) b u t))) (kept_over s m touched a is rest took first u t node slot)) in
-    drains_are_exact m e events b middle run plain ends second ∙ same
+    sum_pairs-same (now m).nodes (now m).slots F G
+    (λ u t node slot. ap (λ z. unlike z (Some (pair_row (now m) b u t))) (kept_over s m touched a h.repair h.rest h.batch first u t node slot)) in
+    drains_are_exact m e events b middle h.run h.no_other h.rest_again second ∙ same

@@ -75,15 +75,15 @@ pub data PublishAnswer : Type 0 where
   Shown : (version : ℕ) → PublishAnswer
   NotAtRest : PublishAnswer
 
--- not at rest exactly where some pair is active or claimed, and then nothing changes; else all batches are shown
+-- all batches are shown exactly where no pair is active or claimed; else the repair is not at rest, and nothing changes
 pub record AnswersPublish (old : RepairState) (answer : PublishAnswer) (new : RepairState) : Type 0 where
-  pub exactly : (answer ≡ NotAtRest) ↔ (IsAtRest (now old) old.desk → ⊥)
-  pub shown : (answer ≡ NotAtRest → ⊥) → (answer ≡ Shown old.accepted) × Published old new
-  pub not_at_rest : answer ≡ NotAtRest → new ≡ old
+  pub exactly : (answer ≡ Shown old.accepted) ↔ IsAtRest (now old) old.desk
+  pub shown : answer ≡ Shown old.accepted → Published old new
+  pub not_at_rest : (answer ≡ Shown old.accepted → ⊥) → (answer ≡ NotAtRest) × (new ≡ old)
 
--- ---- settle count: a number exactly where no pair is active or claimed and all batches are shown; else none, and then
+-- ---- settle count: the commits exactly where no pair is active or claimed and all batches are shown; else none, and then
 -- nothing changes
 pub record AnswersSettle (old : RepairState) (answer : Option ℕ) (new : RepairState) : Type 0 where
-  pub exactly : (answer ≢ None) ↔ (IsAtRest (now old) old.desk × (old.shown_at ≡ old.accepted))
-  pub told : (n : ℕ) → answer ≡ Some n → Settled old n new
-  pub none : answer ≡ None → new ≡ old
+  pub exactly : (answer ≡ Some old.commits) ↔ (IsAtRest (now old) old.desk × (old.shown_at ≡ old.accepted))
+  pub told : answer ≡ Some old.commits → Settled old old.commits new
+  pub none : (answer ≡ Some old.commits → ⊥) → (answer ≡ None) × (new ≡ old)

@@ -10,4 +10,6 @@ pub mod Answers
 pub mod Kept
 pub mod Work
 pub mod Settling
+pub mod Index
 pub mod Making
+pub mod OneRoad

@@ -16,21 +16,27 @@ abbrev pub NoneTwice : Type 0
 NoneTwice =
     (s e : RepairState) (events : List CoreEvent) → IsRepair s → CoreRun s events e → AcceptsNothing events → (u t : ℕ) → commits_of u t events ≤ 1
 
--- from rest over one batch to rest, a pair is committed once where it reads other numbers in the new loading than in the
--- old one, and else not at all
+-- from rest at s one batch is accepted, which leads to m, and events without another lead to rest at e
+pub record RepairsOneBatch (s m e : RepairState) (touched : ℕ → ℕ → Bool) (events : List CoreEvent) : Type 0 where
+  pub repair : IsRepair s
+  pub rest : IsAtRest (now s) s.desk
+  pub batch : Accepted s touched m
+  pub run : CoreRun m events e
+  pub no_other : AcceptsNothing events
+  pub rest_again : IsAtRest (now e) e.desk
+
+-- then a pair is committed once where it reads other numbers in the new loading than in the old one, and else not at all
 abbrev pub CommitsDifferences : Type 0
 CommitsDifferences =
     (s m e : RepairState) (touched : ℕ → ℕ → Bool) (events : List CoreEvent) (a b : Counts) →
-    IsRepair s → IsAtRest (now s) s.desk → Accepted s touched m → CoreRun m events e → AcceptsNothing events → IsAtRest (now e) e.desk →
-    IsLoading (now s) a → IsLoading (now m) b → (u t : ℕ) → u < (now m).nodes → t < (now m).slots →
-    commits_of u t events ≡ unlike (row_of (now s) a u t) (Some (pair_row (now m) b u t))
+    RepairsOneBatch s m e touched events → IsLoading (now s) a → IsLoading (now m) b →
+    (u t : ℕ) → u < (now m).nodes → t < (now m).slots → commits_of u t events ≡ unlike (row_of (now s) a u t) (Some (pair_row (now m) b u t))
 
 -- and the commits are as many as pairs differ
 abbrev pub CommitsAreDiffering : Type 0
 CommitsAreDiffering =
     (s m e : RepairState) (touched : ℕ → ℕ → Bool) (events : List CoreEvent) (a b : Counts) →
-    IsRepair s → IsAtRest (now s) s.desk → Accepted s touched m → CoreRun m events e → AcceptsNothing events → IsAtRest (now e) e.desk →
-    IsLoading (now s) a → IsLoading (now m) b → commits_in events ≡ differing (now s) (now m) a b
+    RepairsOneBatch s m e touched events → IsLoading (now s) a → IsLoading (now m) b → commits_in events ≡ differing (now s) (now m) a b
 
 -- without a batch, each commit leaves one pair less whose kept inputs are not those of the loading
 abbrev pub CommitsAreUseful : Type 0

@@ -3,6 +3,8 @@ ghost use Rattle.ltm_repair.specs.Kept.{
   OpeningIsRepair,
   RunsKeepFacts,
   RestIsLoading,
+  ShownIsLoading,
+  PublishingShowsAll,
   RunsTakeNothingBack,
   ClaimsHaveChanged,
   BatchesWakeTouched,
@@ -24,12 +26,14 @@ ghost use Rattle.ltm_repair.specs.Settling.{
   SettlesExactly,
   CountIsBounded,
 };
+ghost use Rattle.ltm_repair.specs.Index.{IndexStaysCurrent};
 ghost use Rattle.ltm_repair.specs.Making.{
   IdleIsFront,
   ClaimsAreSolvable,
   AppliedSets,
   AnswersAreEvents,
 };
+ghost use Rattle.ltm_repair.specs.OneRoad.{OneRoadIsRepaired};
 
 /// A repair that begins with a loading, shown and kept and at rest, has all the facts.
 pub fn opening_is_repair()
@@ -44,6 +48,16 @@ pub fn runs_keep_facts()
 /// At rest the working counts are the loading of the setting as it is now.
 pub fn rest_is_loading()
     ensures { RestIsLoading }
+{}
+
+/// What is shown is the loading of as many batches as are shown; where these are all, the repair is at rest.
+pub fn shown_is_loading()
+    ensures { ShownIsLoading }
+{}
+
+/// After publishing, and after a settle count, what is shown is the loading of all batches.
+pub fn publishing_shows_all()
+    ensures { PublishingShowsAll }
 {}
 
 /// The shown number never falls, and accepted batches stay.
@@ -126,6 +140,11 @@ pub fn count_is_bounded()
     ensures { CountIsBounded }
 {}
 
+/// An index that has the positions of each idle pair has them after every move of the desk.
+pub fn index_stays_current()
+    ensures { IndexStaysCurrent }
+{}
+
 /// Where all earlier pairs are idle, the counts are the front of a loading.
 pub fn idle_is_front()
     ensures { IdleIsFront }
@@ -144,4 +163,9 @@ pub fn applied_sets()
 /// Whatever a call answers, an event has happened.
 pub fn answers_are_events()
     ensures { AnswersAreEvents }
+{}
+
+/// One road whose entry is closed for a slot: every repair, in whatever order, commits 5 of the 8 pairs, each once.
+pub fn one_road_is_repaired()
+    ensures { OneRoadIsRepaired }
 {}
