@@ -1,5 +1,5 @@
 -- Reaches are added one after another.
-use Rattle.std.proofs.Common.{◌≡◌, ℕ, ◌+◌, ◌<◌, ◌≤◌, ◌||◌, Bool, true, false, All, [], ◌∷◌, ◌++◌, length, arith, refl, ap, sym, ◌∙◌, subst, add-one, length-append}
+use Rattle.std.proofs.Common.{◌≡◌, ℕ, ◌+◌, ◌<◌, ◌≤◌, ◌||◌, Bool, true, false, All, List, [], ◌∷◌, ◌++◌, length, arith, refl, ap, sym, ◌∙◌, subst, add-one, length-append}
 use Rattle.std.proofs.lemmas.List.Folds.{list_any-append}
 use Rattle.std.proofs.lemmas.List.Elements.{All-append, All-cons}
 use Rattle.ltm_units.specs.declared.places.Reach.{Reach}
@@ -15,6 +15,13 @@ or_none false = refl
 or_assoc : (a b c : Bool) → (a || b) || c ≡ a || (b || c)
 or_assoc true b c = refl
 or_assoc false b c = refl
+
+-- one reach more is as the others are
+all_more : (s : Setting) (k : ℕ) (rs : List Reach) (r : Reach) → IsFrom s k r → All (IsFrom s k) rs → All (IsFrom s k) (rs ++ r ∷ [])
+all_more s k rs r from h = All-append (IsFrom s k) rs (r ∷ []) h (All-cons (IsFrom s k) r [] from (λ i d l. absurd (omega arith)))
+
+pub from_push : (s : Setting) (k : ℕ) (old new : SpreadData) (r : Reach) → new ≡ record old { reaches = old.reaches ++ r ∷ [] } → IsFrom s k r → All (IsFrom s k) old.reaches → All (IsFrom s k) new.reaches
+from_push s k old new r is from h = subst (λ (d : SpreadData). All (IsFrom s k) d.reaches) (sym is) (all_more s k old.reaches r from h)
 
 pub adds_none : (s : Setting) (k : ℕ) (d : SpreadData) → Adds s k 0 d d (λ w v. false)
 adds_none s k d = record {
@@ -32,9 +39,7 @@ adds_one s k old new r reads is from each = record {
       ∙ (list_any-append (lies_in w v) old.reaches (r ∷ [])
       ∙ ap (λ b. lies_in_one old.reaches w v || b) (or_none (lies_in w v r) ∙ each w v l));
   more = let e : length new.reaches ≡ length (old.reaches ++ r ∷ []) = ap (λ (d : SpreadData). length d.reaches) is in omega (e, length-append old.reaches (r ∷ []), arith);
-  from = λ h.
-      let one : All (IsFrom s k) (r ∷ []) = All-cons (IsFrom s k) r [] from (λ i d l. absurd (omega arith)) in
-      subst (λ (d : SpreadData). All (IsFrom s k) d.reaches) (sym is) (All-append (IsFrom s k) old.reaches (r ∷ []) h one);
+  from = from_push s k old new r is from;
   all_new = ap (λ (d : SpreadData). d.all_new) is;
 }
 

@@ -11,12 +11,13 @@ use Rattle.ltm_scenario.specs.Data.{ScenarioData}
 use Rattle.ltm_scenario.specs.Build.{as_limit, ◌>>=◌}
 use Rattle.ltm_scenario.specs.Edits.{edited, edited_from, at_place}
 use Rattle.ltm_scenario.specs.Makes.{Makes, EditsMake, demand, entry, exit, split, diagram}
+use Rattle.ltm_curve.specs.Counts.{Counts}
+use Rattle.ltm_loading.specs.Flows.{position}
 use Rattle.ltm_loading.specs.Networks.{SameNetwork}
-use Rattle.ltm_loading.specs.Pairs.{pair_row}
 use Rattle.ltm_setting.specs.Setting.{setting_of}
 use Rattle.ltm_repair.proofs.Networks.{network_refl, network_trans}
 use Rattle.ltm_pairs.specs.Reaches.{lies_in_one}
-use Rattle.ltm_pairs.specs.Touched.{touched_in, touched_by, HaveSlots, EditKeeps, EditsKeep, TouchedHoldsReaders, is_touched, BatchTouchesReaders}
+use Rattle.ltm_pairs.specs.Touched.{touched_in, touched_by, HaveSlots, EditKeeps, EditsKeep, ReadsSameBut, TouchedHoldsReaders, is_touched, BatchTouchesReaders}
 use Rattle.ltm_pairs.proofs.EditReaches.{link_there}
 
 -- ---- network, horizon and limits
@@ -107,11 +108,45 @@ keeps_through a b c p q = record {
   limits = λ whole. q.limits (p.limits whole);
 }
 
+-- the positions of two scenarios after each other
+positions_through : (s mid next : ScenarioData) (c : Counts) (u t i : ℕ) → SameNetwork (setting_of s) (setting_of mid) → i < (setting_of s).ins u →
+    (i < (setting_of mid).ins u → position (setting_of next) c ((setting_of mid).in_link u i) t ≡ position (setting_of mid) c ((setting_of mid).in_link u i) t) →
+    position (setting_of mid) c ((setting_of s).in_link u i) t ≡ position (setting_of s) c ((setting_of s).in_link u i) t →
+    position (setting_of next) c ((setting_of s).in_link u i) t ≡ position (setting_of s) c ((setting_of s).in_link u i) t
+positions_through s mid next c u t i same x second first =
+    let ins : (setting_of s).ins u ≡ (setting_of mid).ins u = ap (λ (f : ℕ → ℕ). f u) same.ins in
+    let link : (setting_of s).in_link u i ≡ (setting_of mid).in_link u i = ap (λ (f : ℕ → ℕ → ℕ). f u i) same.in_link in
+    let last : position (setting_of next) c ((setting_of s).in_link u i) t ≡ position (setting_of mid) c ((setting_of s).in_link u i) t =
+    subst (λ (l : ℕ). position (setting_of next) c l t ≡ position (setting_of mid) c l t) (sym link) (second (omega (ins, x, arith))) in
+    last ∙ first
+
+same_but : (s : ScenarioData) (touched : ℕ → ℕ → Bool) → ReadsSameBut s s touched
+same_but s touched = record { inputs = λ c u t l h. refl; positions = λ c u t i l h x. refl }
+
+batch_through : (s mid next : ScenarioData) (first rest : ℕ → ℕ → Bool) → SameFrame s mid → SameNetwork (setting_of s) (setting_of mid) → ReadsSameBut s mid first → ReadsSameBut mid next rest →
+    ReadsSameBut s next (λ u t. first u t || rest u t)
+batch_through s mid next first rest same network one others =
+    record {
+      inputs = λ c u t l h.
+          let parts = neither (first u t) (rest u t) h in
+          others.inputs c u t (omega (same.slots, l, arith)) parts.1 ∙ one.inputs c u t l parts.0;
+      positions = λ c u t i l h x.
+          let parts = neither (first u t) (rest u t) h in
+          positions_through s mid next c u t i network x (λ y. others.positions c u t i (omega (same.slots, l, arith)) parts.1 y) (one.positions c u t i l parts.0 x);
+    }
+
+-- the reaches of the rest are asked of the scenario before the batch
+asked_before : (s mid next : ScenarioData) (edits : List Edit) → SameFrame s mid → ReadsSameBut mid next (is_touched mid edits) → ReadsSameBut mid next (is_touched s edits)
+asked_before s mid next edits same reads = record {
+  inputs = λ c u t l h. reads.inputs c u t l (rest_same s mid edits u t same ∙ h);
+  positions = λ c u t i l h x. reads.positions c u t i l (rest_same s mid edits u t same ∙ h) x;
+}
+
 pub batch_touches_readers : EditsMake → EditsKeep → TouchedHoldsReaders → BatchTouchesReaders
 batch_touches_readers make keeps reads place s next [] whole is =
     let same : s ≡ next = cc in (
       subst (EditKeeps s) same (record { network = network_refl (setting_of s); slots = refl; limits = λ h. h }),
-      λ c u t l h. ap (λ (z : ScenarioData). pair_row (setting_of z) c u t) (sym same),
+      subst (λ (z : ScenarioData). ReadsSameBut s z (is_touched s [])) same (same_but s (is_touched s [])),
     )
 batch_touches_readers make keeps reads place s next (edit ∷ edits) whole is =
     let one = bound (at_place place (edited s edit)) (λ (mid : ScenarioData). edited_from (place + 1) mid edits) next is in
@@ -121,8 +156,5 @@ batch_touches_readers make keeps reads place s next (edit ∷ edits) whole is =
     let kept : EditKeeps s mid = keeps s mid edit made in
     let rest = batch_touches_readers make keeps reads (place + 1) mid next edits (kept.limits whole) one.2 in (
       keeps_through s mid next kept rest.0,
-      λ c u t l h.
-          let parts = neither (lies_in_one (touched_by s edit) u t) (is_touched s edits u t) h in
-          rest.1 c u t (omega (same.slots, l, arith)) (rest_same s mid edits u t same ∙ parts.1)
-          ∙ reads s mid edit whole made c u t l parts.0,
+      batch_through s mid next (lies_in_one (touched_by s edit)) (is_touched s edits) same kept.network (reads s mid edit whole made) (asked_before s mid next edits same rest.1),
     )

@@ -7,7 +7,7 @@ use Rattle.ltm_demand.specs.Produced.{by_end, IsSilent as IsNoRowOf}
 use Rattle.ltm_splits.specs.declared.keys.SplitKey.{SplitKey}
 use Rattle.ltm_splits.specs.Rows.{SplitRow, put_in, row_in_force, IsSilent as IsNoKeyOf}
 use Rattle.ltm_scenario.specs.Makes.{EditsMake}
-use Rattle.ltm_loading.specs.Reads.{SettingReadOnly}
+use Rattle.ltm_loading.specs.Reads.{SettingReadOnly, PositionReadOnly}
 
 pub record EditLaws : Type 0 where
   pub make : EditsMake
@@ -15,3 +15,4 @@ pub record EditLaws : Type 0 where
   pub production : (rows : List DemandRow) (row : DemandRow) (o d t : ℕ) → IsNoRowOf o t row → by_end (edited_rows rows row) o d t ≡ by_end rows o d t
   pub weights : (rows : List SplitRow) (key : SplitKey) (w : List ℕ) (n d t : ℕ) → IsNoKeyOf n t key → row_in_force (put_in rows key w) n d t ≡ row_in_force rows n d t
   pub reads : SettingReadOnly
+  pub positions : PositionReadOnly

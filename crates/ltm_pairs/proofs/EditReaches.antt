@@ -85,4 +85,9 @@ same_for laws s next edit whole (diagram name new link named sets) u t l h =
     by_diagram s link new u t (nowhere (tail_of s.network link) slots u t both.0 l) (nowhere (head_of s.network link) slots u t both.1 l)
 
 pub touched_holds_readers : EditLaws → TouchedHoldsReaders
-touched_holds_readers laws s next edit whole is c u t l h = laws.reads (setting_of next) (setting_of s) c u t (same_for laws s next edit whole (laws.make s next edit is) u t l h)
+touched_holds_readers laws s next edit whole is =
+    let made : Makes s next edit = laws.make s next edit is in
+    record {
+      inputs = λ c u t l h. laws.reads (setting_of next) (setting_of s) c u t (same_for laws s next edit whole made u t l h);
+      positions = λ c u t i l h x. laws.positions (setting_of next) (setting_of s) c u t i (same_for laws s next edit whole made u t l h) x;
+    }

@@ -6,11 +6,11 @@ use Rattle.ltm_curve.specs.Counts.{Counts, total}
 use Rattle.ltm_curve.proofs.Lasts.{IsLast, is_last}
 use Rattle.ltm_loading.specs.Setting.{Setting}
 use Rattle.ltm_loading.specs.Groups.{up_of, down_of, groups}
-use Rattle.ltm_loading.specs.Flows.{earlier, link_goal, receiving}
+use Rattle.ltm_loading.specs.Flows.{position, earlier, link_goal, receiving}
 use Rattle.ltm_loading.proofs.Same.{total-same}
 use Rattle.ltm_pairs.specs.Windows.{reads_ago}
 use Rattle.ltm_pairs.specs.Changes.{differs_at, ChangesNode}
-use Rattle.ltm_pairs.specs.Readers.{position, position_before, reads_first}
+use Rattle.ltm_pairs.specs.Readers.{position_before, reads_first}
 use Rattle.ltm_pairs.proofs.Bools.{and_no}
 use Rattle.ltm_pairs.proofs.Positions.{ago_same}
 use Rattle.ltm_pairs.proofs.Bystanders.{IsBystander}

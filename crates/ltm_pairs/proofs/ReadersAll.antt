@@ -7,14 +7,14 @@ use Rattle.ltm_curve.specs.Counts.{Counts, total}
 use Rattle.ltm_curve.specs.First.{last_within, first_units}
 use Rattle.ltm_loading.specs.Setting.{Setting, IsSetting}
 use Rattle.ltm_loading.specs.Groups.{up_of, down_of, dep_of, arr_of}
-use Rattle.ltm_loading.specs.Flows.{earlier, limited, link_goal, link_first, link_sending, origin_goal, origin_sending}
+use Rattle.ltm_loading.specs.Flows.{position, earlier, limited, link_goal, link_first, link_sending, origin_goal, origin_sending}
 use Rattle.ltm_loading.specs.Pairs.{arrived_by}
 use Rattle.ltm_loading.specs.Reads.{InputsByParts, SetByOnePair}
 use Rattle.ltm_loading.proofs.Pairs.{origin_group}
 use Rattle.ltm_loading.proofs.Same.{total-same, last_within-same, first_units-same, pair_row_same}
 use Rattle.ltm_repair.proofs.Networks.{network_refl}
 use Rattle.ltm_pairs.specs.Changes.{ChangesNode}
-use Rattle.ltm_pairs.specs.Readers.{position, ReadersAreAll, PositionsStay}
+use Rattle.ltm_pairs.specs.Readers.{ReadersAreAll, PositionsStay}
 use Rattle.ltm_pairs.proofs.Positions.{first_apart, last_apart}
 use Rattle.ltm_pairs.proofs.Bystanders.{IsBystander, no_reader}
 use Rattle.ltm_pairs.proofs.OwnCounts.{own_same, ago_all, down_now, up_now}

@@ -7,9 +7,9 @@ use Rattle.ltm_repair.specs.Desk.{Desk}
 use Rattle.ltm_repair.specs.Facts.{IsSound, IsClaim}
 use Rattle.ltm_repair.specs.Moves.{Sets}
 use Rattle.ltm_pairs.specs.Changes.{ChangesNode}
-use Rattle.ltm_pairs.specs.Readers.{ReadersAreAll}
+use Rattle.ltm_pairs.specs.Readers.{ReadersAreAll, PositionsStay}
 use Rattle.ltm_pairs.specs.Dependents.{DependentsAreAll}
-use Rattle.ltm_pairs.specs.Waking.{ReadersWake, DependentsWake}
+use Rattle.ltm_pairs.specs.Waking.{ReadersWake, ReadersKeepPositions, DependentsWake}
 
 both_true : (a b : Bool) → a && b ≡ true → a ≡ true
 both_true true b h = refl
@@ -31,3 +31,7 @@ dependents_wake dependents s d e u t row changed is sound claimed step are = rec
   later = λ w v h. let l : t + 1 ≤ v = leb-true (t + 1) v (both_true (nat_le (t + 1) v) _ h) in omega arith;
   quiet = λ w v x l h. dependents s d.counts e.counts u (t + 1) w v changed is (sets_change s d e u t row sound claimed step) are x l h;
 }
+
+pub readers_keep_positions : PositionsStay → ReadersKeepPositions
+readers_keep_positions stay s d e u t row is sound claimed step w v i x l y h =
+    stay s d.counts e.counts u (t + 1) w v i is (sets_change s d e u t row sound claimed step) x l y h

@@ -4,7 +4,7 @@ use Rattle.ltm_units.specs.declared.places.Reach.{Reach}
 use Rattle.ltm_loading.specs.Setting.{Setting}
 use Rattle.ltm_pairs.specs.Reaches.{SpreadData, lies_in_one}
 
--- a reach is of pairs of the setting, none before a boundary
+-- a reach is of pairs of the setting, and of none before a boundary
 pub record IsFrom (s : Setting) (k : ℕ) (r : Reach) : Type 0 where
   pub node : r.node.0 < s.nodes
   pub later : k ≤ r.from

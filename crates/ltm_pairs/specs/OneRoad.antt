@@ -1,8 +1,9 @@
 -- The readers of a commit, worked by hand on one road: its entry is closed in slot 0, and the first pair of n1 is committed.
 use Rattle.std.specs.Prelude.{◌≡◌, ℕ, Bool, true, false, List, [], ◌∷◌, map}
 use Rattle.ltm_curve.specs.Counts.{Counts}
+use Rattle.ltm_loading.specs.Flows.{position}
 use Rattle.ltm_loading.specs.OneRoad.{one_road, road_counts, open_counts}
-use Rattle.ltm_pairs.specs.Readers.{position, reads_commit}
+use Rattle.ltm_pairs.specs.Readers.{reads_commit}
 
 -- the counts of the open road, but nothing has entered it, or left n1, by boundary 1
 abbrev pub first_counts : Counts

@@ -4,22 +4,17 @@ use Rattle.ltm_curve.specs.Counts.{Counts, total}
 use Rattle.ltm_curve.specs.First.{last_within}
 use Rattle.ltm_loading.specs.Setting.{Setting, IsSetting}
 use Rattle.ltm_loading.specs.Groups.{up_of, down_of}
-use Rattle.ltm_loading.specs.Flows.{link_goal}
+use Rattle.ltm_loading.specs.Flows.{position}
 use Rattle.ltm_loading.specs.Pairs.{pair_row}
 use Rattle.ltm_pairs.specs.Windows.{reads_ago}
 use Rattle.ltm_pairs.specs.Changes.{some_below, differs_at, node_differs, ChangesNode}
-
--- the position of a slot for a link: the last boundary by which no more has entered the link than may have left it by the
--- end of the slot. Of which destinations the units are that leave is read there, and at the boundary behind it
-abbrev pub position : Setting → Counts → ℕ → ℕ → ℕ
-position s c l slot = last_within (total s.destinations (c (up_of l))) (link_goal s c l slot) slot
 
 -- the last boundary before k by which no more has entered the link than by k
 abbrev pub position_before : Setting → Counts → ℕ → ℕ → ℕ
 position_before s c l k = last_within (total s.destinations (c (up_of l))) (total s.destinations (c (up_of l)) k) (k - 1)
 
 -- the position of the slot before the commit lies from that boundary up to k: there the new count of k may be read, or
--- may move the position
+-- may move the position. (Of which destinations the first units are is read at the position and at the boundary behind it.)
 abbrev pub reads_first : Setting → Counts → Counts → ℕ → ℕ → ℕ → Bool
 reads_first s old new l slot k = nat_le (position_before s new l k) (position s old l slot) && nat_le (position s old l slot) k
 

@@ -10,6 +10,7 @@ use Rattle.ltm_scenario.specs.declared.edit.Edit.{Edit}
 use Rattle.ltm_scenario.specs.declared.edit.Edit.TheVariants.{Demand, Limit, Split, Diagram, Exit}
 use Rattle.ltm_scenario.specs.Data.{ScenarioData}
 use Rattle.ltm_scenario.specs.Edits.{edited, edited_from}
+use Rattle.ltm_loading.specs.Flows.{position}
 use Rattle.ltm_loading.specs.Networks.{SameNetwork}
 use Rattle.ltm_loading.specs.Pairs.{pair_row}
 use Rattle.ltm_setting.specs.Setting.{setting_of}
@@ -57,12 +58,14 @@ pub record EditKeeps (s next : ScenarioData) : Type 0 where
 abbrev pub EditsKeep : Type 0
 EditsKeep = (s next : ScenarioData) (edit : Edit) → edited s edit ≡ Ok next → EditKeeps s next
 
--- each pair that does not pass the test reads the same of both scenarios, whatever the counts are
-abbrev pub ReadsSameBut : ScenarioData → ScenarioData → (ℕ → ℕ → Bool) → Type 0
-ReadsSameBut s next touched =
-    (c : Counts) (u t : ℕ) → t < s.setup.slots → touched u t ≡ false → pair_row (setting_of next) c u t ≡ pair_row (setting_of s) c u t
+-- each pair that does not pass the test reads the same of both scenarios, whatever the counts are, and its in-links have
+-- the same positions
+pub record ReadsSameBut (s next : ScenarioData) (touched : ℕ → ℕ → Bool) : Type 0 where
+  pub inputs : (c : Counts) (u t : ℕ) → t < s.setup.slots → touched u t ≡ false → pair_row (setting_of next) c u t ≡ pair_row (setting_of s) c u t
+  pub positions : (c : Counts) (u t i : ℕ) → t < s.setup.slots → touched u t ≡ false → i < (setting_of s).ins u →
+      position (setting_of next) c ((setting_of s).in_link u i) t ≡ position (setting_of s) c ((setting_of s).in_link u i) t
 
--- so does a pair outside the reaches of an accepted edit
+-- so reads a pair outside the reaches of an accepted edit
 abbrev pub TouchedHoldsReaders : Type 0
 TouchedHoldsReaders =
     (s next : ScenarioData) (edit : Edit) → HaveSlots s → edited s edit ≡ Ok next → ReadsSameBut s next (lies_in_one (touched_by s edit))

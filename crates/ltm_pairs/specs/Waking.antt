@@ -1,6 +1,7 @@
 -- What a commit wakes.
-use Rattle.std.specs.Prelude.{◌≡◌, ℕ, ◌+◌, List, Some}
+use Rattle.std.specs.Prelude.{◌≡◌, ℕ, ◌+◌, ◌<◌, List, Some, false}
 use Rattle.ltm_loading.specs.Setting.{Setting, IsSetting}
+use Rattle.ltm_loading.specs.Flows.{position}
 use Rattle.ltm_repair.specs.Desk.{Desk}
 use Rattle.ltm_repair.specs.Facts.{IsSound}
 use Rattle.ltm_repair.specs.Moves.{Sets, WakesReaders}
@@ -14,7 +15,14 @@ ReadersWake =
     (s : Setting) (d e : Desk) (u t : ℕ) (row : List ℕ) → IsSetting s → IsSound s d → d.claimed u t ≡ Some row → Sets s d u t row e →
     WakesReaders s d e t (reads_commit s d.counts e.counts u (t + 1))
 
--- so does to wake all that depends on the arms that changed
+-- and a pair that does not wake keeps its positions
+abbrev pub ReadersKeepPositions : Type 0
+ReadersKeepPositions =
+    (s : Setting) (d e : Desk) (u t : ℕ) (row : List ℕ) → IsSetting s → IsSound s d → d.claimed u t ≡ Some row → Sets s d u t row e →
+    (w v i : ℕ) → w < s.nodes → v < s.slots → i < s.ins w → reads_commit s d.counts e.counts u (t + 1) w v ≡ false →
+    position s e.counts (s.in_link w i) v ≡ position s d.counts (s.in_link w i) v
+
+-- to wake all that depends on the arms that changed wakes each of them, too
 abbrev pub DependentsWake : Type 0
 DependentsWake =
     (s : Setting) (d e : Desk) (u t : ℕ) (row : List ℕ) (changed : ArmSet) → IsSetting s → IsSound s d → d.claimed u t ≡ Some row → Sets s d u t row e →

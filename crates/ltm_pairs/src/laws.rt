@@ -3,11 +3,11 @@ ghost use Rattle.ltm_pairs.specs.Touched.{EditsKeep, TouchedHoldsReaders, BatchT
 ghost use Rattle.ltm_pairs.specs.Readers.{ReadersAreAll, PositionsStay};
 ghost use Rattle.ltm_pairs.specs.Dependents.{DependentsAreAll};
 ghost use Rattle.ltm_pairs.specs.OneRoad.{ReadersOnOneRoad};
-ghost use Rattle.ltm_pairs.specs.Waking.{ReadersWake, DependentsWake};
+ghost use Rattle.ltm_pairs.specs.Waking.{ReadersWake, ReadersKeepPositions, DependentsWake};
 
 use ltm_demand::production_stays;
 use ltm_limits::{limits_are_set, limits_stay_whole};
-use ltm_loading::{inputs_by_parts, set_by_one_pair, setting_read_only};
+use ltm_loading::{inputs_by_parts, position_read_only, set_by_one_pair, setting_read_only};
 use ltm_scenario::edits_make;
 use ltm_splits::rows_stay;
 
@@ -19,7 +19,7 @@ pub fn edits_keep()
     limits_stay_whole();
 }
 
-/// An accepted edit changes the inputs of no pair outside its reaches.
+/// An accepted edit changes the inputs and the positions of no pair outside its reaches.
 pub fn touched_holds_readers()
     ensures { TouchedHoldsReaders }
 {
@@ -28,9 +28,10 @@ pub fn touched_holds_readers()
     rows_stay();
     limits_are_set();
     setting_read_only();
+    position_read_only();
 }
 
-/// An accepted batch changes the inputs of no pair outside the reaches of its edits.
+/// An accepted batch changes the inputs and the positions of no pair outside the reaches of its edits.
 pub fn batch_touches_readers()
     ensures { BatchTouchesReaders }
 {
@@ -61,14 +62,16 @@ pub fn dependents_are_all()
     readers_are_all();
 }
 
-/// To wake the readers of a commit wakes each pair whose inputs changed.
+/// To wake the readers of a commit wakes each pair whose inputs changed, and the others keep their positions.
 pub fn readers_wake()
-    ensures { ReadersWake }
+    ensures wake { ReadersWake }
+    ensures positions { ReadersKeepPositions }
 {
     readers_are_all();
+    positions_stay();
 }
 
-/// So does to wake all that depends on the arms that changed.
+/// To wake all that depends on the arms that changed wakes each pair whose inputs changed.
 pub fn dependents_wake()
     ensures { DependentsWake }
 {

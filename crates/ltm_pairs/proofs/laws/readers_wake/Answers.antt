@@ -1,5 +1,5 @@
-use Rattle.ltm_pairs.proofs.Waking.{readers_wake}
+use Rattle.ltm_pairs.proofs.Waking.{readers_wake, readers_keep_positions}
 use Rattle.ltm_pairs.proofs.laws.readers_wake.Goals as goal
 
 pub returns : goal.returns
-returns c = readers_wake c.readers_are_all.ensures
+returns c = record { wake = readers_wake c.readers_are_all.ensures; positions = readers_keep_positions c.positions_stay.ensures }

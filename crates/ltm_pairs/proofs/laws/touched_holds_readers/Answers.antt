@@ -9,4 +9,5 @@ returns c =
       production = c.production_stays.ensures;
       weights = c.rows_stay.ensures;
       reads = c.setting_read_only.ensures;
+      positions = c.position_read_only.ensures;
     })
