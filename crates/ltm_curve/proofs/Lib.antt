@@ -5,3 +5,5 @@ pub mod Firsts
 pub mod Places
 pub mod PutOver
 pub mod Totals
+pub mod Blocks
+pub mod Mixing

@@ -1,6 +1,7 @@
 -- Lists of the first numbers of a function, and their sums.
-use Rattle.std.proofs.Common.{◌≡◌, ℕ, zero, suc, ◌+◌, ◌-◌, ◌<◌, ◌≤◌, List, [], ◌∷◌, length, sum, slice_index, arith, refl, ap, sym, ◌∙◌}
-use Rattle.std.proofs.lemmas.List.{ext_get_or}
+use Rattle.std.proofs.Common.{◌≡◌, ℕ, zero, suc, ◌+◌, ◌-◌, ◌<◌, ◌≤◌, List, [], ◌∷◌, length, sum, take, replicate, slice_index, slice_set, get_or-set_same, get_or-set_other, arith, inl, inr, refl, ap, sym, ◌∙◌}
+use Rattle.std.proofs.lemmas.Bool.{cases_lt, cases_eq}
+use Rattle.std.proofs.lemmas.List.{ext_get_or, get_or-replicate, get_or_past, get_or-take, length-replicate}
 use Rattle.std.proofs.lemmas.List.Sums.{sum_by-cons}
 use Rattle.ltm_units.specs.Sums.{sum_below}
 use Rattle.ltm_units.specs.Nested.{nested_split}
@@ -45,3 +46,19 @@ sum_below-minus (suc n) f g h =
 -- a list that is known by place
 pub list_from : (n : ℕ) (f : ℕ → ℕ) (xs : List ℕ) → length xs ≡ n → ((k : ℕ) → k < n → slice_index xs k ≡ f k) → xs ≡ list_below n f
 list_from n f xs long h = ext_get_or 0 xs (list_below n f) (long ∙ sym (length-list_below n f)) (λ k l. h k (omega arith) ∙ sym (index-list_below n f k (omega arith)))
+
+-- lists of zeros
+pub zero_index : (n i : ℕ) → slice_index (replicate n 0) i ≡ 0
+zero_index n i = elim (cases_lt i n) [ inl low ↦ get_or-replicate n i 0 0 low | inr past ↦ get_or_past (replicate n 0) i 0 (omega (arith, length-replicate {A = ℕ} n 0)) ]
+
+-- a part of a list of zeros
+pub none_at : (n many d : ℕ) → d < n → slice_index (take n (replicate many 0)) d ≡ 0
+none_at n many d l = get_or-take n (replicate many 0) d 0 l ∙ zero_index many d
+
+-- a list whose first places hold the values of a function, and the next value
+pub written : (xs : List ℕ) (f : ℕ → ℕ) (k v : ℕ) → ((i : ℕ) → i < k → slice_index xs i ≡ f i) → k < length xs → v ≡ f k → (i : ℕ) → i < k + 1 → slice_index (slice_set xs k v) i ≡ f i
+written xs f k v all l here i m =
+    elim (cases_eq i k) [
+      | inl same ↦ ap (slice_index (slice_set xs k v)) same ∙ (get_or-set_same xs k v 0 l ∙ (here ∙ ap f (sym same)))
+      | inr other ↦ get_or-set_other xs k i v 0 other ∙ all i (omega arith)
+    ]

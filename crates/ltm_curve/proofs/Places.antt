@@ -1,12 +1,14 @@
 -- Where counts lie in the table.
 use Rattle.std.proofs.Common.{◌≡◌, ◌≢◌, ℕ, ◌+◌, ◌*◌, ◌^◌, ◌<◌, ◌≤◌, List, length, slice_index, slice_set, ℤ, pos, negsuc, ◌≤ℤ◌, arith, refl, inl, inr, ap, sym, ◌∙◌, get_or-set_same, get_or-set_other}
 use Rattle.std.proofs.Math.Nat.{mul-le-mul_right}
+use Rattle.std.proofs.lemmas.Bool.{cases_lt}
 use Rattle.std.proofs.lemmas.Nat.{same_from_place}
 use Rattle.std.proofs.lemmas.Int.{ints}
 use Rattle.ltm_units.specs.Sums.{sum_below}
 use Rattle.ltm_curve.specs.Counts.{at_time}
 use Rattle.ltm_curve.specs.declared.curves.Curves.{Curves}
-use Rattle.ltm_curve.specs.Table.{groups_of, destinations_of, slots_of, place, counts_of, total_of, IsIn, SameShape, Sets}
+use Rattle.ltm_curve.specs.Table.{groups_of, destinations_of, slots_of, place, counts_of, total_of, IsIn, SameShape, Sets, Carries}
+use Rattle.ltm_curve.specs.Blocks.{IsCarried}
 use Rattle.ltm_curve.specs.CurveLaws.{SameCounts, CountsTellAll}
 use Rattle.ltm_units.proofs.Sums.{sum_below-same, sum_below-most, le-sum_below}
 use Rattle.ltm_curve.proofs.Interpolation.{interpolated_same}
@@ -43,9 +45,9 @@ pub counts_tell_all_holds : CountsTellAll
 counts_tell_all_holds a b s g x = (λ k y. same_totals a b s g k x y, λ step time some l. same_times a b s g x step time some l)
 
 -- totals are small
-pub total_small : (c : Curves) (g k : ℕ) → total_of c g k ≤ 2 ^ 54
+pub total_small : (c : Curves) (g k : ℕ) → total_of c g k ≤ 2 ^ 37
 unfolding counts_of
-total_small c g k = omega (arith, sum_below-most c.destinations (λ d. counts_of c g d k) (2 ^ 48) (λ d l. c.small (place c g d k)), mul-le-mul_right (2 ^ 48) c.few)
+total_small c g k = omega (arith, sum_below-most c.destinations (λ d. counts_of c g d k) (2 ^ 31) (λ d l. omega (arith, c.small (place c g d k))), mul-le-mul_right (2 ^ 31) c.few)
 
 -- with one destination a count lies at the number of its row
 pub place_alone : (c : Curves) (g k : ℕ) → destinations_of c ≡ 1 → place c g 0 k ≡ k * c.groups + g
@@ -71,3 +73,32 @@ same_table xs ys g d k a b m n e f h =
 pub same_everywhere : (a b : Curves) → SameShape a b → a.counts.items ≡ b.counts.items → counts_of a ≡ counts_of b
 unfolding counts_of
 same_everywhere a b s e = λ i g d k. same_table a.counts.items b.counts.items g d k a.groups b.groups a.destinations b.destinations e s.groups s.destinations i
+
+-- a count lies in the block of its boundary
+place_below : (c : Curves) (g d k a : ℕ) → g < c.groups → d < c.destinations → k < a → place c g d k < a * (c.groups * c.destinations)
+place_below c g d k a x y l =
+    let up : k + 1 ≤ a = omega arith in
+    let rows : (k * c.groups + g + 1) * c.destinations ≤ (k * c.groups + c.groups) * c.destinations = mul-le-mul_right c.destinations (omega arith) in
+    let blocks : (k + 1) * (c.groups * c.destinations) ≤ a * (c.groups * c.destinations) = mul-le-mul_right (c.groups * c.destinations) up in omega arith
+
+place_from : (c : Curves) (g d k a : ℕ) → a ≤ k → a * (c.groups * c.destinations) ≤ place c g d k
+place_from c g d k a l = omega (arith, mul-le-mul_right (c.groups * c.destinations) l)
+
+-- what a block of counts is carried on to
+pub carries_holds : (old new : Curves) (boundary : ℕ) → SameShape new old → IsCarried old.counts.items new.counts.items (old.groups * old.destinations) boundary → Carries old new boundary
+unfolding counts_of
+carries_holds old new k s h = record {
+  shape = s;
+  next = λ g d x y.
+      let below : place old g d k < (k + 1) * (old.groups * old.destinations) = place_below old g d k (k + 1) x y (omega arith) in
+      let from : k * (old.groups * old.destinations) ≤ place old g d k = place_from old g d k k (omega arith) in
+      let at : place old g d (k + 1) ≡ place old g d k + old.groups * old.destinations = omega arith in
+      ap (slice_index new.counts.items) (same_place new old g d (k + 1) s)
+      ∙ (h.next (place old g d (k + 1)) 0 (omega arith) (omega arith) ∙ ap (slice_index old.counts.items) (omega arith));
+  others = λ g d i x differs.
+      ap (slice_index new.counts.items) (same_place new old g d i s)
+      ∙ elim (cases_lt i (k + 1)) [
+        | inl low ↦ h.below (place old g d i) 0 (omega (arith, place_below old g d i (k + 1) x.is_group x.is_destination low))
+        | inr from ↦ h.from (place old g d i) 0 (omega (arith, place_from old g d i (k + 2) (omega arith)))
+      ];
+}

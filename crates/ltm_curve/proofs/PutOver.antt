@@ -34,8 +34,8 @@ after_over a e xs ys i l m same b =
     ∙ (get_or-drop (e - a) (drop a xs) (i - a - (e - a)) 0 ∙ (get_or-drop a xs (e - a + (i - a - (e - a))) 0 ∙ ap (λ (z : ℕ). get_or xs z 0) n)))
 
 -- numbers that are small stay small
-pub small_over : (a e : ℕ) (xs ys : List ℕ) (most : ℕ) → a ≤ e → e ≤ length xs → length ys ≡ e - a → ((i : ℕ) → slice_index xs i ≤ most) → ((d : ℕ) → d < length ys → slice_index ys d ≤ most) →
-    (i : ℕ) → slice_index (put_over a e xs ys) i ≤ most
+pub small_over : (a e : ℕ) (xs ys : List ℕ) (most : ℕ) → a ≤ e → e ≤ length xs → length ys ≡ e - a → ((i : ℕ) → slice_index xs i < most) → ((d : ℕ) → d < length ys → slice_index ys d < most) →
+    (i : ℕ) → slice_index (put_over a e xs ys) i < most
 small_over a e xs ys most l m same all new i =
     elim (cases_lt i a) [
       | inl before ↦ omega (arith, before_over a e xs ys i l m before, all i)

@@ -7,7 +7,7 @@ use Rattle.std.proofs.lemmas.Nat.{same_from_place}
 use Rattle.ltm_units.specs.Sums.{sum_below}
 use Rattle.ltm_units.proofs.Sums.{sum_below-same, sum_below-change, sum_below-most, sum_below-zero, le-sum_below}
 use Rattle.ltm_curve.specs.Totals.{row_sum, AreTotals}
-use Rattle.ltm_curve.proofs.Lists.{sum_below-list}
+use Rattle.ltm_curve.proofs.Lists.{sum_below-list, zero_index}
 use Rattle.ltm_curve.proofs.PutOver.{put_over, before_over, in_over, after_over, outside}
 
 -- a count is within the sum of its row
@@ -15,14 +15,14 @@ pub count_within : (table : List ℕ) (width row d : ℕ) → d < width → slic
 count_within table width row d l = le-sum_below width (λ e. slice_index table (row * width + e)) d l
 
 -- sums of rows of small counts are small
-pub row_small : (table : List ℕ) (width row : ℕ) → width ≤ 64 → ((i : ℕ) → slice_index table i ≤ 2 ^ 48) → row_sum table width row ≤ 2 ^ 54
+pub row_small : (table : List ℕ) (width row : ℕ) → width ≤ 64 → ((i : ℕ) → slice_index table i < 2 ^ 31) → row_sum table width row ≤ 2 ^ 37
 row_small table width row few small =
-    omega (arith, sum_below-most width (λ d. slice_index table (row * width + d)) (2 ^ 48) (λ d l. small (row * width + d)), mul-le-mul_right (2 ^ 48) few)
+    omega (arith, sum_below-most width (λ d. slice_index table (row * width + d)) (2 ^ 31) (λ d l. omega (arith, small (row * width + d))), mul-le-mul_right (2 ^ 31) few)
 
 -- the sum of a list of few small counts is small
-pub list_small : (counts : List ℕ) → length counts ≤ 64 → ((d : ℕ) → d < length counts → slice_index counts d ≤ 2 ^ 48) → sum counts ≤ 2 ^ 54
+pub list_small : (counts : List ℕ) → length counts ≤ 64 → ((d : ℕ) → d < length counts → slice_index counts d < 2 ^ 31) → sum counts ≤ 2 ^ 37
 list_small counts few small =
-    omega (arith, sum_below-list counts, sum_below-most (length counts) (slice_index counts) (2 ^ 48) small, mul-le-mul_right (2 ^ 48) few)
+    omega (arith, sum_below-list counts, sum_below-most (length counts) (slice_index counts) (2 ^ 31) (λ d l. omega (arith, small d l)), mul-le-mul_right (2 ^ 31) few)
 
 -- one count is set
 set_here : (table : List ℕ) (width row d v : ℕ) → d < width → row * width + d < length table → row_sum (slice_set table (row * width + d) v) width row + slice_index table (row * width + d) ≡ row_sum table width row + v
@@ -58,7 +58,7 @@ totals_set totals table width rows row at d others v all l is_at within place is
     ]
 
 -- a small number is set among small ones
-pub set_small : (table : List ℕ) (at v most : ℕ) → at < length table → v ≤ most → ((i : ℕ) → slice_index table i ≤ most) → (i : ℕ) → slice_index (slice_set table at v) i ≤ most
+pub set_small : (table : List ℕ) (at v most : ℕ) → at < length table → v < most → ((i : ℕ) → slice_index table i < most) → (i : ℕ) → slice_index (slice_set table at v) i < most
 set_small table at v most within new all i =
     elim (cases_eq i at) [
       | inl same ↦ let e : slice_index (slice_set table at v) i ≡ slice_index (slice_set table at v) at = ap (slice_index (slice_set table at v)) same in omega (arith, get_or-set_same table at v 0 within)
@@ -95,18 +95,15 @@ totals_over totals table new counts width rows row from total all put long is_fr
     ∙ ap (λ (xs : List ℕ). row_sum xs width other) (sym here)
 
 -- tables of zeros
-pub zero_index : (n i : ℕ) → slice_index (replicate n 0) i ≡ 0
-zero_index n i = elim (cases_lt i n) [ inl low ↦ get_or-replicate n i 0 0 low | inr past ↦ get_or_past (replicate n 0) i 0 (omega (arith, length-replicate {A = ℕ} n 0)) ]
-
-pub zeros_small : (table : List ℕ) (n most : ℕ) → table ≡ replicate n 0 → (i : ℕ) → slice_index table i ≤ most
-zeros_small table n most e i = omega (arith, ap (λ (xs : List ℕ). slice_index xs i) e, zero_index n i)
+pub zeros_at : (table : List ℕ) (n : ℕ) → table ≡ replicate n 0 → (i : ℕ) → slice_index table i ≡ 0
+zeros_at table n e i = omega (arith, ap (λ (xs : List ℕ). slice_index xs i) e, zero_index n i)
 
 pub zeros_total : (totals table : List ℕ) (m n width rows : ℕ) → totals ≡ replicate m 0 → table ≡ replicate n 0 → AreTotals totals table width rows
 zeros_total totals table m n width rows e f = λ row l.
     omega (
       arith,
-      zeros_small totals m 0 e row,
-      sum_below-zero width (λ d. slice_index table (row * width + d)) (λ d k. let none : slice_index table (row * width + d) ≤ 0 = zeros_small table n 0 f (row * width + d) in omega arith),
+      zeros_at totals m e row,
+      sum_below-zero width (λ d. slice_index table (row * width + d)) (λ d k. zeros_at table n f (row * width + d)),
     )
 
 -- the same tables of one shape

@@ -1,4 +1,5 @@
 pub mod Counts
+pub mod Blocks
 pub mod Totals
 pub mod First
 pub mod FirstLaws

@@ -56,3 +56,9 @@ pub record SetsRow (old new : Curves) (group boundary : ℕ) (counts : List ℕ)
   pub shape : SameShape new old
   pub here : (d : ℕ) → d < destinations_of old → counts_of new group d boundary ≡ slice_index counts d
   pub others : (g d k : ℕ) → IsIn old g d k → (g ≢ group) ⊎ (k ≢ boundary) → counts_of new g d k ≡ counts_of old g d k
+
+-- the counts of a boundary stand also at the next one, and no other count is changed
+pub record Carries (old new : Curves) (boundary : ℕ) : Type 0 where
+  pub shape : SameShape new old
+  pub next : (g d : ℕ) → g < groups_of old → d < destinations_of old → counts_of new g d (boundary + 1) ≡ counts_of old g d boundary
+  pub others : (g d k : ℕ) → IsIn old g d k → k ≢ boundary + 1 → counts_of new g d k ≡ counts_of old g d k

@@ -2,14 +2,14 @@
 //!
 //! The units of one slot are mixed evenly, by the nested split; those of different slots are not mixed. All is written
 //! over any source of rows, since a group of curves is not the only one.
-ghost use Rattle.std.specs.Prelude.{◌≡◌, ℕ, ◌+◌, ◌^◌, ◌<◌, ◌≤◌, length, sum, slice_index};
-ghost use Rattle.ltm_units.specs.Nested.{nested_split};
+ghost use Rattle.std.specs.Prelude.{◌≡◌, ℕ, ◌-◌, ◌<◌, ◌≤◌, length, slice_index};
 ghost use Rattle.ltm_curve.specs.Counts.{total};
-ghost use Rattle.ltm_curve.specs.First.{last_within, entries, first_units, RowsRise};
+ghost use Rattle.ltm_curve.specs.First.{last_within, first_units, RowsRise};
 ghost use Rattle.ltm_curve.specs.FirstLaws.{IsPart};
 
+use crate::curves::Curves;
+use crate::group::Group;
 use crate::rows::Rows;
-use ltm_units::nested;
 
 /// Two boundaries round the last one that has at most n units and is not above `last`: found by steps back from `last`
 /// that double.
@@ -67,76 +67,96 @@ fn end_of<R: Rows>(rows: &R, n: u64, last: u32) -> u32
     halve(rows, n, low, high)
 }
 
-/// Writes what each destination has of a part of the units that enter in a slot, which are written beside.
-fn split_entries<R: Rows>(rows: &R, slot: u32, part: u64, parts: &mut [u64], into: &mut [u64])
-    requires next { slot + 1 < 2 ^ 32 }
-    requires slot { slot < R.end rows.now }
-    requires rise { RowsRise (R.width rows.now) (R.rows rows.now) (slot + 1) }
-    requires fits { total (R.width rows.now) (R.rows rows.now) (slot + 1) < 2 ^ 64 }
-    requires something { part < sum (entries (R.width rows.now) (R.rows rows.now) slot) }
-    requires room { length into.old ≡ R.width rows.now }
-    requires places { length parts.old ≡ R.width rows.now }
-    ensures { into.new ≡ nested_split part (entries (R.width rows.now) (R.rows rows.now) slot) }
-{
-    rows.write_entries(slot, parts);
-    nested(part, parts, into);
-}
-
-/// The same for any number of destinations, beside a list of the longest length.
-#[inline(never)]
-fn shares_of_many<R: Rows>(rows: &R, slot: u32, part: u64, into: &mut [u64])
-    requires next { slot + 1 < 2 ^ 32 }
-    requires slot { slot < R.end rows.now }
-    requires rise { RowsRise (R.width rows.now) (R.rows rows.now) (slot + 1) }
-    requires fits { total (R.width rows.now) (R.rows rows.now) (slot + 1) < 2 ^ 64 }
-    requires something { part < sum (entries (R.width rows.now) (R.rows rows.now) slot) }
-    requires room { length into.old ≡ R.width rows.now }
-    ensures { into.new ≡ nested_split part (entries (R.width rows.now) (R.rows rows.now) slot) }
-{
-    let destinations = rows.destinations() as usize;
-    let mut parts = [0u64; 64];
-    split_entries(rows, slot, part, &mut parts[..destinations], into);
-}
-
-/// The same beside a short list where that is enough, since a list begins with zeros.
-fn shares_of<R: Rows>(rows: &R, slot: u32, part: u64, into: &mut [u64])
-    requires next { slot + 1 < 2 ^ 32 }
-    requires slot { slot < R.end rows.now }
-    requires rise { RowsRise (R.width rows.now) (R.rows rows.now) (slot + 1) }
-    requires fits { total (R.width rows.now) (R.rows rows.now) (slot + 1) < 2 ^ 64 }
-    requires something { part < sum (entries (R.width rows.now) (R.rows rows.now) slot) }
-    requires room { length into.old ≡ R.width rows.now }
-    ensures { into.new ≡ nested_split part (entries (R.width rows.now) (R.rows rows.now) slot) }
-{
-    if into.len() > 8 {
-        shares_of_many(rows, slot, part, into);
-        return;
-    }
-    let mut parts = [0u64; 8];
-    split_entries(rows, slot, part, &mut parts[..into.len()], into);
-}
-
-/// Writes what each destination has of the first n units of some rows, among those that entered by boundary `last`.
-/// Takes no memory. A search over boundaries begins at `last` and takes steps that double, so it is short where the
-/// units end near it; with one destination there is none.
-pub fn first_of<R: Rows>(rows: &R, n: u64, last: u32, into: &mut [u64])
+/// Writes what each destination has of the first n units of some rows, among those that entered by boundary `last`, less
+/// a number of each destination, as of those that have left: in one pass. Takes no memory. A search over boundaries begins
+/// at `last` and takes steps that double, so it is short where the units end near it; with one destination there is none.
+pub fn first_less_of<R: Rows>(rows: &R, n: u64, last: u32, less: &[u32], into: &mut [u64])
     requires last { last ≤ R.end rows.now }
-    requires fits { total (R.width rows.now) (R.rows rows.now) last < 2 ^ 64 }
     requires part { IsPart (R.width rows.now) (R.rows rows.now) n last }
+    requires less { length less.now ≡ R.width rows.now }
     requires room { length into.old ≡ R.width rows.now }
+    requires behind { (d : ℕ) → d < R.width rows.now → slice_index less.now d
+        ≤ first_units (R.width rows.now) (R.rows rows.now) n last d }
     ensures { (d : ℕ) → d < R.width rows.now → slice_index into.new d
-        ≡ first_units (R.width rows.now) (R.rows rows.now) n last d }
+        ≡ first_units (R.width rows.now) (R.rows rows.now) n last d - slice_index less.now d }
 {
     if rows.destinations() == 1 {
-        into[0] = n;
+        into[0] = n - u64::from(less[0]);
         return;
     }
     let end = end_of(rows, n, last);
     let part = n - rows.total(end);
     if part == 0 {
-        rows.write(end, into);
+        rows.write_less(end, less, into);
     } else {
-        shares_of(rows, end, part, into);
-        rows.add(end, into);
+        rows.write_mixed_less(end, part, less, into);
+    }
+}
+
+impl Curves {
+    ghost use Rattle.ltm_curve.specs.Table.{groups_of, destinations_of, slots_of, counts_of, total_of};
+
+    /// Writes what each destination has of the first n units of a group, in the order in which they entered: all that
+    /// entered by the last boundary at which n were not yet passed, and of the units of the slot after it the part that
+    /// is missing, by the nested split. Only what entered by boundary `last` is looked at.
+    pub fn first(&self, group: u32, n: u64, last: u32, into: &mut [u64])
+        requires group { group < groups_of self.now }
+        requires last { last ≤ slots_of self.now }
+        requires part { IsPart (destinations_of self.now) (counts_of self.now group) n last }
+        requires room { length into.old ≡ destinations_of self.now }
+        ensures { (d : ℕ) → d < destinations_of self.now → slice_index into.new d
+            ≡ first_units (destinations_of self.now) (counts_of self.now group) n last d }
+    {
+        let none = [0u32; 64];
+        let rows = Group {
+            curves: self,
+            group,
+        };
+        let destinations = self.destinations() as usize;
+        first_less_of(&rows, n, last, &none[..destinations], into);
+    }
+
+    /// The same less the counts of a group at a boundary, in one pass: of the first units that entered a link, say, those
+    /// that have not left it. That group has passed no destination's part.
+    pub fn first_less(
+        &self,
+        group: u32,
+        n: u64,
+        last: u32,
+        less: u32,
+        boundary: u32,
+        into: &mut [u64],
+    )
+        requires group { group < groups_of self.now }
+        requires last { last ≤ slots_of self.now }
+        requires part { IsPart (destinations_of self.now) (counts_of self.now group) n last }
+        requires less { less < groups_of self.now }
+        requires boundary { boundary ≤ slots_of self.now }
+        requires behind { (d : ℕ) → d < destinations_of self.now → counts_of self.now less d boundary
+            ≤ first_units (destinations_of self.now) (counts_of self.now group) n last d }
+        requires room { length into.old ≡ destinations_of self.now }
+        ensures { (d : ℕ) → d < destinations_of self.now → slice_index into.new d
+            ≡ first_units (destinations_of self.now) (counts_of self.now group) n last d - counts_of self.now less d boundary }
+    {
+        let rows = Group {
+            curves: self,
+            group,
+        };
+        first_less_of(&rows, n, last, self.row(less, boundary), into);
+    }
+
+    /// The greatest boundary not above `last` at which a group has at most n units; 0 where there is none. The totals may
+    /// fall, so boundary after boundary is looked at, down from `last`.
+    pub fn position(&self, group: u32, n: u64, last: u32) -> u32
+        requires group { group < groups_of self.now }
+        requires last { last ≤ slots_of self.now }
+        ensures position { result ≡ last_within (total_of self.now group) n last }
+        ensures below { result ≤ last }
+    {
+        let mut boundary = last;
+        while boundary > 0 && self.total(group, boundary) > n {
+            boundary -= 1;
+        }
+        boundary
     }
 }

@@ -2,15 +2,14 @@
 //!
 //! All counts of one boundary lie side by side, group after group, so that a loading walks through memory in order and
 //! further boundaries can be added at the end. Only `place`, `row_number` and the words `counts_of` and `place` of
-//! `specs/Table.antt` know this; no contract does. With two destinations or more the totals of the groups lie in a dense
-//! table of their own, in the same order, so that looking back at totals reads few numbers; with one the count is the
-//! total.
-ghost use Rattle.std.specs.Prelude.{◌≡◌, ℕ, ◌+◌, ◌*◌, ◌^◌, ◌<◌, ◌≤◌, ◌/◌, ◌%◌, length, sum, replicate, slice_index, IfOk, ℤ, pos, ◌≤ℤ◌};
+//! `specs/Table.antt` know this; no contract does. A count is kept in 32 bits, since twice as many then lie in a cache. With
+//! two destinations or more the totals of the groups lie in a dense table of their own, in the same order, so that looking
+//! back at totals reads few numbers; with one the count is the total.
+ghost use Rattle.std.specs.Prelude.{◌≡◌, ℕ, ◌+◌, ◌*◌, ◌^◌, ◌<◌, ◌≤◌, length, sum, replicate, slice_index, IfOk};
 ghost use Rattle.ltm_curve.specs.Totals.{AreTotals};
+ghost use Rattle.ltm_curve.specs.Blocks.{IsCarried};
 
-use crate::composition::first_of;
-use crate::group::Group;
-use ltm_units::{Millis, NoMemory};
+use ltm_units::NoMemory;
 use std::alloc::Global;
 
 /// Groups of rows of counts: a count, in thousandths of a vehicle, for each group, destination and boundary.
@@ -19,29 +18,14 @@ pub struct Curves {
     groups: u32,
     destinations: u32,
     slots: u32,
-    counts: Vec<u64>,
+    counts: Vec<u32>,
     totals: Vec<u64>,
     ghost long: { length counts.items ≡ (slots + 1) * groups * destinations },
     ghost few: { destinations ≤ 64 },
-    ghost small: { (i : ℕ) → slice_index counts.items i ≤ 2 ^ 48 },
+    ghost small: { (i : ℕ) → slice_index counts.items i < 2 ^ 31 },
     ghost no_totals: { destinations < 2 → length totals.items ≡ 0 },
     ghost all_totals: { 2 ≤ destinations → length totals.items ≡ (slots + 1) * groups },
     ghost sums: { 2 ≤ destinations → AreTotals totals.items counts.items destinations ((slots + 1) * groups) },
-}
-
-/// The part of some units that falls into the first `rest` milliseconds of a step, rounded down.
-fn part_of(units: u64, rest: u64, step: u64) -> u64
-    requires rest { rest < step }
-    requires step { step ≤ 60000 }
-    ensures { result ≡ units * rest / step }
-{
-    if units == 0 {
-        0
-    } else if units < 1 << 44 {
-        units * rest / step
-    } else {
-        (u128::from(units) * u128::from(rest) / u128::from(step)) as u64
-    }
 }
 
 /// The sum of the counts of a row.
@@ -53,39 +37,51 @@ fn sum_of(counts: &[u64]) -> u64
 }
 
 /// Takes over all numbers of another table of the same length.
-fn copy_all(table: &mut Vec<u64>, other: &Vec<u64>)
+fn copy_all<T: Copy>(table: &mut Vec<T>, other: &Vec<T>)
     requires { length table.old.items ≡ length other.now.items }
     ensures { table.new.items ≡ other.now.items }
 {
     table.as_mut_slice().copy_from_slice(other.as_slice());
 }
 
-/// Copies a row of several counts: two, as in a case with two destinations, one by one and without a call.
-#[inline]
-fn copy_row(into: &mut [u64], counts: &[u64])
-    requires { length into.old ≡ length counts.now }
+/// Carries a block of numbers of a table of such blocks on to the next block.
+fn carry_block<T: Copy>(table: &mut Vec<T>, width: usize, block: usize)
+    requires within { (block + 2) * width ≤ length table.old.items }
+    ensures { IsCarried table.old.items table.new.items width block }
+{
+    let _length = table.len();
+    let from = block * width;
+    let to = from + width;
+    table.as_mut_slice().copy_within(from..to, to);
+}
+
+/// Writes a row of counts in 32 bits.
+fn write_row(into: &mut [u32], counts: &[u64])
+    requires count { length into.old ≡ length counts.now }
+    requires small { (d : ℕ) → d < length counts.now → slice_index counts.now d < 2 ^ 31 }
     ensures { into.new ≡ counts.now }
 {
-    if counts.len() == 2 {
-        into[0] = counts[0];
-        into[1] = counts[1];
-    } else {
-        into.copy_from_slice(counts);
+    for destination in 0..into.len() {
+        into[destination] = counts[destination] as u32;
     }
 }
 
-/// So many zeros.
-fn zeros(alloc: Global, count: usize) -> Result<Vec<u64>, NoMemory>
-    ensures { IfOk result (λ zeros. zeros.items ≡ replicate count 0) }
+/// So many counts, all 0.
+fn zero_counts(alloc: Global, many: usize) -> Result<Vec<u32>, NoMemory>
+    ensures { IfOk result (λ counts. counts.items ≡ replicate many 0) }
 {
-    vec![in alloc; 0u64; count].map_err(|_| NoMemory)
+    vec![in alloc; 0u32; many].map_err(|_| NoMemory)
+}
+
+/// So many totals, all 0.
+fn zero_totals(alloc: Global, many: usize) -> Result<Vec<u64>, NoMemory>
+    ensures { IfOk result (λ totals. totals.items ≡ replicate many 0) }
+{
+    vec![in alloc; 0u64; many].map_err(|_| NoMemory)
 }
 
 impl Curves {
-    ghost use Rattle.ltm_curve.specs.Counts.{interpolated, at_time, RisesAt};
-    ghost use Rattle.ltm_curve.specs.First.{first_units};
-    ghost use Rattle.ltm_curve.specs.FirstLaws.{IsPart};
-    ghost use Rattle.ltm_curve.specs.Table.{groups_of, destinations_of, slots_of, place, counts_of, total_of, HasShape, SameShape, IsIn, IsEmpty, Sets, SetsRow};
+    ghost use Rattle.ltm_curve.specs.Table.{groups_of, destinations_of, slots_of, place, counts_of, total_of, HasShape, SameShape, IsIn, IsEmpty, Sets, SetsRow, Carries};
     ghost use Rattle.ltm_curve.specs.CurveLaws.{SameCounts};
 
     /// Curves of this shape whose counts are all 0. There are `slots + 1` boundaries.
@@ -107,8 +103,8 @@ impl Curves {
         let Some(size) = rows.checked_mul(destinations as usize) else {
             return Err(NoMemory);
         };
-        let counts = zeros(alloc, size)?;
-        let totals = zeros(alloc, if destinations < 2 { 0 } else { rows })?;
+        let counts = zero_counts(alloc, size)?;
+        let totals = zero_totals(alloc, if destinations < 2 { 0 } else { rows })?;
         Ok(Curves {
             groups,
             destinations,
@@ -156,10 +152,10 @@ impl Curves {
     pub fn get(&self, group: u32, destination: u32, boundary: u32) -> u64
         requires { IsIn self.now group destination boundary }
         ensures count { result ≡ counts_of self.now group destination boundary }
-        ensures small { result ≤ 2 ^ 48 }
+        ensures small { result < 2 ^ 31 }
     {
         let at = self.place(group, destination, boundary);
-        self.counts[at]
+        u64::from(self.counts[at])
     }
 
     /// The number of the row of a group at a boundary, which is also the place of its total.
@@ -175,7 +171,7 @@ impl Curves {
     /// Changes a count, and no other.
     pub fn set(&mut self, group: u32, destination: u32, boundary: u32, count: u64)
         requires place { IsIn self.old group destination boundary }
-        requires small { count ≤ 2 ^ 48 }
+        requires small { count < 2 ^ 31 }
         ensures { Sets self.old self.new group destination boundary count }
     {
         if self.destinations == 1 {
@@ -189,25 +185,25 @@ impl Curves {
     fn set_only(&mut self, group: u32, boundary: u32, count: u64)
         requires place { IsIn self.old group 0 boundary }
         requires only { destinations_of self.old ≡ 1 }
-        requires small { count ≤ 2 ^ 48 }
+        requires small { count < 2 ^ 31 }
         ensures { Sets self.old self.new group 0 boundary count }
     {
         let at = self.row_number(group, boundary);
-        self.counts[at] = count;
+        self.counts[at] = count as u32;
     }
 
     /// The same where there are several destinations: the total changes by as much.
     fn set_one(&mut self, group: u32, destination: u32, boundary: u32, count: u64)
         requires place { IsIn self.old group destination boundary }
         requires several { 2 ≤ destinations_of self.old }
-        requires small { count ≤ 2 ^ 48 }
+        requires small { count < 2 ^ 31 }
         ensures { Sets self.old self.new group destination boundary count }
     {
         let others = self.others(group, destination, boundary);
         let row = self.row_number(group, boundary);
         let place = self.place(group, destination, boundary);
         self.totals[row] = others + count;
-        self.counts[place] = count;
+        self.counts[place] = count as u32;
     }
 
     /// The total of a group at a boundary without one of several destinations.
@@ -216,7 +212,7 @@ impl Curves {
         requires place { IsIn self.now group destination boundary }
         requires several { 2 ≤ destinations_of self.now }
         ensures total { result + counts_of self.now group destination boundary ≡ total_of self.now group boundary }
-        ensures small { result ≤ 2 ^ 54 }
+        ensures small { result ≤ 2 ^ 37 }
     {
         self.kept_total(group, boundary) - self.get(group, destination, boundary)
     }
@@ -234,13 +230,13 @@ impl Curves {
 
     /// The counts of a group at a boundary, one for each destination.
     #[tactic(auto, unfolding(crate::specs::Table::counts_of))]
-    pub fn row(&self, group: u32, boundary: u32) -> &[u64]
+    pub fn row(&self, group: u32, boundary: u32) -> &[u32]
         requires group { group < groups_of self.now }
         requires boundary { boundary ≤ slots_of self.now }
         ensures count { length result.now ≡ destinations_of self.now }
         ensures counts { (d : ℕ) → d < destinations_of self.now
             → slice_index result.now d ≡ counts_of self.now group d boundary }
-        ensures small { (d : ℕ) → slice_index result.now d ≤ 2 ^ 48 }
+        ensures small { (d : ℕ) → slice_index result.now d < 2 ^ 31 }
     {
         let from = self.start(group, boundary);
         &self.counts[from..from + self.destinations as usize]
@@ -252,30 +248,30 @@ impl Curves {
         requires group { group < groups_of self.old }
         requires boundary { boundary ≤ slots_of self.old }
         requires count { length counts.now ≡ destinations_of self.old }
-        requires small { (d : ℕ) → d < length counts.now → slice_index counts.now d ≤ 2 ^ 48 }
+        requires small { (d : ℕ) → d < length counts.now → slice_index counts.now d < 2 ^ 31 }
         ensures { SetsRow self.old self.new group boundary counts.now }
     {
         if counts.len() == 1 {
             self.set_only(group, boundary, counts[0]);
         } else if counts.len() > 1 {
-            self.copy_row(group, boundary, counts);
+            self.set_several(group, boundary, counts);
         }
     }
 
     /// The same where there are several destinations, in one copy and one sum.
-    fn copy_row(&mut self, group: u32, boundary: u32, counts: &[u64])
+    fn set_several(&mut self, group: u32, boundary: u32, counts: &[u64])
         requires group { group < groups_of self.old }
         requires boundary { boundary ≤ slots_of self.old }
         requires count { length counts.now ≡ destinations_of self.old }
         requires several { 2 ≤ destinations_of self.old }
-        requires small { (d : ℕ) → d < length counts.now → slice_index counts.now d ≤ 2 ^ 48 }
+        requires small { (d : ℕ) → d < length counts.now → slice_index counts.now d < 2 ^ 31 }
         ensures { SetsRow self.old self.new group boundary counts.now }
     {
         let row = self.row_number(group, boundary);
         let from = self.start(group, boundary);
         let to = from + self.destinations as usize;
         self.totals[row] = sum_of(counts);
-        copy_row(&mut self.counts[from..to], counts);
+        write_row(&mut self.counts[from..to], counts);
     }
 
     /// The total of a group at a boundary, over all destinations.
@@ -284,7 +280,7 @@ impl Curves {
         requires group { group < groups_of self.now }
         requires boundary { boundary ≤ slots_of self.now }
         ensures total { result ≡ total_of self.now group boundary }
-        ensures small { result ≤ 2 ^ 54 }
+        ensures small { result ≤ 2 ^ 37 }
     {
         match self.destinations {
             0 => 0,
@@ -304,63 +300,19 @@ impl Curves {
         self.totals[self.row_number(group, boundary)]
     }
 
-    /// The total of a group `rest` milliseconds past a boundary, interpolated and rounded down.
-    ///
-    /// A caller that asks slot after slot for the total some fixed time ago finds boundary and rest once, and moves the
-    /// boundary on.
-    pub fn past(&self, group: u32, boundary: u32, rest: Millis, step: Millis) -> u64
-        requires group { group < groups_of self.now }
-        requires rest { rest.0 < step.0 }
-        requires small_step { step.0 ≤ 60000 }
-        requires boundary { boundary ≤ slots_of self.now }
-        requires next { 0 < rest.0 → boundary < slots_of self.now }
-        requires rises { 0 < rest.0 → total_of self.now group boundary ≤ total_of self.now group (boundary + 1) }
-        ensures { result ≡ interpolated (total_of self.now group) step.0 (boundary * step.0 + rest.0) }
+    /// Carries the counts of all groups at a boundary on to the next boundary, and changes no other.
+    pub fn carry(&mut self, boundary: u32)
+        requires { boundary < slots_of self.old }
+        ensures { Carries self.old self.new boundary }
     {
-        let before = self.total(group, boundary);
-        if rest.0 == 0 {
-            return before;
+        carry_block(
+            &mut self.counts,
+            self.groups as usize * self.destinations as usize,
+            boundary as usize,
+        );
+        if self.destinations > 1 {
+            carry_block(&mut self.totals, self.groups as usize, boundary as usize);
         }
-        let after = self.total(group, boundary + 1);
-        before + part_of(after - before, rest.0, step.0)
-    }
-
-    /// The total of a group at a time in milliseconds after the start: at a boundary its total, between two boundaries
-    /// interpolated and rounded down, and 0 before the start.
-    pub fn at(&self, group: u32, time: i64, step: Millis) -> u64
-        requires group { group < groups_of self.now }
-        requires some_step { 1 ≤ step.0 }
-        requires small_step { step.0 ≤ 60000 }
-        requires time { time ≤ℤ pos (slots_of self.now * step.0) }
-        requires rises { RisesAt (total_of self.now group) step.0 time }
-        ensures { result ≡ at_time (total_of self.now group) step.0 time }
-    {
-        if time < 0 {
-            return 0;
-        }
-        let _slots = self.slots;
-        let time = time as u64;
-        let boundary = (time / step.0) as u32;
-        let rest = Millis(time % step.0);
-        self.past(group, boundary, rest, step)
-    }
-
-    /// Writes what each destination has of the first n units of a group, in the order in which they entered: all that
-    /// entered by the last boundary at which n were not yet passed, and of the units of the slot after it the part that
-    /// is missing, by the nested split. Only what entered by boundary `last` is looked at.
-    pub fn first(&self, group: u32, n: u64, last: u32, into: &mut [u64])
-        requires group { group < groups_of self.now }
-        requires last { last ≤ slots_of self.now }
-        requires part { IsPart (destinations_of self.now) (counts_of self.now group) n last }
-        requires room { length into.old ≡ destinations_of self.now }
-        ensures { (d : ℕ) → d < destinations_of self.now → slice_index into.new d
-            ≡ first_units (destinations_of self.now) (counts_of self.now group) n last d }
-    {
-        let rows = Group {
-            curves: self,
-            group,
-        };
-        first_of(&rows, n, last, into);
     }
 
     /// Takes over all counts of other curves of the same shape.

@@ -3,6 +3,7 @@ ghost use Rattle.std.specs.Prelude.{◌<◌};
 
 use crate::curves::Curves;
 use crate::rows::Rows;
+use crate::share::share_of;
 
 #[derive(Drop)]
 pub(crate) struct Group<'a> {
@@ -33,22 +34,26 @@ impl Rows for Group<'_> {
         self.curves.total(self.group, boundary)
     }
 
-    fn write(&self, boundary: u32, into: &mut [u64]) {
-        into.copy_from_slice(self.curves.row(self.group, boundary));
-    }
-
-    fn add(&self, boundary: u32, into: &mut [u64]) {
+    fn write_less(&self, boundary: u32, less: &[u32], into: &mut [u64]) {
         let row = self.curves.row(self.group, boundary);
         for destination in 0..row.len() {
-            into[destination] += row[destination];
+            into[destination] = u64::from(row[destination] - less[destination]);
         }
     }
 
-    fn write_entries(&self, slot: u32, into: &mut [u64]) {
+    fn write_mixed_less(&self, slot: u32, part: u64, less: &[u32], into: &mut [u64]) {
         let before = self.curves.row(self.group, slot);
         let after = self.curves.row(self.group, slot + 1);
+        let mut rest = part;
+        let mut whole = self.curves.total(self.group, slot + 1)
+            - self.curves.total(self.group, slot);
         for destination in 0..before.len() {
-            into[destination] = after[destination] - before[destination];
+            let entered = u64::from(after[destination] - before[destination]);
+            let share = share_of(rest, entered, whole);
+            rest -= share;
+            whole -= entered;
+            into[destination] = u64::from(before[destination]) + share
+                - u64::from(less[destination]);
         }
     }
 }

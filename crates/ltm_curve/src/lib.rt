@@ -15,8 +15,10 @@ mod curves;
 mod group;
 mod laws;
 mod rows;
+mod share;
+mod times;
 
-pub use composition::first_of;
+pub use composition::first_less_of;
 pub use curves::Curves;
 pub use laws::{
     counts_tell_all, first_rises, first_stays, first_sums, first_within, one_destination_is_total,

@@ -70,4 +70,9 @@ fn first_units_and_copies(rt: HostRuntime) {
     }
     copy.copy_from(&curves);
     assert_eq!(rt; first_of_two(&rt, &copy, 500), [300, 200]);
+    for (n, boundary) in [(0, 0), (399, 0), (400, 1), (799, 1), (800, 2)] {
+        assert_eq!(rt; copy.position(0, n, 2), boundary, "where {n} end");
+    }
+    copy.carry(1);
+    assert!(rt; copy.get(0, 0, 2) == 300 && copy.get(0, 1, 2) == 100 && copy.total(0, 2) == 400);
 }

@@ -8,3 +8,5 @@ pub mod Edits
 pub mod State
 pub mod Restoring
 pub mod Produces
+pub mod Destinations
+pub mod Stays

@@ -1,5 +1,5 @@
 -- What rows of demand have produced by the end of a slot.
-use Rattle.std.specs.Prelude.{ℕ, ◌+◌, ◌-◌, ◌*◌, ◌/◌, Bool, ◌==◌, ◌&&◌, if◌then◌else◌, nat_le, nat_lt, List, sum_by}
+use Rattle.std.specs.Prelude.{ℕ, ◌≢◌, ◌<◌, ◌⊎◌, ◌+◌, ◌-◌, ◌*◌, ◌/◌, Bool, ◌==◌, ◌&&◌, if◌then◌else◌, nat_le, nat_lt, List, sum_by}
 use Rattle.std.specs.List.{list_any}
 use Rattle.ltm_demand.specs.declared.row.DemandRow.{DemandRow}
 
@@ -18,6 +18,18 @@ part origin destination slot row = if joins origin destination row then produced
 -- what the rows have produced from the origin to the destination by the end of a slot
 abbrev pub by_end : List DemandRow → ℕ → ℕ → ℕ → ℕ
 by_end rows origin destination slot = sum_by (part origin destination slot) rows
+
+-- what a row has produced from the origin, whatever its destination, by the end of a slot
+unfoldable pub origin_part : ℕ → ℕ → DemandRow → ℕ
+origin_part origin slot row = if row.origin.0 == origin then produced row.from row.to row.amount.0 slot else 0
+
+-- what the rows have produced from the origin to all destinations by the end of a slot
+abbrev pub origin_by_end : List DemandRow → ℕ → ℕ → ℕ
+origin_by_end rows origin slot = sum_by (origin_part origin slot) rows
+
+-- the row produces nothing from the origin by the end of the slot: it is one of another origin, or begins later
+abbrev pub IsSilent : ℕ → ℕ → DemandRow → Type 0
+IsSilent origin slot row = (row.origin.0 ≢ origin) ⊎ (slot < row.from)
 
 -- the units of all rows
 abbrev pub total : List DemandRow → ℕ

@@ -15,7 +15,7 @@ mod rows;
 mod shifting;
 
 pub use demand::Demand;
-pub use laws::production_never_falls;
+pub use laws::{destinations_add_up, production_never_falls, production_stays};
 pub use row::{DemandFault, DemandRow};
 
 #[cfg(test)]

@@ -59,7 +59,7 @@ fn write_arms(
     requires boundary { boundary ≤ (setting_of scenario.now).slots }
     requires shape { IsShaped (setting_of scenario.now) curves.old }
     requires outputs { outputs.now.shape ≡ shape_at (setting_of scenario.now) node.0 }
-    requires small { (i : ℕ) → slice_index outputs.now.row i ≤ 2 ^ 48 }
+    requires small { (i : ℕ) → slice_index outputs.now.row i < 2 ^ 31 }
     ensures shape { IsShaped (setting_of scenario.now) curves.new }
     ensures sets { SetsGroups (setting_of scenario.now) boundary (arms_of (setting_of scenario.now) node.0)
         (arm_group (setting_of scenario.now) node.0) (left_after outputs.now) (counts_of curves.old) (counts_of curves.new) }
@@ -83,7 +83,7 @@ fn write_outs(
     requires boundary { boundary ≤ (setting_of scenario.now).slots }
     requires shape { IsShaped (setting_of scenario.now) curves.old }
     requires outputs { outputs.now.shape ≡ shape_at (setting_of scenario.now) node.0 }
-    requires small { (i : ℕ) → slice_index outputs.now.row i ≤ 2 ^ 48 }
+    requires small { (i : ℕ) → slice_index outputs.now.row i < 2 ^ 31 }
     ensures shape { IsShaped (setting_of scenario.now) curves.new }
     ensures sets { SetsGroups (setting_of scenario.now) boundary ((setting_of scenario.now).outs node.0)
         (out_group (setting_of scenario.now) node.0) (entered_after outputs.now) (counts_of curves.old) (counts_of curves.new) }
@@ -98,7 +98,7 @@ fn write_outs(
 fn write_sink(scenario: &Scenario, curves: &mut Curves, node: NodeId, boundary: u32, arrived: u64)
     requires boundary { boundary ≤ (setting_of scenario.now).slots }
     requires shape { IsShaped (setting_of scenario.now) curves.old }
-    requires small { arrived ≤ 2 ^ 48 }
+    requires small { arrived < 2 ^ 31 }
     requires no_sink { (setting_of scenario.now).own node.0 ≡ None → arrived ≡ 0 }
     ensures shape { IsShaped (setting_of scenario.now) curves.new }
     ensures sets { SetsSink (setting_of scenario.now) node.0 boundary arrived (counts_of curves.old) (counts_of curves.new) }
@@ -116,7 +116,7 @@ pub fn apply(scenario: &Scenario, curves: &mut Curves, pair: Pair, outputs: &Nod
     requires shape { IsShaped (setting_of scenario.now) curves.old }
     requires outputs { outputs.now.shape ≡ shape_at (setting_of scenario.now) pair.node.0 }
     requires width { length outputs.now.row ≡ counts_width outputs.now.shape }
-    requires small { (i : ℕ) → slice_index outputs.now.row i ≤ 2 ^ 48 }
+    requires small { (i : ℕ) → slice_index outputs.now.row i < 2 ^ 31 }
     requires no_sink { (setting_of scenario.now).own pair.node.0 ≡ None → arrived_after outputs.now ≡ 0 }
     ensures shape { IsShaped (setting_of scenario.now) curves.new }
     ensures applies { Applies (setting_of scenario.now) pair.node.0 (pair.slot + 1) outputs.now.row

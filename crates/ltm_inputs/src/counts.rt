@@ -59,7 +59,12 @@ fn put_counts(curves: &Curves, group: u32, boundary: u32, at: usize, into: &mut 
     requires places { HasPlaces into.old at (destinations_of curves.now) }
     ensures { Puts into.old into.new at (list_below (destinations_of curves.now) (λ d. counts_of curves.now group d boundary)) }
 {
-    into.put_all(at, curves.row(group, boundary));
+    let row = curves.row(group, boundary);
+    let mut counts = [0u64; 64];
+    for destination in 0..row.len() {
+        counts[destination] = u64::from(row[destination]);
+    }
+    into.put_all(at, &counts[..row.len()]);
 }
 
 /// Writes what has left some links.

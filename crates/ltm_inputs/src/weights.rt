@@ -25,7 +25,7 @@ fn put_weights_of(
         ((setting_of scenario.now).weight pair.node.0 destination pair.slot)) }
 {
     match weights(scenario, pair.node, destination, pair.slot) {
-        Some(weights) => put_numbers(weights, at, into),
+        Some(weights) => put_numbers(weights.as_slice(), at, into),
         None => put_zeros(out_links(scenario, pair.node).len(), at, into),
     }
 }

@@ -82,9 +82,8 @@ sends_one s c l t m goal by left limit d w one some e x =
     w.sends d x ∙ (whole_limited (s.exit_limit l t) (goal - left) (rest_of m (c (up_of l)) (λ k. c (down_of l) k t) goal by d) rest some ∙ ap (min (goal - left)) (sym e))
 
 -- what has not left of a destination, as the code finds it
-pub rest_is : (c : Counts) (l t m up goal by d first off : ℕ) → up ≡ up_of l → first ≡ first_units m (c up) goal by d → off ≡ first - c (up + 1) d t → off ≡ rest_of m (c (up_of l)) (λ k. c (down_of l) k t) goal by d
-rest_is c l t m up goal by d first off is_up e f =
-    f ∙ (ap (λ (z : ℕ). z - c (up + 1) d t) e ∙ ap (λ (g : ℕ). first_units m (c g) goal by d - c (g + 1) d t) is_up)
+pub rest_is : (c : Counts) (l t m up goal by d off : ℕ) → up ≡ up_of l → off ≡ first_units m (c up) goal by d - c (up + 1) d t → off ≡ rest_of m (c (up_of l)) (λ k. c (down_of l) k t) goal by d
+rest_is c l t m up goal by d off is_up e = e ∙ ap (λ (g : ℕ). first_units m (c g) goal by d - c (g + 1) d t) is_up
 
 pub rest_fits : (s : Setting) (c : Counts) (l t m goal by left d off : ℕ) → WaitOnLink s c l t m goal by left → off ≡ rest_of m (c (up_of l)) (λ k. c (down_of l) k t) goal by d → d < m → off ≤ goal - left
 rest_fits s c l t m goal by left d off w e x = omega (arith, rest_within m (c (up_of l)) (λ k. c (down_of l) k t) goal by d w.leave x, w.gone, w.over)

@@ -43,10 +43,10 @@ sends_one s c u t all goal left d w one x =
     w.sends d ∙ (let rest = one_rests s.destinations (s.produced u) (λ k. c (dep_of s u) k t) goal (t + 1) d w.leave one x in omega (arith, rest, w.gone))
 
 -- of each destination what has not left is sent
-pub sends_rest : (s : Setting) (c : Counts) (u t all goal left dep d first out : ℕ) → WaitAtOrigin s c u t all goal left → dep ≡ dep_of s u → first ≡ first_units s.destinations (s.produced u) goal (t + 1) d → out ≡ first - c dep d t → out ≡ origin_sending s c u t d
-sends_rest s c u t all goal left dep d first out w is_dep e f =
-    f ∙ (ap (λ (z : ℕ). z - c dep d t) e ∙ (ap (λ (g : ℕ). first_units s.destinations (s.produced u) goal (t + 1) d - c g d t) is_dep ∙ sym (w.sends d)))
+pub sends_rest : (s : Setting) (c : Counts) (u t all goal left dep d gone out : ℕ) → WaitAtOrigin s c u t all goal left → dep ≡ dep_of s u → gone ≡ c dep d t → out ≡ first_units s.destinations (s.produced u) goal (t + 1) d - gone → out ≡ origin_sending s c u t d
+sends_rest s c u t all goal left dep d gone out w is_dep e f =
+    f ∙ (ap (λ (z : ℕ). first_units s.destinations (s.produced u) goal (t + 1) d - z) (e ∙ ap (λ (g : ℕ). c g d t) is_dep) ∙ sym (w.sends d))
 
 -- no more of a destination has left than its part
-pub behind : (s : Setting) (c : Counts) (u t all goal left dep d first : ℕ) → WaitAtOrigin s c u t all goal left → dep ≡ dep_of s u → first ≡ first_units s.destinations (s.produced u) goal (t + 1) d → d < s.destinations → c dep d t ≤ first
-behind s c u t all goal left dep d first w is_dep e x = omega (arith, w.leave.behind d x, ap (λ (g : ℕ). c g d t) is_dep)
+pub behind : (s : Setting) (c : Counts) (u t all goal left dep d gone : ℕ) → WaitAtOrigin s c u t all goal left → dep ≡ dep_of s u → gone ≡ c dep d t → d < s.destinations → gone ≤ first_units s.destinations (s.produced u) goal (t + 1) d
+behind s c u t all goal left dep d gone w is_dep e x = omega (arith, w.leave.behind d x, ap (λ (g : ℕ). c g d t) is_dep)

@@ -9,7 +9,7 @@ ghost use Rattle.ltm_sending.specs.Front.{IsAtFront};
 ghost use Rattle.ltm_sending.specs.MayLeave.{WaitOnLink};
 
 use crate::ago::total_ago;
-use crate::parts::{limit_all, send_nothing, take_off};
+use crate::parts::{limit_all, send_nothing};
 use ltm_curve::Curves;
 use ltm_loading::links_are_ready;
 use ltm_scenario::Scenario;
@@ -58,8 +58,8 @@ fn waiting_on(scenario: &Scenario, curves: &Curves, link: LinkId, slot: u32) -> 
     }
 }
 
-/// Writes what a link sends of each destination, out of the units that wait: the search for the boundaries at which they
-/// entered, kept out of line.
+/// Writes what a link sends of each destination, out of the units that wait: the search for the boundary at which they
+/// end, and one pass over the destinations. Kept out of line.
 #[inline(never)]
 fn send_parts(
     scenario: &Scenario,
@@ -77,8 +77,7 @@ fn send_parts(
         ≡ link_sending (setting_of scenario.now) (counts_of curves.now) link.0 slot d }
 {
     let up = entered_group(curves, link);
-    curves.first(up, waiting.goal, waiting.by, into);
-    take_off(curves, up + 1, slot, into);
+    curves.first_less(up, waiting.goal, waiting.by, up + 1, slot, into);
     let limit = exit_limit(scenario, link, slot);
     limit_all(limit, waiting.goal - waiting.left, into);
 }

@@ -1,5 +1,5 @@
 //! What the origin of a node sends.
-ghost use Rattle.std.specs.Prelude.{◌≡◌, ℕ, ◌+◌, ◌^◌, ◌<◌, ◌≤◌, length, slice_index};
+ghost use Rattle.std.specs.Prelude.{◌≡◌, ℕ, ◌+◌, ◌-◌, ◌^◌, ◌<◌, ◌≤◌, length, slice_index};
 ghost use Rattle.ltm_curve.specs.Counts.{total};
 ghost use Rattle.ltm_curve.specs.First.{first_units};
 ghost use Rattle.ltm_curve.specs.FirstLaws.{IsPart};
@@ -11,9 +11,9 @@ ghost use Rattle.ltm_setting.specs.Setting.{setting_of};
 ghost use Rattle.ltm_sending.specs.Front.{IsAtFront};
 ghost use Rattle.ltm_sending.specs.MayLeave.{WaitAtOrigin};
 
-use crate::parts::{send_nothing, take_off};
+use crate::parts::send_nothing;
 use crate::produced::Produced;
-use ltm_curve::{Curves, Rows, first_of};
+use ltm_curve::{Curves, Rows, first_less_of};
 use ltm_loading::origins_are_ready;
 use ltm_scenario::Scenario;
 use ltm_setting::{is_setting, link_count, origin_capacity};
@@ -56,21 +56,24 @@ fn queue_at(scenario: &Scenario, curves: &Curves, node: NodeId, slot: u32) -> Qu
     Queue { all, goal, left }
 }
 
-/// Writes what each destination has of the first `goal` of all units that were produced by a boundary: the search for the
-/// boundaries at which they were, kept out of line.
+/// Writes what the units that wait at an origin are of each destination: where all of them may leave, all that was produced
+/// less what has left; else the search for the slot in which those that may leave end, kept out of line.
 #[inline(never)]
-fn first_produced(rows: &Produced<'_>, all: u64, goal: u64, boundary: u32, into: &mut [u64])
+fn send_queue(rows: &Produced<'_>, queue: Queue, boundary: u32, gone: &[u32], into: &mut [u64])
     requires boundary { boundary ≤ (setting_of rows.now.scenario.now).slots }
-    requires all { all ≡ total (setting_of rows.now.scenario.now).destinations ((setting_of rows.now.scenario.now).produced rows.now.node.0) boundary }
-    requires part { IsPart (setting_of rows.now.scenario.now).destinations ((setting_of rows.now.scenario.now).produced rows.now.node.0) goal boundary }
+    requires all { queue.all ≡ total (setting_of rows.now.scenario.now).destinations ((setting_of rows.now.scenario.now).produced rows.now.node.0) boundary }
+    requires part { IsPart (setting_of rows.now.scenario.now).destinations ((setting_of rows.now.scenario.now).produced rows.now.node.0) queue.goal boundary }
+    requires gone { length gone.now ≡ (setting_of rows.now.scenario.now).destinations }
     requires room { length into.old ≡ (setting_of rows.now.scenario.now).destinations }
+    requires behind { (d : ℕ) → d < (setting_of rows.now.scenario.now).destinations → slice_index gone.now d
+        ≤ first_units (setting_of rows.now.scenario.now).destinations ((setting_of rows.now.scenario.now).produced rows.now.node.0) queue.goal boundary d }
     ensures { (d : ℕ) → d < (setting_of rows.now.scenario.now).destinations → slice_index into.new d
-        ≡ first_units (setting_of rows.now.scenario.now).destinations ((setting_of rows.now.scenario.now).produced rows.now.node.0) goal boundary d }
+        ≡ first_units (setting_of rows.now.scenario.now).destinations ((setting_of rows.now.scenario.now).produced rows.now.node.0) queue.goal boundary d - slice_index gone.now d }
 {
-    if goal == all {
-        rows.write(boundary, into);
+    if queue.goal == queue.all {
+        rows.write_less(boundary, gone, into);
     } else {
-        first_of(rows, goal, boundary, into);
+        first_less_of(rows, queue.goal, boundary, gone, into);
     }
 }
 
@@ -95,6 +98,6 @@ pub fn send_origin(scenario: &Scenario, curves: &Curves, node: NodeId, slot: u32
         return;
     }
     let rows = Produced { scenario, node };
-    first_produced(&rows, queue.all, queue.goal, slot + 1, into);
-    take_off(curves, departed_group(scenario, curves, node), slot, into);
+    let gone = curves.row(departed_group(scenario, curves, node), slot);
+    send_queue(&rows, queue, slot + 1, gone, into);
 }

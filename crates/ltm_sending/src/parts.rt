@@ -1,9 +1,6 @@
-//! What of some first units has not left yet, and how much of it passes a limit.
-ghost use Rattle.std.specs.Prelude.{◌≡◌, ℕ, ◌-◌, ◌<◌, ◌≤◌, length, slice_index};
-ghost use Rattle.ltm_curve.specs.Table.{groups_of, destinations_of, slots_of, counts_of};
+//! How much of the parts of a whole passes a limit.
+ghost use Rattle.std.specs.Prelude.{◌≡◌, ℕ, ◌<◌, ◌≤◌, length, slice_index};
 ghost use Rattle.ltm_loading.specs.Flows.{limited};
-
-use ltm_curve::Curves;
 
 /// Writes that nothing is sent.
 #[inline]
@@ -11,20 +8,6 @@ pub(crate) fn send_nothing(into: &mut [u64])
     ensures { (d : ℕ) → d < length into.old → slice_index into.new d ≡ 0 }
 {
     into.fill(0);
-}
-
-/// Takes the counts of a group at a boundary off the numbers.
-pub(crate) fn take_off(curves: &Curves, group: u32, boundary: u32, into: &mut [u64])
-    requires group { group < groups_of curves.now }
-    requires boundary { boundary ≤ slots_of curves.now }
-    requires room { length into.old ≡ destinations_of curves.now }
-    requires behind { (d : ℕ) → d < destinations_of curves.now → counts_of curves.now group d boundary ≤ slice_index into.old d }
-    ensures { (d : ℕ) → d < destinations_of curves.now → slice_index into.new d
-        ≡ slice_index into.old d - counts_of curves.now group d boundary }
-{
-    for destination in 0..curves.destinations() {
-        into[destination as usize] -= curves.get(group, destination, boundary);
-    }
 }
 
 /// What passes a limit of a part of a whole.

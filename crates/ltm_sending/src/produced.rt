@@ -1,5 +1,4 @@
 //! What the origin of a node has produced, as rows of counts.
-ghost use Rattle.std.specs.Prelude.{◌≡◌, ℕ, ◌<◌, ◌≤◌, length, slice_index};
 ghost use Rattle.ltm_setting.specs.Setting.{setting_of};
 
 use ltm_curve::Rows;
@@ -12,19 +11,6 @@ use ltm_units::NodeId;
 pub(crate) struct Produced<'a> {
     pub(crate) scenario: &'a Scenario,
     pub(crate) node: NodeId,
-}
-
-impl Produced<'_> {
-    /// Writes what was produced of all destinations by a boundary.
-    pub(crate) fn write(&self, boundary: u32, into: &mut [u64])
-        requires room { length into.old ≡ (setting_of self.now.scenario.now).destinations }
-        ensures { (d : ℕ) → d < (setting_of self.now.scenario.now).destinations → slice_index into.new d
-            ≡ (setting_of self.now.scenario.now).produced self.now.node.0 d boundary }
-    {
-        for destination in 0..destination_count(self.scenario) {
-            into[destination as usize] = produced(self.scenario, self.node, destination, boundary);
-        }
-    }
 }
 
 impl Rows for Produced<'_> {

@@ -48,10 +48,10 @@ own_there s u d e =
     let there = position-Some (λ node. node == u) s.destinations d 0 (position_from-zero (λ node. node == u) s.destinations ∙ e) in
     (there.0, same_node (slice_index s.destinations d) u there.1)
 
-first : (rows : List DemandRow) (u d k : ℕ) → k ≡ 0 → produced_by rows u d k ≡ 0
+pub first : (rows : List DemandRow) (u d k : ℕ) → k ≡ 0 → produced_by rows u d k ≡ 0
 first rows u d k h = grind (arith, nat_tests)
 
-later : (rows : List DemandRow) (u d k : ℕ) → 0 < k → produced_by rows u d k ≡ by_end rows u d (k - 1)
+pub later : (rows : List DemandRow) (u d k : ℕ) → 0 < k → produced_by rows u d k ≡ by_end rows u d (k - 1)
 later rows u d k h = grind (arith, nat_tests)
 
 -- by the boundary at a slot's end it is what was produced by the slot's end

@@ -11,6 +11,7 @@ mod readers;
 
 pub use laws::{is_setting, loadings_of_scenarios, scenarios_are_settings};
 pub use readers::{
-    delays, destination_count, entry_limit, exit_limit, in_links, limits, link_count, node_count,
-    origin_capacity, out_links, own, produced, slot_count, step, weights,
+    delays, destination_count, entry_limit, exit_limit, head, in_links, limits, link_count,
+    node_count, origin_capacity, out_links, own, produced, produced_row, produced_total,
+    slot_count, step, tail, weights,
 };

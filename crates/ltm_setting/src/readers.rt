@@ -1,12 +1,14 @@
 //! The numbers of a setting, read from a scenario.
 ghost use Rattle.std.specs.Prelude.{◌≡◌, ◌≤◌, ◌<◌, ℕ, length, slice_index, IfSome, Some, None, All, map};
 ghost use Rattle.ltm_diagram.specs.Delays.{IsDelay};
+ghost use Rattle.ltm_curve.specs.Counts.{total};
 ghost use Rattle.ltm_loading.specs.Setting.{Setting};
 ghost use Rattle.ltm_setting.specs.Setting.{setting_of};
 
-use ltm_demand::production_never_falls;
+use ltm_demand::{destinations_add_up, production_never_falls};
 use ltm_diagram::{Delays, Limits, limits_in_range};
 use ltm_scenario::Scenario;
+use ltm_splits::Weights;
 use ltm_units::{LinkId, Millis, NodeId, Units};
 
 /// The length of a slot, 1 to 60,000 ms.
@@ -71,6 +73,28 @@ pub fn destination_count(scenario: &Scenario) -> u32
 {
     let _setup = scenario.setup();
     scenario.destinations().len() as u32
+}
+
+/// The node at which a link starts.
+#[inline]
+#[tactic(auto, unfolding(crate::specs::Setting::setting_of))]
+pub fn tail(scenario: &Scenario, link: LinkId) -> NodeId
+    requires { link.0 < (setting_of scenario.now).links }
+    ensures node { result.0 ≡ (setting_of scenario.now).tail link.0 }
+    ensures there { result.0 < (setting_of scenario.now).nodes }
+{
+    scenario.network().tail(link)
+}
+
+/// The node at which a link ends.
+#[inline]
+#[tactic(auto, unfolding(crate::specs::Setting::setting_of))]
+pub fn head(scenario: &Scenario, link: LinkId) -> NodeId
+    requires { link.0 < (setting_of scenario.now).links }
+    ensures node { result.0 ≡ (setting_of scenario.now).head link.0 }
+    ensures there { result.0 < (setting_of scenario.now).nodes }
+{
+    scenario.network().head(link)
 }
 
 /// The links that enter a node, in order of number.
@@ -180,15 +204,42 @@ pub fn produced(scenario: &Scenario, node: NodeId, destination: u32, boundary: u
     demand.by_end(node, destination, boundary - 1).0
 }
 
-/// The weights in force at a node for a destination in a slot, one for each out-link in order; none where no split row is
-/// in force, and then all are 0.
+/// What a node has produced of all destinations together by a boundary, in units.
 #[inline]
 #[tactic(auto, unfolding(crate::specs::Setting::setting_of))]
-pub fn weights(scenario: &Scenario, node: NodeId, destination: u32, slot: u32) -> Option<&[u32]>
+pub fn produced_total(scenario: &Scenario, node: NodeId, boundary: u32) -> u64
+    ensures value { result ≡ total (setting_of scenario.now).destinations ((setting_of scenario.now).produced node.0) boundary }
+    ensures small { result ≤ 10000000000000 }
+{
+    production_never_falls();
+    destinations_add_up();
+    let _setup = scenario.setup();
+    let mut sum = 0u64;
+    for destination in 0..destination_count(scenario) {
+        sum += produced(scenario, node, destination, boundary);
+    }
+    sum
+}
+
+/// Writes what a node has produced of each destination by a boundary, in units: nothing by boundary 0.
+pub fn produced_row(scenario: &Scenario, node: NodeId, boundary: u32, into: &mut [u64])
+    requires { length into.old ≡ (setting_of scenario.now).destinations }
+    ensures { (d : ℕ) → d < (setting_of scenario.now).destinations → slice_index into.new d ≡ (setting_of scenario.now).produced node.0 d boundary }
+{
+    for destination in 0..destination_count(scenario) {
+        into[destination as usize] = produced(scenario, node, destination, boundary);
+    }
+}
+
+/// The weights in force at a node for a destination in a slot, one for each out-link in order; none where no split row is
+/// in force, and then all are 0. Their sum and the first two out-links that have one are read from them.
+#[inline]
+#[tactic(auto, unfolding(crate::specs::Setting::setting_of))]
+pub fn weights(scenario: &Scenario, node: NodeId, destination: u32, slot: u32) -> Option<&Weights>
     ensures some { IfSome result (λ weights. (j : ℕ) → slice_index weights.now j ≡ (setting_of scenario.now).weight node.0 destination slot j) }
     ensures count { IfSome result (λ weights. length weights.now ≡ (setting_of scenario.now).outs node.0) }
     ensures none { result ≡ None → (j : ℕ) → (setting_of scenario.now).weight node.0 destination slot j ≡ 0 }
 {
     let _setup = scenario.setup();
-    scenario.splits().row_at(node, destination, slot)
+    scenario.splits().weights_at(node, destination, slot)
 }

@@ -3,6 +3,8 @@ pub mod Order
 pub mod Pairs
 pub mod Place
 pub mod Sums
+pub mod FirstPlaces
 pub mod Sorted
 pub mod Kept
 pub mod Meaning
+pub mod Stays

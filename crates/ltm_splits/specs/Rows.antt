@@ -1,5 +1,5 @@
 -- Split rows as contracts see them: a list in the order of their keys.
-use Rattle.std.specs.Prelude.{ℕ, Bool, Option, Some, None, ◌==◌, ◌&&◌, if◌then◌else◌, nat_le, List, length, sum, All, filter, slice_get, is_none, Result, Ok, Err}
+use Rattle.std.specs.Prelude.{ℕ, ◌≢◌, ◌<◌, ◌⊎◌, Bool, Option, Some, None, ◌==◌, ◌&&◌, if◌then◌else◌, nat_le, List, length, sum, All, filter, slice_get, is_none, Result, Ok, Err}
 use Rattle.std.specs.Option.{option_map}
 use Rattle.std.specs.List.{last_or}
 use Rattle.std.specs.Map.{lookup, remove_entry, keys_of}
@@ -82,6 +82,10 @@ begun rows node destination slot = filter (λ row. is_of node destination row &&
 -- the weights in force at a slot: those of the last row of the pair that begins at or before it
 abbrev pub row_in_force : List SplitRow → ℕ → ℕ → ℕ → Option (List ℕ)
 row_in_force rows node destination slot = option_map (λ row. row.1) (last_or None (begun rows node destination slot))
+
+-- the key says nothing of the node at the slot: it is one of another node, or begins later
+abbrev pub IsSilent : ℕ → ℕ → SplitKey → Type 0
+IsSilent node slot key = (key.node.0 ≢ node) ⊎ (slot < key.from)
 
 -- the least first slot: that of the first row of the pair
 abbrev pub begins : List SplitRow → ℕ → ℕ → Option ℕ

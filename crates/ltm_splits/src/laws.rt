@@ -1,6 +1,7 @@
 //! What the definitions of split rows mean, for whoever builds on them.
 ghost use Rattle.std.specs.Prelude.{◌≡◌, ◌↔◌, ℕ, ◌<◌, ◌≤◌, List, Some, None, IsSome, IsNone, IfSome, MatchOption, ⊤};
-ghost use Rattle.ltm_splits.specs.Rows.{SplitRow, IsOrdered, key_of, row_of, row_in_force, begins};
+ghost use Rattle.ltm_splits.specs.declared.keys.SplitKey.{SplitKey};
+ghost use Rattle.ltm_splits.specs.Rows.{SplitRow, IsOrdered, IsSilent, key_of, row_of, put_in, row_in_force, begins};
 ghost use Rattle.ltm_splits.specs.Latest.{IsLatest};
 
 /// In rows that are in the order of their keys:
@@ -17,4 +18,11 @@ pub fn rules_of_rows()
         IsNone (row_in_force rows node destination slot) ↔ MatchOption (begins rows node destination) ⊤ (λ from. slot < from) }
     ensures greatest { (rows : List SplitRow) → IsOrdered rows → (node : ℕ) → (destination : ℕ) → (slot : ℕ) →
         IfSome (row_in_force rows node destination slot) (IsLatest rows node destination slot) }
+{}
+
+/// A set leaves the row in force at other nodes, and at its own node in slots before the row's first.
+#[tactic(auto, using(crate::proofs::Stays::in_force_stays))]
+pub fn rows_stay()
+    ensures { (rows : List SplitRow) (key : SplitKey) (weights : List ℕ) (node destination slot : ℕ) → IsSilent node slot key →
+        row_in_force (put_in rows key weights) node destination slot ≡ row_in_force rows node destination slot }
 {}

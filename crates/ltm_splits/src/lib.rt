@@ -17,9 +17,10 @@ mod splits;
 mod weights;
 
 pub use keys::{SplitFault, SplitKey};
-pub use laws::rules_of_rows;
+pub use laws::{rows_stay, rules_of_rows};
 pub use rows::Rows;
 pub use splits::Splits;
+pub use weights::Weights;
 
 #[cfg(test)]
 mod tests;

@@ -43,9 +43,8 @@ impl PairRows {
 
     /// The weights of the last row that begins at or before the slot.
     #[inline]
-    pub fn at(&self, slot: u32) -> Option<&[u32]>
-        ensures weights { option_copied result ≡ entry_in_force self.now slot }
-        ensures some { IfSome result (λ weights. AreWeights weights.now) }
+    pub fn at(&self, slot: u32) -> Option<&Weights>
+        ensures { option_copied result ≡ entry_in_force self.now slot }
     {
         match &self.rows {
             RowList::Empty => None,
@@ -53,7 +52,7 @@ impl PairRows {
                 if row[0].0 > slot {
                     return None;
                 }
-                Some(row[0].1.as_slice())
+                Some(&row[0].1)
             }
             RowList::More(_) => self.last_begun(slot),
         }
@@ -61,16 +60,15 @@ impl PairRows {
 
     // The same of however many rows.
     #[inline(never)]
-    fn last_begun(&self, slot: u32) -> Option<&[u32]>
-        ensures weights { option_copied result ≡ entry_in_force self.now slot }
-        ensures some { IfSome result (λ weights. AreWeights weights.now) }
+    fn last_begun(&self, slot: u32) -> Option<&Weights>
+        ensures { option_copied result ≡ entry_in_force self.now slot }
     {
         let count = self.count_begun(slot);
         if count == 0 {
             return None;
         }
         let last = count - 1;
-        Some(self.rows.as_slice()[last].1.as_slice())
+        Some(&self.rows.as_slice()[last].1)
     }
 
     /// The first slot of the first row.

@@ -115,14 +115,26 @@ impl Splits {
         }
     }
 
-    /// The weights in force at the slot: those of the row with the greatest first slot at or before it.
+    /// The weights in force at the slot, as they lie in the table with what is kept beside them: those of the row with the
+    /// greatest first slot at or before it.
+    #[inline]
+    pub fn weights_at(&self, node: NodeId, destination: u32, slot: u32) -> Option<&Weights>
+        ensures { option_copied result ≡ row_in_force self.now.rows node.0 destination slot }
+    {
+        match self.table.pair(node, destination) {
+            Some(pair) => pair.at(slot),
+            None => None,
+        }
+    }
+
+    /// The weights in force at the slot as a slice.
     #[inline]
     pub fn row_at(&self, node: NodeId, destination: u32, slot: u32) -> Option<&[u32]>
         ensures weights { option_copied result ≡ row_in_force self.now.rows node.0 destination slot }
         ensures some { IfSome result (λ weights. AreWeights weights.now) }
     {
-        match self.table.pair(node, destination) {
-            Some(pair) => pair.at(slot),
+        match self.weights_at(node, destination, slot) {
+            Some(weights) => Some(weights.as_slice()),
             None => None,
         }
     }

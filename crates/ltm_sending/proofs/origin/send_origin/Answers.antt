@@ -17,12 +17,12 @@ returns-then-into-eq1 c d x =
     ∙ (get_or-set_same c.args.into.now 0 rest 0 (omega arith)
     ∙ sym (sends_one (setting_of c.args.scenario.now) (counts_of c.args.curves.now) c.args.node.0 c.args.slot _ _ _ d c.queue_at-queue.ensures (omega arith) x))
 
-pub take_off-requires-clause-behind : goal.take_off-requires-clause-behind
-take_off-requires-clause-behind c d x =
-    let inside : d < (setting_of c.args.scenario.now).destinations = omega (arith, c.requires.ready.shape.same_destinations) in
-    behind (setting_of c.args.scenario.now) (counts_of c.args.curves.now) c.args.node.0 c.args.slot _ _ _ _ d _ c.queue_at-queue.ensures c.departed_group.ensures (c.first_produced.ensures d inside) inside
+pub send_queue-requires-clause-behind : goal.send_queue-requires-clause-behind
+send_queue-requires-clause-behind c d x =
+    let inside : d < destinations_of c.args.curves.now = omega (arith, c.requires.ready.shape.same_destinations) in
+    behind (setting_of c.args.scenario.now) (counts_of c.args.curves.now) c.args.node.0 c.args.slot _ _ _ _ d _ c.queue_at-queue.ensures c.departed_group.ensures (c.row-gone.ensures.counts d inside) x
 
 pub returns : goal.returns
 returns c d x =
     let inside : d < destinations_of c.args.curves.now = omega (arith, c.requires.ready.shape.same_destinations) in
-    sends_rest (setting_of c.args.scenario.now) (counts_of c.args.curves.now) c.args.node.0 c.args.slot _ _ _ _ d _ _ c.queue_at-queue.ensures c.departed_group.ensures (c.first_produced.ensures d x) (c.take_off.ensures d inside)
+    sends_rest (setting_of c.args.scenario.now) (counts_of c.args.curves.now) c.args.node.0 c.args.slot _ _ _ _ d _ _ c.queue_at-queue.ensures c.departed_group.ensures (c.row-gone.ensures.counts d inside) (c.send_queue.ensures d x)

@@ -15,7 +15,7 @@ returns-clause-count c =
     let d' = c.args.destination in
     let t = c.args.slot in
     let W : List ℕ → Type 0 = λ w. length w ≡ length (out_links s.network n) in
-    elim c.row_at.result as (λ r. option_copied r ≡ row_in_force s.splits n d' t → IfSome r (λ w. W w.now)) [
+    elim c.weights_at.result as (λ r. option_copied r ≡ row_in_force s.splits n d' t → IfSome r (λ w. W w.now)) [
       | None ↦ λ e. tt
       | Some w ↦ λ e. subst (λ o. IfSome o W) (sym e) (weight_for_each s n d' t c.setup-setup.ensures.scenario.splits)
-    ] (c.row_at.ensures.weights ∙ ap (λ (d : SplitsData). row_in_force d.rows n d' t) c.splits.ensures)
+    ] (c.weights_at.ensures ∙ ap (λ (d : SplitsData). row_in_force d.rows n d' t) c.splits.ensures)

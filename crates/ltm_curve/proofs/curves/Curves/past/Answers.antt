@@ -9,4 +9,4 @@ returns-then-rest-eq0 c =
 
 pub returns : goal.returns
 returns c =
-    interpolated_from (total_of c.args.self.now c.args.group) c.args.step.0 c.args.boundary c.args.rest.0 c.total-before.result c.total-after.result c.part_of.result c.requires.rest c.total-before.ensures.total c.total-after.ensures.total c.part_of.ensures
+    interpolated_from (total_of c.args.self.now c.args.group) c.args.step.0 c.args.boundary c.args.rest.0 c.total-before.result c.total-after.result c.share_of.result c.requires.rest c.total-before.ensures.total c.total-after.ensures.total c.share_of.ensures.share

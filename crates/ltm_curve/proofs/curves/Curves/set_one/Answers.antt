@@ -16,7 +16,7 @@ invariant_of-self-clause-sums c = λ several.
     ∙ (c.others-others.ensures.total ∙ ap (λ (z : ℕ). row_sum c.args.self.now.counts.items c.args.self.now.destinations z) (sym c.row_number-row.ensures.number)))
 
 pub invariant_of-self-clause-small : goal.invariant_of-self-clause-small
-invariant_of-self-clause-small c = set_small c.args.self.now.counts.items c.place-place.result c.args.count (2 ^ 48) c.place-place.ensures.within c.requires.small c.args.self.now.small
+invariant_of-self-clause-small c = set_small c.args.self.now.counts.items c.place-place.result c.args.count (2 ^ 31) c.place-place.ensures.within c.requires.small c.args.self.now.small
 
 pub invariant_of-self-clause-all_totals : goal.invariant_of-self-clause-all_totals
 invariant_of-self-clause-all_totals c = λ several. length-set c.args.self.now.totals.items c.row_number-row.result _ ∙ c.args.self.now.all_totals several

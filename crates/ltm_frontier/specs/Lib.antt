@@ -1,0 +1,3 @@
+pub mod Ones
+pub mod Claims
+pub mod Frontier

@@ -1,0 +1,7 @@
+-- Counting what is so.
+use Rattle.std.specs.Prelude.{ℕ, Bool, true, false}
+
+-- 1 where it is so, else 0
+abbrev pub one_if : Bool → ℕ
+one_if true = 1
+one_if false = 0

@@ -1,0 +1,14 @@
+pub mod Cases
+pub mod Networks
+pub mod Fronts
+pub mod Keeps
+pub mod Waits
+pub mod LeftToDo
+pub mod Books
+pub mod Batches
+pub mod Opening
+pub mod Runs
+pub mod Work
+pub mod Settling
+pub mod Balance
+pub mod Making
