@@ -1,6 +1,7 @@
 pub mod Demands
 pub mod Inputs
 pub mod Laws
+pub mod Lending
 pub mod Moving
 pub mod Narrow
 pub mod Outputs

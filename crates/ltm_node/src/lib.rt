@@ -19,7 +19,8 @@ mod split;
 
 pub use inputs::NodeInputs;
 pub use laws::{
-    nothing_lost, nothing_lost_in_all, one_solution, one_step, sending_kept, supply_kept,
+    no_arrivals, nothing_lost, nothing_lost_in_all, nothing_moves, one_solution, one_step,
+    same_shape, sending_kept, supply_kept,
 };
 pub use outputs::NodeOutputs;
 pub use shape::NodeShape;
