@@ -1,7 +1,9 @@
-//! The program `ltm`: loads a case on one thread and reports its totals and its links.
-//!
-//! `main` only makes the real folder and output and calls `run_alone`, whose contract is that of the whole program. It
-//! stands on `ltm_casefile`, which reads the case, `ltm_flows`, which loads it, and `ltm_report`, which writes the lines.
+//! - **What it is**: the program `ltm`, which loads a case on one thread and reports its totals and its links. `main` only
+//!   makes the real folder and output and calls `run_alone`, whose contract is that of the whole program.
+//! - **On what it stands**: `ltm_casefile`, which reads the case, `ltm_flows`, which loads it, and `ltm_report`, which writes
+//!   the lines.
+//! - **What a call costs**: a cold loading; the report is made whole before its first byte is written.
+//! - **When to change it here**: when the words of the command line, the exit statuses or the order of the report change.
 #![tactic(auto)]
 
 mod report;

@@ -8,7 +8,7 @@ ghost use Rattle.ltm_scenario.specs.Data.{ScenarioData};
 ghost use Rattle.ltm_casefile.specs.declared.faults.File.{File};
 ghost use Rattle.ltm_casefile.specs.declared.faults.CaseCause.{CaseCause};
 ghost use Rattle.ltm_casefile.specs.declared.faults.CaseFault.{CaseFault};
-ghost use Rattle.ltm_casefile.specs.Case.{case_of, is_case_file};
+ghost use Rattle.ltm_casefile.specs.Case.{case_of, is_case_file, asks_for};
 ghost use Rattle.ltm_casefile.specs.Faults.{Agrees, HasRisen, WasAsked};
 ghost use Rattle.ltm_report.specs.CaseFaults.{bad_case_line, too_long_line};
 ghost use Rattle.ltm.specs.Report.{IsReport};
@@ -135,6 +135,7 @@ fn refuse_case<W: Sink>(
 fn report_case<F: Folder>(alloc: Global, folder: &mut F) -> Result<Vec<u8>, CaseFault>
     ensures keeps { F.told folder.new ≡ F.told folder.old }
     ensures others { (d : Doc) → is_case_file d ≡ false → F.faults folder.new d ≡ F.faults folder.old d }
+    ensures unasked { IfSome (F.told folder.old) (λ files. (d : Doc) → asks_for files d ≡ false → F.faults folder.new d ≡ F.faults folder.old d) }
     ensures report { IfOk result (λ text. (s : ScenarioData) × Describes (F.told folder.old) (Ok s) × IsReport s text.items) }
     ensures fault { IfErr result (λ e. IfSome (F.told folder.old) (λ files. Agrees (case_of files) e)) }
     ensures failed { (file : File) → result ≡ Err (CaseFault.Folder file)
@@ -149,6 +150,7 @@ fn report_case<F: Folder>(alloc: Global, folder: &mut F) -> Result<Vec<u8>, Case
 fn load<F: Folder, W: Sink>(alloc: Global, folder: &mut F, output: &mut W) -> Status
     ensures keeps { F.told folder.new ≡ F.told folder.old }
     ensures others { (d : Doc) → is_case_file d ≡ false → F.faults folder.new d ≡ F.faults folder.old d }
+    ensures unasked { IfSome (F.told folder.old) (λ files. (d : Doc) → asks_for files d ≡ false → F.faults folder.new d ≡ F.faults folder.old d) }
     ensures usage { result ≡ Status.Usage → ⊥ }
     ensures folder_fault { result ≡ Status.FolderFault → FileFailed (F.told folder.old) (F.faults folder.old) (F.faults folder.new)
         × (W.written output.new ≡ W.written output.old) }
@@ -186,6 +188,9 @@ pub fn run_alone<F: Folder, W: Sink>(
 ) -> Status
     ensures keeps { F.told folder.new ≡ F.told folder.old }
     ensures others { (d : Doc) → is_case_file d ≡ false → F.faults folder.new d ≡ F.faults folder.old d }
+
+    ensures untouched { (AsksLoad (map string_bytes words.now) → ⊥) → (d : Doc) → F.faults folder.new d ≡ F.faults folder.old d }
+    ensures unasked { IfSome (F.told folder.old) (λ files. (d : Doc) → asks_for files d ≡ false → F.faults folder.new d ≡ F.faults folder.old d) }
 
     // The words decide between the usage line and a loading.
     ensures usage { result ≡ Status.Usage → (AsksLoad (map string_bytes words.now) → ⊥)

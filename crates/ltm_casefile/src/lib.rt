@@ -1,8 +1,9 @@
-//! A case from the files of its folder: setup, links, demand, splits, and signals where the setup asks for them; or the
-//! first fault, by file, row and cause.
-//!
-//! It stands on `ltm_scenario`, which it builds call by call, and on `ltm_records`, which gives the records of a file one
-//! at a time. A record costs a few look-ups by name; a file is read as far as its first fault.
+//! - **What it is**: a case from the files of its folder (setup, links, demand, splits, and signals where the setup asks
+//!   for them), or the first fault, by file, row and cause.
+//! - **On what it stands**: `ltm_scenario`, which it builds call by call, and `ltm_records`, which gives the records of a
+//!   file one at a time.
+//! - **What a call costs**: a record costs a few look-ups by name; a file is fetched once and read as far as its first fault.
+//! - **When to change it here**: when a file of a case has another field, rule or order, or when a file is added to a case.
 #![tactic(auto)]
 
 mod case;

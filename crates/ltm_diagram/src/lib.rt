@@ -1,7 +1,8 @@
-//! The triangular diagram of a link, and the limits that it sets: how soon a vehicle reaches the other end, how soon
-//! free space does, how much passes in a slot and how much fits.
-//!
-//! Stands on `ltm_units` alone. A call costs a few divisions and takes no memory.
+//! - **What it is**: the triangular diagram of a link, and the limits that it sets: how soon a vehicle reaches the other
+//!   end, how soon free space does, how much passes in a slot and how much fits.
+//! - **On what it stands**: `ltm_units` alone.
+//! - **What a call costs**: a few divisions, and no memory.
+//! - **When to change it here**: when another form of diagram sets the limits of a link, or its sizes have other bounds.
 #![tactic(auto)]
 
 mod delay;

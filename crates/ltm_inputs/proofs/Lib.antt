@@ -1,5 +1,6 @@
 pub mod Lists
-pub mod Putting
+pub mod Filling
 pub mod Arms
 pub mod Widths
 pub mod Whole
+pub mod Idle

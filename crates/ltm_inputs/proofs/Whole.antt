@@ -1,11 +1,12 @@
 -- The parts of a pair's row, joined.
-use Rattle.std.proofs.Common.{◌≡◌, ℕ, ◌+◌, ◌*◌, List, ◌++◌, length, length-append, take, arith, sym, subst, ◌∙◌}
-use Rattle.std.proofs.lemmas.List.{take_all}
+use Rattle.std.proofs.Common.{◌≤◌, ◌≡◌, ℕ, ◌*◌, List, ◌++◌, length, length-append, take, drop, arith, ap, sym, subst, ◌∙◌}
+use Rattle.std.proofs.lemmas.List.{take-append-le}
 use Rattle.ltm_curve.specs.Counts.{Counts}
 use Rattle.ltm_curve.proofs.Lists.{length-list_below}
 use Rattle.ltm_node.specs.declared.shape.NodeShape.{NodeShape}
 use Rattle.ltm_node.specs.Shape.{width}
 use Rattle.ltm_node.specs.Inputs.{Inputs}
+use Rattle.ltm_node.specs.Lending.{with_numbers}
 use Rattle.ltm_node.specs.Solvable.{IsSolvable}
 use Rattle.ltm_loading.specs.Setting.{Setting}
 use Rattle.ltm_loading.specs.Groups.{up_of}
@@ -14,8 +15,6 @@ use Rattle.ltm_loading.specs.Pairs.{arms_of, shape_at, sending, arm_group, arm_c
 use Rattle.ltm_loading.specs.NextPair.{IsPairInputs}
 use Rattle.ltm_loading.proofs.Rows.{length-grid}
 use Rattle.ltm_inputs.specs.Parts.{sending_part, left_part, entered_part, arrived_part, supply_part, capacity_part, weights_part}
-use Rattle.ltm_inputs.specs.Puts.{Puts}
-use Rattle.ltm_inputs.proofs.Putting.{puts_then}
 
 -- how many numbers each part has
 pub record Sizes (s : Setting) (c : Counts) (u t : ℕ) : Type 0 where
@@ -38,29 +37,7 @@ sizes s c u t = record {
   weights = length-grid s.destinations (s.outs u) (λ d j. s.weight u d t j);
 }
 
--- all parts, one behind the other
-pub whole_row : (s : Setting) (c : Counts) (u t : ℕ) (n0 n1 n2 n3 n4 n5 n6 n7 : Inputs) (p2 p3 p4 p5 p6 p7 : ℕ) →
-    Puts n0 n1 0 (sending_part s c u t) → Puts n1 n2 p2 (left_part s c u t) → Puts n2 n3 p3 (entered_part s c u t) → Puts n3 n4 p4 (arrived_part s c u t) → Puts n4 n5 p5 (supply_part s c u t) →
-    Puts n5 n6 p6 (capacity_part s u) → Puts n6 n7 p7 (weights_part s u t) →
-    p2 ≡ arms_of s u * s.destinations → p3 ≡ p2 + arms_of s u * s.destinations → p4 ≡ p3 + s.outs u * s.destinations → p5 ≡ p4 + 1 → p6 ≡ p5 + s.outs u → p7 ≡ p6 + arms_of s u →
-    Puts n0 n7 0 (pair_row s c u t)
-whole_row s c u t n0 n1 n2 n3 n4 n5 n6 n7 p2 p3 p4 p5 p6 p7 q1 q2 q3 q4 q5 q6 q7 e2 e3 e4 e5 e6 e7 =
-    let z : Sizes s c u t = sizes s c u t in
-    let x1 : List ℕ = sending_part s c u t in
-    let x2 : List ℕ = left_part s c u t in
-    let x3 : List ℕ = entered_part s c u t in
-    let x4 : List ℕ = arrived_part s c u t in
-    let x5 : List ℕ = supply_part s c u t in
-    let x6 : List ℕ = capacity_part s u in
-    let x7 : List ℕ = weights_part s u t in
-    let r6 : Puts n5 n7 p6 (x6 ++ x7) = puts_then n5 n6 n7 p6 p7 x6 x7 q6 q7 (omega (arith, z.capacity)) in
-    let r5 : Puts n4 n7 p5 (x5 ++ (x6 ++ x7)) = puts_then n4 n5 n7 p5 p6 x5 (x6 ++ x7) q5 r6 (omega (arith, z.supply)) in
-    let r4 : Puts n3 n7 p4 (x4 ++ (x5 ++ (x6 ++ x7))) = puts_then n3 n4 n7 p4 p5 x4 (x5 ++ (x6 ++ x7)) q4 r5 (omega (arith, z.arrived)) in
-    let r3 : Puts n2 n7 p3 (x3 ++ (x4 ++ (x5 ++ (x6 ++ x7)))) = puts_then n2 n3 n7 p3 p4 x3 (x4 ++ (x5 ++ (x6 ++ x7))) q3 r4 (omega (arith, z.entered)) in
-    let r2 : Puts n1 n7 p2 (x2 ++ (x3 ++ (x4 ++ (x5 ++ (x6 ++ x7))))) = puts_then n1 n2 n7 p2 p3 x2 (x3 ++ (x4 ++ (x5 ++ (x6 ++ x7)))) q2 r3 (omega (arith, z.left)) in
-    puts_then n0 n1 n7 0 p2 x1 (x2 ++ (x3 ++ (x4 ++ (x5 ++ (x6 ++ x7))))) q1 r2 (omega (arith, z.sends))
-
-row_size : (s : Setting) (c : Counts) (u t : ℕ) → length (pair_row s c u t) ≡ width (shape_at s u)
+pub row_size : (s : Setting) (c : Counts) (u t : ℕ) → length (pair_row s c u t) ≡ width (shape_at s u)
 row_size s c u t =
     let z : Sizes s c u t = sizes s c u t in
     let x1 : List ℕ = sending_part s c u t in
@@ -87,13 +64,13 @@ row_size s c u t =
       length-append x6 x7,
     )
 
--- a row that is written from its first place on is that row
-pub written_row : (s : Setting) (c : Counts) (u t : ℕ) (old new : Inputs) → old.shape ≡ shape_at s u → length old.row ≡ width (shape_at s u) → Puts old new 0 (pair_row s c u t) → IsPairInputs s c u t new
-written_row s c u t old new shape size p =
-    let xs : List ℕ = pair_row s c u t in
-    let count : length (pair_row s c u t) ≡ width (shape_at s u) = row_size s c u t in
-    let whole : take (0 + length xs) new.row ≡ new.row = take_all (0 + length xs) new.row (omega (arith, p.size)) in
-    record { shape = p.shape ∙ shape; row = sym whole ∙ p.written }
+-- what is written over a room with this row at its front is that row
+pub written_row : (s : Setting) (c : Counts) (u t : ℕ) (old new : Inputs) (numbers : List ℕ) → old.shape ≡ shape_at s u → new ≡ with_numbers old numbers → width old.shape ≤ length numbers → take (width old.shape) numbers ≡ pair_row s c u t →
+    IsPairInputs s c u t new
+written_row s c u t old new numbers shape is long row = record {
+  shape = ap (λ (n : Inputs). n.shape) is ∙ shape;
+  row = ap (λ (n : Inputs). n.row) is ∙ (take-append-le (width old.shape) numbers (drop (length numbers) old.row) long ∙ row);
+}
 
 -- the conditions of a node step speak of shape and row alone
 pub solvable_inputs : (s : Setting) (c : Counts) (u t : ℕ) (n : Inputs) → IsPairInputs s c u t n → IsSolvable (pair_inputs s c u t) → IsSolvable n

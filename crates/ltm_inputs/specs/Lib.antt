@@ -1,3 +1,3 @@
+pub mod Idle
 pub mod Parts
-pub mod Puts
 pub mod Widest

@@ -1,5 +1,5 @@
 -- The parts of a pair's row, in order.
-use Rattle.std.specs.Prelude.{ℕ, List, map, slice_index}
+use Rattle.std.specs.Prelude.{ℕ, List, ◌++◌, map, slice_index}
 use Rattle.ltm_units.specs.declared.places.LinkId.{LinkId}
 use Rattle.ltm_curve.specs.Counts.{Counts}
 use Rattle.ltm_curve.specs.First.{list_below}
@@ -39,3 +39,13 @@ capacity_part s u = list_below (arms_of s u) (arm_capacity s u)
 -- the weights for each destination
 abbrev pub weights_part : Setting → ℕ → ℕ → List ℕ
 weights_part s u t = grid s.destinations (s.outs u) (λ d j. s.weight u d t j)
+
+-- all parts behind what each arm sends
+abbrev pub other_parts : Setting → Counts → ℕ → ℕ → List ℕ
+other_parts s c u t =
+    left_part s c u t
+    ++ (entered_part s c u t
+    ++ (arrived_part s c u t
+    ++ (supply_part s c u t
+    ++ (capacity_part s u
+    ++ weights_part s u t))))

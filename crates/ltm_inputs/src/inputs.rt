@@ -1,5 +1,5 @@
 //! The inputs of a pair of node and slot.
-ghost use Rattle.std.specs.Prelude.{◌≡◌, ◌<◌, ◌≤◌, length};
+ghost use Rattle.std.specs.Prelude.{◌≡◌, ◌+◌, ◌*◌, ◌<◌, ◌≤◌, ◌↔◌, length, take, IsTrue, IsFalse};
 ghost use Rattle.ltm_curve.specs.Table.{counts_of};
 ghost use Rattle.ltm_node.specs.Shape.{width};
 ghost use Rattle.ltm_node.specs.Solvable.{IsSolvable};
@@ -7,11 +7,13 @@ ghost use Rattle.ltm_loading.specs.Pairs.{shape_at, pair_row};
 ghost use Rattle.ltm_loading.specs.NextPair.{IsPairInputs};
 ghost use Rattle.ltm_setting.specs.Setting.{setting_of};
 ghost use Rattle.ltm_sending.specs.Front.{IsAtFront};
-ghost use Rattle.ltm_inputs.specs.Puts.{Puts};
+ghost use Rattle.ltm_inputs.specs.Idle.{IsIdle};
+ghost use Rattle.ltm_inputs.specs.Parts.{other_parts};
 
-use crate::counts::{put_arrived, put_entered, put_left};
+use crate::counts::{arrived, put_entered, put_left};
 use crate::flows::{put_sending, put_supply};
 use crate::limits::put_capacity;
+use crate::numbers::is_any_sent;
 use crate::shapes::shape_of;
 use crate::weights::put_weights;
 use ltm_curve::Curves;
@@ -21,39 +23,92 @@ use ltm_scenario::Scenario;
 use ltm_setting::is_setting;
 use ltm_units::Pair;
 
-/// Writes the row of a pair, from its first number to its last.
-fn put_row(
-    scenario: &Scenario,
-    curves: &Curves,
-    pair: Pair,
-    shape: NodeShape,
-    into: &mut NodeInputs,
-)
+/// Writes the numbers of a pair that stand behind what its arms send.
+fn put_others(scenario: &Scenario, curves: &Curves, pair: Pair, shape: NodeShape, into: &mut [u64])
     requires node { pair.node.0 < (setting_of scenario.now).nodes }
     requires ready { IsAtFront (setting_of scenario.now) curves.now pair.slot }
     requires shape { shape ≡ shape_at (setting_of scenario.now) pair.node.0 }
     requires few_arms { shape.arms ≤ 5 }
     requires few_outs { shape.outs ≤ 4 }
     requires few_destinations { shape.destinations ≤ 64 }
-    requires same { into.old.shape ≡ shape }
-    requires row { length into.old.row ≡ width shape }
-    ensures { Puts into.old into.new 0 (pair_row (setting_of scenario.now) (counts_of curves.now) pair.node.0 pair.slot) }
+    requires room { shape.arms * shape.destinations + length into.old ≡ width shape }
+    ensures { into.new ≡ other_parts (setting_of scenario.now) (counts_of curves.now) pair.node.0 pair.slot }
 {
     let arms = shape.arms as usize;
     let outs = shape.outs as usize;
     let destinations = shape.destinations as usize;
-    put_sending(scenario, curves, pair, 0, into);
-    let left = arms * destinations;
-    put_left(scenario, curves, pair, left, into);
-    let entered = 2 * left;
-    put_entered(scenario, curves, pair, entered, into);
-    let arrived = entered + outs * destinations;
-    put_arrived(scenario, curves, pair, arrived, into);
-    let supply = arrived + 1;
-    put_supply(scenario, curves, pair, supply, into);
-    let capacity = supply + outs;
-    put_capacity(scenario, pair.node, capacity, into);
-    put_weights(scenario, pair, capacity + arms, into);
+    let (left, rest) = into.split_at_mut(arms * destinations);
+    let (entered, rest) = rest.split_at_mut(outs * destinations);
+    let (come, rest) = rest.split_at_mut(1);
+    let (supply, rest) = rest.split_at_mut(outs);
+    let (capacity, weights) = rest.split_at_mut(arms);
+    put_left(scenario, curves, pair, left);
+    put_entered(scenario, curves, pair, entered);
+    come[0] = arrived(scenario, curves, pair);
+    put_supply(scenario, curves, pair, supply);
+    put_capacity(scenario, pair.node, capacity);
+    put_weights(scenario, pair, weights);
+}
+
+/// Writes the row of a pair, from its first number to its last.
+fn put_row(scenario: &Scenario, curves: &Curves, pair: Pair, shape: NodeShape, row: &mut [u64])
+    requires node { pair.node.0 < (setting_of scenario.now).nodes }
+    requires ready { IsAtFront (setting_of scenario.now) curves.now pair.slot }
+    requires shape { shape ≡ shape_at (setting_of scenario.now) pair.node.0 }
+    requires few_arms { shape.arms ≤ 5 }
+    requires few_outs { shape.outs ≤ 4 }
+    requires few_destinations { shape.destinations ≤ 64 }
+    requires room { length row.old ≡ width shape }
+    ensures { row.new ≡ pair_row (setting_of scenario.now) (counts_of curves.now) pair.node.0 pair.slot }
+{
+    let sends = shape.arms as usize * shape.destinations as usize;
+    let (sending, others) = row.split_at_mut(sends);
+    put_sending(scenario, curves, pair, sending);
+    put_others(scenario, curves, pair, shape, others);
+}
+
+/// Writes the row of a pair if any of its arms sends something; whether one does.
+fn put_row_if_sent(
+    scenario: &Scenario,
+    curves: &Curves,
+    pair: Pair,
+    shape: NodeShape,
+    row: &mut [u64],
+) -> bool
+    requires node { pair.node.0 < (setting_of scenario.now).nodes }
+    requires ready { IsAtFront (setting_of scenario.now) curves.now pair.slot }
+    requires shape { shape ≡ shape_at (setting_of scenario.now) pair.node.0 }
+    requires few_arms { shape.arms ≤ 5 }
+    requires few_outs { shape.outs ≤ 4 }
+    requires few_destinations { shape.destinations ≤ 64 }
+    requires room { length row.old ≡ width shape }
+    ensures row { IsTrue result → row.new ≡ pair_row (setting_of scenario.now) (counts_of curves.now) pair.node.0 pair.slot }
+    ensures idle { IsFalse result ↔ IsIdle (setting_of scenario.now) (counts_of curves.now) pair.node.0 pair.slot }
+{
+    let sends = shape.arms as usize * shape.destinations as usize;
+    let (sending, others) = row.split_at_mut(sends);
+    put_sending(scenario, curves, pair, sending);
+    let sent = is_any_sent(sending);
+    if sent {
+        put_others(scenario, curves, pair, shape, others);
+    }
+    sent
+}
+
+/// Writes the row of a pair at the front of a room.
+#[inline]
+fn put_front(scenario: &Scenario, curves: &Curves, pair: Pair, shape: NodeShape, room: &mut [u64])
+    requires node { pair.node.0 < (setting_of scenario.now).nodes }
+    requires ready { IsAtFront (setting_of scenario.now) curves.now pair.slot }
+    requires shape { shape ≡ shape_at (setting_of scenario.now) pair.node.0 }
+    requires few_arms { shape.arms ≤ 5 }
+    requires few_outs { shape.outs ≤ 4 }
+    requires few_destinations { shape.destinations ≤ 64 }
+    requires room { width shape ≤ length room.old }
+    ensures { take (width shape) room.new ≡ pair_row (setting_of scenario.now) (counts_of curves.now) pair.node.0 pair.slot }
+{
+    let row = &mut room[..shape.width()];
+    put_row(scenario, curves, pair, shape, row);
 }
 
 /// Reads the inputs of a pair of node and slot at the front of a loading, ready for `solve`. Amounts are thousandths of a
@@ -72,5 +127,52 @@ pub fn inputs_of(scenario: &Scenario, curves: &Curves, pair: Pair, into: &mut No
     in_range();
     let shape = shape_of(scenario, pair.node);
     into.reshape(shape);
-    put_row(scenario, curves, pair, shape, into);
+    put_front(scenario, curves, pair, shape, into.numbers_mut());
+}
+
+/// Writes the row of a pair at the front of a room if any of its arms sends something; whether one does.
+#[inline]
+fn put_front_if_sent(
+    scenario: &Scenario,
+    curves: &Curves,
+    pair: Pair,
+    shape: NodeShape,
+    room: &mut [u64],
+) -> bool
+    requires node { pair.node.0 < (setting_of scenario.now).nodes }
+    requires ready { IsAtFront (setting_of scenario.now) curves.now pair.slot }
+    requires shape { shape ≡ shape_at (setting_of scenario.now) pair.node.0 }
+    requires few_arms { shape.arms ≤ 5 }
+    requires few_outs { shape.outs ≤ 4 }
+    requires few_destinations { shape.destinations ≤ 64 }
+    requires room { width shape ≤ length room.old }
+    ensures row { IsTrue result → take (width shape) room.new ≡ pair_row (setting_of scenario.now) (counts_of curves.now) pair.node.0 pair.slot }
+    ensures idle { IsFalse result ↔ IsIdle (setting_of scenario.now) (counts_of curves.now) pair.node.0 pair.slot }
+{
+    let row = &mut room[..shape.width()];
+    put_row_if_sent(scenario, curves, pair, shape, row)
+}
+
+/// Reads the inputs of a pair of node and slot at the front of a loading if any of its arms sends something; whether one
+/// does. The counts of a pair whose arms send nothing stay as they are, so a loading need not read what else it has; the
+/// numbers of the row are not told then. Takes no memory.
+pub fn inputs_if_sent(
+    scenario: &Scenario,
+    curves: &Curves,
+    pair: Pair,
+    into: &mut NodeInputs,
+) -> bool
+    requires node { pair.node.0 < (setting_of scenario.now).nodes }
+    requires ready { IsAtFront (setting_of scenario.now) curves.now pair.slot }
+    requires room { width (shape_at (setting_of scenario.now) pair.node.0) ≤ into.old.room }
+    ensures inputs { IsTrue result → IsPairInputs (setting_of scenario.now) (counts_of curves.now) pair.node.0 pair.slot into.new }
+    ensures solvable { IsTrue result → IsSolvable into.new }
+    ensures idle { IsFalse result ↔ IsIdle (setting_of scenario.now) (counts_of curves.now) pair.node.0 pair.slot }
+    ensures room { into.new.room ≡ into.old.room }
+{
+    is_setting(scenario);
+    in_range();
+    let shape = shape_of(scenario, pair.node);
+    into.reshape(shape);
+    put_front_if_sent(scenario, curves, pair, shape, into.numbers_mut())
 }

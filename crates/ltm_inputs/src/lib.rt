@@ -14,7 +14,7 @@ mod numbers;
 mod shapes;
 mod weights;
 
-pub use inputs::inputs_of;
+pub use inputs::{inputs_if_sent, inputs_of};
 pub use shapes::{shape_of, widest};
 
 #[cfg(test)]

@@ -1,41 +1,25 @@
-//! Numbers in a row of inputs, one behind the other.
-ghost use Rattle.std.specs.Prelude.{ℕ, length, slice_index};
-ghost use Rattle.ltm_curve.specs.First.{list_below};
-ghost use Rattle.ltm_inputs.specs.Puts.{HasPlaces, Puts};
+//! Numbers of 32 bits, and amounts above 0.
+ghost use Rattle.std.specs.Prelude.{◌≡◌, ◌↔◌, ◌<◌, ℕ, IsFalse, length, slice_index};
 
-use ltm_node::NodeInputs;
-
-/// Writes a number.
+/// Writes some numbers of 32 bits.
 #[inline]
-pub(crate) fn put_number(number: u64, at: usize, into: &mut NodeInputs)
-    requires { HasPlaces into.old at 1 }
-    ensures { Puts into.old into.new at (list_below 1 (λ k. number)) }
+pub(crate) fn put_numbers(numbers: &[u32], into: &mut [u64])
+    requires { length into.old ≡ length numbers.now }
+    ensures { into.new ≡ numbers.now }
 {
-    into.put(at, number);
-}
-
-/// Writes some numbers.
-#[inline]
-pub(crate) fn put_numbers(numbers: &[u32], at: usize, into: &mut NodeInputs)
-    requires { HasPlaces into.old at (length numbers.now) }
-    ensures { Puts into.old into.new at (list_below (length numbers.now) (slice_index numbers.now)) }
-{
-    let mut place = at;
-    for number in numbers {
-        put_number(u64::from(*number), place, into);
-        place += 1;
+    for at in 0..into.len() {
+        into[at] = u64::from(numbers[at]);
     }
 }
 
-/// Writes so many zeros.
-#[inline]
-pub(crate) fn put_zeros(count: usize, at: usize, into: &mut NodeInputs)
-    requires { HasPlaces into.old at count }
-    ensures { Puts into.old into.new at (list_below count (λ k. 0)) }
+/// Whether any amount is above 0.
+pub(crate) fn is_any_sent(amounts: &[u64]) -> bool
+    ensures { IsFalse result ↔ ((k : ℕ) → k < length amounts.now → slice_index amounts.now k ≡ 0) }
 {
-    let mut place = at;
-    for _ in 0..count {
-        put_number(0, place, into);
-        place += 1;
+    for amount in amounts {
+        if *amount != 0 {
+            return true;
+        }
     }
+    false
 }

@@ -1,48 +1,38 @@
 //! The weights of the out-links of a node.
-ghost use Rattle.std.specs.Prelude.{ℕ, ◌*◌, ◌<◌};
+ghost use Rattle.std.specs.Prelude.{◌≡◌, ℕ, ◌*◌, ◌<◌, length};
 ghost use Rattle.ltm_curve.specs.First.{list_below};
 ghost use Rattle.ltm_setting.specs.Setting.{setting_of};
 ghost use Rattle.ltm_inputs.specs.Parts.{weights_part};
-ghost use Rattle.ltm_inputs.specs.Puts.{HasPlaces, Puts};
 
-use crate::numbers::{put_numbers, put_zeros};
-use ltm_node::NodeInputs;
+use crate::numbers::put_numbers;
 use ltm_scenario::Scenario;
 use ltm_setting::{destination_count, out_links, weights};
-use ltm_units::{NodeId, Pair};
+use ltm_units::Pair;
 
 /// Writes the weights of a destination in a slot: 0 where no split row is in force.
-fn put_weights_of(
-    scenario: &Scenario,
-    pair: Pair,
-    destination: u32,
-    at: usize,
-    into: &mut NodeInputs,
-)
+#[inline]
+fn put_weights_of(scenario: &Scenario, pair: Pair, destination: u32, into: &mut [u64])
     requires node { pair.node.0 < (setting_of scenario.now).nodes }
-    requires places { HasPlaces into.old at ((setting_of scenario.now).outs pair.node.0) }
-    ensures { Puts into.old into.new at (list_below ((setting_of scenario.now).outs pair.node.0)
-        ((setting_of scenario.now).weight pair.node.0 destination pair.slot)) }
+    requires room { length into.old ≡ (setting_of scenario.now).outs pair.node.0 }
+    ensures { into.new ≡ list_below ((setting_of scenario.now).outs pair.node.0)
+        ((setting_of scenario.now).weight pair.node.0 destination pair.slot) }
 {
     match weights(scenario, pair.node, destination, pair.slot) {
-        Some(weights) => put_numbers(weights.as_slice(), at, into),
-        None => put_zeros(out_links(scenario, pair.node).len(), at, into),
+        Some(weights) => put_numbers(weights.as_slice(), into),
+        None => into.fill(0),
     }
 }
 
 /// Writes the weights of each destination in a slot.
-pub(crate) fn put_weights(scenario: &Scenario, pair: Pair, at: usize, into: &mut NodeInputs)
+pub(crate) fn put_weights(scenario: &Scenario, pair: Pair, into: &mut [u64])
     requires node { pair.node.0 < (setting_of scenario.now).nodes }
-    requires places { HasPlaces into.old at ((setting_of scenario.now).destinations * (setting_of scenario.now).outs pair.node.0) }
-    ensures { Puts into.old into.new at (weights_part (setting_of scenario.now) pair.node.0 pair.slot) }
+    requires room { length into.old ≡ (setting_of scenario.now).destinations * (setting_of scenario.now).outs pair.node.0 }
+    ensures { into.new ≡ weights_part (setting_of scenario.now) pair.node.0 pair.slot }
 {
     let outs = out_links(scenario, pair.node).len();
-    if outs == 0 {
-        return;
-    }
-    let mut place = at;
+    let mut place = 0;
     for destination in 0..destination_count(scenario) {
-        put_weights_of(scenario, pair, destination, place, into);
+        put_weights_of(scenario, pair, destination, &mut into[place..place + outs]);
         place += outs;
     }
 }

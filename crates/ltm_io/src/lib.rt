@@ -1,12 +1,10 @@
-//! What the engine meets outside itself: a folder of files to read, and a sink to write to.
-//!
-//! The traits [`Folder`] and [`Sink`] say what each call may answer and why. Code above is generic
-//! over them and is proved once, for the forms in memory and for the real ones. A form in memory
-//! tells its bytes and can be made to fail at chosen calls. A real form tells nothing of its bytes:
-//! [`RealFolder`] and [`RealOutput`] are a few lines over `std`, and are trusted.
-//!
-//! A fetch reads a file once into the caller's buffer, and at most one byte more than is allowed.
-//! A write passes its bytes on once; the sinks hold no buffer of their own before it.
+//! - **What it is**: what the engine meets outside itself: a folder of files to read ([`Folder`]) and a sink to write to
+//!   ([`Sink`]), each in memory, where its bytes are told and it can be made to fail at chosen calls, and real.
+//! - **On what it stands**: `ltm_units` and `std`. [`RealFolder`] and [`RealOutput`] are a few lines over `std`, tell
+//!   nothing of their bytes, and are trusted.
+//! - **What a call costs**: a fetch reads a file once into the caller's buffer, and at most one byte more than is allowed; a
+//!   write passes its bytes on once, with no buffer before it.
+//! - **When to change it here**: when a file is added that a folder may hold, or another end is read from or written to.
 #![tactic(auto)]
 
 mod doc;

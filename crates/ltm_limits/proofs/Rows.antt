@@ -1,9 +1,8 @@
 -- The limits that a table tells.
-use Rattle.std.proofs.Common.{◌≡◌, ◌≢◌, ℕ, ◌+◌, ◌-◌, ◌*◌, ◌<◌, ◌≤◌, ◌⊎◌, inl, inr, cond, ◌/◌, ◌%◌, ltb, List, [], ◌∷◌, ◌++◌, Bool, true, false, map, length, take, drop, replicate, get_or, slice_set, refl, sym, ap, ◌∙◌, arith, length-append, length-drop, get_or-set_same, get_or-set_other, slice_index, slice_index_or}
-use Rattle.std.specs.List.{range_with_len}
+use Rattle.std.proofs.Common.{◌≡◌, ◌≢◌, ℕ, ◌+◌, ◌-◌, ◌*◌, ◌<◌, ◌≤◌, inl, inr, cond, ◌/◌, ◌%◌, ltb, List, [], ◌∷◌, ◌++◌, true, false, length, take, drop, replicate, get_or, slice_set, refl, sym, ap, ◌∙◌, arith, length-append, length-drop, get_or-set_same, get_or-set_other, slice_index}
 use Rattle.std.proofs.lemmas.List.{get_or_past, get_or-take, get_or-drop, get_or-append_right, get_or_append_left, get_or_push, get_or_default, get_or-replicate, length-replicate, length-take, take_all, set-set, set-get_or}
 use Rattle.std.proofs.lemmas.List.FromFn.{get_or-map-range_with_len, length-map-range_with_len, fill_by_all}
-use Rattle.std.proofs.lemmas.Grind.{same_number_lists, get_or_default_zero}
+use Rattle.std.proofs.lemmas.Grind.{same_number_lists}
 use Rattle.std.proofs.lemmas.Bool.{cases_lt, cases_eq, lt-ltb, le-ltb}
 use Rattle.std.proofs.lemmas.Nat.{mul-add-lt, div-mul-add, mod-mul-add}
 use Rattle.std.proofs.Math.Nat.{mul-le-mul_left, mul-le-mul_right, mul_comm}
@@ -78,23 +77,23 @@ limits_reach table new links slots n count short is =
     limits_same new table links slots (λ link slot _ _. ap (λ t. get_or t (slot * links + link) never_set) same ∙ get_or-padded table n (slot * links + link))
 
 -- ---- values written over a part of a list
-written_before : (from : ℕ) (values xs : List ℕ) (k : ℕ) → from + length values ≤ length xs → k < from → get_or (written from values xs) k 0 ≡ get_or xs k 0
+pub written_before : (from : ℕ) (values xs : List ℕ) (k : ℕ) → from + length values ≤ length xs → k < from → get_or (written from values xs) k 0 ≡ get_or xs k 0
 written_before from values xs k fits before =
     get_or_append_left (take from xs) (values ++ drop (from + length values) xs) 0 k (omega (arith, length-take from xs)) ∙ get_or-take from xs k 0 before
 
-written_inside : (from : ℕ) (values xs : List ℕ) (k : ℕ) → from + length values ≤ length xs → from ≤ k → k < from + length values → get_or (written from values xs) k 0 ≡ get_or values (k - from) 0
+pub written_inside : (from : ℕ) (values xs : List ℕ) (k : ℕ) → from + length values ≤ length xs → from ≤ k → k < from + length values → get_or (written from values xs) k 0 ≡ get_or values (k - from) 0
 written_inside from values xs k fits least below =
     get_or-append_right (take from xs) (values ++ drop (from + length values) xs) from k 0 (omega (arith, length-take from xs)) least
     ∙ get_or_append_left values (drop (from + length values) xs) 0 (k - from) (omega arith)
 
-written_behind : (from : ℕ) (values xs : List ℕ) (k : ℕ) → from + length values ≤ length xs → from + length values ≤ k → get_or (written from values xs) k 0 ≡ get_or xs k 0
+pub written_behind : (from : ℕ) (values xs : List ℕ) (k : ℕ) → from + length values ≤ length xs → from + length values ≤ k → get_or (written from values xs) k 0 ≡ get_or xs k 0
 written_behind from values xs k fits least =
     get_or-append_right (take from xs) (values ++ drop (from + length values) xs) from k 0 (omega (arith, length-take from xs)) (omega arith)
     ∙ get_or-append_right values (drop (from + length values) xs) (length values) (k - from) 0 refl (omega arith)
     ∙ get_or-drop (from + length values) xs (k - from - length values) 0
     ∙ ap (λ i. get_or xs i 0) (omega arith)
 
-length-written : (from : ℕ) (values xs : List ℕ) → from + length values ≤ length xs → length (written from values xs) ≡ length xs
+pub length-written : (from : ℕ) (values xs : List ℕ) → from + length values ≤ length xs → length (written from values xs) ≡ length xs
 length-written from values xs fits =
     omega (arith, length-append (take from xs) (values ++ drop (from + length values) xs), length-append values (drop (from + length values) xs), length-take from xs, length-drop (from + length values) xs)
 

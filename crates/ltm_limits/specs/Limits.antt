@@ -1,5 +1,5 @@
 -- The limits of links: for each link its limit at each slot.
-use Rattle.std.specs.Prelude.{ℕ, ◌+◌, ◌-◌, List, [], ◌∷◌, ◌++◌, length, take, drop, replicate, slice_index, slice_index_or, slice_set}
+use Rattle.std.specs.Prelude.{◌≡◌, ℕ, ◌+◌, ◌-◌, List, [], ◌∷◌, ◌++◌, All, length, take, drop, replicate, slice_index, slice_index_or, slice_set}
 
 -- a limit that was never set: no link passes more in a slot
 abbrev pub never_set : ℕ
@@ -28,6 +28,11 @@ values_of limits link from count = take count (drop from (slice_index_or limits 
 -- one link more, whose limits were never set
 abbrev pub with_link : List (List ℕ) → ℕ → List (List ℕ)
 with_link limits slots = limits ++ replicate slots never_set ∷ []
+
+-- a row for each link, and in each row a limit for each slot
+pub record AreWhole (limits : List (List ℕ)) (links slots : ℕ) : Type 0 where
+  pub for_each : length limits ≡ links
+  pub long : All (λ row. length row ≡ slots) limits
 
 -- the limits and the horizon, and how many limits can be written without memory
 pub record LimitsState : Type 0 where

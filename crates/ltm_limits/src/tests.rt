@@ -1,5 +1,5 @@
 //! Worked cases: what no clause says.
-use crate::LimitTable;
+use crate::{LimitTable, limits_are_set, limits_stay_whole};
 use std::test::Fail;
 
 #[test]
@@ -25,5 +25,7 @@ fn limits_set_and_put_back(rt: HostRuntime) -> Result<(), Fail> {
         (copy.limit(1, 1), copy.limit(1, 2), copy.limit(1, 3)),
         (32_000, 32_000, 7)
     );
+    limits_are_set();
+    limits_stay_whole();
     Ok(())
 }

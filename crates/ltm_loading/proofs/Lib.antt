@@ -15,3 +15,10 @@ pub mod SameRows
 pub mod Reading
 pub mod OneSetter
 pub mod OutputBounds
+pub mod AddsUp
+pub mod Crossing
+pub mod ReadsSame
+pub mod Unlike
+pub mod PairSums
+pub mod DifferingLaws
+pub mod OneRoad

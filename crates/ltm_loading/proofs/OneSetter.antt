@@ -8,7 +8,7 @@ use Rattle.ltm_loading.specs.NextPair.{IsOf}
 use Rattle.ltm_loading.specs.Reads.{SetByOnePair}
 use Rattle.ltm_loading.proofs.GroupKinds.{Kind, is_up, is_down, is_dep, is_arr, kind_of}
 use Rattle.ltm_loading.proofs.Pairs.{link_group, origin_group}
-use Rattle.ltm_loading.proofs.Setters.{set_by}
+use Rattle.ltm_loading.proofs.Setters.{set_by, of_group}
 
 one_setter : (s : Setting) (u v g d : ℕ) → IsSetting s → u < s.nodes → v < s.nodes → IsOf s u g d → IsOf s v g d → u ≡ v
 one_setter s u v g d is x y first second = sym (set_by s u g d is x first) ∙ set_by s v g d is y second
@@ -27,4 +27,4 @@ setter_of s g d v m (is_dep u x e) =
 setter_of s g d v m (is_arr e) = inl (s.place d, v.network.place_is_node d m, inr (inr (e, v.network.own_at d m)))
 
 pub set_by_one_pair_holds : SetByOnePair
-set_by_one_pair_holds = record { one = one_setter; some = λ s g d v x m. setter_of s g d v m (kind_of s g x) }
+set_by_one_pair_holds = record { within = of_group; one = one_setter; some = λ s g d v x m. setter_of s g d v m (kind_of s g x) }

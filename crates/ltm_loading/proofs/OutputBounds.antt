@@ -84,8 +84,7 @@ number_small row a o m most k long left enter come =
     ]
 
 pub outputs_small_holds : OutputsSmall
-outputs_small_holds s c t u n o v y x front reads step k =
-    let f : IsFront s c t = front.front in
+outputs_small_holds s c t u n o v y x f reads step k =
     let once : IsNodeStep (pair_inputs s c u t) (outputs_of s u o.row) = same_step n o (shape_at s u) (pair_row s c u t) o.row reads.shape reads.row refl step in
     ∥∥₁_elim once le_prop (λ (z : StepShares (pair_inputs s c u t) (outputs_of s u o.row)).
     number_small o.row (arms_of s u) (s.outs u) s.destinations ((t + 1) * 160000) k z.moves.width

@@ -11,7 +11,7 @@ use Rattle.ltm_curve.specs.Counts.{Counts, total}
 use Rattle.ltm_curve.specs.First.{list_below, last_within, entries, mixed, first_units}
 use Rattle.ltm_loading.specs.Setting.{Setting, IsSetting}
 use Rattle.ltm_loading.specs.Groups.{up_of, down_of, dep_of, arr_of, groups}
-use Rattle.ltm_loading.specs.Flows.{limited, link_goal, link_first, link_sending, origin_goal, origin_sending, receiving}
+use Rattle.ltm_loading.specs.Flows.{limited, link_goal, position, link_first, link_sending, origin_goal, origin_sending, receiving}
 use Rattle.ltm_loading.specs.Pairs.{arms_of, sending, arm_group, arrived_by, grid, pair_row}
 use Rattle.ltm_loading.specs.Reads.{Reads, in_link_entered, in_link_left, out_link_entered, out_link_left, origin_left, here_arrived, InputsReadOnly}
 use Rattle.ltm_loading.proofs.Times.{earlier_same}
@@ -86,6 +86,12 @@ link_goal_same s a b l t v up down x =
       earlier_same (total s.destinations (a (up_of l))) (total s.destinations (b (up_of l))) s.step t (s.free_time l) v.some_step (v.free_time l x) (totals_agree s a b t (up_of l) up),
       totals_agree s a b t (down_of l) down t (omega arith),
     )
+
+-- the position of a slot for a link is known by the counts of the link up to the slot
+pub position_same : (s : Setting) (a b : Counts) (l t : ℕ) → IsSetting s → AgreeAt s a b (up_of l) t → AgreeAt s a b (down_of l) t → l < s.links → position s a l t ≡ position s b l t
+position_same s a b l t v up down x =
+    ap (λ (n : ℕ). last_within (total s.destinations (a (up_of l))) n t) (link_goal_same s a b l t v up down x)
+    ∙ last_within-same (total s.destinations (a (up_of l))) (total s.destinations (b (up_of l))) (link_goal s b l t) t (totals_agree s a b t (up_of l) up)
 
 link_first_same : (s : Setting) (a b : Counts) (l t d : ℕ) → IsSetting s → AgreeAt s a b (up_of l) t → AgreeAt s a b (down_of l) t → l < s.links → d < s.destinations → link_first s a l t d ≡ link_first s b l t d
 link_first_same s a b l t d v up down x m =

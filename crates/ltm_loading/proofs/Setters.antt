@@ -13,6 +13,7 @@ use Rattle.ltm_loading.specs.Setting.{Setting, IsSetting}
 use Rattle.ltm_loading.specs.Groups.{up_of, down_of, dep_of, arr_of, groups}
 use Rattle.ltm_loading.specs.Pairs.{arms_of, arm_group, arrived_by, grid, shape_at, pair_row, pair_inputs, count_row, pair_outputs, MeetsStep}
 use Rattle.ltm_loading.specs.NextPair.{IsOf, NextPair, NextSlot}
+use Rattle.ltm_loading.specs.Reads.{CountsSetOnly}
 use Rattle.ltm_loading.proofs.Picks.{pick_first, pick_second}
 use Rattle.ltm_loading.proofs.Same.{list_below-same, grid-same, AgreeTo, pair_row_same, arm_is_group}
 
@@ -74,8 +75,8 @@ arrived_of : (s : Setting) (a b : Counts) (u k : ℕ) (o : Option ℕ) → s.own
 arrived_of s a b u k None e h x = refl
 arrived_of s a b u k (Some d) e h x = h (arr_of s) d (inr (inr (refl, e))) (x d refl)
 
-pub count_row_same : (s : Setting) (a b : Counts) (u k : ℕ) → IsSetting s → u < s.nodes → ((g d : ℕ) → IsOf s u g d → d < s.destinations → a g d k ≡ b g d k) → count_row s a u k ≡ count_row s b u k
-count_row_same s a b u k v x h =
+pub counts_set_only_holds : CountsSetOnly
+counts_set_only_holds s a b u k v x h =
     let e1 : grid (arms_of s u) s.destinations (λ i d. a (arm_group s u i) d k) ≡ grid (arms_of s u) s.destinations (λ i d. b (arm_group s u i) d k) =
     grid-same (arms_of s u) s.destinations (λ i d. a (arm_group s u i) d k) (λ i d. b (arm_group s u i) d k) (λ i d y z. h (arm_group s u i) d (inl (i, y, refl)) z) in
     let e2 : grid (s.outs u) s.destinations (λ j d. a (up_of (s.out_link u j)) d k) ≡ grid (s.outs u) s.destinations (λ j d. b (up_of (s.out_link u j)) d k) =
@@ -129,11 +130,11 @@ pub next_pair_holds : NextPair
 next_pair_holds s old new t u n o v y x front reads step applies =
     let before : (k : ℕ) → k ≤ t → AgreeTo s old new k = λ k z. record { same = λ g d j w m l. sym (applies.later g d j w m (omega arith) (omega arith)) } in
     let earlier : (w k : ℕ) → w < s.nodes → k < t → count_row s old w (k + 1) ≡ count_row s new w (k + 1) =
-    λ w k z l. count_row_same s old new w (k + 1) v z (λ g d of m. sym (applies.later g d (k + 1) (of_group s w g d v z of) m (omega arith) (omega arith))) in
+    λ w k z l. counts_set_only_holds s old new w (k + 1) v z (λ g d of m. sym (applies.later g d (k + 1) (of_group s w g d v z of) m (omega arith) (omega arith))) in
     let beside : (w : ℕ) → w < u → count_row s old w (t + 1) ≡ count_row s new w (t + 1) =
     λ w z.
     let node : w < s.nodes = omega arith in
-    count_row_same s old new w (t + 1) v node
+    counts_set_only_holds s old new w (t + 1) v node
     (λ g d of m. sym (applies.others g d (of_group s w g d v node of) m
     (λ mine. let a : setter s g d ≡ w = set_by s w g d v node of in let b : setter s g d ≡ u = set_by s u g d v x mine in omega arith))) in
     let rows : pair_row s old u t ≡ pair_row s new u t = pair_row_same s old new u t v (before t (omega arith)) x in

@@ -2,7 +2,7 @@
 use Rattle.std.specs.Prelude.{ℕ, ◌+◌, ◌-◌, ◌*◌, ◌/◌, min, if◌then◌else◌, nat_lt, nat_le}
 use Rattle.ltm_units.specs.Sums.{sum_below}
 use Rattle.ltm_curve.specs.Counts.{Counts, total, interpolated}
-use Rattle.ltm_curve.specs.First.{first_units}
+use Rattle.ltm_curve.specs.First.{last_within, first_units}
 use Rattle.ltm_loading.specs.Setting.{Setting}
 use Rattle.ltm_loading.specs.Groups.{up_of, down_of, dep_of}
 
@@ -15,6 +15,11 @@ earlier counts step slot delay =
 abbrev pub link_goal : Setting → Counts → ℕ → ℕ → ℕ
 link_goal s c l t =
     min (earlier (total s.destinations (c (up_of l))) s.step t (s.free_time l)) (total s.destinations (c (down_of l)) t + s.capacity l)
+
+-- the position of a slot for a link: the last boundary by which no more has entered the link than may have left it by the
+-- slot's end
+abbrev pub position : Setting → Counts → ℕ → ℕ → ℕ
+position s c l slot = last_within (total s.destinations (c (up_of l))) (link_goal s c l slot) slot
 
 -- what a link would send of a destination without an exit limit: its part of those units that has not left yet
 abbrev pub link_first : Setting → Counts → ℕ → ℕ → ℕ → ℕ

@@ -9,5 +9,7 @@ pub mod NextPair
 pub mod ByPlace
 pub mod Ready
 pub mod Totals
+pub mod Networks
 pub mod Reads
 pub mod Differing
+pub mod OneRoad

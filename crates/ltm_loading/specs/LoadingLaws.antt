@@ -6,7 +6,8 @@ use Rattle.ltm_curve.specs.First.{first_units}
 use Rattle.ltm_loading.specs.Setting.{Setting, IsSetting}
 use Rattle.ltm_loading.specs.Groups.{up_of, down_of, dep_of, arr_of, groups}
 use Rattle.ltm_loading.specs.Flows.{link_goal, origin_goal}
-use Rattle.ltm_loading.specs.Loading.{IsLoading}
+use Rattle.ltm_loading.specs.Loading.{IsFront, NothingLeavesSinks, IsLoading}
+use Rattle.ltm_loading.specs.Totals.{generated, departed, arrived, on_links, waiting}
 
 -- no count falls
 abbrev pub NeverFall : Type 0
@@ -50,3 +51,22 @@ abbrev pub OneLoading : Type 0
 OneLoading =
     (s : Setting) (a b : Counts) → IsSetting s → IsLoading s a → IsLoading s b →
     (g d k : ℕ) → g < groups s → d < s.destinations → k ≤ s.slots → a g d k ≡ b g d k
+
+-- two fronts of one setting up to a slot are equal up to it
+abbrev pub OneFront : Type 0
+OneFront =
+    (s : Setting) (a b : Counts) (slot : ℕ) → IsSetting s → slot ≤ s.slots →
+    IsFront s a slot → NothingLeavesSinks s a → IsFront s b slot → NothingLeavesSinks s b →
+    (g d k : ℕ) → g < groups s → d < s.destinations → k ≤ slot → a g d k ≡ b g d k
+
+-- no more has left a link than has entered it
+abbrev pub LeftHasEntered : Type 0
+LeftHasEntered =
+    (s : Setting) (c : Counts) → IsSetting s → IsLoading s c → (l d k : ℕ) → l < s.links → d < s.destinations → k ≤ s.slots →
+    c (down_of l) d k ≤ c (up_of l) d k
+
+-- what was produced has left its origin or waits there, and what has left has arrived or is on a link
+abbrev pub AddsUp : Type 0
+AddsUp =
+    (s : Setting) (c : Counts) → IsSetting s → IsLoading s c → (k : ℕ) → k ≤ s.slots →
+    (generated s k ≡ departed s c k + waiting s c k) × (departed s c k ≡ arrived s c k + on_links s c k)

@@ -2,15 +2,21 @@
 //!
 //! A loading is a condition on finished counts: every pair of node and slot meets the node step of what it reads, which
 //! are counts at earlier boundaries. It is said over plain numbers, a `Setting`, so that the laws hold whatever tells
-//! them. No code here runs. It stands on `ltm_curve` and `ltm_node`. (Sending and receiving of a link: Yperman 2007,
-//! after Newell 1993. Composition by destination, origins and whole units are this engine's own.)
+//! them; two loadings are compared pair by pair (`differing`). (Sending and receiving of a link: Yperman 2007, after
+//! Newell 1993. Composition by destination, origins and whole units are this engine's own.)
+//!
+//! It stands on `ltm_curve` and `ltm_node`. No code here runs: a law is the contract of a function with an empty body,
+//! which costs nothing to call. Change it where the meaning of a loading changes, or where a crate above wants a law of
+//! loadings that is not here.
 #![tactic(auto)]
 
 mod laws;
 
 pub use laws::{
-    conserved, counts_by_place, counts_small, first_in_first_out, in_range, inputs_by_place,
-    inputs_read_only, links_are_ready, never_fall, next_pair, next_slot, one_loading,
-    origins_are_ready, outputs_small, set_by_one_pair, within_exit, within_produced,
-    within_storage,
+    adds_up, conserved, counts_by_place, counts_set_only, counts_small, differences_add_up,
+    differing_either_way, differing_is_within_pairs, first_in_first_out, in_range, inputs_by_parts,
+    inputs_by_place, inputs_read_only, left_has_entered, links_are_ready, never_fall, next_pair,
+    next_slot, none_differ, one_front, one_loading, one_road_is_worked, origins_are_ready,
+    outputs_small, position_read_only, set_by_one_pair, setting_read_only, totals_small,
+    within_capacity, within_exit, within_produced, within_storage,
 };

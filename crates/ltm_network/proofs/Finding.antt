@@ -1,5 +1,5 @@
 -- Names are found at their places.
-use Rattle.std.proofs.Common.{◌≡◌, ℕ, suc, zero, ◌+◌, ◌<◌, ◌&&◌, Bool, true, false, cond, List, [], ◌∷◌, ◌++◌, length, take, get_or, nat_lt, Some, None, refl, sym, ap, subst, ◌∙◌, arith}
+use Rattle.std.proofs.Common.{◌≡◌, ℕ, suc, zero, ◌+◌, ◌<◌, ◌&&◌, ◌==◌, Bool, true, false, cond, List, [], ◌∷◌, ◌++◌, length, take, get_or, nat_lt, Some, None, refl, sym, ap, subst, ◌∙◌, arith}
 use Rattle.std.specs.List.{position_from}
 use Rattle.std.proofs.Math.ListN.{get_or-append}
 use Rattle.std.proofs.Math.Seq.{get_or-append_seam}
@@ -7,23 +7,14 @@ use Rattle.std.proofs.lemmas.List.{get_or-take, length-take}
 use Rattle.std.proofs.lemmas.Bool.{cases_lt}
 use Rattle.std.proofs.Common.{length-append, inl, inr}
 use Rattle.std.proofs.lemmas.Bool.Decides.{nat_tests}
-use Rattle.std.proofs.lemmas.Map.Lookups.{exact_bytes}
-use Rattle.std.specs.BTreeMap as tree
-use Rattle.std.specs.BTreeMap.{BTreeMap}
-use Rattle.std.specs.declared.cmp.Ordering.{Ordering}
-use Rattle.std.specs.declared.cmp.Ordering.TheVariants.{Less, Equal, Greater}
-use Rattle.std.specs.Ordering.{nat_cmp, is_eq}
-use Rattle.std.specs.Cmp.Lexicographic.{slice_cmp, texts_ties, nat_list_eq_equiv}
+use Rattle.std.specs.HashMap as hash
+use Rattle.std.specs.HashMap.{HashMap}
+use Rattle.std.specs.Cmp.Lexicographic.{pointwise, same_text, nat_list_eq_equiv}
 use Rattle.ltm_network.specs.Names.{same, stands_at, place_of}
 use Rattle.ltm_network.specs.Found.{AreFound}
 
-equal : (r : Ordering) → is_eq r ≡ true → r ≡ Equal
-equal Less e = cc
-equal Equal e = refl
-equal Greater e = cc
-
 pub same_exact : (a b : List ℕ) → same a b ≡ true → a ≡ b
-same_exact a b e = exact_bytes a b (equal _ (sym (texts_ties a b) ∙ e))
+same_exact a b e = same_text a b (sym e)
 
 pub same_itself : (a : List ℕ) → same a a ≡ true
 same_itself a = nat_list_eq_equiv.refl a
@@ -61,10 +52,10 @@ true_or_false true h = absurd (h refl)
 true_or_false false h = refl
 
 -- a name that stands somewhere is found there
-pub found_at : (names : List (List ℕ)) (ids : BTreeMap (List ℕ) ℕ) (name : List ℕ) (j : ℕ) → AreFound names ids → j < length names → same name (get_or names j []) ≡ true → tree.get (slice_cmp nat_cmp) ids name ≡ Some j
-found_at names ids name j found less is = ap (tree.get (slice_cmp nat_cmp) ids) (same_exact _ _ is) ∙ found j [] less
+pub found_at : {S : Type 0} (names : List (List ℕ)) (ids : HashMap (List ℕ) ℕ S) (name : List ℕ) (j : ℕ) → AreFound names ids → j < length names → same name (get_or names j []) ≡ true → hash.get (pointwise ◌==◌) ids name ≡ Some j
+found_at names ids name j found less is = ap (hash.get (pointwise ◌==◌) ids) (same_exact _ _ is) ∙ found j [] less
 
-pub place_here : (names : List (List ℕ)) (ids : BTreeMap (List ℕ) ℕ) (name : List ℕ) (place : ℕ) → AreFound names ids → tree.get (slice_cmp nat_cmp) ids name ≡ Some place → stands_at names place name ≡ true → place_of names name ≡ Some place
+pub place_here : {S : Type 0} (names : List (List ℕ)) (ids : HashMap (List ℕ) ℕ S) (name : List ℕ) (place : ℕ) → AreFound names ids → hash.get (pointwise ◌==◌) ids name ≡ Some place → stands_at names place name ≡ true → place_of names name ≡ Some place
 place_here names ids name place found get stands =
     let less : place < length names = grind (arith, nat_tests) in
     let test : nat_lt place (length names) ≡ true = grind (arith, nat_tests) in
@@ -74,7 +65,7 @@ place_here names ids name place found get stands =
     let at : Some place ≡ Some j = sym get ∙ found_at names ids name j found (omega arith) is2 in
     let e : place ≡ j = some_same _ _ at in absurd (omega arith))) ∙ ap Some (omega arith)
 
-pub place_nowhere : (names : List (List ℕ)) (ids : BTreeMap (List ℕ) ℕ) (name : List ℕ) → AreFound names ids → ((j : ℕ) → tree.get (slice_cmp nat_cmp) ids name ≡ Some j → stands_at names j name ≡ false) → place_of names name ≡ None
+pub place_nowhere : {S : Type 0} (names : List (List ℕ)) (ids : HashMap (List ℕ) ℕ S) (name : List ℕ) → AreFound names ids → ((j : ℕ) → hash.get (pointwise ◌==◌) ids name ≡ Some j → stands_at names j name ≡ false) → place_of names name ≡ None
 place_nowhere names ids name found stale_at =
     position_none (same name) 0 names [] (λ j less. true_or_false _ (λ is.
     let stale : stands_at names j name ≡ false = stale_at j (found_at names ids name j found less is) in
@@ -84,23 +75,23 @@ place_nowhere names ids name found stale_at =
     let bad : true ≡ false = sym (same_itself name) ∙ one in cc))
 
 -- what putting the name into the index keeps
-pub others_kept : (names : List (List ℕ)) (ids ids' : BTreeMap (List ℕ) ℕ) (name : List ℕ) → AreFound names ids → place_of names name ≡ None →
-    ((q : List ℕ) → is_eq (slice_cmp nat_cmp name q) ≡ false → tree.get (slice_cmp nat_cmp) ids' q ≡ tree.get (slice_cmp nat_cmp) ids q) → AreFound names ids'
+pub others_kept : {S : Type 0} (names : List (List ℕ)) (ids ids' : HashMap (List ℕ) ℕ S) (name : List ℕ) → AreFound names ids → place_of names name ≡ None →
+    ((q : List ℕ) → same name q ≡ false → hash.get (pointwise ◌==◌) ids' q ≡ hash.get (pointwise ◌==◌) ids q) → AreFound names ids'
 others_kept names ids ids' name found absent others i d less =
     let apart : same name (get_or names i d) ≡ false = none_stands (same name) 0 names d absent i less in
-    others (get_or names i d) (sym (texts_ties name (get_or names i d)) ∙ apart) ∙ found i d less
+    others (get_or names i d) apart ∙ found i d less
 
-pub one_more : (names : List (List ℕ)) (ids : BTreeMap (List ℕ) ℕ) (name : List ℕ) → AreFound names ids → tree.get (slice_cmp nat_cmp) ids name ≡ Some (length names) → AreFound (names ++ name ∷ []) ids
+pub one_more : {S : Type 0} (names : List (List ℕ)) (ids : HashMap (List ℕ) ℕ S) (name : List ℕ) → AreFound names ids → hash.get (pointwise ◌==◌) ids name ≡ Some (length names) → AreFound (names ++ name ∷ []) ids
 one_more names ids name found here i d less =
     elim (cases_lt i (length names)) [
-      | inl before ↦ ap (tree.get (slice_cmp nat_cmp) ids) (get_or-append names (name ∷ []) d i before) ∙ found i d before
+      | inl before ↦ ap (hash.get (pointwise ◌==◌) ids) (get_or-append names (name ∷ []) d i before) ∙ found i d before
       | inr last ↦
           let e : i ≡ length names = omega (arith, length-append names (name ∷ [])) in
-          subst (λ k. tree.get (slice_cmp nat_cmp) ids (get_or (names ++ name ∷ []) k d) ≡ Some k) (sym e) (ap (tree.get (slice_cmp nat_cmp) ids) (get_or-append_seam names name [] d) ∙ here)
+          subst (λ k. hash.get (pointwise ◌==◌) ids (get_or (names ++ name ∷ []) k d) ≡ Some k) (sym e) (ap (hash.get (pointwise ◌==◌) ids) (get_or-append_seam names name [] d) ∙ here)
     ]
 
-pub fewer : (names : List (List ℕ)) (ids : BTreeMap (List ℕ) ℕ) (n : ℕ) → AreFound names ids → AreFound (take n names) ids
+pub fewer : {S : Type 0} (names : List (List ℕ)) (ids : HashMap (List ℕ) ℕ S) (n : ℕ) → AreFound names ids → AreFound (take n names) ids
 fewer names ids n found i d less =
     let short : i < n = omega (arith, length-take n names) in
     let inside : i < length names = omega (arith, length-take n names) in
-    ap (tree.get (slice_cmp nat_cmp) ids) (get_or-take n names i d short) ∙ found i d inside
+    ap (hash.get (pointwise ◌==◌) ids) (get_or-take n names i d short) ∙ found i d inside

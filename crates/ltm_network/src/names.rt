@@ -7,14 +7,14 @@ ghost use Rattle.ltm_network.specs.Names.{place_of, stands_at};
 
 use ltm_units::{Name, NoMemory};
 use std::alloc::{AllocError, Global};
-use std::collections::BTreeMap;
+use std::collections::HashMap;
 use std::marker::Model;
 
 /// A list of names. Contracts see the list.
 #[derive(Drop)]
 pub struct Names {
     list: Vec<Name>,
-    places: BTreeMap<Name, u32>,
+    places: HashMap<Name, u32>,
 }
 
 impl Model for Names {
@@ -47,7 +47,7 @@ impl Names {
     {
         Names {
             list: Vec::new(alloc),
-            places: BTreeMap::new(alloc),
+            places: HashMap::new(alloc),
         }
     }
 

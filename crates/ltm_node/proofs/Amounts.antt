@@ -1,10 +1,10 @@
-use Rattle.std.proofs.Common.{◌≡◌, ◌≢◌, ℕ, zero, suc, ◌+◌, ◌*◌, ◌<◌, ◌≤◌, ◌⊎◌, List, set, length, slice_index, arith, inl, inr, ap, ◌∙◌, refl, sym, subst}
+use Rattle.std.proofs.Common.{◌≡◌, ◌≢◌, ℕ, zero, suc, ◌+◌, ◌*◌, ◌<◌, ◌≤◌, ◌⊎◌, List, set, length, slice_index, arith, inl, inr, ap, ◌∙◌, sym, subst}
 use Rattle.std.proofs.Math.ListN.{length-set}
 use Rattle.std.proofs.lemmas.Bool.{cases_eq, cases_lt}
 use Rattle.std.proofs.lemmas.List.{get_or-set_other, get_or-set_same}
 use Rattle.std.proofs.lemmas.Nat.{same_from_place, mul-add-lt}
 use Rattle.ltm_units.specs.Sums.{sum_below}
-use Rattle.ltm_units.proofs.Sums.{sum_below_more, sum_below-zero, sum_below-change}
+use Rattle.ltm_units.proofs.Sums.{sum_below_more, sum_below-zero}
 use Rattle.ltm_node.specs.Shape.{counts_width}
 use Rattle.ltm_node.specs.Inputs.{Inputs, left, entered}
 use Rattle.ltm_node.specs.Outputs.{left_after_place, entered_after_place, arrived_after_place}
@@ -30,18 +30,15 @@ pair_cases b a d i al il less =
 
 -- ---- an arm moves by one more out-link
 
-pub entered_on : (n : Inputs) (e : ℕ) (p : ℕ → ℕ) (b a k v : ℕ) (row sent row' sent' : List ℕ) → IsSolvable n → IsMoving n e p b a k row sent → a < n.shape.arms → b < n.shape.destinations → k < n.shape.outs → length sent ≡ 20 → v ≡ moved n e p a b k →
+pub entered_on : (n : Inputs) (e : ℕ) (p : ℕ → ℕ) (b a k v : ℕ) (row : List ℕ) (sent : ℕ → ℕ → ℕ) (row' : List ℕ) (sent' : ℕ → ℕ → ℕ) → IsSolvable n → IsMoving n e p b a k row sent → a < n.shape.arms → b < n.shape.destinations → k < n.shape.outs → v ≡ moved n e p a b k →
     row' ≡ set row (entered_after_place n.shape k b) (slice_index row (entered_after_place n.shape k b) + v) →
-    sent' ≡ set sent (a * 4 + k) (slice_index sent (a * 4 + k) + v) → IsMoving n e p b a (k + 1) row' sent'
-entered_on n e p b a k v row sent row' sent' s h al bl kl long is er es =
+    sent' a k ≡ sent a k + v → ((i j : ℕ) → j < 4 → (i ≡ a → j ≡ k → ⊥) → sent' i j ≡ sent i j) → IsMoving n e p b a (k + 1) row' sent'
+entered_on n e p b a k v row sent row' sent' s h al bl kl is er here_sent other_sent =
     let at : ℕ = entered_after_place n.shape k b in
     let x : ℕ = slice_index row at + v in
-    let y : ℕ = slice_index sent (a * 4 + k) + v in
     let other : (q : ℕ) → q ≢ at → slice_index row' q ≡ slice_index row q = λ q ne. ap (λ z. slice_index z q) er ∙ get_or-set_other row at q x 0 ne in
     let here : slice_index row' at ≡ x = ap (λ z. slice_index z at) er ∙ get_or-set_same row at x 0 (omega (arith, entered_low n k b kl bl, h.width)) in
-    let other_sent : (q : ℕ) → q ≢ a * 4 + k → slice_index sent' q ≡ slice_index sent q = λ q ne. ap (λ z. slice_index z q) es ∙ get_or-set_other sent (a * 4 + k) q y 0 ne in
-    let here_sent : slice_index sent' (a * 4 + k) ≡ y = ap (λ z. slice_index z (a * 4 + k)) es ∙ get_or-set_same sent (a * 4 + k) y 0 (omega (arith, s.few_arms, s.few_outs)) in
-    let was_sent : slice_index sent (a * 4 + k) ≡ sum_below b (λ d. moved n e p a d k) = h.sent_rest a k al kl (omega arith) in
+    let was_sent : sent a k ≡ sum_below b (λ d. moved n e p a d k) = h.sent_rest a k al kl (omega arith) in
     let differs : (j d : ℕ) → d < n.shape.destinations → (j ≡ k → d ≡ b → ⊥) → entered_after_place n.shape j d ≢ at = λ j d dl ne.
     let apart : j * n.shape.destinations + d ≢ k * n.shape.destinations + b = places_differ n.shape.destinations j d k b dl bl ne in omega arith in
     let few : n.shape.outs ≤ 4 = s.few_outs in
@@ -64,12 +61,12 @@ entered_on n e p b a k v row sent row' sent' s h al bl kl long is er es =
         | inl eq ↦
             let one : i ≡ a = omega arith in
             let two : j ≡ k = omega arith in
-            let P : ℕ → Type 0 = λ z. slice_index sent' (z * 4 + j) ≡ sum_below b (λ d. moved n e p z d j) + moved n e p z b j in
-            let Q : ℕ → Type 0 = λ z. slice_index sent' (a * 4 + z) ≡ sum_below b (λ d. moved n e p a d z) + moved n e p a b z in
+            let P : ℕ → Type 0 = λ z. sent' z j ≡ sum_below b (λ d. moved n e p z d j) + moved n e p z b j in
+            let Q : ℕ → Type 0 = λ z. sent' a z ≡ sum_below b (λ d. moved n e p a d z) + moved n e p a b z in
             subst P (sym one) (subst Q (sym two) (omega arith))
-        | inr ne ↦ other_sent (i * 4 + j) ne ∙ h.sent_done i j il jl (omega arith)
+        | inr ne ↦ other_sent i j (omega arith) (λ one two. ne (omega arith)) ∙ h.sent_done i j il jl (omega arith)
       ];
-      sent_rest = λ i j il jl more. other_sent (i * 4 + j) (omega arith) ∙ h.sent_rest i j il jl (omega arith);
+      sent_rest = λ i j il jl more. other_sent i j (omega arith) (λ one two. absurd (omega arith)) ∙ h.sent_rest i j il jl (omega arith);
     }
 
 -- a number of the row is read and written at one place
@@ -77,7 +74,7 @@ pub row_added : (row : List ℕ) (q at v : ℕ) → q ≡ at → set row q (slic
 row_added row q at v e = ap (λ z. set row z (slice_index row z + v)) e
 
 -- an arm moves nothing by some out-links
-pub entered_past : (n : Inputs) (e : ℕ) (p : ℕ → ℕ) (b a k m : ℕ) (row sent : List ℕ) → IsSolvable n → IsMoving n e p b a k row sent → k ≤ m → m ≤ n.shape.outs →
+pub entered_past : (n : Inputs) (e : ℕ) (p : ℕ → ℕ) (b a k m : ℕ) (row : List ℕ) (sent : ℕ → ℕ → ℕ) → IsSolvable n → IsMoving n e p b a k row sent → k ≤ m → m ≤ n.shape.outs →
     ((j : ℕ) → k ≤ j → j < m → moved n e p a b j ≡ 0) → IsMoving n e p b a m row sent
 entered_past n e p b a k m row sent s h km mo none =
     let few : n.shape.outs ≤ 4 = s.few_outs in
@@ -97,36 +94,17 @@ entered_past n e p b a k m row sent s h km mo none =
         | inl low ↦ h.sent_done i j il jl low
         | inr high ↦
             let one : i ≡ a = omega arith in
-            let P : ℕ → Type 0 = λ z. slice_index sent (z * 4 + j) ≡ sum_below b (λ d. moved n e p z d j) + moved n e p z b j in
-            let Q : ℕ → Type 0 = λ z. slice_index sent (z * 4 + j) ≡ sum_below b (λ d. moved n e p z d j) in
-            let was : slice_index sent (a * 4 + j) ≡ sum_below b (λ d. moved n e p a d j) = subst Q one (h.sent_rest i j il jl high) in
+            let P : ℕ → Type 0 = λ z. sent z j ≡ sum_below b (λ d. moved n e p z d j) + moved n e p z b j in
+            let Q : ℕ → Type 0 = λ z. sent z j ≡ sum_below b (λ d. moved n e p z d j) in
+            let was : sent a j ≡ sum_below b (λ d. moved n e p a d j) = subst Q one (h.sent_rest i j il jl high) in
             subst P (sym one) (omega (arith, none j (omega arith) (omega arith)))
       ];
       sent_rest = λ i j il jl more. h.sent_rest i j il jl (omega arith);
     }
 
--- what is moved by one out-link alone is all that is moved
-pub sum_alone : (m : ℕ) (f : ℕ → ℕ) (k : ℕ) → k < m → ((j : ℕ) → j < m → (j ≡ k → ⊥) → f j ≡ 0) → f k ≡ sum_below m f
-sum_alone m f k l none =
-    omega (arith, sum_below-change m f (λ _. 0) k l none, sum_below-zero m (λ _. 0) (λ j _. refl))
-
--- what is moved by two out-links alone is all that is moved
-pub sum_pair : (m : ℕ) (f : ℕ → ℕ) (k l : ℕ) → k < l → l < m → ((j : ℕ) → (j ≡ k → ⊥) → (j ≡ l → ⊥) → f j ≡ 0) → f k + f l ≡ sum_below m f
-sum_pair zero f k l h b none = absurd (omega arith)
-sum_pair (suc m) f k l h b none =
-    elim (cases_lt l m) [
-      | inl low ↦
-          let rest : f k + f l ≡ sum_below m f = sum_pair m f k l h low none in
-          let top : f m ≡ 0 = none m (λ same. absurd (omega arith)) (λ same. absurd (omega arith)) in omega arith
-      | inr high ↦
-          let at : l ≡ m = omega arith in
-          let one : f k ≡ sum_below m f = sum_alone m f k (omega arith) (λ j jl ne. none j ne (λ same. absurd (omega arith))) in
-          let last : f l ≡ f m = ap f at in omega arith
-    ]
-
 -- ---- what left an arm is added
 
-pub left_on : (n : Inputs) (e : ℕ) (p : ℕ → ℕ) (b a v : ℕ) (row sent row' : List ℕ) → IsSolvable n → IsMoving n e p b a n.shape.outs row sent → a < n.shape.arms → b < n.shape.destinations →
+pub left_on : (n : Inputs) (e : ℕ) (p : ℕ → ℕ) (b a v : ℕ) (row : List ℕ) (sent : ℕ → ℕ → ℕ) (row' : List ℕ) → IsSolvable n → IsMoving n e p b a n.shape.outs row sent → a < n.shape.arms → b < n.shape.destinations →
     v ≡ sum_below n.shape.outs (λ j. moved n e p a b j) → sunk n e p a b ≡ 0 →
     row' ≡ set row (left_after_place n.shape a b) (slice_index row (left_after_place n.shape a b) + v) → IsMoving n e p b (a + 1) 0 row' sent
 left_on n e p b a v row sent row' s h al bl is none er =
@@ -159,7 +137,7 @@ left_on n e p b a v row sent row' s h al bl is none er =
 
 -- ---- an arm moves to the sink
 
-pub sunk_on : (n : Inputs) (e : ℕ) (p : ℕ → ℕ) (b a v : ℕ) (row sent row' row'' : List ℕ) → IsSolvable n → IsMoving n e p b a 0 row sent → a < n.shape.arms → b < n.shape.destinations →
+pub sunk_on : (n : Inputs) (e : ℕ) (p : ℕ → ℕ) (b a v : ℕ) (row : List ℕ) (sent : ℕ → ℕ → ℕ) (row' row'' : List ℕ) → IsSolvable n → IsMoving n e p b a 0 row sent → a < n.shape.arms → b < n.shape.destinations →
     v ≡ sunk n e p a b → ((j : ℕ) → moved n e p a b j ≡ 0) →
     row' ≡ set row (left_after_place n.shape a b) (slice_index row (left_after_place n.shape a b) + v) →
     row'' ≡ set row' (arrived_after_place n.shape) (slice_index row' (arrived_after_place n.shape) + v) → IsMoving n e p b (a + 1) 0 row'' sent
@@ -202,7 +180,7 @@ sunk_on n e p b a v row sent row' row'' s h al bl is none er er' =
 
 -- ---- an arm moves nothing
 
-pub nothing_on : (n : Inputs) (e : ℕ) (p : ℕ → ℕ) (b a : ℕ) (row sent : List ℕ) → IsSolvable n → IsMoving n e p b a 0 row sent → a < n.shape.arms → b < n.shape.destinations →
+pub nothing_on : (n : Inputs) (e : ℕ) (p : ℕ → ℕ) (b a : ℕ) (row : List ℕ) (sent : ℕ → ℕ → ℕ) → IsSolvable n → IsMoving n e p b a 0 row sent → a < n.shape.arms → b < n.shape.destinations →
     sunk n e p a b ≡ 0 → ((j : ℕ) → moved n e p a b j ≡ 0) → IsMoving n e p b (a + 1) 0 row sent
 nothing_on n e p b a row sent s h al bl dry none =
     let nothing : sum_below n.shape.outs (λ j. moved n e p a b j) ≡ 0 = sum_below-zero n.shape.outs (λ j. moved n e p a b j) (λ j jl. none j) in
@@ -230,7 +208,7 @@ nothing_on n e p b a row sent s h al bl dry none =
 
 -- ---- the next destination
 
-pub next_destination : (n : Inputs) (e : ℕ) (p : ℕ → ℕ) (b : ℕ) (row sent : List ℕ) → IsSolvable n → IsMoving n e p b n.shape.arms 0 row sent → IsMoving n e p (b + 1) 0 0 row sent
+pub next_destination : (n : Inputs) (e : ℕ) (p : ℕ → ℕ) (b : ℕ) (row : List ℕ) (sent : ℕ → ℕ → ℕ) → IsSolvable n → IsMoving n e p b n.shape.arms 0 row sent → IsMoving n e p (b + 1) 0 0 row sent
 next_destination n e p b row sent s h =
     let arms : n.shape.arms ≤ 5 = s.few_arms in
     let outs : n.shape.outs ≤ 4 = s.few_outs in
@@ -254,7 +232,7 @@ next_destination n e p b row sent s h =
 
 -- ---- a destination to which nothing moves
 
-nothing_by : (n : Inputs) (e : ℕ) (p : ℕ → ℕ) (b a : ℕ) (row sent : List ℕ) → IsSolvable n → IsMoving n e p b 0 0 row sent → a ≤ n.shape.arms → b < n.shape.destinations →
+nothing_by : (n : Inputs) (e : ℕ) (p : ℕ → ℕ) (b a : ℕ) (row : List ℕ) (sent : ℕ → ℕ → ℕ) → IsSolvable n → IsMoving n e p b 0 0 row sent → a ≤ n.shape.arms → b < n.shape.destinations →
     ((i : ℕ) → sunk n e p i b ≡ 0) → ((i j : ℕ) → moved n e p i b j ≡ 0) → IsMoving n e p b a 0 row sent
 nothing_by n e p b zero row sent s h al bl dry none = h
 nothing_by n e p b (suc a) row sent s h al bl dry none =
@@ -262,6 +240,6 @@ nothing_by n e p b (suc a) row sent s h al bl dry none =
     let next : a + 1 ≡ suc a = omega arith in
     subst (λ (z : ℕ). IsMoving n e p b z 0 row sent) next (nothing_on n e p b a row sent s before (omega arith) bl (dry a) (none a))
 
-pub nothing_to : (n : Inputs) (e : ℕ) (p : ℕ → ℕ) (b : ℕ) (row sent : List ℕ) → IsSolvable n → IsMoving n e p b 0 0 row sent → b < n.shape.destinations →
+pub nothing_to : (n : Inputs) (e : ℕ) (p : ℕ → ℕ) (b : ℕ) (row : List ℕ) (sent : ℕ → ℕ → ℕ) → IsSolvable n → IsMoving n e p b 0 0 row sent → b < n.shape.destinations →
     ((i : ℕ) → sunk n e p i b ≡ 0) → ((i j : ℕ) → moved n e p i b j ≡ 0) → IsMoving n e p (b + 1) 0 0 row sent
 nothing_to n e p b row sent s h bl dry none = next_destination n e p b row sent s (nothing_by n e p b n.shape.arms row sent s h (omega arith) bl dry none)

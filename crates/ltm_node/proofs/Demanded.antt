@@ -1,10 +1,12 @@
-use Rattle.std.proofs.Common.{◌≡◌, ℕ, ◌+◌, ◌*◌, ◌/◌, ◌<◌, ◌≤◌, max, List, slice_index, arith, refl, ap, ◌∙◌}
+use Rattle.std.proofs.Common.{◌≡◌, ℕ, ◌*◌, ◌/◌, ◌<◌, ◌≤◌, max, arith, refl, ap, ◌∙◌}
 use Rattle.std.proofs.Math.Nat.{mul-le-mul_right, mul-le-mul_left, div-mul-le_self, div-le_self}
 use Rattle.std.proofs.lemmas.Nat.{le-div}
 use Rattle.ltm_units.specs.Sums.{sum_below}
 use Rattle.ltm_units.proofs.Sums.{sum_below-same, sum_below-most}
 use Rattle.ltm_shares.specs.Shares.{Demands, inflow, AreShares, HeldBackBy}
 use Rattle.ltm_shares.specs.Demands.{IsSmall}
+use Rattle.ltm_shares.specs.Sent.{sent_at}
+use Rattle.ltm_shares.specs.declared.sent.Sent.{Sent}
 use Rattle.ltm_node.specs.Inputs.{Inputs, capacity}
 use Rattle.ltm_node.specs.Demands.{sent, sent_into, priority, demands}
 use Rattle.ltm_node.specs.Solvable.{IsSolvable}
@@ -92,6 +94,6 @@ pub shares_of : (n : Inputs) (m : Demands) (d : ℕ) (p : ℕ → ℕ) → Agree
 shares_of n m d p a s = shares_filled n d p (shares_agree (filled_demands n) m d p a s)
 
 -- what the arms send into an out-link is small
-pub inflow_small : (n : Inputs) (xs : List ℕ) (j k : ℕ) → IsSolvable n → HoldsSent n xs → j < n.shape.outs → k ≤ n.shape.arms → sum_below k (λ i. slice_index xs (i * 4 + j)) ≤ k * 32000
-inflow_small n xs j k s h jl few =
-    sum_below-most k (λ i. slice_index xs (i * 4 + j)) 32000 (λ i l. omega (arith, h i j (omega arith) jl, sent_into_le n i j, sent_small n i s (omega arith)))
+pub inflow_small : (n : Inputs) (s : Sent) (j k : ℕ) → IsSolvable n → HoldsSent n s → j < n.shape.outs → k ≤ n.shape.arms → sum_below k (λ i. sent_at s i j) ≤ k * 32000
+inflow_small n s j k solvable h jl few =
+    sum_below-most k (λ i. sent_at s i j) 32000 (λ i l. omega (arith, h i j (omega arith) jl, sent_into_le n i j, sent_small n i solvable (omega arith)))

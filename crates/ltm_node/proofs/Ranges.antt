@@ -1,5 +1,5 @@
 use Rattle.std.proofs.Common.{◌≡◌, ℕ, zero, suc, ◌+◌, ◌-◌, ◌*◌, ◌/◌, ◌^◌, ◌<◌, ◌≤◌, Bool, true, false, cond, List, [], ◌∷◌, sum, drop, slice_index, get_or, length, arith, refl, ap, ◌∙◌, sym}
-use Rattle.std.proofs.Math.Nat.{mul-le-mul_right, mul-le-mul_left, div-le_of_le-mul, mul-div_right}
+use Rattle.std.proofs.Math.Nat.{mul-le-mul_right, mul-le-mul_left, div-le_of_le-mul}
 use Rattle.std.proofs.lemmas.List.{get_or-take, get_or-drop}
 use Rattle.std.proofs.lemmas.List.Sums.{sum_by-cons}
 use Rattle.ltm_units.specs.Sums.{sum_below}
@@ -85,101 +85,15 @@ pub weights_fit : (n : Inputs) (d : ℕ) (xs : List ℕ) → n.shape.outs ≤ 4 
 weights_fit n d xs few small is long =
     omega (arith, sum_most xs 4294967295 (λ k l. omega (arith, ap (λ z. get_or z k 0) is, weight_of n d k (omega arith), small k (omega arith))), mul-le-mul_right 4294967295 few)
 
--- ---- one out-link
+-- ---- a share of nothing
 
 nothing_of : (p e x : ℕ) → x ≡ 0 → p * x / e ≡ 0
 nothing_of p e x none = omega (arith, mul-le-mul_left p (let z : x ≤ 0 = omega arith in z))
-
-share_of_one : (m y : ℕ) → 0 < y → m * y / y ≡ m
-share_of_one m y some = let turned : m * y ≡ y * m = omega arith in ap (λ z. z / y) turned ∙ mul-div_right m some
 
 weight_within : (xs : List ℕ) (k : ℕ) → get_or xs k 0 ≤ sum xs
 weight_within [] k = omega arith
 weight_within (x ∷ xs) zero = omega (arith, sum_by-cons (λ y. y) x xs)
 weight_within (x ∷ xs) (suc k) = omega (arith, weight_within xs k, sum_by-cons (λ y. y) x xs)
-
--- where one weight is the sum of all, its out-link gets all of an amount, and the others nothing
-pub split_only : (xs : List ℕ) (m k : ℕ) → get_or xs k 0 ≡ sum xs → 0 < sum xs → slice_index (nested_split m xs) k ≡ m
-split_only [] m k only some = absurd (omega arith)
-split_only (x ∷ xs) m zero only some =
-    let whole : sum (x ∷ xs) ≡ x + sum xs = sum_by-cons (λ y. y) x xs in
-    let none : x + sum xs ≡ x = omega arith in
-    ap (λ t. m * x / t) none ∙ share_of_one m x (omega arith)
-split_only (x ∷ xs) m (suc k) only some =
-    let whole : sum (x ∷ xs) ≡ x + sum xs = sum_by-cons (λ y. y) x xs in
-    let within : get_or xs k 0 ≤ sum xs = weight_within xs k in
-    let none : m * x / (x + sum xs) ≡ 0 = nothing_of m (x + sum xs) x (omega arith) in
-    let all : m - m * x / (x + sum xs) ≡ m = omega arith in
-    ap (λ z. slice_index (nested_split z xs) k) all ∙ split_only xs m k (omega arith) (omega arith)
-
-pub split_others : (xs : List ℕ) (m k j : ℕ) → get_or xs k 0 ≡ sum xs → 0 < sum xs → (j ≡ k → ⊥) → slice_index (nested_split m xs) j ≡ 0
-split_others [] m k j only some ne = absurd (omega arith)
-split_others (x ∷ xs) m zero zero only some ne = absurd (ne refl)
-split_others (x ∷ xs) m zero (suc j) only some ne =
-    let whole : sum (x ∷ xs) ≡ x + sum xs = sum_by-cons (λ y. y) x xs in
-    let none : x + sum xs ≡ x = omega arith in
-    let all : m * x / (x + sum xs) ≡ m = ap (λ t. m * x / t) none ∙ share_of_one m x (omega arith) in
-    let rest : slice_index (nested_split (m - m * x / (x + sum xs)) xs) j ≤ m - m * x / (x + sum xs) = nested_split-le xs (m - m * x / (x + sum xs)) j in
-    omega arith
-split_others (x ∷ xs) m (suc k) zero only some ne =
-    let whole : sum (x ∷ xs) ≡ x + sum xs = sum_by-cons (λ y. y) x xs in
-    let within : get_or xs k 0 ≤ sum xs = weight_within xs k in
-    nothing_of m (x + sum xs) x (omega arith)
-split_others (x ∷ xs) m (suc k) (suc j) only some ne =
-    let whole : sum (x ∷ xs) ≡ x + sum xs = sum_by-cons (λ y. y) x xs in
-    let within : get_or xs k 0 ≤ sum xs = weight_within xs k in
-    split_others xs (m - m * x / (x + sum xs)) k j (omega arith) (omega arith) (λ same. ne (ap suc same))
-
-two_within : (xs : List ℕ) (k l : ℕ) → k < l → get_or xs k 0 + get_or xs l 0 ≤ sum xs
-two_within [] k l h = omega arith
-two_within (x ∷ xs) k zero h = absurd (omega arith)
-two_within (x ∷ xs) zero (suc l) h = omega (arith, weight_within xs l, sum_by-cons (λ y. y) x xs)
-two_within (x ∷ xs) (suc k) (suc l) h =
-    let rest : get_or xs k 0 + get_or xs l 0 ≤ sum xs = two_within xs k l (omega arith) in omega (arith, sum_by-cons (λ y. y) x xs)
-
--- where two weights are all, the second takes what the first leaves, and the others nothing
-pub split_first : (xs : List ℕ) (m k l : ℕ) → k < l → get_or xs k 0 + get_or xs l 0 ≡ sum xs → 0 < get_or xs l 0 → slice_index (nested_split m xs) k ≡ m * get_or xs k 0 / sum xs
-split_first [] m k l h both some = absurd (omega arith)
-split_first (x ∷ xs) m k zero h both some = absurd (omega arith)
-split_first (x ∷ xs) m zero (suc l) h both some =
-    let whole : sum (x ∷ xs) ≡ x + sum xs = sum_by-cons (λ y. y) x xs in ap (λ t. m * x / t) (sym whole)
-split_first (x ∷ xs) m (suc k) (suc l) h both some =
-    let whole : sum (x ∷ xs) ≡ x + sum xs = sum_by-cons (λ y. y) x xs in
-    let within : get_or xs k 0 + get_or xs l 0 ≤ sum xs = two_within xs k l (omega arith) in
-    let none : m * x / (x + sum xs) ≡ 0 = nothing_of m (x + sum xs) x (omega arith) in
-    let all : m - m * x / (x + sum xs) ≡ m = omega arith in
-    let same : sum xs ≡ sum (x ∷ xs) = omega arith in
-    ap (λ z. slice_index (nested_split z xs) k) all ∙ (split_first xs m k l (omega arith) (omega arith) some ∙ ap (λ t. m * get_or xs k 0 / t) same)
-
-pub split_second : (xs : List ℕ) (m k l : ℕ) → k < l → get_or xs k 0 + get_or xs l 0 ≡ sum xs → 0 < get_or xs l 0 → slice_index (nested_split m xs) l ≡ m - m * get_or xs k 0 / sum xs
-split_second [] m k l h both some = absurd (omega arith)
-split_second (x ∷ xs) m k zero h both some = absurd (omega arith)
-split_second (x ∷ xs) m zero (suc l) h both some =
-    let whole : sum (x ∷ xs) ≡ x + sum xs = sum_by-cons (λ y. y) x xs in
-    split_only xs (m - m * x / (x + sum xs)) l (omega arith) (omega arith) ∙ ap (λ t. m - m * x / t) (sym whole)
-split_second (x ∷ xs) m (suc k) (suc l) h both some =
-    let whole : sum (x ∷ xs) ≡ x + sum xs = sum_by-cons (λ y. y) x xs in
-    let within : get_or xs k 0 + get_or xs l 0 ≤ sum xs = two_within xs k l (omega arith) in
-    let none : m * x / (x + sum xs) ≡ 0 = nothing_of m (x + sum xs) x (omega arith) in
-    let all : m - m * x / (x + sum xs) ≡ m = omega arith in
-    let same : sum xs ≡ sum (x ∷ xs) = omega arith in
-    ap (λ z. slice_index (nested_split z xs) l) all ∙ (split_second xs m k l (omega arith) (omega arith) some ∙ ap (λ t. m - m * get_or xs k 0 / t) same)
-
-pub split_neither : (xs : List ℕ) (m k l j : ℕ) → k < l → get_or xs k 0 + get_or xs l 0 ≡ sum xs → 0 < get_or xs l 0 → (j ≡ k → ⊥) → (j ≡ l → ⊥) → slice_index (nested_split m xs) j ≡ 0
-split_neither [] m k l j h both some ne other = absurd (omega arith)
-split_neither (x ∷ xs) m k zero j h both some ne other = absurd (omega arith)
-split_neither (x ∷ xs) m zero (suc l) zero h both some ne other = absurd (ne refl)
-split_neither (x ∷ xs) m zero (suc l) (suc j) h both some ne other =
-    let whole : sum (x ∷ xs) ≡ x + sum xs = sum_by-cons (λ y. y) x xs in
-    split_others xs (m - m * x / (x + sum xs)) l j (omega arith) (omega arith) (λ same. other (ap suc same))
-split_neither (x ∷ xs) m (suc k) (suc l) zero h both some ne other =
-    let whole : sum (x ∷ xs) ≡ x + sum xs = sum_by-cons (λ y. y) x xs in
-    let within : get_or xs k 0 + get_or xs l 0 ≤ sum xs = two_within xs k l (omega arith) in
-    nothing_of m (x + sum xs) x (omega arith)
-split_neither (x ∷ xs) m (suc k) (suc l) (suc j) h both some ne other =
-    let whole : sum (x ∷ xs) ≡ x + sum xs = sum_by-cons (λ y. y) x xs in
-    let within : get_or xs k 0 + get_or xs l 0 ≤ sum xs = two_within xs k l (omega arith) in
-    split_neither xs (m - m * x / (x + sum xs)) k l j (omega arith) (omega arith) some (λ same. ne (ap suc same)) (λ same. other (ap suc same))
 
 -- where no weight is above 0, nothing is split
 pub split_none : (xs : List ℕ) (m k : ℕ) → sum xs ≡ 0 → slice_index (nested_split m xs) k ≡ 0
@@ -228,40 +142,3 @@ weight_le n d k l = omega (arith, weight_of n d k l, weight_within (weights n d)
 
 pub part_nowhere : (n : Inputs) (i d j : ℕ) → is_own n.shape d ≡ false → sum (weights n d) ≡ 0 → part n i d j ≡ 0
 part_nowhere n i d j elsewhere nothing = part_at n i d j 0 elsewhere (split_none (weights n d) (sending n i d) j nothing)
-
--- ---- the only out-link
-
-pub part_by_one : (n : Inputs) (i d k : ℕ) → is_own n.shape d ≡ false → k < n.shape.outs → weight n d k ≡ sum (weights n d) → 0 < sum (weights n d) → part n i d k ≡ sending n i d
-part_by_one n i d k elsewhere l only some =
-    part_at n i d k (sending n i d) elsewhere (split_only (weights n d) (sending n i d) k (weight_of n d k l ∙ only) some)
-
-pub part_by_others : (n : Inputs) (i d k j : ℕ) → is_own n.shape d ≡ false → k < n.shape.outs → weight n d k ≡ sum (weights n d) → 0 < sum (weights n d) → (j ≡ k → ⊥) → part n i d j ≡ 0
-part_by_others n i d k j elsewhere l only some ne =
-    part_at n i d j 0 elsewhere (split_others (weights n d) (sending n i d) k j (weight_of n d k l ∙ only) some ne)
-
--- ---- the only two out-links
-
--- two out-links have all weights above 0
-pub record ArePair (n : Inputs) (d k l : ℕ) : Type 0 where
-  pub order : k < l
-  pub out : l < n.shape.outs
-  pub both : weight n d k + weight n d l ≡ sum (weights n d)
-  pub some : 0 < weight n d l
-
-pair_at : (n : Inputs) (d k l : ℕ) → ArePair n d k l → get_or (weights n d) k 0 + get_or (weights n d) l 0 ≡ sum (weights n d)
-pair_at n d k l h = omega (arith, weight_of n d k (omega (arith, h.order, h.out)), weight_of n d l h.out, h.both)
-
-some_at : (n : Inputs) (d k l : ℕ) → ArePair n d k l → 0 < get_or (weights n d) l 0
-some_at n d k l h = omega (arith, weight_of n d l h.out, h.some)
-
-pub part_first : (n : Inputs) (i d k l : ℕ) → is_own n.shape d ≡ false → ArePair n d k l → part n i d k ≡ sending n i d * weight n d k / sum (weights n d)
-part_first n i d k l elsewhere h =
-    part_at n i d k _ elsewhere (split_first (weights n d) (sending n i d) k l h.order (pair_at n d k l h) (some_at n d k l h) ∙ ap (λ z. sending n i d * z / sum (weights n d)) (weight_of n d k (omega (arith, h.order, h.out))))
-
-pub part_second : (n : Inputs) (i d k l : ℕ) → is_own n.shape d ≡ false → ArePair n d k l → part n i d l ≡ sending n i d - sending n i d * weight n d k / sum (weights n d)
-part_second n i d k l elsewhere h =
-    part_at n i d l _ elsewhere (split_second (weights n d) (sending n i d) k l h.order (pair_at n d k l h) (some_at n d k l h) ∙ ap (λ z. sending n i d - sending n i d * z / sum (weights n d)) (weight_of n d k (omega (arith, h.order, h.out))))
-
-pub part_neither : (n : Inputs) (i d k l j : ℕ) → is_own n.shape d ≡ false → ArePair n d k l → (j ≡ k → ⊥) → (j ≡ l → ⊥) → part n i d j ≡ 0
-part_neither n i d k l j elsewhere h ne other =
-    part_at n i d j 0 elsewhere (split_neither (weights n d) (sending n i d) k l j h.order (pair_at n d k l h) (some_at n d k l h) ne other)

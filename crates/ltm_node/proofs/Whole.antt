@@ -1,24 +1,21 @@
-use Rattle.std.proofs.Common.{◌≡◌, ℕ, ◌+◌, ◌*◌, ◌/◌, ◌<◌, ◌≤◌, List, take, drop, replicate, length, slice_index, arith, inl, inr, ap, ◌∙◌}
-use Rattle.std.proofs.Math.Nat.{mul-le-mul_right, mul-div_right}
-use Rattle.std.proofs.lemmas.Bool.{cases_lt}
-use Rattle.std.proofs.lemmas.List.{get_or-take, get_or-drop, get_or-replicate, get_or_past, length-replicate}
+use Rattle.std.proofs.Common.{◌≡◌, ℕ, ◌+◌, ◌*◌, ◌/◌, ◌<◌, ◌≤◌, List, take, drop, length, slice_index, arith, ap, ◌∙◌}
+use Rattle.std.proofs.Math.Nat.{mul-div_right}
+use Rattle.std.proofs.lemmas.List.{get_or-take, get_or-drop}
 use Rattle.ltm_units.specs.Sums.{sum_below}
-use Rattle.ltm_units.proofs.Sums.{sum_below-same, sum_below-mul, sum_below-swap}
+use Rattle.ltm_units.proofs.Sums.{sum_below-same, sum_below-swap}
 use Rattle.ltm_shares.specs.Shares.{AreShares, inflow}
 use Rattle.ltm_node.specs.Shape.{counts_width}
 use Rattle.ltm_node.specs.Inputs.{Inputs, entered}
 use Rattle.ltm_node.specs.Outputs.{Outputs, left_after_place, entered_after_place, arrived_after_place}
 use Rattle.ltm_node.specs.Demands.{part, sent_into, demands}
 use Rattle.ltm_node.specs.Step.{moved, sunk, MovesAtShares, IsNodeStep}
-use Rattle.ltm_node.specs.Moving.{IsMoving, HoldsSent, FitsSupply}
+use Rattle.ltm_shares.specs.Sent.{sent_at}
+use Rattle.ltm_shares.specs.declared.sent.Sent.{Sent}
+use Rattle.ltm_shares.specs.declared.share.Shares.{Shares}
+use Rattle.ltm_node.specs.declared.portion.Portion.TheVariants.{Whole, Share}
+use Rattle.ltm_node.specs.Portion.{AreFractions, numerator}
+use Rattle.ltm_node.specs.Moving.{IsMoving, HaveMovedAll, HoldsSent, FitsSupply}
 use Rattle.ltm_node.proofs.Amounts.{left_low, entered_low}
-
-pub zeros : (m i : ℕ) → slice_index (replicate m 0) i ≡ 0
-zeros m i =
-    elim (cases_lt i m) [
-      | inl low ↦ get_or-replicate m i 0 0 low
-      | inr high ↦ get_or_past (replicate {A = ℕ} m 0) i 0 (omega (arith, length-replicate {A = ℕ} m 0))
-    ]
 
 begun_at : (n : Inputs) (k : ℕ) → k < counts_width n.shape →
     slice_index (take (counts_width n.shape) (drop (n.shape.arms * n.shape.destinations) n.row)) k ≡ slice_index n.row (n.shape.arms * n.shape.destinations + k)
@@ -26,7 +23,7 @@ begun_at n k l =
     get_or-take (counts_width n.shape) (drop (n.shape.arms * n.shape.destinations) n.row) k 0 l ∙ get_or-drop (n.shape.arms * n.shape.destinations) n.row k 0
 
 -- before any destination, the counts are those of the inputs
-pub nothing_moved : (n : Inputs) (e : ℕ) (p : ℕ → ℕ) (row sent : List ℕ) → row ≡ take (counts_width n.shape) (drop (n.shape.arms * n.shape.destinations) n.row) → length row ≡ counts_width n.shape → ((k : ℕ) → slice_index sent k ≡ 0) → IsMoving n e p 0 0 0 row sent
+pub nothing_moved : (n : Inputs) (e : ℕ) (p : ℕ → ℕ) (row : List ℕ) (sent : ℕ → ℕ → ℕ) → row ≡ take (counts_width n.shape) (drop (n.shape.arms * n.shape.destinations) n.row) → length row ≡ counts_width n.shape → ((i j : ℕ) → sent i j ≡ 0) → IsMoving n e p 0 0 0 row sent
 nothing_moved n e p row sent is long none =
     let base : ℕ = n.shape.arms * n.shape.destinations in
     let at : (k : ℕ) → k < counts_width n.shape → slice_index row k ≡ slice_index n.row (base + k) = λ k l. ap (λ z. slice_index z k) is ∙ begun_at n k l in
@@ -45,11 +42,11 @@ nothing_moved n e p row sent is long none =
           let same : base + arrived_after_place n.shape ≡ 2 * base + n.shape.outs * n.shape.destinations = omega arith in
           omega (arith, at (arrived_after_place n.shape) (omega arith), ap (slice_index n.row) same);
       sent_done = λ i j il jl less. absurd (omega arith);
-      sent_rest = λ i j il jl more. none (i * 4 + j);
+      sent_rest = λ i j il jl more. none i j;
     }
 
 -- after all destinations, all has been moved
-pub all_moved : (n : Inputs) (e : ℕ) (p : ℕ → ℕ) (o : Outputs) (sent : List ℕ) → n.shape.arms ≤ 5 → o.shape ≡ n.shape → IsMoving n e p n.shape.destinations 0 0 o.row sent → MovesAtShares n e p o
+pub all_moved : (n : Inputs) (e : ℕ) (p : ℕ → ℕ) (o : Outputs) (sent : ℕ → ℕ → ℕ) → n.shape.arms ≤ 5 → o.shape ≡ n.shape → IsMoving n e p n.shape.destinations 0 0 o.row sent → MovesAtShares n e p o
 all_moved n e p o sent few shape h = record {
   shape = shape;
   width = h.width;
@@ -58,31 +55,40 @@ all_moved n e p o sent few shape h = record {
   arrived = ap (λ z. slice_index o.row (arrived_after_place z)) shape ∙ omega (arith, h.arrived, sum_below-swap n.shape.destinations n.shape.arms (λ d i. sunk n e p i d));
 }
 
-whole_of : (p e x : ℕ) → p ≡ e → 0 < e → p * x / e ≡ x
-whole_of p e x same pos = ap (λ z. z * x / e) same ∙ mul-div_right x pos
+-- ---- where all arms move all
 
--- where each arm sends all, what was moved is what is sent
-pub sent_held : (n : Inputs) (e : ℕ) (p : ℕ → ℕ) (row sent : List ℕ) → 0 < e → ((i : ℕ) → i < n.shape.arms → p i ≡ e) → IsMoving n e p n.shape.destinations 0 0 row sent → HoldsSent n sent
-sent_held n e p row sent pos all h = λ i j il jl.
-    h.sent_rest i j il jl (omega arith) ∙ sum_below-same n.shape.destinations (λ d. moved n e p i d j) (λ d. part n i d j) (λ d dl. whole_of (p i) e (part n i d j) (all i il) pos)
+all_of : (x : ℕ) → 1 * x / 1 ≡ x
+all_of x = mul-div_right x (omega arith)
 
--- where all that is sent fits, all arms have their whole share
-whole_shares : (n : Inputs) (e : ℕ) (p : ℕ → ℕ) (sent : List ℕ) → 0 < e → ((i : ℕ) → i < n.shape.arms → p i ≡ e) → HoldsSent n sent → FitsSupply n sent → AreShares (demands n) e p
-whole_shares n e p sent pos all held fits = record {
-  positive = pos;
-  at_most_all = λ i il. omega (arith, all i il);
+pub all_fractions : (n : Inputs) → AreFractions n Whole
+all_fractions n = record { positive = omega arith; at_most_all = λ i il. omega arith }
+
+-- what was moved is what is sent
+pub sent_held : (n : Inputs) (row : List ℕ) (sent : Sent) → HaveMovedAll n Whole row sent → HoldsSent n sent
+sent_held n row sent h = λ i j il jl.
+    h.sent_rest i j il jl (omega arith) ∙ sum_below-same n.shape.destinations (λ d. moved n 1 (numerator Whole) i d j) (λ d. part n i d j) (λ d dl. all_of (part n i d j))
+
+-- where it fits, each share is 1
+all_shares : (n : Inputs) (sent : Sent) → HoldsSent n sent → FitsSupply n sent → AreShares (demands n) 1 (numerator Whole)
+all_shares n sent held fits = record {
+  positive = omega arith;
+  at_most_all = λ i il. omega arith;
   within_supply = λ j jl.
-      let same : inflow (demands n) p j ≡ sum_below n.shape.arms (λ i. slice_index sent (i * 4 + j) * e) =
-      sum_below-same n.shape.arms (λ i. p i * sent_into n i j) (λ i. slice_index sent (i * 4 + j) * e)
-      (λ i il. omega (arith, ap (λ z. z * sent_into n i j) (all i il), ap (λ z. z * e) (held i j il jl))) in
-      omega (arith, same, sum_below-mul n.shape.arms (λ i. slice_index sent (i * 4 + j)) e, mul-le-mul_right e (fits j jl));
-  held_back = λ i il less. absurd (omega (arith, all i il));
+      let same : inflow (demands n) (numerator Whole) j ≡ sum_below n.shape.arms (λ i. sent_at sent i j) =
+      sum_below-same n.shape.arms (λ i. 1 * sent_into n i j) (λ i. sent_at sent i j) (λ i il. omega (arith, held i j il jl)) in
+      omega (arith, fits j jl);
+  held_back = λ i il less. absurd (omega arith);
 }
 
-pub whole_step : (n : Inputs) (e : ℕ) (p : ℕ → ℕ) (o : Outputs) (sent : List ℕ) → n.shape.arms ≤ 5 → 0 < e → ((i : ℕ) → i < n.shape.arms → p i ≡ e) → o.shape ≡ n.shape → IsMoving n e p n.shape.destinations 0 0 o.row sent → FitsSupply n sent → IsNodeStep n o
-whole_step n e p o sent few pos all shape h fits =
-    let held : HoldsSent n sent = sent_held n e p o.row sent pos all h in
-    ∣ record { denominator = e; numerators = p; shares = whole_shares n e p sent pos all held fits; moves = all_moved n e p o sent few shape h } ∣₁
+pub all_step : (n : Inputs) (o : Outputs) (sent : Sent) → n.shape.arms ≤ 5 → o.shape ≡ n.shape → HaveMovedAll n Whole o.row sent → FitsSupply n sent → IsNodeStep n o
+all_step n o sent few shape h fits =
+    ∣ record { denominator = 1; numerators = numerator Whole; shares = all_shares n sent (sent_held n o.row sent h) fits; moves = all_moved n 1 (numerator Whole) o (sent_at sent) few shape h } ∣₁
 
-pub shared_step : (n : Inputs) (e : ℕ) (p : ℕ → ℕ) (o : Outputs) (sent : List ℕ) → n.shape.arms ≤ 5 → AreShares (demands n) e p → o.shape ≡ n.shape → IsMoving n e p n.shape.destinations 0 0 o.row sent → IsNodeStep n o
-shared_step n e p o sent few s shape h = ∣ record { denominator = e; numerators = p; shares = s; moves = all_moved n e p o sent few shape h } ∣₁
+-- ---- where each arm moves its share
+
+pub share_fractions : (n : Inputs) (s : Shares) → AreShares (demands n) s.denominator (slice_index s.numerators) → AreFractions n (Share s)
+share_fractions n s h = record { positive = h.positive; at_most_all = h.at_most_all }
+
+pub share_step : (n : Inputs) (s : Shares) (o : Outputs) (sent : Sent) → n.shape.arms ≤ 5 → AreShares (demands n) s.denominator (slice_index s.numerators) → o.shape ≡ n.shape → HaveMovedAll n (Share s) o.row sent → IsNodeStep n o
+share_step n s o sent few h shape moved =
+    ∣ record { denominator = s.denominator; numerators = slice_index s.numerators; shares = h; moves = all_moved n s.denominator (numerator (Share s)) o (sent_at sent) few shape moved } ∣₁

@@ -1,7 +1,7 @@
-use Rattle.std.specs.Prelude.{◌≡◌, ℕ, ◌+◌, ◌*◌, ◌<◌, ◌≤◌, if◌then◌else◌}
+use Rattle.std.specs.Prelude.{◌≡◌, ℕ, ◌+◌, ◌*◌, ◌<◌, ◌≤◌, None, length, if◌then◌else◌}
 use Rattle.ltm_units.specs.Sums.{sum_below}
 use Rattle.ltm_shares.specs.Shares.{AreShares}
-use Rattle.ltm_node.specs.Shape.{is_own}
+use Rattle.ltm_node.specs.Shape.{counts_width, is_own}
 use Rattle.ltm_node.specs.Inputs.{Inputs, sending, left, entered, arrived, supply}
 use Rattle.ltm_node.specs.Outputs.{Outputs, left_after, entered_after, arrived_after}
 use Rattle.ltm_node.specs.Demands.{demands}
@@ -55,3 +55,27 @@ NothingLostInAll =
     + (sum_below n.shape.destinations (λ d. sum_below n.shape.outs (λ out. entered n out d)) + arrived n)
     ≡ sum_below n.shape.destinations (λ d. sum_below n.shape.arms (λ arm. left n arm d))
     + (sum_below n.shape.destinations (λ d. sum_below n.shape.outs (λ out. entered_after o out d)) + arrived_after o)
+
+-- the counts of a step are of the node's shape, and as many as it has
+abbrev pub SameShape : Type 0
+SameShape = (n : Inputs) (o : Outputs) → IsNodeStep n o → (o.shape ≡ n.shape) × (length o.row ≡ counts_width o.shape)
+
+-- nothing arrives at a node that is no destination
+abbrev pub NoArrivals : Type 0
+NoArrivals = (n : Inputs) (o : Outputs) → IsNodeStep n o → n.shape.own ≡ None → arrived_after o ≡ arrived n
+
+-- no arm sends anything
+abbrev pub NothingIsSent : Inputs → Type 0
+NothingIsSent n = (arm destination : ℕ) → arm < n.shape.arms → destination < n.shape.destinations → sending n arm destination ≡ 0
+
+-- the counts at the end of the slot are those at its beginning
+pub record StaysAsItWas (n : Inputs) (o : Outputs) : Type 0 where
+  pub shape : o.shape ≡ n.shape
+  pub width : length o.row ≡ counts_width n.shape
+  pub left : (arm destination : ℕ) → arm < n.shape.arms → destination < n.shape.destinations → left_after o arm destination ≡ left n arm destination
+  pub entered : (out destination : ℕ) → out < n.shape.outs → destination < n.shape.destinations → entered_after o out destination ≡ entered n out destination
+  pub arrived : arrived_after o ≡ arrived n
+
+-- where nothing is sent, the counts that stay as they were are the node step
+abbrev pub NothingMoves : Type 0
+NothingMoves = (n : Inputs) (o : Outputs) → NothingIsSent n → StaysAsItWas n o → IsNodeStep n o

@@ -1,10 +1,13 @@
 pub mod Demands
 pub mod Inputs
 pub mod Laws
+pub mod Lending
 pub mod Moving
 pub mod Narrow
 pub mod Outputs
+pub mod Portion
 pub mod Shape
 pub mod Solution
 pub mod Solvable
+pub mod Splitting
 pub mod Step

@@ -59,6 +59,9 @@ impl Model for NodeInputs {
 }
 
 impl NodeInputs {
+    ghost use Rattle.std.specs.Borrow.{sem};
+    ghost use Rattle.ltm_node.specs.Lending.{LendsNumbers};
+
     /// Room for rows of this width, and at least for the row of a node without arms and out-links.
     pub fn create(alloc: Global, room: u32) -> Result<NodeInputs, NoMemory>
         ensures { IfOk result (λ n. n ≡ cleared_inputs no_shape (max 1 room)) }
@@ -310,6 +313,17 @@ impl NodeInputs {
     {
         let place = self.shape.weights_place(destination) + out as usize;
         self.numbers[place] = value;
+    }
+
+    /// The room of the numbers, for a caller that writes them in place: the row is the front of it.
+    #[inline]
+    pub fn numbers_mut(&mut self) -> &mut [u64]
+        ensures* lends { sem 𝓛 (LendsNumbers self.entry result) }
+        ensures row { take (width self.old.shape) result.now ≡ self.old.row }
+        ensures room { length result.now ≡ self.old.room }
+        ensures fits { width self.old.shape ≤ self.old.room }
+    {
+        &mut self.numbers
     }
 
     /// Sets the number at a place of the row.

@@ -6,6 +6,9 @@ ghost use Rattle.ltm_node.specs.Laws.{
   SendingKept,
   NothingLost,
   NothingLostInAll,
+  SameShape,
+  NoArrivals,
+  NothingMoves,
 };
 
 /// Two lists of shares for the same inputs are equal fractions.
@@ -36,4 +39,19 @@ pub fn nothing_lost()
 /// In all, what leaves the arms is what enters the out-links and the sink.
 pub fn nothing_lost_in_all()
     ensures { NothingLostInAll }
+{}
+
+/// The counts of a node step are of the shape of its inputs.
+pub fn same_shape()
+    ensures { SameShape }
+{}
+
+/// Nothing arrives at a node that is no destination.
+pub fn no_arrivals()
+    ensures { NoArrivals }
+{}
+
+/// Where no arm sends anything, the counts stay as they were.
+pub fn nothing_moves()
+    ensures { NothingMoves }
 {}

@@ -7,18 +7,20 @@
 
 mod inputs;
 mod laws;
+mod loads;
 mod moves;
 mod narrow;
 mod node_step;
 mod outputs;
+mod portion;
 mod shape;
 mod solved;
 mod split;
-mod turns;
 
 pub use inputs::NodeInputs;
 pub use laws::{
-    nothing_lost, nothing_lost_in_all, one_solution, one_step, sending_kept, supply_kept,
+    no_arrivals, nothing_lost, nothing_lost_in_all, nothing_moves, one_solution, one_step,
+    same_shape, sending_kept, supply_kept,
 };
 pub use outputs::NodeOutputs;
 pub use shape::NodeShape;

@@ -1,226 +1,179 @@
-//! What the arms of a node move at given shares, destination by destination.
+//! What the arms of a node move in a slot, added to the counts at its beginning.
 //!
-//! All that goes to a destination is split over the same weights, so they are looked at once for all arms. Where one
-//! out-link alone has a weight above 0, nothing is split at all; where two have, the second takes the rest.
-ghost use Rattle.std.specs.Prelude.{◌≡◌, ◌<◌, ◌+◌, ◌^◌, ℕ, false, true, sum};
+//! All that goes to a destination is split over the same weights, so their sum is formed once for all arms. An amount is
+//! split out-link by out-link, what is not split yet staying in hand, and ends with the last weight above 0. An amount of
+//! 0 moves nothing and is passed over.
+ghost use Rattle.std.specs.Prelude.{◌≡◌, ◌<◌, ◌+◌, false, true, sum};
+ghost use Rattle.ltm_units.specs.Sums.{sum_below};
 ghost use Rattle.ltm_node.specs.Shape.{is_own};
-ghost use Rattle.ltm_node.specs.Inputs.{weight, weights};
+ghost use Rattle.ltm_node.specs.Inputs.{weights};
 ghost use Rattle.ltm_node.specs.Solvable.{IsSolvable};
-ghost use Rattle.ltm_node.specs.Moving.{AreFractions, IsMovedAt};
+ghost use Rattle.ltm_node.specs.Portion.{AreFractions};
 
 use crate::inputs::NodeInputs;
-use crate::split::{first_out, next_out, whole_weight};
-use crate::turns::{load_of, send_alone, send_pair, send_split, sink_amount, turn_of};
-use ltm_shares::Shares;
+use crate::loads::{Load, Part};
+use crate::portion::Portion;
+use crate::split::{part_of, whole_weight};
+use ltm_shares::Sent;
 
-/// Adds what all arms move to a destination by the only out-link there.
-fn send_by_one(
-    inputs: &NodeInputs,
-    shares: &Shares,
-    destination: u32,
-    out: u32,
-    row: &mut [u64],
-    sent: &mut [u64; 20],
-)
-    requires solvable { IsSolvable inputs.now }
-    requires fractions { AreFractions inputs.now shares.now }
-    requires destination { destination < inputs.now.shape.destinations }
-    requires elsewhere { is_own inputs.now.shape destination ≡ false }
-    requires out { out < inputs.now.shape.outs }
-    requires only { weight inputs.now destination out ≡ sum (weights inputs.now destination) }
-    requires some { 0 < sum (weights inputs.now destination) }
-    requires before { IsMovedAt inputs.now shares.now destination row.old sent.old }
-    ensures after { IsMovedAt inputs.now shares.now (destination + 1) row.new sent.new }
-{
-    let shape = inputs.shape();
-    let amounts = inputs.row();
-    let turn = turn_of(inputs, destination, out);
-    for arm in 0..shape.arms {
-        let load = load_of(inputs, shape, amounts, destination, arm);
-        send_alone(inputs, shares, destination, turn, load, row, sent);
-    }
+/// The arms of a node, each of which moves a portion of what it sends.
+#[derive(Clone, Copy)]
+pub struct Mover<'a> {
+    pub inputs: &'a NodeInputs,
+    pub portion: &'a Portion,
+    ghost solvable: { IsSolvable inputs.now },
+    ghost fractions: { AreFractions inputs.now portion.now },
 }
 
-/// Adds what all arms move to a destination by the only two out-links there.
-fn send_by_two(
-    inputs: &NodeInputs,
-    shares: &Shares,
-    destination: u32,
-    first: u32,
-    second: u32,
-    total: u64,
-    row: &mut [u64],
-    sent: &mut [u64; 20],
-)
-    requires solvable { IsSolvable inputs.now }
-    requires fractions { AreFractions inputs.now shares.now }
-    requires destination { destination < inputs.now.shape.destinations }
-    requires elsewhere { is_own inputs.now.shape destination ≡ false }
-    requires second { second < inputs.now.shape.outs }
-    requires order { first < second }
-    requires total { total ≡ sum (weights inputs.now destination) }
-    requires small { total < 2 ^ 40 }
-    requires both { weight inputs.now destination first + weight inputs.now destination second ≡ total }
-    requires rest { 0 < weight inputs.now destination second }
-    requires before { IsMovedAt inputs.now shares.now destination row.old sent.old }
-    ensures after { IsMovedAt inputs.now shares.now (destination + 1) row.new sent.new }
-{
-    let shape = inputs.shape();
-    let amounts = inputs.row();
-    let one = turn_of(inputs, destination, first);
-    let other = turn_of(inputs, destination, second);
-    for arm in 0..shape.arms {
-        let load = load_of(inputs, shape, amounts, destination, arm);
-        send_pair(
-            inputs,
-            shares,
-            destination,
-            one,
-            other,
-            total,
-            load,
-            row,
-            sent,
-        );
-    }
-}
+impl Mover<'_> {
+    ghost use Rattle.ltm_node.specs.Moving.{IsMovingBy, IsMovingAt, HaveMovedTo, IsLoad, IsPart, moved_by};
 
-/// Adds what all arms move to a destination by several out-links.
-fn send_by_several(
-    inputs: &NodeInputs,
-    shares: &Shares,
-    destination: u32,
-    total: u64,
-    row: &mut [u64],
-    sent: &mut [u64; 20],
-)
-    requires solvable { IsSolvable inputs.now }
-    requires fractions { AreFractions inputs.now shares.now }
-    requires destination { destination < inputs.now.shape.destinations }
-    requires elsewhere { is_own inputs.now.shape destination ≡ false }
-    requires total { total ≡ sum (weights inputs.now destination) }
-    requires before { IsMovedAt inputs.now shares.now destination row.old sent.old }
-    ensures after { IsMovedAt inputs.now shares.now (destination + 1) row.new sent.new }
-{
-    let shape = inputs.shape();
-    let amounts = inputs.row();
-    for arm in 0..shape.arms {
-        let load = load_of(inputs, shape, amounts, destination, arm);
-        send_split(inputs, shares, destination, total, load, row, sent);
-    }
-}
-
-/// Adds what all arms move to the sink.
-fn sink_all(
-    inputs: &NodeInputs,
-    shares: &Shares,
-    destination: u32,
-    row: &mut [u64],
-    sent: &[u64; 20],
-)
-    requires solvable { IsSolvable inputs.now }
-    requires fractions { AreFractions inputs.now shares.now }
-    requires destination { destination < inputs.now.shape.destinations }
-    requires here { is_own inputs.now.shape destination ≡ true }
-    requires before { IsMovedAt inputs.now shares.now destination row.old sent.now }
-    ensures after { IsMovedAt inputs.now shares.now (destination + 1) row.new sent.now }
-{
-    let shape = inputs.shape();
-    let amounts = inputs.row();
-    for arm in 0..shape.arms {
-        let load = load_of(inputs, shape, amounts, destination, arm);
-        sink_amount(inputs, shares, destination, load, row, sent);
-    }
-}
-
-/// Adds what all arms move to a destination that is not the node, where this is the first out-link with a weight above 0.
-fn send_from(
-    inputs: &NodeInputs,
-    shares: &Shares,
-    destination: u32,
-    total: u64,
-    first: u32,
-    row: &mut [u64],
-    sent: &mut [u64; 20],
-)
-    requires solvable { IsSolvable inputs.now }
-    requires fractions { AreFractions inputs.now shares.now }
-    requires destination { destination < inputs.now.shape.destinations }
-    requires elsewhere { is_own inputs.now.shape destination ≡ false }
-    requires total { total ≡ sum (weights inputs.now destination) }
-    requires small { total < 2 ^ 40 }
-    requires some { 0 < total }
-    requires first { first < inputs.now.shape.outs }
-    requires before { IsMovedAt inputs.now shares.now destination row.old sent.old }
-    ensures after { IsMovedAt inputs.now shares.now (destination + 1) row.new sent.new }
-{
-    let weight = inputs.weight(destination, first);
-    if weight == total {
-        send_by_one(inputs, shares, destination, first, row, sent);
-        return;
-    }
-    match next_out(inputs, destination, first, total - weight) {
-        Some(second) => {
-            send_by_two(inputs, shares, destination, first, second, total, row, sent);
+    /// Adds what moves of a part, and returns it.
+    #[inline]
+    fn enter(&self, part: Part, row: &mut [u64], sent: &mut Sent) -> u64
+        requires part { IsPart self.now.inputs.now part }
+        requires before { IsMovingBy self.now part.destination part.arm part.out row.old sent.old }
+        ensures moved { result ≡ moved_by self.now part.arm part.destination part.out }
+        ensures after { IsMovingBy self.now part.destination part.arm (part.out + 1) row.new sent.new }
+    {
+        if part.amount == 0 {
+            return 0;
         }
-        None => send_by_several(inputs, shares, destination, total, row, sent),
+        let moved = self.portion.of(part.arm, part.amount);
+        let shape = self.inputs.shape();
+        row[shape.entered_after_place(part.out, part.destination)] += moved;
+        sent.add(part.arm as usize, part.out as usize, moved);
+        moved
     }
-}
 
-/// Adds what all arms move to a destination that is not the node. Nothing moves where no weight is above 0.
-fn send_all(
-    inputs: &NodeInputs,
-    shares: &Shares,
-    destination: u32,
-    row: &mut [u64],
-    sent: &mut [u64; 20],
-)
-    requires solvable { IsSolvable inputs.now }
-    requires fractions { AreFractions inputs.now shares.now }
-    requires destination { destination < inputs.now.shape.destinations }
-    requires elsewhere { is_own inputs.now.shape destination ≡ false }
-    requires before { IsMovedAt inputs.now shares.now destination row.old sent.old }
-    ensures after { IsMovedAt inputs.now shares.now (destination + 1) row.new sent.new }
-{
-    let total = whole_weight(inputs, destination);
-    if total == 0 {
-        return;
+    /// Adds what has left an arm by all out-links.
+    #[inline]
+    fn leave(&self, load: Load, total: u64, row: &mut [u64], sent: &Sent)
+        requires load { IsLoad self.now.inputs.now load }
+        requires elsewhere { is_own self.now.inputs.now.shape load.destination ≡ false }
+        requires total { total ≡ sum_below self.now.inputs.now.shape.outs (moved_by self.now load.arm load.destination) }
+        requires before { IsMovingBy self.now load.destination load.arm self.now.inputs.now.shape.outs row.old sent.now }
+        ensures after { IsMovingAt self.now load.destination (load.arm + 1) row.new sent.now }
+    {
+        let shape = self.inputs.shape();
+        row[shape.left_after_place(load.arm, load.destination)] += total;
     }
-    match first_out(inputs, destination) {
-        Some(first) => send_from(inputs, shares, destination, total, first, row, sent),
-        None => send_by_several(inputs, shares, destination, total, row, sent),
-    }
-}
 
-/// Adds what all arms move to a destination.
-fn move_to(
-    inputs: &NodeInputs,
-    shares: &Shares,
-    destination: u32,
-    row: &mut [u64],
-    sent: &mut [u64; 20],
-)
-    requires solvable { IsSolvable inputs.now }
-    requires fractions { AreFractions inputs.now shares.now }
-    requires destination { destination < inputs.now.shape.destinations }
-    requires before { IsMovedAt inputs.now shares.now destination row.old sent.old }
-    ensures after { IsMovedAt inputs.now shares.now (destination + 1) row.new sent.new }
-{
-    if inputs.is_own(destination) {
-        sink_all(inputs, shares, destination, row, sent);
-    } else {
-        send_all(inputs, shares, destination, row, sent);
+    /// Adds what moves of a load that is split over weights of this sum.
+    #[inline]
+    fn split(&self, load: Load, whole: u64, row: &mut [u64], sent: &mut Sent)
+        requires load { IsLoad self.now.inputs.now load }
+        requires elsewhere { is_own self.now.inputs.now.shape load.destination ≡ false }
+        requires whole { whole ≡ sum (weights self.now.inputs.now load.destination) }
+        requires before { IsMovingAt self.now load.destination load.arm row.old sent.old }
+        ensures after { IsMovingAt self.now load.destination (load.arm + 1) row.new sent.new }
+    {
+        let weights = self.inputs.weights(load.destination);
+        let mut left = load.amount;
+        let mut rest = whole;
+        let mut total = 0u64;
+        let mut out = 0u32;
+        while rest > 0 {
+            let weight = weights[out as usize];
+            let part = load.by(out, part_of(left, weight, rest));
+            left -= part.amount;
+            rest -= weight;
+            total += self.enter(part, row, sent);
+            out += 1;
+        }
+        self.leave(load, total, row, sent);
     }
-}
 
-/// Adds what all arms move to all destinations; `sent` gets what each arm moves into each out-link.
-pub fn move_all(inputs: &NodeInputs, shares: &Shares, row: &mut [u64], sent: &mut [u64; 20])
-    requires solvable { IsSolvable inputs.now }
-    requires fractions { AreFractions inputs.now shares.now }
-    requires before { IsMovedAt inputs.now shares.now 0 row.old sent.old }
-    ensures after { IsMovedAt inputs.now shares.now inputs.now.shape.destinations row.new sent.new }
-{
-    for destination in 0..inputs.destinations() {
-        move_to(inputs, shares, destination, row, sent);
+    /// Adds what an arm moves to a destination that is not the node.
+    #[inline]
+    fn send(&self, load: Load, whole: u64, row: &mut [u64], sent: &mut Sent)
+        requires load { IsLoad self.now.inputs.now load }
+        requires elsewhere { is_own self.now.inputs.now.shape load.destination ≡ false }
+        requires whole { whole ≡ sum (weights self.now.inputs.now load.destination) }
+        requires before { IsMovingAt self.now load.destination load.arm row.old sent.old }
+        ensures after { IsMovingAt self.now load.destination (load.arm + 1) row.new sent.new }
+    {
+        if load.amount > 0 {
+            self.split(load, whole, row, sent);
+        }
+    }
+
+    /// Adds what an arm moves to the sink.
+    #[inline]
+    fn sink(&self, load: Load, row: &mut [u64], sent: &Sent)
+        requires load { IsLoad self.now.inputs.now load }
+        requires here { is_own self.now.inputs.now.shape load.destination ≡ true }
+        requires before { IsMovingAt self.now load.destination load.arm row.old sent.now }
+        ensures after { IsMovingAt self.now load.destination (load.arm + 1) row.new sent.now }
+    {
+        let shape = self.inputs.shape();
+        let sunk = self.portion.of(load.arm, load.amount);
+        row[shape.left_after_place(load.arm, load.destination)] += sunk;
+        row[shape.arrived_after_place()] += sunk;
+    }
+
+    /// What an arm sends to a destination.
+    #[inline]
+    fn load(&self, arm: u32, destination: u32) -> Load
+        requires arm { arm < self.now.inputs.now.shape.arms }
+        requires destination { destination < self.now.inputs.now.shape.destinations }
+        ensures arm { result.arm ≡ arm }
+        ensures destination { result.destination ≡ destination }
+        ensures load { IsLoad self.now.inputs.now result }
+    {
+        Load {
+            arm,
+            destination,
+            amount: self.inputs.sending(arm, destination),
+        }
+    }
+
+    /// Adds what all arms move to a destination that is not the node.
+    fn send_all(&self, destination: u32, row: &mut [u64], sent: &mut Sent)
+        requires destination { destination < self.now.inputs.now.shape.destinations }
+        requires elsewhere { is_own self.now.inputs.now.shape destination ≡ false }
+        requires before { HaveMovedTo self.now destination row.old sent.old }
+        ensures after { HaveMovedTo self.now (destination + 1) row.new sent.new }
+    {
+        let whole = whole_weight(self.inputs, destination);
+        for arm in 0..self.inputs.arms() {
+            self.send(self.load(arm, destination), whole, row, sent);
+        }
+    }
+
+    /// Adds what all arms move to the sink.
+    fn sink_all(&self, destination: u32, row: &mut [u64], sent: &Sent)
+        requires destination { destination < self.now.inputs.now.shape.destinations }
+        requires here { is_own self.now.inputs.now.shape destination ≡ true }
+        requires before { HaveMovedTo self.now destination row.old sent.now }
+        ensures after { HaveMovedTo self.now (destination + 1) row.new sent.now }
+    {
+        for arm in 0..self.inputs.arms() {
+            self.sink(self.load(arm, destination), row, sent);
+        }
+    }
+
+    /// Adds what all arms move to a destination.
+    #[inline]
+    fn move_to(&self, destination: u32, row: &mut [u64], sent: &mut Sent)
+        requires destination { destination < self.now.inputs.now.shape.destinations }
+        requires before { HaveMovedTo self.now destination row.old sent.old }
+        ensures after { HaveMovedTo self.now (destination + 1) row.new sent.new }
+    {
+        if self.inputs.is_own(destination) {
+            self.sink_all(destination, row, sent);
+        } else {
+            self.send_all(destination, row, sent);
+        }
+    }
+
+    /// Adds what all arms move to all destinations; `sent` gets what each arm moves into each out-link.
+    pub fn move_all(&self, row: &mut [u64], sent: &mut Sent)
+        requires before { HaveMovedTo self.now 0 row.old sent.old }
+        ensures after { HaveMovedTo self.now self.now.inputs.now.shape.destinations row.new sent.new }
+    {
+        for destination in 0..self.inputs.destinations() {
+            self.move_to(destination, row, sent);
+        }
     }
 }

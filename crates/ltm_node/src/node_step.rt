@@ -5,8 +5,10 @@
 ghost use Rattle.std.specs.Prelude.{◌≡◌, ◌<◌, ◌≤◌, ◌*◌, ◌/◌, ◌+◌, ℕ, IsTrue, slice_index};
 ghost use Rattle.ltm_units.specs.Sums.{sum_below};
 ghost use Rattle.ltm_shares.specs.Demands.{demands_of};
+ghost use Rattle.ltm_shares.specs.Sent.{sent_at};
+ghost use Rattle.ltm_shares.specs.Shares.{AreShares};
 ghost use Rattle.ltm_node.specs.Shape.{counts_width};
-ghost use Rattle.ltm_node.specs.Demands.{sent};
+ghost use Rattle.ltm_node.specs.Demands.{sent, demands};
 ghost use Rattle.ltm_node.specs.Solvable.{IsSolvable};
 ghost use Rattle.ltm_node.specs.Step.{IsNodeStep};
 ghost use Rattle.ltm_node.specs.Moving.{HoldsSent, FitsSupply, Agrees, priority_or_more, filled_demands};
@@ -14,7 +16,8 @@ ghost use Rattle.ltm_node.specs.Moving.{HoldsSent, FitsSupply, Agrees, priority_
 use crate::inputs::NodeInputs;
 use crate::narrow::step_narrow;
 use crate::outputs::NodeOutputs;
-use ltm_shares::{NodeDemands, Shares, shares};
+use crate::portion::Portion;
+use ltm_shares::{ARMS, NodeDemands, OUTS, Sent, Shares, shares};
 
 /// Writes the counts at the end of the slot.
 pub fn write_step(inputs: &NodeInputs, outputs: &mut NodeOutputs)
@@ -26,50 +29,33 @@ pub fn write_step(inputs: &NodeInputs, outputs: &mut NodeOutputs)
     if step_narrow(inputs, outputs) {
         return;
     }
-    let mut sent = [0u64; 20];
-    if !send_whole(inputs, outputs, &mut sent) {
-        send_shares(inputs, outputs, &sent);
+    let sent = outputs.advance(inputs, &Portion::Whole);
+    if fits_supply(inputs, &sent) {
+        return;
     }
+    let shares = share_out(inputs, sent);
+    outputs.advance(inputs, &Portion::Share(shares));
 }
 
-/// Moves all that the arms send, and says whether no out-link gets more than it can take; `sent` gets what each arm
-/// sends into each out-link.
-fn send_whole(inputs: &NodeInputs, outputs: &mut NodeOutputs, sent: &mut [u64; 20]) -> bool
+/// The shares of the arms.
+fn share_out(inputs: &NodeInputs, sent: Sent) -> Shares
     requires solvable { IsSolvable inputs.now }
-    requires room { counts_width inputs.now.shape ≤ outputs.old.room }
-    requires nothing { (k : ℕ) → slice_index sent.old k ≡ 0 }
-    ensures sent { HoldsSent inputs.now sent.new }
-    ensures step { IsTrue result → IsNodeStep inputs.now outputs.new }
-    ensures room { outputs.new.room ≡ outputs.old.room }
-{
-    let whole = Shares::whole();
-    outputs.advance(inputs, &whole, sent);
-    fits_supply(inputs, sent)
-}
-
-/// Moves the arms' shares.
-fn send_shares(inputs: &NodeInputs, outputs: &mut NodeOutputs, sent: &[u64; 20])
-    requires solvable { IsSolvable inputs.now }
-    requires room { counts_width inputs.now.shape ≤ outputs.old.room }
-    requires sent { HoldsSent inputs.now sent.now }
-    ensures step { IsNodeStep inputs.now outputs.new }
-    ensures room { outputs.new.room ≡ outputs.old.room }
+    requires sent { HoldsSent inputs.now sent }
+    ensures { AreShares (demands inputs.now) result.denominator (slice_index result.numerators) }
 {
     let mut demands = NodeDemands {
         arms: 0,
         outs: 0,
-        sending: *sent,
-        priority: [1; 5],
-        supply: [0; 4],
+        sending: sent,
+        priority: [1; ARMS],
+        supply: [0; OUTS],
     };
     fill_demands(inputs, &mut demands);
-    let parts = shares(&demands);
-    let mut moved = [0u64; 20];
-    outputs.advance(inputs, &parts, &mut moved);
+    shares(&demands)
 }
 
 /// Whether no out-link gets more than it can take where each arm sends all.
-fn fits_supply(inputs: &NodeInputs, sent: &[u64; 20]) -> bool
+fn fits_supply(inputs: &NodeInputs, sent: &Sent) -> bool
     requires solvable { IsSolvable inputs.now }
     requires sent { HoldsSent inputs.now sent.now }
     ensures { IsTrue result → FitsSupply inputs.now sent.now }
@@ -84,15 +70,15 @@ fn fits_supply(inputs: &NodeInputs, sent: &[u64; 20]) -> bool
 
 /// What an out-link gets where each arm sends all.
 #[tactic(auto, using(ltm_units::proofs::Sums::sum_below_more_le, ltm_units::proofs::Sums::sum_below_more))]
-fn inflow(inputs: &NodeInputs, sent: &[u64; 20], out: u32) -> u64
+fn inflow(inputs: &NodeInputs, sent: &Sent, out: u32) -> u64
     requires solvable { IsSolvable inputs.now }
     requires sent { HoldsSent inputs.now sent.now }
     requires out { out < inputs.now.shape.outs }
-    ensures { result ≡ sum_below inputs.now.shape.arms (λ i. slice_index sent.now (i * 4 + out)) }
+    ensures { result ≡ sum_below inputs.now.shape.arms (λ i. sent_at sent.now i out) }
 {
     let mut total = 0u64;
     for arm in 0..inputs.arms() {
-        total += sent[arm as usize * 4 + out as usize];
+        total += sent.at(arm as usize, out as usize);
     }
     total
 }

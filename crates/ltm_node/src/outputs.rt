@@ -11,12 +11,14 @@ ghost use Rattle.ltm_node.specs.Outputs.{
   arrived_after,
 };
 ghost use Rattle.ltm_node.specs.Solvable.{IsSolvable};
-ghost use Rattle.ltm_node.specs.Moving.{AreFractions, IsMovedAt};
+ghost use Rattle.ltm_node.specs.Portion.{AreFractions};
+ghost use Rattle.ltm_node.specs.Moving.{HaveMovedTo, HaveMovedAll};
 
 use crate::inputs::NodeInputs;
-use crate::moves::move_all;
+use crate::moves::Mover;
+use crate::portion::Portion;
 use crate::shape::NodeShape;
-use ltm_shares::Shares;
+use ltm_shares::Sent;
 use ltm_units::NoMemory;
 use std::alloc::Global;
 use std::marker::Model;
@@ -60,7 +62,8 @@ impl NodeOutputs {
     /// The shape of the node.
     #[inline]
     pub fn shape(&self) -> NodeShape
-        ensures { result ≡ self.now.shape }
+        ensures shape { result ≡ self.now.shape }
+        ensures width { length self.now.row ≡ counts_width self.now.shape }
     {
         self.shape
     }
@@ -158,34 +161,33 @@ impl NodeOutputs {
         self.shape = shape;
     }
 
-    /// Adds what the arms move at these shares to the counts that they are; `sent` gets what each arm moves into each
-    /// out-link.
-    fn add_moves(&mut self, inputs: &NodeInputs, shares: &Shares, sent: &mut [u64; 20])
-        requires solvable { IsSolvable inputs.now }
-        requires fractions { AreFractions inputs.now shares.now }
-        requires shape { self.old.shape ≡ inputs.now.shape }
-        requires before { IsMovedAt inputs.now shares.now 0 self.old.row sent.old }
-        ensures shape { self.new.shape ≡ inputs.now.shape }
+    /// Adds what the arms move to the counts that they are.
+    #[inline]
+    fn add_moves(&mut self, mover: &Mover<'_>, sent: &mut Sent)
+        requires shape { self.old.shape ≡ mover.now.inputs.now.shape }
+        requires before { HaveMovedTo mover.now 0 self.old.row sent.old }
+        ensures shape { self.new.shape ≡ mover.now.inputs.now.shape }
         ensures room { self.new.room ≡ self.old.room }
-        ensures after { IsMovedAt inputs.now shares.now inputs.now.shape.destinations self.new.row sent.new }
+        ensures after { HaveMovedTo mover.now mover.now.inputs.now.shape.destinations self.new.row sent.new }
     {
         let width = self.shape.counts_width();
-        move_all(inputs, shares, &mut self.counts[0..width], sent);
+        mover.move_all(&mut self.counts[0..width], sent);
     }
 
-    /// Takes the counts at the end of the slot where the arms move at these shares; `sent` gets what each arm moves into
-    /// each out-link.
-    pub(crate) fn advance(&mut self, inputs: &NodeInputs, shares: &Shares, sent: &mut [u64; 20])
+    /// Takes the counts at the end of the slot where each arm moves this portion of what it sends; returns what each arm
+    /// moves into each out-link.
+    pub(crate) fn advance(&mut self, inputs: &NodeInputs, portion: &Portion) -> Sent
         requires solvable { IsSolvable inputs.now }
-        requires fractions { AreFractions inputs.now shares.now }
+        requires fractions { AreFractions inputs.now portion.now }
         requires room { counts_width inputs.now.shape ≤ self.old.room }
-        requires nothing { (k : ℕ) → slice_index sent.old k ≡ 0 }
         ensures shape { self.new.shape ≡ inputs.now.shape }
         ensures room { self.new.room ≡ self.old.room }
-        ensures after { IsMovedAt inputs.now shares.now inputs.now.shape.destinations self.new.row sent.new }
+        ensures after { HaveMovedAll inputs.now portion.now self.new.row result }
     {
         self.begin(inputs);
-        self.add_moves(inputs, shares, sent);
+        let mut sent = Sent::nothing();
+        self.add_moves(&Mover { inputs, portion }, &mut sent);
+        sent
     }
 
     /// The row of all counts.

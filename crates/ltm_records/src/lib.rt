@@ -1,8 +1,9 @@
-//! The records of a file of fields with commas, one at a time, and the fields of a record, each of its kind.
-//!
-//! A record is read by `csv` with its defaults, but that any number of fields may stand in it and that the header is a
-//! record like the others: a byte order mark at the start is taken off, lines end with LF, CR or CRLF, blank lines are
-//! passed over, and a field may stand in double quotes. Memory follows the longest record and not the file.
+//! - **What it is**: the records of a file of fields with commas, one at a time, and the fields of a record, each of its
+//!   kind. A byte order mark at the start is taken off, lines end with LF, CR or CRLF, blank lines are passed over, a field
+//!   may stand in double quotes, and the header is a record like the others.
+//! - **On what it stands**: `csv`, with its defaults but that a record may have any number of fields, and `ltm_units`.
+//! - **What a call costs**: one pass over the record; memory follows the longest record and not the file.
+//! - **When to change it here**: when a header or the text of a kind of field changes.
 #![tactic(auto)]
 
 mod fields;

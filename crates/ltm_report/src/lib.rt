@@ -1,8 +1,9 @@
-//! The lines that the program writes: the totals and the links of a loading, and the refusal of a case.
-//!
-//! Each line ends with one newline byte. Amounts of traffic are written in vehicles with three decimals, other numbers as
-//! plain decimal digits. A call appends its whole line, or nothing where memory was not found; it costs the length of the
-//! line.
+//! - **What it is**: the lines that the program writes: the totals and the links of a loading, and the refusal of a case.
+//!   Each ends with one newline byte; amounts of traffic stand in vehicles with three decimals.
+//! - **On what it stands**: `ltm_units` for numbers as text, and the faults of `ltm_casefile`, `ltm_network` and
+//!   `ltm_diagram` that it names.
+//! - **What a call costs**: the length of its line, which it appends whole, or not at all where memory was not found.
+//! - **When to change it here**: when a line gets another word or number, or when there is a new cause to name.
 #![tactic(auto)]
 
 mod case_faults;

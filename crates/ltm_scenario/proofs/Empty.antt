@@ -3,6 +3,7 @@ use Rattle.std.proofs.Common.{◌≡◌, ℕ, ◌≤◌, [], Bool, true, false, 
 use Rattle.std.proofs.lemmas.Bool.Decides.{nat_tests}
 use Rattle.std.proofs.lemmas.List.Elements.{All-nil}
 use Rattle.ltm_network.specs.IsNetwork.{IsNetwork}
+use Rattle.ltm_limits.proofs.Stays.{limits_whole}
 use Rattle.std.specs.List.Sorted.{IsStrictlySortedBy}
 use Rattle.ltm_demand.specs.Rows.{IsDemandRow}
 use Rattle.ltm_demand.specs.Kept.{AreDemandRows}
@@ -42,8 +43,8 @@ empty_is_scenario setup is network = record {
   network = network;
   diagram_for_each = refl;
   limits = All-nil _;
-  entry_for_each = refl;
-  exit_for_each = refl;
+  entry = limits_whole.none setup.slots;
+  exit = limits_whole.none setup.slots;
   few_destinations = omega arith;
   destinations_are_nodes = All-nil _;
   destinations_apart = λ destination below. absurd (omega arith);

@@ -1,13 +1,14 @@
 -- Rows and limits keep a scenario one.
-use Rattle.std.proofs.Common.{◌≡◌, ℕ, ◌==◌, List, [], ◌∷◌, ◌++◌, length, true, false, cond, not, Ok, Err, All, nat_le, nat_lt, sum, refl, sym, ap, subst, ◌∙◌}
+use Rattle.std.proofs.Common.{◌≡◌, ℕ, ◌-◌, ◌<◌, ◌≤◌, ◌==◌, arith, replicate, List, [], ◌∷◌, ◌++◌, length, true, false, cond, not, Ok, Err, All, nat_le, nat_lt, sum, refl, sym, ap, subst}
 use Rattle.std.proofs.lemmas.List.Elements.{All-nil, All-cons, All-head, All-tail, All-append, All-filter}
-use Rattle.std.proofs.Math.ListN.{length-set}
+use Rattle.std.proofs.lemmas.List.{length-replicate}
 use Rattle.std.specs.declared.cmp.Ordering.{Ordering}
 use Rattle.std.specs.declared.cmp.Ordering.TheVariants.{Less, Equal, Greater}
 use Rattle.std.specs.Ordering.{match_ordering, ordering_then, is_lt, is_gt}
 use Rattle.std.specs.BTreeMap.{insert_entry}
 use Rattle.std.proofs.lemmas.Map.Lookups.{exact_unsigned}
-use Rattle.ltm_limits.specs.Limits.{with_values}
+use Rattle.ltm_limits.specs.Limits.{with_limit}
+use Rattle.ltm_limits.proofs.Stays.{limits_whole}
 use Rattle.ltm_demand.specs.declared.row.DemandRow.{DemandRow}
 use Rattle.ltm_demand.specs.declared.row.DemandFault.TheVariants.{BadSlots, TooManyRows}
 use Rattle.ltm_demand.specs.Rows as demand
@@ -47,8 +48,8 @@ with_demand_rows s rows is all kept = record {
   network = is.network;
   diagram_for_each = is.diagram_for_each;
   limits = is.limits;
-  entry_for_each = is.entry_for_each;
-  exit_for_each = is.exit_for_each;
+  entry = is.entry;
+  exit = is.exit;
   few_destinations = is.few_destinations;
   destinations_are_nodes = is.destinations_are_nodes;
   destinations_apart = is.destinations_apart;
@@ -93,8 +94,8 @@ with_split_rows s rows is all weights = record {
   network = is.network;
   diagram_for_each = is.diagram_for_each;
   limits = is.limits;
-  entry_for_each = is.entry_for_each;
-  exit_for_each = is.exit_for_each;
+  entry = is.entry;
+  exit = is.exit;
   few_destinations = is.few_destinations;
   destinations_are_nodes = is.destinations_are_nodes;
   destinations_apart = is.destinations_apart;
@@ -124,14 +125,14 @@ split_is_scenario s key weights next is here done have =
     subst (λ (rs : List SplitRow). IsScenario (record s { splits = rs })) (sym (ap (λ (d : SplitsData). d.rows) rows)) (with_split_rows s (put_in s.splits key weights) is (All-put_in (IsSplitOf s) s.splits key weights is.splits here) (subst (λ (d : SplitsData). HaveWeights d.rows) rows have))
 
 -- ---- limits
-pub entry_is_scenario : (s : ScenarioData) (link from : ℕ) (values : List ℕ) → IsScenario s → IsScenario (record s { entry = with_values s.entry link from values })
-entry_is_scenario s link from values is = record {
+pub entry_is_scenario : (s : ScenarioData) (link from to limit : ℕ) → IsScenario s → link < length s.network.links → from ≤ to → to ≤ s.setup.slots → IsScenario (record s { entry = with_limit s.entry link from to limit })
+entry_is_scenario s link from to limit is there order within = record {
   setup = is.setup;
   network = is.network;
   diagram_for_each = is.diagram_for_each;
   limits = is.limits;
-  entry_for_each = length-set s.entry link _ ∙ is.entry_for_each;
-  exit_for_each = is.exit_for_each;
+  entry = limits_whole.written s.entry (length s.network.links) s.setup.slots link from (replicate (to - from) limit) there (omega (arith, length-replicate (to - from) limit)) is.entry;
+  exit = is.exit;
   few_destinations = is.few_destinations;
   destinations_are_nodes = is.destinations_are_nodes;
   destinations_apart = is.destinations_apart;
@@ -141,14 +142,14 @@ entry_is_scenario s link from values is = record {
   weights = is.weights;
 }
 
-pub exit_is_scenario : (s : ScenarioData) (link from : ℕ) (values : List ℕ) → IsScenario s → IsScenario (record s { exit = with_values s.exit link from values })
-exit_is_scenario s link from values is = record {
+pub exit_is_scenario : (s : ScenarioData) (link from to limit : ℕ) → IsScenario s → link < length s.network.links → from ≤ to → to ≤ s.setup.slots → IsScenario (record s { exit = with_limit s.exit link from to limit })
+exit_is_scenario s link from to limit is there order within = record {
   setup = is.setup;
   network = is.network;
   diagram_for_each = is.diagram_for_each;
   limits = is.limits;
-  entry_for_each = is.entry_for_each;
-  exit_for_each = length-set s.exit link _ ∙ is.exit_for_each;
+  entry = is.entry;
+  exit = limits_whole.written s.exit (length s.network.links) s.setup.slots link from (replicate (to - from) limit) there (omega (arith, length-replicate (to - from) limit)) is.exit;
   few_destinations = is.few_destinations;
   destinations_are_nodes = is.destinations_are_nodes;
   destinations_apart = is.destinations_apart;

@@ -7,6 +7,7 @@ pub mod Found
 pub mod Keeps
 pub mod Kept
 pub mod Linked
+pub mod Making
 pub mod Parts
 pub mod Places
 pub mod Ranges

@@ -1,8 +1,10 @@
 -- A scenario with one link more.
-use Rattle.std.proofs.Common.{◌≡◌, ℕ, ◌+◌, ◌<◌, ◌≤◌, ◌==◌, List, [], ◌∷◌, ◌++◌, length, map, Bool, true, false, if◌then◌else◌, is_some, nat_le, Ok, Err, Result, IsOk, refl, sym, ap, ◌∙◌, arith, length-append}
+use Rattle.std.proofs.Common.{◌≡◌, ℕ, ◌+◌, ◌<◌, ◌≤◌, ◌==◌, List, [], ◌∷◌, ◌++◌, length, map, Bool, true, false, if◌then◌else◌, is_some, nat_le, Ok, Err, Result, IsOk, refl, sym, ap, subst, ◌∙◌, arith, length-append}
 use Rattle.std.proofs.lemmas.Bool.Decides.{nat_tests}
 use Rattle.std.proofs.lemmas.List.Elements.{All-push}
 use Rattle.ltm_units.specs.declared.places.LinkId.{LinkId}
+use Rattle.ltm_limits.specs.Limits.{AreWhole, with_link as with_limits_of_link}
+use Rattle.ltm_limits.proofs.Stays.{limits_whole}
 use Rattle.ltm_diagram.specs.declared.diagram.Diagram.{Diagram}
 use Rattle.ltm_diagram.specs.declared.diagram.Limits.{Limits}
 use Rattle.ltm_diagram.specs.declared.diagram.DiagramFault.{DiagramFault}
@@ -100,8 +102,8 @@ linked_is_scenario s name tail head diagram stay is taken free sets =
       network = stay.more s.network next name tail head is.network (network_linked s.network name tail head taken);
       diagram_for_each = length-append s.diagrams (diagram ∷ []) ∙ ap (λ n. n + 1) is.diagram_for_each ∙ sym (length-append s.network.links _);
       limits = All-push (λ d. IsOk (limits_of d s.setup.step.0)) s.diagrams diagram is.limits sets;
-      entry_for_each = length-append s.entry _ ∙ ap (λ n. n + 1) is.entry_for_each ∙ sym (length-append s.network.links _);
-      exit_for_each = length-append s.exit _ ∙ ap (λ n. n + 1) is.exit_for_each ∙ sym (length-append s.network.links _);
+      entry = subst (λ n. AreWhole (with_limits_of_link s.entry s.setup.slots) n s.setup.slots) (sym (length-append s.network.links _)) (limits_whole.more s.entry (length s.network.links) s.setup.slots is.entry);
+      exit = subst (λ n. AreWhole (with_limits_of_link s.exit s.setup.slots) n s.setup.slots) (sym (length-append s.network.links _)) (limits_whole.more s.exit (length s.network.links) s.setup.slots is.exit);
       few_destinations = is.few_destinations;
       destinations_are_nodes = λ k d below. omega (arith, is.destinations_are_nodes k d below, named_longer s.network.nodes tail, named_longer (named s.network.nodes tail) head);
       destinations_apart = is.destinations_apart;

@@ -89,17 +89,17 @@ as_many from to count n places order is fits = subst (λ k. k * n ≤ places) (l
 
 pub entry_undoes : (t : Inside) (next : LimitsState) (link from to : ℕ) (was : Vec ℕ) → AreTables t → AreTables (record t { entry = next }) → link < length t.network.links → from ≤ to → to ≤ t.setup.slots → with_values next.limits link from was.items ≡ t.entry.limits → vec_len was ≡ to - from → to * length t.entry.limits ≤ next.places → Undoes (state_in t) (state_in (record t { entry = next })) (Entry link from was)
 entry_undoes t next link from to was are are_next inside order within back count places =
-    let long : length next.limits ≡ length t.entry.limits = are_next.scenario.entry_for_each ∙ sym are.scenario.entry_for_each in
+    let long : length next.limits ≡ length t.entry.limits = are_next.scenario.entry.for_each ∙ sym are.scenario.entry.for_each in
     undoes_by (state_in t) (state_in (record t { entry = next })) (Entry link from was) are.scenario
     (ap (λ ls. record (scenario_in t) { entry = ls }) back)
-    (omega (arith, are_next.scenario.entry_for_each), omega arith, as_many from to (vec_len was) (length next.limits) next.places order count (subst (λ n. to * n ≤ next.places) (sym long) places))
+    (omega (arith, are_next.scenario.entry.for_each), omega arith, as_many from to (vec_len was) (length next.limits) next.places order count (subst (λ n. to * n ≤ next.places) (sym long) places))
 
 pub exit_undoes : (t : Inside) (next : LimitsState) (link from to : ℕ) (was : Vec ℕ) → AreTables t → AreTables (record t { exit = next }) → link < length t.network.links → from ≤ to → to ≤ t.setup.slots → with_values next.limits link from was.items ≡ t.exit.limits → vec_len was ≡ to - from → to * length t.exit.limits ≤ next.places → Undoes (state_in t) (state_in (record t { exit = next })) (Exit link from was)
 exit_undoes t next link from to was are are_next inside order within back count places =
-    let long : length next.limits ≡ length t.exit.limits = are_next.scenario.exit_for_each ∙ sym are.scenario.exit_for_each in
+    let long : length next.limits ≡ length t.exit.limits = are_next.scenario.exit.for_each ∙ sym are.scenario.exit.for_each in
     undoes_by (state_in t) (state_in (record t { exit = next })) (Exit link from was) are.scenario
     (ap (λ ls. record (scenario_in t) { exit = ls }) back)
-    (omega (arith, are_next.scenario.exit_for_each), omega arith, as_many from to (vec_len was) (length next.limits) next.places order count (subst (λ n. to * n ≤ next.places) (sym long) places))
+    (omega (arith, are_next.scenario.exit.for_each), omega arith, as_many from to (vec_len was) (length next.limits) next.places order count (subst (λ n. to * n ≤ next.places) (sym long) places))
 
 -- ---- splits
 pub split_undoes : (t : Inside) (next : SplitsData) (key : SplitKey) (weights : List ℕ) (undo : Undo) → AreTables t → IsSplitNote t.splits.rows key undo → put_back next.rows key (row_of t.splits.rows key) ≡ t.splits.rows → row_of next.rows key ≡ Some weights → Undoes (state_in t) (state_in (record t { splits = next })) undo
@@ -138,8 +138,8 @@ diagram_is_scenario s link diagram is sets = record {
   network = is.network;
   diagram_for_each = length-set s.diagrams link diagram ∙ is.diagram_for_each;
   limits = All-set (λ d. IsOk (limits_of d s.setup.step.0)) s.diagrams link diagram sets is.limits;
-  entry_for_each = is.entry_for_each;
-  exit_for_each = is.exit_for_each;
+  entry = is.entry;
+  exit = is.exit;
   few_destinations = is.few_destinations;
   destinations_are_nodes = is.destinations_are_nodes;
   destinations_apart = is.destinations_apart;

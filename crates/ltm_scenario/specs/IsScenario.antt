@@ -3,6 +3,7 @@ use Rattle.std.specs.Prelude.{◌≡◌, ℕ, ◌<◌, ◌≤◌, ◌==◌, fals
 use Rattle.ltm_network.specs.Network.{out_links}
 use Rattle.ltm_network.specs.IsNetwork.{IsNetwork}
 use Rattle.ltm_diagram.specs.Limits.{limits_of}
+use Rattle.ltm_limits.specs.Limits.{AreWhole}
 use Rattle.ltm_demand.specs.declared.row.DemandRow.{DemandRow}
 use Rattle.ltm_demand.specs.Kept.{AreDemandRows}
 use Rattle.ltm_splits.specs.Rows.{SplitRow, HaveWeights}
@@ -30,8 +31,9 @@ pub record IsScenario (s : ScenarioData) : Type 0 where
   pub diagram_for_each : length s.diagrams ≡ length s.network.links
   -- each diagram sets limits at the step
   pub limits : All (λ diagram. IsOk (limits_of diagram s.setup.step.0)) s.diagrams
-  pub entry_for_each : length s.entry ≡ length s.network.links
-  pub exit_for_each : length s.exit ≡ length s.network.links
+  -- an entry and an exit limit for each link and slot
+  pub entry : AreWhole s.entry (length s.network.links) s.setup.slots
+  pub exit : AreWhole s.exit (length s.network.links) s.setup.slots
   pub few_destinations : length s.destinations ≤ 64
   pub destinations_are_nodes : All (λ node. node < length s.network.nodes) s.destinations
   pub destinations_apart : (destination : ℕ) → destination < length s.destinations → destination_of s.destinations (destination_node s destination) ≡ Some destination

@@ -1,5 +1,10 @@
-//! The scenario: what a case says of setup, network, demand, splits and limits, the rules of a valid case, and batches
-//! of edits that are made whole or not at all.
+//! - **What it is**: the scenario, which is what a case says of setup, network, demand, splits and limits; the rules of a
+//!   valid case; and batches of edits that are made whole or not at all.
+//! - **On what it stands**: `ltm_network`, `ltm_diagram`, `ltm_demand`, `ltm_splits` and `ltm_limits`, each with a table of
+//!   its own, which it holds side by side and in step.
+//! - **What a call costs**: a read costs what its table's costs; an edit costs what its table's call costs and a few
+//!   look-ups by name, and takes no copy of the scenario; `check` passes over all rows once.
+//! - **When to change it here**: when a case says more, when a rule of a valid case changes, or for another kind of edit.
 #![tactic(auto)]
 
 mod batch;
@@ -9,6 +14,7 @@ mod diagrams;
 mod edit;
 mod edits;
 mod faults;
+mod laws;
 mod scenario;
 mod setup;
 mod tables;
@@ -18,6 +24,7 @@ mod weights;
 pub use batch::{Batch, BatchFault};
 pub use edit::{Edit, EditCause, EditFault};
 pub use faults::{DestinationFault, LinkFault, ScenarioFault};
+pub use laws::edits_make;
 pub use scenario::Scenario;
 pub use setup::{Setup, SetupFault};
 pub use weights::Weights;

@@ -1,6 +1,9 @@
 //! Worked cases of `ltm_scenario`, with values that were found by hand: a library with nothing but tests.
 //!
 //! They stand apart from `ltm_scenario` so that its proofs are not made a second time for their sake.
+//!
+//! It stands on `ltm_scenario` and what lies below it, and costs nothing at run time. Change it here when a rule of a
+//! valid case or of an edit changes, or a worked case is added.
 #![tactic(auto)]
 
 #[cfg(test)]

@@ -12,7 +12,7 @@ use Rattle.ltm_loading.specs.Setting.{IsSetting}
 use Rattle.ltm_loading.specs.Groups.{up_of, down_of, dep_of, arr_of, groups}
 use Rattle.ltm_loading.specs.Flows.{link_goal, origin_goal}
 use Rattle.ltm_loading.specs.Loading.{IsLoading}
-use Rattle.ltm_loading.specs.Totals.{entered_link, left_link}
+use Rattle.ltm_loading.specs.Totals.{generated, arrived, on_links, waiting, entered_link, left_link}
 use Rattle.ltm_setting.specs.Setting.{limits_at, produced_by, setting_of}
 
 abbrev pub ScenariosAreSettings : Type 0
@@ -40,6 +40,11 @@ pub record HoldsOfLoading (s : ScenarioData) (c : Counts) : Type 0 where
   pub conserved : (d k : ℕ) → d < length s.destinations → k ≤ s.setup.slots →
       sum_below (length s.network.nodes) (λ u. c (dep_of (setting_of s) u) d k)
       ≡ c (arr_of (setting_of s)) d k + sum_below (length s.network.links) (λ l. c (up_of l) d k - c (down_of l) d k)
+  -- no more has left a link than has entered it
+  pub left_has_entered : (l d k : ℕ) → l < length s.network.links → d < length s.destinations → k ≤ s.setup.slots → c (down_of l) d k ≤ c (up_of l) d k
+  -- what was produced has arrived, is on a link or waits at its origin
+  pub adds_up : (k : ℕ) → k ≤ s.setup.slots →
+      generated (setting_of s) k ≡ arrived (setting_of s) c k + on_links (setting_of s) c k + waiting (setting_of s) c k
   -- every other loading is the same
   pub one : (other : Counts) → IsLoading (setting_of s) other → (g d k : ℕ) → g < groups (setting_of s) → d < length s.destinations → k ≤ s.setup.slots →
       c g d k ≡ other g d k

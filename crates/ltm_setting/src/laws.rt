@@ -6,8 +6,8 @@ ghost use Rattle.ltm_setting.specs.ScenarioLaw.{ScenariosAreSettings, LoadingsOf
 use ltm_demand::production_never_falls;
 use ltm_diagram::limits_in_range;
 use ltm_loading::{
-    conserved, first_in_first_out, never_fall, one_loading, within_exit, within_produced,
-    within_storage,
+    adds_up, conserved, first_in_first_out, left_has_entered, never_fall, one_loading, within_exit,
+    within_produced, within_storage,
 };
 use ltm_network::links_at_their_places;
 use ltm_scenario::Scenario;
@@ -34,6 +34,8 @@ pub fn loadings_of_scenarios()
     within_storage();
     within_produced();
     conserved();
+    left_has_entered();
+    adds_up();
     one_loading();
 }
 

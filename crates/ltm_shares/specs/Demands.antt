@@ -1,5 +1,6 @@
-use Rattle.std.specs.Prelude.{ℕ, ◌+◌, ◌*◌, ◌<◌, ◌≤◌, slice_index}
+use Rattle.std.specs.Prelude.{ℕ, ◌<◌, ◌≤◌, slice_index}
 use Rattle.ltm_shares.specs.Shares.{Demands, inflow}
+use Rattle.ltm_shares.specs.Sent.{sent_at}
 use Rattle.ltm_shares.specs.declared.demands.NodeDemands.{NodeDemands}
 
 -- the demands that the arrays hold
@@ -7,7 +8,7 @@ abbrev pub demands_of : NodeDemands → Demands
 demands_of d = record {
   arms = d.arms;
   outs = d.outs;
-  sending = λ i j. slice_index d.sending (i * 4 + j);
+  sending = sent_at d.sending;
   priority = slice_index d.priority;
   supply = slice_index d.supply;
 }

@@ -1,4 +1,5 @@
 pub mod Demands
 pub mod Factors
 pub mod Rounds
+pub mod Sent
 pub mod Shares

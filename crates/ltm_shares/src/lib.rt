@@ -4,17 +4,20 @@
 //! queue, and the arms that an out-link holds back share its supply in proportion to their priorities: oriented
 //! capacities, after the idea of Tampère et al. (2011). The conditions are this model's own, and no agreement with the
 //! results of theirs is claimed. Shares are exact fractions over one denominator of at most 163,840,000^4. Nothing here
-//! takes memory. A call of `shares` makes at most one round for each arm, and no round divides.
+//! takes memory. A call of `shares` makes at most one round for each arm, and no round divides. It stands on `ltm_units`
+//! alone. Change it here where arms are to share a supply by other conditions.
 #![tactic(auto)]
 
 mod demands;
 mod factor;
 mod laws;
 mod rounds;
+mod sent;
 mod share;
 mod wide;
 
 pub use demands::NodeDemands;
 pub use laws::one_solution;
 pub use rounds::shares;
+pub use sent::{ARMS, OUTS, Sent};
 pub use share::Shares;

@@ -8,9 +8,11 @@
 ghost use Rattle.std.specs.Prelude.{◌≡◌, ◌<◌, ◌≤◌, ◌*◌, ◌+◌, ◌^◌, ℕ, slice_index, MatchOption, IsTrue, IsFalse};
 ghost use Rattle.ltm_shares.specs.Shares.{AreShares, Uses};
 ghost use Rattle.ltm_shares.specs.Demands.{demands_of, IsSmall};
+ghost use Rattle.ltm_shares.specs.Sent.{sent_at};
 ghost use Rattle.ltm_shares.specs.Rounds.{Fixes, Finishes, Scales, IsSound, IsTightest, weight, open_arms};
 
 use crate::demands::NodeDemands;
+use crate::sent::{ARMS, OUTS};
 use crate::share::Shares;
 use crate::wide::product;
 
@@ -20,11 +22,11 @@ pub struct Progress {
     /// What numerators and what is left are parts of.
     pub denominator: u128,
     /// The share of each arm that is fixed, and 0 for the others.
-    pub numerators: [u128; 5],
+    pub numerators: [u128; ARMS],
     /// The priority of each arm that is not fixed, and 0 for the others.
-    pub pending: [u64; 5],
+    pub pending: [u64; ARMS],
     /// What each out-link can still take.
-    pub left: [u128; 4],
+    pub left: [u128; OUTS],
 }
 
 /// The shares of the arms.
@@ -32,13 +34,13 @@ pub fn shares(demands: &NodeDemands) -> Shares
     requires { IsSmall (demands_of demands.now) }
     ensures { AreShares (demands_of demands.now) result.denominator (slice_index result.numerators) }
 {
-    let mut left = [0u128; 4];
+    let mut left = [0u128; OUTS];
     for out in 0..demands.outs {
         left[out] = u128::from(demands.supply[out]);
     }
     let mut progress = Progress {
         denominator: 1,
-        numerators: [0; 5],
+        numerators: [0; ARMS],
         pending: demands.priority,
         left,
     };
@@ -61,7 +63,7 @@ fn weight_on(demands: &NodeDemands, progress: &Progress, out: usize) -> u64
 {
     let mut sum = 0u64;
     for arm in 0..demands.arms {
-        let sent = demands.sending[arm * 4 + out];
+        let sent = demands.sending.at(arm, out);
         sum += progress.pending[arm] * sent;
     }
     sum
@@ -73,14 +75,14 @@ fn fix(demands: &NodeDemands, progress: &mut Progress, arm: usize, share: u128)
     requires outs { demands.now.outs ≤ 4 }
     requires arm { arm < demands.now.arms }
     requires room { (j : ℕ) → j < demands.now.outs →
-        share * slice_index demands.now.sending (arm * 4 + j) ≤ slice_index progress.old.left j }
+        share * sent_at demands.now.sending arm j ≤ slice_index progress.old.left j }
     requires fits { (j : ℕ) → j < demands.now.outs → slice_index progress.old.left j < 2 ^ 127 }
     ensures { Fixes (demands_of demands.now) arm share progress.old progress.new }
 {
     progress.numerators[arm] = share;
     progress.pending[arm] = 0;
     for out in 0..demands.outs {
-        let sent = demands.sending[arm * 4 + out];
+        let sent = demands.sending.at(arm, out);
         progress.left[out] -= product(share, u128::from(sent));
     }
 }
@@ -149,7 +151,7 @@ fn settle_whole(demands: &NodeDemands, progress: &mut Progress, out: usize, weig
     for arm in 0..demands.arms {
         let pending = progress.pending[arm];
         if pending > 0
-            && demands.sending[arm * 4 + out] > 0
+            && demands.sending.at(arm, out) > 0
             && bar <= product(level, u128::from(pending))
         {
             fix(demands, progress, arm, progress.denominator);
@@ -175,7 +177,7 @@ fn settle_scaled(demands: &NodeDemands, progress: &mut Progress, out: usize, wei
     scale(demands, progress, weight);
     for arm in 0..demands.arms {
         let pending = progress.pending[arm];
-        if pending > 0 && demands.sending[arm * 4 + out] > 0 {
+        if pending > 0 && demands.sending.at(arm, out) > 0 {
             let share = product(level, u128::from(pending));
             fix(demands, progress, arm, share);
         }

@@ -3,6 +3,7 @@ ghost use Rattle.std.specs.Prelude.{◌≡◌, ℕ, ◌<◌, ◌≤◌, ◌*◌,
 ghost use Rattle.ltm_shares.specs.Factors.{AreFactors};
 
 use crate::factor::{WHOLE, factor_of, nearest_below};
+use crate::sent::ARMS;
 
 /// The shares of the arms: an arm gets `numerators[arm] / denominator` of all that it sends.
 #[derive(Drop)]
@@ -10,36 +11,24 @@ pub struct Shares {
     /// What the numerators are parts of.
     pub denominator: u128,
     /// One for each arm.
-    pub numerators: [u128; 5],
+    pub numerators: [u128; ARMS],
     /// The share of each arm in 2^-32nds, rounded down.
-    factors: [u64; 5],
+    factors: [u64; ARMS],
     ghost positive: { 0 < denominator },
     ghost small: { denominator ≤ 163840000 ^ 4 },
     ghost in_factors: { AreFactors denominator numerators factors },
 }
 
 impl Shares {
-    /// The shares of arms that send all.
-    pub fn whole() -> Shares
-        ensures denominator { result.denominator ≡ 1 }
-        ensures numerators { (i : ℕ) → i < 5 → slice_index result.numerators i ≡ 1 }
-    {
-        Shares {
-            denominator: 1,
-            numerators: [1; 5],
-            factors: [WHOLE; 5],
-        }
-    }
-
     /// The shares with these numerators.
-    pub(crate) fn over(denominator: u128, numerators: [u128; 5]) -> Shares
+    pub(crate) fn over(denominator: u128, numerators: [u128; ARMS]) -> Shares
         requires positive { 0 < denominator }
         requires small { denominator ≤ 163840000 ^ 4 }
         ensures denominator { result.denominator ≡ denominator }
         ensures numerators { result.numerators ≡ numerators }
     {
-        let mut factors = [0u64; 5];
-        for arm in 0..5usize {
+        let mut factors = [0u64; ARMS];
+        for arm in 0..ARMS {
             factors[arm] = factor_of(numerators[arm], denominator);
         }
         Shares {

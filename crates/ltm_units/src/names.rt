@@ -1,13 +1,15 @@
 //! Names of links and nodes.
 ghost use Rattle.std.specs.Prelude.{◌≡◌, Some, None, true, if◌then◌else◌};
-ghost use Rattle.std.specs.Prelude.{◌==◌, refl};
+ghost use Rattle.std.specs.Prelude.{[], ◌∷◌, ◌==◌, refl};
+ghost use Rattle.std.proofs.Common.{ap, sym};
 ghost use Rattle.std.specs.List.{list_all};
 ghost use Rattle.std.specs.Ordering.{nat_cmp};
 ghost use Rattle.std.specs.Cmp.{partial_equiv_from_equiv};
-ghost use Rattle.std.specs.Cmp.Lexicographic.{pointwise, slice_cmp, nat_list_eq_equiv, nat_list_cmp_total, texts_ties, texts_po};
+ghost use Rattle.std.specs.Cmp.Lexicographic.{pointwise, slice_cmp, nat_list_eq_equiv, nat_list_cmp_total, same_text, texts_ties, texts_po};
 ghost use Rattle.ltm_units.specs.Words.{is_name, is_name_byte};
 
 use std::cmp::Ordering;
+use std::hash::{Hash, Hasher};
 use std::marker::Model;
 
 /// The name of a link or a node: 1 to 32 bytes, each an ASCII letter, a digit, `_` or `-`.
@@ -92,6 +94,17 @@ impl PartialEq for Name {
 
 impl Eq for Name {
     ghost laws = { nat_list_eq_equiv };
+}
+
+/// A name is hashed as its bytes, in one piece.
+impl Hash for Name {
+    ghost hash_input = { λ name. name ∷ [] };
+
+    ghost respects_eq = { λ a b equal. ap (λ name. name ∷ []) (same_text a b (sym equal)) };
+
+    fn hash<H: Hasher>(&self, state: &mut H) {
+        state.write(self.bytes());
+    }
 }
 
 impl PartialOrd for Name {

@@ -1,4 +1,7 @@
 //! Worked cases over the crates of a whole loading, by hand or from an independent engine. Tests alone.
+//!
+//! It stands on `ltm_flows` and `ltm_casefile`, and costs nothing at run time. Change it here when the model changes, or a
+//! worked case is added.
 #![tactic(auto)]
 
 #[cfg(test)]

@@ -1,4 +1,4 @@
-//! Cases of whole networks: those of the folder `examples`, and three whose output was computed by another engine.
+//! Cases of whole networks, whose output was computed by another engine. The folder `examples` has more.
 use super::{Status, run_alone};
 use ltm_io::{Doc, MemFolder, MemSink};
 use ltm_units::NoMemory;
@@ -15,42 +15,6 @@ struct Network {
     splits: &'static str,
     signals: &'static str,
     report: &'static str,
-}
-
-/// A queue on a road spills back from a narrower one to the origin.
-fn spillback() -> Network {
-    Network {
-        setup: "step_ms,slots,origin_capacity\n1000,16,1\n",
-        links: "link,from,to,length_m,free_kmh,wave_kmh,jam_per_km\na,n1,n2,20,36,18,150\nb,n2,n3,20,36,18,60\n",
-        demand: "origin,destination,from_slot,to_slot,vehicles\nn1,n3,0,10,7\n",
-        splits: "node,destination,from_slot,weights\nn1,n3,0,a=1\nn2,n3,0,b=1\n",
-        signals: "link,from_slot,to_slot,vehicles\n",
-        report: "version 0 generated 7.000 arrived 2.400 on_links 2.600 waiting 2.000\nlink a in 5.000 out 2.800\nlink b in 2.800 out 2.400\n",
-    }
-}
-
-/// Two roads join, and part for two destinations.
-fn merge() -> Network {
-    Network {
-        setup: "step_ms,slots,origin_capacity\n1000,16,1\n",
-        links: "link,from,to,length_m,free_kmh,wave_kmh,jam_per_km\nwest,w,m,20,36,18,150\nsouth,s,m,20,36,18,300\nmain,m,d,20,36,18,180\neast,d,e,20,36,18,150\nnorth,d,n,20,36,18,150\n",
-        demand: "origin,destination,from_slot,to_slot,vehicles\nw,e,0,4,2\nw,n,0,4,1\ns,n,0,4,3\n",
-        splits: "node,destination,from_slot,weights\nw,e,0,west=1\nm,e,0,main=1\nd,e,0,east=1\nw,n,0,west=1\ns,n,0,south=1\nm,n,0,main=1\nd,n,0,north=1\n",
-        signals: "link,from_slot,to_slot,vehicles\n",
-        report: "version 0 generated 6.000 arrived 5.790 on_links 0.210 waiting 0.000\nlink west in 3.000 out 3.000\nlink south in 3.000 out 3.000\nlink main in 6.000 out 6.000\nlink east in 2.000 out 1.859\nlink north in 4.000 out 3.931\n",
-    }
-}
-
-/// A signal lets a quarter of a vehicle out in a slot.
-fn signal() -> Network {
-    Network {
-        setup: "step_ms,slots,origin_capacity,signals\n1000,4,1,1\n",
-        links: "link,from,to,length_m,free_kmh,wave_kmh,jam_per_km\na,n1,n2,20,36,18,150\n",
-        demand: "origin,destination,from_slot,to_slot,vehicles\nn1,n2,0,2,1\n",
-        splits: "node,destination,from_slot,weights\nn1,n2,0,a=1\n",
-        signals: "link,from_slot,to_slot,vehicles\na,0,4,0.250\n",
-        report: "version 0 generated 1.000 arrived 0.500 on_links 0.500 waiting 0.000\nlink a in 1.000 out 0.500\n",
-    }
 }
 
 /// Two destinations, and a split row that takes the place of another in slot 5.
@@ -114,13 +78,6 @@ fn expect_report<R: Abort + AllocGlobal>(rt: &R, network: &Network) -> Result<()
         network.report
     );
     Ok(())
-}
-
-#[test]
-fn loads_the_examples(rt: HostRuntime) -> Result<(), Fail> {
-    expect_report(&rt, &spillback())?;
-    expect_report(&rt, &merge())?;
-    expect_report(&rt, &signal())
 }
 
 #[test]

@@ -1,6 +1,8 @@
-use Rattle.std.proofs.Common.{◌∙◌, ap}
+use Rattle.std.proofs.Common.{List, ◌≤◌, ◌∙◌, length, take, ap, refl, arith}
 use Rattle.ltm_curve.specs.Table.{counts_of}
+use Rattle.ltm_node.specs.declared.shape.NodeShape.{NodeShape}
 use Rattle.ltm_node.specs.Shape.{width}
+use Rattle.ltm_node.specs.Lending.{with_numbers}
 use Rattle.ltm_setting.specs.Setting.{setting_of}
 use Rattle.ltm_loading.specs.NextPair.{IsPairInputs}
 use Rattle.ltm_inputs.proofs.Whole.{written_row, solvable_inputs}
@@ -12,10 +14,12 @@ returns c =
     let counts = counts_of c.args.curves.now in
     let u = c.args.pair.node.0 in
     let t = c.args.pair.slot in
-    let inputs : IsPairInputs s counts u t c.put_row.new.into =
-    written_row s counts u t c.reshape.new.self c.put_row.new.into (c.reshape.ensures.shape ∙ c.shape_of-shape.ensures.shape) (c.reshape.ensures.width ∙ ap width c.shape_of-shape.ensures.shape) c.put_row.ensures in
+    let room : List _ = c.put_front.new.room in
+    let long : width c.reshape.new.self.shape ≤ length room = omega (arith, c.put_front.auto.room, c.numbers_mut.ensures.room, c.numbers_mut.ensures.fits) in
+    let inputs : IsPairInputs s counts u t (with_numbers c.reshape.new.self room) =
+    written_row s counts u t c.reshape.new.self (with_numbers c.reshape.new.self room) room (c.reshape.ensures.shape ∙ c.shape_of-shape.ensures.shape) refl long (ap (λ (z : NodeShape). take (width z) room) c.reshape.ensures.shape ∙ c.put_front.ensures) in
     record {
       inputs = inputs;
-      room = c.put_row.ensures.room ∙ c.reshape.ensures.room;
-      solvable = solvable_inputs s counts u t c.put_row.new.into inputs (c.in_range.ensures s counts t u c.is_setting.ensures.setting c.requires.ready.front c.requires.ready.now c.requires.node);
+      room = c.reshape.ensures.room;
+      solvable = solvable_inputs s counts u t (with_numbers c.reshape.new.self room) inputs (c.in_range.ensures s counts t u c.is_setting.ensures.setting c.requires.ready.front c.requires.ready.now c.requires.node);
     }

@@ -1,6 +1,5 @@
-use Rattle.std.proofs.Common.{slice_index}
-use Rattle.ltm_inputs.proofs.Putting.{PutsNumbers}
+use Rattle.std.proofs.Common.{◌≡◌, ℕ, ◌<◌, slice_index}
 use Rattle.ltm_inputs.proofs.numbers.put_numbers.Given as goal
 
-abbrev pub invariant-loop-number : goal.invariant-loop-number
-invariant-loop-number l = PutsNumbers l.fn.into l.into l.at l.place l.number-index (slice_index l.numbers)
+abbrev pub invariant-loop-at : goal.invariant-loop-at
+invariant-loop-at l = (k : ℕ) → k < l.at → slice_index l.into k ≡ slice_index l.numbers k

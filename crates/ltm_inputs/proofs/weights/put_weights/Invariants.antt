@@ -1,8 +1,8 @@
 use Rattle.ltm_setting.specs.Setting.{setting_of}
-use Rattle.ltm_inputs.proofs.Putting.{PutsRows}
+use Rattle.ltm_inputs.proofs.Filling.{IsFilledTo}
 use Rattle.ltm_inputs.proofs.weights.put_weights.Given as goal
 
 abbrev pub invariant-loop-destination : goal.invariant-loop-destination
 invariant-loop-destination l =
     let s = setting_of l.scenario in
-    PutsRows l.fn.into l.into l.at l.place l.destination (s.outs l.pair.node.0) (λ d j. s.weight l.pair.node.0 d l.pair.slot j)
+    IsFilledTo l.into l.place l.destination (s.outs l.pair.node.0) (λ d j. s.weight l.pair.node.0 d l.pair.slot j)

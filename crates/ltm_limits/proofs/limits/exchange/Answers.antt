@@ -1,8 +1,8 @@
-use Rattle.std.proofs.Common.{◌≡◌, ◌≢◌, ℕ, ◌+◌, ◌*◌, ◌<◌, ◌≤◌, List, length, get_or, below_more, sym, ap, ◌∙◌, arith, get_or-set_same, get_or-set_other}
+use Rattle.std.proofs.Common.{ℕ, ◌+◌, ◌*◌, ◌<◌, List, length, get_or, below_more, ◌∙◌, arith, get_or-set_same, get_or-set_other}
 use Rattle.std.proofs.lemmas.List.{get_or_default}
 use Rattle.ltm_limits.specs.Limits.{never_set}
 use Rattle.std.proofs.lemmas.Nat.{mul-add-lt}
-use Rattle.std.proofs.Math.Nat.{mul-le-mul_right, mul_comm}
+use Rattle.std.proofs.Math.Nat.{mul_comm}
 use Rattle.ltm_limits.proofs.Rows.{said-set_same, said-set_slot, said-set_link}
 use Rattle.ltm_limits.proofs.limits.exchange.Goals as goal
 

@@ -1,4 +1,4 @@
-use Rattle.std.proofs.Common.{◌≡◌, ℕ, ◌+◌, ◌<◌, ◌≤◌, get_or, vec_len, length}
+use Rattle.std.proofs.Common.{◌≡◌, ℕ, ◌+◌, ◌<◌, ◌≤◌, get_or, vec_len}
 use Rattle.ltm_limits.specs.Tables.{said}
 use Rattle.ltm_limits.proofs.limits.exchange.Given as goal
 

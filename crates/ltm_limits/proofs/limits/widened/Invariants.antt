@@ -1,4 +1,4 @@
-use Rattle.std.proofs.Common.{◌≡◌, ℕ, ◌+◌, ◌/◌, ◌%◌, ◌<◌, get_or, vec_len}
+use Rattle.std.proofs.Common.{◌≡◌, ℕ, ◌/◌, ◌%◌, ◌<◌, get_or, vec_len}
 use Rattle.ltm_limits.specs.Tables.{wide_at}
 use Rattle.ltm_limits.proofs.limits.widened.Given as goal
 

@@ -16,5 +16,7 @@ returns c = λ s counts is loading.
       within_storage = λ l k x y. c.within_storage.ensures (setting_of s) counts v loading l k x y;
       within_produced = λ u d t x m y. omega (arith, c.within_produced.ensures (setting_of s) counts v loading u d (t + 1) x m (omega arith), by_next s.demand u d t);
       conserved = λ d k m y. c.conserved.ensures (setting_of s) counts v loading d k m y;
+      left_has_entered = λ l d k x m y. c.left_has_entered.ensures (setting_of s) counts v loading l d k x m y;
+      adds_up = λ k y. omega (arith, (c.adds_up.ensures (setting_of s) counts v loading k y).0, (c.adds_up.ensures (setting_of s) counts v loading k y).1);
       one = λ other b. c.one_loading.ensures (setting_of s) counts other v loading b;
     }

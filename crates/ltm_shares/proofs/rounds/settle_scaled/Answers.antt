@@ -1,9 +1,9 @@
-use Rattle.std.proofs.Common.{◌≡◌, ◌≤◌, ℕ, ◌*◌, arith, ap, slice_index, List}
+use Rattle.std.proofs.Common.{◌<◌, ◌≡◌, ◌≤◌, ℕ, ◌*◌, arith, ap, slice_index, List}
 use Rattle.ltm_shares.specs.Demands.{demands_of}
 use Rattle.ltm_shares.proofs.Levels.{room, is_open_scaling, scaling_starts}
 use Rattle.ltm_shares.proofs.Steps.{denominator_times, left_times, left_fits_scaling, pending_small, numerator_times, tightest_small, scaled_fixed, scaled_skipped, scaled_sound, scaled_fewer}
 use Rattle.ltm_shares.proofs.rounds.settle_scaled.Goals as goal
-use Rattle.ltm_shares.proofs.rounds.settle_scaled.Goals.{then-pending-gt0+then-demands-arm-gt0, else-pending-gt0, else-pending-gt0-via-then-pending-gt0+else-demands-arm-gt0, else-pending-gt0-via-else-pending-gt0}
+use Rattle.ltm_shares.proofs.rounds.settle_scaled.Goals.{then-pending-gt0+then-at-gt0, else-pending-gt0, else-pending-gt0-via-then-pending-gt0+else-at-gt0, else-pending-gt0-via-else-pending-gt0}
 
 pub scale-requires-clause-fits : goal.scale-requires-clause-fits
 scale-requires-clause-fits c =
@@ -57,13 +57,14 @@ loop-arm-preserved c =
     let arm : ℕ = c.loop-arm.arm in
     let start : slice_index c.loop-arm.progress.pending arm ≡ slice_index c.args.progress.now.pending arm = c.loop-arm.invariant.rest arm (omega arith) in
     elim c.if-pending-gt0.branch [
-      | then-pending-gt0+then-demands-arm-gt0 w ↦
+      | then-pending-gt0+then-at-gt0 w ↦
+          let used : 0 < (demands_of c.args.demands.now).sending arm c.args.out = omega (arith, w.if-at-gt0.true, w.at.ensures) in
           rw w.progress-is (scaled_fixed n x c.args.weight c.args.out arm c.args.progress.now c.loop-arm.progress w.fix.new.progress c.loop-arm.invariant c.requires.tight.is_out
-          c.loop-arm-test.true w.if-demands-arm-gt0.true w.if-pending-gt0.true
-          (omega (arith, c.loop-arm.invariant.denominator, c.requires.none arm c.loop-arm-test.true w.if-demands-arm-gt0.true (omega (arith, w.if-pending-gt0.true, start)), ap (λ z. x * z) start))
+          c.loop-arm-test.true used w.if-pending-gt0.true
+          (omega (arith, c.loop-arm.invariant.denominator, c.requires.none arm c.loop-arm-test.true used (omega (arith, w.if-pending-gt0.true, start)), ap (λ z. x * z) start))
           (rw (w.product-share.ensures, w.from.ensures) at w.fix.ensures))
       | else-pending-gt0 w ↦ rw w.progress-is (scaled_skipped n x c.args.weight c.args.out arm c.args.progress.now c.loop-arm.progress c.loop-arm.invariant (λ used. elim w.else-pending-gt0.branch [
-        | else-pending-gt0-via-then-pending-gt0+else-demands-arm-gt0 v ↦ absurd (omega (arith, v.if-demands-arm-gt0.false))
+        | else-pending-gt0-via-then-pending-gt0+else-at-gt0 v ↦ absurd (omega (arith, v.if-at-gt0.false, v.at.ensures))
         | else-pending-gt0-via-else-pending-gt0 v ↦ omega (arith, v.if-pending-gt0.false)
       ]))
     ]

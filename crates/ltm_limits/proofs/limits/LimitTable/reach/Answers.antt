@@ -1,6 +1,5 @@
-use Rattle.std.proofs.Common.{◌≡◌, ℕ, ◌*◌, ◌≤◌, List, length, ap, sym, ◌∙◌, arith}
+use Rattle.std.proofs.Common.{◌≡◌, ◌*◌, length, ap, sym, ◌∙◌, arith}
 use Rattle.ltm_limits.specs.Limits.{LimitsState}
-use Rattle.ltm_limits.specs.Tables.{limits_in}
 use Rattle.ltm_limits.proofs.Rows.{limits_long, limits_reach}
 use Rattle.ltm_limits.proofs.limits.LimitTable.reach.Goals as goal
 

@@ -1,0 +1,16 @@
+use Rattle.std.proofs.Common.{ap, arith}
+use Rattle.ltm_index.proofs.Linked.{first_low}
+use Rattle.ltm_index.proofs.Putting.{put}
+use Rattle.ltm_index.proofs.lists.put_first.Goals as goal
+
+pub set_before-requires-clause-pointer : goal.set_before-requires-clause-pointer
+set_before-requires-clause-pointer c =
+    omega (arith, first_low c.args.cells.now c.args.link c.args.boundary c.requires.lists c.requires.link, ap (λ x. x.first) c.get-first.ensures)
+
+pub returns-clause-lists : goal.returns-clause-lists
+returns-clause-lists c =
+    (put _ _ _ _ _ _ _ _ _ c.get-cell-2.result c.requires.lists c.requires.link c.requires.slot c.requires.free (ap (λ x. x.first) c.get-first.ensures) c.set_before.ensures c.get-cell.ensures c.put.ensures c.get-cell-2.ensures c.put-2.ensures).0
+
+pub returns-clause-put : goal.returns-clause-put
+returns-clause-put c =
+    (put _ _ _ _ _ _ _ _ _ c.get-cell-2.result c.requires.lists c.requires.link c.requires.slot c.requires.free (ap (λ x. x.first) c.get-first.ensures) c.set_before.ensures c.get-cell.ensures c.put.ensures c.get-cell-2.ensures c.put-2.ensures).1

@@ -1,0 +1,21 @@
+//! Which slots read which boundary of a link.
+//!
+//! A slot reads the counts of a link as they were at some earlier boundary. `ReadIndex` keeps for each link and boundary
+//! the list of these slots, so that a change at a boundary is told to the slots that read it and to no other.
+//!
+//! It stands on `ltm_units` alone. Each call costs a handful of steps, whatever the lists hold, and no memory; only
+//! `create` and `reserve` take memory, sixteen bytes for each link and boundary. The lists are doubly linked through one
+//! flat table in which all numbers of a boundary lie side by side, so that a longer horizon adds numbers at the end.
+//! Change it here where the lists are to be kept in another way: contracts speak of `list_of` and `entry_of` alone.
+#![tactic(auto)]
+
+mod cells;
+mod laws;
+mod lists;
+mod read_index;
+
+pub use laws::slots_stand_by_entry;
+pub use read_index::ReadIndex;
+
+#[cfg(test)]
+mod tests;

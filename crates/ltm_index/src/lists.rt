@@ -1,0 +1,95 @@
+//! Taking a slot out of its list, and putting it first in one.
+ghost use Rattle.std.specs.Prelude.{◌≡◌, ℕ, ◌+◌, ◌*◌, ◌<◌, ◌≤◌};
+ghost use Rattle.ltm_index.specs.Cells.{entry_at, AreLists, SetsAfter, SetsBefore, TakesOut, PutsFirst};
+
+use crate::cells::{Cell, Cells};
+
+/// Lets a pointer of a boundary's list lead on to another one: 0 stands before the list.
+#[inline]
+fn set_after(cells: &mut Cells, link: u32, boundary: u32, pointer: u32, to: u32)
+    requires link { link < cells.old.links }
+    requires boundary { boundary ≤ cells.old.room }
+    requires pointer { pointer ≤ cells.old.room + 1 }
+    ensures { SetsAfter cells.old cells.new link boundary pointer to }
+{
+    if pointer == 0 {
+        let cell = cells.get(link, boundary);
+        cells.put(link, boundary, Cell { first: to, ..cell });
+    } else {
+        let cell = cells.get(link, pointer - 1);
+        cells.put(link, pointer - 1, Cell { next: to, ..cell });
+    }
+}
+
+/// Lets the slot that a pointer names, if any, lead back to another one.
+#[inline]
+fn set_before(cells: &mut Cells, link: u32, pointer: u32, to: u32)
+    requires link { link < cells.old.links }
+    requires pointer { pointer ≤ cells.old.room + 1 }
+    ensures { SetsBefore cells.old cells.new link pointer to }
+{
+    if pointer > 0 {
+        let cell = cells.get(link, pointer - 1);
+        cells.put(
+            link,
+            pointer - 1,
+            Cell {
+                previous: to,
+                ..cell
+            },
+        );
+    }
+}
+
+/// Takes a slot out of the list of its link in which it stands, if any.
+#[inline]
+pub fn take_out(cells: &mut Cells, link: u32, slot: u32)
+    requires lists { AreLists cells.old }
+    requires link { link < cells.old.links }
+    requires slot { slot < cells.old.room }
+    ensures lists { AreLists cells.new }
+    ensures taken { TakesOut cells.old cells.new link slot }
+{
+    let cell = cells.get(link, slot);
+    if cell.entry > 0 {
+        set_after(cells, link, cell.entry - 1, cell.previous, cell.next);
+        set_before(cells, link, cell.next, cell.previous);
+        let cell = cells.get(link, slot);
+        cells.put(link, slot, Cell { entry: 0, ..cell });
+    }
+}
+
+/// Puts a slot that stands in no list of its link first in that of a boundary.
+#[inline]
+pub fn put_first(cells: &mut Cells, link: u32, slot: u32, boundary: u32)
+    requires lists { AreLists cells.old }
+    requires link { link < cells.old.links }
+    requires slot { slot < cells.old.room }
+    requires boundary { boundary ≤ cells.old.room }
+    requires free { entry_at cells.old link slot ≡ 0 }
+    ensures lists { AreLists cells.new }
+    ensures put { PutsFirst cells.old cells.new link slot boundary }
+{
+    let first = cells.get(link, boundary).first;
+    set_before(cells, link, first, slot + 1);
+    let cell = cells.get(link, slot);
+    cells.put(
+        link,
+        slot,
+        Cell {
+            next: first,
+            previous: 0,
+            entry: boundary + 1,
+            ..cell
+        },
+    );
+    let cell = cells.get(link, boundary);
+    cells.put(
+        link,
+        boundary,
+        Cell {
+            first: slot + 1,
+            ..cell
+        },
+    );
+}

@@ -1,0 +1,24 @@
+use Rattle.ltm_curve.specs.Table.{counts_of}
+use Rattle.ltm_setting.specs.Setting.{setting_of}
+use Rattle.ltm_inputs.proofs.Idle.{idle_of_zeros, zeros_of_idle}
+use Rattle.ltm_inputs.proofs.inputs.put_row_if_sent.Goals as goal
+
+pub returns-then-sent-clause-idle : goal.returns-then-sent-clause-idle
+returns-then-sent-clause-idle c =
+    let s = setting_of c.args.scenario.now in
+    let counts = counts_of c.args.curves.now in
+    let u = c.args.pair.node.0 in
+    let t = c.args.pair.slot in (
+      λ is. idle_of_zeros s counts u t c.put_sending.new.into c.put_sending.ensures (c.is_any_sent-sent.ensures.0 is),
+      λ idle. c.is_any_sent-sent.ensures.1 (zeros_of_idle s counts u t c.put_sending.new.into c.put_sending.ensures idle),
+    )
+
+pub returns-else-sent-clause-idle : goal.returns-else-sent-clause-idle
+returns-else-sent-clause-idle c =
+    let s = setting_of c.args.scenario.now in
+    let counts = counts_of c.args.curves.now in
+    let u = c.args.pair.node.0 in
+    let t = c.args.pair.slot in (
+      λ is. idle_of_zeros s counts u t c.put_sending.new.into c.put_sending.ensures (c.is_any_sent-sent.ensures.0 is),
+      λ idle. c.is_any_sent-sent.ensures.1 (zeros_of_idle s counts u t c.put_sending.new.into c.put_sending.ensures idle),
+    )

@@ -1,0 +1,78 @@
+-- What a node step keeps: its shape, what has arrived where there is no sink, and all counts where nothing is sent.
+use Rattle.std.proofs.Common.{◌≡◌, ℕ, ◌*◌, ◌<◌, Option, None, arith, ap, sym, ◌∙◌}
+use Rattle.std.proofs.Math.Logic.{∥∥₁_elim}
+use Rattle.std.proofs.Math.Nat.{ℕ_set}
+use Rattle.std.proofs.Props.{props}
+use Rattle.ltm_units.specs.Sums.{sum_below}
+use Rattle.ltm_units.proofs.Sums.{sum_below-zero}
+use Rattle.ltm_shares.specs.Shares.{AreShares, inflow}
+use Rattle.ltm_node.specs.declared.shape.NodeShape.{NodeShape}
+use Rattle.ltm_node.specs.Shape.{counts_width, is_this}
+use Rattle.ltm_node.specs.Inputs.{Inputs}
+use Rattle.ltm_node.specs.Demands.{part, sent_into, demands}
+use Rattle.ltm_node.specs.Step.{moved, sunk, come, sunk_in_all, StepShares}
+use Rattle.ltm_node.specs.Laws.{SameShape, NoArrivals, NothingIsSent, NothingMoves}
+use Rattle.ltm_node.proofs.Ranges.{moved_nothing, sunk_nothing, sunk_elsewhere, part_le}
+
+NodeShape-set : IsSet NodeShape
+NodeShape-set = hlevel (ℕ_set, props)
+
+pub same_shape_holds : SameShape
+same_shape_holds n o step = (
+  ∥∥₁_elim step (NodeShape-set _ _) (λ (x : StepShares n o). x.moves.shape),
+  ∥∥₁_elim step (ℕ_set _ _) (λ (x : StepShares n o). x.moves.width ∙ ap counts_width (sym x.moves.shape)),
+)
+
+-- nothing is sunk at a node that is no destination
+none_sunk : (n : Inputs) (e : ℕ) (p : ℕ → ℕ) → n.shape.own ≡ None → sunk_in_all n e p ≡ 0
+none_sunk n e p own =
+    sum_below-zero n.shape.arms (λ i. sum_below n.shape.destinations (λ d. sunk n e p i d)) (λ i l.
+    sum_below-zero n.shape.destinations (λ d. sunk n e p i d) (λ d m. sunk_elsewhere n e p i d (ap (λ (z : Option ℕ). is_this z d) own)))
+
+pub no_arrivals_holds : NoArrivals
+no_arrivals_holds n o step own =
+    ∥∥₁_elim step (ℕ_set _ _) (λ (x : StepShares n o). omega (arith, x.moves.arrived, none_sunk n x.denominator x.numerators own))
+
+-- at shares of 1
+abbrev all : ℕ → ℕ
+all arm = 1
+
+nothing_moved : (n : Inputs) → NothingIsSent n → (i d j : ℕ) → i < n.shape.arms → d < n.shape.destinations → moved n 1 all i d j ≡ 0
+nothing_moved n none i d j l m = moved_nothing n 1 all i d j (none i d l m)
+
+nothing_sunk : (n : Inputs) → NothingIsSent n → (i d : ℕ) → i < n.shape.arms → d < n.shape.destinations → sunk n 1 all i d ≡ 0
+nothing_sunk n none i d l m = sunk_nothing n 1 all i d (none i d l m)
+
+nothing_into : (n : Inputs) → NothingIsSent n → (i j : ℕ) → i < n.shape.arms → sent_into n i j ≡ 0
+nothing_into n none i j l = sum_below-zero n.shape.destinations (λ d. part n i d j) (λ d m. omega (arith, part_le n i d j, none i d l m))
+
+nothing_shares : (n : Inputs) → NothingIsSent n → AreShares (demands n) 1 all
+nothing_shares n none =
+    record {
+      positive = omega arith;
+      at_most_all = λ i l. omega arith;
+      within_supply = λ j l.
+          let flow : inflow (demands n) all j ≡ 0 = sum_below-zero n.shape.arms (λ i. all i * sent_into n i j) (λ i m. omega (arith, ap (λ z. all i * z) (nothing_into n none i j m))) in omega arith;
+      held_back = λ i l less. absurd (omega arith);
+    }
+
+pub nothing_moves_holds : NothingMoves
+nothing_moves_holds n o none stays = ∣ record {
+  denominator = 1;
+  numerators = all;
+  shares = nothing_shares n none;
+  moves = record {
+    shape = stays.shape;
+    width = stays.width;
+    left = λ i d l m.
+        let out : sum_below n.shape.outs (λ j. moved n 1 all i d j) ≡ 0 = sum_below-zero n.shape.outs (λ j. moved n 1 all i d j) (λ j x. nothing_moved n none i d j l m) in
+        omega (arith, stays.left i d l m, nothing_sunk n none i d l m);
+    entered = λ j d l m.
+        let in_all : come n 1 all j d ≡ 0 = sum_below-zero n.shape.arms (λ i. moved n 1 all i d j) (λ i x. nothing_moved n none i d j x m) in
+        omega (arith, stays.entered j d l m);
+    arrived =
+        let sink : sunk_in_all n 1 all ≡ 0 =
+        sum_below-zero n.shape.arms (λ i. sum_below n.shape.destinations (λ d. sunk n 1 all i d)) (λ i l. sum_below-zero n.shape.destinations (λ d. sunk n 1 all i d) (λ d m. nothing_sunk n none i d l m)) in
+        omega (arith, stays.arrived);
+  };
+} ∣₁

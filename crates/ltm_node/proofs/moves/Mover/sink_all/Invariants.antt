@@ -1,0 +1,5 @@
+use Rattle.ltm_node.specs.Moving.{IsMovingAt}
+use Rattle.ltm_node.proofs.moves.Mover.sink_all.Given as goal
+
+abbrev pub invariant-loop-arm : goal.invariant-loop-arm
+invariant-loop-arm l = IsMovingAt l.self l.destination l.arm l.row l.sent

@@ -1,0 +1,135 @@
+use Rattle.std.proofs.Common.{◌≡◌, ◌≤◌, ◌<◌, ℕ, ◌+◌, ◌-◌, ◌*◌, ◌/◌, ◌∙◌, ap, arith, rules, subst, sym, List, sum, get_or, length, slice_index}
+use Rattle.ltm_units.specs.Nested.{nested_split}
+use Rattle.ltm_units.proofs.Sums.{sum_below_more}
+use Rattle.ltm_shares.specs.Sent.{sent_at}
+use Rattle.ltm_node.specs.declared.loads.Part.{Part}
+use Rattle.ltm_node.specs.Inputs.{weights}
+use Rattle.ltm_node.specs.Solvable.{IsSolvable}
+use Rattle.ltm_node.specs.Portion.{denominator, numerator, AreFractions}
+use Rattle.ltm_node.specs.Splitting.{IsSplitUpTo}
+use Rattle.ltm_node.specs.Step.{moved}
+use Rattle.ltm_node.specs.Moving.{IsMoving, IsPart}
+use Rattle.ltm_node.proofs.Ranges.{sending_small, weights_fit, part_is, moved_none, moved_small, moved_out_small}
+use Rattle.ltm_node.proofs.Splitting.{out_within, weight_within_rest, part_next, split_next, split_ended, sum_ended}
+use Rattle.ltm_node.proofs.Amounts.{entered_past}
+use Rattle.ltm_node.proofs.moves.Mover.split.Goals as goal
+
+pub part_of-requires-clause-left : goal.part_of-requires-clause-left
+part_of-requires-clause-left c =
+    let n = c.args.self.now.inputs.now in
+    let s : IsSolvable n = search rules in
+    omega (arith, c.loop-rest.invariant.split.within, c.requires.load.amount, sending_small n c.args.load.arm c.args.load.destination s c.requires.load.arm c.requires.load.destination)
+
+pub part_of-requires-clause-weight : goal.part_of-requires-clause-weight
+part_of-requires-clause-weight c =
+    let ws : List ℕ = weights c.args.self.now.inputs.now c.args.load.destination in
+    let split : IsSplitUpTo c.args.load.amount ws c.loop-rest.out c.loop-rest.left c.loop-rest.rest = c.loop-rest.invariant.split in
+    omega (
+      arith,
+      weight_within_rest c.args.load.amount ws c.loop-rest.out c.loop-rest.left c.loop-rest.rest split (out_within c.args.load.amount ws c.loop-rest.out c.loop-rest.left c.loop-rest.rest split c.loop-rest-test.true),
+      ap (λ (zs : List ℕ). get_or zs c.loop-rest.out 0) c.weights-weights.ensures.weights,
+    )
+
+pub part_of-requires-clause-rest : goal.part_of-requires-clause-rest
+part_of-requires-clause-rest c =
+    let n = c.args.self.now.inputs.now in
+    let s : IsSolvable n = search rules in
+    omega (
+      arith,
+      c.loop-rest.invariant.split.fewer,
+      ap sum c.weights-weights.ensures.weights,
+      weights_fit n c.args.load.destination c.weights-weights.result.now s.few_outs (λ k l. s.weights c.args.load.destination k c.requires.load.destination l) c.weights-weights.ensures.weights c.weights-weights.ensures.outs,
+    )
+
+pub overflow_sub-rest : goal.overflow_sub-rest
+overflow_sub-rest c =
+    let ws : List ℕ = weights c.args.self.now.inputs.now c.args.load.destination in
+    let split : IsSplitUpTo c.args.load.amount ws c.loop-rest.out c.loop-rest.left c.loop-rest.rest = c.loop-rest.invariant.split in
+    omega (
+      arith,
+      weight_within_rest c.args.load.amount ws c.loop-rest.out c.loop-rest.left c.loop-rest.rest split (out_within c.args.load.amount ws c.loop-rest.out c.loop-rest.left c.loop-rest.rest split c.loop-rest-test.true),
+      ap (λ (zs : List ℕ). get_or zs c.loop-rest.out 0) c.weights-weights.ensures.weights,
+    )
+
+pub enter-total-requires-clause-part : goal.enter-total-requires-clause-part
+enter-total-requires-clause-part c =
+    let n = c.args.self.now.inputs.now in
+    let a : ℕ = c.args.load.arm in
+    let b : ℕ = c.args.load.destination in
+    let k : ℕ = c.loop-rest.out in
+    let ws : List ℕ = weights n b in
+    let split : IsSplitUpTo c.args.load.amount ws k c.loop-rest.left c.loop-rest.rest = c.loop-rest.invariant.split in
+    let inside : k < length ws = out_within c.args.load.amount ws k c.loop-rest.left c.loop-rest.rest split c.loop-rest-test.true in
+    let weight : get_or c.weights-weights.result.now k 0 ≡ get_or ws k 0 = ap (λ (zs : List ℕ). get_or zs k 0) c.weights-weights.ensures.weights in
+    let share : c.part_of.result ≡ c.loop-rest.left * get_or ws k 0 / c.loop-rest.rest = c.part_of.ensures.part ∙ ap (λ z. c.loop-rest.left * z / c.loop-rest.rest) weight in
+    let part : c.part_of.result ≡ slice_index (nested_split c.args.load.amount ws) k = part_next c.args.load.amount ws k c.loop-rest.left c.loop-rest.rest c.part_of.result split inside share in
+    subst (IsPart n) (sym c.by-part.ensures) (record {
+      arm = c.requires.load.arm;
+      destination = c.requires.load.destination;
+      out = omega (arith, inside, ap length c.weights-weights.ensures.weights, c.weights-weights.ensures.outs);
+      amount = part_is n c.args.load.amount a b k c.part_of.result c.requires.elsewhere c.requires.load.amount part;
+    })
+
+pub overflow_add-total : goal.overflow_add-total
+overflow_add-total c =
+    let n = c.args.self.now.inputs.now in
+    let e : ℕ = denominator c.args.self.now.portion.now in
+    let p : ℕ → ℕ = numerator c.args.self.now.portion.now in
+    let s : IsSolvable n = search rules in
+    let fractions : AreFractions n c.args.self.now.portion.now = search rules in
+    let a : ℕ = c.args.load.arm in
+    let b : ℕ = c.args.load.destination in
+    let k : ℕ = c.loop-rest.out in
+    let f : p a ≤ e = fractions.at_most_all a c.requires.load.arm in
+    let share : c.enter-total.result ≡ moved n e p a b k = c.enter-total.ensures.moved ∙ ap (λ (q : Part). moved n e p q.arm q.destination q.out) c.by-part.ensures in
+    let small : moved n e p a b k ≤ 32000 = moved_small n e p a b k s f c.requires.load.arm c.requires.load.destination in
+    omega (arith, c.loop-rest.invariant.total, moved_out_small n e p a b k s f c.requires.load.arm c.requires.load.destination, c.loop-rest.invariant.within, s.few_outs)
+
+pub loop-rest-preserved : goal.loop-rest-preserved
+loop-rest-preserved c =
+    let n = c.args.self.now.inputs.now in
+    let e : ℕ = denominator c.args.self.now.portion.now in
+    let p : ℕ → ℕ = numerator c.args.self.now.portion.now in
+    let a : ℕ = c.args.load.arm in
+    let b : ℕ = c.args.load.destination in
+    let k : ℕ = c.loop-rest.out in
+    let ws : List ℕ = weights n b in
+    let split : IsSplitUpTo c.args.load.amount ws k c.loop-rest.left c.loop-rest.rest = c.loop-rest.invariant.split in
+    let inside : k < length ws = out_within c.args.load.amount ws k c.loop-rest.left c.loop-rest.rest split c.loop-rest-test.true in
+    let weight : get_or c.weights-weights.result.now k 0 ≡ get_or ws k 0 = ap (λ (zs : List ℕ). get_or zs k 0) c.weights-weights.ensures.weights in
+    let v : ℕ = c.by-part.result.amount in
+    let share : v ≡ c.loop-rest.left * get_or ws k 0 / c.loop-rest.rest =
+    ap (λ (q : Part). q.amount) c.by-part.ensures ∙ (c.part_of.ensures.part ∙ ap (λ z. c.loop-rest.left * z / c.loop-rest.rest) weight) in
+    let next : c.enter-total.result ≡ moved n e p a b k = c.enter-total.ensures.moved ∙ ap (λ (q : Part). moved n e p q.arm q.destination q.out) c.by-part.ensures in
+    record {
+      within = omega (arith, inside, ap length c.weights-weights.ensures.weights, c.weights-weights.ensures.outs);
+      split = subst (λ (z : ℕ). IsSplitUpTo c.args.load.amount ws (k + 1) (c.loop-rest.left - v) (c.loop-rest.rest - z)) (sym weight) (split_next c.args.load.amount ws k c.loop-rest.left c.loop-rest.rest v split inside share);
+      total = omega (arith, c.loop-rest.invariant.total, sum_below_more (λ j. moved n e p a b j) k);
+      moving = subst (λ (q : Part). IsMoving n e p q.destination q.arm (q.out + 1) c.enter-total.new.row (sent_at c.enter-total.new.sent)) c.by-part.ensures c.enter-total.ensures.after;
+    }
+
+pub leave-requires-clause-total : goal.leave-requires-clause-total
+leave-requires-clause-total c =
+    let n = c.args.self.now.inputs.now in
+    let e : ℕ = denominator c.args.self.now.portion.now in
+    let p : ℕ → ℕ = numerator c.args.self.now.portion.now in
+    let a : ℕ = c.args.load.arm in
+    let b : ℕ = c.args.load.destination in
+    let k : ℕ = c.loop-rest.out in
+    let none : c.loop-rest.rest ≡ 0 = omega (arith, c.loop-rest-test.false) in
+    c.loop-rest.invariant.total
+    ∙ sym (sum_ended n.shape.outs k (λ j. moved n e p a b j) c.loop-rest.invariant.within (λ j more.
+    moved_none n e p a b j (sym (part_is n c.args.load.amount a b j 0 c.requires.elsewhere c.requires.load.amount (sym (split_ended c.args.load.amount (weights n b) k c.loop-rest.left c.loop-rest.rest j c.loop-rest.invariant.split none more))))))
+
+pub leave-requires-clause-before : goal.leave-requires-clause-before
+leave-requires-clause-before c =
+    let n = c.args.self.now.inputs.now in
+    let e : ℕ = denominator c.args.self.now.portion.now in
+    let p : ℕ → ℕ = numerator c.args.self.now.portion.now in
+    let s : IsSolvable n = search rules in
+    let a : ℕ = c.args.load.arm in
+    let b : ℕ = c.args.load.destination in
+    let k : ℕ = c.loop-rest.out in
+    let none : c.loop-rest.rest ≡ 0 = omega (arith, c.loop-rest-test.false) in
+    entered_past n e p b a k n.shape.outs c.loop-rest.row (sent_at c.loop-rest.sent) s c.loop-rest.invariant.moving c.loop-rest.invariant.within (omega arith) (λ j more _.
+    moved_none n e p a b j (sym (part_is n c.args.load.amount a b j 0 c.requires.elsewhere c.requires.load.amount (sym (split_ended c.args.load.amount (weights n b) k c.loop-rest.left c.loop-rest.rest j c.loop-rest.invariant.split none more)))))

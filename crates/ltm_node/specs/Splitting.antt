@@ -1,0 +1,9 @@
+use Rattle.std.specs.Prelude.{◌≡◌, ℕ, ◌+◌, ◌≤◌, List, drop, sum, slice_index}
+use Rattle.ltm_units.specs.Nested.{nested_split}
+
+-- an amount is split over the first weights: so much is left of it, and so much of the sum of the weights
+pub record IsSplitUpTo (amount : ℕ) (weights : List ℕ) (first left rest : ℕ) : Type 0 where
+  pub within : left ≤ amount
+  pub fewer : rest ≤ sum weights
+  pub whole : rest ≡ sum (drop first weights)
+  pub parts : (k : ℕ) → slice_index (nested_split amount weights) (first + k) ≡ slice_index (nested_split left (drop first weights)) k

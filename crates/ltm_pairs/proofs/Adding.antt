@@ -1,0 +1,78 @@
+-- Reaches are added one after another.
+use Rattle.std.proofs.Common.{◌≡◌, ℕ, ◌+◌, ◌<◌, ◌≤◌, ◌||◌, Bool, true, false, All, List, [], ◌∷◌, ◌++◌, length, arith, refl, ap, sym, ◌∙◌, subst, add-one, length-append}
+use Rattle.std.proofs.lemmas.List.Folds.{list_any-append}
+use Rattle.std.proofs.lemmas.List.Elements.{All-append, All-cons}
+use Rattle.ltm_units.specs.declared.places.Reach.{Reach}
+use Rattle.ltm_loading.specs.Setting.{Setting}
+use Rattle.ltm_pairs.specs.Reaches.{SpreadData, lies_in, lies_in_one}
+use Rattle.ltm_pairs.specs.Changes.{some_below}
+use Rattle.ltm_pairs.specs.Adding.{IsFrom, Adds}
+
+or_none : (a : Bool) → a || false ≡ a
+or_none true = refl
+or_none false = refl
+
+or_assoc : (a b c : Bool) → (a || b) || c ≡ a || (b || c)
+or_assoc true b c = refl
+or_assoc false b c = refl
+
+-- one reach more is as the others are
+all_more : (s : Setting) (k : ℕ) (rs : List Reach) (r : Reach) → IsFrom s k r → All (IsFrom s k) rs → All (IsFrom s k) (rs ++ r ∷ [])
+all_more s k rs r from h = All-append (IsFrom s k) rs (r ∷ []) h (All-cons (IsFrom s k) r [] from (λ i d l. absurd (omega arith)))
+
+pub from_push : (s : Setting) (k : ℕ) (old new : SpreadData) (r : Reach) → new ≡ record old { reaches = old.reaches ++ r ∷ [] } → IsFrom s k r → All (IsFrom s k) old.reaches → All (IsFrom s k) new.reaches
+from_push s k old new r is from h = subst (λ (d : SpreadData). All (IsFrom s k) d.reaches) (sym is) (all_more s k old.reaches r from h)
+
+pub adds_none : (s : Setting) (k : ℕ) (d : SpreadData) → Adds s k 0 d d (λ w v. false)
+adds_none s k d = record {
+  each = λ w v l. sym (or_none (lies_in_one d.reaches w v));
+  more = omega arith;
+  from = λ h. h;
+  all_new = refl;
+}
+
+pub adds_one : (s : Setting) (k : ℕ) (old new : SpreadData) (r : Reach) (reads : ℕ → ℕ → Bool) → new ≡ record old { reaches = old.reaches ++ r ∷ [] } → IsFrom s k r →
+    ((w v : ℕ) → v < s.slots → lies_in w v r ≡ reads w v) → Adds s k 1 old new reads
+adds_one s k old new r reads is from each = record {
+  each = λ w v l.
+      ap (λ (d : SpreadData). lies_in_one d.reaches w v) is
+      ∙ (list_any-append (lies_in w v) old.reaches (r ∷ [])
+      ∙ ap (λ b. lies_in_one old.reaches w v || b) (or_none (lies_in w v r) ∙ each w v l));
+  more = let e : length new.reaches ≡ length (old.reaches ++ r ∷ []) = ap (λ (d : SpreadData). length d.reaches) is in omega (e, length-append old.reaches (r ∷ []), arith);
+  from = from_push s k old new r is from;
+  all_new = ap (λ (d : SpreadData). d.all_new) is;
+}
+
+pub adds_both : (s : Setting) (k m n : ℕ) (old mid new : SpreadData) (f g : ℕ → ℕ → Bool) → Adds s k m old mid f → Adds s k n mid new g → Adds s k (m + n) old new (λ w v. f w v || g w v)
+adds_both s k m n old mid new f g first second = record {
+  each = λ w v l. second.each w v l ∙ (ap (λ b. b || g w v) (first.each w v l) ∙ or_assoc (lies_in_one old.reaches w v) (f w v) (g w v));
+  more = omega (first.more, second.more, arith);
+  from = λ h. second.from (first.from h);
+  all_new = second.all_new ∙ first.all_new;
+}
+
+-- the same test in other words, and room for more
+pub adds_as : (s : Setting) (k m n : ℕ) (old new : SpreadData) (f g : ℕ → ℕ → Bool) → Adds s k m old new f → ((w v : ℕ) → f w v ≡ g w v) → m ≤ n → Adds s k n old new g
+adds_as s k m n old new f g adds same fits = record {
+  each = λ w v l. adds.each w v l ∙ ap (λ b. lies_in_one old.reaches w v || b) (same w v);
+  more = omega (adds.more, fits, arith);
+  from = adds.from;
+  all_new = adds.all_new;
+}
+
+pub one_more : (n : ℕ) (f : ℕ → Bool) → some_below (n + 1) f ≡ some_below n f || f n
+one_more n f = rw add-one refl
+
+-- one more place: with its reach, or without where it has none
+pub adds_next : (s : Setting) (k n : ℕ) (old mid new : SpreadData) (f : ℕ → ℕ → ℕ → Bool) (g : ℕ → ℕ → Bool) → Adds s k n old mid (λ w v. some_below n (f w v)) → Adds s k 1 mid new g →
+    ((w v : ℕ) → g w v ≡ f w v n) → Adds s k (n + 1) old new (λ w v. some_below (n + 1) (f w v))
+adds_next s k n old mid new f g first next same =
+    adds_as s k (n + 1) (n + 1) old new (λ w v. some_below n (f w v) || g w v) (λ w v. some_below (n + 1) (f w v))
+    (adds_both s k n 1 old mid new (λ w v. some_below n (f w v)) g first next)
+    (λ w v. ap (λ b. some_below n (f w v) || b) (same w v) ∙ sym (one_more n (f w v))) (omega arith)
+
+pub adds_no_next : (s : Setting) (k n : ℕ) (old mid : SpreadData) (f : ℕ → ℕ → ℕ → Bool) → Adds s k n old mid (λ w v. some_below n (f w v)) → ((w v : ℕ) → f w v n ≡ false) →
+    Adds s k (n + 1) old mid (λ w v. some_below (n + 1) (f w v))
+adds_no_next s k n old mid f first none =
+    adds_as s k n (n + 1) old mid (λ w v. some_below n (f w v)) (λ w v. some_below (n + 1) (f w v)) first
+    (λ w v. sym (one_more n (f w v) ∙ (ap (λ b. some_below n (f w v) || b) (none w v) ∙ or_none (some_below n (f w v))))) (omega arith)

@@ -1,0 +1,15 @@
+pub mod EditLaws
+pub mod Touching
+pub mod EditReaches
+pub mod EditKeeps
+pub mod Bools
+pub mod Positions
+pub mod Bystanders
+pub mod OwnCounts
+pub mod Links
+pub mod ReadersAll
+pub mod DependentsAll
+pub mod Waking
+pub mod Slots
+pub mod Adding
+pub mod Together

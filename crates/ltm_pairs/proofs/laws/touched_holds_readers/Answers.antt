@@ -1,0 +1,13 @@
+use Rattle.ltm_pairs.proofs.EditReaches.{touched_holds_readers}
+use Rattle.ltm_pairs.proofs.laws.touched_holds_readers.Goals as goal
+
+pub returns : goal.returns
+returns c =
+    touched_holds_readers (record {
+      make = c.edits_make.ensures;
+      limits = c.limits_are_set.ensures;
+      production = c.production_stays.ensures;
+      weights = c.rows_stay.ensures;
+      reads = c.setting_read_only.ensures;
+      positions = c.position_read_only.ensures;
+    })

@@ -1,0 +1,9 @@
+pub mod Reaches
+pub mod Touched
+pub mod Windows
+pub mod Changes
+pub mod Readers
+pub mod Dependents
+pub mod Waking
+pub mod Adding
+pub mod OneRoad

@@ -1,0 +1,15 @@
+pub mod Desk
+pub mod Facts
+pub mod Moves
+pub mod Counting
+pub mod State
+pub mod Repair
+pub mod Events
+pub mod Runs
+pub mod Answers
+pub mod Kept
+pub mod Work
+pub mod Settling
+pub mod Index
+pub mod Making
+pub mod OneRoad

@@ -1,0 +1,63 @@
+-- What an accepted edit makes of a scenario, kind by kind.
+use Rattle.std.specs.Prelude.{◌≡◌, ℕ, ◌<◌, ◌≤◌, true, false, List, Some, Ok, IsOk}
+use Rattle.ltm_units.specs.declared.quantities.Units.{Units}
+use Rattle.ltm_network.specs.Network.{find_node, find_link}
+use Rattle.ltm_diagram.specs.declared.diagram.Diagram.{Diagram}
+use Rattle.ltm_diagram.specs.Limits.{limits_of}
+use Rattle.ltm_demand.specs.declared.row.DemandRow.{DemandRow}
+use Rattle.ltm_demand.specs.Rows.{edited as edited_rows}
+use Rattle.ltm_splits.specs.declared.keys.SplitKey.{SplitKey}
+use Rattle.ltm_splits.specs.Rows.{put_in}
+use Rattle.ltm_scenario.specs.declared.edit.Edit.{Edit}
+use Rattle.ltm_scenario.specs.declared.edit.Edit.TheVariants.{Demand, Limit, Split, Diagram as NewDiagram, Exit}
+use Rattle.ltm_scenario.specs.Weights.{NamedWeight}
+use Rattle.ltm_scenario.specs.Data.{ScenarioData}
+use Rattle.ltm_scenario.specs.Reads.{destination_of}
+use Rattle.ltm_scenario.specs.Valid.{is_demand_split}
+use Rattle.ltm_scenario.specs.Build.{with_entry_limit, with_exit_limit}
+use Rattle.ltm_scenario.specs.Edits.{edited, weights_at, is_open, with_diagram}
+
+-- the name is that of a destination
+abbrev pub IsNamed : ScenarioData → List ℕ → ℕ → Type 0
+IsNamed s name destination = (node : ℕ) × (find_node s.network name ≡ Some node) × (destination_of s.destinations node ≡ Some destination)
+
+-- the demand row that an edit says: some slots of the horizon, from a node that has a split row for the destination
+pub record IsRowSaid (s : ScenarioData) (origin destination : List ℕ) (from to amount : ℕ) (row : DemandRow) : Type 0 where
+  pub starts_at : find_node s.network origin ≡ Some row.origin.0
+  pub leads_to : IsNamed s destination row.destination
+  pub begins : row.from ≡ from
+  pub ends : row.to ≡ to
+  pub units : row.amount.0 ≡ amount
+  pub some_slots : from < to
+  pub within : to ≤ s.setup.slots
+  pub is_split : is_demand_split s row ≡ true
+
+-- the link whose limits an edit says, in some slots of the horizon
+pub record IsLinkSaid (s : ScenarioData) (name : List ℕ) (from to link : ℕ) : Type 0 where
+  pub named : find_link s.network name ≡ Some link
+  pub some_slots : from < to
+  pub within : to ≤ s.setup.slots
+
+-- the split row that an edit says: from a slot of the horizon on, with weights that lead on
+pub record IsSplitSaid (s : ScenarioData) (node destination : List ℕ) (from : ℕ) (weights : List NamedWeight) (key : SplitKey) : Type 0 where
+  pub stands_at : find_node s.network node ≡ Some key.node.0
+  pub leads_to : IsNamed s destination key.destination
+  pub begins : key.from ≡ from
+  pub within : from < s.setup.slots
+  pub closed : is_open s key.node.0 key.destination key.from (weights_at s key.node.0 weights) ≡ false
+
+-- an edit of each kind changes one part of the scenario
+pub data Makes (s : ScenarioData) : ScenarioData → Edit → Type 0 where
+  demand : (origin destination : List ℕ) (from to : ℕ) (amount : Units) (row : DemandRow) → IsRowSaid s origin destination from to amount.0 row →
+      Makes s (record s { demand = edited_rows s.demand row }) (Demand origin destination from to amount)
+  entry : (name : List ℕ) (from to : ℕ) (amount : Units) (link : ℕ) → IsLinkSaid s name from to link →
+      Makes s (with_entry_limit s link from to amount.0) (Limit name from to amount)
+  split : (node destination : List ℕ) (from : ℕ) (weights : List NamedWeight) (key : SplitKey) → IsSplitSaid s node destination from weights key →
+      Makes s (record s { splits = put_in s.splits key (weights_at s key.node.0 weights) }) (Split node destination from weights)
+  diagram : (name : List ℕ) (new : Diagram) (link : ℕ) → find_link s.network name ≡ Some link → IsOk (limits_of new s.setup.step.0) →
+      Makes s (with_diagram s link new) (NewDiagram name new)
+  exit : (name : List ℕ) (from to : ℕ) (amount : Units) (link : ℕ) → IsLinkSaid s name from to link →
+      Makes s (with_exit_limit s link from to amount.0) (Exit name from to amount)
+
+abbrev pub EditsMake : Type 0
+EditsMake = (s next : ScenarioData) (edit : Edit) → edited s edit ≡ Ok next → Makes s next edit
