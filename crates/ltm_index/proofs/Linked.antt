@@ -1,11 +1,11 @@
 -- Where slots stand, and how far pointers reach.
-use Rattle.std.proofs.Common.{◌≡◌, ◌≢◌, ◌⊎◌, ℕ, zero, suc, ◌+◌, ◌*◌, ◌<◌, ◌≤◌, List, [], length, refl, ap, ◌∙◌, inl, inr, eq-eqb, arith}
+use Rattle.std.proofs.Common.{◌≡◌, ◌≢◌, ◌⊎◌, ℕ, zero, suc, ◌+◌, ◌*◌, ◌/◌, ◌<◌, ◌≤◌, List, [], length, refl, ap, ◌∙◌, inl, inr, eq-eqb, arith}
 use Rattle.std.proofs.lemmas.Bool.{cases_eq, cases_lt, ne_eqb}
 use Rattle.std.proofs.lemmas.List.{get_or_past}
-use Rattle.std.proofs.Math.Nat.{mul-le-mul_right}
 use Rattle.ltm_index.specs.declared.cells.Cells.{Cells}
 use Rattle.ltm_index.specs.Chains.{times, walk, IsChain}
-use Rattle.ltm_index.specs.Cells.{cell_at, first_at, next_at, previous_at, entry_at, after_at, list_at, empty_cell, AreLists}
+use Rattle.ltm_index.specs.Cells.{place_of, cell_at, first_at, next_at, previous_at, entry_at, after_at, list_at, empty_cell, AreLists}
+use Rattle.ltm_index.proofs.Writes.{place_past}
 use Rattle.ltm_index.proofs.Chaining.{Into, first_is, next_is, previous_is, walk_is, walk_short}
 
 pub both_eq : (m l j k : ℕ) → ((m ≡ l) × (j ≡ k)) ⊎ (m ≡ l → j ≡ k → ⊥)
@@ -73,10 +73,8 @@ previous_low c l k v lists link entry =
 pub past_cells : (c : Cells) (l k : ℕ) → c.room < k → cell_at c l k ≡ empty_cell
 unfolding cell_at
 past_cells c l k past =
-    let long : length c.cells.items ≡ (c.room + 1) * c.links = c.long in
-    let next : c.room + 1 ≤ k = omega arith in
-    let times_links : (c.room + 1) * c.links ≤ k * c.links = mul-le-mul_right c.links next in
-    get_or_past c.cells.items (k * c.links + l) empty_cell (omega (arith, long, times_links))
+    let long : length c.cells.items ≡ (c.room + 1) / 16 * c.links * 16 = c.long in
+    get_or_past c.cells.items (place_of c.links l k) empty_cell (omega (arith, long, place_past c.room c.links l k past c.whole))
 
 pub nothing_met : (a : ℕ → ℕ) (most p : ℕ) → p ≡ 0 → walk a most p ≡ []
 nothing_met a zero p none = refl

@@ -1,5 +1,5 @@
 -- The numbers that the index keeps of a link.
-use Rattle.std.specs.Prelude.{◌≡◌, ℕ, ◌+◌, ◌*◌, ◌<◌, ◌≤◌, ◌==◌, ◌≢◌, cond, List, ◌∷◌, slice_index_or}
+use Rattle.std.specs.Prelude.{◌≡◌, ℕ, ◌+◌, ◌*◌, ◌/◌, ◌%◌, ◌<◌, ◌≤◌, ◌==◌, ◌≢◌, cond, List, ◌∷◌, slice_index_or}
 use Rattle.std.proofs.Common.{zero, suc}
 use Rattle.ltm_index.specs.declared.cells.Cell.{Cell}
 use Rattle.ltm_index.specs.declared.cells.Cells.{Cells}
@@ -10,9 +10,13 @@ use Rattle.ltm_index.specs.Chains.{walk, times, without, IsChain, IsChain-prop}
 abbrev pub empty_cell : Cell
 empty_cell = record { first = 0; next = 0; previous = 0; entry = 0 }
 
+-- where the numbers of a link for boundary k lie: in blocks of 16 boundaries, link after link
+abbrev pub place_of : ℕ → ℕ → ℕ → ℕ
+place_of links l k = (k / 16 * links + l) * 16 + k % 16
+
 -- the numbers of a link for boundary k and for slot k; past the table they are 0
 unfoldable pub cell_at : Cells → ℕ → ℕ → Cell
-cell_at c l k = slice_index_or c.cells.items (k * c.links + l) empty_cell
+cell_at c l k = slice_index_or c.cells.items (place_of c.links l k) empty_cell
 
 -- the first slot in the list of a boundary
 abbrev pub first_at : Cells → ℕ → ℕ → ℕ

@@ -1,5 +1,5 @@
 //! The numbers that the index keeps, in one flat table.
-ghost use Rattle.std.specs.Prelude.{◌≡◌, ℕ, ◌+◌, ◌*◌, ◌<◌, ◌≤◌, length, take, replicate, slice_index_or, ◌++◌, ◌-◌, vec_len, IfOk, OnErr, OnOk};
+ghost use Rattle.std.specs.Prelude.{◌≡◌, ℕ, ◌+◌, ◌*◌, ◌/◌, ◌%◌, ◌<◌, ◌≤◌, length, take, replicate, slice_index_or, ◌++◌, ◌-◌, vec_len, IfOk, OnErr, OnOk};
 
 use ltm_units::NoMemory;
 use std::alloc::Global;
@@ -22,32 +22,59 @@ const EMPTY: Cell = Cell {
     entry: 0,
 };
 
-/// A cell for each link and boundary. Those of one boundary lie side by side, so that a longer horizon adds cells at the
-/// end.
+/// For how many boundaries the cells of a link lie side by side.
+const SPAN: u32 = 16;
+
+/// A cell for each link and boundary. The cells of 16 boundaries form a block, in which those of a link lie side by side.
+/// So memory is walked in order both by a sweep over the links of a slot and along the slots of a link, and a longer
+/// horizon adds blocks at the end.
 #[derive(Drop)]
 pub struct Cells {
     links: u32,
     room: u32,
     cells: Vec<Cell>,
     ghost few: { links ≤ 4000 },
-    ghost short: { room ≤ 10000 },
-    ghost long: { length cells.items ≡ (room + 1) * links },
+    ghost short: { room ≤ 10015 },
+    ghost whole: { (room + 1) % 16 ≡ 0 },
+    ghost long: { length cells.items ≡ (room + 1) / 16 * links * 16 },
+}
+
+/// The greatest horizon for which a whole number of blocks has cells, where it is to be at least so long.
+#[inline]
+fn whole_room(slots: u32) -> u32
+    requires { slots ≤ 10000 }
+    ensures enough { slots ≤ result }
+    ensures short { result ≤ 10015 }
+    ensures whole { (result + 1) % 16 ≡ 0 }
+{
+    slots / SPAN * SPAN + (SPAN - 1)
+}
+
+/// How many cells there are for a horizon.
+#[inline]
+#[tactic(auto, using(crate::proofs::Writes::size_fits))]
+fn size(links: u32, room: u32) -> usize
+    requires links { links ≤ 4000 }
+    requires room { room ≤ 10015 }
+    ensures { result ≡ (room + 1) / 16 * links * 16 }
+{
+    (room as usize + 1) / SPAN as usize * links as usize * SPAN as usize
 }
 
 impl Cells {
-    ghost use Rattle.ltm_index.specs.Cells.{cell_at, empty_cell, PutsCell, SameCells};
+    ghost use Rattle.ltm_index.specs.Cells.{place_of, cell_at, empty_cell, PutsCell, SameCells};
 
     /// Cells in which nothing is named.
-    #[tactic(auto, using(crate::proofs::Writes::all_empty, crate::proofs::Writes::size_fits))]
-    pub fn create(alloc: Global, links: u32, room: u32) -> Result<Cells, NoMemory>
+    #[tactic(auto, using(crate::proofs::Writes::all_empty))]
+    pub fn create(alloc: Global, links: u32, slots: u32) -> Result<Cells, NoMemory>
         requires links { links ≤ 4000 }
-        requires room { room ≤ 10000 }
+        requires slots { slots ≤ 10000 }
         ensures links { IfOk result (λ c. c.links ≡ links) }
-        ensures room { IfOk result (λ c. c.room ≡ room) }
+        ensures room { IfOk result (λ c. slots ≤ c.room) }
         ensures empty { IfOk result (λ c. (l k : ℕ) → cell_at c l k ≡ empty_cell) }
     {
-        let count = (room as usize + 1) * links as usize;
-        let cells = vec![in alloc; EMPTY; count].map_err(|_| NoMemory)?;
+        let room = whole_room(slots);
+        let cells = vec![in alloc; EMPTY; size(links, room)].map_err(|_| NoMemory)?;
         Ok(Cells { links, room, cells })
     }
 
@@ -60,19 +87,18 @@ impl Cells {
     }
 
     /// Adds empty cells for a longer horizon.
-    #[tactic(auto, using(crate::proofs::Writes::size_fits))]
-    pub fn reserve(&mut self, room: u32) -> Result<(), NoMemory>
-        requires { room ≤ 10000 }
+    pub fn reserve(&mut self, slots: u32) -> Result<(), NoMemory>
+        requires { slots ≤ 10000 }
         ensures cells { SameCells self.old self.new }
-        ensures room { OnOk result (room ≤ self.new.room) }
+        ensures room { OnOk result (slots ≤ self.new.room) }
         ensures no_less { self.old.room ≤ self.new.room }
         ensures stays { OnErr result (self.new.room ≡ self.old.room) }
     {
-        if room <= self.room {
+        if slots <= self.room {
             return Ok(());
         }
-        let count = (room as usize + 1) * self.links as usize;
-        match self.cells.resize(count, EMPTY) {
+        let room = whole_room(slots);
+        match self.cells.resize(size(self.links, room), EMPTY) {
             Ok(()) => {
                 self.room = room;
                 Ok(())
@@ -83,14 +109,16 @@ impl Cells {
 
     /// Where the cell of a link lies.
     #[inline]
+    #[tactic(auto, using(crate::proofs::Writes::place_within, crate::proofs::Writes::size_fits))]
     fn place(&self, link: u32, at: u32) -> usize
         requires link { link < self.now.links }
         requires at { at ≤ self.now.room }
-        ensures place { result ≡ at * self.now.links + link }
+        ensures place { result ≡ place_of self.now.links link at }
         ensures within { result < length self.now.cells.items }
     {
         let _cells = &self.cells;
-        at as usize * self.links as usize + link as usize
+        let (block, place) = (at / SPAN, at % SPAN);
+        (block as usize * self.links as usize + link as usize) * SPAN as usize + place as usize
     }
 
     /// The cell of a link.

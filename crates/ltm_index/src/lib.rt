@@ -5,7 +5,7 @@
 //!
 //! It stands on `ltm_units` alone. Each call costs a handful of steps, whatever the lists hold, and no memory; only
 //! `create` and `reserve` take memory, sixteen bytes for each link and boundary. The lists are doubly linked through one
-//! flat table in which all numbers of a boundary lie side by side, so that a longer horizon adds numbers at the end.
+//! flat table, in blocks of sixteen boundaries, so that a longer horizon adds blocks at the end.
 //! Change it here where the lists are to be kept in another way: contracts speak of `list_of` and `entry_of` alone.
 #![tactic(auto)]
 
