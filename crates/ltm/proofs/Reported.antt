@@ -6,7 +6,7 @@ use Rattle.ltm_scenario.specs.Data.{ScenarioData}
 use Rattle.ltm_loading.specs.Setting.{Setting}
 use Rattle.ltm_loading.specs.Totals.{entered_link, left_link}
 use Rattle.ltm_setting.specs.Setting.{setting_of}
-use Rattle.ltm_flows.specs.declared.totals.Totals.{Totals}
+use Rattle.ltm_flows.specs.declared.in_all.Totals.{Totals}
 use Rattle.ltm_flows.specs.InAll.{AreTotals}
 use Rattle.ltm_report.specs.Totals.{totals_line}
 use Rattle.ltm_report.specs.Links.{load_link_line}

@@ -11,6 +11,7 @@ use Rattle.ltm_loading.specs.Setting.{Setting, IsSetting}
 use Rattle.ltm_loading.specs.Groups.{up_of, down_of, dep_of, arr_of}
 use Rattle.ltm_loading.specs.Loading.{IsFront, IsLoading}
 use Rattle.ltm_loading.specs.Ranges.{CountsSmall}
+use Rattle.ltm_loading.specs.LoadingLaws.{NeverFall}
 use Rattle.ltm_loading.specs.Totals.{departed, arrived, entered_link, left_link, on_links}
 use Rattle.ltm_flows.specs.declared.loading.Loading.{Loading}
 use Rattle.ltm_flows.specs.Shaped.{IsShaped}
@@ -19,6 +20,12 @@ use Rattle.ltm_flows.specs.Shown.{links_of, nodes_of, curves_of, last_of, Shows}
 -- a loading is a front up to each of its boundaries
 front_by : (s : Setting) (c : Counts) (k : ℕ) → IsLoading s c → k ≤ s.slots → IsFront s c k
 front_by s c k h l = record { empty = h.front.empty; steps = λ u t x y. h.front.steps u t x (omega arith) }
+
+-- none of its counts falls
+pub all_rise : (s : Setting) (c : Curves) → NeverFall → IsSetting s → IsShaped s c → IsLoading s (counts_of c) →
+    (g d k : ℕ) → g < groups_of c → d < destinations_of c → k < slots_of c → counts_of c g d k ≤ counts_of c g d (k + 1)
+all_rise s c law v shape h g d k x y z =
+    law s (counts_of c) v h g d k (omega (arith, x, shape.same_groups)) (omega (arith, y, shape.same_destinations)) (omega (arith, z, shape.same_slots))
 
 -- so each of its counts is small
 pub all_small : (s : Setting) (c : Curves) → CountsSmall → IsSetting s → IsShaped s c → IsLoading s (counts_of c) →

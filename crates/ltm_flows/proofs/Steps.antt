@@ -1,49 +1,58 @@
--- What the node step of a pair gives.
-use Rattle.std.proofs.Common.{◌≡◌, ℕ, ◌*◌, ◌/◌, Option, None, Bool, false, cond, List, length, slice_index, arith, ap, sym, ◌∙◌}
-use Rattle.std.proofs.Math.Logic.{∥∥₁_elim}
-use Rattle.std.proofs.Math.Nat.{ℕ_set, zero-div}
-use Rattle.std.proofs.Props.{props}
-use Rattle.ltm_units.specs.Sums.{sum_below}
-use Rattle.ltm_units.proofs.Sums.{sum_below-zero}
+-- What the node step of a pair gives, and that of a pair whose arms send nothing.
+use Rattle.std.proofs.Common.{◌≡◌, ℕ, ◌+◌, ◌<◌, Option, None, Some, List, length, length-append, ◌++◌, inl, inr, slice_index, arith, refl, ap, sym, ◌∙◌}
 use Rattle.ltm_curve.specs.Counts.{Counts}
+use Rattle.ltm_curve.specs.First.{list_below}
+use Rattle.ltm_curve.proofs.Lists.{length-list_below}
 use Rattle.ltm_node.specs.declared.shape.NodeShape.{NodeShape}
-use Rattle.ltm_node.specs.Shape.{counts_width, is_this, is_own, arrived_place}
-use Rattle.ltm_node.specs.Inputs.{Inputs, sending, arrived}
+use Rattle.ltm_node.specs.Shape.{counts_width, arrived_place}
+use Rattle.ltm_node.specs.Inputs.{Inputs, arrived}
 use Rattle.ltm_node.specs.Outputs.{Outputs, arrived_after}
-use Rattle.ltm_node.specs.Demands.{to_sink}
-use Rattle.ltm_node.specs.Step.{sunk, sunk_in_all, StepShares, IsNodeStep}
-use Rattle.ltm_loading.specs.Setting.{Setting}
-use Rattle.ltm_loading.specs.Pairs.{shape_at, arrived_by}
-use Rattle.ltm_loading.specs.NextPair.{IsPairInputs}
-use Rattle.ltm_loading.specs.ByPlace.{InputsByPlace}
-
-NodeShape-set : IsSet NodeShape
-NodeShape-set = hlevel (ℕ_set, props)
-
--- its outputs are of the shape of its inputs
-pub same_shape : (n : Inputs) (o : Outputs) → IsNodeStep n o → o.shape ≡ n.shape
-same_shape n o step = ∥∥₁_elim step (NodeShape-set _ _) (λ (x : StepShares n o). x.moves.shape)
-
-pub wide : (n : Inputs) (o : Outputs) → IsNodeStep n o → length o.row ≡ counts_width o.shape
-wide n o step = ∥∥₁_elim step (ℕ_set _ _) (λ (x : StepShares n o). x.moves.width ∙ ap counts_width (sym x.moves.shape))
-
-not_own : (shape : NodeShape) (d : ℕ) → shape.own ≡ None → is_own shape d ≡ false
-not_own shape d e = ap (λ (z : Option ℕ). is_this z d) e
+use Rattle.ltm_node.specs.Step.{IsNodeStep}
+use Rattle.ltm_node.specs.Laws.{NoArrivals, NothingMoves}
+use Rattle.ltm_loading.specs.Setting.{Setting, IsSetting}
+use Rattle.ltm_loading.specs.Groups.{up_of, arr_of}
+use Rattle.ltm_loading.specs.Pairs.{arms_of, arm_group, shape_at, arrived_by, grid, pair_inputs, count_row, pair_outputs, MeetsStep}
+use Rattle.ltm_loading.specs.NextPair.{IsOf, IsPairInputs}
+use Rattle.ltm_loading.specs.ByPlace.{InputsByPlace, CountsByPlace, HoldsInputs, HoldsCounts}
+use Rattle.ltm_loading.proofs.Rows.{length-grid}
+use Rattle.ltm_inputs.specs.Idle.{IsIdle}
 
 -- nothing arrives at a node that is no destination
-none_sunk : (n : Inputs) (e : ℕ) (p : ℕ → ℕ) → n.shape.own ≡ None → sunk_in_all n e p ≡ 0
-none_sunk n e p own =
-    sum_below-zero n.shape.arms (λ i. sum_below n.shape.destinations (λ d. sunk n e p i d)) (λ i l.
-    sum_below-zero n.shape.destinations (λ d. sunk n e p i d) (λ d m.
-    let none : to_sink n i d ≡ 0 = ap (λ (b : Bool). cond b (sending n i d) 0) (not_own n.shape d own) in
-    let no_part : p i * 0 ≡ 0 = omega arith in
-    ap (λ (z : ℕ). p i * z / e) none ∙ (ap (λ (z : ℕ). z / e) no_part ∙ zero-div e)))
-
-pub no_arrivals : (s : Setting) (c : Counts) (u t : ℕ) (n : Inputs) (o : Outputs) → InputsByPlace → IsPairInputs s c u t n → IsNodeStep n o → s.own u ≡ None → arrived_after o ≡ 0
-no_arrivals s c u t n o law reads step own =
+pub none_arrived : (s : Setting) (c : Counts) (u t : ℕ) (n : Inputs) (o : Outputs) → InputsByPlace → NoArrivals → IsPairInputs s c u t n → IsNodeStep n o → s.own u ≡ None → arrived_after o ≡ 0
+none_arrived s c u t n o by_place law reads step own =
     let come : arrived n ≡ 0 =
     ap (λ (z : NodeShape). slice_index n.row (arrived_place z)) reads.shape
     ∙ (ap (λ (xs : List ℕ). slice_index xs (arrived_place (shape_at s u))) reads.row
-    ∙ ((law s c u t).0.arrived ∙ ap (λ (z : Option ℕ). arrived_by s c z t) own)) in
-    let here : n.shape.own ≡ None = ap (λ (z : NodeShape). z.own) reads.shape ∙ own in
-    ∥∥₁_elim step (ℕ_set _ _) (λ (x : StepShares n o). omega (arith, x.moves.arrived, none_sunk n x.denominator x.numerators here))
+    ∙ ((by_place s c u t).0.arrived ∙ ap (λ (z : Option ℕ). arrived_by s c z t) own)) in
+    law n o step (ap (λ (z : NodeShape). z.own) reads.shape ∙ own) ∙ come
+
+count_width : (s : Setting) (c : Counts) (u k : ℕ) → length (count_row s c u k) ≡ counts_width (shape_at s u)
+count_width s c u k =
+    let arms : List ℕ = grid (arms_of s u) s.destinations (λ i d. c (arm_group s u i) d k) in
+    let outs : List ℕ = grid (s.outs u) s.destinations (λ j d. c (up_of (s.out_link u j)) d k) in
+    let sink : List ℕ = list_below 1 (λ i. arrived_by s c (s.own u) k) in
+    omega (
+      arith,
+      length-append arms (outs ++ sink),
+      length-append outs sink,
+      length-grid (arms_of s u) s.destinations (λ i d. c (arm_group s u i) d k),
+      length-grid (s.outs u) s.destinations (λ j d. c (up_of (s.out_link u j)) d k),
+      length-list_below 1 (λ i. arrived_by s c (s.own u) k),
+    )
+
+come_kept : (s : Setting) (c : Counts) (own : Option ℕ) (j k : ℕ) → ((d : ℕ) → own ≡ Some d → c (arr_of s) d j ≡ c (arr_of s) d k) → arrived_by s c own j ≡ arrived_by s c own k
+come_kept s c None j k same = refl
+come_kept s c (Some d) j k same = same d refl
+
+-- a pair whose arms send nothing meets the node step where its counts stand at the end of the slot as at its beginning
+pub idle_meets : (s : Setting) (c : Counts) (u t : ℕ) → InputsByPlace → CountsByPlace → NothingMoves → IsSetting s → u < s.nodes → IsIdle s c u t → ((g d : ℕ) → IsOf s u g d → d < s.destinations → c g d (t + 1) ≡ c g d t) → MeetsStep s c u t
+idle_meets s c u t inputs counts law v x idle kept =
+    let reads : HoldsInputs s c u t (pair_inputs s c u t) = (inputs s c u t).0 in
+    let gives : HoldsCounts s c u (t + 1) (pair_outputs s c u (t + 1)) = (counts s c u (t + 1)).0 in
+    law (pair_inputs s c u t) (pair_outputs s c u (t + 1)) (λ i d l m. reads.sending i d l m ∙ idle i d l m) (record {
+      shape = refl;
+      width = count_width s c u (t + 1);
+      left = λ i d l m. gives.left i d l m ∙ (kept (arm_group s u i) d (inl (i, l, refl)) m ∙ sym (reads.left i d l m));
+      entered = λ j d l m. gives.entered j d l m ∙ (kept (up_of (s.out_link u j)) d (inr (inl (j, l, refl))) m ∙ sym (reads.entered j d l m));
+      arrived = gives.arrived ∙ (come_kept s c (s.own u) (t + 1) t (λ d own. kept (arr_of s) d (inr (inr (refl, own))) (v.network.own_is_destination u d x own)) ∙ sym reads.arrived);
+    })

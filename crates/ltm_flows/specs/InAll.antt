@@ -3,7 +3,7 @@ use Rattle.std.specs.Prelude.{◌≡◌, ℕ}
 use Rattle.ltm_curve.specs.Counts.{Counts}
 use Rattle.ltm_loading.specs.Setting.{Setting}
 use Rattle.ltm_loading.specs.Totals.{generated, arrived, on_links, waiting}
-use Rattle.ltm_flows.specs.declared.totals.Totals.{Totals}
+use Rattle.ltm_flows.specs.declared.in_all.Totals.{Totals}
 
 -- the totals of a setting's counts at a boundary
 pub record AreTotals (s : Setting) (c : Counts) (k : ℕ) (t : Totals) : Type 0 where

@@ -13,9 +13,12 @@ ghost use Rattle.ltm_flows.specs.Working.{IsWorking, IsWorkingAt, HasRoom};
 
 use crate::node_counts::apply;
 use ltm_curve::Curves;
-use ltm_inputs::{inputs_of, widest};
-use ltm_loading::{inputs_by_place, next_pair, next_slot, outputs_small};
-use ltm_node::{NodeInputs, NodeOutputs, solve};
+use ltm_inputs::{inputs_if_sent, widest};
+use ltm_loading::{
+    counts_by_place, counts_set_only, inputs_by_place, inputs_read_only, next_pair, next_slot,
+    outputs_small, set_by_one_pair,
+};
+use ltm_node::{NodeInputs, NodeOutputs, no_arrivals, nothing_moves, same_shape, solve};
 use ltm_scenario::Scenario;
 use ltm_setting::{destination_count, is_setting, link_count, node_count, slot_count};
 use ltm_units::{NoMemory, NodeId, Pair, Steps};
@@ -53,7 +56,7 @@ fn make_room(alloc: Global, scenario: &Scenario) -> Result<Room, NoMemory>
     Ok(Room { inputs, outputs })
 }
 
-/// The step of a node in a slot.
+/// The step of a node in a slot. Where its arms send nothing, its counts stay as they were carried on.
 fn load_pair(scenario: &Scenario, curves: &mut Curves, pair: Pair, room: Room) -> Room
     requires setting { IsSetting (setting_of scenario.now) }
     requires node { pair.node.0 < (setting_of scenario.now).nodes }
@@ -66,20 +69,44 @@ fn load_pair(scenario: &Scenario, curves: &mut Curves, pair: Pair, room: Room) -
     ensures outputs { HasRoom (setting_of scenario.now) result.outputs.room }
 {
     inputs_by_place();
+    counts_by_place();
+    nothing_moves();
+    let mut room = room;
+    if inputs_if_sent(scenario, curves, pair, &mut room.inputs) {
+        return write_pair(scenario, curves, pair, room);
+    }
+    room
+}
+
+/// The step of a node in a slot, from its inputs.
+fn write_pair(scenario: &Scenario, curves: &mut Curves, pair: Pair, room: Room) -> Room
+    requires setting { IsSetting (setting_of scenario.now) }
+    requires node { pair.node.0 < (setting_of scenario.now).nodes }
+    requires slot { pair.slot < (setting_of scenario.now).slots }
+    requires working { IsWorkingAt (setting_of scenario.now) curves.old pair.slot pair.node.0 }
+    requires reads { IsPairInputs (setting_of scenario.now) (counts_of curves.old) pair.node.0 pair.slot room.inputs }
+    requires solvable { IsSolvable room.inputs }
+    requires inputs { HasRoom (setting_of scenario.now) room.inputs.room }
+    requires outputs { HasRoom (setting_of scenario.now) room.outputs.room }
+    ensures working { IsWorkingAt (setting_of scenario.now) curves.new pair.slot (pair.node.0 + 1) }
+    ensures inputs { HasRoom (setting_of scenario.now) result.inputs.room }
+    ensures outputs { HasRoom (setting_of scenario.now) result.outputs.room }
+{
+    inputs_by_place();
     outputs_small();
     next_pair();
-    let Room {
-        mut inputs,
-        outputs,
-    } = room;
-    inputs_of(scenario, curves, pair, &mut inputs);
+    same_shape();
+    no_arrivals();
+    set_by_one_pair();
+    let _slots = slot_count(scenario);
     let mut steps = Steps::new();
-    let (inputs, outputs) = solve(inputs, outputs, &mut steps).release();
+    let (inputs, outputs) = solve(room.inputs, room.outputs, &mut steps).release();
     apply(scenario, curves, pair, &outputs);
     Room { inputs, outputs }
 }
 
-/// The steps of all nodes in a slot.
+/// The steps of all nodes in a slot. All counts are first carried on to the slot's end, and those of the nodes where
+/// something is sent are then written.
 fn load_slot(scenario: &Scenario, curves: &mut Curves, slot: u32, room: Room) -> Room
     requires setting { IsSetting (setting_of scenario.now) }
     requires slot { slot < (setting_of scenario.now).slots }
@@ -91,12 +118,26 @@ fn load_slot(scenario: &Scenario, curves: &mut Curves, slot: u32, room: Room) ->
     ensures outputs { HasRoom (setting_of scenario.now) result.outputs.room }
 {
     next_slot();
+    begin_slot(scenario, curves, slot);
     let mut room = room;
     for node in 0..node_count(scenario) {
         let node = NodeId(node);
         room = load_pair(scenario, curves, Pair { node, slot }, room);
     }
     room
+}
+
+/// Carries all counts on to the end of a slot.
+fn begin_slot(scenario: &Scenario, curves: &mut Curves, slot: u32)
+    requires setting { IsSetting (setting_of scenario.now) }
+    requires slot { slot < (setting_of scenario.now).slots }
+    requires working { IsWorking (setting_of scenario.now) curves.old slot }
+    ensures working { IsWorkingAt (setting_of scenario.now) curves.new slot 0 }
+{
+    inputs_read_only();
+    counts_set_only();
+    set_by_one_pair();
+    curves.carry(slot);
 }
 
 /// The loading of a scenario: slot by slot from an empty network, all nodes of a slot in order of number.

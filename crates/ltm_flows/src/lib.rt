@@ -7,12 +7,15 @@
 #![tactic(auto)]
 
 mod cold_loading;
+mod in_all;
 mod loading;
 mod node_counts;
+mod summing;
 mod tables;
-mod totals;
 
 pub use cold_loading::{cold, fresh};
+pub use in_all::Totals;
 pub use loading::Loading;
+pub use ltm_inputs::{inputs_of, shape_of, widest};
 pub use node_counts::apply;
-pub use totals::Totals;
+pub use summing::totals;

@@ -9,10 +9,10 @@ ghost use Rattle.ltm_loading.specs.Totals.{arrived, entered_link, left_link};
 ghost use Rattle.ltm_setting.specs.Setting.{setting_of};
 ghost use Rattle.ltm_flows.specs.Shaped.{IsShaped};
 
+use crate::in_all::Totals;
 use crate::tables::{free_times, generated_by_boundary, write_free_times, write_generated};
-use crate::totals::Totals;
 use ltm_curve::Curves;
-use ltm_loading::counts_small;
+use ltm_loading::{counts_small, never_fall};
 use ltm_scenario::Scenario;
 use ltm_setting::{is_setting, link_count, node_count, step};
 use ltm_units::{LinkId, Millis, NoMemory, Units};
@@ -38,6 +38,8 @@ pub struct Loading {
     ghost amounts: { length generated.items ≡ slots_of curves + 1 },
     ghost small: { (g d k : ℕ) → g < groups_of curves → d < destinations_of curves → k ≤ slots_of curves
         → counts_of curves g d k ≤ 1600000000 },
+    ghost rises: { (g d k : ℕ) → g < groups_of curves → d < destinations_of curves → k < slots_of curves
+        → counts_of curves g d k ≤ counts_of curves g d (k + 1) },
 }
 
 impl Loading {
@@ -67,6 +69,7 @@ impl Loading {
         ensures { IfOk result (Shows (setting_of scenario.now) version) }
     {
         counts_small();
+        never_fall();
         is_setting(scenario);
         let free = free_times(alloc, scenario)?;
         let generated = generated_by_boundary(alloc, scenario)?;
@@ -111,6 +114,7 @@ impl Loading {
         ensures { Shows (setting_of scenario.now) version self.new }
     {
         counts_small();
+        never_fall();
         is_setting(scenario);
         write_free_times(scenario, &mut self.free);
         write_generated(scenario, &mut self.generated);

@@ -1,10 +1,8 @@
 //! The counts of a node are written into the curves of a loading.
 ghost use Rattle.std.specs.Prelude.{◌≡◌, ◌≤◌, ◌<◌, ◌+◌, ◌^◌, ℕ, length, slice_index, None};
 ghost use Rattle.ltm_curve.specs.Table.{counts_of};
-ghost use Rattle.ltm_node.specs.Shape.{counts_width};
 ghost use Rattle.ltm_node.specs.Outputs.{left_after, entered_after, arrived_after};
 ghost use Rattle.ltm_loading.specs.Setting.{IsSetting};
-ghost use Rattle.ltm_loading.specs.Groups.{groups};
 ghost use Rattle.ltm_loading.specs.Pairs.{arms_of, arm_group, shape_at};
 ghost use Rattle.ltm_loading.specs.NextPair.{Applies};
 ghost use Rattle.ltm_setting.specs.Setting.{setting_of};
@@ -18,35 +16,7 @@ use ltm_scenario::Scenario;
 use ltm_setting::{in_links, is_setting, link_count, node_count, out_links, own, slot_count};
 use ltm_units::{NodeId, Pair};
 
-/// The group of what has left by an arm of a node.
-fn group_of_arm(scenario: &Scenario, node: NodeId, arm: u32) -> u32
-    requires node { node.0 < (setting_of scenario.now).nodes }
-    ensures group { result ≡ arm_group (setting_of scenario.now) node.0 arm }
-    ensures there { result < groups (setting_of scenario.now) }
-{
-    let links = link_count(scenario);
-    let _nodes = node_count(scenario);
-    let in_links = in_links(scenario, node);
-    let arm = arm as usize;
-    if arm < in_links.len() {
-        2 * in_links[arm].0 + 1
-    } else {
-        2 * links + node.0
-    }
-}
-
-/// The group of what has entered an out-link of a node.
-fn group_of_out(scenario: &Scenario, node: NodeId, out: u32) -> u32
-    requires node { node.0 < (setting_of scenario.now).nodes }
-    requires out { out < (setting_of scenario.now).outs node.0 }
-    ensures group { result ≡ out_group (setting_of scenario.now) node.0 out }
-    ensures there { result < groups (setting_of scenario.now) }
-{
-    let _links = link_count(scenario);
-    2 * out_links(scenario, node)[out as usize].0
-}
-
-/// Writes what has left each arm.
+/// Writes what has left each arm: each in-link, then the origin.
 fn write_arms(
     scenario: &Scenario,
     curves: &mut Curves,
@@ -64,9 +34,15 @@ fn write_arms(
     ensures sets { SetsGroups (setting_of scenario.now) boundary (arms_of (setting_of scenario.now) node.0)
         (arm_group (setting_of scenario.now) node.0) (left_after outputs.now) (counts_of curves.old) (counts_of curves.new) }
 {
-    for arm in 0..outputs.shape().arms {
-        let group = group_of_arm(scenario, node, arm);
-        curves.set_row(group, boundary, outputs.left_row(arm));
+    let links = in_links(scenario, node);
+    let groups = 2 * link_count(scenario);
+    let _nodes = node_count(scenario);
+    for (arm, link) in links.iter().enumerate() {
+        curves.set_row(2 * link.0 + 1, boundary, outputs.left_row(arm as u32));
+    }
+    if !out_links(scenario, node).is_empty() {
+        let origin = outputs.left_row(links.len() as u32);
+        curves.set_row(groups + node.0, boundary, origin);
     }
 }
 
@@ -88,9 +64,9 @@ fn write_outs(
     ensures sets { SetsGroups (setting_of scenario.now) boundary ((setting_of scenario.now).outs node.0)
         (out_group (setting_of scenario.now) node.0) (entered_after outputs.now) (counts_of curves.old) (counts_of curves.new) }
 {
-    for out in 0..outputs.shape().outs {
-        let group = group_of_out(scenario, node, out);
-        curves.set_row(group, boundary, outputs.entered_row(out));
+    let _links = link_count(scenario);
+    for (out, link) in out_links(scenario, node).iter().enumerate() {
+        curves.set_row(2 * link.0, boundary, outputs.entered_row(out as u32));
     }
 }
 
@@ -115,7 +91,6 @@ pub fn apply(scenario: &Scenario, curves: &mut Curves, pair: Pair, outputs: &Nod
     requires slot { pair.slot < (setting_of scenario.now).slots }
     requires shape { IsShaped (setting_of scenario.now) curves.old }
     requires outputs { outputs.now.shape ≡ shape_at (setting_of scenario.now) pair.node.0 }
-    requires width { length outputs.now.row ≡ counts_width outputs.now.shape }
     requires small { (i : ℕ) → slice_index outputs.now.row i < 2 ^ 31 }
     requires no_sink { (setting_of scenario.now).own pair.node.0 ≡ None → arrived_after outputs.now ≡ 0 }
     ensures shape { IsShaped (setting_of scenario.now) curves.new }
@@ -125,6 +100,7 @@ pub fn apply(scenario: &Scenario, curves: &mut Curves, pair: Pair, outputs: &Nod
     is_setting(scenario);
     counts_by_place();
     let _slots = slot_count(scenario);
+    let _shape = outputs.shape();
     let boundary = pair.slot + 1;
     write_arms(scenario, curves, pair.node, boundary, outputs);
     write_outs(scenario, curves, pair.node, boundary, outputs);

@@ -7,9 +7,7 @@ ghost use Rattle.ltm_setting.specs.Setting.{setting_of};
 ghost use Rattle.ltm_flows.specs.Amounts.{units_at};
 
 use ltm_scenario::Scenario;
-use ltm_setting::{
-    destination_count, is_setting, limits, link_count, node_count, produced, slot_count,
-};
+use ltm_setting::{is_setting, limits, link_count, node_count, produced_total, slot_count};
 use ltm_units::{LinkId, Millis, NoMemory, NodeId, Units};
 use std::alloc::Global;
 
@@ -27,18 +25,6 @@ pub(crate) fn free_times(alloc: Global, scenario: &Scenario) -> Result<Vec<Milli
     Ok(times)
 }
 
-/// What the origin of a node has produced by a boundary, for all destinations.
-fn produced_at(scenario: &Scenario, node: NodeId, boundary: u32) -> u64
-    ensures total { result ≡ total (setting_of scenario.now).destinations ((setting_of scenario.now).produced node.0) boundary }
-    ensures small { result ≤ 640000000000000 }
-{
-    let mut sum = 0;
-    for destination in 0..destination_count(scenario) {
-        sum += produced(scenario, node, destination, boundary);
-    }
-    sum
-}
-
 /// Writes that nothing has been produced.
 fn clear(into: &mut [Units])
     ensures { (k : ℕ) → units_at into.new k ≡ 0 }
@@ -52,13 +38,13 @@ fn clear(into: &mut [Units])
 fn add_produced(scenario: &Scenario, node: NodeId, into: &mut [Units])
     requires count { length into.old ≡ (setting_of scenario.now).slots + 1 }
     requires few { node.0 < 8000 }
-    requires small { (k : ℕ) → units_at into.old k ≤ node.0 * 640000000000000 }
+    requires small { (k : ℕ) → units_at into.old k ≤ node.0 * 10000000000000 }
     ensures sums { (k : ℕ) → k ≤ (setting_of scenario.now).slots → units_at into.new k
         ≡ units_at into.old k + total (setting_of scenario.now).destinations ((setting_of scenario.now).produced node.0) k }
-    ensures small { (k : ℕ) → units_at into.new k ≤ (node.0 + 1) * 640000000000000 }
+    ensures small { (k : ℕ) → units_at into.new k ≤ (node.0 + 1) * 10000000000000 }
 {
     for boundary in 0..slot_count(scenario) + 1 {
-        let produced = produced_at(scenario, node, boundary);
+        let produced = produced_total(scenario, node, boundary);
         let sum = into[boundary as usize].0 + produced;
         into[boundary as usize] = Units(sum);
     }
@@ -74,7 +60,7 @@ pub(crate) fn write_generated(scenario: &Scenario, into: &mut [Units])
     clear(into);
     for node in 0..node_count(scenario) {
         let node = NodeId(node);
-        if produced_at(scenario, node, slot_count(scenario)) > 0 {
+        if produced_total(scenario, node, slot_count(scenario)) > 0 {
             add_produced(scenario, node, into);
         }
     }

@@ -8,5 +8,5 @@ use Rattle.ltm_flows.proofs.node_counts.write_outs.Given as goal
 abbrev pub invariant-loop-out : goal.invariant-loop-out
 invariant-loop-out l = record {
   shape : IsShaped (setting_of l.scenario) l.curves;
-  sets : SetsGroups (setting_of l.scenario) l.boundary l.out (out_group (setting_of l.scenario) l.node.0) (entered_after l.outputs) (counts_of l.fn.curves) (counts_of l.curves);
+  sets : SetsGroups (setting_of l.scenario) l.boundary l.out (out_group (setting_of l.scenario) l.fn.node.0) (entered_after l.outputs) (counts_of l.fn.curves) (counts_of l.curves);
 }

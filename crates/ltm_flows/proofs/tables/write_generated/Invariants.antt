@@ -8,5 +8,5 @@ use Rattle.ltm_flows.proofs.tables.write_generated.Given as goal
 abbrev pub invariant-loop-node : goal.invariant-loop-node
 invariant-loop-node l = record {
   sums : (k : ℕ) → k ≤ (setting_of l.scenario).slots → units_at l.into k ≡ sum_below l.node (λ u. total (setting_of l.scenario).destinations ((setting_of l.scenario).produced u) k);
-  small : (k : ℕ) → units_at l.into k ≤ l.node * 640000000000000;
+  small : (k : ℕ) → units_at l.into k ≤ l.node * 10000000000000;
 }

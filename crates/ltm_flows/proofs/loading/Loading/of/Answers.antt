@@ -1,6 +1,6 @@
 use Rattle.std.proofs.Common.{◌∙◌, sym, arith}
 use Rattle.ltm_setting.specs.Setting.{setting_of}
-use Rattle.ltm_flows.proofs.Showing.{all_small}
+use Rattle.ltm_flows.proofs.Showing.{all_small, all_rise}
 use Rattle.ltm_flows.proofs.loading.Loading.of.Goals as goal
 
 pub invariant_of-result : goal.invariant_of-result
@@ -12,4 +12,5 @@ invariant_of-result c = record {
   times = c.in_ok-free.ensures.count ∙ sym c.link_count.ensures.value;
   amounts = omega (arith, c.in_ok-generated.ensures.count, c.requires.shape.same_slots);
   small = all_small (setting_of c.args.scenario.now) c.args.curves c.counts_small.ensures c.is_setting.ensures.setting c.requires.shape c.requires.loading;
+  rises = all_rise (setting_of c.args.scenario.now) c.args.curves c.never_fall.ensures c.is_setting.ensures.setting c.requires.shape c.requires.loading;
 }

@@ -3,7 +3,7 @@ use Rattle.std.proofs.lemmas.List.{with_items_is}
 use Rattle.ltm_curve.specs.Counts.{Counts}
 use Rattle.ltm_loading.specs.Loading.{IsLoading}
 use Rattle.ltm_setting.specs.Setting.{setting_of}
-use Rattle.ltm_flows.proofs.Showing.{all_small}
+use Rattle.ltm_flows.proofs.Showing.{all_small, all_rise}
 use Rattle.ltm_flows.proofs.loading.Loading.refresh.Goals as goal
 
 pub invariant_of-self-clause-times : goal.invariant_of-self-clause-times
@@ -25,6 +25,15 @@ invariant_of-self-clause-amounts c =
 pub invariant_of-self-clause-small : goal.invariant_of-self-clause-small
 invariant_of-self-clause-small c =
     all_small (setting_of c.args.scenario.now) c.copy_from.new.self c.counts_small.ensures c.is_setting.ensures.setting (record {
+      same_groups = c.copy_from.ensures.same.shape.groups ∙ c.requires.shape.same_groups;
+      same_destinations = c.copy_from.ensures.same.shape.destinations ∙ c.requires.shape.same_destinations;
+      same_slots = c.copy_from.ensures.same.shape.slots ∙ c.requires.shape.same_slots;
+    })
+    (subst (λ (z : Counts). IsLoading (setting_of c.args.scenario.now) z) (sym c.copy_from.ensures.all) c.requires.loading)
+
+pub invariant_of-self-clause-rises : goal.invariant_of-self-clause-rises
+invariant_of-self-clause-rises c =
+    all_rise (setting_of c.args.scenario.now) c.copy_from.new.self c.never_fall.ensures c.is_setting.ensures.setting (record {
       same_groups = c.copy_from.ensures.same.shape.groups ∙ c.requires.shape.same_groups;
       same_destinations = c.copy_from.ensures.same.shape.destinations ∙ c.requires.shape.same_destinations;
       same_slots = c.copy_from.ensures.same.shape.slots ∙ c.requires.shape.same_slots;
