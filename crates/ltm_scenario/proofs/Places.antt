@@ -1,14 +1,9 @@
 -- The tables of places, and of limits.
-use Rattle.std.proofs.Common.{◌≡◌, ◌≢◌, ℕ, ◌-◌, ◌<◌, ◌≤◌, List, [], ◌∷◌, ◌++◌, length, map, take, replicate, get_or, Option, Some, None, Ok, Result, slice_get, refl, sym, ap, ◌∙◌, arith, inl, inr, get_or-set_same, get_or-set_other}
+use Rattle.std.proofs.Common.{◌≡◌, ◌≢◌, ℕ, ◌-◌, ◌<◌, ◌≤◌, List, [], ◌∷◌, ◌++◌, length, map, take, replicate, get_or, Option, Some, None, refl, sym, ap, ◌∙◌, arith, inl, inr, get_or-set_same, get_or-set_other}
 use Rattle.std.proofs.Math.ListN.{set}
 use Rattle.std.proofs.lemmas.Bool.{cases_lt, cases_eq}
-use Rattle.std.proofs.lemmas.List.{get_or_past, get_or-append_right, get_or_append_left, get_or-replicate, length-replicate, take_all, map-append, map-set, get_or-map, length-map}
-use Rattle.std.proofs.lemmas.Option.{get_or_from_slice_get}
+use Rattle.std.proofs.lemmas.List.{get_or_past, get_or-append_right, get_or_append_left, get_or-replicate, length-replicate, take_all, map-append}
 use Rattle.ltm_units.specs.declared.places.NodeId.{NodeId}
-use Rattle.ltm_diagram.specs.declared.diagram.Diagram.{Diagram}
-use Rattle.ltm_diagram.specs.declared.diagram.Limits.{Limits}
-use Rattle.ltm_diagram.specs.declared.diagram.DiagramFault.{DiagramFault}
-use Rattle.ltm_diagram.specs.Limits.{limits_of}
 use Rattle.ltm_scenario.specs.Reads.{destination_of}
 use Rattle.ltm_scenario.proofs.Added.{place_of_new, place_of_other}
 

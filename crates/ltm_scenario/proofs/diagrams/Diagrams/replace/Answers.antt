@@ -1,6 +1,4 @@
-use Rattle.std.proofs.Common.{rules, ap, ◌∙◌}
-use Rattle.ltm_diagram.specs.Limits.{limits_of}
-use Rattle.ltm_scenario.specs.Diagrams.{DiagramsState}
+use Rattle.std.proofs.Common.{rules}
 use Rattle.ltm_scenario.proofs.Beside.{timed_set}
 use Rattle.ltm_scenario.proofs.diagrams.Diagrams.replace.Goals as goal
 
