@@ -14,7 +14,7 @@ fn one_road_is_read(rt: HostRuntime) -> Result<(), Fail> {
     assert_eq!(rt; scenario.network().links(), 1);
     assert_eq!(rt; scenario.network().nodes(), 2);
     assert_eq!(rt; scenario.destinations().len(), 1);
-    assert_eq!(rt; scenario.demand().rows().len(), 1);
+    assert_eq!(rt; scenario.demand().row_count(), 1);
     assert!(rt; scenario.splits().row(NodeId(0), 0, 0).is_some());
     Ok(())
 }
@@ -69,9 +69,8 @@ fn later_rows_replace_earlier_ones(rt: HostRuntime) -> Result<(), Fail> {
     put(alloc, &mut folder, Doc::Splits, splits)?;
     let scenario = read_case(alloc, &mut folder)?;
     assert_eq!(rt; scenario.destinations(), [NodeId(2), NodeId(1)].as_slice());
-    let rows = scenario.demand().rows();
-    assert_eq!(rt; rows.len(), 1);
-    assert_eq!(rt; rows[0].amount, Units(500));
+    assert_eq!(rt; scenario.demand().row_count(), 1);
+    assert_eq!(rt; scenario.demand().total(), Units(500));
     let weights = scenario.splits().row(NodeId(0), 1, 0);
     assert_eq!(rt; weights, Some([3, 0].as_slice()));
     Ok(())

@@ -44,7 +44,7 @@ adds_up n o t (row ∷ rows) all =
 pub destinations_add_up : (n : ℕ) (rows : List DemandRow) (o t : ℕ) → All (λ r. r.destination < n) rows → sum_below n (λ d. by_end rows o d t) ≡ origin_by_end rows o t
 destinations_add_up n rows o t all = adds_up n o t rows (recursion_from_All (λ r. r.destination < n) rows all)
 
-origin_part_le : (o t : ℕ) (row : DemandRow) → origin_part o t row ≤ row.amount.0
+pub origin_part_le : (o t : ℕ) (row : DemandRow) → origin_part o t row ≤ row.amount.0
 unfolding origin_part
 origin_part_le o t row =
     elim (row.origin.0 == o) as (λ b. cond b (produced row.from row.to row.amount.0 t) 0 ≤ row.amount.0) [

@@ -1,12 +1,15 @@
 pub mod Parts
-pub mod Reach
-pub mod Shifts
+pub mod Cells
+pub mod Told
 pub mod Filters
 pub mod Ordered
 pub mod Found
 pub mod Edits
 pub mod State
+pub mod Joined
 pub mod Restoring
+pub mod KeptOrigins
+pub mod Changes
 pub mod Produces
 pub mod Destinations
 pub mod Stays

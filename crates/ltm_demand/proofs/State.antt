@@ -12,11 +12,11 @@ use Rattle.std.proofs.lemmas.List.Sums.{sum_by-append, sum_by-le, sum_by-le-sum_
 use Rattle.std.proofs.lemmas.List.Kept.{IsStrictlySortedBy-filter}
 use Rattle.ltm_demand.specs.declared.row.DemandRow.{DemandRow}
 use Rattle.ltm_demand.specs.Rows.{row_cmp, before, standing, behind, shown, edited, amount_at, with_amount, has_slots, IsDemandRow}
-use Rattle.ltm_demand.specs.Produced.{produced, part, by_end, joins}
-use Rattle.ltm_demand.specs.Tables.{told, table_of, reached, IsShifted, IsRoomy}
-use Rattle.ltm_demand.specs.Kept.{AreDemandRows, IsKept}
+use Rattle.ltm_demand.specs.Produced.{part, by_end, origin_part, origin_by_end}
+use Rattle.ltm_demand.specs.Kept.{AreDemandRows}
 use Rattle.ltm_demand.specs.Places.{IsAt, IsGap}
 use Rattle.ltm_demand.proofs.Parts.{part_le}
+use Rattle.ltm_demand.proofs.Destinations.{origin_part_le}
 use Rattle.ltm_demand.proofs.Filters.{filter_twice, filter_apart, all_passed}
 use Rattle.ltm_demand.proofs.Ordered.{row_total, same_key_is, lt_less, gt_greater, less_back, sorted_cons, sorted_append}
 use Rattle.ltm_demand.proofs.Edits.{amount_found, amount_absent}
@@ -31,10 +31,10 @@ pub record IsWas (rows : List DemandRow) (row : DemandRow) (was : ℕ) : Type 0 
 some_shown : (row : DemandRow) → 0 < row.amount.0 → shown row ≡ row ∷ []
 some_shown row some = let e : (row.amount.0 == 0) ≡ false = grind (arith, nat_tests) in ap (λ b. cond b [] (row ∷ [])) e
 
-pub was_at : (slots : ℕ) (rows : List DemandRow) (row : DemandRow) (i was : ℕ) → AreDemandRows slots rows → IsAt rows row i → was ≡ amount_at rows row → IsWas rows row was
-was_at slots rows row i was are at is =
+pub was_at : (slots : ℕ) (rows : List DemandRow) (row : DemandRow) (i was : ℕ) → All (IsDemandRow slots) rows → IsAt rows row i → was ≡ amount_at rows row → IsWas rows row was
+was_at slots rows row i was each at is =
     let x = get_or rows i row in
-    let own : IsDemandRow slots x = All-get_or (IsDemandRow slots) rows i row at.within are.each in
+    let own : IsDemandRow slots x = All-get_or (IsDemandRow slots) rows i row at.within each in
     let amount : was ≡ x.amount.0 = is ∙ amount_found rows row i at in
     let key : x ≡ with_amount row was = same_key_is x row at.same ∙ ap (λ a. with_amount row a) (sym amount) in
     let one : shown (with_amount row was) ≡ x ∷ [] = some_shown (with_amount row was) (omega (arith, own.some_units)) ∙ ap (λ y. y ∷ []) (sym key) in
@@ -112,10 +112,10 @@ edited_back rows row was is =
 sum_by-three : (f : DemandRow → ℕ) (xs ys zs : List DemandRow) → sum_by f (xs ++ (ys ++ zs)) ≡ sum_by f xs + (sum_by f ys + sum_by f zs)
 sum_by-three f xs ys zs = omega (arith, sum_by-append f xs (ys ++ zs), sum_by-append f ys zs)
 
--- a row of amount 0 has no part, so what is shown has the part of the row
-part_shown : (o d t : ℕ) (row : DemandRow) → sum_by (part o d t) (shown row) ≡ part o d t row
-part_shown o d t row = elim (row.amount.0 == 0) as (λ b. (row.amount.0 == 0) ≡ b → sum_by (part o d t) (cond b [] (row ∷ [])) ≡ part o d t row) [
-  | true ↦ λ none. let zero : row.amount.0 ≡ 0 = grind (arith, nat_tests) in omega (arith, part_le o d t row)
+-- what a row of amount 0 has nothing of is of what is shown what it is of the row
+of_shown : (f : DemandRow → ℕ) → ((r : DemandRow) → f r ≤ r.amount.0) → (row : DemandRow) → sum_by f (shown row) ≡ f row
+of_shown f few row = elim (row.amount.0 == 0) as (λ b. (row.amount.0 == 0) ≡ b → sum_by f (cond b [] (row ∷ [])) ≡ f row) [
+  | true ↦ λ none. let zero : row.amount.0 ≡ 0 = grind (arith, nat_tests) in omega (arith, few row)
   | false ↦ λ _. omega arith
 ] refl
 
@@ -124,16 +124,27 @@ unfolding edited
 length_edited rows row was is =
     omega (arith, ap length is.parted, length-append (before rows row) (shown row ++ behind rows row), length-append (shown row) (behind rows row), length-append (before rows row) (shown (with_amount row was) ++ behind rows row), length-append (shown (with_amount row was)) (behind rows row))
 
--- the sums of the rows after a set: the new part in place of the old
-pub by_end_edited : (rows : List DemandRow) (row : DemandRow) (was o d t : ℕ) → IsWas rows row was → by_end (edited rows row) o d t + part o d t (with_amount row was) ≡ by_end rows o d t + part o d t row
-unfolding edited
-by_end_edited rows row was o d t is =
-    omega (arith, ap (sum_by (part o d t)) is.parted, sum_by-three (part o d t) (before rows row) (shown row) (behind rows row), sum_by-three (part o d t) (before rows row) (shown (with_amount row was)) (behind rows row), part_shown o d t row, part_shown o d t (with_amount row was))
+-- the sums of the rows after a set: the new part in place of the old, which is in the sum
+module _ (f : DemandRow → ℕ) (few : (r : DemandRow) → f r ≤ r.amount.0) (rows : List DemandRow) (row : DemandRow) (was : ℕ) (is : IsWas rows row was) where
+  sum_edited : sum_by f (edited rows row) + f (with_amount row was) ≡ sum_by f rows + f row
+  unfolding edited
+  sum_edited =
+      omega (arith, ap (sum_by f) is.parted, sum_by-three f (before rows row) (shown row) (behind rows row), sum_by-three f (before rows row) (shown (with_amount row was)) (behind rows row), of_shown f few row, of_shown f few (with_amount row was))
 
--- the part of the row that stood is in the sum
+  sum_was : f (with_amount row was) ≤ sum_by f rows
+  sum_was = omega (arith, ap (sum_by f) is.parted, sum_by-three f (before rows row) (shown (with_amount row was)) (behind rows row), of_shown f few (with_amount row was))
+
+pub by_end_edited : (rows : List DemandRow) (row : DemandRow) (was o d t : ℕ) → IsWas rows row was → by_end (edited rows row) o d t + part o d t (with_amount row was) ≡ by_end rows o d t + part o d t row
+by_end_edited rows row was o d t is = sum_edited (part o d t) (part_le o d t) rows row was is
+
 pub part_was : (rows : List DemandRow) (row : DemandRow) (was o d t : ℕ) → IsWas rows row was → part o d t (with_amount row was) ≤ by_end rows o d t
-part_was rows row was o d t is =
-    omega (arith, ap (sum_by (part o d t)) is.parted, sum_by-three (part o d t) (before rows row) (shown (with_amount row was)) (behind rows row), part_shown o d t (with_amount row was))
+part_was rows row was o d t is = sum_was (part o d t) (part_le o d t) rows row was is
+
+pub origin_edited : (rows : List DemandRow) (row : DemandRow) (was o t : ℕ) → IsWas rows row was → origin_by_end (edited rows row) o t + origin_part o t (with_amount row was) ≡ origin_by_end rows o t + origin_part o t row
+origin_edited rows row was o t is = sum_edited (origin_part o t) (origin_part_le o t) rows row was is
+
+pub origin_part_was : (rows : List DemandRow) (row : DemandRow) (was o t : ℕ) → IsWas rows row was → origin_part o t (with_amount row was) ≤ origin_by_end rows o t
+origin_part_was rows row was o t is = sum_was (origin_part o t) (origin_part_le o t) rows row was is
 
 pub total_le : (slots : ℕ) (rows : List DemandRow) → AreDemandRows slots rows → sum_by (λ r. r.amount.0) rows ≤ 10000000000000
 total_le slots rows are = omega (arith, sum_by-le (λ (r : DemandRow). r.amount.0) 1000000000 rows (λ k d less. (are.each k d less).small), are.few)
@@ -163,45 +174,18 @@ each_shown slots row in' small = elim (row.amount.0 == 0) as (λ b. (row.amount.
   | false ↦ λ some. All-cons (IsDemandRow slots) row [] (record { some_slots = grind (arith, nat_tests); within = grind (arith, nat_tests); some_units = grind (arith, nat_tests); small = small }) (All-nil (IsDemandRow slots))
 ] refl
 
-each_edited : (slots : ℕ) (rows : List DemandRow) (row : DemandRow) → AreDemandRows slots rows → has_slots slots row ≡ true → row.amount.0 ≤ 1000000000 → All (IsDemandRow slots) (edited rows row)
+-- what holds of the rows and of the row holds of the rows once it is set
+pub all_edited : (P : DemandRow → Type 0) (rows : List DemandRow) (row : DemandRow) → All P rows → All P (shown row) → All P (edited rows row)
 unfolding before edited behind
-each_edited slots rows row are in' small = All-append (IsDemandRow slots) (before rows row) (shown row ++ behind rows row) (All-filter (λ r. is_lt (row_cmp r row)) (IsDemandRow slots) rows are.each)
-    (All-append (IsDemandRow slots) (shown row) (behind rows row) (each_shown slots row in' small) (All-filter (λ r. is_gt (row_cmp r row)) (IsDemandRow slots) rows are.each))
+all_edited P rows row all own = All-append P (before rows row) (shown row ++ behind rows row) (All-filter (λ r. is_lt (row_cmp r row)) P rows all)
+    (All-append P (shown row) (behind rows row) own (All-filter (λ r. is_gt (row_cmp r row)) P rows all))
+
+pub all_shown : (P : DemandRow → Type 0) (row : DemandRow) → P row → All P (shown row)
+all_shown P row is = elim (row.amount.0 == 0) as (λ b. All P (cond b [] (row ∷ []))) [ true ↦ All-nil P | false ↦ All-cons P row [] is (All-nil P) ]
 
 pub rows_edited : (slots : ℕ) (rows : List DemandRow) (row : DemandRow) → AreDemandRows slots rows → has_slots slots row ≡ true → row.amount.0 ≤ 1000000000 → length (edited rows row) ≤ 10000 → AreDemandRows slots (edited rows row)
 rows_edited slots rows row are in' small few = record {
   ordered = ordered_edited rows row are.ordered;
-  each = each_edited slots rows row are in' small;
+  each = all_edited (IsDemandRow slots) rows row are.each (each_shown slots row in' small);
   few = few;
-}
-
--- the fields stay kept
-pub kept_edited : (slots : ℕ) (rows : List DemandRow) (row : DemandRow) (was : ℕ) (is_whole is_whole' : Bool) (tables tables' : List (List (List ℕ))) →
-    IsKept slots rows is_whole tables → IsWas rows row was → has_slots slots row ≡ true → row.amount.0 ≤ 1000000000 → length (edited rows row) ≤ 10000 →
-    (is_whole' ≡ true → is_whole ≡ true) → (is_whole' ≡ true → IsShifted tables tables' row was) → IsKept slots (edited rows row) is_whole' tables'
-kept_edited slots rows row was is_whole is_whole' tables tables' kept is in' small few stays shifted = record {
-  are_rows = rows_edited slots rows row kept.are_rows in' small few;
-  whole = λ whole o d t. omega (arith, kept.whole (stays whole) o d t, shifted whole o d t, by_end_edited rows row was o d t is);
-}
-
-part_own : (row : DemandRow) (was t : ℕ) → part row.origin.0 row.destination t (with_amount row was) ≡ produced row.from row.to was t
-unfolding part
-part_own row was t = let e : joins row.origin.0 row.destination row ≡ true = grind (arith, nat_tests) in ap (λ b. cond b (produced row.from row.to was t) 0) e
-
--- a whole table has what stood, and room for more
-pub roomy_was : (slots : ℕ) (rows : List DemandRow) (row : DemandRow) (was : ℕ) (is_whole : Bool) (tables : List (List (List ℕ))) → IsKept slots rows is_whole tables → IsWas rows row was → is_whole ≡ true → IsRoomy (table_of tables row.origin.0 row.destination) row.from row.to was
-roomy_was slots rows row was is_whole tables kept is whole = record {
-  has = λ t. omega (arith, kept.whole whole row.origin.0 row.destination t, part_was rows row was row.origin.0 row.destination t is, part_own row was t);
-  room = λ t. omega (arith, kept.whole whole row.origin.0 row.destination t, by_end_le rows row.origin.0 row.destination t, total_le slots rows kept.are_rows);
-}
-
-told_nothing : (o d t : ℕ) → told [] o d t ≡ 0
-unfolding table_of reached
-told_nothing o d t = refl
-
-pub kept_nothing : (slots : ℕ) → IsKept slots [] true []
-unfolding IsStrictlySortedBy
-kept_nothing slots = record {
-  are_rows = record { ordered = tt; each = All-nil (IsDemandRow slots); few = omega arith };
-  whole = λ _ o d t. told_nothing o d t;
 }

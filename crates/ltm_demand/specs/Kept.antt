@@ -1,10 +1,11 @@
 -- What the fields of a `Demand` keep.
-use Rattle.std.specs.Prelude.{◌≡◌, ℕ, ◌≤◌, Bool, true, List, length, All}
+use Rattle.std.specs.Prelude.{◌≡◌, ℕ, ◌+◌, ◌≤◌, List, length, map, All}
 use Rattle.std.specs.List.Sorted.{IsStrictlySortedBy}
 use Rattle.ltm_demand.specs.declared.row.DemandRow.{DemandRow}
-use Rattle.ltm_demand.specs.Rows.{row_cmp, IsDemandRow}
-use Rattle.ltm_demand.specs.Produced.{by_end}
-use Rattle.ltm_demand.specs.Tables.{told}
+use Rattle.ltm_demand.specs.Rows.{OriginRoom, row_cmp, IsDemandRow}
+use Rattle.ltm_demand.specs.Produced.{by_end, origin_by_end}
+use Rattle.ltm_demand.specs.Tables.{told, IsReached}
+use Rattle.ltm_demand.specs.Origins.{OriginData, origin_at, rows_of}
 
 -- the rows are in the order of their keys, each a row within the horizon, and at most 10,000
 pub record AreDemandRows (slots : ℕ) (rows : List DemandRow) : Type 0 where
@@ -12,7 +13,18 @@ pub record AreDemandRows (slots : ℕ) (rows : List DemandRow) : Type 0 where
   pub each : All (IsDemandRow slots) rows
   pub few : length rows ≤ 10000
 
--- where the tables are whole they say what all rows have produced
-pub record IsKept (slots : ℕ) (rows : List DemandRow) (is_whole : Bool) (tables : List (List (List ℕ))) : Type 0 where
-  pub are_rows : AreDemandRows slots rows
-  pub whole : is_whole ≡ true → (o d t : ℕ) → told tables o d t ≡ by_end rows o d t
+-- the room that the origins have
+abbrev pub room_in : OriginData → OriginRoom
+room_in origin = record { rows = origin.places; destinations = origin.table.destinations; slots = origin.table.slots }
+
+abbrev pub room_of : List OriginData → List OriginRoom
+room_of origins = map room_in origins
+
+-- each origin has its own rows, its table reaches to their ends and says what all rows have produced from it
+pub record IsKept (slots count : ℕ) (origins : List OriginData) : Type 0 where
+  pub are_rows : AreDemandRows slots (rows_of origins)
+  pub counted : count ≡ length (rows_of origins)
+  pub own : (o : ℕ) → All (λ r. r.origin.0 ≡ o) (origin_at origins o).rows
+  pub reached : (o : ℕ) → All (IsReached (origin_at origins o).table) (origin_at origins o).rows
+  pub each : (o d t : ℕ) → told (origin_at origins o).table (d + 1) t ≡ by_end (rows_of origins) o d t
+  pub all : (o t : ℕ) → told (origin_at origins o).table 0 t ≡ origin_by_end (rows_of origins) o t

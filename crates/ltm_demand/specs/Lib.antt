@@ -1,5 +1,7 @@
 pub mod Rows
 pub mod Produced
 pub mod Tables
+pub mod Origins
 pub mod Kept
 pub mod Places
+pub mod RowsLeft

@@ -1,5 +1,5 @@
 -- The demand of a case as contracts see it: its rows in the order of their keys, and what a set makes of them.
-use Rattle.std.specs.Prelude.{◌≡◌, ℕ, ◌+◌, ◌<◌, ◌≤◌, Bool, not, ◌==◌, true, ◌&&◌, ◌||◌, if◌then◌else◌, nat_le, nat_lt, List, [], ◌∷◌, ◌++◌, length, sum_by, filter, Result, Ok, Err, IsOk}
+use Rattle.std.specs.Prelude.{◌≡◌, ℕ, ◌<◌, ◌≤◌, Bool, not, ◌==◌, true, ◌&&◌, ◌||◌, if◌then◌else◌, nat_le, nat_lt, List, [], ◌∷◌, ◌++◌, length, slice_index_or, sum_by, filter, Result, Ok, Err, IsOk}
 use Rattle.std.specs.declared.cmp.Ordering.{Ordering}
 use Rattle.std.specs.Ordering.{nat_cmp, ordering_then, is_lt, is_eq, is_gt}
 use Rattle.ltm_demand.specs.declared.row.DemandRow.{DemandRow}
@@ -11,10 +11,20 @@ pub record DemandData : Type 0 where
   pub slots : ℕ
   pub rows : List DemandRow
 
--- the data, and beside them how many further rows can be set without memory
+-- what can be set of an origin without memory: how many rows find a place, and the destinations and slots below which
+pub record OriginRoom : Type 0 where
+  pub rows : ℕ
+  pub destinations : ℕ
+  pub slots : ℕ
+
+-- the data, and beside them for each origin what can be set without memory
 pub record DemandState : Type 0 where
   pub demand : DemandData
-  pub room : ℕ
+  pub room : List OriginRoom
+
+-- the room of an origin; of one that never had a row there is none
+abbrev pub room_at : List OriginRoom → ℕ → OriginRoom
+room_at room origin = slice_index_or room origin (record { rows = 0; destinations = 0; slots = 0 })
 
 -- rows are ordered by origin, then destination, then first slot, then end; where all four are equal the key is one
 abbrev pub row_cmp : DemandRow → DemandRow → Ordering
@@ -59,9 +69,19 @@ with_row d row =
 abbrev pub with_amount : DemandRow → ℕ → DemandRow
 with_amount row amount = record row { amount = record { 0 = amount } }
 
--- to set the row takes no memory: it takes a row out, or writes over one, or there is room for one more
+-- the rows of an origin
+abbrev pub own_rows : List DemandRow → ℕ → List DemandRow
+own_rows rows origin = filter (λ r. r.origin.0 == origin) rows
+
+-- one row more of its origin finds a place
+abbrev pub has_place : DemandState → DemandRow → Bool
+has_place d row =
+    let room = room_at d.room row.origin.0 in
+    nat_lt (length (own_rows d.demand.rows row.origin.0)) room.rows && (nat_lt row.destination room.destinations && nat_le row.to room.slots)
+
+-- to set the row takes no memory: it takes a row out, or writes over one, or finds a place
 abbrev pub takes_no_memory : DemandState → DemandRow → Bool
-takes_no_memory d row = (row.amount.0 == 0) || (not (amount_at d.demand.rows row == 0) || nat_lt 0 d.room)
+takes_no_memory d row = (row.amount.0 == 0) || (not (amount_at d.demand.rows row == 0) || has_place d row)
 
 -- the row can be set, and that takes no memory
 pub record CanRestore (d : DemandState) (row : DemandRow) : Type 0 where
@@ -69,9 +89,15 @@ pub record CanRestore (d : DemandState) (row : DemandRow) : Type 0 where
   pub accepted : IsOk (with_row d.demand row)
   pub free : takes_no_memory d row ≡ true
 
--- rows and room together are no fewer than before, so what could be restored at the same data still can
+-- an origin's room is no less than before
+pub record IsNoLess (old new : OriginRoom) : Type 0 where
+  pub rows : old.rows ≤ new.rows
+  pub destinations : old.destinations ≤ new.destinations
+  pub slots : old.slots ≤ new.slots
+
+-- the room is no less than before, so what could be restored at the same data still can
 abbrev pub KeepsRoom : DemandState → DemandState → Type 0
-KeepsRoom old new = length old.demand.rows + old.room ≤ length new.demand.rows + new.room
+KeepsRoom old new = (origin : ℕ) → IsNoLess (room_at old.room origin) (room_at new.room origin)
 
 -- what each row of a demand is: some slots within the horizon, and 1 to 1,000,000,000 units
 pub record IsDemandRow (slots : ℕ) (row : DemandRow) : Type 0 where

@@ -1,30 +1,44 @@
--- Tables of the units produced by the end of each slot, one for each origin and destination.
-use Rattle.std.specs.Prelude.{◌≡◌, ℕ, ◌+◌, ◌-◌, ◌<◌, ◌≤◌, ◌^◌, List, [], length, slice_index, slice_index_or}
+-- A table of what an origin has produced by the end of each slot. A slot's numbers lie side by side: that of all
+-- destinations in column 0, that of a destination in the column behind it.
+use Rattle.std.specs.Prelude.{◌≡◌, ℕ, ◌+◌, ◌-◌, ◌*◌, ◌<◌, ◌≤◌, ◌^◌, min, if◌then◌else◌, nat_le, List, [], slice_index}
 use Rattle.ltm_demand.specs.declared.row.DemandRow.{DemandRow}
 use Rattle.ltm_demand.specs.Rows.{with_amount}
-use Rattle.ltm_demand.specs.Produced.{part, produced}
+use Rattle.ltm_demand.specs.Produced.{part, origin_part, produced}
 
--- what a table says of a slot: its place, or the last place for every later slot
-unfoldable pub reached : List ℕ → ℕ → ℕ
-reached units slot = slice_index_or units slot (slice_index units (length units - 1))
+pub record TableData : Type 0 where
+  pub destinations : ℕ
+  pub slots : ℕ
+  pub units : List ℕ
 
--- the table of an origin and a destination; where none was made it has no place
-unfoldable pub table_of : List (List (List ℕ)) → ℕ → ℕ → List ℕ
-table_of tables origin destination = slice_index_or (slice_index_or tables origin []) destination []
+abbrev pub no_table : TableData
+no_table = record { destinations = 0; slots = 0; units = [] }
 
--- what the tables say of an origin, a destination and a slot
-abbrev pub told : List (List (List ℕ)) → ℕ → ℕ → ℕ → ℕ
-told tables origin destination slot = reached (table_of tables origin destination) slot
+-- what a table says of a column and a slot: a slot past its last says what the last does, a column that it has not 0
+unfoldable pub told : TableData → ℕ → ℕ → ℕ
+told t column slot = if nat_le column t.destinations then slice_index t.units (min slot (t.slots - 1) * (t.destinations + 1) + column) else 0
 
--- the tables say what they said, with the row in place of the same row with another amount
-abbrev pub IsShifted : List (List (List ℕ)) → List (List (List ℕ)) → DemandRow → ℕ → Type 0
-IsShifted old new row was = (o d t : ℕ) → told new o d t + part o d t (with_amount row was) ≡ told old o d t + part o d t row
+-- a column says what it said, with one amount over the slots in place of another
+abbrev pub IsShiftedColumn : TableData → TableData → ℕ → ℕ → ℕ → ℕ → ℕ → Type 0
+IsShiftedColumn old new column from to was now = (t : ℕ) → told new column t + produced from to was t ≡ told old column t + produced from to now t
 
--- one table says what it said, with one amount over the slots in place of another
-abbrev pub IsShiftedTable : List ℕ → List ℕ → ℕ → ℕ → ℕ → ℕ → Type 0
-IsShiftedTable old new from to was now = (t : ℕ) → reached new t + produced from to was t ≡ reached old t + produced from to now t
+-- a column has what was produced, and room for another amount
+pub record IsRoomyColumn (t : TableData) (column from to was : ℕ) : Type 0 where
+  pub has : (slot : ℕ) → produced from to was slot ≤ told t column slot
+  pub room : (slot : ℕ) → told t column slot < 2 ^ 63
 
--- a table has what was produced, and room for another amount
-pub record IsRoomy (units : List ℕ) (from to was : ℕ) : Type 0 where
-  pub has : (t : ℕ) → produced from to was t ≤ reached units t
-  pub room : (t : ℕ) → reached units t < 2 ^ 63
+-- the columns of a row have what stood at its key, and room for another amount
+pub record IsRoomy (t : TableData) (row : DemandRow) (was : ℕ) : Type 0 where
+  pub own : IsRoomyColumn t (row.destination + 1) row.from row.to was
+  pub all : IsRoomyColumn t 0 row.from row.to was
+
+-- the table has a place for a row
+pub record IsReached (t : TableData) (row : DemandRow) : Type 0 where
+  pub destination : row.destination < t.destinations
+  pub end : row.to ≤ t.slots
+
+-- the table of the row's origin says what it said, with the row in place of the same row with another amount
+pub record IsShifted (old new : TableData) (row : DemandRow) (was : ℕ) : Type 0 where
+  pub each : (d t : ℕ) → told new (d + 1) t + part row.origin.0 d t (with_amount row was) ≡ told old (d + 1) t + part row.origin.0 d t row
+  pub all : (t : ℕ) → told new 0 t + origin_part row.origin.0 t (with_amount row was) ≡ told old 0 t + origin_part row.origin.0 t row
+  pub destinations : new.destinations ≡ old.destinations
+  pub slots : new.slots ≡ old.slots

@@ -1,8 +1,11 @@
 //! The demand of a case.
-ghost use Rattle.std.specs.Prelude.{◌≡◌, ◌≢◌, true, ℕ, ◌+◌, ◌-◌, ◌<◌, ◌≤◌, List, [], length, OnErr, OnOk, IfErr, IfOk, Ok, Err, IsOk, vec_len, vec_capacity, IsTrue, sum_by};
+ghost use Rattle.std.specs.Prelude.{◌≡◌, ◌≢◌, true, ℕ, ◌+◌, ◌-◌, ◌<◌, ◌≤◌, List, [], ◌==◌, length, slice_index, OnErr, OnOk, IfErr, IfOk, IfSome, None, Ok, Err, IsOk, vec_len, vec_capacity, IsTrue, sum_by};
+ghost use Rattle.std.specs.List.{list_any};
+ghost use Rattle.ltm_demand.specs.Rows.{shown};
+ghost use Rattle.ltm_demand.specs.Origins.{rows_of, origin_at, no_origin, IsAlike};
 
-use crate::production::{Production, part_of};
-use crate::rows::{find, put_in, put_over};
+use crate::all_rows::DemandRows;
+use crate::origin::Origin;
 use crate::{DemandFault, DemandRow};
 use ltm_units::{NoMemory, NodeId, Units};
 use std::alloc::Global;
@@ -11,36 +14,57 @@ use std::marker::Model;
 /// The most rows that a demand has.
 const MAX_ROWS: usize = 10_000;
 
-/// The demand of a case: at most 10,000 rows, one for each key, and a table of what they have produced.
+/// The demand of a case: at most 10,000 rows, one for each key, and what each origin has produced.
 ///
-/// Contracts see the horizon and the rows in the order of their keys, and beside them how many further rows can be set
-/// without memory. They do not see the tables.
+/// The rows lie in a list for each origin, beside its table, and origins by node number. Contracts see the horizon and
+/// all rows in the order of their keys, and beside them what can be set without memory. They do not see the tables.
 #[derive(Drop)]
 pub struct Demand {
     slots: u32,
-    rows: Vec<DemandRow>,
-    production: Production,
-    // Whether the tables say what all rows produce. Only `restore` of a row whose table was never made makes it false.
-    is_whole: bool,
+    count: usize,
+    // By node number, up to the last that has had a row.
+    origins: Vec<Origin>,
 }
 
 impl Model for Demand {
-    ghost use Rattle.std.specs.Prelude.{◌-◌, vec_len, vec_capacity};
     ghost use Rattle.ltm_demand.specs.Rows.{DemandData, DemandState};
+    ghost use Rattle.ltm_demand.specs.Origins.{rows_of};
+    ghost use Rattle.ltm_demand.specs.Kept.{IsKept, room_of};
 
     ghost Value = { DemandState };
 
-    ghost use Rattle.ltm_demand.specs.Kept.{IsKept};
+    ghost view = { λ d. record { demand = record { slots = d.slots; rows = rows_of d.origins.items }; room = room_of d.origins.items } };
 
-    ghost view = { λ d. record { demand = record { slots = d.slots; rows = d.rows.items }; room = vec_capacity d.rows - vec_len d.rows } };
+    ghost invariant = { λ d. IsKept d.slots d.count d.origins.items };
+}
 
-    ghost invariant = { λ d. IsKept d.slots d.rows.items d.is_whole d.production };
+/// Sees to it that there are more than `place` origins. No row and no room changes.
+fn make_origins(origins: &mut Vec<Origin>, place: u32) -> Result<(), NoMemory>
+    ensures alike { (o : ℕ) → IsAlike (origin_at origins.old.items o) (origin_at origins.new.items o) }
+    ensures places { (o : ℕ) → (origin_at origins.old.items o).places ≤ (origin_at origins.new.items o).places }
+    ensures rows { rows_of origins.new.items ≡ rows_of origins.old.items }
+    ensures ok { OnOk result (place < vec_len origins.new) }
+{
+    let alloc = *origins.allocator();
+    'room: while origins.len() <= place as usize {
+        origins.push(Origin::new(alloc))?;
+    }
+    Ok(())
+}
+
+/// The origin at a place, where one has been made.
+#[inline]
+fn origin_of(origins: &[Origin], place: u32) -> Option<&Origin>
+    ensures some { IfSome result (λ origin. origin.now ≡ origin_at origins.now place) }
+    ensures none { result ≡ None → origin_at origins.now place ≡ no_origin }
+{
+    origins.get(place as usize)
 }
 
 impl Demand {
-    ghost use Rattle.ltm_demand.specs.Rows.{DemandData, DemandState, with_row, with_amount, amount_at, has_slots, edited, takes_no_memory, CanRestore, KeepsRoom};
+    ghost use Rattle.ltm_demand.specs.Rows.{DemandData, DemandState, with_row, with_amount, amount_at, has_slots, edited, own_rows, takes_no_memory, has_place, CanRestore, KeepsRoom};
     ghost use Rattle.ltm_demand.specs.Places.{IsAt, IsGap};
-    ghost use Rattle.ltm_demand.specs.Produced.{by_end, total, has};
+    ghost use Rattle.ltm_demand.specs.Produced.{by_end, origin_by_end, total, has};
     ghost use Rattle.ltm_demand.specs.Kept.{AreDemandRows};
 
     /// No row, over this many slots.
@@ -49,17 +73,17 @@ impl Demand {
     {
         Demand {
             slots,
-            rows: Vec::new(alloc),
-            production: Production::new(alloc),
-            is_whole: true,
+            count: 0,
+            origins: Vec::new(alloc),
         }
     }
 
     /// How many rows there are.
-    fn count(&self) -> usize
-        ensures { result ≡ length self.now.demand.rows }
+    pub fn row_count(&self) -> usize
+        ensures count { result ≡ length self.now.demand.rows }
+        ensures kept { AreDemandRows self.now.demand.slots self.now.demand.rows }
     {
-        self.rows.len()
+        self.count
     }
 
     /// Whether the slots of a row are some, and within the horizon.
@@ -69,17 +93,20 @@ impl Demand {
         row.from < row.to && row.to <= self.slots
     }
 
-    /// The place of the row with this key, or the place where it would go.
+    /// The place of the row with this key among those of its origin, or the place where it would go.
     fn place(&self, row: &DemandRow) -> Result<usize, usize>
-        ensures found { IfOk result (IsAt self.now.demand.rows row.now) }
-        ensures absent { IfErr result (IsGap self.now.demand.rows row.now) }
+        ensures found { IfOk result (IsAt (own_rows self.now.demand.rows row.now.origin.0) row.now) }
+        ensures absent { IfErr result (IsGap (own_rows self.now.demand.rows row.now.origin.0) row.now) }
     {
-        find(&self.rows, row)
+        match origin_of(&self.origins, row.origin.0) {
+            Some(origin) => origin.find(row),
+            None => Err(0),
+        }
     }
 
     /// Writes over the row at the place, or takes it out where the amount is 0; the amount that stood there.
     fn replace(&mut self, place: usize, row: &DemandRow) -> u64
-        requires at { IsAt self.old.demand.rows row.now place }
+        requires at { IsAt (own_rows self.old.demand.rows row.now.origin.0) row.now place }
         requires slots { has_slots self.old.demand.slots row.now ≡ true }
         requires small { row.now.amount.0 ≤ 1000000000 }
         ensures done { with_row self.old.demand row.now ≡ Ok self.new.demand }
@@ -88,31 +115,33 @@ impl Demand {
         ensures undo { CanRestore self.new (with_amount row.now result) }
         ensures room { KeepsRoom self.old self.new }
     {
-        let was = put_over(&mut self.rows, place, row);
-        self.is_whole = self.production.tell(self.is_whole, row, was);
+        let origin = &mut self.origins[row.origin.0 as usize];
+        let was = origin.replace(place, row);
+        self.count -= taken_out(row);
         was
     }
 
     /// Puts a new row into its place, for which there is room.
     fn fill(&mut self, place: usize, row: &DemandRow)
-        requires gap { IsGap self.old.demand.rows row.now place }
+        requires gap { IsGap (own_rows self.old.demand.rows row.now.origin.0) row.now place }
         requires slots { has_slots self.old.demand.slots row.now ≡ true }
         requires small { row.now.amount.0 ≤ 1000000000 }
         requires some { 0 < row.now.amount.0 }
         requires few { length self.old.demand.rows < 10000 }
-        requires vacant { 0 < self.old.room }
+        requires vacant { has_place self.old row.now ≡ true }
         ensures done { with_row self.old.demand row.now ≡ Ok self.new.demand }
         ensures back { with_row self.new.demand (with_amount row.now 0) ≡ Ok self.old.demand }
         ensures undo { CanRestore self.new (with_amount row.now 0) }
         ensures room { KeepsRoom self.old self.new }
     {
-        put_in(&mut self.rows, place, row);
-        self.is_whole = self.production.tell(self.is_whole, row, 0);
+        let origin = &mut self.origins[row.origin.0 as usize];
+        origin.fill(place, row);
+        self.count += 1;
     }
 
     /// A row of amount 0 where none has its key: nothing is to be done.
     fn leave(&self, place: usize, row: &DemandRow)
-        requires gap { IsGap self.now.demand.rows row.now place }
+        requires gap { IsGap (own_rows self.now.demand.rows row.now.origin.0) row.now place }
         requires slots { has_slots self.now.demand.slots row.now ≡ true }
         requires none { row.now.amount.0 ≡ 0 }
         ensures done { with_row self.now.demand row.now ≡ Ok self.now.demand }
@@ -120,27 +149,23 @@ impl Demand {
         ensures back { with_row self.now.demand (with_amount row.now 0) ≡ Ok self.now.demand }
         ensures undo { CanRestore self.now (with_amount row.now 0) }
     {
-        let _ = &self.rows;
+        let _ = &self.origins;
     }
 
-    /// Sees to it that one more row finds room, and its table.
+    /// Sees to it that one more row finds a place.
     fn make_room(&mut self, row: &DemandRow) -> Result<(), NoMemory>
         ensures demand { self.new.demand ≡ self.old.demand }
-        ensures ok { OnOk result (0 < self.new.room) }
+        ensures ok { OnOk result (has_place self.new row.now ≡ true) }
         ensures room { KeepsRoom self.old self.new }
     {
-        self.rows.reserve(1)?;
-        if self.is_whole {
-            self.production
-                .reach(row.origin.0, row.destination, row.to)?;
-        }
-        Ok(())
+        make_origins(&mut self.origins, row.origin.0)?;
+        let origin = &mut self.origins[row.origin.0 as usize];
+        origin.make_room(row.destination, row.to)
     }
 
     /// Sets a row whose key does not stand yet.
-    #[tactic(auto, using(crate::proofs::Edits::amount_absent))]
     fn add(&mut self, place: usize, row: &DemandRow) -> Result<(), DemandFault>
-        requires gap { IsGap self.old.demand.rows row.now place }
+        requires gap { IsGap (own_rows self.old.demand.rows row.now.origin.0) row.now place }
         requires slots { has_slots self.old.demand.slots row.now ≡ true }
         requires small { row.now.amount.0 ≤ 1000000000 }
         requires some { 0 < row.now.amount.0 }
@@ -152,7 +177,7 @@ impl Demand {
         ensures was { amount_at self.old.demand.rows row.now ≡ 0 }
         ensures room { KeepsRoom self.old self.new }
     {
-        if self.count() >= MAX_ROWS {
+        if self.count >= MAX_ROWS {
             return Err(DemandFault::TooManyRows);
         }
         self.make_room(row)?;
@@ -248,21 +273,33 @@ impl Demand {
     pub fn by_end(&self, origin: NodeId, destination: u32, slot: u32) -> Units
         ensures { result.0 ≡ by_end self.now.demand.rows origin.0 destination slot }
     {
-        if self.is_whole {
-            return Units(self.production.by_end(origin.0, destination, slot));
+        match origin_of(&self.origins, origin.0) {
+            Some(origin) => Units(origin.by_end(destination, slot)),
+            None => Units(0),
         }
-        Units(self.summed(origin.0, destination, slot))
     }
 
-    /// The same, row by row.
-    pub(crate) fn summed(&self, origin: u32, destination: u32, slot: u32) -> u64
-        ensures { result ≡ by_end self.now.demand.rows origin destination slot }
+    /// What the rows from an origin have produced for all destinations together by the end of a slot.
+    #[inline]
+    pub fn origin_by_end(&self, origin: NodeId, slot: u32) -> Units
+        ensures { result.0 ≡ origin_by_end self.now.demand.rows origin.0 slot }
     {
-        let mut sum = 0;
-        for row in &self.rows {
-            sum += part_of(row, origin, destination, slot);
+        match origin_of(&self.origins, origin.0) {
+            Some(origin) => Units(origin.all_by_end(slot)),
+            None => Units(0),
         }
-        sum
+    }
+
+    /// What the rows from an origin have produced for each destination by the end of a slot, in thousandths of a vehicle:
+    /// a number for each destination, and 0 for those past the end.
+    #[inline]
+    pub fn row_by_end(&self, origin: NodeId, slot: u32) -> &[u64]
+        ensures { (d : ℕ) → slice_index result.now d ≡ by_end self.now.demand.rows origin.0 d slot }
+    {
+        match origin_of(&self.origins, origin.0) {
+            Some(origin) => origin.row_by_end(slot),
+            None => &[],
+        }
     }
 
     /// The units of all rows.
@@ -270,7 +307,8 @@ impl Demand {
         ensures { result.0 ≡ total self.now.demand.rows }
     {
         let mut sum = 0;
-        for row in &self.rows {
+        let mut rows = self.rows();
+        'rows: while let Some(row) = rows.next() {
             sum += row.amount.0;
         }
         Units(sum)
@@ -280,7 +318,10 @@ impl Demand {
     pub fn has(&self, origin: NodeId, destination: u32) -> bool
         ensures { result ≡ has self.now.demand.rows origin.0 destination }
     {
-        self.rows.iter().any(|row| row.origin.0 == origin.0 && row.destination == destination)
+        match origin_of(&self.origins, origin.0) {
+            Some(origin) => leads_to(origin.rows(), destination),
+            None => false,
+        }
     }
 
     /// Raises the horizon, at most to 10,000 slots. No row changes.
@@ -299,25 +340,39 @@ impl Demand {
     }
 
     /// The rows in the order of their keys: by origin, then destination, then first slot, then end.
-    pub fn rows(&self) -> &[DemandRow]
-        ensures all { result.now ≡ self.now.demand.rows }
+    pub fn rows(&self) -> DemandRows<'_>
+        ensures all { result ≡ self.now.demand.rows }
         ensures kept { AreDemandRows self.now.demand.slots self.now.demand.rows }
     {
-        &self.rows
+        DemandRows::of(&self.origins)
     }
 
     /// A demand with the same horizon and rows.
     pub fn try_copy(&self) -> Result<Demand, NoMemory>
         ensures { IfOk result (λ copy. copy.demand ≡ self.now.demand) }
     {
-        let alloc = *self.rows.allocator();
-        let rows = Vec::from_slice(alloc, self.rows.as_slice())?;
-        let production = self.production.try_copy(alloc)?;
+        let mut origins = Vec::with_capacity(*self.origins.allocator(), self.origins.len())?;
+        for origin in &self.origins {
+            origins.push(origin.try_copy()?)?;
+        }
         Ok(Demand {
             slots: self.slots,
-            rows,
-            production,
-            is_whole: self.is_whole,
+            count: self.count,
+            origins,
         })
     }
+}
+
+/// How many rows are taken out where this one is set over another: one where its amount is 0.
+fn taken_out(row: &DemandRow) -> usize
+    ensures { result + length (shown row.now) ≡ 1 }
+{
+    if row.amount.0 == 0 { 1 } else { 0 }
+}
+
+/// Whether some row leads to the destination.
+fn leads_to(rows: &[DemandRow], destination: u32) -> bool
+    ensures { result ≡ list_any (λ row. row.destination == destination) rows.now }
+{
+    rows.iter().any(|row| row.destination == destination)
 }

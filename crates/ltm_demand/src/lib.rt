@@ -1,19 +1,23 @@
 //! The demand of a case: rows of vehicles from an origin to a destination over some slots, and what they have produced
 //! by the end of each slot.
 //!
-//! A row's vehicles start evenly over its slots, in whole thousandths, floored; rows add up. To ask what an origin has
-//! produced for a destination by the end of a slot reads one table place, however many rows there are; to set a row
-//! costs the rows that move and a sum for each slot of that one table.
+//! It stands on `ltm_units` alone. To ask what an origin has produced by a slot, for one destination, for each or for all
+//! together, reads one row of the origin's table, and takes no memory; to set a row costs the rows of its origin that
+//! move and a sum for each slot of that table. Change it here where demand starts otherwise than evenly over the slots of
+//! a row, in whole thousandths, floored.
 #![tactic(auto)]
 
+mod all_rows;
 mod demand;
 mod laws;
+mod origin;
 mod pace;
-mod production;
 mod row;
 mod rows;
 mod shifting;
+mod table;
 
+pub use all_rows::DemandRows;
 pub use demand::Demand;
 pub use laws::{destinations_add_up, production_never_falls, production_stays};
 pub use row::{DemandFault, DemandRow};

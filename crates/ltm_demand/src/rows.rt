@@ -33,6 +33,7 @@ pub fn put_over(rows: &mut Vec<DemandRow>, place: usize, row: &DemandRow) -> u64
     ensures rows { rows.new.items ≡ edited rows.old.items row.now }
     ensures was { result ≡ amount_at rows.old.items row.now }
     ensures capacity { vec_capacity rows.new ≡ vec_capacity rows.old }
+    ensures vacant { row.now.amount.0 ≡ 0 → vec_len rows.new < vec_capacity rows.new }
 {
     let was = rows[place].amount.0;
     if row.amount.0 == 0 {

@@ -44,12 +44,16 @@ fn produces_evenly_and_floored(rt: HostRuntime) -> Result<(), Fail> {
             "{amount} at {slot}"
         );
         assert_eq!(rt;
-            demand.summed(7, 3, slot),
-            want,
-            "{amount} at {slot}, row by row"
+            demand.origin_by_end(NodeId(7), slot),
+            Units(want),
+            "{amount} at {slot}, all destinations"
         );
+        assert!(rt; demand.row_by_end(NodeId(7), slot)[..4] == [0, 0, 0, want]);
+        for origin in [0, 6, 8] {
+            assert_eq!(rt; demand.by_end(NodeId(origin), 3, slot), Units(0));
+            assert_eq!(rt; demand.origin_by_end(NodeId(origin), slot), Units(0));
+        }
         assert_eq!(rt; demand.by_end(NodeId(7), 2, slot), Units(0));
-        assert_eq!(rt; demand.by_end(NodeId(6), 3, slot), Units(0));
     }
     Ok(())
 }
@@ -60,11 +64,21 @@ fn rows_add_up(rt: HostRuntime) -> Result<(), Fail> {
     for k in 0..12u32 {
         demand.set(row(0, 0, 30 * k, 30 * k + 30, 360_000))?;
     }
+    demand.set(row(0, 2, 0, 1, 1000))?;
+    demand.set(row(1, 0, 0, 1, 500))?;
     for (slot, want) in [(0, 12_000), (29, 360_000), (30, 372_000), (359, 4_320_000)] {
         assert_eq!(rt; demand.by_end(NodeId(0), 0, slot), Units(want), "at {slot}");
-        assert_eq!(rt; demand.summed(0, 0, slot), want, "at {slot}, row by row");
+        assert_eq!(rt;
+            demand.origin_by_end(NodeId(0), slot),
+            Units(want + 1000),
+            "at {slot}"
+        );
+        assert!(rt;
+            demand.row_by_end(NodeId(0), slot)[..3] == [want, 0, 1000],
+            "at {slot}"
+        );
     }
-    assert_eq!(rt; demand.total(), Units(4_320_000));
+    assert_eq!(rt; demand.total(), Units(4_321_500));
     Ok(())
 }
 
@@ -101,7 +115,7 @@ fn has_at_most_ten_thousand_rows(rt: HostRuntime) -> Result<(), Fail> {
     for k in 0..10_000u32 {
         demand.set(row(k / 100, k % 50, k % 7, 8 + k % 3, 2))?;
     }
-    assert_eq!(rt; demand.rows().len(), 10_000);
+    assert_eq!(rt; demand.row_count(), 10_000);
     assert_eq!(rt; demand.total(), Units(20_000));
     assert_eq!(rt;
         demand.set(row(100, 0, 0, 8, 1)),
@@ -115,7 +129,7 @@ fn has_at_most_ten_thousand_rows(rt: HostRuntime) -> Result<(), Fail> {
     assert_eq!(rt; demand.change(row(0, 0, 0, 8, 5)), Ok(Units(2)));
     assert_eq!(rt; demand.change(row(0, 0, 0, 8, 0)), Ok(Units(5)));
     assert_eq!(rt; demand.set(row(100, 0, 0, 8, 1)), Ok(()));
-    assert_eq!(rt; demand.rows().len(), 10_000);
+    assert_eq!(rt; demand.row_count(), 10_000);
     Ok(())
 }
 
@@ -136,11 +150,13 @@ fn changes_are_undone(rt: HostRuntime) -> Result<(), Fail> {
             amount: was,
             ..changed
         });
-        assert!(rt; demand.rows() == before.rows());
+        assert!(rt; demand.rows().eq(before.rows()));
         assert_eq!(rt; demand.by_end(NodeId(1), 0, 2), Units(3000));
     }
-    let first = row(0, 1, 2, 4, 70);
-    assert!(rt; demand.rows() == [first, row(1, 0, 0, 5, 5000)].as_slice());
+    let mut rows = demand.rows();
+    assert_eq!(rt; rows.next(), Some(row(0, 1, 2, 4, 70)));
+    assert_eq!(rt; rows.next(), Some(row(1, 0, 0, 5, 5000)));
+    assert_eq!(rt; rows.next(), None);
     assert_eq!(rt; demand.has(NodeId(0), 1), true);
     assert_eq!(rt; demand.has(NodeId(0), 0), false);
     assert_eq!(rt; before.by_end(NodeId(0), 1, 2), Units(35));

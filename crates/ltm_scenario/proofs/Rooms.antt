@@ -1,37 +1,47 @@
 -- Room that does not fall.
-use Rattle.std.proofs.Common.{◌≡◌, ℕ, ◌+◌, ◌*◌, ◌<◌, ◌≤◌, ◌==◌, ◌||◌, not, Bool, true, false, length, refl, sym, ap, subst, ◌∙◌, arith, IsSome, vec_len, List}
+use Rattle.std.proofs.Common.{◌≡◌, ℕ, ◌≤◌, ◌==◌, ◌||◌, ◌&&◌, nat_lt, nat_le, not, Bool, true, false, length, refl, sym, ap, subst, ◌∙◌, arith, List}
 use Rattle.std.proofs.lemmas.Bool.Decides.{nat_tests}
 use Rattle.ltm_demand.specs.declared.row.DemandRow.{DemandRow}
-use Rattle.ltm_demand.specs.Rows.{DemandData, CanRestore, amount_at}
+use Rattle.ltm_demand.specs.Rows.{DemandData, OriginRoom, IsNoLess, CanRestore, room_at, own_rows, amount_at}
 use Rattle.ltm_scenario.specs.declared.undo.Undo.{Undo}
 use Rattle.ltm_scenario.specs.declared.undo.Undo.TheVariants.{Demand, Entry, Exit, NewSplit, OldSplit, Diagram}
 use Rattle.ltm_scenario.specs.Data.{ScenarioData, demand_of}
 use Rattle.ltm_scenario.specs.State.{ScenarioState, KeepsRoom}
 use Rattle.ltm_scenario.specs.Undo.{undone, Fits, CanUndo, Undoes}
 
+no_less : (r : OriginRoom) → IsNoLess r r
+no_less r = record { rows = omega arith; destinations = omega arith; slots = omega arith }
+
+no_less_through : (a b c : OriginRoom) → IsNoLess a b → IsNoLess b c → IsNoLess a c
+no_less_through a b c p q = record { rows = omega (arith, p.rows, q.rows); destinations = omega (arith, p.destinations, q.destinations); slots = omega (arith, p.slots, q.slots) }
+
 pub room_stays : (s : ScenarioState) → KeepsRoom s s
-room_stays s = record { demand = omega arith; entry = omega arith; exit = omega arith }
+room_stays s = record { demand = λ o. no_less (room_at s.demand_room o); entry = omega arith; exit = omega arith }
 
 pub room_through : (a b c : ScenarioState) → KeepsRoom a b → KeepsRoom b c → KeepsRoom a c
-room_through a b c p q = record { demand = omega (arith, p.demand, q.demand); entry = omega (arith, p.entry, q.entry); exit = omega (arith, p.exit, q.exit) }
+room_through a b c p q = record {
+  demand = λ o. no_less_through (room_at a.demand_room o) (room_at b.demand_room o) (room_at c.demand_room o) (p.demand o) (q.demand o);
+  entry = omega (arith, p.entry, q.entry);
+  exit = omega (arith, p.exit, q.exit);
+}
 
 or_later : (a b c d : Bool) → (c ≡ true → d ≡ true) → (a || (b || c)) ≡ true → (a || (b || d)) ≡ true
 or_later true b c d h e = refl
 or_later false true c d h e = refl
 or_later false false c d h e = h e
 
-room_left : (rows room more : ℕ) → rows + room ≤ rows + more → Rattle.std.proofs.Common.nat_lt 0 room ≡ true → Rattle.std.proofs.Common.nat_lt 0 more ≡ true
-room_left rows room more h e = grind (arith, nat_tests)
+still_fits : (rows destination end : ℕ) (old new : OriginRoom) → IsNoLess old new → (nat_lt rows old.rows && (nat_lt destination old.destinations && nat_le end old.slots)) ≡ true → (nat_lt rows new.rows && (nat_lt destination new.destinations && nat_le end new.slots)) ≡ true
+still_fits rows destination end old new is h = let a = is.rows in let b = is.destinations in let c = is.slots in grind (arith, nat_tests)
 
 -- what could be restored still can where the data are the same and the room is no less
-pub still_restores : (d : DemandData) (room more : ℕ) (row : DemandRow) → length d.rows + room ≤ length d.rows + more → CanRestore (record { demand = d; room = room }) row → CanRestore (record { demand = d; room = more }) row
+pub still_restores : (d : DemandData) (room more : List OriginRoom) (row : DemandRow) → ((o : ℕ) → IsNoLess (room_at room o) (room_at more o)) → CanRestore (record { demand = d; room = room }) row → CanRestore (record { demand = d; room = more }) row
 still_restores d room more row h can = record {
   small = can.small;
   accepted = can.accepted;
-  free = or_later (row.amount.0 == 0) (not (amount_at d.rows row == 0)) _ _ (room_left (length d.rows) room more h) can.free;
+  free = or_later (row.amount.0 == 0) (not (amount_at d.rows row == 0)) _ _ (still_fits (length (own_rows d.rows row.origin.0)) row.destination row.to (room_at room row.origin.0) (room_at more row.origin.0) (h row.origin.0)) can.free;
 }
 
-fits_in_room : (s : ScenarioData) (a1 a2 a3 b1 b2 b3 : ℕ) (undo : Undo) → length s.demand + a1 ≤ length s.demand + b1 → a2 ≤ b2 → a3 ≤ b3 →
+fits_in_room : (s : ScenarioData) (a1 : List OriginRoom) (a2 a3 : ℕ) (b1 : List OriginRoom) (b2 b3 : ℕ) (undo : Undo) → ((o : ℕ) → IsNoLess (room_at a1 o) (room_at b1 o)) → a2 ≤ b2 → a3 ≤ b3 →
     Fits (record { scenario = s; demand_room = a1; entry_places = a2; exit_places = a3 }) undo → Fits (record { scenario = s; demand_room = b1; entry_places = b2; exit_places = b3 }) undo
 fits_in_room s a1 a2 a3 b1 b2 b3 (Demand row) h1 h2 h3 fits = still_restores (demand_of s) a1 b1 row h1 fits
 fits_in_room s a1 a2 a3 b1 b2 b3 (Entry link from was) h1 h2 h3 fits = (fits.0, fits.1, omega (arith, fits.2))
@@ -40,13 +50,12 @@ fits_in_room s a1 a2 a3 b1 b2 b3 (NewSplit key) h1 h2 h3 fits = tt
 fits_in_room s a1 a2 a3 b1 b2 b3 (OldSplit key was) h1 h2 h3 fits = fits
 fits_in_room s a1 a2 a3 b1 b2 b3 (Diagram link diagram limits) h1 h2 h3 fits = fits
 
-same_scenario : (old : ScenarioState) (s : ScenarioData) (b1 b2 b3 : ℕ) (undo : Undo) → s ≡ old.scenario → KeepsRoom old (record { scenario = s; demand_room = b1; entry_places = b2; exit_places = b3 }) → CanUndo old undo → CanUndo (record { scenario = s; demand_room = b1; entry_places = b2; exit_places = b3 }) undo
+same_scenario : (old : ScenarioState) (s : ScenarioData) (b1 : List OriginRoom) (b2 b3 : ℕ) (undo : Undo) → s ≡ old.scenario → KeepsRoom old (record { scenario = s; demand_room = b1; entry_places = b2; exit_places = b3 }) → CanUndo old undo → CanUndo (record { scenario = s; demand_room = b1; entry_places = b2; exit_places = b3 }) undo
 same_scenario old s b1 b2 b3 undo same room can =
-    let old_rows : length s.demand ≡ length old.scenario.demand = ap (λ (v : ScenarioData). length v.demand) same in
     subst (λ (v : ScenarioData). CanUndo (record { scenario = v; demand_room = b1; entry_places = b2; exit_places = b3 }) undo) (sym same)
     (record {
       scenario = can.scenario;
-      fits = fits_in_room old.scenario old.demand_room old.entry_places old.exit_places b1 b2 b3 undo (omega (arith, room.demand, old_rows)) room.entry room.exit can.fits;
+      fits = fits_in_room old.scenario old.demand_room old.entry_places old.exit_places b1 b2 b3 undo room.demand room.entry room.exit can.fits;
     })
 
 -- what can be undone still can once later edits are undone

@@ -1,13 +1,13 @@
 -- A scenario with the room that it keeps.
-use Rattle.std.specs.Prelude.{ℕ, ◌≤◌}
+use Rattle.std.specs.Prelude.{ℕ, ◌≤◌, List}
 use Rattle.ltm_demand.specs.Rows as demand
-use Rattle.ltm_demand.specs.Rows.{DemandState}
+use Rattle.ltm_demand.specs.Rows.{DemandState, OriginRoom}
 use Rattle.ltm_scenario.specs.Data.{ScenarioData, demand_of}
 
 -- the data, and beside them what can be written again without memory: further demand rows, entry and exit limits
 pub record ScenarioState : Type 0 where
   pub scenario : ScenarioData
-  pub demand_room : ℕ
+  pub demand_room : List OriginRoom
   pub entry_places : ℕ
   pub exit_places : ℕ
 

@@ -70,9 +70,9 @@ impl Tables {
     fn check_demand(&self) -> Result<(), ScenarioFault>
         ensures { result ≡ first_over (demand_row_checked self.now.scenario) self.now.scenario.demand }
     {
-        let rows = self.demand().rows();
-        for row in rows {
-            self.check_demand_row(row)?;
+        let mut rows = self.demand().rows();
+        'rows: while let Some(row) = rows.next() {
+            self.check_demand_row(&row)?;
         }
         Ok(())
     }

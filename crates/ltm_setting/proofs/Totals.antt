@@ -1,12 +1,10 @@
 -- What a node has produced of all destinations.
-use Rattle.std.proofs.Common.{◌≡◌, ℕ, ◌-◌, ◌<◌, ◌≤◌, List, length, arith, ◌∙◌, inl, inr}
+use Rattle.std.proofs.Common.{◌≡◌, ℕ, ◌-◌, ◌<◌, List, length, ◌∙◌}
 use Rattle.std.specs.Prelude.{All}
-use Rattle.std.proofs.lemmas.Bool.{cases_lt}
 use Rattle.ltm_units.specs.Sums.{sum_below}
 use Rattle.ltm_units.proofs.Sums.{sum_below-same, sum_below-zero}
 use Rattle.ltm_demand.specs.declared.row.DemandRow.{DemandRow}
-use Rattle.ltm_demand.specs.Produced.{by_end, origin_by_end, total}
-use Rattle.ltm_demand.specs.Kept.{AreDemandRows}
+use Rattle.ltm_demand.specs.Produced.{by_end, origin_by_end}
 use Rattle.ltm_scenario.specs.Data.{ScenarioData}
 use Rattle.ltm_scenario.specs.IsScenario.{IsScenario}
 use Rattle.ltm_setting.specs.Setting.{produced_by}
@@ -23,10 +21,3 @@ pub total_later : (s : ScenarioData) (u k : ℕ) → IsScenario s → AddUp → 
 total_later s u k is add_up some =
     sum_below-same (length s.destinations) (λ d. produced_by s.demand u d k) (λ d. by_end s.demand u d (k - 1)) (λ d _. later s.demand u d k some)
     ∙ add_up (length s.destinations) s.demand u (k - 1) (λ i row below. (is.demand i row below).destination_is_one)
-
-pub total_le : (s : ScenarioData) (u k : ℕ) → IsScenario s → AddUp → ((rows : List DemandRow) (o t : ℕ) → origin_by_end rows o t ≤ total rows) → ((slots : ℕ) (rows : List DemandRow) → AreDemandRows slots rows → total rows ≤ 10000000000000) →
-    sum_below (length s.destinations) (λ d. produced_by s.demand u d k) ≤ 10000000000000
-total_le s u k is add_up within small = elim (cases_lt 0 k) [
-  | inl some ↦ omega (arith, total_later s u k is add_up some, within s.demand u (k - 1), small s.setup.slots s.demand is.demand_rows)
-  | inr none ↦ let zero : k ≡ 0 = omega arith in omega (arith, total_first s u k zero)
-]

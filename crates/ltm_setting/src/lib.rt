@@ -1,9 +1,9 @@
 //! What a loading reads of a scenario, number by number.
 //!
 //! A loading is defined over a `Setting`, a record of numbers, and knows no tables and no names. The word `setting_of`
-//! makes one of a scenario's data, and the calls here read each of its numbers from the tables of a `Scenario`. Each costs
-//! an access or two and takes no memory. What is read is a setting whatever the scenario (`is_setting`), so every law of
-//! loadings holds of it.
+//! makes one of a scenario's data, and the calls here read each of its numbers from the tables of a `Scenario`, on which
+//! this crate stands. Each costs an access or two and takes no memory. What is read is a setting whatever the scenario
+//! (`is_setting`), so every law of loadings holds of it. Change it here where a loading is to read something more.
 #![tactic(auto)]
 
 mod laws;

@@ -1,4 +1,4 @@
-use Rattle.std.proofs.Common.{◌≡◌, ℕ, ◌+◌, ◌-◌, ◌<◌, ◌≤◌, length, slice_index}
+use Rattle.std.proofs.Common.{◌≡◌, ◌≢◌, ℕ, ◌+◌, ◌-◌, ◌*◌, ◌<◌, ◌≤◌, length, slice_index}
 use Rattle.ltm_demand.specs.Produced.{produced}
 use Rattle.ltm_demand.proofs.shifting.shift_during.Given as goal
 
@@ -11,6 +11,7 @@ invariant-loop-slot l = record {
   come_amount : l.come.amount ≡ l.now;
   come_slots : l.come.slots ≡ l.to - l.from;
   come_passed : l.come.passed + l.from ≡ l.slot;
-  done : (t : ℕ) → t < l.slot → slice_index l.units t + produced l.from l.to l.was t ≡ slice_index l.fn.units t + produced l.from l.to l.now t;
-  left : (t : ℕ) → l.slot ≤ t → slice_index l.units t ≡ slice_index l.fn.units t;
+  done : (t : ℕ) → t < l.slot → slice_index l.units (t * l.width + l.column) + produced l.from l.to l.was t ≡ slice_index l.fn.units (t * l.width + l.column) + produced l.from l.to l.now t;
+  left : (t : ℕ) → l.slot ≤ t → slice_index l.units (t * l.width + l.column) ≡ slice_index l.fn.units (t * l.width + l.column);
+  others : (c t : ℕ) → c < l.width → c ≢ l.column → slice_index l.units (t * l.width + c) ≡ slice_index l.fn.units (t * l.width + c);
 }

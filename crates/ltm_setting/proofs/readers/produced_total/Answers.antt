@@ -1,15 +1,30 @@
-use Rattle.std.proofs.Common.{◌≡◌, length, arith, ap, ◌∙◌}
-use Rattle.ltm_units.specs.Sums.{sum_below}
-use Rattle.ltm_setting.specs.Setting.{setting_of, produced_by}
-use Rattle.ltm_setting.proofs.Totals.{total_le}
+use Rattle.std.proofs.Common.{◌-◌, arith, ap, sym, ◌∙◌}
+use Rattle.ltm_demand.specs.Rows.{DemandData}
+use Rattle.ltm_demand.specs.Produced.{origin_by_end}
+use Rattle.ltm_setting.specs.Setting.{setting_of}
+use Rattle.ltm_setting.proofs.Totals.{total_first, total_later}
 use Rattle.ltm_setting.proofs.readers.produced_total.Goals as goal
+
+pub returns-then-boundary-eq0-clause-value : goal.returns-then-boundary-eq0-clause-value
+unfolding setting_of
+returns-then-boundary-eq0-clause-value c = sym (total_first c.args.scenario.now c.args.node.0 c.args.boundary c.if-boundary-eq0.true)
+
+pub returns-clause-value : goal.returns-clause-value
+unfolding setting_of
+returns-clause-value c =
+    let s = c.args.scenario.now in
+    let u = c.args.node.0 in
+    let k = c.args.boundary in
+    c.origin_by_end.ensures ∙ (ap (λ (d : DemandData). origin_by_end d.rows u (k - 1)) c.demand.ensures ∙ sym (total_later s u k c.setup-setup.ensures.scenario c.destinations_add_up.ensures.sum (omega arith)))
 
 pub returns-clause-small : goal.returns-clause-small
 unfolding setting_of
 returns-clause-small c =
     let s = c.args.scenario.now in
-    let u = c.args.node.0 in
-    let k = c.args.boundary in
-    let all : c.loop-destination.destination ≡ length s.destinations = omega (arith, c.loop-destination.auto.destination-end, c.loop-destination-test.false, c.destination_count-destination-end.ensures.value) in
-    let sum : c.loop-destination.sum ≡ sum_below (length s.destinations) (λ d. produced_by s.demand u d k) = c.loop-destination.invariant.0 ∙ ap (λ n. sum_below n (λ d. produced_by s.demand u d k)) all in
-    omega (arith, sum, total_le s u k c.setup-setup.ensures.scenario c.destinations_add_up.ensures.sum c.destinations_add_up.ensures.within c.production_never_falls.ensures.small)
+    omega (
+      arith,
+      c.origin_by_end.ensures,
+      ap (λ (d : DemandData). origin_by_end d.rows c.args.node.0 (c.args.boundary - 1)) c.demand.ensures,
+      c.destinations_add_up.ensures.within s.demand c.args.node.0 (c.args.boundary - 1),
+      c.production_never_falls.ensures.small s.setup.slots s.demand c.setup-setup.ensures.scenario.demand_rows,
+    )

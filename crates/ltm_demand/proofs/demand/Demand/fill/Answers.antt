@@ -1,59 +1,144 @@
-use Rattle.std.proofs.Common.{◌≡◌, ◌-◌, ◌≤◌, true, length, vec_len, arith, ap, sym, subst}
-use Rattle.std.specs.Vec.{vec_capacity}
-use Rattle.ltm_demand.specs.Rows.{has_slots, edited}
+use Rattle.std.proofs.Common.{◌≡◌, ℕ, ◌+◌, ◌<◌, true, length, set, arith, ap, sym, subst, ◌∙◌}
+use Rattle.std.proofs.lemmas.List.{get_or_read}
+use Rattle.ltm_demand.specs.Rows.{DemandState, IsNoLess, room_at, own_rows, edited, has_slots, has_place}
+use Rattle.ltm_demand.specs.Tables.{IsShifted, IsReached, IsRoomy}
+use Rattle.ltm_demand.specs.Origins.{OriginData, no_origin, origin_at, rows_of}
+use Rattle.ltm_demand.specs.Kept.{room_in, room_of}
 use Rattle.ltm_demand.specs.Places.{IsGap}
-use Rattle.ltm_demand.proofs.State.{IsWas, was_gap, kept_edited, roomy_was}
-use Rattle.ltm_demand.proofs.Restoring.{IsDone, is_done, state_of, length_filled}
+use Rattle.ltm_demand.proofs.Restoring.{IsDone, state_of, length_filled}
+use Rattle.ltm_demand.proofs.KeptOrigins.{roomy_was, room_set}
+use Rattle.ltm_demand.proofs.Changes.{IsVacant, vacant_in, vacant_inside, gap_own, none_joined, filled_kept, filled_done}
 use Rattle.ltm_demand.proofs.demand.Demand.fill.Goals as goal
 
-pub tell-self-inside-requires-clause-roomy : goal.tell-self-inside-requires-clause-roomy
-tell-self-inside-requires-clause-roomy c =
+pub index_mut-origin-requires : goal.index_mut-origin-requires
+index_mut-origin-requires c =
+    let xs = c.self.inside.origins.items in
     let row = c.args.row.now in
-    let gap : IsGap c.self.inside.rows.items row c.args.place = subst (λ s. IsGap s.demand.rows row c.args.place) (sym c.self.view_is) c.requires.gap in
-    let was : IsWas c.self.inside.rows.items row 0 = was_gap c.self.inside.rows.items row c.args.place gap in
-    roomy_was c.self.inside.slots c.self.inside.rows.items row 0 c.self.inside.is_whole c.self.inside.production c.self.invariant was
+    let kept = c.self.invariant in
+    let gap : IsGap (origin_at xs row.origin.0).rows row c.args.place = gap_own c.self.inside.slots c.self.inside.count xs row c.args.place kept (subst (λ (d : DemandState). IsGap (own_rows d.demand.rows row.origin.0) row c.args.place) (sym c.self.view_is) c.requires.gap) in
+    let vacant : IsVacant xs row = vacant_in c.self.inside.slots c.self.inside.count xs row kept (subst (λ (d : DemandState). has_place d row ≡ true) (sym c.self.view_is) c.requires.vacant) in
+    let inside : row.origin.0 < length xs = vacant_inside xs row vacant in
+    omega (arith, inside, c.self.inside.origins.ok)
+
+pub fill-requires-clause-gap : goal.fill-requires-clause-gap
+fill-requires-clause-gap c =
+    let xs = c.self.inside.origins.items in
+    let row = c.args.row.now in
+    let kept = c.self.invariant in
+    let gap : IsGap (origin_at xs row.origin.0).rows row c.args.place = gap_own c.self.inside.slots c.self.inside.count xs row c.args.place kept (subst (λ (d : DemandState). IsGap (own_rows d.demand.rows row.origin.0) row c.args.place) (sym c.self.view_is) c.requires.gap) in
+    let vacant : IsVacant xs row = vacant_in c.self.inside.slots c.self.inside.count xs row kept (subst (λ (d : DemandState). has_place d row ≡ true) (sym c.self.view_is) c.requires.vacant) in
+    let inside : row.origin.0 < length xs = vacant_inside xs row vacant in
+    let read : c.index_mut-origin.result.now ≡ origin_at xs row.origin.0 = get_or_read xs row.origin.0 c.index_mut-origin.result.now inside c.index_mut-origin.ensures.value no_origin in
+    subst (λ (o : OriginData). IsGap o.rows row c.args.place) (sym read) gap
+
+pub fill-requires-clause-vacant : goal.fill-requires-clause-vacant
+fill-requires-clause-vacant c =
+    let xs = c.self.inside.origins.items in
+    let row = c.args.row.now in
+    let kept = c.self.invariant in
+    let gap : IsGap (origin_at xs row.origin.0).rows row c.args.place = gap_own c.self.inside.slots c.self.inside.count xs row c.args.place kept (subst (λ (d : DemandState). IsGap (own_rows d.demand.rows row.origin.0) row c.args.place) (sym c.self.view_is) c.requires.gap) in
+    let vacant : IsVacant xs row = vacant_in c.self.inside.slots c.self.inside.count xs row kept (subst (λ (d : DemandState). has_place d row ≡ true) (sym c.self.view_is) c.requires.vacant) in
+    let inside : row.origin.0 < length xs = vacant_inside xs row vacant in
+    let read : c.index_mut-origin.result.now ≡ origin_at xs row.origin.0 = get_or_read xs row.origin.0 c.index_mut-origin.result.now inside c.index_mut-origin.ensures.value no_origin in
+    subst (λ (o : OriginData). length o.rows < o.places) (sym read) vacant.rows
+
+pub fill-requires-clause-reached : goal.fill-requires-clause-reached
+fill-requires-clause-reached c =
+    let xs = c.self.inside.origins.items in
+    let row = c.args.row.now in
+    let kept = c.self.invariant in
+    let gap : IsGap (origin_at xs row.origin.0).rows row c.args.place = gap_own c.self.inside.slots c.self.inside.count xs row c.args.place kept (subst (λ (d : DemandState). IsGap (own_rows d.demand.rows row.origin.0) row c.args.place) (sym c.self.view_is) c.requires.gap) in
+    let vacant : IsVacant xs row = vacant_in c.self.inside.slots c.self.inside.count xs row kept (subst (λ (d : DemandState). has_place d row ≡ true) (sym c.self.view_is) c.requires.vacant) in
+    let inside : row.origin.0 < length xs = vacant_inside xs row vacant in
+    let read : c.index_mut-origin.result.now ≡ origin_at xs row.origin.0 = get_or_read xs row.origin.0 c.index_mut-origin.result.now inside c.index_mut-origin.ensures.value no_origin in
+    subst (λ (o : OriginData). IsReached o.table row) (sym read) vacant.reached
+
+pub fill-requires-clause-roomy : goal.fill-requires-clause-roomy
+fill-requires-clause-roomy c =
+    let xs = c.self.inside.origins.items in
+    let row = c.args.row.now in
+    let kept = c.self.invariant in
+    let gap : IsGap (origin_at xs row.origin.0).rows row c.args.place = gap_own c.self.inside.slots c.self.inside.count xs row c.args.place kept (subst (λ (d : DemandState). IsGap (own_rows d.demand.rows row.origin.0) row c.args.place) (sym c.self.view_is) c.requires.gap) in
+    let vacant : IsVacant xs row = vacant_in c.self.inside.slots c.self.inside.count xs row kept (subst (λ (d : DemandState). has_place d row ≡ true) (sym c.self.view_is) c.requires.vacant) in
+    let inside : row.origin.0 < length xs = vacant_inside xs row vacant in
+    let read : c.index_mut-origin.result.now ≡ origin_at xs row.origin.0 = get_or_read xs row.origin.0 c.index_mut-origin.result.now inside c.index_mut-origin.ensures.value no_origin in
+    subst (λ (o : OriginData). IsRoomy o.table row 0) (sym read) (roomy_was c.self.inside.slots c.self.inside.count xs row 0 kept (none_joined c.self.inside.slots c.self.inside.count xs row c.args.place kept gap))
 
 pub invariant_of-self : goal.invariant_of-self
 invariant_of-self c =
+    let xs = c.self.inside.origins.items in
     let row = c.args.row.now in
-    let gap : IsGap c.self.inside.rows.items row c.args.place = subst (λ s. IsGap s.demand.rows row c.args.place) (sym c.self.view_is) c.requires.gap in
-    let was : IsWas c.self.inside.rows.items row 0 = was_gap c.self.inside.rows.items row c.args.place gap in
-    let within : has_slots c.self.inside.slots row ≡ true = subst (λ s. has_slots s.demand.slots row ≡ true) (sym c.self.view_is) c.requires.slots in
-    let few : length (edited c.self.inside.rows.items row) ≤ 10000 = omega (arith, length_filled c.self.inside.rows.items row c.args.place gap c.requires.some, c.requires.few, ap (λ s. length s.demand.rows) c.self.view_is) in
-    rw c.put_in.ensures.rows (kept_edited c.self.inside.slots c.self.inside.rows.items row 0 c.self.inside.is_whole c.tell-self-inside.result c.self.inside.production c.tell-self-inside.new.self c.self.invariant was within c.requires.small few c.tell-self-inside.ensures.whole c.tell-self-inside.ensures.shifted)
+    let kept = c.self.invariant in
+    let gap : IsGap (origin_at xs row.origin.0).rows row c.args.place = gap_own c.self.inside.slots c.self.inside.count xs row c.args.place kept (subst (λ (d : DemandState). IsGap (own_rows d.demand.rows row.origin.0) row c.args.place) (sym c.self.view_is) c.requires.gap) in
+    let vacant : IsVacant xs row = vacant_in c.self.inside.slots c.self.inside.count xs row kept (subst (λ (d : DemandState). has_place d row ≡ true) (sym c.self.view_is) c.requires.vacant) in
+    let inside : row.origin.0 < length xs = vacant_inside xs row vacant in
+    let read : c.index_mut-origin.result.now ≡ origin_at xs row.origin.0 = get_or_read xs row.origin.0 c.index_mut-origin.result.now inside c.index_mut-origin.ensures.value no_origin in
+    let within : has_slots c.self.inside.slots row ≡ true = subst (λ (d : DemandState). has_slots d.demand.slots row ≡ true) (sym c.self.view_is) c.requires.slots in
+    let few : length (rows_of xs) < 10000 = subst (λ (d : DemandState). length d.demand.rows < 10000) (sym c.self.view_is) c.requires.few in
+    let one : length (edited (rows_of xs) row) ≡ length (rows_of xs) + 1 = subst (λ (d : DemandState). length (edited d.demand.rows row) ≡ length d.demand.rows + 1) (sym c.self.view_is) (length_filled c.args.self.now.demand.rows row c.args.place c.requires.gap c.requires.some) in
+    let rows : c.fill.new.self.rows ≡ edited (origin_at xs row.origin.0).rows row = c.fill.ensures.rows ∙ ap (λ (o : OriginData). edited o.rows row) read in
+    let shifted : IsShifted (origin_at xs row.origin.0).table c.fill.new.self.table row 0 = subst (λ (o : OriginData). IsShifted o.table c.fill.new.self.table row 0) read c.fill.ensures.shifted in
+    filled_kept c.self.inside.slots c.self.inside.count xs row c.args.place kept gap c.fill.new.self inside within c.requires.small one few rows shifted vacant.reached
 
 pub returns-clause-done : goal.returns-clause-done
 returns-clause-done c =
+    let xs = c.self.inside.origins.items in
     let row = c.args.row.now in
-    let gap : IsGap c.self.inside.rows.items row c.args.place = subst (λ s. IsGap s.demand.rows row c.args.place) (sym c.self.view_is) c.requires.gap in
-    let was : IsWas c.self.inside.rows.items row 0 = was_gap c.self.inside.rows.items row c.args.place gap in
-    let within : has_slots c.self.inside.slots row ≡ true = subst (λ s. has_slots s.demand.slots row ≡ true) (sym c.self.view_is) c.requires.slots in
-    let few : length (edited c.self.inside.rows.items row) ≤ 10000 = omega (arith, length_filled c.self.inside.rows.items row c.args.place gap c.requires.some, c.requires.few, ap (λ s. length s.demand.rows) c.self.view_is) in
-    let old = c.self.inside.rows in
-    let new = c.put_in.new.rows in
-    (subst (λ s. IsDone s (state_of c.self.inside.slots new.items (vec_capacity new - vec_len new)) row 0) c.self.view_is
-    (is_done c.self.inside.slots old.items new.items row 0 (vec_capacity old - vec_len old) (vec_capacity new - vec_len new) c.self.invariant.are_rows was within c.put_in.ensures.rows (omega (arith, few, ap length c.put_in.ensures.rows)) (omega (arith, c.put_in.ensures.capacity, old.ok, new.ok)))).done
+    let kept = c.self.invariant in
+    let gap : IsGap (origin_at xs row.origin.0).rows row c.args.place = gap_own c.self.inside.slots c.self.inside.count xs row c.args.place kept (subst (λ (d : DemandState). IsGap (own_rows d.demand.rows row.origin.0) row c.args.place) (sym c.self.view_is) c.requires.gap) in
+    let vacant : IsVacant xs row = vacant_in c.self.inside.slots c.self.inside.count xs row kept (subst (λ (d : DemandState). has_place d row ≡ true) (sym c.self.view_is) c.requires.vacant) in
+    let inside : row.origin.0 < length xs = vacant_inside xs row vacant in
+    let read : c.index_mut-origin.result.now ≡ origin_at xs row.origin.0 = get_or_read xs row.origin.0 c.index_mut-origin.result.now inside c.index_mut-origin.ensures.value no_origin in
+    let within : has_slots c.self.inside.slots row ≡ true = subst (λ (d : DemandState). has_slots d.demand.slots row ≡ true) (sym c.self.view_is) c.requires.slots in
+    let few : length (rows_of xs) < 10000 = subst (λ (d : DemandState). length d.demand.rows < 10000) (sym c.self.view_is) c.requires.few in
+    let one : length (edited (rows_of xs) row) ≡ length (rows_of xs) + 1 = subst (λ (d : DemandState). length (edited d.demand.rows row) ≡ length d.demand.rows + 1) (sym c.self.view_is) (length_filled c.args.self.now.demand.rows row c.args.place c.requires.gap c.requires.some) in
+    let rows : c.fill.new.self.rows ≡ edited (origin_at xs row.origin.0).rows row = c.fill.ensures.rows ∙ ap (λ (o : OriginData). edited o.rows row) read in
+    let shifted : IsShifted (origin_at xs row.origin.0).table c.fill.new.self.table row 0 = subst (λ (o : OriginData). IsShifted o.table c.fill.new.self.table row 0) read c.fill.ensures.shifted in
+    (subst (λ (d : DemandState). IsDone d (state_of c.self.inside.slots (rows_of (set xs row.origin.0 c.fill.new.self)) (room_of (set xs row.origin.0 c.fill.new.self))) row 0) c.self.view_is
+    (filled_done c.self.inside.slots c.self.inside.count xs row c.args.place kept gap c.fill.new.self inside within c.requires.small one few rows shifted vacant.reached)).done
 
 pub returns-clause-back : goal.returns-clause-back
 returns-clause-back c =
+    let xs = c.self.inside.origins.items in
     let row = c.args.row.now in
-    let gap : IsGap c.self.inside.rows.items row c.args.place = subst (λ s. IsGap s.demand.rows row c.args.place) (sym c.self.view_is) c.requires.gap in
-    let was : IsWas c.self.inside.rows.items row 0 = was_gap c.self.inside.rows.items row c.args.place gap in
-    let within : has_slots c.self.inside.slots row ≡ true = subst (λ s. has_slots s.demand.slots row ≡ true) (sym c.self.view_is) c.requires.slots in
-    let few : length (edited c.self.inside.rows.items row) ≤ 10000 = omega (arith, length_filled c.self.inside.rows.items row c.args.place gap c.requires.some, c.requires.few, ap (λ s. length s.demand.rows) c.self.view_is) in
-    let old = c.self.inside.rows in
-    let new = c.put_in.new.rows in
-    (subst (λ s. IsDone s (state_of c.self.inside.slots new.items (vec_capacity new - vec_len new)) row 0) c.self.view_is
-    (is_done c.self.inside.slots old.items new.items row 0 (vec_capacity old - vec_len old) (vec_capacity new - vec_len new) c.self.invariant.are_rows was within c.put_in.ensures.rows (omega (arith, few, ap length c.put_in.ensures.rows)) (omega (arith, c.put_in.ensures.capacity, old.ok, new.ok)))).back
+    let kept = c.self.invariant in
+    let gap : IsGap (origin_at xs row.origin.0).rows row c.args.place = gap_own c.self.inside.slots c.self.inside.count xs row c.args.place kept (subst (λ (d : DemandState). IsGap (own_rows d.demand.rows row.origin.0) row c.args.place) (sym c.self.view_is) c.requires.gap) in
+    let vacant : IsVacant xs row = vacant_in c.self.inside.slots c.self.inside.count xs row kept (subst (λ (d : DemandState). has_place d row ≡ true) (sym c.self.view_is) c.requires.vacant) in
+    let inside : row.origin.0 < length xs = vacant_inside xs row vacant in
+    let read : c.index_mut-origin.result.now ≡ origin_at xs row.origin.0 = get_or_read xs row.origin.0 c.index_mut-origin.result.now inside c.index_mut-origin.ensures.value no_origin in
+    let within : has_slots c.self.inside.slots row ≡ true = subst (λ (d : DemandState). has_slots d.demand.slots row ≡ true) (sym c.self.view_is) c.requires.slots in
+    let few : length (rows_of xs) < 10000 = subst (λ (d : DemandState). length d.demand.rows < 10000) (sym c.self.view_is) c.requires.few in
+    let one : length (edited (rows_of xs) row) ≡ length (rows_of xs) + 1 = subst (λ (d : DemandState). length (edited d.demand.rows row) ≡ length d.demand.rows + 1) (sym c.self.view_is) (length_filled c.args.self.now.demand.rows row c.args.place c.requires.gap c.requires.some) in
+    let rows : c.fill.new.self.rows ≡ edited (origin_at xs row.origin.0).rows row = c.fill.ensures.rows ∙ ap (λ (o : OriginData). edited o.rows row) read in
+    let shifted : IsShifted (origin_at xs row.origin.0).table c.fill.new.self.table row 0 = subst (λ (o : OriginData). IsShifted o.table c.fill.new.self.table row 0) read c.fill.ensures.shifted in
+    (subst (λ (d : DemandState). IsDone d (state_of c.self.inside.slots (rows_of (set xs row.origin.0 c.fill.new.self)) (room_of (set xs row.origin.0 c.fill.new.self))) row 0) c.self.view_is
+    (filled_done c.self.inside.slots c.self.inside.count xs row c.args.place kept gap c.fill.new.self inside within c.requires.small one few rows shifted vacant.reached)).back
 
 pub returns-clause-undo : goal.returns-clause-undo
 returns-clause-undo c =
+    let xs = c.self.inside.origins.items in
     let row = c.args.row.now in
-    let gap : IsGap c.self.inside.rows.items row c.args.place = subst (λ s. IsGap s.demand.rows row c.args.place) (sym c.self.view_is) c.requires.gap in
-    let was : IsWas c.self.inside.rows.items row 0 = was_gap c.self.inside.rows.items row c.args.place gap in
-    let within : has_slots c.self.inside.slots row ≡ true = subst (λ s. has_slots s.demand.slots row ≡ true) (sym c.self.view_is) c.requires.slots in
-    let few : length (edited c.self.inside.rows.items row) ≤ 10000 = omega (arith, length_filled c.self.inside.rows.items row c.args.place gap c.requires.some, c.requires.few, ap (λ s. length s.demand.rows) c.self.view_is) in
-    let old = c.self.inside.rows in
-    let new = c.put_in.new.rows in
-    (subst (λ s. IsDone s (state_of c.self.inside.slots new.items (vec_capacity new - vec_len new)) row 0) c.self.view_is
-    (is_done c.self.inside.slots old.items new.items row 0 (vec_capacity old - vec_len old) (vec_capacity new - vec_len new) c.self.invariant.are_rows was within c.put_in.ensures.rows (omega (arith, few, ap length c.put_in.ensures.rows)) (omega (arith, c.put_in.ensures.capacity, old.ok, new.ok)))).undo
+    let kept = c.self.invariant in
+    let gap : IsGap (origin_at xs row.origin.0).rows row c.args.place = gap_own c.self.inside.slots c.self.inside.count xs row c.args.place kept (subst (λ (d : DemandState). IsGap (own_rows d.demand.rows row.origin.0) row c.args.place) (sym c.self.view_is) c.requires.gap) in
+    let vacant : IsVacant xs row = vacant_in c.self.inside.slots c.self.inside.count xs row kept (subst (λ (d : DemandState). has_place d row ≡ true) (sym c.self.view_is) c.requires.vacant) in
+    let inside : row.origin.0 < length xs = vacant_inside xs row vacant in
+    let read : c.index_mut-origin.result.now ≡ origin_at xs row.origin.0 = get_or_read xs row.origin.0 c.index_mut-origin.result.now inside c.index_mut-origin.ensures.value no_origin in
+    let within : has_slots c.self.inside.slots row ≡ true = subst (λ (d : DemandState). has_slots d.demand.slots row ≡ true) (sym c.self.view_is) c.requires.slots in
+    let few : length (rows_of xs) < 10000 = subst (λ (d : DemandState). length d.demand.rows < 10000) (sym c.self.view_is) c.requires.few in
+    let one : length (edited (rows_of xs) row) ≡ length (rows_of xs) + 1 = subst (λ (d : DemandState). length (edited d.demand.rows row) ≡ length d.demand.rows + 1) (sym c.self.view_is) (length_filled c.args.self.now.demand.rows row c.args.place c.requires.gap c.requires.some) in
+    let rows : c.fill.new.self.rows ≡ edited (origin_at xs row.origin.0).rows row = c.fill.ensures.rows ∙ ap (λ (o : OriginData). edited o.rows row) read in
+    let shifted : IsShifted (origin_at xs row.origin.0).table c.fill.new.self.table row 0 = subst (λ (o : OriginData). IsShifted o.table c.fill.new.self.table row 0) read c.fill.ensures.shifted in
+    (subst (λ (d : DemandState). IsDone d (state_of c.self.inside.slots (rows_of (set xs row.origin.0 c.fill.new.self)) (room_of (set xs row.origin.0 c.fill.new.self))) row 0) c.self.view_is
+    (filled_done c.self.inside.slots c.self.inside.count xs row c.args.place kept gap c.fill.new.self inside within c.requires.small one few rows shifted vacant.reached)).undo
+
+pub returns-clause-room : goal.returns-clause-room
+returns-clause-room c =
+    let xs = c.self.inside.origins.items in
+    let row = c.args.row.now in
+    let kept = c.self.invariant in
+    let gap : IsGap (origin_at xs row.origin.0).rows row c.args.place = gap_own c.self.inside.slots c.self.inside.count xs row c.args.place kept (subst (λ (d : DemandState). IsGap (own_rows d.demand.rows row.origin.0) row c.args.place) (sym c.self.view_is) c.requires.gap) in
+    let vacant : IsVacant xs row = vacant_in c.self.inside.slots c.self.inside.count xs row kept (subst (λ (d : DemandState). has_place d row ≡ true) (sym c.self.view_is) c.requires.vacant) in
+    let inside : row.origin.0 < length xs = vacant_inside xs row vacant in
+    let read : c.index_mut-origin.result.now ≡ origin_at xs row.origin.0 = get_or_read xs row.origin.0 c.index_mut-origin.result.now inside c.index_mut-origin.ensures.value no_origin in
+    subst (λ (d : DemandState). (o : ℕ) → IsNoLess (room_at d.room o) (room_at (room_of (set xs row.origin.0 c.fill.new.self)) o)) c.self.view_is
+    (room_set xs row.origin.0 c.fill.new.self inside (subst (λ (o : OriginData). IsNoLess (room_in o) (room_in c.fill.new.self)) read c.fill.ensures.places))

@@ -1,5 +1,7 @@
-use Rattle.ltm_demand.proofs.State.{kept_nothing}
+use Rattle.std.proofs.Common.{sym, subst}
+use Rattle.ltm_demand.specs.Kept.{IsKept}
+use Rattle.ltm_demand.proofs.KeptOrigins.{kept_nothing}
 use Rattle.ltm_demand.proofs.demand.Demand.new.Goals as goal
 
 pub invariant_of-result : goal.invariant_of-result
-invariant_of-result c = rw (c.new.ensures.items, c.new-2.ensures) (kept_nothing c.args.slots)
+invariant_of-result c = subst (IsKept c.args.slots 0) (sym c.new.ensures.items) (kept_nothing c.args.slots)

@@ -1,66 +1,146 @@
-use Rattle.std.proofs.Common.{◌≡◌, ◌-◌, ◌≤◌, true, length, vec_len, arith, ap, sym, subst}
-use Rattle.std.specs.Vec.{vec_capacity}
-use Rattle.ltm_demand.specs.Rows.{has_slots, edited}
+use Rattle.std.proofs.Common.{◌≡◌, ℕ, ◌<◌, true, length, set, arith, ap, sym, subst, ◌∙◌}
+use Rattle.std.proofs.lemmas.List.{get_or_read}
+use Rattle.ltm_demand.specs.Rows.{DemandState, IsNoLess, room_at, own_rows, edited, amount_at, has_slots}
+use Rattle.ltm_demand.specs.Tables.{IsShifted, IsReached, IsRoomy}
+use Rattle.ltm_demand.specs.Origins.{OriginData, no_origin, origin_at, rows_of}
+use Rattle.ltm_demand.specs.Kept.{room_in, room_of}
 use Rattle.ltm_demand.specs.Places.{IsAt}
-use Rattle.ltm_demand.proofs.State.{IsWas, was_at, kept_edited, roomy_was}
-use Rattle.ltm_demand.proofs.Restoring.{IsDone, is_done, state_of, length_replaced}
+use Rattle.ltm_demand.proofs.Joined.{amount_joined, was_joined}
+use Rattle.ltm_demand.proofs.Restoring.{IsDone, state_of}
+use Rattle.ltm_demand.proofs.KeptOrigins.{at_inside, roomy_was, room_set}
+use Rattle.ltm_demand.proofs.Changes.{at_own, stood, stood_reached, replaced_kept, replaced_done}
 use Rattle.ltm_demand.proofs.demand.Demand.replace.Goals as goal
 
-pub tell-self-inside-requires-clause-was : goal.tell-self-inside-requires-clause-was
-tell-self-inside-requires-clause-was c =
+pub index_mut-origin-requires : goal.index_mut-origin-requires
+index_mut-origin-requires c =
+    let xs = c.self.inside.origins.items in
     let row = c.args.row.now in
-    let at : IsAt c.self.inside.rows.items row c.args.place = subst (λ s. IsAt s.demand.rows row c.args.place) (sym c.self.view_is) c.requires.at in
-    let was : IsWas c.self.inside.rows.items row c.put_over-was.result = was_at c.self.inside.slots c.self.inside.rows.items row c.args.place c.put_over-was.result c.self.invariant.are_rows at c.put_over-was.ensures.was in
-    was.small
+    let kept = c.self.invariant in
+    let at : IsAt (origin_at xs row.origin.0).rows row c.args.place = at_own c.self.inside.slots c.self.inside.count xs row c.args.place kept (subst (λ (d : DemandState). IsAt (own_rows d.demand.rows row.origin.0) row c.args.place) (sym c.self.view_is) c.requires.at) in
+    let inside : row.origin.0 < length xs = at_inside xs row c.args.place at in
+    omega (arith, inside, c.self.inside.origins.ok)
 
-pub tell-self-inside-requires-clause-roomy : goal.tell-self-inside-requires-clause-roomy
-tell-self-inside-requires-clause-roomy c =
+pub replace-was-requires-clause-at : goal.replace-was-requires-clause-at
+replace-was-requires-clause-at c =
+    let xs = c.self.inside.origins.items in
     let row = c.args.row.now in
-    let at : IsAt c.self.inside.rows.items row c.args.place = subst (λ s. IsAt s.demand.rows row c.args.place) (sym c.self.view_is) c.requires.at in
-    let was : IsWas c.self.inside.rows.items row c.put_over-was.result = was_at c.self.inside.slots c.self.inside.rows.items row c.args.place c.put_over-was.result c.self.invariant.are_rows at c.put_over-was.ensures.was in
-    roomy_was c.self.inside.slots c.self.inside.rows.items row c.put_over-was.result c.self.inside.is_whole c.self.inside.production c.self.invariant was
+    let kept = c.self.invariant in
+    let at : IsAt (origin_at xs row.origin.0).rows row c.args.place = at_own c.self.inside.slots c.self.inside.count xs row c.args.place kept (subst (λ (d : DemandState). IsAt (own_rows d.demand.rows row.origin.0) row c.args.place) (sym c.self.view_is) c.requires.at) in
+    let inside : row.origin.0 < length xs = at_inside xs row c.args.place at in
+    let read : c.index_mut-origin.result.now ≡ origin_at xs row.origin.0 = get_or_read xs row.origin.0 c.index_mut-origin.result.now inside c.index_mut-origin.ensures.value no_origin in
+    subst (λ (o : OriginData). IsAt o.rows row c.args.place) (sym read) at
+
+pub replace-was-requires-clause-was : goal.replace-was-requires-clause-was
+replace-was-requires-clause-was c =
+    let xs = c.self.inside.origins.items in
+    let row = c.args.row.now in
+    let kept = c.self.invariant in
+    let at : IsAt (origin_at xs row.origin.0).rows row c.args.place = at_own c.self.inside.slots c.self.inside.count xs row c.args.place kept (subst (λ (d : DemandState). IsAt (own_rows d.demand.rows row.origin.0) row c.args.place) (sym c.self.view_is) c.requires.at) in
+    let inside : row.origin.0 < length xs = at_inside xs row c.args.place at in
+    let read : c.index_mut-origin.result.now ≡ origin_at xs row.origin.0 = get_or_read xs row.origin.0 c.index_mut-origin.result.now inside c.index_mut-origin.ensures.value no_origin in
+    omega (arith, (stood c.self.inside.slots c.self.inside.count xs row c.args.place kept at).small, ap (λ (o : OriginData). amount_at o.rows row) read)
+
+pub replace-was-requires-clause-reached : goal.replace-was-requires-clause-reached
+replace-was-requires-clause-reached c =
+    let xs = c.self.inside.origins.items in
+    let row = c.args.row.now in
+    let kept = c.self.invariant in
+    let at : IsAt (origin_at xs row.origin.0).rows row c.args.place = at_own c.self.inside.slots c.self.inside.count xs row c.args.place kept (subst (λ (d : DemandState). IsAt (own_rows d.demand.rows row.origin.0) row c.args.place) (sym c.self.view_is) c.requires.at) in
+    let inside : row.origin.0 < length xs = at_inside xs row c.args.place at in
+    let read : c.index_mut-origin.result.now ≡ origin_at xs row.origin.0 = get_or_read xs row.origin.0 c.index_mut-origin.result.now inside c.index_mut-origin.ensures.value no_origin in
+    subst (λ (o : OriginData). IsReached o.table row) (sym read) (stood_reached c.self.inside.slots c.self.inside.count xs row c.args.place kept at)
+
+pub replace-was-requires-clause-roomy : goal.replace-was-requires-clause-roomy
+replace-was-requires-clause-roomy c =
+    let xs = c.self.inside.origins.items in
+    let row = c.args.row.now in
+    let kept = c.self.invariant in
+    let at : IsAt (origin_at xs row.origin.0).rows row c.args.place = at_own c.self.inside.slots c.self.inside.count xs row c.args.place kept (subst (λ (d : DemandState). IsAt (own_rows d.demand.rows row.origin.0) row c.args.place) (sym c.self.view_is) c.requires.at) in
+    let inside : row.origin.0 < length xs = at_inside xs row c.args.place at in
+    let read : c.index_mut-origin.result.now ≡ origin_at xs row.origin.0 = get_or_read xs row.origin.0 c.index_mut-origin.result.now inside c.index_mut-origin.ensures.value no_origin in
+    subst (λ (o : OriginData). IsRoomy o.table row (amount_at o.rows row)) (sym read)
+    (roomy_was c.self.inside.slots c.self.inside.count xs row (amount_at (origin_at xs row.origin.0).rows row) kept (was_joined xs kept.own row (amount_at (origin_at xs row.origin.0).rows row) (stood c.self.inside.slots c.self.inside.count xs row c.args.place kept at)))
 
 pub invariant_of-self : goal.invariant_of-self
 invariant_of-self c =
+    let xs = c.self.inside.origins.items in
     let row = c.args.row.now in
-    let at : IsAt c.self.inside.rows.items row c.args.place = subst (λ s. IsAt s.demand.rows row c.args.place) (sym c.self.view_is) c.requires.at in
-    let was : IsWas c.self.inside.rows.items row c.put_over-was.result = was_at c.self.inside.slots c.self.inside.rows.items row c.args.place c.put_over-was.result c.self.invariant.are_rows at c.put_over-was.ensures.was in
-    let within : has_slots c.self.inside.slots row ≡ true = subst (λ s. has_slots s.demand.slots row ≡ true) (sym c.self.view_is) c.requires.slots in
-    let few : length (edited c.self.inside.rows.items row) ≤ 10000 = omega (arith, length_replaced c.self.inside.rows.items row c.args.place c.put_over-was.result at was, c.self.invariant.are_rows.few) in
-    rw c.put_over-was.ensures.rows (kept_edited c.self.inside.slots c.self.inside.rows.items row c.put_over-was.result c.self.inside.is_whole c.tell-self-inside.result c.self.inside.production c.tell-self-inside.new.self c.self.invariant was within c.requires.small few c.tell-self-inside.ensures.whole c.tell-self-inside.ensures.shifted)
+    let kept = c.self.invariant in
+    let at : IsAt (origin_at xs row.origin.0).rows row c.args.place = at_own c.self.inside.slots c.self.inside.count xs row c.args.place kept (subst (λ (d : DemandState). IsAt (own_rows d.demand.rows row.origin.0) row c.args.place) (sym c.self.view_is) c.requires.at) in
+    let inside : row.origin.0 < length xs = at_inside xs row c.args.place at in
+    let read : c.index_mut-origin.result.now ≡ origin_at xs row.origin.0 = get_or_read xs row.origin.0 c.index_mut-origin.result.now inside c.index_mut-origin.ensures.value no_origin in
+    let within : has_slots c.self.inside.slots row ≡ true = subst (λ (d : DemandState). has_slots d.demand.slots row ≡ true) (sym c.self.view_is) c.requires.slots in
+    let was : c.replace-was.result ≡ amount_at (origin_at xs row.origin.0).rows row = c.replace-was.ensures.was ∙ ap (λ (o : OriginData). amount_at o.rows row) read in
+    let rows : c.replace-was.new.self.rows ≡ edited (origin_at xs row.origin.0).rows row = c.replace-was.ensures.rows ∙ ap (λ (o : OriginData). edited o.rows row) read in
+    let shifted : IsShifted (origin_at xs row.origin.0).table c.replace-was.new.self.table row c.replace-was.result = subst (λ (o : OriginData). IsShifted o.table c.replace-was.new.self.table row c.replace-was.result) read c.replace-was.ensures.shifted in
+    replaced_kept c.self.inside.slots c.self.inside.count xs row c.args.place kept at c.replace-was.result c.taken_out.result c.replace-was.new.self inside within c.requires.small was rows shifted c.taken_out.ensures
 
 pub returns-clause-done : goal.returns-clause-done
 returns-clause-done c =
+    let xs = c.self.inside.origins.items in
     let row = c.args.row.now in
-    let at : IsAt c.self.inside.rows.items row c.args.place = subst (λ s. IsAt s.demand.rows row c.args.place) (sym c.self.view_is) c.requires.at in
-    let was : IsWas c.self.inside.rows.items row c.put_over-was.result = was_at c.self.inside.slots c.self.inside.rows.items row c.args.place c.put_over-was.result c.self.invariant.are_rows at c.put_over-was.ensures.was in
-    let within : has_slots c.self.inside.slots row ≡ true = subst (λ s. has_slots s.demand.slots row ≡ true) (sym c.self.view_is) c.requires.slots in
-    let few : length (edited c.self.inside.rows.items row) ≤ 10000 = omega (arith, length_replaced c.self.inside.rows.items row c.args.place c.put_over-was.result at was, c.self.invariant.are_rows.few) in
-    let old = c.self.inside.rows in
-    let new = c.put_over-was.new.rows in
-    (subst (λ s. IsDone s (state_of c.self.inside.slots new.items (vec_capacity new - vec_len new)) row c.put_over-was.result) c.self.view_is
-    (is_done c.self.inside.slots old.items new.items row c.put_over-was.result (vec_capacity old - vec_len old) (vec_capacity new - vec_len new) c.self.invariant.are_rows was within c.put_over-was.ensures.rows (omega (arith, few, ap length c.put_over-was.ensures.rows)) (omega (arith, c.put_over-was.ensures.capacity, old.ok, new.ok)))).done
+    let kept = c.self.invariant in
+    let at : IsAt (origin_at xs row.origin.0).rows row c.args.place = at_own c.self.inside.slots c.self.inside.count xs row c.args.place kept (subst (λ (d : DemandState). IsAt (own_rows d.demand.rows row.origin.0) row c.args.place) (sym c.self.view_is) c.requires.at) in
+    let inside : row.origin.0 < length xs = at_inside xs row c.args.place at in
+    let read : c.index_mut-origin.result.now ≡ origin_at xs row.origin.0 = get_or_read xs row.origin.0 c.index_mut-origin.result.now inside c.index_mut-origin.ensures.value no_origin in
+    let within : has_slots c.self.inside.slots row ≡ true = subst (λ (d : DemandState). has_slots d.demand.slots row ≡ true) (sym c.self.view_is) c.requires.slots in
+    let was : c.replace-was.result ≡ amount_at (origin_at xs row.origin.0).rows row = c.replace-was.ensures.was ∙ ap (λ (o : OriginData). amount_at o.rows row) read in
+    let rows : c.replace-was.new.self.rows ≡ edited (origin_at xs row.origin.0).rows row = c.replace-was.ensures.rows ∙ ap (λ (o : OriginData). edited o.rows row) read in
+    let shifted : IsShifted (origin_at xs row.origin.0).table c.replace-was.new.self.table row c.replace-was.result = subst (λ (o : OriginData). IsShifted o.table c.replace-was.new.self.table row c.replace-was.result) read c.replace-was.ensures.shifted in
+    (subst (λ (d : DemandState). IsDone d (state_of c.self.inside.slots (rows_of (set xs row.origin.0 c.replace-was.new.self)) (room_of (set xs row.origin.0 c.replace-was.new.self))) row c.replace-was.result) c.self.view_is
+    (replaced_done c.self.inside.slots c.self.inside.count xs row c.args.place kept at c.replace-was.result c.taken_out.result c.replace-was.new.self inside within c.requires.small was rows shifted c.taken_out.ensures c.replace-was.ensures.vacant)).done
+
+pub returns-clause-was : goal.returns-clause-was
+returns-clause-was c =
+    let xs = c.self.inside.origins.items in
+    let row = c.args.row.now in
+    let kept = c.self.invariant in
+    let at : IsAt (origin_at xs row.origin.0).rows row c.args.place = at_own c.self.inside.slots c.self.inside.count xs row c.args.place kept (subst (λ (d : DemandState). IsAt (own_rows d.demand.rows row.origin.0) row c.args.place) (sym c.self.view_is) c.requires.at) in
+    let inside : row.origin.0 < length xs = at_inside xs row c.args.place at in
+    let read : c.index_mut-origin.result.now ≡ origin_at xs row.origin.0 = get_or_read xs row.origin.0 c.index_mut-origin.result.now inside c.index_mut-origin.ensures.value no_origin in
+    let within : has_slots c.self.inside.slots row ≡ true = subst (λ (d : DemandState). has_slots d.demand.slots row ≡ true) (sym c.self.view_is) c.requires.slots in
+    let was : c.replace-was.result ≡ amount_at (origin_at xs row.origin.0).rows row = c.replace-was.ensures.was ∙ ap (λ (o : OriginData). amount_at o.rows row) read in
+    let rows : c.replace-was.new.self.rows ≡ edited (origin_at xs row.origin.0).rows row = c.replace-was.ensures.rows ∙ ap (λ (o : OriginData). edited o.rows row) read in
+    let shifted : IsShifted (origin_at xs row.origin.0).table c.replace-was.new.self.table row c.replace-was.result = subst (λ (o : OriginData). IsShifted o.table c.replace-was.new.self.table row c.replace-was.result) read c.replace-was.ensures.shifted in
+    was ∙ (sym (amount_joined xs kept.own row) ∙ ap (λ (d : DemandState). amount_at d.demand.rows row) c.self.view_is)
 
 pub returns-clause-back : goal.returns-clause-back
 returns-clause-back c =
+    let xs = c.self.inside.origins.items in
     let row = c.args.row.now in
-    let at : IsAt c.self.inside.rows.items row c.args.place = subst (λ s. IsAt s.demand.rows row c.args.place) (sym c.self.view_is) c.requires.at in
-    let was : IsWas c.self.inside.rows.items row c.put_over-was.result = was_at c.self.inside.slots c.self.inside.rows.items row c.args.place c.put_over-was.result c.self.invariant.are_rows at c.put_over-was.ensures.was in
-    let within : has_slots c.self.inside.slots row ≡ true = subst (λ s. has_slots s.demand.slots row ≡ true) (sym c.self.view_is) c.requires.slots in
-    let few : length (edited c.self.inside.rows.items row) ≤ 10000 = omega (arith, length_replaced c.self.inside.rows.items row c.args.place c.put_over-was.result at was, c.self.invariant.are_rows.few) in
-    let old = c.self.inside.rows in
-    let new = c.put_over-was.new.rows in
-    (subst (λ s. IsDone s (state_of c.self.inside.slots new.items (vec_capacity new - vec_len new)) row c.put_over-was.result) c.self.view_is
-    (is_done c.self.inside.slots old.items new.items row c.put_over-was.result (vec_capacity old - vec_len old) (vec_capacity new - vec_len new) c.self.invariant.are_rows was within c.put_over-was.ensures.rows (omega (arith, few, ap length c.put_over-was.ensures.rows)) (omega (arith, c.put_over-was.ensures.capacity, old.ok, new.ok)))).back
+    let kept = c.self.invariant in
+    let at : IsAt (origin_at xs row.origin.0).rows row c.args.place = at_own c.self.inside.slots c.self.inside.count xs row c.args.place kept (subst (λ (d : DemandState). IsAt (own_rows d.demand.rows row.origin.0) row c.args.place) (sym c.self.view_is) c.requires.at) in
+    let inside : row.origin.0 < length xs = at_inside xs row c.args.place at in
+    let read : c.index_mut-origin.result.now ≡ origin_at xs row.origin.0 = get_or_read xs row.origin.0 c.index_mut-origin.result.now inside c.index_mut-origin.ensures.value no_origin in
+    let within : has_slots c.self.inside.slots row ≡ true = subst (λ (d : DemandState). has_slots d.demand.slots row ≡ true) (sym c.self.view_is) c.requires.slots in
+    let was : c.replace-was.result ≡ amount_at (origin_at xs row.origin.0).rows row = c.replace-was.ensures.was ∙ ap (λ (o : OriginData). amount_at o.rows row) read in
+    let rows : c.replace-was.new.self.rows ≡ edited (origin_at xs row.origin.0).rows row = c.replace-was.ensures.rows ∙ ap (λ (o : OriginData). edited o.rows row) read in
+    let shifted : IsShifted (origin_at xs row.origin.0).table c.replace-was.new.self.table row c.replace-was.result = subst (λ (o : OriginData). IsShifted o.table c.replace-was.new.self.table row c.replace-was.result) read c.replace-was.ensures.shifted in
+    (subst (λ (d : DemandState). IsDone d (state_of c.self.inside.slots (rows_of (set xs row.origin.0 c.replace-was.new.self)) (room_of (set xs row.origin.0 c.replace-was.new.self))) row c.replace-was.result) c.self.view_is
+    (replaced_done c.self.inside.slots c.self.inside.count xs row c.args.place kept at c.replace-was.result c.taken_out.result c.replace-was.new.self inside within c.requires.small was rows shifted c.taken_out.ensures c.replace-was.ensures.vacant)).back
 
 pub returns-clause-undo : goal.returns-clause-undo
 returns-clause-undo c =
+    let xs = c.self.inside.origins.items in
     let row = c.args.row.now in
-    let at : IsAt c.self.inside.rows.items row c.args.place = subst (λ s. IsAt s.demand.rows row c.args.place) (sym c.self.view_is) c.requires.at in
-    let was : IsWas c.self.inside.rows.items row c.put_over-was.result = was_at c.self.inside.slots c.self.inside.rows.items row c.args.place c.put_over-was.result c.self.invariant.are_rows at c.put_over-was.ensures.was in
-    let within : has_slots c.self.inside.slots row ≡ true = subst (λ s. has_slots s.demand.slots row ≡ true) (sym c.self.view_is) c.requires.slots in
-    let few : length (edited c.self.inside.rows.items row) ≤ 10000 = omega (arith, length_replaced c.self.inside.rows.items row c.args.place c.put_over-was.result at was, c.self.invariant.are_rows.few) in
-    let old = c.self.inside.rows in
-    let new = c.put_over-was.new.rows in
-    (subst (λ s. IsDone s (state_of c.self.inside.slots new.items (vec_capacity new - vec_len new)) row c.put_over-was.result) c.self.view_is
-    (is_done c.self.inside.slots old.items new.items row c.put_over-was.result (vec_capacity old - vec_len old) (vec_capacity new - vec_len new) c.self.invariant.are_rows was within c.put_over-was.ensures.rows (omega (arith, few, ap length c.put_over-was.ensures.rows)) (omega (arith, c.put_over-was.ensures.capacity, old.ok, new.ok)))).undo
+    let kept = c.self.invariant in
+    let at : IsAt (origin_at xs row.origin.0).rows row c.args.place = at_own c.self.inside.slots c.self.inside.count xs row c.args.place kept (subst (λ (d : DemandState). IsAt (own_rows d.demand.rows row.origin.0) row c.args.place) (sym c.self.view_is) c.requires.at) in
+    let inside : row.origin.0 < length xs = at_inside xs row c.args.place at in
+    let read : c.index_mut-origin.result.now ≡ origin_at xs row.origin.0 = get_or_read xs row.origin.0 c.index_mut-origin.result.now inside c.index_mut-origin.ensures.value no_origin in
+    let within : has_slots c.self.inside.slots row ≡ true = subst (λ (d : DemandState). has_slots d.demand.slots row ≡ true) (sym c.self.view_is) c.requires.slots in
+    let was : c.replace-was.result ≡ amount_at (origin_at xs row.origin.0).rows row = c.replace-was.ensures.was ∙ ap (λ (o : OriginData). amount_at o.rows row) read in
+    let rows : c.replace-was.new.self.rows ≡ edited (origin_at xs row.origin.0).rows row = c.replace-was.ensures.rows ∙ ap (λ (o : OriginData). edited o.rows row) read in
+    let shifted : IsShifted (origin_at xs row.origin.0).table c.replace-was.new.self.table row c.replace-was.result = subst (λ (o : OriginData). IsShifted o.table c.replace-was.new.self.table row c.replace-was.result) read c.replace-was.ensures.shifted in
+    (subst (λ (d : DemandState). IsDone d (state_of c.self.inside.slots (rows_of (set xs row.origin.0 c.replace-was.new.self)) (room_of (set xs row.origin.0 c.replace-was.new.self))) row c.replace-was.result) c.self.view_is
+    (replaced_done c.self.inside.slots c.self.inside.count xs row c.args.place kept at c.replace-was.result c.taken_out.result c.replace-was.new.self inside within c.requires.small was rows shifted c.taken_out.ensures c.replace-was.ensures.vacant)).undo
+
+pub returns-clause-room : goal.returns-clause-room
+returns-clause-room c =
+    let xs = c.self.inside.origins.items in
+    let row = c.args.row.now in
+    let kept = c.self.invariant in
+    let at : IsAt (origin_at xs row.origin.0).rows row c.args.place = at_own c.self.inside.slots c.self.inside.count xs row c.args.place kept (subst (λ (d : DemandState). IsAt (own_rows d.demand.rows row.origin.0) row c.args.place) (sym c.self.view_is) c.requires.at) in
+    let inside : row.origin.0 < length xs = at_inside xs row c.args.place at in
+    let read : c.index_mut-origin.result.now ≡ origin_at xs row.origin.0 = get_or_read xs row.origin.0 c.index_mut-origin.result.now inside c.index_mut-origin.ensures.value no_origin in
+    subst (λ (d : DemandState). (o : ℕ) → IsNoLess (room_at d.room o) (room_at (room_of (set xs row.origin.0 c.replace-was.new.self)) o)) c.self.view_is
+    (room_set xs row.origin.0 c.replace-was.new.self inside (subst (λ (o : OriginData). IsNoLess (room_in o) (room_in c.replace-was.new.self)) read c.replace-was.ensures.places))
