@@ -1,5 +1,5 @@
 //! The pairs that may read what a commit changed.
-ghost use Rattle.std.specs.Prelude.{◌≡◌, ◌==◌, ◌&&◌, ℕ, ◌+◌, ◌<◌, ◌≤◌, All, None, [], length, nat_le};
+ghost use Rattle.std.specs.Prelude.{◌≡◌, ◌==◌, ◌&&◌, ℕ, ◌+◌, ◌<◌, ◌≤◌, ◌⊎◌, All, None, [], length, nat_le};
 ghost use Rattle.ltm_setting.specs.Setting.{setting_of};
 ghost use Rattle.ltm_pairs.specs.Reaches.{lies_in_one};
 ghost use Rattle.ltm_pairs.specs.Windows.{reads_ago};
@@ -88,6 +88,8 @@ pub fn dependents(scenario: &Scenario, pair: Pair, changed: ArmSet, into: &mut S
     ensures each { (w v : ℕ) → pair.node.0 < (setting_of scenario.now).nodes → v < (setting_of scenario.now).slots
         → lies_in_one into.new.reaches w v ≡ depends (setting_of scenario.now) pair.node.0 (pair.slot + 1) changed w v }
     ensures from { All (IsFrom (setting_of scenario.now) (pair.slot + 1)) into.new.reaches }
+    ensures none { ((setting_of scenario.now).nodes ≤ pair.node.0) ⊎ ((setting_of scenario.now).slots ≤ pair.slot)
+        → into.new.reaches ≡ [] }
     ensures few { length into.new.reaches ≤ 9 }
     ensures all_new { into.new.all_new ≡ None }
 {
