@@ -1,7 +1,8 @@
 -- Places of a table with a width: slot times width plus column.
-use Rattle.std.proofs.Common.{◌≡◌, ◌≢◌, ℕ, ◌+◌, ◌*◌, ◌/◌, ◌<◌, List, length, slice_index, slice_set, arith, ap, sym, ◌∙◌}
+use Rattle.std.proofs.Common.{◌≡◌, ◌≢◌, ℕ, ◌+◌, ◌*◌, ◌/◌, ◌<◌, ◌≤◌, List, length, slice_index, slice_set, arith, ap, sym, ◌∙◌, inl, inr}
 use Rattle.std.proofs.lemmas.Nat.{div-mul-add, mul-add-lt}
-use Rattle.std.proofs.lemmas.List.{get_or-set_same, get_or-set_other}
+use Rattle.std.proofs.lemmas.List.{get_or-set_same, get_or-set_other, length-set}
+use Rattle.ltm_demand.specs.Tables.{IsOneOf}
 
 -- a place tells its slot
 pub slot_of : (w s t c e : ℕ) → c < w → e < w → t * w + e ≡ s * w + c → t ≡ s
@@ -29,3 +30,42 @@ module _ (units : List ℕ) (w s c v : ℕ) (below : c < w) (inside : s * w + c 
 
   pub set_column : (e t : ℕ) → e < w → e ≢ c → slice_index (slice_set units (s * w + c) v) (t * w + e) ≡ slice_index units (t * w + e)
   set_column e t under other = get_or-set_other units (s * w + c) (t * w + e) v 0 (apart_columns w s t c e below under other)
+
+-- ---- the first number of a slot and another, set one after the other
+pub is_below : (w own c : ℕ) → own < w → IsOneOf own c → c < w
+is_below w own c below which = elim which [
+  | inl first ↦ omega (arith, first)
+  | inr other ↦ omega (arith, other)
+]
+
+module _ (units : List ℕ) (w own s v : ℕ) (behind : 0 < own) (below : own < w) (fits : (s + 1) * w ≤ length units) where
+  abbrev pub one : List ℕ
+  one = slice_set units (s * w) v
+
+  first_inside : s * w + 0 < length units
+  first_inside = omega (arith, next_slot s w, fits)
+
+  as_first : one ≡ slice_set units (s * w + 0) v
+  as_first = let e : s * w ≡ s * w + 0 = omega arith in ap (λ n. slice_set units n v) e
+
+  pub own_inside : s * w + own < length one
+  own_inside = omega (arith, next_slot s w, fits, length-set units (s * w) v)
+
+  pub one_own : slice_index one (s * w + own) ≡ slice_index units (s * w + own)
+  one_own = ap (λ (xs : List ℕ). slice_index xs (s * w + own)) as_first ∙ set_column units w s 0 v (omega arith) first_inside own s below (omega arith)
+
+  module _ (z : ℕ) where
+    pub both_first : slice_index (slice_set one (s * w + own) z) (s * w + 0) ≡ v
+    both_first = set_column one w s own z below own_inside 0 s (omega arith) (omega arith) ∙ (ap (λ (xs : List ℕ). slice_index xs (s * w + 0)) as_first ∙ set_here units w s 0 v (omega arith) first_inside)
+
+    pub both_own : slice_index (slice_set one (s * w + own) z) (s * w + own) ≡ z
+    both_own = set_here one w s own z below own_inside
+
+    pub both_slot : (c t : ℕ) → c < w → t ≢ s → slice_index (slice_set one (s * w + own) z) (t * w + c) ≡ slice_index units (t * w + c)
+    both_slot c t under other =
+        get_or-set_other one (s * w + own) (t * w + c) z 0 (apart_slots w s t own c below under other)
+        ∙ (ap (λ (xs : List ℕ). slice_index xs (t * w + c)) as_first ∙ get_or-set_other units (s * w + 0) (t * w + c) v 0 (apart_slots w s t 0 c (omega arith) under other))
+
+    pub both_column : (c t : ℕ) → c < w → c ≢ 0 → c ≢ own → slice_index (slice_set one (s * w + own) z) (t * w + c) ≡ slice_index units (t * w + c)
+    both_column c t under first other =
+        set_column one w s own z below own_inside c t under other ∙ (ap (λ (xs : List ℕ). slice_index xs (t * w + c)) as_first ∙ set_column units w s 0 v (omega arith) first_inside c t under first)

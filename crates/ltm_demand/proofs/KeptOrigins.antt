@@ -1,5 +1,5 @@
 -- What the origins of a demand keep.
-use Rattle.std.proofs.Common.{◌≡◌, ◌≢◌, ◌==◌, ℕ, ◌+◌, ◌<◌, ◌≤◌, true, false, cond, zero, suc, List, [], ◌∷◌, ◌++◌, length, get_or, set, All, arith, refl, ap, sym, subst, ◌∙◌, inl, inr}
+use Rattle.std.proofs.Common.{◌≡◌, ◌≢◌, ◌==◌, ℕ, ◌+◌, ◌<◌, ◌≤◌, ◌^◌, true, false, cond, zero, suc, List, [], ◌∷◌, ◌++◌, length, get_or, set, All, arith, refl, ap, sym, subst, ◌∙◌, inl, inr}
 use Rattle.std.specs.List.Sorted.{IsStrictlySortedBy}
 use Rattle.std.proofs.lemmas.Bool.{cases_lt}
 use Rattle.std.proofs.lemmas.Bool.Decides.{nat_tests}
@@ -127,14 +127,14 @@ roomy_was slots count xs row was kept is =
     let o = row.origin.0 in
     let rows = rows_of xs in
     record {
-      own = record {
-        has = λ t. omega (arith, kept.each o row.destination t, part_was rows row was o row.destination t is, part_own row was t);
-        room = λ t. omega (arith, kept.each o row.destination t, by_end_le rows o row.destination t, total_le slots rows kept.are_rows);
-      };
-      all = record {
-        has = λ t. omega (arith, kept.all o t, origin_part_was rows row was o t is, origin_own row was t);
-        room = λ t. omega (arith, kept.all o t, origin_by_end_le rows o t, total_le slots rows kept.are_rows);
-      };
+      has = λ k t which. elim which [
+        | inl all ↦ subst (λ n. produced row.from row.to was t ≤ told (origin_at xs o).table n t) (sym all) (omega (arith, kept.all o t, origin_part_was rows row was o t is, origin_own row was t))
+        | inr own ↦ subst (λ n. produced row.from row.to was t ≤ told (origin_at xs o).table n t) (sym own) (omega (arith, kept.each o row.destination t, part_was rows row was o row.destination t is, part_own row was t))
+      ];
+      room = λ k t which. elim which [
+        | inl all ↦ subst (λ n. told (origin_at xs o).table n t < 2 ^ 63) (sym all) (omega (arith, kept.all o t, origin_by_end_le rows o t, total_le slots rows kept.are_rows))
+        | inr own ↦ subst (λ n. told (origin_at xs o).table n t < 2 ^ 63) (sym own) (omega (arith, kept.each o row.destination t, by_end_le rows o row.destination t, total_le slots rows kept.are_rows))
+      ];
     }
 
 -- the rows of an origin are rows within the horizon

@@ -6,7 +6,7 @@ use Rattle.std.proofs.lemmas.List.{get_or-take, get_or-drop, get_or_past, length
 use Rattle.ltm_demand.specs.declared.row.DemandRow.{DemandRow}
 use Rattle.ltm_demand.specs.Rows.{with_amount}
 use Rattle.ltm_demand.specs.Produced.{produced, part, joins, origin_part}
-use Rattle.ltm_demand.specs.Tables.{TableData, told, IsShiftedColumn, IsShifted}
+use Rattle.ltm_demand.specs.Tables.{TableData, told, IsOneOf, IsShifted}
 use Rattle.ltm_demand.proofs.Parts.{produced_after}
 
 -- the number of a column that the table has
@@ -82,35 +82,7 @@ told_spread old new wide long size full is c t = elim (cases_lt new.destinations
   ]
 ]
 
--- what holds of a column in each slot of the table holds in every slot
-module _ (old new : TableData) (column : ℕ) (below : column ≤ old.destinations) (wide : new.destinations ≡ old.destinations) (long : new.slots ≡ old.slots) where
-  at_new : (t : ℕ) → t < old.slots → told new column t ≡ slice_index new.units (t * (old.destinations + 1) + column)
-  at_new t inside = told_at new column t (omega arith) (omega arith) ∙ ap (λ n. slice_index new.units (t * (n + 1) + column)) wide
-
-  in_slot : (from to was now t : ℕ) → slice_index new.units (t * (old.destinations + 1) + column) + produced from to was t ≡ slice_index old.units (t * (old.destinations + 1) + column) + produced from to now t → t < old.slots →
-      told new column t + produced from to was t ≡ told old column t + produced from to now t
-  in_slot from to was now t is inside = omega (arith, is, at_new t inside, told_at old column t below inside)
-
-  pub column_shifted : (from to was now : ℕ) → from < to → to ≤ old.slots →
-      ((t : ℕ) → t < old.slots → slice_index new.units (t * (old.destinations + 1) + column) + produced from to was t ≡ slice_index old.units (t * (old.destinations + 1) + column) + produced from to now t) → IsShiftedColumn old new column from to was now
-  column_shifted from to was now some reaches is t = elim (cases_lt t old.slots) [
-    | inl inside ↦ in_slot from to was now t (is t inside) inside
-    | inr past ↦
-        let last = old.slots - 1 in
-        let ends : told new column t ≡ told new column last = told_last new column t (omega arith) (omega arith) ∙ ap (λ n. told new column (n - 1)) long in
-        omega (arith, in_slot from to was now last (is last (omega arith)) (omega arith), ends, told_last old column t past (omega arith), produced_after from to was t (omega arith) (omega arith), produced_after from to now t (omega arith) (omega arith), produced_after from to was last (omega arith) (omega arith), produced_after from to now last (omega arith) (omega arith))
-  ]
-
-pub column_same : (old new : TableData) (c t : ℕ) → new.destinations ≡ old.destinations → new.slots ≡ old.slots →
-    (c ≤ old.destinations → (s : ℕ) → slice_index new.units (s * (old.destinations + 1) + c) ≡ slice_index old.units (s * (old.destinations + 1) + c)) → told new c t ≡ told old c t
-column_same old new c t wide long is = elim (cases_lt old.destinations c) [
-  | inl out ↦ told_out new c t (omega arith) ∙ sym (told_out old c t out)
-  | inr below ↦
-      told_in new c t (omega arith) ∙ ap (λ n. slice_index new.units (min t (n - 1) * (new.destinations + 1) + c)) long ∙ ap (λ n. slice_index new.units (min t (old.slots - 1) * (n + 1) + c)) wide
-      ∙ is below (min t (old.slots - 1)) ∙ sym (told_in old c t below)
-]
-
--- the columns of a row's destination and of all destinations shifted, and no other
+-- what a row has of another destination, of its own and of all
 part_other : (o d t : ℕ) (row : DemandRow) → joins o d row ≡ false → part o d t row ≡ 0
 unfolding part
 part_other o d t row apart = ap (λ b. cond b (produced row.from row.to row.amount.0 t) 0) apart
@@ -123,19 +95,52 @@ own_origin : (t : ℕ) (row : DemandRow) → origin_part row.origin.0 t row ≡ 
 unfolding origin_part
 own_origin t row = let e : (row.origin.0 == row.origin.0) ≡ true = grind (arith, nat_tests) in ap (λ b. cond b (produced row.from row.to row.amount.0 t) 0) e
 
-pub both_shifted : (old mid new : TableData) (row : DemandRow) (was : ℕ) → ((c t : ℕ) → c ≢ 0 → told mid c t ≡ told old c t) → IsShiftedColumn old mid 0 row.from row.to was row.amount.0 →
-    ((c t : ℕ) → c ≢ row.destination + 1 → told new c t ≡ told mid c t) → IsShiftedColumn mid new (row.destination + 1) row.from row.to was row.amount.0 →
-    new.destinations ≡ old.destinations → new.slots ≡ old.slots → IsShifted old new row was
-both_shifted old mid new row was first_rest first second_rest second wide long = record {
-  each = λ d t. elim (joins row.origin.0 d row) as (λ b. joins row.origin.0 d row ≡ b → told new (d + 1) t + part row.origin.0 d t (with_amount row was) ≡ told old (d + 1) t + part row.origin.0 d t row) [
-    | true ↦ λ here.
-        let to : d + 1 ≡ row.destination + 1 = grind (arith, nat_tests) in
-        omega (arith, ap (λ c. told new c t) to, ap (λ c. told mid c t) to, second t, first_rest (d + 1) t (omega arith), part_here row.origin.0 d t row here, part_here row.origin.0 d t (with_amount row was) here)
-    | false ↦ λ apart.
-        let away : d ≢ row.destination = grind (arith, nat_tests) in
-        omega (arith, second_rest (d + 1) t (omega arith), first_rest (d + 1) t (omega arith), part_other row.origin.0 d t row apart, part_other row.origin.0 d t (with_amount row was) apart)
-  ] refl;
-  all = λ t. omega (arith, second_rest 0 t (omega arith), first t, own_origin t row, own_origin t (with_amount row was));
-  destinations = wide;
-  slots = long;
-}
+-- what holds of a column in each slot of the table holds in every slot
+module _ (old new : TableData) (wide : new.destinations ≡ old.destinations) (long : new.slots ≡ old.slots) where
+  column_shifted : (column from to was now : ℕ) → column ≤ old.destinations → from < to → to ≤ old.slots →
+      ((t : ℕ) → t < old.slots → slice_index new.units (t * (old.destinations + 1) + column) + produced from to was t ≡ slice_index old.units (t * (old.destinations + 1) + column) + produced from to now t) →
+      (t : ℕ) → told new column t + produced from to was t ≡ told old column t + produced from to now t
+  column_shifted column from to was now below some reaches is t = elim (cases_lt t old.slots) [
+    | inl inside ↦ in_slot t inside
+    | inr past ↦
+        let last = old.slots - 1 in
+        let ends : told new column t ≡ told new column last = told_last new column t (omega arith) (omega arith) ∙ ap (λ n. told new column (n - 1)) long in
+        omega (arith, in_slot last (omega arith), ends, told_last old column t past (omega arith), produced_after from to was t (omega arith) (omega arith), produced_after from to now t (omega arith) (omega arith), produced_after from to was last (omega arith) (omega arith), produced_after from to now last (omega arith) (omega arith))
+  ]
+    where
+      at_new : (t : ℕ) → t < old.slots → told new column t ≡ slice_index new.units (t * (old.destinations + 1) + column)
+      at_new t inside = told_at new column t (omega arith) (omega arith) ∙ ap (λ n. slice_index new.units (t * (n + 1) + column)) wide
+
+      in_slot : (t : ℕ) → t < old.slots → told new column t + produced from to was t ≡ told old column t + produced from to now t
+      in_slot t inside = omega (arith, is t inside, at_new t inside, told_at old column t below inside)
+
+  column_same : (column t : ℕ) → (column ≤ old.destinations → (s : ℕ) → slice_index new.units (s * (old.destinations + 1) + column) ≡ slice_index old.units (s * (old.destinations + 1) + column)) → told new column t ≡ told old column t
+  column_same c t is = elim (cases_lt old.destinations c) [
+    | inl out ↦ told_out new c t (omega arith) ∙ sym (told_out old c t out)
+    | inr below ↦
+        told_in new c t (omega arith) ∙ ap (λ n. slice_index new.units (min t (n - 1) * (new.destinations + 1) + c)) long ∙ ap (λ n. slice_index new.units (min t (old.slots - 1) * (n + 1) + c)) wide
+        ∙ is below (min t (old.slots - 1)) ∙ sym (told_in old c t below)
+  ]
+
+  -- the columns of a row's destination and of all destinations are shifted, and no other
+  pub row_shifted : (row : DemandRow) (was : ℕ) → row.destination < old.destinations → row.from < row.to → row.to ≤ old.slots →
+      ((c t : ℕ) → IsOneOf (row.destination + 1) c → t < old.slots → slice_index new.units (t * (old.destinations + 1) + c) + produced row.from row.to was t ≡ slice_index old.units (t * (old.destinations + 1) + c) + produced row.from row.to row.amount.0 t) →
+      ((c t : ℕ) → c < old.destinations + 1 → c ≢ 0 → c ≢ row.destination + 1 → slice_index new.units (t * (old.destinations + 1) + c) ≡ slice_index old.units (t * (old.destinations + 1) + c)) → IsShifted old new row was
+  row_shifted row was there some reaches both rest = record {
+    each = λ d t. elim (joins row.origin.0 d row) as (λ b. joins row.origin.0 d row ≡ b → told new (d + 1) t + part row.origin.0 d t (with_amount row was) ≡ told old (d + 1) t + part row.origin.0 d t row) [
+      | true ↦ λ here.
+          let to : d + 1 ≡ row.destination + 1 = grind (arith, nat_tests) in
+          omega (
+            arith,
+            column_shifted (d + 1) row.from row.to was row.amount.0 (omega (arith, to, there)) some reaches (λ s inside. both (d + 1) s (inr to) inside) t,
+            part_here row.origin.0 d t row here,
+            part_here row.origin.0 d t (with_amount row was) here,
+          )
+      | false ↦ λ apart.
+          let away : d ≢ row.destination = grind (arith, nat_tests) in
+          omega (arith, column_same (d + 1) t (λ below s. rest (d + 1) s (omega (arith, below)) (omega arith) (omega arith)), part_other row.origin.0 d t row apart, part_other row.origin.0 d t (with_amount row was) apart)
+    ] refl;
+    all = λ t. omega (arith, column_shifted 0 row.from row.to was row.amount.0 (omega arith) some reaches (λ s inside. both 0 s (inl refl) inside) t, own_origin t row, own_origin t (with_amount row was));
+    destinations = wide;
+    slots = long;
+  }

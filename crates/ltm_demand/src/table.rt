@@ -3,8 +3,8 @@
 //! A slot's numbers lie side by side: first that of all destinations together, then one for each destination. A table
 //! reaches at least to the greatest end of the origin's rows; by then all of them have produced everything, so a later
 //! slot reads the last, and a longer horizon changes no table.
-ghost use Rattle.std.specs.Prelude.{◌≡◌, ◌≢◌, ℕ, ◌+◌, ◌-◌, ◌*◌, ◌<◌, ◌≤◌, ◌^◌, min, length, vec_len, slice_index, OnOk, IfOk, IsTrue, ◌↔◌};
-ghost use Rattle.ltm_demand.specs.Tables.{TableData, no_table, told, IsShiftedColumn, IsRoomyColumn, IsRoomy, IsReached, IsShifted};
+ghost use Rattle.std.specs.Prelude.{◌≡◌, ℕ, ◌+◌, ◌-◌, ◌*◌, ◌<◌, ◌≤◌, ◌^◌, min, length, vec_len, slice_index, OnOk, IfOk, IsTrue, ◌↔◌};
+ghost use Rattle.ltm_demand.specs.Tables.{TableData, no_table, told, IsRoomy, IsReached, IsShifted};
 
 use crate::DemandRow;
 use crate::shifting::shift;
@@ -165,32 +165,6 @@ impl Table {
         Ok(())
     }
 
-    /// Puts one amount over some slots in place of another in a column.
-    fn change(&mut self, column: usize, from: u32, to: u32, was: u64, now: u64)
-        requires was { was ≤ 1000000000 }
-        requires now { now ≤ 1000000000 }
-        requires slots { from < to }
-        requires column { column ≤ self.old.destinations }
-        requires reaches { to ≤ self.old.slots }
-        requires roomy { IsRoomyColumn self.old column from to was }
-        ensures destinations { self.new.destinations ≡ self.old.destinations }
-        ensures slots { self.new.slots ≡ self.old.slots }
-        ensures others { (c t : ℕ) → c ≢ column → told self.new c t ≡ told self.old c t }
-        ensures shifted { IsShiftedColumn self.old self.new column from to was now }
-    {
-        let width = self.destinations + 1;
-        shift(
-            &mut self.units,
-            width,
-            column,
-            self.slots,
-            from,
-            to,
-            was,
-            now,
-        );
-    }
-
     /// Puts the amount of a row in place of another.
     pub fn tell(&mut self, row: &DemandRow, was: u64)
         requires was { was ≤ 1000000000 }
@@ -200,9 +174,18 @@ impl Table {
         requires roomy { IsRoomy self.old row.now was }
         ensures { IsShifted self.old self.new row.now was }
     {
+        let width = self.destinations + 1;
         let own = row.destination as usize + 1;
-        self.change(0, row.from, row.to, was, row.amount.0);
-        self.change(own, row.from, row.to, was, row.amount.0);
+        shift(
+            &mut self.units,
+            width,
+            own,
+            self.slots,
+            row.from,
+            row.to,
+            was,
+            row.amount.0,
+        );
     }
 
     pub fn try_copy(&self) -> Result<Table, NoMemory>

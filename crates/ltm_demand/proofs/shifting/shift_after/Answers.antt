@@ -1,29 +1,37 @@
-use Rattle.std.proofs.Common.{◌≡◌, ◌+◌, ◌-◌, ◌*◌, ◌<◌, ◌≤◌, length, slice_index, slice_set, arith, ap, sym, ◌∙◌, inl, inr}
+use Rattle.std.proofs.Common.{◌≡◌, ◌+◌, ◌*◌, ◌≤◌, slice_index, arith, subst, ◌∙◌, inl, inr}
+use Rattle.std.proofs.Math.Nat.{mul-le-mul_right}
 use Rattle.std.proofs.lemmas.Bool.{cases_lt}
-use Rattle.std.proofs.lemmas.List.{length-set}
-use Rattle.ltm_demand.proofs.Cells.{within, set_here, set_slot, set_column}
+use Rattle.ltm_demand.proofs.Cells.{is_below}
 use Rattle.ltm_demand.proofs.shifting.shift_after.Goals as goal
+
+pub exchange_both-requires-clause-within : goal.exchange_both-requires-clause-within
+exchange_both-requires-clause-within c =
+    let next : c.loop-slot.slot + 1 ≤ c.args.slots = omega (arith, c.loop-slot-test.true) in
+    omega (arith, mul-le-mul_right c.args.width next, c.requires.reaches, c.loop-slot.invariant.long)
+
+pub exchange_both-requires-clause-has : goal.exchange_both-requires-clause-has
+exchange_both-requires-clause-has c = λ k which. omega (arith, c.requires.has k c.loop-slot.slot which c.loop-slot.auto.slot c.loop-slot-test.true, c.loop-slot.invariant.left k c.loop-slot.slot (is_below c.args.width c.args.own k c.requires.own which) (omega arith))
+
+pub exchange_both-requires-clause-room : goal.exchange_both-requires-clause-room
+exchange_both-requires-clause-room c = λ k which. omega (arith, c.requires.room k c.loop-slot.slot which c.loop-slot.auto.slot c.loop-slot-test.true, c.loop-slot.invariant.left k c.loop-slot.slot (is_below c.args.width c.args.own k c.requires.own which) (omega arith))
 
 pub loop-slot-preserved : goal.loop-slot-preserved
 loop-slot-preserved c =
     let s = c.loop-slot.slot in
     let w = c.args.width in
-    let e = c.args.column in
-    let old = c.loop-slot.units in
-    let v = slice_index old (s * w + e) - c.args.was + c.args.now in
-    let inside : s * w + e < length old = omega (arith, within w s e c.args.slots c.requires.column c.loop-slot-test.true, c.requires.reaches, c.loop-slot.invariant.long) in
-    let has : c.args.was ≤ slice_index old (s * w + e) = omega (arith, c.requires.has s c.loop-slot.auto.slot c.loop-slot-test.true, c.loop-slot.invariant.left s (omega arith)) in
+    let made = c.exchange_both.ensures in
+    let new = c.exchange_both.new.units in
+    let first = c.args.units.now in
     record {
-      long = length-set old (s * w + e) v ∙ c.loop-slot.invariant.long;
-      front = λ t early. set_slot old w s e v c.requires.column inside t (omega (arith, c.loop-slot.auto.slot)) ∙ c.loop-slot.invariant.front t early;
-      done = λ t from before. elim (cases_lt t s) [
-        | inl less ↦ omega (arith, set_slot old w s e v c.requires.column inside t (omega arith), c.loop-slot.invariant.done t from less)
+      long = made.len ∙ c.loop-slot.invariant.long;
+      front = λ k t under early. made.elsewhere k t under (omega (arith, c.loop-slot.auto.slot)) ∙ c.loop-slot.invariant.front k t under early;
+      done = λ k t which from before. elim (cases_lt t s) [
+        | inl less ↦ omega (arith, made.elsewhere k t (is_below w c.args.own k c.requires.own which) (omega arith), c.loop-slot.invariant.done k t which from less)
         | inr more ↦
-            let same : t ≡ s = omega arith in
-            let at : slice_index (slice_set old (s * w + e) v) (t * w + e) ≡ v = ap (λ n. slice_index (slice_set old (s * w + e) v) (n * w + e)) same ∙ set_here old w s e v c.requires.column inside in
-            let was : slice_index c.args.units.now (t * w + e) ≡ slice_index old (s * w + e) = ap (λ n. slice_index c.args.units.now (n * w + e)) same ∙ sym (c.loop-slot.invariant.left s (omega arith)) in
-            omega (arith, at, was, has)
+            let same : s ≡ t = omega arith in
+            subst (λ n. slice_index new (n * w + k) + c.args.was ≡ slice_index first (n * w + k) + c.args.now) same
+            (omega (arith, made.here k which, c.loop-slot.invariant.left k s (is_below w c.args.own k c.requires.own which) (omega arith)))
       ];
-      left = λ t beyond. set_slot old w s e v c.requires.column inside t (omega arith) ∙ c.loop-slot.invariant.left t (omega arith);
-      others = λ k t below other. set_column old w s e v c.requires.column inside k t below other ∙ c.loop-slot.invariant.others k t below other;
+      left = λ k t under beyond. made.elsewhere k t under (omega arith) ∙ c.loop-slot.invariant.left k t under (omega arith);
+      others = λ k t under zeroth other. made.others k t under zeroth other ∙ c.loop-slot.invariant.others k t under zeroth other;
     }

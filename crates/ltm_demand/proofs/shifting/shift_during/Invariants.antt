@@ -1,5 +1,6 @@
 use Rattle.std.proofs.Common.{◌≡◌, ◌≢◌, ℕ, ◌+◌, ◌-◌, ◌*◌, ◌<◌, ◌≤◌, length, slice_index}
 use Rattle.ltm_demand.specs.Produced.{produced}
+use Rattle.ltm_demand.specs.Tables.{IsOneOf}
 use Rattle.ltm_demand.proofs.shifting.shift_during.Given as goal
 
 abbrev pub invariant-loop-slot : goal.invariant-loop-slot
@@ -11,7 +12,7 @@ invariant-loop-slot l = record {
   come_amount : l.come.amount ≡ l.now;
   come_slots : l.come.slots ≡ l.to - l.from;
   come_passed : l.come.passed + l.from ≡ l.slot;
-  done : (t : ℕ) → t < l.slot → slice_index l.units (t * l.width + l.column) + produced l.from l.to l.was t ≡ slice_index l.fn.units (t * l.width + l.column) + produced l.from l.to l.now t;
-  left : (t : ℕ) → l.slot ≤ t → slice_index l.units (t * l.width + l.column) ≡ slice_index l.fn.units (t * l.width + l.column);
-  others : (c t : ℕ) → c < l.width → c ≢ l.column → slice_index l.units (t * l.width + c) ≡ slice_index l.fn.units (t * l.width + c);
+  done : (c t : ℕ) → IsOneOf l.own c → t < l.slot → slice_index l.units (t * l.width + c) + produced l.from l.to l.was t ≡ slice_index l.fn.units (t * l.width + c) + produced l.from l.to l.now t;
+  left : (c t : ℕ) → c < l.width → l.slot ≤ t → slice_index l.units (t * l.width + c) ≡ slice_index l.fn.units (t * l.width + c);
+  others : (c t : ℕ) → c < l.width → c ≢ 0 → c ≢ l.own → slice_index l.units (t * l.width + c) ≡ slice_index l.fn.units (t * l.width + c);
 }
