@@ -6,8 +6,10 @@
 //! counts at the two ends of a link: Newell 1993, Yperman 2007. Whole units, floors and counts by destination are this
 //! engine's own.)
 //!
-//! It stands on `ltm_units` alone. `create` takes all memory; no later call takes any. A read costs one access to one
-//! flat table, and so does a total; a write keeps the total of its row, and a time costs one division more.
+//! It stands on `ltm_units` and, for the set of changed cells, on `ltm_marks`. `create` and `reserve` take memory; no other
+//! call does. A read costs one access to one flat table, and so does a total; a write keeps the total of its row, and a
+//! time costs one division more. Change it here where counts are to be kept in another way: contracts above speak of
+//! `counts_of` and `is_changed` alone.
 #![tactic(auto)]
 
 mod changed;
