@@ -35,16 +35,35 @@ pub struct Curves {
     ghost totals_room: { 2 ≤ destinations → (room + 1) * groups ≤ vec_capacity totals },
 }
 
-/// The sum of the counts of a row.
+/// The sum of the counts of a row: of two counts, as with two destinations, without a loop.
+#[inline]
 fn sum_of(counts: &[u64]) -> u64
     requires fits { sum counts.now < 2 ^ 64 }
     ensures { result ≡ sum counts.now }
 {
-    counts.iter().sum()
+    match counts {
+        [one, other] => *one + *other,
+        _ => counts.iter().sum(),
+    }
 }
 
-/// Writes a row of counts in 32 bits.
+/// Writes a row of counts in 32 bits: of two counts, as with two destinations, without a loop.
+#[inline]
 fn write_row(into: &mut [u32], counts: &[u64])
+    requires count { length into.old ≡ length counts.now }
+    requires small { (d : ℕ) → d < length counts.now → slice_index counts.now d < 2 ^ 31 }
+    ensures { into.new ≡ counts.now }
+{
+    if into.len() == 2 {
+        into[0] = counts[0] as u32;
+        into[1] = counts[1] as u32;
+    } else {
+        write_many(into, counts);
+    }
+}
+
+/// The same for any count of counts.
+fn write_many(into: &mut [u32], counts: &[u64])
     requires count { length into.old ≡ length counts.now }
     requires small { (d : ℕ) → d < length counts.now → slice_index counts.now d < 2 ^ 31 }
     ensures { into.new ≡ counts.now }

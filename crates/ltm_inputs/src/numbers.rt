@@ -1,9 +1,24 @@
 //! Numbers of 32 bits, and amounts above 0.
 ghost use Rattle.std.specs.Prelude.{◌≡◌, ◌↔◌, ◌<◌, ℕ, IsFalse, length, slice_index};
 
-/// Writes some numbers of 32 bits.
+/// Writes some numbers of 32 bits: one or two, as for one or two destinations, without a loop.
 #[inline]
 pub(crate) fn put_numbers(numbers: &[u32], into: &mut [u64])
+    requires { length into.old ≡ length numbers.now }
+    ensures { into.new ≡ numbers.now }
+{
+    if into.len() == 2 {
+        into[0] = u64::from(numbers[0]);
+        into[1] = u64::from(numbers[1]);
+    } else if into.len() == 1 {
+        into[0] = u64::from(numbers[0]);
+    } else {
+        put_many(numbers, into);
+    }
+}
+
+/// The same for any count of numbers.
+fn put_many(numbers: &[u32], into: &mut [u64])
     requires { length into.old ≡ length numbers.now }
     ensures { into.new ≡ numbers.now }
 {

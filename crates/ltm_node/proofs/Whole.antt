@@ -11,8 +11,7 @@ use Rattle.ltm_node.specs.Demands.{part, sent_into, demands}
 use Rattle.ltm_node.specs.Step.{moved, sunk, MovesAtShares, IsNodeStep}
 use Rattle.ltm_shares.specs.Sent.{sent_at}
 use Rattle.ltm_shares.specs.declared.sent.Sent.{Sent}
-use Rattle.ltm_shares.specs.declared.share.Shares.{Shares}
-use Rattle.ltm_node.specs.declared.portion.Portion.TheVariants.{Whole, Share}
+use Rattle.ltm_node.specs.declared.portion.Portion.TheVariants.{Whole}
 use Rattle.ltm_node.specs.Portion.{AreFractions, numerator}
 use Rattle.ltm_node.specs.Moving.{IsMoving, HaveMovedAll, HoldsSent, FitsSupply}
 use Rattle.ltm_node.proofs.Amounts.{left_low, entered_low}
@@ -86,9 +85,5 @@ all_step n o sent few shape h fits =
 
 -- ---- where each arm moves its share
 
-pub share_fractions : (n : Inputs) (s : Shares) → AreShares (demands n) s.denominator (slice_index s.numerators) → AreFractions n (Share s)
-share_fractions n s h = record { positive = h.positive; at_most_all = h.at_most_all }
-
-pub share_step : (n : Inputs) (s : Shares) (o : Outputs) (sent : Sent) → n.shape.arms ≤ 5 → AreShares (demands n) s.denominator (slice_index s.numerators) → o.shape ≡ n.shape → HaveMovedAll n (Share s) o.row sent → IsNodeStep n o
-share_step n s o sent few h shape moved =
-    ∣ record { denominator = s.denominator; numerators = slice_index s.numerators; shares = h; moves = all_moved n s.denominator (numerator (Share s)) o (sent_at sent) few shape moved } ∣₁
+pub share_step : (n : Inputs) (e : ℕ) (p : ℕ → ℕ) (o : Outputs) (sent : ℕ → ℕ → ℕ) → n.shape.arms ≤ 5 → AreShares (demands n) e p → o.shape ≡ n.shape → IsMoving n e p n.shape.destinations 0 0 o.row sent → IsNodeStep n o
+share_step n e p o sent few h shape moves = ∣ record { denominator = e; numerators = p; shares = h; moves = all_moved n e p o sent few shape moves } ∣₁

@@ -40,7 +40,7 @@ pub record IsMoving (n : Inputs) (e : ℕ) (p : ℕ → ℕ) (b a k : ℕ) (row 
 
 -- the same of the arms of a node with their portions
 abbrev pub IsMovingBy : Mover → ℕ → ℕ → ℕ → List ℕ → Sent → Type 0
-IsMovingBy m b a k row sent = IsMoving m.inputs.now (denominator m.portion.now) (numerator m.portion.now) b a k row (sent_at sent)
+IsMovingBy m b a k row sent = IsMoving m.inputs.now (denominator m.portion) (numerator m.portion) b a k row (sent_at sent)
 
 -- between two arms
 abbrev pub IsMovingAt : Mover → ℕ → ℕ → List ℕ → Sent → Type 0
@@ -56,7 +56,7 @@ HaveMovedAll n portion row sent = IsMoving n (denominator portion) (numerator po
 
 -- what an arm moves to a destination by an out-link
 abbrev pub moved_by : Mover → ℕ → ℕ → ℕ → ℕ
-moved_by m arm destination out = moved m.inputs.now (denominator m.portion.now) (numerator m.portion.now) arm destination out
+moved_by m arm destination out = moved m.inputs.now (denominator m.portion) (numerator m.portion) arm destination out
 
 -- what an arm sends to a destination
 pub record IsLoad (n : Inputs) (load : Load) : Type 0 where

@@ -6,12 +6,12 @@ use Rattle.ltm_node.specs.Inputs.{Inputs}
 -- what the arms' portions are parts of
 abbrev pub denominator : Portion → ℕ
 denominator Whole = 1
-denominator (Share shares) = shares.denominator
+denominator (Share shares) = shares.now.denominator
 
 -- how many of those parts an arm moves
 abbrev pub numerator : Portion → ℕ → ℕ
 numerator Whole arm = 1
-numerator (Share shares) arm = slice_index shares.numerators arm
+numerator (Share shares) arm = slice_index shares.now.numerators arm
 
 -- no arm moves more than all
 pub record AreFractions (n : Inputs) (portion : Portion) : Type 0 where

@@ -1,5 +1,5 @@
 //! The inputs of a pair of node and slot.
-ghost use Rattle.std.specs.Prelude.{◌≡◌, ◌<◌, ◌≤◌, ◌*◌, ◌+◌, ◌↔◌, max, length, IsTrue, IfOk, slice_set, take, drop, ◌++◌};
+ghost use Rattle.std.specs.Prelude.{◌≡◌, ◌<◌, ◌≤◌, ◌*◌, ◌+◌, ◌↔◌, max, length, IsTrue, IfOk, slice_set, take};
 ghost use Rattle.ltm_node.specs.Shape.{
   width,
   no_shape,
@@ -326,41 +326,6 @@ impl NodeInputs {
         &mut self.numbers
     }
 
-    /// Sets the number at a place of the row.
-    #[inline]
-    pub fn put(&mut self, place: usize, value: u64)
-        requires { place < width self.old.shape }
-        ensures { self.new ≡ record self.old { row = slice_set self.old.row place value } }
-    {
-        self.numbers[place] = value;
-    }
-
-    /// Sets the numbers of the row from a place on.
-    #[inline]
-    pub fn put_all(&mut self, from: usize, numbers: &[u64])
-        requires { from + length numbers.now ≤ width self.old.shape }
-        ensures { self.new ≡ record self.old {
-          row = take from self.old.row ++ (numbers.now ++ drop (from + length numbers.now) self.old.row);
-        } }
-    {
-        if numbers.len() == 1 {
-            let _row = self.row();
-            self.put(from, numbers[0]);
-        } else {
-            self.put_many(from, numbers);
-        }
-    }
-
-    /// The same for any count of numbers, in one copy.
-    fn put_many(&mut self, from: usize, numbers: &[u64])
-        requires { from + length numbers.now ≤ width self.old.shape }
-        ensures { self.new ≡ record self.old {
-          row = take from self.old.row ++ (numbers.now ++ drop (from + length numbers.now) self.old.row);
-        } }
-    {
-        copy_numbers(&mut self.numbers[from..from + numbers.len()], numbers);
-    }
-
     /// Takes a shape and all numbers of its row.
     pub fn copy_row(&mut self, shape: NodeShape, row: &[u64])
         requires room { width shape ≤ self.old.room }
@@ -371,19 +336,5 @@ impl NodeInputs {
             self.numbers[place] = *number;
         }
         self.shape = shape;
-    }
-}
-
-/// Copies some numbers: two of them, as in a case with two destinations, one by one and without a call.
-#[inline]
-fn copy_numbers(into: &mut [u64], numbers: &[u64])
-    requires { length into.old ≡ length numbers.now }
-    ensures { into.new ≡ numbers.now }
-{
-    if numbers.len() == 2 {
-        into[0] = numbers[0];
-        into[1] = numbers[1];
-    } else {
-        into.copy_from_slice(numbers);
     }
 }

@@ -3,9 +3,9 @@
 //! All that goes to a destination is split over the same weights, so their sum is formed once for all arms. An amount is
 //! split out-link by out-link, what is not split yet staying in hand, and ends with the last weight above 0. An amount of
 //! 0 moves nothing and is passed over.
-ghost use Rattle.std.specs.Prelude.{◌≡◌, ◌<◌, ◌+◌, false, true, sum};
+ghost use Rattle.std.specs.Prelude.{◌≡◌, ◌<◌, ◌+◌, false, true, sum, length};
 ghost use Rattle.ltm_units.specs.Sums.{sum_below};
-ghost use Rattle.ltm_node.specs.Shape.{is_own};
+ghost use Rattle.ltm_node.specs.Shape.{is_own, width};
 ghost use Rattle.ltm_node.specs.Inputs.{weights};
 ghost use Rattle.ltm_node.specs.Solvable.{IsSolvable};
 ghost use Rattle.ltm_node.specs.Portion.{AreFractions};
@@ -13,20 +13,79 @@ ghost use Rattle.ltm_node.specs.Portion.{AreFractions};
 use crate::inputs::NodeInputs;
 use crate::loads::{Load, Part};
 use crate::portion::Portion;
-use crate::split::{part_of, whole_weight};
+use crate::shape::NodeShape;
+use crate::split::{part_of, sum_of};
 use ltm_shares::Sent;
 
-/// The arms of a node, each of which moves a portion of what it sends.
+/// The arms of a node, each of which moves a portion of what it sends. The shape and the row of the inputs are at hand, so
+/// that they need not be read anew behind each write.
 #[derive(Clone, Copy)]
 pub struct Mover<'a> {
     pub inputs: &'a NodeInputs,
-    pub portion: &'a Portion,
+    pub portion: Portion<'a>,
+    shape: NodeShape,
+    numbers: &'a [u64],
     ghost solvable: { IsSolvable inputs.now },
-    ghost fractions: { AreFractions inputs.now portion.now },
+    ghost fractions: { AreFractions inputs.now portion },
+    ghost same_shape: { shape ≡ inputs.now.shape },
+    ghost same_row: { numbers.now ≡ inputs.now.row },
+    ghost long: { length numbers.now ≡ width shape },
 }
 
 impl Mover<'_> {
     ghost use Rattle.ltm_node.specs.Moving.{IsMovingBy, IsMovingAt, HaveMovedTo, IsLoad, IsPart, moved_by};
+
+    /// The arms of a node that move this portion of what they send.
+    #[inline]
+    pub fn of<'a>(inputs: &'a NodeInputs, portion: Portion<'a>) -> Mover<'a>
+        requires solvable { IsSolvable inputs.now }
+        requires fractions { AreFractions inputs.now portion }
+        ensures inputs { result.inputs.now ≡ inputs.now }
+        ensures portion { result.portion ≡ portion.entry }
+    {
+        Mover {
+            inputs,
+            portion,
+            shape: inputs.shape(),
+            numbers: inputs.row(),
+        }
+    }
+
+    /// What an arm sends to a destination.
+    #[inline]
+    fn load(&self, arm: u32, destination: u32) -> Load
+        requires arm { arm < self.now.inputs.now.shape.arms }
+        requires destination { destination < self.now.inputs.now.shape.destinations }
+        ensures arm { result.arm ≡ arm }
+        ensures destination { result.destination ≡ destination }
+        ensures load { IsLoad self.now.inputs.now result }
+    {
+        Load {
+            arm,
+            destination,
+            amount: self.numbers[self.shape.sending_place(arm, destination)],
+        }
+    }
+
+    /// The weights of all out-links for a destination.
+    #[inline]
+    fn weights(&self, destination: u32) -> &[u64]
+        requires { destination < self.now.inputs.now.shape.destinations }
+        ensures weights { result.now ≡ weights self.now.inputs.now destination }
+        ensures outs { length result.now ≡ self.now.inputs.now.shape.outs }
+    {
+        let from = self.shape.weights_place(destination);
+        &self.numbers[from..from + self.shape.outs as usize]
+    }
+
+    /// The sum of the weights for a destination.
+    #[inline]
+    fn whole_weight(&self, destination: u32) -> u64
+        requires { destination < self.now.inputs.now.shape.destinations }
+        ensures { result ≡ sum (weights self.now.inputs.now destination) }
+    {
+        sum_of(self.weights(destination))
+    }
 
     /// Adds what moves of a part, and returns it.
     #[inline]
@@ -40,8 +99,7 @@ impl Mover<'_> {
             return 0;
         }
         let moved = self.portion.of(part.arm, part.amount);
-        let shape = self.inputs.shape();
-        row[shape.entered_after_place(part.out, part.destination)] += moved;
+        row[self.shape.entered_after_place(part.out, part.destination)] += moved;
         sent.add(part.arm as usize, part.out as usize, moved);
         moved
     }
@@ -55,8 +113,7 @@ impl Mover<'_> {
         requires before { IsMovingBy self.now load.destination load.arm self.now.inputs.now.shape.outs row.old sent.now }
         ensures after { IsMovingAt self.now load.destination (load.arm + 1) row.new sent.now }
     {
-        let shape = self.inputs.shape();
-        row[shape.left_after_place(load.arm, load.destination)] += total;
+        row[self.shape.left_after_place(load.arm, load.destination)] += total;
     }
 
     /// Adds what moves of a load that is split over weights of this sum.
@@ -68,7 +125,7 @@ impl Mover<'_> {
         requires before { IsMovingAt self.now load.destination load.arm row.old sent.old }
         ensures after { IsMovingAt self.now load.destination (load.arm + 1) row.new sent.new }
     {
-        let weights = self.inputs.weights(load.destination);
+        let weights = self.weights(load.destination);
         let mut left = load.amount;
         let mut rest = whole;
         let mut total = 0u64;
@@ -106,26 +163,9 @@ impl Mover<'_> {
         requires before { IsMovingAt self.now load.destination load.arm row.old sent.now }
         ensures after { IsMovingAt self.now load.destination (load.arm + 1) row.new sent.now }
     {
-        let shape = self.inputs.shape();
         let sunk = self.portion.of(load.arm, load.amount);
-        row[shape.left_after_place(load.arm, load.destination)] += sunk;
-        row[shape.arrived_after_place()] += sunk;
-    }
-
-    /// What an arm sends to a destination.
-    #[inline]
-    fn load(&self, arm: u32, destination: u32) -> Load
-        requires arm { arm < self.now.inputs.now.shape.arms }
-        requires destination { destination < self.now.inputs.now.shape.destinations }
-        ensures arm { result.arm ≡ arm }
-        ensures destination { result.destination ≡ destination }
-        ensures load { IsLoad self.now.inputs.now result }
-    {
-        Load {
-            arm,
-            destination,
-            amount: self.inputs.sending(arm, destination),
-        }
+        row[self.shape.left_after_place(load.arm, load.destination)] += sunk;
+        row[self.shape.arrived_after_place()] += sunk;
     }
 
     /// Adds what all arms move to a destination that is not the node.
@@ -135,8 +175,8 @@ impl Mover<'_> {
         requires before { HaveMovedTo self.now destination row.old sent.old }
         ensures after { HaveMovedTo self.now (destination + 1) row.new sent.new }
     {
-        let whole = whole_weight(self.inputs, destination);
-        for arm in 0..self.inputs.arms() {
+        let whole = self.whole_weight(destination);
+        for arm in 0..self.shape.arms {
             self.send(self.load(arm, destination), whole, row, sent);
         }
     }
@@ -148,7 +188,7 @@ impl Mover<'_> {
         requires before { HaveMovedTo self.now destination row.old sent.now }
         ensures after { HaveMovedTo self.now (destination + 1) row.new sent.now }
     {
-        for arm in 0..self.inputs.arms() {
+        for arm in 0..self.shape.arms {
             self.sink(self.load(arm, destination), row, sent);
         }
     }
@@ -160,7 +200,7 @@ impl Mover<'_> {
         requires before { HaveMovedTo self.now destination row.old sent.old }
         ensures after { HaveMovedTo self.now (destination + 1) row.new sent.new }
     {
-        if self.inputs.is_own(destination) {
+        if self.shape.is_own(destination) {
             self.sink_all(destination, row, sent);
         } else {
             self.send_all(destination, row, sent);
@@ -172,7 +212,7 @@ impl Mover<'_> {
         requires before { HaveMovedTo self.now 0 row.old sent.old }
         ensures after { HaveMovedTo self.now self.now.inputs.now.shape.destinations row.new sent.new }
     {
-        for destination in 0..self.inputs.destinations() {
+        for destination in 0..self.shape.destinations {
             self.move_to(destination, row, sent);
         }
     }

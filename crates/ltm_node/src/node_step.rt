@@ -29,12 +29,14 @@ pub fn write_step(inputs: &NodeInputs, outputs: &mut NodeOutputs)
     if step_narrow(inputs, outputs) {
         return;
     }
-    let sent = outputs.advance(inputs, &Portion::Whole);
+    let mut sent = Sent::nothing();
+    outputs.advance(inputs, Portion::Whole, &mut sent);
     if fits_supply(inputs, &sent) {
         return;
     }
     let shares = share_out(inputs, sent);
-    outputs.advance(inputs, &Portion::Share(shares));
+    let mut moved = Sent::nothing();
+    outputs.advance(inputs, Portion::Share(&shares), &mut moved);
 }
 
 /// The shares of the arms.

@@ -1,5 +1,6 @@
 //! The counts that a node step gives.
 ghost use Rattle.std.specs.Prelude.{◌≡◌, ℕ, ◌<◌, ◌≤◌, ◌*◌, ◌+◌, ◌^◌, max, take, drop, length, IfOk, slice_index, slice_set};
+ghost use Rattle.ltm_shares.specs.Sent.{sent_at};
 ghost use Rattle.ltm_node.specs.Shape.{counts_width, no_shape};
 ghost use Rattle.ltm_node.specs.Outputs.{
   cleared_outputs,
@@ -174,20 +175,19 @@ impl NodeOutputs {
         mover.move_all(&mut self.counts[0..width], sent);
     }
 
-    /// Takes the counts at the end of the slot where each arm moves this portion of what it sends; returns what each arm
+    /// Takes the counts at the end of the slot where each arm moves this portion of what it sends; `sent` gets what each arm
     /// moves into each out-link.
-    pub(crate) fn advance(&mut self, inputs: &NodeInputs, portion: &Portion) -> Sent
+    pub(crate) fn advance(&mut self, inputs: &NodeInputs, portion: Portion<'_>, sent: &mut Sent)
         requires solvable { IsSolvable inputs.now }
-        requires fractions { AreFractions inputs.now portion.now }
+        requires fractions { AreFractions inputs.now portion }
         requires room { counts_width inputs.now.shape ≤ self.old.room }
+        requires nothing { (arm out : ℕ) → sent_at sent.old arm out ≡ 0 }
         ensures shape { self.new.shape ≡ inputs.now.shape }
         ensures room { self.new.room ≡ self.old.room }
-        ensures after { HaveMovedAll inputs.now portion.now self.new.row result }
+        ensures after { HaveMovedAll inputs.now portion.entry self.new.row sent.new }
     {
         self.begin(inputs);
-        let mut sent = Sent::nothing();
-        self.add_moves(&Mover { inputs, portion }, &mut sent);
-        sent
+        self.add_moves(&Mover::of(inputs, portion), sent);
     }
 
     /// The row of all counts.

@@ -4,24 +4,24 @@ ghost use Rattle.std.specs.Prelude.{◌≡◌, ◌<◌, ◌≤◌, ◌*◌, ◌/
 use ltm_shares::Shares;
 
 /// What part of what it sends an arm moves.
-#[derive(Drop)]
-pub enum Portion {
+#[derive(Clone, Copy)]
+pub enum Portion<'a> {
     /// Each arm moves all.
     Whole,
     /// Each arm moves its share.
-    Share(Shares),
+    Share(&'a Shares),
 }
 
-impl Portion {
+impl Portion<'_> {
     ghost use Rattle.ltm_node.specs.Portion.{denominator, numerator};
 
     /// What an arm moves of an amount of at most 32,000 units, rounded down.
     #[inline]
-    pub fn of(&self, arm: u32, amount: u64) -> u64
+    pub fn of(self, arm: u32, amount: u64) -> u64
         requires arm { arm < 5 }
-        requires fraction { numerator self.now arm ≤ denominator self.now }
+        requires fraction { numerator self arm ≤ denominator self }
         requires amount { amount ≤ 32000 }
-        ensures { result ≡ numerator self.now arm * amount / denominator self.now }
+        ensures { result ≡ numerator self.entry arm * amount / denominator self.entry }
     {
         match self {
             Portion::Whole => amount,

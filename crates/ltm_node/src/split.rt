@@ -1,9 +1,5 @@
 //! How an amount for a destination is split over the weights of the out-links.
-ghost use Rattle.std.specs.Prelude.{◌≡◌, ◌<◌, ◌≤◌, ◌*◌, ◌/◌, ◌^◌, sum};
-ghost use Rattle.ltm_node.specs.Inputs.{weights};
-ghost use Rattle.ltm_node.specs.Solvable.{IsSolvable};
-
-use crate::inputs::NodeInputs;
+ghost use Rattle.std.specs.Prelude.{◌≡◌, ◌<◌, ◌≤◌, ◌*◌, ◌/◌, ◌^◌, length, sum};
 
 /// The part of what is left of an amount that goes to one of the weights that are left.
 #[inline]
@@ -14,7 +10,7 @@ pub fn part_of(left: u64, weight: u64, rest: u64) -> u64
     ensures part { result ≡ left * weight / rest }
     ensures within { result ≤ left }
 {
-    if weight == 0 || left == 0 {
+    if weight == 0 {
         0
     } else if weight == rest {
         left
@@ -23,20 +19,18 @@ pub fn part_of(left: u64, weight: u64, rest: u64) -> u64
     }
 }
 
-/// The sum of a few weights.
-fn sum_of(weights: &[u64]) -> u64
-    requires { sum weights.now < 2 ^ 64 }
+/// The sum of at most four weights.
+#[inline]
+pub fn sum_of(weights: &[u64]) -> u64
+    requires few { length weights.now ≤ 4 }
+    requires fits { sum weights.now < 2 ^ 64 }
     ensures { result ≡ sum weights.now }
 {
-    weights.iter().sum()
-}
-
-/// The sum of the weights for a destination.
-pub fn whole_weight(inputs: &NodeInputs, destination: u32) -> u64
-    requires solvable { IsSolvable inputs.now }
-    requires destination { destination < inputs.now.shape.destinations }
-    ensures sum { result ≡ sum (weights inputs.now destination) }
-    ensures small { result < 2 ^ 40 }
-{
-    sum_of(inputs.weights(destination))
+    match weights {
+        [] => 0,
+        [one] => *one,
+        [one, two] => *one + *two,
+        [one, two, three] => *one + *two + *three,
+        [one, two, three, four, ..] => *one + *two + *three + *four,
+    }
 }

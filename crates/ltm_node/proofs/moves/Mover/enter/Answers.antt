@@ -14,10 +14,11 @@ use Rattle.ltm_node.proofs.moves.Mover.enter.Goals as goal
 pub returns-then-part-eq0 : goal.returns-then-part-eq0
 returns-then-part-eq0 c =
     let n = c.args.self.now.inputs.now in
-    let e : ℕ = denominator c.args.self.now.portion.now in
-    let p : ℕ → ℕ = numerator c.args.self.now.portion.now in
+    let e : ℕ = denominator c.args.self.now.portion in
+    let p : ℕ → ℕ = numerator c.args.self.now.portion in
     let s : IsSolvable n = search rules in
-    let f : AreFractions n c.args.self.now.portion.now = search rules in
+    let same : c.args.self.now.shape ≡ n.shape = search rules in
+    let f : AreFractions n c.args.self.now.portion = search rules in
     let a : ℕ = c.args.part.arm in
     let b : ℕ = c.args.part.destination in
     let k : ℕ = c.args.part.out in
@@ -37,16 +38,17 @@ of-moved-requires-clause-amount c =
 pub overflow_add-row : goal.overflow_add-row
 overflow_add-row c =
     let n = c.args.self.now.inputs.now in
-    let e : ℕ = denominator c.args.self.now.portion.now in
-    let p : ℕ → ℕ = numerator c.args.self.now.portion.now in
+    let e : ℕ = denominator c.args.self.now.portion in
+    let p : ℕ → ℕ = numerator c.args.self.now.portion in
     let s : IsSolvable n = search rules in
-    let f : AreFractions n c.args.self.now.portion.now = search rules in
+    let same : c.args.self.now.shape ≡ n.shape = search rules in
+    let f : AreFractions n c.args.self.now.portion = search rules in
     let a : ℕ = c.args.part.arm in
     let b : ℕ = c.args.part.destination in
     let k : ℕ = c.args.part.out in
     let share : c.of-moved.result ≡ moved n e p a b k = moved_is n e p a b k c.args.part.amount c.of-moved.result c.requires.part.amount c.of-moved.ensures in
     let small : moved n e p a b k ≤ 32000 = moved_small n e p a b k s (f.at_most_all a c.requires.part.arm) c.requires.part.arm c.requires.part.destination in
-    let place : c.entered_after_place.result ≡ entered_after_place n.shape k b = c.entered_after_place.ensures.place ∙ ap (λ (z : NodeShape). entered_after_place z k b) c.shape-shape.ensures in
+    let place : c.entered_after_place.result ≡ entered_after_place n.shape k b = c.entered_after_place.ensures.place ∙ ap (λ (z : NodeShape). entered_after_place z k b) same in
     omega (
       arith,
       entered_room n e p b a k c.of-moved.result c.args.row.now (sent_at c.args.sent.now) s f.at_most_all c.requires.before c.requires.part.arm c.requires.part.destination c.requires.part.out (omega arith),
@@ -56,10 +58,11 @@ overflow_add-row c =
 pub add-requires-clause-fits : goal.add-requires-clause-fits
 add-requires-clause-fits c =
     let n = c.args.self.now.inputs.now in
-    let e : ℕ = denominator c.args.self.now.portion.now in
-    let p : ℕ → ℕ = numerator c.args.self.now.portion.now in
+    let e : ℕ = denominator c.args.self.now.portion in
+    let p : ℕ → ℕ = numerator c.args.self.now.portion in
     let s : IsSolvable n = search rules in
-    let f : AreFractions n c.args.self.now.portion.now = search rules in
+    let same : c.args.self.now.shape ≡ n.shape = search rules in
+    let f : AreFractions n c.args.self.now.portion = search rules in
     let a : ℕ = c.args.part.arm in
     let b : ℕ = c.args.part.destination in
     let k : ℕ = c.args.part.out in
@@ -73,14 +76,15 @@ add-requires-clause-fits c =
 pub returns-clause-after : goal.returns-clause-after
 returns-clause-after c =
     let n = c.args.self.now.inputs.now in
-    let e : ℕ = denominator c.args.self.now.portion.now in
-    let p : ℕ → ℕ = numerator c.args.self.now.portion.now in
+    let e : ℕ = denominator c.args.self.now.portion in
+    let p : ℕ → ℕ = numerator c.args.self.now.portion in
     let s : IsSolvable n = search rules in
-    let f : AreFractions n c.args.self.now.portion.now = search rules in
+    let same : c.args.self.now.shape ≡ n.shape = search rules in
+    let f : AreFractions n c.args.self.now.portion = search rules in
     let a : ℕ = c.args.part.arm in
     let b : ℕ = c.args.part.destination in
     let k : ℕ = c.args.part.out in
     let share : c.of-moved.result ≡ moved n e p a b k = moved_is n e p a b k c.args.part.amount c.of-moved.result c.requires.part.amount c.of-moved.ensures in
-    let place : c.entered_after_place.result ≡ entered_after_place n.shape k b = c.entered_after_place.ensures.place ∙ ap (λ (z : NodeShape). entered_after_place z k b) c.shape-shape.ensures in
+    let place : c.entered_after_place.result ≡ entered_after_place n.shape k b = c.entered_after_place.ensures.place ∙ ap (λ (z : NodeShape). entered_after_place z k b) same in
     entered_on n e p b a k c.of-moved.result c.args.row.now (sent_at c.args.sent.now) _ (sent_at c.add.new.self) s c.requires.before c.requires.part.arm c.requires.part.destination c.requires.part.out share
     (row_added c.args.row.now c.entered_after_place.result _ c.of-moved.result place) c.add.ensures.added c.add.ensures.others

@@ -12,13 +12,14 @@ use Rattle.ltm_node.proofs.moves.Mover.leave.Goals as goal
 pub overflow_add-row : goal.overflow_add-row
 overflow_add-row c =
     let n = c.args.self.now.inputs.now in
-    let e : ℕ = denominator c.args.self.now.portion.now in
-    let p : ℕ → ℕ = numerator c.args.self.now.portion.now in
+    let e : ℕ = denominator c.args.self.now.portion in
+    let p : ℕ → ℕ = numerator c.args.self.now.portion in
     let s : IsSolvable n = search rules in
-    let f : AreFractions n c.args.self.now.portion.now = search rules in
+    let same : c.args.self.now.shape ≡ n.shape = search rules in
+    let f : AreFractions n c.args.self.now.portion = search rules in
     let a : ℕ = c.args.load.arm in
     let b : ℕ = c.args.load.destination in
-    let place : c.left_after_place.result ≡ left_after_place n.shape a b = c.left_after_place.ensures.place ∙ ap (λ (z : NodeShape). left_after_place z a b) c.shape-shape.ensures in
+    let place : c.left_after_place.result ≡ left_after_place n.shape a b = c.left_after_place.ensures.place ∙ ap (λ (z : NodeShape). left_after_place z a b) same in
     let small : c.args.total ≤ 2 ^ 20 = omega (arith, c.requires.total, moved_out_small n e p a b n.shape.outs s (f.at_most_all a c.requires.load.arm) c.requires.load.arm c.requires.load.destination, s.few_outs) in
     omega (
       arith,
@@ -29,13 +30,14 @@ overflow_add-row c =
 pub returns : goal.returns
 returns c =
     let n = c.args.self.now.inputs.now in
-    let e : ℕ = denominator c.args.self.now.portion.now in
-    let p : ℕ → ℕ = numerator c.args.self.now.portion.now in
+    let e : ℕ = denominator c.args.self.now.portion in
+    let p : ℕ → ℕ = numerator c.args.self.now.portion in
     let s : IsSolvable n = search rules in
-    let f : AreFractions n c.args.self.now.portion.now = search rules in
+    let same : c.args.self.now.shape ≡ n.shape = search rules in
+    let f : AreFractions n c.args.self.now.portion = search rules in
     let a : ℕ = c.args.load.arm in
     let b : ℕ = c.args.load.destination in
-    let place : c.left_after_place.result ≡ left_after_place n.shape a b = c.left_after_place.ensures.place ∙ ap (λ (z : NodeShape). left_after_place z a b) c.shape-shape.ensures in
+    let place : c.left_after_place.result ≡ left_after_place n.shape a b = c.left_after_place.ensures.place ∙ ap (λ (z : NodeShape). left_after_place z a b) same in
     record {
       after = left_on n e p b a c.args.total c.args.row.now (sent_at c.args.sent.now) _ s c.requires.before c.requires.load.arm c.requires.load.destination c.requires.total (sunk_elsewhere n e p a b c.requires.elsewhere)
           (row_added c.args.row.now c.left_after_place.result _ c.args.total place);

@@ -10,8 +10,8 @@ use Rattle.ltm_node.proofs.moves.Mover.send.Goals as goal
 pub returns-else-load-gt0 : goal.returns-else-load-gt0
 returns-else-load-gt0 c =
     let n = c.args.self.now.inputs.now in
-    let e : ℕ = denominator c.args.self.now.portion.now in
-    let p : ℕ → ℕ = numerator c.args.self.now.portion.now in
+    let e : ℕ = denominator c.args.self.now.portion in
+    let p : ℕ → ℕ = numerator c.args.self.now.portion in
     let s : IsSolvable n = search rules in
     let a : ℕ = c.args.load.arm in
     let b : ℕ = c.args.load.destination in

@@ -18,15 +18,16 @@ of-sunk-requires-clause-amount c =
 pub overflow_add-row : goal.overflow_add-row
 overflow_add-row c =
     let n = c.args.self.now.inputs.now in
-    let e : ℕ = denominator c.args.self.now.portion.now in
-    let p : ℕ → ℕ = numerator c.args.self.now.portion.now in
+    let e : ℕ = denominator c.args.self.now.portion in
+    let p : ℕ → ℕ = numerator c.args.self.now.portion in
     let s : IsSolvable n = search rules in
-    let f : AreFractions n c.args.self.now.portion.now = search rules in
+    let same : c.args.self.now.shape ≡ n.shape = search rules in
+    let f : AreFractions n c.args.self.now.portion = search rules in
     let a : ℕ = c.args.load.arm in
     let b : ℕ = c.args.load.destination in
     let v : c.of-sunk.result ≡ sunk n e p a b = sunk_is n e p a b c.args.load.amount c.of-sunk.result c.requires.here c.requires.load.amount c.of-sunk.ensures in
     let small : sunk n e p a b ≤ 32000 = sunk_small n e p a b s (f.at_most_all a c.requires.load.arm) c.requires.load.arm c.requires.load.destination in
-    let place : c.left_after_place.result ≡ left_after_place n.shape a b = c.left_after_place.ensures.place ∙ ap (λ (z : NodeShape). left_after_place z a b) c.shape-shape.ensures in
+    let place : c.left_after_place.result ≡ left_after_place n.shape a b = c.left_after_place.ensures.place ∙ ap (λ (z : NodeShape). left_after_place z a b) same in
     omega (
       arith,
       left_room n e p b a 0 c.of-sunk.result c.args.row.now (sent_at c.args.sent.now) s c.requires.before c.requires.load.arm c.requires.load.destination (omega arith),
@@ -36,16 +37,17 @@ overflow_add-row c =
 pub overflow_add-row-2 : goal.overflow_add-row-2
 overflow_add-row-2 c =
     let n = c.args.self.now.inputs.now in
-    let e : ℕ = denominator c.args.self.now.portion.now in
-    let p : ℕ → ℕ = numerator c.args.self.now.portion.now in
+    let e : ℕ = denominator c.args.self.now.portion in
+    let p : ℕ → ℕ = numerator c.args.self.now.portion in
     let s : IsSolvable n = search rules in
-    let f : AreFractions n c.args.self.now.portion.now = search rules in
+    let same : c.args.self.now.shape ≡ n.shape = search rules in
+    let f : AreFractions n c.args.self.now.portion = search rules in
     let a : ℕ = c.args.load.arm in
     let b : ℕ = c.args.load.destination in
     let v : c.of-sunk.result ≡ sunk n e p a b = sunk_is n e p a b c.args.load.amount c.of-sunk.result c.requires.here c.requires.load.amount c.of-sunk.ensures in
     let small : sunk n e p a b ≤ 32000 = sunk_small n e p a b s (f.at_most_all a c.requires.load.arm) c.requires.load.arm c.requires.load.destination in
-    let place : c.left_after_place.result ≡ left_after_place n.shape a b = c.left_after_place.ensures.place ∙ ap (λ (z : NodeShape). left_after_place z a b) c.shape-shape.ensures in
-    let end : c.arrived_after_place.result ≡ arrived_after_place n.shape = c.arrived_after_place.ensures.place ∙ ap (λ (z : NodeShape). arrived_after_place z) c.shape-shape.ensures in
+    let place : c.left_after_place.result ≡ left_after_place n.shape a b = c.left_after_place.ensures.place ∙ ap (λ (z : NodeShape). left_after_place z a b) same in
+    let end : c.arrived_after_place.result ≡ arrived_after_place n.shape = c.arrived_after_place.ensures.place ∙ ap (λ (z : NodeShape). arrived_after_place z) same in
     let row : List ℕ = set c.args.row.now c.left_after_place.result (slice_index c.args.row.now c.left_after_place.result + c.of-sunk.result) in
     omega (
       arith,
@@ -57,15 +59,16 @@ overflow_add-row-2 c =
 pub returns : goal.returns
 returns c =
     let n = c.args.self.now.inputs.now in
-    let e : ℕ = denominator c.args.self.now.portion.now in
-    let p : ℕ → ℕ = numerator c.args.self.now.portion.now in
+    let e : ℕ = denominator c.args.self.now.portion in
+    let p : ℕ → ℕ = numerator c.args.self.now.portion in
     let s : IsSolvable n = search rules in
-    let f : AreFractions n c.args.self.now.portion.now = search rules in
+    let same : c.args.self.now.shape ≡ n.shape = search rules in
+    let f : AreFractions n c.args.self.now.portion = search rules in
     let a : ℕ = c.args.load.arm in
     let b : ℕ = c.args.load.destination in
     let v : c.of-sunk.result ≡ sunk n e p a b = sunk_is n e p a b c.args.load.amount c.of-sunk.result c.requires.here c.requires.load.amount c.of-sunk.ensures in
-    let place : c.left_after_place.result ≡ left_after_place n.shape a b = c.left_after_place.ensures.place ∙ ap (λ (z : NodeShape). left_after_place z a b) c.shape-shape.ensures in
-    let end : c.arrived_after_place.result ≡ arrived_after_place n.shape = c.arrived_after_place.ensures.place ∙ ap (λ (z : NodeShape). arrived_after_place z) c.shape-shape.ensures in
+    let place : c.left_after_place.result ≡ left_after_place n.shape a b = c.left_after_place.ensures.place ∙ ap (λ (z : NodeShape). left_after_place z a b) same in
+    let end : c.arrived_after_place.result ≡ arrived_after_place n.shape = c.arrived_after_place.ensures.place ∙ ap (λ (z : NodeShape). arrived_after_place z) same in
     let row : List ℕ = set c.args.row.now c.left_after_place.result (slice_index c.args.row.now c.left_after_place.result + c.of-sunk.result) in
     record {
       after = sunk_on n e p b a c.of-sunk.result c.args.row.now (sent_at c.args.sent.now) row _ s c.requires.before c.requires.load.arm c.requires.load.destination v

@@ -73,10 +73,10 @@ enter-total-requires-clause-part c =
 pub overflow_add-total : goal.overflow_add-total
 overflow_add-total c =
     let n = c.args.self.now.inputs.now in
-    let e : ℕ = denominator c.args.self.now.portion.now in
-    let p : ℕ → ℕ = numerator c.args.self.now.portion.now in
+    let e : ℕ = denominator c.args.self.now.portion in
+    let p : ℕ → ℕ = numerator c.args.self.now.portion in
     let s : IsSolvable n = search rules in
-    let fractions : AreFractions n c.args.self.now.portion.now = search rules in
+    let fractions : AreFractions n c.args.self.now.portion = search rules in
     let a : ℕ = c.args.load.arm in
     let b : ℕ = c.args.load.destination in
     let k : ℕ = c.loop-rest.out in
@@ -88,8 +88,8 @@ overflow_add-total c =
 pub loop-rest-preserved : goal.loop-rest-preserved
 loop-rest-preserved c =
     let n = c.args.self.now.inputs.now in
-    let e : ℕ = denominator c.args.self.now.portion.now in
-    let p : ℕ → ℕ = numerator c.args.self.now.portion.now in
+    let e : ℕ = denominator c.args.self.now.portion in
+    let p : ℕ → ℕ = numerator c.args.self.now.portion in
     let a : ℕ = c.args.load.arm in
     let b : ℕ = c.args.load.destination in
     let k : ℕ = c.loop-rest.out in
@@ -111,8 +111,8 @@ loop-rest-preserved c =
 pub leave-requires-clause-total : goal.leave-requires-clause-total
 leave-requires-clause-total c =
     let n = c.args.self.now.inputs.now in
-    let e : ℕ = denominator c.args.self.now.portion.now in
-    let p : ℕ → ℕ = numerator c.args.self.now.portion.now in
+    let e : ℕ = denominator c.args.self.now.portion in
+    let p : ℕ → ℕ = numerator c.args.self.now.portion in
     let a : ℕ = c.args.load.arm in
     let b : ℕ = c.args.load.destination in
     let k : ℕ = c.loop-rest.out in
@@ -124,8 +124,8 @@ leave-requires-clause-total c =
 pub leave-requires-clause-before : goal.leave-requires-clause-before
 leave-requires-clause-before c =
     let n = c.args.self.now.inputs.now in
-    let e : ℕ = denominator c.args.self.now.portion.now in
-    let p : ℕ → ℕ = numerator c.args.self.now.portion.now in
+    let e : ℕ = denominator c.args.self.now.portion in
+    let p : ℕ → ℕ = numerator c.args.self.now.portion in
     let s : IsSolvable n = search rules in
     let a : ℕ = c.args.load.arm in
     let b : ℕ = c.args.load.destination in
