@@ -3,7 +3,7 @@
 //! In each slot the step of every node is made from what is counted by the beginning of the slot, and its counts are
 //! written at the end of the slot. The order of the nodes is of no matter, since a link takes at least a slot to pass. It
 //! stands on `ltm_inputs` and `ltm_node`. A loading takes the memory of its counts once; a pair of node and
-//! slot takes none.
+//! slot takes none. Change it here when the order of work changes, or what a loading is summed up to.
 #![tactic(auto)]
 
 mod cold_loading;

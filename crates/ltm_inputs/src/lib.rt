@@ -3,7 +3,8 @@
 //! The row of inputs is written part by part in its layout, from the first number to the last: what each arm sends, what
 //! has left each arm, what has entered each out-link, what has arrived, what each out-link can take, the capacity of each
 //! arm, and the weights. The counts of a link for all destinations are copied at once. A call takes no memory. It stands
-//! on `ltm_sending`, `ltm_setting` and `ltm_node`.
+//! on `ltm_sending`, `ltm_setting` and `ltm_node`. Change it here when a pair is to read something more; where each number
+//! stands is the concern of `ltm_node`.
 #![tactic(auto)]
 
 mod counts;

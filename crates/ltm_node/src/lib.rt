@@ -2,7 +2,8 @@
 //!
 //! An arm is an in-link or the origin of the node. It stands on `ltm_shares`, which shares out what the out-links can
 //! take. A call of `solve` takes no memory. Where no out-link is short it makes one pass over what the arms send, in 64
-//! bits; else it makes at most one round for each arm, and a second pass.
+//! bits; else it makes at most one round for each arm, and a second pass. Change it here when the node step or the layout
+//! of its row changes.
 #![tactic(auto)]
 
 mod inputs;

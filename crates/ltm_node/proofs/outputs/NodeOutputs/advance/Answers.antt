@@ -12,4 +12,4 @@ add_moves-requires-clause-before c =
     let p = c.of.result.portion in
     let sent = sent_at c.args.sent.now in
     subst (λ (n : Inputs). IsMoving n (denominator p) (numerator p) 0 0 0 c.begin.new.self.row sent) (sym c.of.ensures.inputs)
-        (nothing_moved c.args.inputs.now (denominator p) (numerator p) c.begin.new.self.row sent (ap (λ (m : Outputs). m.row) c.begin.ensures.counts) c.begin.ensures.width c.requires.nothing)
+    (nothing_moved c.args.inputs.now (denominator p) (numerator p) c.begin.new.self.row sent (ap (λ (m : Outputs). m.row) c.begin.ensures.counts) c.begin.ensures.width c.requires.nothing)
