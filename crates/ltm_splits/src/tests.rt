@@ -121,7 +121,12 @@ fn keeps_the_sum_and_the_first_outs(rt: HostRuntime) -> Result<(), Fail> {
         (&[0, 3], 3, 1, None),
         (&[1, 1], 2, 0, Some(1)),
         (&[0, 2, 0, 5], 7, 1, Some(3)),
-        (&[4_294_967_295, 0, 0, 4_294_967_295], 8_589_934_590, 0, Some(3)),
+        (
+            &[4_294_967_295, 0, 0, 4_294_967_295],
+            8_589_934_590,
+            0,
+            Some(3),
+        ),
     ];
     for (weights, sum, first, second) in cases {
         assert!(rt; splits.set(NodeId(0), 0, 0, weights) == Ok(()));
