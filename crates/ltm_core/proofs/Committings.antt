@@ -1,0 +1,122 @@
+-- What a commit makes of a core.
+use Rattle.std.proofs.Common.{◌≡◌, ℕ, ◌+◌, ◌-◌, ◌*◌, ◌<◌, ◌≤◌, ◌^◌, List, Bool, true, false, cond, ◌||◌, ◌&&◌, refl, ap, sym, subst, ◌∙◌, arith, lit<}
+use Rattle.std.specs.Prelude.{Some, is_some, nat_lt, nat_le}
+use Rattle.std.proofs.lemmas.Bool.{lt-ltb, le-leb}
+use Rattle.ltm_units.specs.declared.places.Pair.{Pair}
+use Rattle.ltm_node.specs.Inputs.{Inputs}
+use Rattle.ltm_loading.specs.Setting.{Setting, IsSetting}
+use Rattle.ltm_loading.specs.Groups.{groups}
+use Rattle.ltm_loading.specs.Differing.{sum_pairs}
+use Rattle.ltm_loading.proofs.PairSums.{le-sum_pairs}
+use Rattle.ltm_setting.specs.Setting.{setting_of}
+use Rattle.ltm_repair.specs.Desk.{Desk}
+use Rattle.ltm_repair.specs.Facts.{IsClaim}
+use Rattle.ltm_repair.specs.Counting.{undone, claims_out}
+use Rattle.ltm_repair.specs.State.{RepairState, now}
+use Rattle.ltm_repair.specs.Repair.{IsRepair}
+use Rattle.ltm_repair.specs.Moves.{Commits}
+use Rattle.ltm_repair.specs.Events.{Commit, Committed}
+use Rattle.ltm_repair.specs.Work.{ClaimsAreUndone}
+use Rattle.ltm_repair.proofs.Cases.{or_none}
+use Rattle.ltm_pairs.specs.Changes.{differs_at}
+use Rattle.ltm_pairs.proofs.Bools.{same_at}
+use Rattle.ltm_desk.specs.declared.table.Table.{Table}
+use Rattle.ltm_desk.specs.Desks.{desk_at, changed_at}
+use Rattle.ltm_desk.specs.Ready.{IsReady}
+use Rattle.ltm_desk.specs.Pairs.{of_cells}
+use Rattle.ltm_desk.specs.Committing.{readers, rewritten}
+use Rattle.ltm_core.specs.Log.{version_now, settled_of}
+use Rattle.ltm_core.specs.Laws.{RepairLaws}
+use Rattle.ltm_core.specs.Cores.{CoreData, desk_in, repair_of, IsCore}
+use Rattle.ltm_core.specs.CoreAnswers.{IsKeptClaim, CommitsDone}
+use Rattle.ltm_core.proofs.Widths.{grown}
+use Rattle.ltm_core.proofs.Cores.{core_now, core_setting, after_event}
+use Rattle.ltm_core.proofs.Claimings.{kept_in}
+
+-- a cell in which no count became another one has the same counts
+same_cells : (s : Setting) (old new : Desk) (g e k : ℕ) → g < groups s → e < s.destinations → k ≤ s.slots → rewritten s old new g k ≡ false → new.counts g e k ≡ old.counts g e k
+same_cells s old new g e k x y l off =
+    let inside : differs_at s old.counts new.counts g k ≡ false = (rw (lt-ltb g (groups s) x, le-leb k s.slots l) at off) in
+    sym (same_at s old.counts new.counts g k e inside y)
+
+-- a table after the commit of a pair with this row
+pub record CommitsInTable (s : Setting) (old : Table) (u v : ℕ) (row : List ℕ) (new : Table) : Type 0 where
+  pub commits : Commits s (desk_at s old) u v row (readers s (desk_at s old) (desk_at s new) u v) (desk_at s new)
+  pub cells : (g k : ℕ) → changed_at s new g k ≡ (changed_at s old g k || rewritten s (desk_at s old) (desk_at s new) g k)
+
+abbrev pub after_commit : CoreData → Table → CoreData
+after_commit d t = record d { table = t; commits = d.commits + 1 }
+
+committed_of : (d : CoreData) (t : Table) (u v : ℕ) (row : List ℕ) → now (repair_of d) ≡ setting_of d.scenario → CommitsInTable (setting_of d.scenario) d.table u v row t →
+    Committed (repair_of d) u v row (readers (setting_of d.scenario) (desk_in d) (desk_at (setting_of d.scenario) t) u v) (repair_of (after_commit d t))
+unfolding repair_of
+committed_of d t u v row at step =
+    let s : Setting = setting_of d.scenario in
+    let wakes : ℕ → ℕ → Bool = readers s (desk_in d) (desk_at s t) u v in
+    let P : Setting → Type 0 = λ z. (g e k : ℕ) → g < groups z → e < z.destinations → k ≤ z.slots → changed_at s t g k ≡ false → (desk_at s t).counts g e k ≡ (desk_in d).counts g e k in
+    record {
+      desk = subst (λ (z : Setting). Commits z (desk_in d) u v row wakes (desk_at s t)) (sym at) step.commits;
+      books = record { settings = refl; accepted = refl; settled = refl; shown_at = refl; shown = refl };
+      commits = refl;
+      changes = record {
+        stays = λ g k off. (or_none (changed_at s d.table g k) (rewritten s (desk_in d) (desk_at s t) g k) (sym (step.cells g k) ∙ off)).0;
+        same = subst P (sym at) (λ g e k x y l off.
+            same_cells s (desk_in d) (desk_at s t) g e k x y l (or_none (changed_at s d.table g k) (rewritten s (desk_in d) (desk_at s t) g k) (sym (step.cells g k) ∙ off)).1);
+      };
+    }
+
+pub core_commits : (d : CoreData) (t : Table) (u v : ℕ) (row : List ℕ) → IsCore d → CommitsInTable (setting_of d.scenario) d.table u v row t →
+    Committed (repair_of d) u v row (readers (setting_of d.scenario) (desk_in d) (desk_at (setting_of d.scenario) t) u v) (repair_of (after_commit d t))
+core_commits d t u v row is step = committed_of d t u v row (core_now d is) step
+
+pub core_after_commit : RepairLaws → (d : CoreData) (t : Table) (u v : ℕ) (row : List ℕ) → IsCore d → IsReady (setting_of d.scenario) t → CommitsInTable (setting_of d.scenario) d.table u v row t →
+    IsCore (after_commit d t)
+core_after_commit laws d t u v row is ready step = record {
+  log = is.log;
+  scenario = is.scenario;
+  valid = is.valid;
+  repair = after_event laws.keeps (repair_of d) (repair_of (after_commit d t)) (Commit u v) is.repair
+      (row, readers (setting_of d.scenario) (desk_in d) (desk_at (setting_of d.scenario) t) u v, core_commits d t u v row is step);
+  ready = ready;
+  shows = is.shows;
+}
+
+commits_done : (d : CoreData) (t : Table) (pair : Pair) (row : List ℕ) → IsCore d → CommitsInTable (setting_of d.scenario) d.table pair.node.0 pair.slot row t → CommitsDone d pair row (after_commit d t)
+unfolding repair_of
+commits_done d t pair row is step = record { commits = core_commits d t pair.node.0 pair.slot row is step; cells = step.cells; keeps = refl }
+
+pub core_commits_at : (d v : CoreData) (t : Table) (pair : Pair) (row : List ℕ) → d ≡ v → IsCore d → CommitsInTable (setting_of d.scenario) d.table pair.node.0 pair.slot row t →
+    CommitsDone v pair row (after_commit d t)
+core_commits_at d v t pair row same is step = subst (λ (z : CoreData). CommitsDone z pair row (after_commit d t)) same (commits_done d t pair row is step)
+
+-- ---- one more commit can be counted
+claim_undone : ClaimsAreUndone → (s : Setting) (d : Desk) (u t : ℕ) (row : List ℕ) → u < s.nodes → t < s.slots → d.claimed u t ≡ Some row → 1 ≤ undone s.nodes s.slots d
+unfolding claims_out
+claim_undone law s d u t row x l some =
+    let f : ℕ → ℕ → ℕ = λ a b. cond (is_some (d.claimed a b)) 1 0 in
+    let one : f u t ≡ 1 = rw some refl in
+    let low : f u t ≤ sum_pairs s.nodes s.slots f = le-sum_pairs s.nodes s.slots f u t x l in
+    let high : claims_out s.nodes s.slots d ≤ undone s.nodes s.slots d = (law s.nodes s.slots d).0 in
+    let same : claims_out s.nodes s.slots d ≡ sum_pairs s.nodes s.slots f = refl in
+    omega arith
+
+fits_of : (d : CoreData) → now (repair_of d) ≡ setting_of d.scenario → IsRepair (repair_of d) →
+    d.commits + undone (setting_of d.scenario).nodes (setting_of d.scenario).slots (desk_in d) ≤ (version_now d.log - settled_of d.log) * ((setting_of d.scenario).nodes * (setting_of d.scenario).slots)
+unfolding repair_of
+fits_of d at is =
+    let P : Setting → Type 0 = λ z. d.commits + undone z.nodes z.slots (desk_in d) ≤ (version_now d.log - settled_of d.log) * (z.nodes * z.slots) in
+    subst P at is.count.fits
+
+pub commits_fit : RepairLaws → (d v : CoreData) (pair : Pair) (ticket : ℕ) (n : Inputs) → d ≡ v → IsCore d → IsKeptClaim v pair ticket n → (setting_of d.scenario).nodes ≤ 8000 → d.commits + 1 < 2 ^ 128
+commits_fit laws d v pair ticket n same is kept few =
+    let s : Setting = setting_of d.scenario in
+    let here : IsKeptClaim d pair ticket n = kept_in d v pair ticket n same kept in
+    let claim : IsClaim s (desk_in d) pair.node.0 pair.slot n.row = is.ready.sound.claims pair.node.0 pair.slot n.row here.claimed in
+    let some : 1 ≤ undone s.nodes s.slots (desk_in d) = claim_undone laws.undone s (desk_in d) pair.node.0 pair.slot n.row claim.is_node claim.is_slot here.claimed in
+    let fits : d.commits + undone s.nodes s.slots (desk_in d) ≤ (version_now d.log - settled_of d.log) * (s.nodes * s.slots) = fits_of d (core_now d is) is.repair in
+    let setting : IsSetting s = core_setting d is in
+    let pairs : s.nodes * s.slots ≤ 8000 * 10000 = grown s.nodes 8000 s.slots 10000 few setting.small.few_slots in
+    let all : (version_now d.log - settled_of d.log) * (s.nodes * s.slots) ≤ 2 ^ 63 * (8000 * 10000) =
+    grown (version_now d.log - settled_of d.log) (2 ^ 63) (s.nodes * s.slots) (8000 * 10000) (omega (is.log.few, arith)) pairs in
+    let most : 2 ^ 63 * (8000 * 10000) < 2 ^ 128 = lit< tt in
+    omega arith

@@ -1,0 +1,9 @@
+pub mod Logs
+pub mod Widths
+pub mod Cores
+pub mod Claimings
+pub mod Committings
+pub mod Showings
+pub mod Shapes
+pub mod Batches
+pub mod Beginnings

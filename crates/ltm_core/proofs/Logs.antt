@@ -1,0 +1,284 @@
+-- The log after a batch and after a mark.
+use Rattle.std.proofs.Common.{ℕ, zero, suc, ◌≡◌, ◌+◌, ◌-◌, ◌<◌, ◌≤◌, ◌^◌, Bool, true, false, if◌then◌else◌, List, [], ◌∷◌, ◌++◌, length, map, take, refl, ap, sym, ◌∙◌, subst, arith, length-append}
+use Rattle.std.specs.Prelude.{Ok, Err, Result, OnOk, OnErr, slice_set}
+use Rattle.std.proofs.lemmas.List.{length-set}
+use Rattle.std.specs.List.{zip}
+use Rattle.std.proofs.lemmas.List.{map-append, take_all, take-append-le}
+use Rattle.std.proofs.lemmas.Slice.Zip.{firsts-zip, length-zip}
+use Rattle.ltm_scenario.specs.declared.edit.Edit.{Edit}
+use Rattle.ltm_scenario.specs.declared.edit.EditFault.{EditFault}
+use Rattle.ltm_scenario.specs.Data.{ScenarioData}
+use Rattle.ltm_scenario.specs.Edits.{edited_all}
+use Rattle.ltm_core.specs.declared.entry.LogEntry.{LogEntry}
+use Rattle.ltm_core.specs.declared.entry.LogEntry.TheVariants.{Opening, Accepted, Mark}
+use Rattle.ltm_core.specs.Log.{Log, MarkedBatch, log_of, batches_of, entries_in, entries_of, version_now, settled_in, settled_of, edited_or, after_batch, after_batches, AreAccepted, HoldsAccepted, scenario_at, scenario_now, with_batch, marked, with_mark}
+
+-- ---- the list that is told
+entries_more : (bs : List MarkedBatch) (b : List Edit) → entries_in (bs ++ (b, false) ∷ []) ≡ entries_in bs ++ Accepted b ∷ []
+entries_more [] b = refl
+entries_more ((c, true) ∷ bs) b = ap (λ l. Accepted c ∷ Mark ∷ l) (entries_more bs b)
+entries_more ((c, false) ∷ bs) b = ap (λ l. Accepted c ∷ l) (entries_more bs b)
+
+-- the list is longer by the batch
+pub batch_last : (log : Log) (b : List Edit) → entries_of (with_batch log b) ≡ entries_of log ++ Accepted b ∷ []
+unfolding entries_of with_batch
+batch_last log b = ap (λ l. Opening log.opening ∷ l) (entries_more log.batches b)
+
+marks_more : (bs : List MarkedBatch) → (rest : List LogEntry) × (entries_in (marked bs) ≡ entries_in bs ++ rest)
+marks_more [] = ([], refl)
+marks_more ((b, true) ∷ []) = ([], refl)
+marks_more ((b, false) ∷ []) = (Mark ∷ [], refl)
+marks_more ((b, true) ∷ c ∷ bs) = let (rest, is) = marks_more (c ∷ bs) in (rest, ap (λ l. Accepted b ∷ Mark ∷ l) is)
+marks_more ((b, false) ∷ c ∷ bs) = let (rest, is) = marks_more (c ∷ bs) in (rest, ap (λ l. Accepted b ∷ l) is)
+
+-- the list is the same, or longer by the mark
+pub mark_last : (log : Log) → (rest : List LogEntry) × (entries_of (with_mark log) ≡ entries_of log ++ rest)
+unfolding entries_of with_mark
+mark_last log = let (rest, is) = marks_more log.batches in (rest, ap (λ l. Opening log.opening ∷ l) is)
+
+-- ---- what a list tells of its log
+begins_marked : List LogEntry → Bool
+begins_marked [] = false
+begins_marked (Opening s ∷ entries) = false
+begins_marked (Accepted b ∷ entries) = false
+begins_marked (Mark ∷ entries) = true
+
+batches_told : List LogEntry → List MarkedBatch
+batches_told [] = []
+batches_told (Opening s ∷ entries) = batches_told entries
+batches_told (Accepted b ∷ entries) = (b, begins_marked entries) ∷ batches_told entries
+batches_told (Mark ∷ entries) = batches_told entries
+
+told_back : (bs : List MarkedBatch) → batches_told (entries_in bs) ≡ bs
+unfolding batches_told begins_marked
+told_back [] = refl
+told_back ((b, true) ∷ bs) = ap (λ l. (b, true) ∷ l) (told_back bs)
+told_back ((b, false) ∷ []) = refl
+told_back ((b, false) ∷ (c, true) ∷ bs) = ap (λ l. (b, false) ∷ l) (told_back ((c, true) ∷ bs))
+told_back ((b, false) ∷ (c, false) ∷ bs) = ap (λ l. (b, false) ∷ l) (told_back ((c, false) ∷ bs))
+
+opening_told : ScenarioData → List LogEntry → ScenarioData
+opening_told s [] = s
+opening_told s (Opening o ∷ entries) = o
+opening_told s (Accepted b ∷ entries) = s
+opening_told s (Mark ∷ entries) = s
+
+log_told : ScenarioData → List LogEntry → Log
+log_told s entries = record { opening = opening_told s entries; batches = batches_told entries }
+
+log_back : (s : ScenarioData) (log : Log) → log_told s (entries_of log) ≡ log
+unfolding log_told opening_told batches_told entries_of
+log_back s log = ap (λ l. record { opening = log.opening; batches = l }) (told_back log.batches)
+
+-- equal lists are of equal logs
+pub one_log : (a b : Log) → entries_of a ≡ entries_of b → a ≡ b
+one_log a b same = sym (log_back a.opening a) ∙ ap (log_told a.opening) same ∙ log_back a.opening b
+
+-- ---- how many are accepted and settled
+pub version_batch : (log : Log) (b : List Edit) → version_now (with_batch log b) ≡ version_now log + 1
+unfolding version_now with_batch
+version_batch log b = length-append log.batches ((b, false) ∷ [])
+
+length_marked : (bs : List MarkedBatch) → length (marked bs) ≡ length bs
+length_marked [] = refl
+length_marked (b ∷ []) = refl
+length_marked (b ∷ c ∷ bs) = ap suc (length_marked (c ∷ bs))
+
+pub version_marked : (log : Log) → version_now (with_mark log) ≡ version_now log
+unfolding version_now with_mark
+version_marked log = length_marked log.batches
+
+settled_marked_in : (n m : ℕ) (b : MarkedBatch) (bs : List MarkedBatch) → settled_in n m (marked (b ∷ bs)) ≡ n + suc (length bs)
+settled_marked_in n m b [] = omega arith
+settled_marked_in n m b (c ∷ bs) = settled_marked_in (n + 1) (if b.1 then n + 1 else m) c bs ∙ omega arith
+
+settled_marked_list : (bs : List MarkedBatch) → settled_in 0 0 (marked bs) ≡ length bs
+settled_marked_list [] = refl
+settled_marked_list (b ∷ bs) = settled_marked_in 0 0 b bs ∙ omega arith
+
+-- after a mark all batches are settled
+pub settled_marked : (log : Log) → settled_of (with_mark log) ≡ version_now log
+unfolding settled_of with_mark version_now
+settled_marked log = settled_marked_list log.batches
+
+settled_more : (n m : ℕ) (bs : List MarkedBatch) (b : List Edit) → settled_in n m (bs ++ (b, false) ∷ []) ≡ settled_in n m bs
+settled_more n m [] b = refl
+settled_more n m (c ∷ bs) b = settled_more (n + 1) (if c.1 then n + 1 else m) bs b
+
+-- a batch settles nothing
+pub settled_batch : (log : Log) (b : List Edit) → settled_of (with_batch log b) ≡ settled_of log
+unfolding settled_of with_batch
+settled_batch log b = settled_more 0 0 log.batches b
+
+-- ---- the batches and the scenarios
+pub opening_batch : (log : Log) (b : List Edit) → (with_batch log b).opening ≡ log.opening
+unfolding with_batch
+opening_batch log b = refl
+
+pub opening_marked : (log : Log) → (with_mark log).opening ≡ log.opening
+unfolding with_mark
+opening_marked log = refl
+
+pub batches_more : (log : Log) (b : List Edit) → batches_of (with_batch log b) ≡ batches_of log ++ b ∷ []
+unfolding batches_of with_batch
+batches_more log b = map-append (λ (m : MarkedBatch). m.0) log.batches ((b, false) ∷ [])
+
+firsts_marked : (bs : List MarkedBatch) → map (λ (m : MarkedBatch). m.0) (marked bs) ≡ map (λ (m : MarkedBatch). m.0) bs
+firsts_marked [] = refl
+firsts_marked (b ∷ []) = refl
+firsts_marked (b ∷ c ∷ bs) = ap (λ l. b.0 ∷ l) (firsts_marked (c ∷ bs))
+
+pub batches_marked : (log : Log) → batches_of (with_mark log) ≡ batches_of log
+unfolding batches_of with_mark
+batches_marked log = firsts_marked log.batches
+
+firsts_length : (bs : List MarkedBatch) → length (map (λ (m : MarkedBatch). m.0) bs) ≡ length bs
+firsts_length [] = refl
+firsts_length (b ∷ bs) = ap suc (firsts_length bs)
+
+pub length_batches : (log : Log) → length (batches_of log) ≡ version_now log
+unfolding batches_of version_now
+length_batches log = firsts_length log.batches
+
+-- the log of which no batch is accepted yet
+pub first_scenario : (log : Log) → scenario_at log 0 ≡ log.opening
+unfolding scenario_at
+first_scenario log = refl
+
+-- after all batches the scenario is the last one
+pub last_scenario : (log : Log) → scenario_at log (version_now log) ≡ scenario_now log
+unfolding scenario_at scenario_now
+last_scenario log = ap (λ l. after_batches log.opening l) (take_all (version_now log) (batches_of log) (let e : length (batches_of log) ≡ version_now log = length_batches log in omega arith))
+
+-- earlier scenarios stay
+pub earlier_scenario : (log : Log) (b : List Edit) (k : ℕ) → k ≤ version_now log → scenario_at (with_batch log b) k ≡ scenario_at log k
+unfolding scenario_at
+earlier_scenario log b k low =
+    let e : length (batches_of log) ≡ version_now log = length_batches log in
+    let within : k ≤ length (batches_of log) = omega arith in
+    let same : take k (batches_of (with_batch log b)) ≡ take k (batches_of log) =
+    ap (λ l. take k l) (batches_more log b) ∙ take-append-le k (batches_of log) (b ∷ []) within in
+    let o : (with_batch log b).opening ≡ log.opening = opening_batch log b in
+    ap (λ s. after_batches s (take k (batches_of (with_batch log b)))) o ∙ ap (λ l. after_batches log.opening l) same
+
+after_more : (s : ScenarioData) (batches : List (List Edit)) (batch : List Edit) → after_batches s (batches ++ batch ∷ []) ≡ after_batch (after_batches s batches) batch
+after_more s [] batch = refl
+after_more s (first ∷ batches) batch = after_more (after_batch s first) batches batch
+
+-- the last batch makes the new scenario
+pub next_scenario : (log : Log) (b : List Edit) → scenario_now (with_batch log b) ≡ after_batch (scenario_now log) b
+unfolding scenario_now
+next_scenario log b =
+    ap (λ s. after_batches s (batches_of (with_batch log b))) (opening_batch log b)
+    ∙ (ap (λ l. after_batches log.opening l) (batches_more log b) ∙ after_more log.opening (batches_of log) b)
+
+-- a mark leaves all scenarios
+pub marked_scenario : (log : Log) (k : ℕ) → scenario_at (with_mark log) k ≡ scenario_at log k
+unfolding scenario_at
+marked_scenario log k =
+    ap (λ s. after_batches s (take k (batches_of (with_mark log)))) (opening_marked log) ∙ ap (λ l. after_batches log.opening (take k l)) (batches_marked log)
+
+pub marked_now : (log : Log) → scenario_now (with_mark log) ≡ scenario_now log
+unfolding scenario_now
+marked_now log = ap (λ s. after_batches s (batches_of (with_mark log))) (opening_marked log) ∙ ap (λ l. after_batches log.opening l) (batches_marked log)
+
+-- an accepted batch makes what its edits make
+pub accepted_now : (log : Log) (b : List Edit) (next : ScenarioData) → edited_all (scenario_now log) b ≡ Ok next → scenario_now (with_batch log b) ≡ next
+accepted_now log b next is = next_scenario log b ∙ ap (λ (r : Result ScenarioData EditFault). edited_or (scenario_now log) r) is
+
+accepted_more : (s : ScenarioData) (batches : List (List Edit)) (batch : List Edit) (next : ScenarioData) → AreAccepted s batches →
+    edited_all (after_batches s batches) batch ≡ Ok next → AreAccepted s (batches ++ batch ∷ [])
+accepted_more s [] batch next h is = (is ∙ ap (λ (r : Result ScenarioData EditFault). Ok (edited_or s r)) (sym is), tt)
+accepted_more s (first ∷ batches) batch next h is = (h.0, accepted_more (after_batch s first) batches batch next h.1 is)
+
+-- the log with an accepted batch holds no refused one
+pub holds_more : (log : Log) (b : List Edit) (next : ScenarioData) → HoldsAccepted log → edited_all (scenario_now log) b ≡ Ok next → HoldsAccepted (with_batch log b)
+unfolding HoldsAccepted scenario_now
+holds_more log b next holds is =
+    let P : List (List Edit) → Type 0 = λ l. AreAccepted (with_batch log b).opening l in
+    let Q : ScenarioData → Type 0 = λ s. AreAccepted s (batches_of log ++ b ∷ []) in
+    subst P (sym (batches_more log b)) (subst Q (sym (opening_batch log b)) (accepted_more log.opening (batches_of log) b next holds is))
+
+pub holds_marked : (log : Log) → HoldsAccepted log → HoldsAccepted (with_mark log)
+unfolding HoldsAccepted
+holds_marked log holds =
+    let P : List (List Edit) → Type 0 = λ l. AreAccepted (with_mark log).opening l in
+    let Q : ScenarioData → Type 0 = λ s. AreAccepted s (batches_of log) in
+    subst P (sym (batches_marked log)) (subst Q (sym (opening_marked log)) holds)
+
+-- ---- the log as it is kept
+pub kept_opening : (s : ScenarioData) (bs : List (List Edit)) (ms : List Bool) → (log_of s bs ms).opening ≡ s
+unfolding log_of
+kept_opening s bs ms = refl
+
+pub kept_batches : (s : ScenarioData) (bs : List (List Edit)) (ms : List Bool) → length ms ≡ length bs → batches_of (log_of s bs ms) ≡ bs
+unfolding batches_of log_of
+kept_batches s bs ms same = firsts-zip bs ms same
+
+pub kept_version : (s : ScenarioData) (bs : List (List Edit)) (ms : List Bool) → length ms ≡ length bs → version_now (log_of s bs ms) ≡ length bs
+kept_version s bs ms same = sym (length_batches (log_of s bs ms)) ∙ ap length (kept_batches s bs ms same)
+
+zip_more : (bs : List (List Edit)) (ms : List Bool) (b : List Edit) (m : Bool) → length ms ≡ length bs → zip (bs ++ b ∷ []) (ms ++ m ∷ []) ≡ zip bs ms ++ (b, m) ∷ []
+zip_more [] [] b m same = refl
+zip_more [] (n ∷ ms) b m same = absurd (omega arith)
+zip_more (c ∷ bs) [] b m same = absurd (omega arith)
+zip_more (c ∷ bs) (n ∷ ms) b m same = ap (λ l. (c, n) ∷ l) (zip_more bs ms b m (omega arith))
+
+-- a batch and its mark are put last
+pub kept_with_batch : (s : ScenarioData) (bs : List (List Edit)) (ms : List Bool) (b : List Edit) → length ms ≡ length bs →
+    log_of s (bs ++ b ∷ []) (ms ++ false ∷ []) ≡ with_batch (log_of s bs ms) b
+unfolding log_of with_batch
+kept_with_batch s bs ms b same = ap (λ l. record { opening = s; batches = l }) (zip_more bs ms b false same)
+
+zip_marked : (bs : List (List Edit)) (ms : List Bool) → length ms ≡ length bs → zip bs (slice_set ms (length bs - 1) true) ≡ marked (zip bs ms)
+zip_marked [] [] same = refl
+zip_marked [] (n ∷ ms) same = absurd (omega arith)
+zip_marked (c ∷ bs) [] same = absurd (omega arith)
+zip_marked (c ∷ []) (n ∷ []) same = refl
+zip_marked (c ∷ []) (n ∷ m ∷ ms) same = absurd (omega arith)
+zip_marked (c ∷ d ∷ bs) (n ∷ []) same = absurd (omega arith)
+zip_marked (c ∷ d ∷ bs) (n ∷ m ∷ ms) same =
+    let e : length (c ∷ d ∷ bs) - 1 ≡ suc (length (d ∷ bs) - 1) = omega arith in
+    ap (λ k. zip (c ∷ d ∷ bs) (slice_set (n ∷ m ∷ ms) k true)) e ∙ ap (λ l. (c, n) ∷ l) (zip_marked (d ∷ bs) (m ∷ ms) (omega arith))
+
+-- the last mark is set
+pub kept_with_mark : (s : ScenarioData) (bs : List (List Edit)) (ms : List Bool) → length ms ≡ length bs →
+    log_of s bs (slice_set ms (length bs - 1) true) ≡ with_mark (log_of s bs ms)
+unfolding log_of with_mark
+kept_with_mark s bs ms same = ap (λ l. record { opening = s; batches = l }) (zip_marked bs ms same)
+
+-- ---- whatever a batch came to, the lists are as long as each other
+pub put_log : {A B : Type 0} (s : ScenarioData) (b0 b1 b2 : List (List Edit)) (m0 m1 m2 : List Bool) (batch : List Edit) (r : Result A B) → length m0 ≡ length b0 → b1 ≡ b0 → m1 ≡ m0 →
+    OnOk r (b2 ≡ b1 ++ batch ∷ []) → OnOk r (m2 ≡ m1 ++ false ∷ []) → OnOk r (log_of s b2 m2 ≡ with_batch (log_of s b0 m0) batch)
+put_log s b0 b1 b2 m0 m1 m2 batch (Ok x) same p q b m =
+    ap (λ (l : List (List Edit)). log_of s l m2) (b ∙ ap (λ (l : List (List Edit)). l ++ batch ∷ []) p)
+    ∙ (ap (λ (l : List Bool). log_of s (b0 ++ batch ∷ []) l) (m ∙ ap (λ (l : List Bool). l ++ false ∷ []) q) ∙ kept_with_batch s b0 m0 batch same)
+put_log s b0 b1 b2 m0 m1 m2 batch (Err e) same p q b m = tt
+
+pub same_log : {A B : Type 0} (s : ScenarioData) (b0 b1 b2 : List (List Edit)) (m0 m1 m2 : List Bool) (r : Result A B) → b1 ≡ b0 → m1 ≡ m0 → OnErr r (b2 ≡ b1) → OnErr r (m2 ≡ m1) → OnErr r (log_of s b2 m2 ≡ log_of s b0 m0)
+same_log s b0 b1 b2 m0 m1 m2 (Ok x) p q b m = tt
+same_log s b0 b1 b2 m0 m1 m2 (Err e) p q b m = ap (λ (l : List (List Edit)). log_of s l m2) (b ∙ p) ∙ ap (λ (l : List Bool). log_of s b0 l) (m ∙ q)
+
+pub same_length : {A B : Type 0} (b0 b1 b2 : List (List Edit)) (m0 m1 m2 : List Bool) (batch : List Edit) (r : Result A B) → length m0 ≡ length b0 → b1 ≡ b0 → m1 ≡ m0 →
+    OnOk r (b2 ≡ b1 ++ batch ∷ []) → OnOk r (m2 ≡ m1 ++ false ∷ []) → OnErr r (b2 ≡ b1) → OnErr r (m2 ≡ m1) → length m2 ≡ length b2
+same_length b0 b1 b2 m0 m1 m2 batch (Ok x) same p q b m b' m' =
+    let one : length b2 ≡ length b0 + 1 = ap length (b ∙ ap (λ (l : List (List Edit)). l ++ batch ∷ []) p) ∙ length-append b0 (batch ∷ []) in
+    let two : length m2 ≡ length m0 + 1 = ap length (m ∙ ap (λ (l : List Bool). l ++ false ∷ []) q) ∙ length-append m0 (false ∷ []) in
+    omega arith
+same_length b0 b1 b2 m0 m1 m2 batch (Err e) same p q b m b' m' = ap length (m' ∙ q) ∙ (same ∙ ap length (sym (b' ∙ p)))
+
+pub few_more : {A B : Type 0} (s : ScenarioData) (b0 b1 b2 : List (List Edit)) (m0 : List Bool) (batch : List Edit) (r : Result A B) → length m0 ≡ length b0 → b1 ≡ b0 →
+    OnOk r (b2 ≡ b1 ++ batch ∷ []) → OnOk r (length b2 < 2 ^ 63) → OnOk r (version_now (log_of s b0 m0) + 1 < 2 ^ 63)
+few_more s b0 b1 b2 m0 batch (Ok x) same p b few =
+    let one : length b2 ≡ length b0 + 1 = ap length (b ∙ ap (λ (l : List (List Edit)). l ++ batch ∷ []) p) ∙ length-append b0 (batch ∷ []) in
+    let two : version_now (log_of s b0 m0) ≡ length b0 = kept_version s b0 m0 same in
+    omega arith
+few_more s b0 b1 b2 m0 batch (Err e) same p b few = tt
+
+-- ---- the mark as it is set
+pub set_log : (s : ScenarioData) (bs : List (List Edit)) (ms new : List Bool) → length ms ≡ length bs → new ≡ slice_set ms (length ms - 1) true → log_of s bs new ≡ with_mark (log_of s bs ms)
+set_log s bs ms new same made =
+    ap (λ (l : List Bool). log_of s bs l) (made ∙ ap (λ (n : ℕ). slice_set ms (n - 1) true) same) ∙ kept_with_mark s bs ms same
+
+pub set_length : (bs : List (List Edit)) (ms new : List Bool) → length ms ≡ length bs → new ≡ slice_set ms (length ms - 1) true → length new ≡ length bs
+set_length bs ms new same made = ap length made ∙ (length-set ms (length ms - 1) true ∙ same)

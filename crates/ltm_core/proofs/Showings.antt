@@ -1,0 +1,249 @@
+-- What publishing and a settle count make of a core.
+use Rattle.std.proofs.Common.{◌≡◌, ℕ, ◌+◌, ◌-◌, ◌<◌, ◌≤◌, Bool, true, false, refl, ap, sym, subst, ◌∙◌, arith}
+use Rattle.ltm_units.specs.Sums.{sum_below}
+use Rattle.ltm_curve.specs.declared.curves.Curves.{Curves}
+use Rattle.ltm_curve.specs.declared.changed.Changed.{Changed}
+use Rattle.ltm_curve.specs.Counts.{Counts}
+use Rattle.ltm_curve.specs.Table.{counts_of, IsIn}
+use Rattle.ltm_curve.specs.Cells.{is_changed}
+use Rattle.ltm_loading.specs.Setting.{Setting, IsSetting}
+use Rattle.ltm_loading.specs.Groups.{groups}
+use Rattle.ltm_loading.specs.Loading.{IsLoading}
+use Rattle.ltm_scenario.specs.Data.{ScenarioData}
+use Rattle.ltm_scenario.specs.IsScenario.{IsScenario}
+use Rattle.ltm_scenario.specs.Shape.{SameShape}
+use Rattle.ltm_setting.specs.Setting.{setting_of}
+use Rattle.ltm_flows.specs.declared.loading.Loading.{Loading}
+use Rattle.ltm_flows.specs.Shown.{Shows, Fits, AgreesOutside, version_of, curves_of}
+use Rattle.ltm_repair.specs.Desk.{Desk, IsAtRest}
+use Rattle.ltm_repair.specs.State.{RepairState, now, all_differences, IsSettleCount as IsCountOf}
+use Rattle.ltm_repair.specs.Repair.{IsRepair}
+use Rattle.ltm_repair.specs.Events.{Publish, Published, Settle, Settled}
+use Rattle.ltm_repair.specs.Settling.{SettleTells}
+use Rattle.ltm_desk.specs.declared.table.Table.{Table}
+use Rattle.ltm_desk.specs.Desks.{desk_at, changed_at}
+use Rattle.ltm_desk.specs.Ready.{IsReady}
+use Rattle.ltm_core.specs.Log.{Log, version_now, settled_of, scenario_at, scenario_now, with_mark}
+use Rattle.ltm_core.specs.Settling.{setting_at, IsSettleCount}
+use Rattle.ltm_core.specs.Laws.{RepairLaws}
+use Rattle.ltm_core.specs.Cores.{CoreData, desk_in, repair_of, IsResting, IsShownOf, IsLog, IsCore}
+use Rattle.ltm_core.specs.CoreAnswers.{PublishesAll, SettlesAll}
+use Rattle.ltm_core.proofs.Logs.{last_scenario, version_marked, settled_marked, marked_scenario, marked_now, opening_marked, holds_marked}
+use Rattle.ltm_core.proofs.Shapes.{SameSizes, same_sizes, shape_sym, shape_trans, shown_fits as fits_of}
+use Rattle.ltm_core.proofs.Cores.{core_now, after_event, rests_there, rests_here, rest_here}
+
+-- ---- publishing
+-- what publishing makes of table and loading: the cells are cleared, and the working counts are shown
+pub record ShowsTable (s : Setting) (version : ℕ) (old new : Table) (l : Loading) : Type 0 where
+  pub desk : desk_at s new ≡ desk_at s old
+  pub ready : IsReady s new
+  pub cleared : (g k : ℕ) → changed_at s new g k ≡ false
+  pub shows : Shows s version l
+  pub counts : (g e k : ℕ) → g < groups s → e < s.destinations → k ≤ s.slots → counts_of (curves_of l) g e k ≡ (desk_at s old).counts g e k
+
+abbrev pub after_publish : CoreData → Table → Loading → CoreData
+after_publish d t l = record d { table = t; shown = l }
+
+shown_of : (d : CoreData) (t : Table) (l : Loading) → now (repair_of d) ≡ setting_of d.scenario → IsAtRest (setting_of d.scenario) (desk_in d) →
+    ShowsTable (setting_of d.scenario) (version_now d.log) d.table t l → Published (repair_of d) (repair_of (after_publish d t l))
+unfolding repair_of
+shown_of d t l at rest step =
+    let s : Setting = setting_of d.scenario in
+    let P : Setting → Type 0 = λ z. IsAtRest z (desk_in d) in
+    let Q : Setting → Type 0 = λ z. IsLoading z (counts_of (curves_of l)) in
+    let R : Setting → Type 0 = λ z. (g e k : ℕ) → g < groups z → e < z.destinations → k ≤ z.slots → counts_of (curves_of l) g e k ≡ (desk_in d).counts g e k in
+    record {
+      rest = subst P (sym at) rest;
+      desk = step.desk;
+      settings = refl;
+      accepted = refl;
+      settled = refl;
+      shown_at = step.shows.version;
+      shows = subst Q (sym at) step.shows.loading;
+      agree = subst R (sym at) step.counts;
+      commits = refl;
+      none_changed = step.cleared;
+    }
+
+pub core_publishes : (d : CoreData) (t : Table) (l : Loading) → IsCore d → IsAtRest (setting_of d.scenario) (desk_in d) →
+    ShowsTable (setting_of d.scenario) (version_now d.log) d.table t l → Published (repair_of d) (repair_of (after_publish d t l))
+core_publishes d t l is rest step = shown_of d t l (core_now d is) rest step
+
+shows_last : (d : CoreData) (l : Loading) → IsCore d → Shows (setting_of d.scenario) (version_now d.log) l → Shows (setting_at d.log (version_of l)) (version_of l) l
+shows_last d l is shows =
+    let P : Setting → Type 0 = λ z. Shows z (version_now d.log) l in
+    let Q : ℕ → Type 0 = λ n. Shows (setting_at d.log n) n l in
+    subst Q (sym shows.version) (subst P (sym (ap setting_of (last_scenario d.log ∙ is.scenario))) shows)
+
+pub core_after_publish : RepairLaws → (d : CoreData) (t : Table) (l : Loading) → IsCore d → IsAtRest (setting_of d.scenario) (desk_in d) →
+    ShowsTable (setting_of d.scenario) (version_now d.log) d.table t l → IsCore (after_publish d t l)
+core_after_publish laws d t l is rest step = record {
+  log = is.log;
+  scenario = is.scenario;
+  valid = is.valid;
+  repair = after_event laws.keeps (repair_of d) (repair_of (after_publish d t l)) Publish is.repair (core_publishes d t l is rest step);
+  ready = step.ready;
+  shows = shows_last d l is step.shows;
+}
+
+publishes_all : (d : CoreData) (t : Table) (l : Loading) (version : ℕ) → version ≡ version_now d.log → IsCore d → IsAtRest (setting_of d.scenario) (desk_in d) →
+    ShowsTable (setting_of d.scenario) (version_now d.log) d.table t l → PublishesAll d version (after_publish d t l)
+publishes_all d t l version at is rest step = record {
+  all = at;
+  rest = rests_there d is rest;
+  shown = step.shows.version ∙ sym at;
+  published = core_publishes d t l is rest step;
+  keeps = refl;
+}
+
+pub core_publishes_at : (d v : CoreData) (t : Table) (l : Loading) (version : ℕ) → d ≡ v → version ≡ version_now d.log → IsCore d → IsAtRest (setting_of d.scenario) (desk_in d) →
+    ShowsTable (setting_of d.scenario) (version_now d.log) d.table t l → PublishesAll v version (after_publish d t l)
+core_publishes_at d v t l version same at is rest step = subst (λ (z : CoreData). PublishesAll z version (after_publish d t l)) same (publishes_all d t l version at is rest step)
+
+-- ---- settle counts
+abbrev pub after_settle : CoreData → CoreData
+after_settle d = record d { log = with_mark d.log; commits = 0 }
+
+marked_settings : (log : Log) → setting_at (with_mark log) ≡ setting_at log
+marked_settings log = λ i k. setting_of (marked_scenario log k i)
+
+settled_of_core : (d : CoreData) → version_of d.shown ≡ version_now d.log → Settled (repair_of d) d.commits (repair_of (after_settle d))
+unfolding repair_of
+settled_of_core d at = record {
+  up_to_date = at;
+  told = refl;
+  desk = refl;
+  settings = marked_settings d.log;
+  accepted = version_marked d.log;
+  settled = settled_marked d.log;
+  shown_at = refl;
+  shown = refl;
+  commits = refl;
+  changed = refl;
+}
+
+-- the bounds of the theory are those of the log
+count_of_log : SettleTells → (d : CoreData) (e : RepairState) → IsCore d → Settled (repair_of d) d.commits e → IsSettleCount d.log d.commits
+unfolding repair_of IsSettleCount all_differences
+count_of_log law d e is step loading are =
+    let told : IsCountOf (repair_of d) loading d.commits = law (repair_of d) e d.commits is.repair step loading are in
+    (told.at_least, told.at_most)
+
+marked_log : (log : Log) → IsLog log → IsLog (with_mark log)
+marked_log log is =
+    let same : version_now (with_mark log) ≡ version_now log = version_marked log in
+    record {
+      accepted = holds_marked log is.accepted;
+      scenarios = λ k l. subst IsScenario (sym (marked_scenario log k)) (is.scenarios k (omega arith));
+      shape = λ k l. subst (λ (z : ScenarioData). SameShape (with_mark log).opening z) (sym (marked_scenario log k))
+          (subst (λ (z : ScenarioData). SameShape z (scenario_at log k)) (sym (opening_marked log)) (is.shape k (omega arith)));
+      few = omega (is.few, same, arith);
+    }
+
+shows_marked : (log : Log) (v : ℕ) (l : Loading) → Shows (setting_at log v) v l → Shows (setting_at (with_mark log) v) v l
+shows_marked log v l shows = subst (λ (z : Setting). Shows z v l) (sym (ap setting_of (marked_scenario log v))) shows
+
+pub core_after_settle : RepairLaws → (d : CoreData) → IsCore d → version_of d.shown ≡ version_now d.log → IsCore (after_settle d)
+core_after_settle laws d is at = record {
+  log = marked_log d.log is.log;
+  scenario = marked_now d.log ∙ is.scenario;
+  valid = is.valid;
+  repair = after_event laws.keeps (repair_of d) (repair_of (after_settle d)) (Settle d.commits) is.repair (settled_of_core d at);
+  ready = is.ready;
+  shows = shows_marked d.log (version_of d.shown) d.shown is.shows;
+}
+
+up_to_date : (d : CoreData) → IsCore d → version_of d.shown ≡ version_now d.log → IsResting d
+unfolding IsResting repair_of
+up_to_date d is at = is.repair.up_to_date at
+
+settles_all : RepairLaws → (d : CoreData) → IsCore d → version_of d.shown ≡ version_now d.log → SettlesAll d d.commits (after_settle d)
+settles_all laws d is at = record {
+  told = refl;
+  counts = count_of_log laws.settle d (repair_of (after_settle d)) is (settled_of_core d at);
+  rest = up_to_date d is at;
+  shown = at;
+  settled = settled_of_core d at;
+  keeps = refl;
+}
+
+-- the log that is kept is that with the mark
+pub core_after_settle_at : RepairLaws → (d : CoreData) (log : Log) → log ≡ with_mark d.log → IsCore d → version_of d.shown ≡ version_now d.log → IsCore (record d { log = log; commits = 0 })
+core_after_settle_at laws d log made is at = subst (λ (z : Log). IsCore (record d { log = z; commits = 0 })) (sym made) (core_after_settle laws d is at)
+
+pub core_settles_at : RepairLaws → (d v : CoreData) (log : Log) → d ≡ v → log ≡ with_mark d.log → IsCore d → version_of d.shown ≡ version_now d.log →
+    SettlesAll v d.commits (record d { log = log; commits = 0 })
+core_settles_at laws d v log same made is at =
+    subst (λ (z : Log). SettlesAll v d.commits (record d { log = z; commits = 0 })) (sym made)
+    (subst (λ (z : CoreData). SettlesAll z d.commits (after_settle d)) same (settles_all laws d is at))
+
+pub shown_low : (d : CoreData) → IsCore d → version_of d.shown ≤ version_now d.log
+unfolding repair_of
+shown_low d is = is.repair.shows.accepted_last
+
+pub shown_less : (d v : CoreData) → d ≡ v → version_of d.shown < version_now d.log → version_of v.shown < version_now v.log
+shown_less d v same l = subst (λ (z : CoreData). version_of z.shown < version_now z.log) same l
+
+-- ---- stopping changes nothing of the repair
+same_stopped : (d : CoreData) (b : Bool) → repair_of d ≡ repair_of (record d { stopped = b })
+unfolding repair_of
+same_stopped d b = refl
+
+pub core_stops : (d : CoreData) (b : Bool) → IsCore d → IsCore (record d { stopped = b })
+core_stops d b is = record {
+  log = is.log;
+  scenario = is.scenario;
+  valid = is.valid;
+  repair = subst (λ (r : RepairState). IsRepair r) (same_stopped d b) is.repair;
+  ready = is.ready;
+  shows = is.shows;
+}
+
+-- ---- what is shown
+core_shape : (d : CoreData) → IsCore d → SameShape d.log.opening d.scenario
+core_shape d is = subst (λ (z : ScenarioData). SameShape d.log.opening z) (last_scenario d.log ∙ is.scenario) (is.log.shape (version_now d.log) (omega arith))
+
+pub core_network_at : (d v : CoreData) → d ≡ v → IsCore d → d.scenario.network ≡ v.log.opening.network
+core_network_at d v same is = subst (λ (z : CoreData). d.scenario.network ≡ z.log.opening.network) same (core_shape d is).network
+
+core_shown : (d : CoreData) → IsCore d → IsShownOf d.log d.shown
+core_shown d is =
+    let low : version_of d.shown ≤ version_now d.log = shown_low d is in
+    record {
+      is_version = low;
+      shows = is.shows;
+      scenario = is.log.scenarios (version_of d.shown) low;
+      network = (is.log.shape (version_of d.shown) low).network;
+    }
+
+pub core_shown_at : (d v : CoreData) → d ≡ v → IsCore d → IsShownOf v.log v.shown
+core_shown_at d v same is = subst (λ (z : CoreData). IsShownOf z.log z.shown) same (core_shown d is)
+
+-- ---- what is shown has the sizes of the present setting, and its counts but in the changed cells
+shown_sizes : (d : CoreData) → IsCore d → SameSizes (setting_at d.log (version_of d.shown)) (setting_of d.scenario)
+shown_sizes d is =
+    let low : version_of d.shown ≤ version_now d.log = shown_low d is in
+    same_sizes (scenario_at d.log (version_of d.shown)) d.scenario
+    (shape_trans (scenario_at d.log (version_of d.shown)) d.log.opening d.scenario (shape_sym d.log.opening (scenario_at d.log (version_of d.shown)) (is.log.shape (version_of d.shown) low)) (core_shape d is))
+
+pub core_fits : (d : CoreData) → IsCore d → Fits (setting_of d.scenario) d.shown
+core_fits d is = fits_of (setting_at d.log (version_of d.shown)) (setting_of d.scenario) (version_of d.shown) d.shown (shown_sizes d is) is.shows
+
+agrees_here : (d : CoreData) → now (repair_of d) ≡ setting_of d.scenario → IsRepair (repair_of d) → (g e k : ℕ) → g < groups (setting_of d.scenario) → e < (setting_of d.scenario).destinations →
+    changed_at (setting_of d.scenario) d.table g k ≡ false → k ≤ (setting_at d.log (version_of d.shown)).slots → counts_of (curves_of d.shown) g e k ≡ (desk_in d).counts g e k
+unfolding repair_of
+agrees_here d at is =
+    let P : Setting → Type 0 = λ z. (g e k : ℕ) → g < groups z → e < z.destinations → changed_at (setting_of d.scenario) d.table g k ≡ false →
+        k ≤ (setting_at d.log (version_of d.shown)).slots → counts_of (curves_of d.shown) g e k ≡ (desk_in d).counts g e k in
+    subst P at is.shows.agree
+
+pub core_agrees : (d : CoreData) (c : Curves) (x : Changed) → IsCore d → (desk_in d).counts ≡ counts_of c →
+    ((g k : ℕ) → g < groups (setting_of d.scenario) → k ≤ (setting_of d.scenario).slots → is_changed x g k ≡ changed_at (setting_of d.scenario) d.table g k) → AgreesOutside d.shown c x
+core_agrees d c x is same cells g e k inside off =
+    let fits : Fits (setting_of d.scenario) d.shown = core_fits d is in
+    let sizes : SameSizes (setting_at d.log (version_of d.shown)) (setting_of d.scenario) = shown_sizes d is in
+    let in_groups : g < groups (setting_of d.scenario) = omega (inside.is_group, fits.shape.same_groups, arith) in
+    let in_destinations : e < (setting_of d.scenario).destinations = omega (inside.is_destination, fits.shape.same_destinations, arith) in
+    let in_slots : k ≤ (setting_of d.scenario).slots = omega (inside.is_boundary, fits.shape.same_slots, arith) in
+    let in_shown : k ≤ (setting_at d.log (version_of d.shown)).slots = omega (in_slots, sizes.slots, arith) in
+    agrees_here d (core_now d is) is.repair g e k in_groups in_destinations (sym (cells g k in_groups in_slots) ∙ off) in_shown ∙ ap (λ (f : ℕ → ℕ → ℕ → ℕ). f g e k) same

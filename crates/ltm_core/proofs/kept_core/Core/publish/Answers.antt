@@ -1,0 +1,54 @@
+use Rattle.std.proofs.Common.{◌≡◌, ℕ, ◌∙◌, true, false, arith, ap, sym, subst, refl}
+use Rattle.ltm_curve.specs.Counts.{Counts}
+use Rattle.ltm_loading.specs.Loading.{IsLoading}
+use Rattle.ltm_setting.specs.Setting.{setting_of}
+use Rattle.ltm_flows.specs.Shown.{Shows}
+use Rattle.ltm_core.specs.Log.{log_of, version_now}
+use Rattle.ltm_core.specs.Cores.{CoreData}
+use Rattle.ltm_core.proofs.Logs.{kept_version}
+use Rattle.ltm_core.proofs.Cores.{rest_here, not_resting_at}
+use Rattle.ltm_core.proofs.Showings.{ShowsTable, core_fits, core_agrees, core_after_publish, core_publishes_at}
+use Rattle.ltm_core.proofs.kept_core.Core.publish.Goals as goal
+
+pub is_at_rest-requires : goal.is_at_rest-requires
+is_at_rest-requires c = c.self.invariant.0.ready
+
+pub returns-then-not-is_at_rest : goal.returns-then-not-is_at_rest
+returns-then-not-is_at_rest c = (not_resting_at _ _ c.is_at_rest.result c.self.view_is c.self.invariant.0 c.is_at_rest.ensures c.if-not-is_at_rest.true, refl)
+
+pub refresh-requires-clause-fits : goal.refresh-requires-clause-fits
+refresh-requires-clause-fits c = core_fits _ c.self.invariant.0
+
+pub refresh-requires-clause-loading : goal.refresh-requires-clause-loading
+refresh-requires-clause-loading c =
+    subst (λ (z : Counts). IsLoading (setting_of c.self.inside.scenario) z) (c.curves.ensures.counts (setting_of c.self.inside.scenario))
+    (rest_here c.repair_laws.ensures.rest _ c.self.invariant.0 (c.is_at_rest.ensures.0 c.if-not-is_at_rest.false))
+
+pub refresh-requires-clause-outside : goal.refresh-requires-clause-outside
+refresh-requires-clause-outside c =
+    core_agrees _ c.curves.result.now c.cells.result.now c.self.invariant.0 (c.curves.ensures.counts (setting_of c.self.inside.scenario))
+    (λ g k x l. c.cells.ensures.changed (setting_of c.self.inside.scenario) g k x l)
+
+version_is : (c : goal.After-clear_changed) → c.len-version.result ≡ version_now (log_of c.self.inside.opening c.self.inside.batches.items c.self.inside.marks.items)
+version_is c = omega (c.len-version.ensures, c.self.inside.batches.ok.0, kept_version c.self.inside.opening c.self.inside.batches.items c.self.inside.marks.items c.self.invariant.1, arith)
+
+shown_table : (c : goal.After-clear_changed) → ShowsTable (setting_of c.self.inside.scenario) (version_now (log_of c.self.inside.opening c.self.inside.batches.items c.self.inside.marks.items)) c.self.inside.table c.clear_changed.new.self c.refresh.new.self
+shown_table c =
+    let P : ℕ → Type 0 = λ n. Shows (setting_of c.self.inside.scenario) n c.refresh.new.self in
+    record {
+      desk = c.clear_changed.ensures.desk (setting_of c.self.inside.scenario);
+      ready = c.clear_changed.ensures.ready (setting_of c.self.inside.scenario) c.self.invariant.0.ready;
+      cleared = λ g k. c.clear_changed.ensures.none (setting_of c.self.inside.scenario) g k;
+      shows = subst P (version_is c) c.refresh.ensures.shows;
+      counts = λ g e k x m l. ap (λ (f : Counts). f g e k) (c.refresh.ensures.counts ∙ sym (c.curves.ensures.counts (setting_of c.self.inside.scenario)));
+    }
+
+pub invariant_of-self : goal.invariant_of-self
+invariant_of-self c = (
+  core_after_publish c.repair_laws.ensures _ c.clear_changed.new.self c.refresh.new.self c.self.invariant.0 (c.is_at_rest.ensures.0 c.if-not-is_at_rest.false) (shown_table c),
+  c.self.invariant.1,
+)
+
+pub returns : goal.returns
+returns c =
+    core_publishes_at _ _ c.clear_changed.new.self c.refresh.new.self c.len-version.result c.self.view_is (version_is c) c.self.invariant.0 (c.is_at_rest.ensures.0 c.if-not-is_at_rest.false) (shown_table c)

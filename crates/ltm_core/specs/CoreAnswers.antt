@@ -1,0 +1,120 @@
+-- What the calls of a core answer, and exactly when.
+use Rattle.std.specs.Prelude.{◌≡◌, ◌≢◌, ◌↔◌, ℕ, ◌+◌, ◌<◌, ◌||◌, List, [], Option, Some, None, Result, Ok, Err, Bool, false}
+use Rattle.ltm_units.specs.declared.places.Pair.{Pair}
+use Rattle.ltm_node.specs.Inputs.{Inputs}
+use Rattle.ltm_scenario.specs.declared.edit.Edit.{Edit}
+use Rattle.ltm_scenario.specs.declared.edit.EditFault.{EditFault}
+use Rattle.ltm_scenario.specs.declared.edit.EditCause.TheVariants.{NoMemory}
+use Rattle.ltm_scenario.specs.Data.{ScenarioData}
+use Rattle.ltm_scenario.specs.Edits.{edited_all}
+use Rattle.ltm_loading.specs.Pairs.{shape_at}
+use Rattle.ltm_setting.specs.Setting.{setting_of}
+use Rattle.ltm_flows.specs.Shown.{version_of}
+use Rattle.ltm_repair.specs.Answers.{ClaimAnswer, Got, NotYet, Rest}
+use Rattle.ltm_repair.specs.Events.{Committed as CommitHappened, GaveBack, Accepted, Published as PublishHappened, Settled}
+use Rattle.ltm_desk.specs.Committing.{readers, rewritten}
+use Rattle.ltm_desk.specs.Batches.{touches}
+use Rattle.ltm_core.specs.declared.answers.Claimed.{Claimed}
+use Rattle.ltm_core.specs.declared.answers.Claimed.TheVariants.{Got as GotClaim, NotYet as NoneYet, Rest as AtRest}
+use Rattle.ltm_core.specs.declared.answers.Committed.{Committed}
+use Rattle.ltm_core.specs.declared.answers.Committed.TheVariants.{Ok as Done, Stale}
+use Rattle.ltm_core.specs.declared.answers.Published.{Published}
+use Rattle.ltm_core.specs.declared.answers.Published.TheVariants.{Done as Shown, NotAtRest}
+use Rattle.ltm_core.specs.Claims.{ClaimData, DoneData}
+use Rattle.ltm_core.specs.Log.{Log, version_now, scenario_now, with_batch, with_mark}
+use Rattle.ltm_core.specs.Settling.{IsSettleCount}
+use Rattle.ltm_core.specs.Cores.{CoreData, desk_in, repair_of, IsResting, IsNoneOut}
+
+-- ---- a core when it begins: with the loading of its scenario, which is worked out and shown
+pub record IsOpeningCore (s : ScenarioData) (d : CoreData) : Type 0 where
+  pub log : d.log ≡ record { opening = s; batches = [] }
+  pub scenario : d.scenario ≡ s
+  pub shown : version_of d.shown ≡ 0
+  pub commits : d.commits ≡ 0
+  pub running : d.stopped ≡ false
+  pub rest : IsResting d
+  pub none_out : IsNoneOut d
+
+-- all but the table stays
+abbrev pub KeepsAll : CoreData → CoreData → Type 0
+KeepsAll old new = new ≡ record old { table = new.table }
+
+-- ---- claims
+-- the answer of a claim without its buffers
+abbrev pub answer_in : Claimed → ClaimAnswer
+answer_in (GotClaim claim) = Got claim.pair.node.0 claim.pair.slot claim.ticket claim.inputs.row
+answer_in (NoneYet scratch) = NotYet
+answer_in (AtRest scratch) = Rest
+
+-- a kept claim has this pair, ticket and inputs
+pub record IsKeptClaim (d : CoreData) (pair : Pair) (ticket : ℕ) (n : Inputs) : Type 0 where
+  pub current : ticket ≡ version_now d.log
+  pub claimed : (desk_in d).claimed pair.node.0 pair.slot ≡ Some n.row
+  pub shape : n.shape ≡ shape_at (setting_of d.scenario) pair.node.0
+
+-- the claim that is handed out is kept
+abbrev pub KeepsClaim : Claimed → CoreData → Type 0
+KeepsClaim (GotClaim claim) new = IsKeptClaim new claim.pair claim.ticket claim.inputs
+KeepsClaim (NoneYet scratch) new = Unit {0}
+KeepsClaim (AtRest scratch) new = Unit {0}
+
+-- ---- commits
+-- the pair is done; its exact readers, and no other pair, become active where they were not; the cells in which a count
+-- became another one, and no other cell, are changed where they were not; the count of commits rose by one
+pub record CommitsDone (old : CoreData) (pair : Pair) (row : List ℕ) (new : CoreData) : Type 0 where
+  pub commits : CommitHappened (repair_of old) pair.node.0 pair.slot row
+      (readers (setting_of old.scenario) (desk_in old) (desk_in new) pair.node.0 pair.slot) (repair_of new)
+  pub cells : (g k : ℕ) → (repair_of new).changed g k ≡ ((repair_of old).changed g k || rewritten (setting_of old.scenario) (desk_in old) (desk_in new) g k)
+  pub keeps : new ≡ record old { table = new.table; commits = old.commits + 1 }
+
+-- a commit is stale exactly where no kept claim has its pair, ticket and inputs; then nothing changes
+abbrev pub TellsCommit : CoreData → DoneData → Committed → CoreData → Type 0
+TellsCommit old done (Done scratch) new = IsKeptClaim old done.pair done.ticket done.solved.inputs × CommitsDone old done.pair done.solved.inputs.row new
+TellsCommit old done (Stale claimed_at now scratch) new =
+    (IsKeptClaim old done.pair done.ticket done.solved.inputs → ⊥) × (claimed_at ≡ done.ticket) × (now ≡ version_now old.log) × (new ≡ old)
+
+-- ---- give back: the pair is active again where its claim is kept; else nothing changes
+pub record TellsGiveBack (old : CoreData) (claim : ClaimData) (new : CoreData) : Type 0 where
+  pub kept : IsKeptClaim old claim.pair claim.ticket claim.inputs → GaveBack (repair_of old) claim.pair.node.0 claim.pair.slot (repair_of new)
+  pub stale : (IsKeptClaim old claim.pair claim.ticket claim.inputs → ⊥) → new ≡ old
+  pub keeps : KeepsAll old new
+
+-- ---- accept: the batch is last in the log, the scenario is as edited, claims are void, and a pair is active exactly where
+-- it was active or claimed or is touched by the batch
+pub record AcceptsBatch (old : CoreData) (batch : List Edit) (new : CoreData) : Type 0 where
+  pub edited : edited_all (scenario_now old.log) batch ≡ Ok (scenario_now new.log)
+  pub keeps : new ≡ record old { log = with_batch old.log batch; scenario = scenario_now new.log; table = new.table }
+  pub accepted : Accepted (repair_of old) (touches old.scenario batch) (repair_of new)
+  pub none_out : IsNoneOut new
+
+-- a refused batch is given back with its first fault, and changes nothing
+abbrev pub TellsAccept : CoreData → List Edit → Result (Unit {0}) (List Edit × EditFault) → CoreData → Type 0
+TellsAccept old batch (Ok done) new = AcceptsBatch old batch new
+TellsAccept old batch (Err e) new = (e.0 ≡ batch) × (new ≡ old) × (e.1.cause ≢ NoMemory → edited_all (scenario_now old.log) batch ≡ Err e.1)
+
+-- ---- publish: the working counts are shown exactly at rest; else nothing changes
+pub record PublishesAll (old : CoreData) (version : ℕ) (new : CoreData) : Type 0 where
+  pub all : version ≡ version_now old.log
+  pub rest : IsResting old
+  pub shown : version_of new.shown ≡ version
+  pub published : PublishHappened (repair_of old) (repair_of new)
+  pub keeps : new ≡ record old { table = new.table; shown = new.shown }
+
+abbrev pub TellsPublish : CoreData → Published → CoreData → Type 0
+TellsPublish old (Shown version) new = PublishesAll old version new
+TellsPublish old NotAtRest new = (IsResting old → ⊥) × (new ≡ old)
+
+-- ---- settle count: the commits are told where all batches are shown, and then no pair is active or claimed; a mark is put
+-- after the last batch, and the count begins again
+pub record SettlesAll (old : CoreData) (n : ℕ) (new : CoreData) : Type 0 where
+  pub told : n ≡ old.commits
+  pub counts : IsSettleCount old.log n
+  pub rest : IsResting old
+  pub shown : version_of old.shown ≡ version_now old.log
+  pub settled : Settled (repair_of old) n (repair_of new)
+  pub keeps : new ≡ record old { log = with_mark old.log; commits = 0 }
+
+-- none where not all batches are shown, as where a pair is active or claimed; then nothing changes
+abbrev pub TellsSettle : CoreData → Option ℕ → CoreData → Type 0
+TellsSettle old None new = (version_of old.shown < version_now old.log) × (new ≡ old)
+TellsSettle old (Some n) new = SettlesAll old n new

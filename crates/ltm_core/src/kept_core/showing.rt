@@ -1,0 +1,57 @@
+//! What is shown, and what a settle counts.
+ghost use Rattle.std.specs.Prelude.{◌≡◌, ◌-◌, ◌<◌, true, length, slice_set};
+
+use super::Core;
+use crate::answers::Published;
+use crate::laws::repair_laws;
+use ltm_setting::is_setting;
+
+/// Puts a mark after the last batch, where there is one.
+fn mark_last(marks: &mut Vec<bool>)
+    ensures { marks.new.items ≡ slice_set marks.old.items (length marks.old.items - 1) true }
+{
+    let count = marks.len();
+    if count > 0 {
+        marks[count - 1] = true;
+    }
+}
+
+impl Core {
+    ghost use Rattle.ltm_core.specs.CoreAnswers.{TellsPublish, TellsSettle};
+
+    /// Shows the working counts, where no pair is active or claimed. The changed cells alone are copied. Takes no memory.
+    pub fn publish(&mut self) -> Published
+        ensures { TellsPublish self.old result self.new }
+    {
+        repair_laws();
+        is_setting(&self.scenario);
+        if !self.table.is_at_rest(&self.scenario) {
+            return Published::NotAtRest;
+        }
+        let version = self.batches.len() as u64;
+        self.shown.refresh(
+            &self.scenario,
+            self.table.curves(),
+            self.table.cells(),
+            version,
+        );
+        self.table.clear_changed();
+        Published::Done(version)
+    }
+
+    /// The commits since the last count, where no pair is active or claimed and all batches are shown; a mark is then put
+    /// after the last batch, and the count begins again. Takes no memory.
+    pub fn settle_count(&mut self) -> Option<u128>
+        ensures { TellsSettle self.old result self.new }
+    {
+        repair_laws();
+        let version = self.batches.len() as u64;
+        if self.shown.version() != version {
+            return None;
+        }
+        let commits = self.commits;
+        mark_last(&mut self.marks);
+        self.commits = 0;
+        Some(commits)
+    }
+}

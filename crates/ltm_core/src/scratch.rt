@@ -1,0 +1,36 @@
+//! The buffers of one worker.
+use ltm_node::{NodeInputs, NodeOutputs};
+use ltm_units::NoMemory;
+use std::alloc::Global;
+use std::marker::Model;
+
+/// The greatest number of inputs of a pair: 5 arms, 4 out-links and 64 destinations.
+const WIDEST: u32 = 1162;
+
+/// The buffers of one worker, with room for the inputs and the counts of any pair of any scenario. So one worker may serve
+/// every core.
+#[derive(Drop)]
+pub struct Scratch {
+    pub(crate) inputs: NodeInputs,
+    pub(crate) outputs: NodeOutputs,
+}
+
+impl Model for Scratch {
+    ghost use Rattle.std.specs.Prelude.{◌≤◌};
+    ghost use Rattle.ltm_core.specs.Claims.{ScratchData};
+
+    ghost Value = { ScratchData };
+
+    ghost view = { λ s. record { inputs = s.inputs; outputs = s.outputs } };
+
+    ghost invariant = { λ s. (1162 ≤ s.inputs.room) × (1162 ≤ s.outputs.room) };
+}
+
+impl Scratch {
+    /// Buffers of the greatest width.
+    pub(crate) fn create(alloc: Global) -> Result<Scratch, NoMemory> {
+        let inputs = NodeInputs::create(alloc, WIDEST)?;
+        let outputs = NodeOutputs::create(alloc, WIDEST)?;
+        Ok(Scratch { inputs, outputs })
+    }
+}
