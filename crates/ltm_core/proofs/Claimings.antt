@@ -1,7 +1,9 @@
 -- What a claim, and a claim given back, make of a core.
-use Rattle.std.proofs.Common.{◌≡◌, ℕ, ◌+◌, ◌<◌, ◌≤◌, List, Bool, true, false, IsTrue, ◌↔◌, refl, ap, sym, subst, ◌∙◌, arith}
-use Rattle.std.specs.Prelude.{Some, None}
-use Rattle.std.proofs.lemmas.Bool.{false≢true}
+use Rattle.std.proofs.Common.{◌≡◌, ℕ, ◌+◌, ◌<◌, ◌≤◌, List, Bool, true, false, IsTrue, ◌↔◌, inl, inr, refl, ap, sym, subst, ◌∙◌, arith}
+use Rattle.std.specs.Prelude.{Option, Some, None}
+use Rattle.std.specs.Prelude.{◌⊎◌}
+use Rattle.std.proofs.lemmas.Bool.{false≢true, cases_eq}
+use Rattle.ltm_loading.proofs.Unlike.{unlike_cases}
 use Rattle.ltm_units.specs.declared.places.Pair.{Pair}
 use Rattle.ltm_node.specs.declared.shape.NodeShape.{NodeShape}
 use Rattle.ltm_node.specs.Inputs.{Inputs}
@@ -133,3 +135,38 @@ tells_give d v t claim given same at kept cells step =
 
 pub tells_stale : (v : CoreData) (claim given : ClaimData) → claim ≡ given → (IsKeptClaim v claim.pair claim.ticket claim.inputs → ⊥) → TellsGiveBack v given v
 tells_stale v claim given at not = subst (λ (z : ClaimData). TellsGiveBack v z v) at (record { kept = λ k. absurd (not k); stale = λ none. refl; keeps = refl })
+
+-- ---- whether a claim is kept is decided
+cases_own : (a b : Option ℕ) → (a ≡ b) ⊎ (a ≡ b → ⊥)
+cases_own None None = inl refl
+cases_own None (Some y) = inr (λ h. cc)
+cases_own (Some x) None = inr (λ h. cc)
+cases_own (Some x) (Some y) = elim (cases_eq x y) [ inl same ↦ inl (ap (λ z. Some z) same) | inr other ↦ inr (λ h. other (cc)) ]
+
+cases_shape : (a b : NodeShape) → (a ≡ b) ⊎ (a ≡ b → ⊥)
+cases_shape a b = elim (cases_eq a.arms b.arms) [
+  | inr other ↦ inr (λ h. other (ap (λ (z : NodeShape). z.arms) h))
+  | inl arms ↦ elim (cases_eq a.outs b.outs) [
+    | inr other ↦ inr (λ h. other (ap (λ (z : NodeShape). z.outs) h))
+    | inl outs ↦ elim (cases_eq a.destinations b.destinations) [
+      | inr other ↦ inr (λ h. other (ap (λ (z : NodeShape). z.destinations) h))
+      | inl destinations ↦ elim (cases_own a.own b.own) [
+        | inr other ↦ inr (λ h. other (ap (λ (z : NodeShape). z.own) h))
+        | inl own ↦ inl (λ i. record { arms = arms i; outs = outs i; destinations = destinations i; own = own i })
+      ]
+    ]
+  ]
+]
+
+pub claim_kept_or_not : (d : CoreData) (pair : Pair) (ticket : ℕ) (n : Inputs) → IsKeptClaim d pair ticket n ⊎ (IsKeptClaim d pair ticket n → ⊥)
+claim_kept_or_not d pair ticket n =
+    elim (cases_eq ticket (version_now d.log)) [
+      | inr other ↦ inr (λ k. other k.current)
+      | inl at ↦ elim (unlike_cases ((desk_in d).claimed pair.node.0 pair.slot) (Some n.row)) [
+        | inr unlike ↦ inr (λ k. unlike.0 k.claimed)
+        | inl same ↦ elim (cases_shape n.shape (shape_at (setting_of d.scenario) pair.node.0)) [
+          | inr apart ↦ inr (λ k. apart k.shape)
+          | inl shape ↦ inl (record { current = at; claimed = same.0; shape = shape })
+        ]
+      ]
+    ]

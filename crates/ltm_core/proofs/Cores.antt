@@ -1,6 +1,6 @@
 -- What the calls of a table make of a core.
-use Rattle.std.proofs.Common.{◌≡◌, ℕ, ◌+◌, ◌-◌, ◌*◌, ◌<◌, ◌≤◌, ◌^◌, List, [], ◌∷◌, Bool, true, false, IsTrue, ◌↔◌, ◌||◌, ◌&&◌, refl, ap, sym, subst, ◌∙◌, arith, lit<}
-use Rattle.std.specs.Prelude.{Some, None, nat_lt, nat_le}
+use Rattle.std.proofs.Common.{◌≡◌, ℕ, ◌+◌, ◌-◌, ◌*◌, ◌<◌, ◌≤◌, ◌^◌, List, [], ◌∷◌, Bool, true, false, IsTrue, ◌↔◌, cond, inl, inr, refl, ap, sym, subst, ◌∙◌, arith, lit<}
+use Rattle.std.specs.Prelude.{Some, None, is_some, nat_lt, nat_le}
 use Rattle.std.proofs.lemmas.Bool.{false≢true, lt-ltb, le-leb}
 use Rattle.ltm_curve.specs.Table.{counts_of}
 use Rattle.ltm_loading.specs.Setting.{Setting, IsSetting}
@@ -9,6 +9,9 @@ use Rattle.ltm_loading.specs.Loading.{IsLoading}
 use Rattle.ltm_setting.specs.Setting.{setting_of}
 use Rattle.ltm_flows.specs.Shown.{version_of, curves_of}
 use Rattle.ltm_repair.specs.Desk.{Desk, IsAtRest}
+use Rattle.ltm_loading.specs.Differing.{sum_pairs}
+use Rattle.ltm_loading.proofs.PairSums.{le-sum_pairs, sum_pairs-none}
+use Rattle.ltm_repair.proofs.Cases.{cases_option}
 use Rattle.ltm_repair.specs.Counting.{claims_out}
 use Rattle.ltm_repair.specs.State.{RepairState, now}
 use Rattle.ltm_repair.specs.Repair.{IsRepair}
@@ -106,3 +109,25 @@ claims_here d is =
 
 pub core_claims_out_at : (d v : CoreData) (n : ℕ) → d ≡ v → IsCore d → n ≡ claims_out (setting_of d.scenario).nodes (setting_of d.scenario).slots (desk_in d) → n ≡ claims_of v
 core_claims_out_at d v n same is at = at ∙ (claims_here d is ∙ ap claims_of same)
+
+-- ---- none is out exactly where none is counted
+claim_counts : (d : Desk) (u t n : ℕ) → n ≡ cond {A = ℕ} (is_some (d.claimed u t)) 1 0 → n ≡ 0 → d.claimed u t ≡ None
+claim_counts d u t n is none = elim (cases_option (d.claimed u t)) [
+  | inl free ↦ free
+  | inr some ↦ let one : cond {A = ℕ} (is_some (d.claimed u t)) 1 0 ≡ 1 = rw some.1 refl in absurd (omega arith)
+]
+
+none_counted : (s : Setting) (d : Desk) → (claims_out s.nodes s.slots d ≡ 0) ↔ IsNoneClaimed s d
+unfolding claims_out
+none_counted s d =
+    let f : ℕ → ℕ → ℕ = λ a b. cond (is_some (d.claimed a b)) 1 0 in (
+      λ none u t x l. let low : f u t ≤ sum_pairs s.nodes s.slots f = le-sum_pairs s.nodes s.slots f u t x l in claim_counts d u t (f u t) refl (omega (none, low, arith)),
+      λ free. sum_pairs-none s.nodes s.slots f (λ u t x l. rw (free u t x l) refl),
+    )
+
+none_out_here : (d : CoreData) → (claims_of d ≡ 0) ↔ IsNoneOut d
+unfolding claims_of IsNoneOut
+none_out_here d = none_counted (now (repair_of d)) (repair_of d).desk
+
+pub none_out_at : (v : CoreData) (n : ℕ) → n ≡ claims_of v → (n ≡ 0) ↔ IsNoneOut v
+none_out_at v n at = (λ none. (none_out_here v).0 (sym at ∙ none), λ free. at ∙ (none_out_here v).1 free)

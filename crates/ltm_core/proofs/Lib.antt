@@ -7,3 +7,4 @@ pub mod Showings
 pub mod Shapes
 pub mod Batches
 pub mod Beginnings
+pub mod Running

@@ -11,7 +11,7 @@ use Rattle.ltm_scenario.specs.Data.{ScenarioData}
 use Rattle.ltm_scenario.specs.Edits.{edited_all}
 use Rattle.ltm_core.specs.declared.entry.LogEntry.{LogEntry}
 use Rattle.ltm_core.specs.declared.entry.LogEntry.TheVariants.{Opening, Accepted, Mark}
-use Rattle.ltm_core.specs.Log.{Log, MarkedBatch, log_of, batches_of, entries_in, entries_of, version_now, settled_in, settled_of, edited_or, after_batch, after_batches, AreAccepted, HoldsAccepted, scenario_at, scenario_now, with_batch, marked, with_mark}
+use Rattle.ltm_core.specs.Log.{Log, MarkedBatch, log_of, batches_of, entries_in, entries_of, version_now, settled_in, settled_of, edited_or, after_batch, after_batches, AreAccepted, HoldsAccepted, scenario_at, scenario_now, with_batch, marked, with_mark, LogLaws}
 
 -- ---- the list that is told
 entries_more : (bs : List MarkedBatch) (b : List Edit) → entries_in (bs ++ (b, false) ∷ []) ≡ entries_in bs ++ Accepted b ∷ []
@@ -282,3 +282,17 @@ set_log s bs ms new same made =
 
 pub set_length : (bs : List (List Edit)) (ms new : List Bool) → length ms ≡ length bs → new ≡ slice_set ms (length ms - 1) true → length new ≡ length bs
 set_length bs ms new same made = ap length made ∙ (length-set ms (length ms - 1) true ∙ same)
+
+pub logs_tell_all : LogLaws
+logs_tell_all = record {
+  one = one_log;
+  batch = batch_last;
+  mark = mark_last;
+  version_batch = version_batch;
+  version_mark = version_marked;
+  settled_batch = settled_batch;
+  settled_mark = settled_marked;
+  last = last_scenario;
+  earlier = earlier_scenario;
+  marked_at = marked_scenario;
+}

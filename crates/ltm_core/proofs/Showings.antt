@@ -1,6 +1,7 @@
 -- What publishing and a settle count make of a core.
-use Rattle.std.proofs.Common.{◌≡◌, ℕ, ◌+◌, ◌-◌, ◌<◌, ◌≤◌, Bool, true, false, refl, ap, sym, subst, ◌∙◌, arith}
+use Rattle.std.proofs.Common.{◌≡◌, ℕ, ◌+◌, ◌-◌, ◌<◌, ◌≤◌, Bool, true, false, if◌then◌else◌, refl, ap, sym, subst, ◌∙◌, arith}
 use Rattle.ltm_units.specs.Sums.{sum_below}
+use Rattle.ltm_units.proofs.Sums.{sum_below-zero}
 use Rattle.ltm_curve.specs.declared.curves.Curves.{Curves}
 use Rattle.ltm_curve.specs.declared.changed.Changed.{Changed}
 use Rattle.ltm_curve.specs.Counts.{Counts}
@@ -22,9 +23,10 @@ use Rattle.ltm_repair.specs.Events.{Publish, Published, Settle, Settled}
 use Rattle.ltm_repair.specs.Settling.{SettleTells}
 use Rattle.ltm_desk.specs.declared.table.Table.{Table}
 use Rattle.ltm_desk.specs.Desks.{desk_at, changed_at}
+use Rattle.ltm_desk.specs.Cells.{count_cells}
 use Rattle.ltm_desk.specs.Ready.{IsReady}
 use Rattle.ltm_core.specs.Log.{Log, version_now, settled_of, scenario_at, scenario_now, with_mark}
-use Rattle.ltm_core.specs.Settling.{setting_at, IsSettleCount}
+use Rattle.ltm_core.specs.Settling.{setting_at, difference, IsSettleCount, SettleCountsAreExact}
 use Rattle.ltm_core.specs.Laws.{RepairLaws}
 use Rattle.ltm_core.specs.Cores.{CoreData, desk_in, repair_of, IsResting, IsShownOf, IsLog, IsCore}
 use Rattle.ltm_core.specs.CoreAnswers.{PublishesAll, SettlesAll}
@@ -86,6 +88,16 @@ core_after_publish laws d t l is rest step = record {
   shows = shows_last d l is step.shows;
 }
 
+-- no cell is counted where none is changed
+none_counted : (s : Setting) (test : ℕ → ℕ → Bool) → ((g k : ℕ) → test g k ≡ false) → count_cells s test ≡ 0
+none_counted s test none =
+    sum_below-zero (s.slots + 1) (λ k. sum_below (groups s) (λ g. if test g k then 1 else 0)) (λ k l.
+    sum_below-zero (groups s) (λ g. if test g k then 1 else 0) (λ g x. rw (none g k) refl))
+
+cleared_of : (d : CoreData) (t : Table) (l : Loading) → ((g k : ℕ) → changed_at (setting_of d.scenario) t g k ≡ false) → count_cells (setting_of d.scenario) (repair_of (after_publish d t l)).changed ≡ 0
+unfolding repair_of
+cleared_of d t l none = none_counted (setting_of d.scenario) (changed_at (setting_of d.scenario) t) none
+
 publishes_all : (d : CoreData) (t : Table) (l : Loading) (version : ℕ) → version ≡ version_now d.log → IsCore d → IsAtRest (setting_of d.scenario) (desk_in d) →
     ShowsTable (setting_of d.scenario) (version_now d.log) d.table t l → PublishesAll d version (after_publish d t l)
 publishes_all d t l version at is rest step = record {
@@ -93,6 +105,7 @@ publishes_all d t l version at is rest step = record {
   rest = rests_there d is rest;
   shown = step.shows.version ∙ sym at;
   published = core_publishes d t l is rest step;
+  cleared = cleared_of d t l step.cleared;
   keeps = refl;
 }
 
@@ -234,7 +247,7 @@ agrees_here : (d : CoreData) → now (repair_of d) ≡ setting_of d.scenario →
 unfolding repair_of
 agrees_here d at is =
     let P : Setting → Type 0 = λ z. (g e k : ℕ) → g < groups z → e < z.destinations → changed_at (setting_of d.scenario) d.table g k ≡ false →
-        k ≤ (setting_at d.log (version_of d.shown)).slots → counts_of (curves_of d.shown) g e k ≡ (desk_in d).counts g e k in
+    k ≤ (setting_at d.log (version_of d.shown)).slots → counts_of (curves_of d.shown) g e k ≡ (desk_in d).counts g e k in
     subst P at is.shows.agree
 
 pub core_agrees : (d : CoreData) (c : Curves) (x : Changed) → IsCore d → (desk_in d).counts ≡ counts_of c →
@@ -247,3 +260,24 @@ core_agrees d c x is same cells g e k inside off =
     let in_slots : k ≤ (setting_of d.scenario).slots = omega (inside.is_boundary, fits.shape.same_slots, arith) in
     let in_shown : k ≤ (setting_at d.log (version_of d.shown)).slots = omega (in_slots, sizes.slots, arith) in
     agrees_here d (core_now d is) is.repair g e k in_groups in_destinations (sym (cells g k in_groups in_slots) ∙ off) in_shown ∙ ap (λ (f : ℕ → ℕ → ℕ → ℕ). f g e k) same
+
+-- ---- settle counts that are exact
+pub settle_counts_are_exact : SettleCountsAreExact
+unfolding IsSettleCount
+settle_counts_are_exact log loading n are count =
+    let F : ℕ → ℕ = λ i. difference log loading (settled_of log + i) (settled_of log + i + 1) in
+    let told = count loading are in
+    let most : n ≤ sum_below (version_now log - settled_of log) F = told.1 in
+    let least : difference log loading (settled_of log) (version_now log) ≤ n = told.0 in
+    record {
+      none = λ same.
+          let z : version_now log - settled_of log ≡ 0 = omega arith in
+          let sum : sum_below (version_now log - settled_of log) F ≡ sum_below 0 F = ap (λ m. sum_below m F) z in omega (most, sum, arith);
+      one = λ next.
+          let z : version_now log - settled_of log ≡ 1 = omega arith in
+          let sum : sum_below (version_now log - settled_of log) F ≡ sum_below 1 F = ap (λ m. sum_below m F) z in
+          let back : settled_of log + 0 ≡ settled_of log = omega arith in
+          let first : F 0 ≡ difference log loading (settled_of log) (settled_of log + 1) = ap (λ k. difference log loading k (k + 1)) back in
+          let whole : difference log loading (settled_of log) (settled_of log + 1) ≡ difference log loading (settled_of log) (version_now log) = ap (λ k. difference log loading (settled_of log) k) (sym next) in
+          omega (most, sum, first, whole, least, arith);
+    }

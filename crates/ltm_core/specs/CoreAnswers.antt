@@ -14,6 +14,7 @@ use Rattle.ltm_repair.specs.Answers.{ClaimAnswer, Got, NotYet, Rest}
 use Rattle.ltm_repair.specs.Events.{Committed as CommitHappened, GaveBack, Accepted, Published as PublishHappened, Settled}
 use Rattle.ltm_desk.specs.Committing.{readers, rewritten}
 use Rattle.ltm_desk.specs.Batches.{touches}
+use Rattle.ltm_desk.specs.Cells.{count_cells}
 use Rattle.ltm_core.specs.declared.answers.Claimed.{Claimed}
 use Rattle.ltm_core.specs.declared.answers.Claimed.TheVariants.{Got as GotClaim, NotYet as NoneYet, Rest as AtRest}
 use Rattle.ltm_core.specs.declared.answers.Committed.{Committed}
@@ -34,6 +35,10 @@ pub record IsOpeningCore (s : ScenarioData) (d : CoreData) : Type 0 where
   pub running : d.stopped ≡ false
   pub rest : IsResting d
   pub none_out : IsNoneOut d
+
+-- the log and what is shown stay
+abbrev pub Keeps : CoreData → CoreData → Type 0
+Keeps old new = (new.log ≡ old.log) × (new.shown ≡ old.shown)
 
 -- all but the table stays
 abbrev pub KeepsAll : CoreData → CoreData → Type 0
@@ -98,6 +103,7 @@ pub record PublishesAll (old : CoreData) (version : ℕ) (new : CoreData) : Type
   pub rest : IsResting old
   pub shown : version_of new.shown ≡ version
   pub published : PublishHappened (repair_of old) (repair_of new)
+  pub cleared : count_cells (setting_of new.scenario) (repair_of new).changed ≡ 0
   pub keeps : new ≡ record old { table = new.table; shown = new.shown }
 
 abbrev pub TellsPublish : CoreData → Published → CoreData → Type 0

@@ -5,3 +5,4 @@ pub mod Cores
 pub mod CoreAnswers
 pub mod Taking
 pub mod Laws
+pub mod Runs

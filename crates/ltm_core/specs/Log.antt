@@ -1,6 +1,6 @@
 -- The log of a core: the scenario with which it began, each batch that it accepted, in order, and a mark after a batch at
 -- which a settle was counted.
-use Rattle.std.specs.Prelude.{◌≡◌, ℕ, ◌+◌, Bool, true, false, if◌then◌else◌, List, [], ◌∷◌, ◌++◌, length, map, take, Result, Ok, Err}
+use Rattle.std.specs.Prelude.{◌≡◌, ℕ, ◌+◌, ◌≤◌, Bool, true, false, if◌then◌else◌, List, [], ◌∷◌, ◌++◌, length, map, take, Result, Ok, Err}
 use Rattle.std.specs.List.{zip}
 use Rattle.ltm_scenario.specs.declared.edit.Edit.{Edit}
 use Rattle.ltm_scenario.specs.declared.edit.EditFault.{EditFault}
@@ -90,3 +90,20 @@ marked (batch ∷ next ∷ batches) = batch ∷ marked (next ∷ batches)
 -- the log as a settle count leaves it
 unfoldable pub with_mark : Log → Log
 with_mark log = record log { batches = marked log.batches }
+
+-- ---- what a list tells of its log, and what a batch and a mark leave
+pub record LogLaws : Type 0 where
+  -- equal lists are of equal logs
+  pub one : (a b : Log) → entries_of a ≡ entries_of b → a ≡ b
+  -- the list grows at its end: by a batch, and by a mark where none stands there
+  pub batch : (log : Log) (batch : List Edit) → entries_of (with_batch log batch) ≡ entries_of log ++ Accepted batch ∷ []
+  pub mark : (log : Log) → (rest : List LogEntry) × (entries_of (with_mark log) ≡ entries_of log ++ rest)
+  -- a batch is one more and settles nothing; after a mark all are settled
+  pub version_batch : (log : Log) (batch : List Edit) → version_now (with_batch log batch) ≡ version_now log + 1
+  pub version_mark : (log : Log) → version_now (with_mark log) ≡ version_now log
+  pub settled_batch : (log : Log) (batch : List Edit) → settled_of (with_batch log batch) ≡ settled_of log
+  pub settled_mark : (log : Log) → settled_of (with_mark log) ≡ version_now log
+  -- the last scenario is that after all batches; a batch leaves the earlier ones, and a mark leaves all
+  pub last : (log : Log) → scenario_at log (version_now log) ≡ scenario_now log
+  pub earlier : (log : Log) (batch : List Edit) (k : ℕ) → k ≤ version_now log → scenario_at (with_batch log batch) k ≡ scenario_at log k
+  pub marked_at : (log : Log) (k : ℕ) → scenario_at (with_mark log) k ≡ scenario_at log k

@@ -31,3 +31,11 @@ IsSettleCount log n = (loading : ℕ → Counts) → AreLoadingsSince log loadin
 unfoldable pub IsExactCount : Log → ℕ → Type 0
 IsExactCount log n = IsSettleCount log n × ((before now : Counts) × IsLoading (setting_at log (settled_of log)) before
     × IsLoading (setting_at log (version_now log)) now × (n ≡ differing (setting_at log (settled_of log)) (setting_at log (version_now log)) before now))
+
+-- with no batch since the last settle count a count is 0, and with one batch it is how many pairs differ
+pub record SettlesExactly (log : Log) (loading : ℕ → Counts) (n : ℕ) : Type 0 where
+  pub none : version_now log ≡ settled_of log → n ≡ 0
+  pub one : version_now log ≡ settled_of log + 1 → n ≡ difference log loading (settled_of log) (version_now log)
+
+abbrev pub SettleCountsAreExact : Type 0
+SettleCountsAreExact = (log : Log) (loading : ℕ → Counts) (n : ℕ) → AreLoadingsSince log loading → IsSettleCount log n → SettlesExactly log loading n

@@ -97,8 +97,9 @@ fn begin(alloc: Global, scenario: &Scenario) -> Result<Begun, NoMemory>
 }
 
 impl Core {
-    ghost use Rattle.ltm_core.specs.Cores.{IsCore, IsShownOf, IsResting, claims_of, repair_of};
+    ghost use Rattle.ltm_core.specs.Cores.{IsCore, IsShownOf, IsResting, IsNoneOut, claims_of, repair_of};
     ghost use Rattle.ltm_core.specs.CoreAnswers.{IsOpeningCore};
+    ghost use Rattle.ltm_core.specs.Runs.{HoldsOfCore};
 
     /// A core of a scenario, whose loading is worked out and shown: at rest, and no batch accepted. All memory for repairs
     /// is taken here.
@@ -131,6 +132,14 @@ impl Core {
             }
             Err(fault) => return Err((scenario, fault)),
         }
+    }
+
+    /// What holds of every core, at any time. Costs nothing when it runs.
+    pub fn holds(&self)
+        ensures { HoldsOfCore self.now }
+    {
+        repair_laws();
+        let _table = &self.table;
     }
 
     /// The buffers of one more worker.
@@ -180,7 +189,8 @@ impl Core {
 
     /// How many pairs are claimed.
     pub fn claimed(&self) -> u32
-        ensures { result ≡ claims_of self.now }
+        ensures count { result ≡ claims_of self.now }
+        ensures none { (result ≡ 0) ↔ IsNoneOut self.now }
     {
         self.table.claimed()
     }

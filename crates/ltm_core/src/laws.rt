@@ -1,9 +1,14 @@
-//! What holds of every core.
-ghost use Rattle.ltm_core.specs.Laws.{RepairLaws};
+//! What holds of every core, of its runs and of its log.
+ghost use Rattle.ltm_core.specs.Laws.{RepairLaws, RunLaws};
+ghost use Rattle.ltm_core.specs.Log.{LogLaws};
+ghost use Rattle.ltm_core.specs.Runs.{CallsAreEvents, HoldsOfRuns};
+ghost use Rattle.ltm_core.specs.Settling.{SettleCountsAreExact};
 
 use ltm_repair::{
-    answers_are_events, claims_are_undone, opening_is_repair, rest_is_loading, runs_keep_facts,
-    settle_tells,
+    answers_are_events, claims_are_undone, claims_balance, commits_are_bounded,
+    commits_are_differing, commits_are_useful, commits_differences, drains_are_exact, none_twice,
+    opening_is_repair, rest_is_loading, runs_keep_facts, runs_take_nothing_back, settle_tells,
+    shown_is_loading, work_is_bounded,
 };
 
 /// The laws of a repair by which a core keeps its facts.
@@ -13,7 +18,49 @@ pub(crate) fn repair_laws()
     opening_is_repair();
     runs_keep_facts();
     rest_is_loading();
+    shown_is_loading();
     answers_are_events();
     settle_tells();
     claims_are_undone();
 }
+
+/// The laws of a repair's runs.
+fn run_laws()
+    ensures { RunLaws }
+{
+    runs_take_nothing_back();
+    none_twice();
+    commits_are_useful();
+    drains_are_exact();
+    commits_differences();
+    commits_are_differing();
+    commits_are_bounded();
+    claims_balance();
+    work_is_bounded();
+}
+
+/// Whatever a call of a core answers, an event has happened.
+pub fn calls_are_events()
+    ensures { CallsAreEvents }
+{
+    answers_are_events();
+}
+
+/// What holds of every run of a core, whoever makes its events and in whatever order: the shown number never falls; between
+/// two batches no pair is committed twice, and no commit is in vain; from rest over one batch to rest exactly the pairs
+/// that read other numbers are committed; and the work is bounded.
+pub fn runs_of_cores()
+    ensures { HoldsOfRuns }
+{
+    run_laws();
+}
+
+/// The list that a core tells is that of one log, and grows at its end.
+pub fn logs_tell_all()
+    ensures { LogLaws }
+{}
+
+/// With no batch since the last settle count the next one is 0, and with one batch it is how many pairs differ.
+pub fn settle_counts_are_exact()
+    ensures { SettleCountsAreExact }
+{}

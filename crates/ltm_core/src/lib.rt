@@ -17,4 +17,5 @@ pub use answers::{Claimed, Committed, Published};
 pub use claim::{Claim, Done};
 pub use entry::LogEntry;
 pub use kept_core::Core;
+pub use laws::{calls_are_events, logs_tell_all, runs_of_cores, settle_counts_are_exact};
 pub use scratch::Scratch;

@@ -91,7 +91,8 @@ impl Core {
     /// Each amount is at most 1,000,000,000 units. All memory is taken first.
     pub fn accept(&mut self, batch: Batch) -> Result<(), (Batch, EditFault)>
         requires { HaveAmounts batch }
-        ensures { TellsAccept self.old batch result self.new }
+        ensures answer { TellsAccept self.old batch result self.new }
+        ensures shown { self.new.shown ≡ self.old.shown }
     {
         repair_laws();
         match reserve_entry(&mut self.batches, &mut self.marks) {

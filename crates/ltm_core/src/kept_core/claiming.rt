@@ -22,7 +22,7 @@ fn same_shape(a: NodeShape, b: NodeShape) -> bool
 impl Core {
     ghost use Rattle.ltm_repair.specs.Answers.{AnswersClaim};
     ghost use Rattle.ltm_core.specs.Cores.{repair_of};
-    ghost use Rattle.ltm_core.specs.CoreAnswers.{answer_in, KeepsClaim, KeepsAll, IsKeptClaim, CommitsDone, TellsCommit, TellsGiveBack};
+    ghost use Rattle.ltm_core.specs.CoreAnswers.{answer_in, KeepsClaim, KeepsAll, IsKeptClaim, Keeps, CommitsDone, TellsCommit, TellsGiveBack};
 
     /// Claims a pair of the front slot whose inputs differ from the kept ones. Settled pairs are dropped on the way; while
     /// claims are out, at their slot alone. Takes no memory.
@@ -30,6 +30,7 @@ impl Core {
         ensures answer { AnswersClaim (repair_of self.old) (answer_in result) (repair_of self.new) }
         ensures kept { KeepsClaim result self.new }
         ensures keeps { KeepsAll self.old self.new }
+        ensures stays { Keeps self.old self.new }
     {
         repair_laws();
         is_setting(&self.scenario);
@@ -81,7 +82,8 @@ impl Core {
     /// Sets the counts of a claimed pair to its step and keeps its inputs, where its claim is kept; exactly the readers of
     /// what changed become active. The pair may be any pair. Takes no memory.
     pub fn commit(&mut self, done: Done) -> Committed
-        ensures { TellsCommit self.old done result self.new }
+        ensures answer { TellsCommit self.old done result self.new }
+        ensures stays { Keeps self.old self.new }
     {
         let now = self.batches.len() as u64;
         if self.keeps(done.pair, done.ticket, done.solved.inputs()) {
@@ -108,7 +110,8 @@ impl Core {
 
     /// Gives a claim back: its pair is active again, where the claim is kept. Takes no memory.
     pub fn give_back(&mut self, claim: Claim) -> Scratch
-        ensures { TellsGiveBack self.old claim self.new }
+        ensures answer { TellsGiveBack self.old claim self.new }
+        ensures stays { Keeps self.old self.new }
     {
         self.free(&claim);
         claim.into_scratch()

@@ -21,7 +21,8 @@ impl Core {
 
     /// Shows the working counts, where no pair is active or claimed. The changed cells alone are copied. Takes no memory.
     pub fn publish(&mut self) -> Published
-        ensures { TellsPublish self.old result self.new }
+        ensures answer { TellsPublish self.old result self.new }
+        ensures log { self.new.log ≡ self.old.log }
     {
         repair_laws();
         is_setting(&self.scenario);
@@ -42,7 +43,8 @@ impl Core {
     /// The commits since the last count, where no pair is active or claimed and all batches are shown; a mark is then put
     /// after the last batch, and the count begins again. Takes no memory.
     pub fn settle_count(&mut self) -> Option<u128>
-        ensures { TellsSettle self.old result self.new }
+        ensures answer { TellsSettle self.old result self.new }
+        ensures shown { self.new.shown ≡ self.old.shown }
     {
         repair_laws();
         let version = self.batches.len() as u64;

@@ -8,7 +8,7 @@ pub claim-requires-clause-ready : goal.claim-requires-clause-ready
 claim-requires-clause-ready c = c.self.invariant.0.ready
 
 pub invariant_of-self : goal.invariant_of-self
-invariant_of-self c = 
+invariant_of-self c =
     let at : c.len-ticket.result ≡ version_now (log_of c.self.inside.opening c.self.inside.batches.items c.self.inside.marks.items) =
     omega (c.len-ticket.ensures, c.self.inside.batches.ok.0, kept_version c.self.inside.opening c.self.inside.batches.items c.self.inside.marks.items c.self.invariant.1, arith) in
     (core_after_claim c.repair_laws.ensures _ c.claim.new.self _ c.self.invariant.0 c.claim.ensures.ready c.claim.ensures.changed (c.in-Work.ensures.answer c.len-ticket.result) at, c.self.invariant.1)

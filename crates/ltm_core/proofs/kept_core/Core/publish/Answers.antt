@@ -13,8 +13,8 @@ use Rattle.ltm_core.proofs.kept_core.Core.publish.Goals as goal
 pub is_at_rest-requires : goal.is_at_rest-requires
 is_at_rest-requires c = c.self.invariant.0.ready
 
-pub returns-then-not-is_at_rest : goal.returns-then-not-is_at_rest
-returns-then-not-is_at_rest c = (not_resting_at _ _ c.is_at_rest.result c.self.view_is c.self.invariant.0 c.is_at_rest.ensures c.if-not-is_at_rest.true, refl)
+pub returns-then-not-is_at_rest-clause-answer : goal.returns-then-not-is_at_rest-clause-answer
+returns-then-not-is_at_rest-clause-answer c = (not_resting_at _ _ c.is_at_rest.result c.self.view_is c.self.invariant.0 c.is_at_rest.ensures c.if-not-is_at_rest.true, refl)
 
 pub refresh-requires-clause-fits : goal.refresh-requires-clause-fits
 refresh-requires-clause-fits c = core_fits _ c.self.invariant.0
@@ -49,6 +49,6 @@ invariant_of-self c = (
   c.self.invariant.1,
 )
 
-pub returns : goal.returns
-returns c =
+pub returns-clause-answer : goal.returns-clause-answer
+returns-clause-answer c =
     core_publishes_at _ _ c.clear_changed.new.self c.refresh.new.self c.len-version.result c.self.view_is (version_is c) c.self.invariant.0 (c.is_at_rest.ensures.0 c.if-not-is_at_rest.false) (shown_table c)

@@ -1,0 +1,126 @@
+-- What holds of every run of a core.
+use Rattle.std.proofs.Common.{◌≡◌, ℕ, ◌+◌, ◌*◌, ◌<◌, ◌≤◌, List, [], ◌∷◌, inl, inr, refl, ap, sym, subst, ◌∙◌, arith}
+use Rattle.std.specs.Prelude.{Option, Some, None, Result, Ok, Err, ◌⊎◌}
+use Rattle.ltm_curve.specs.Counts.{Counts}
+use Rattle.ltm_curve.specs.Table.{counts_of}
+use Rattle.ltm_scenario.specs.declared.edit.Edit.{Edit}
+use Rattle.ltm_scenario.specs.declared.edit.EditFault.{EditFault}
+use Rattle.ltm_loading.specs.Setting.{Setting}
+use Rattle.ltm_loading.specs.Loading.{IsLoading}
+use Rattle.ltm_setting.specs.Setting.{setting_of}
+use Rattle.ltm_flows.specs.Shown.{version_of, curves_of}
+use Rattle.ltm_repair.specs.State.{RepairState, now}
+use Rattle.ltm_repair.specs.Repair.{IsRepair}
+use Rattle.ltm_repair.specs.Desk.{IsAtRest}
+use Rattle.ltm_repair.specs.Events.{CoreEvent, GiveBack, Accept, Stay, Happens, Accepted}
+use Rattle.ltm_repair.specs.Runs.{CoreRun, AcceptsNothing}
+use Rattle.ltm_repair.specs.Kept.{RunsTakeNothingBack, RestIsLoading, ShownIsLoading}
+use Rattle.ltm_repair.specs.Work.{RepairsOneBatch}
+use Rattle.ltm_repair.specs.Making.{AnswersAreEvents}
+use Rattle.ltm_core.specs.declared.answers.Committed.{Committed}
+use Rattle.ltm_core.specs.declared.answers.Committed.TheVariants.{Ok as Done, Stale}
+use Rattle.ltm_core.specs.declared.answers.Published.{Published}
+use Rattle.ltm_core.specs.declared.answers.Published.TheVariants.{Done as Shown, NotAtRest}
+use Rattle.ltm_core.specs.Claims.{ClaimData, DoneData}
+use Rattle.ltm_core.specs.Log.{version_now}
+use Rattle.ltm_core.specs.Settling.{setting_at}
+use Rattle.ltm_core.specs.Laws.{RunLaws}
+use Rattle.ltm_core.specs.Cores.{CoreData, repair_of, IsResting, claims_of, left_of, undone_of, IsCore}
+use Rattle.ltm_core.specs.CoreAnswers.{TellsCommit, TellsGiveBack, TellsAccept, TellsPublish, TellsSettle}
+use Rattle.ltm_core.specs.Runs.{Does, IsRun, CallsAreEvents, commit_event, accept_event, publish_event, settle_event, setting_in, RepairsBatch, WorksOn, HoldsOfRuns, HoldsOfCore}
+use Rattle.ltm_core.proofs.Cores.{core_now}
+use Rattle.ltm_core.proofs.Claimings.{claim_kept_or_not}
+
+-- ---- calls are events
+commit_happens : (d e : CoreData) (done : DoneData) (answer : Committed) → TellsCommit d done answer e → Does d (commit_event done answer) e
+commit_happens d e done (Done scratch) h = (done.solved.inputs.row, _, h.1.commits)
+commit_happens d e done (Stale claimed_at now scratch) h = ap repair_of h.3
+
+give_back_happens : (d e : CoreData) (claim : ClaimData) → TellsGiveBack d claim e → Does d (GiveBack claim.pair.node.0 claim.pair.slot) e ⊎ Does d Stay e
+give_back_happens d e claim h = elim (claim_kept_or_not d claim.pair claim.ticket claim.inputs) [ inl kept ↦ inl (h.kept kept) | inr gone ↦ inr (ap repair_of (h.stale gone)) ]
+
+accept_happens : (d e : CoreData) (batch : List Edit) (answer : Result (Unit {0}) (List Edit × EditFault)) → TellsAccept d batch answer e → Does d (accept_event answer) e
+accept_happens d e batch (Ok taken) h = (_, h.accepted)
+accept_happens d e batch (Err refused) h = ap repair_of h.1
+
+publish_happens : (d e : CoreData) (answer : Published) → TellsPublish d answer e → Does d (publish_event answer) e
+publish_happens d e (Shown version) h = h.published
+publish_happens d e NotAtRest h = ap repair_of h.1
+
+settle_happens : (d e : CoreData) (answer : Option ℕ) → TellsSettle d answer e → Does d (settle_event answer) e
+settle_happens d e (Some n) h = h.settled
+settle_happens d e None h = ap repair_of h.1
+
+pub calls_are_events : AnswersAreEvents → CallsAreEvents
+calls_are_events law = record {
+  claim = λ d e answer h. law.claim (repair_of d) (repair_of e) _ h;
+  commit = commit_happens;
+  give_back = give_back_happens;
+  accept = accept_happens;
+  publish = publish_happens;
+  settle = settle_happens;
+}
+
+-- ---- runs
+run_of : (d e : CoreData) (events : List CoreEvent) → IsRun d events e → CoreRun (repair_of d) events (repair_of e)
+run_of d e [] same = ap repair_of same
+run_of d e (x ∷ xs) (m, first, rest) = (repair_of m, first, run_of m e xs rest)
+
+loads : (d : CoreData) (c : Counts) → IsLoading (setting_in d) c → IsLoading (now (repair_of d)) c
+unfolding repair_of
+loads d c loading = loading
+
+rests : (d : CoreData) → IsResting d → IsAtRest (now (repair_of d)) (repair_of d).desk
+unfolding IsResting
+rests d rest = rest
+
+one_batch : (d m e : CoreData) (events : List CoreEvent) (h : RepairsBatch d m e events) → RepairsOneBatch (repair_of d) (repair_of m) (repair_of e) h.batch.0 events
+one_batch d m e events h = record {
+  repair = h.core.repair;
+  rest = rests d h.rest;
+  batch = h.batch.1;
+  run = run_of m e events h.run;
+  no_other = h.no_other;
+  rest_again = rests e h.rest_again;
+}
+
+shown_numbers : (law : RunLaws) (d e : CoreData) (events : List CoreEvent) → IsCore d → IsRun d events e → version_of d.shown ≤ version_of e.shown
+unfolding repair_of
+shown_numbers law d e events is run = (law.nothing_back (repair_of d) (repair_of e) events is.repair (run_of d e events run)).shown
+
+accepted_numbers : (law : RunLaws) (d e : CoreData) (events : List CoreEvent) → IsCore d → IsRun d events e → version_now d.log ≤ version_now e.log
+unfolding repair_of
+accepted_numbers law d e events is run = (law.nothing_back (repair_of d) (repair_of e) events is.repair (run_of d e events run)).accepted
+
+pub runs_hold : RunLaws → HoldsOfRuns
+unfolding left_of undone_of claims_of repair_of
+runs_hold law = record {
+  shown = shown_numbers law;
+  accepted = accepted_numbers law;
+  none_twice = λ d e events h u t. law.none_twice (repair_of d) (repair_of e) events h.core.repair (run_of d e events h.run) h.no_batch u t;
+  useful = λ d e events c h loading. law.useful (repair_of d) (repair_of e) events c h.core.repair (run_of d e events h.run) h.no_batch (loads d c loading);
+  drained = λ d e events c h rest loading. law.drained (repair_of d) (repair_of e) events c h.core.repair (run_of d e events h.run) h.no_batch (rests e rest) (loads d c loading);
+  differences = λ d m e events a b h one two u t x l.
+      law.differences (repair_of d) (repair_of m) (repair_of e) h.batch.0 events a b (one_batch d m e events h) (loads d a one) (loads m b two) u t x l;
+  differing = λ d m e events a b h one two. law.differing (repair_of d) (repair_of m) (repair_of e) h.batch.0 events a b (one_batch d m e events h) (loads d a one) (loads m b two);
+  bounded = λ d e events h. law.bounded (repair_of d) (repair_of e) events h.core.repair (run_of d e events h.run) h.no_batch;
+  balance = λ d e events h. law.balance (repair_of d) (repair_of e) events h.core.repair (run_of d e events h.run) h.no_batch;
+  schedule = λ d e events h none. law.schedule (repair_of d) (repair_of e) events h.core.repair none (run_of d e events h.run) h.no_batch;
+}
+
+-- ---- every core
+shows_all : ShownIsLoading → (d : CoreData) → IsCore d → version_of d.shown ≡ version_now d.log → IsResting d × IsLoading (now (repair_of d)) (counts_of (curves_of d.shown))
+unfolding repair_of IsResting
+shows_all law d is at = let both = (law (repair_of d) is.repair).up_to_date at in (both.1, both.0)
+
+pub core_holds : RestIsLoading → ShownIsLoading → (d : CoreData) → IsCore d → HoldsOfCore d
+core_holds rest shown d is = record {
+  core = is;
+  rest = λ r. subst (λ (s : Setting). IsLoading s (repair_of d).desk.counts) (core_now d is) (rest (repair_of d) is.repair (rests d r));
+  up_to_date = λ at.
+      let both = shows_all shown d is at in
+      (both.0, subst (λ (s : Setting). IsLoading s (counts_of (curves_of d.shown))) (core_now d is) both.1);
+}
+
+pub core_holds_at : RestIsLoading → ShownIsLoading → (d v : CoreData) → d ≡ v → IsCore d → HoldsOfCore v
+core_holds_at rest shown d v same is = subst HoldsOfCore same (core_holds rest shown d is)

@@ -1,0 +1,5 @@
+use Rattle.ltm_core.proofs.Running.{core_holds_at}
+use Rattle.ltm_core.proofs.kept_core.Core.holds.Goals as goal
+
+pub returns : goal.returns
+returns c = core_holds_at c.repair_laws.ensures.rest c.repair_laws.ensures.shown _ _ c.self.view_is c.self.invariant.0
