@@ -6,12 +6,17 @@ use Rattle.ltm_curve.specs.Table.{counts_of}
 use Rattle.ltm_scenario.specs.declared.edit.Edit.{Edit}
 use Rattle.ltm_scenario.specs.declared.edit.EditFault.{EditFault}
 use Rattle.ltm_loading.specs.Setting.{Setting}
+use Rattle.ltm_loading.specs.Pairs.{pair_row}
 use Rattle.ltm_loading.specs.Loading.{IsLoading}
+use Rattle.ltm_loading.specs.Differing.{sum_pairs, unlike, row_of, differing as how_many_differ}
+use Rattle.ltm_loading.proofs.PairSums.{le-sum_pairs, sum_pairs-same}
+use Rattle.ltm_loading.proofs.Unlike.{unlike_cases}
 use Rattle.ltm_setting.specs.Setting.{setting_of}
 use Rattle.ltm_flows.specs.Shown.{version_of, curves_of}
 use Rattle.ltm_repair.specs.State.{RepairState, now}
 use Rattle.ltm_repair.specs.Repair.{IsRepair}
-use Rattle.ltm_repair.specs.Desk.{IsAtRest}
+use Rattle.ltm_repair.specs.Desk.{Desk, IsAtRest}
+use Rattle.ltm_repair.specs.Counting.{left_to_do, strayed}
 use Rattle.ltm_repair.specs.Events.{CoreEvent, GiveBack, Accept, Stay, Happens, Accepted}
 use Rattle.ltm_repair.specs.Runs.{CoreRun, AcceptsNothing}
 use Rattle.ltm_repair.specs.Kept.{RunsTakeNothingBack, RestIsLoading, ShownIsLoading}
@@ -22,10 +27,10 @@ use Rattle.ltm_core.specs.declared.answers.Committed.TheVariants.{Ok as Done, St
 use Rattle.ltm_core.specs.declared.answers.Published.{Published}
 use Rattle.ltm_core.specs.declared.answers.Published.TheVariants.{Done as Shown, NotAtRest}
 use Rattle.ltm_core.specs.Claims.{ClaimData, DoneData}
-use Rattle.ltm_core.specs.Log.{version_now}
+use Rattle.ltm_core.specs.Log.{version_now, settled_of}
 use Rattle.ltm_core.specs.Settling.{setting_at}
 use Rattle.ltm_core.specs.Laws.{RunLaws}
-use Rattle.ltm_core.specs.Cores.{CoreData, repair_of, IsResting, claims_of, left_of, undone_of, IsCore}
+use Rattle.ltm_core.specs.Cores.{CoreData, desk_in, repair_of, IsResting, claims_of, left_of, undone_of, IsCore}
 use Rattle.ltm_core.specs.CoreAnswers.{TellsCommit, TellsGiveBack, TellsAccept, TellsPublish, TellsSettle}
 use Rattle.ltm_core.specs.Runs.{Does, IsRun, CallsAreEvents, commit_event, accept_event, publish_event, settle_event, setting_in, RepairsBatch, WorksOn, HoldsOfRuns, HoldsOfCore}
 use Rattle.ltm_core.proofs.Cores.{core_now}
@@ -109,9 +114,35 @@ runs_hold law = record {
 }
 
 -- ---- every core
+settled_low : (d : CoreData) → IsCore d → settled_of d.log ≤ version_now d.log
+unfolding repair_of
+settled_low d is = let a = is.repair.shows.settled_first in let b = is.repair.shows.accepted_last in omega (a, b, arith)
+
 shows_all : ShownIsLoading → (d : CoreData) → IsCore d → version_of d.shown ≡ version_now d.log → IsResting d × IsLoading (now (repair_of d)) (counts_of (curves_of d.shown))
 unfolding repair_of IsResting
 shows_all law d is at = let both = (law (repair_of d) is.repair).up_to_date at in (both.1, both.0)
+
+-- where nothing has strayed from an earlier loading, what is left to do is what differs from it
+left_is_difference : (s q : Setting) (d : Desk) (before after : Counts) → q.nodes ≡ s.nodes → strayed s.slots q before d ≡ 0 → left_to_do s after d ≡ how_many_differ q s before after
+unfolding strayed left_to_do how_many_differ
+left_is_difference s q d before after same none =
+    let F : ℕ → ℕ → ℕ = λ u t. unlike (d.kept u t) (row_of q before u t) in
+    sum_pairs-same s.nodes s.slots (λ u t. unlike (d.kept u t) (Some (pair_row s after u t))) (λ u t. unlike (row_of q before u t) (Some (pair_row s after u t)))
+    (λ u t x l.
+        let low : F u t ≤ sum_pairs q.nodes s.slots F = le-sum_pairs q.nodes s.slots F u t (omega (same, x, arith)) l in
+        let zero : F u t ≡ 0 = omega (none, low, arith) in
+        elim (unlike_cases (d.kept u t) (row_of q before u t)) [
+          | inl kept ↦ ap (λ o. unlike o (Some (pair_row s after u t))) kept.0
+          | inr other ↦ absurd (let one : F u t ≡ 1 = other.1 in omega arith)
+        ])
+
+left_since : (d : CoreData) → IsCore d → d.commits ≡ 0 → (before after : Counts) → IsLoading (setting_at d.log (settled_of d.log)) before → IsLoading (setting_in d) after →
+    left_of d after ≡ how_many_differ (setting_at d.log (settled_of d.log)) (setting_in d) before after
+unfolding left_of repair_of
+left_since d is none before after one two =
+    let low : settled_of d.log ≤ version_now d.log = settled_low d is in
+    let most : strayed (setting_in d).slots (setting_at d.log (settled_of d.log)) before (desk_in d) ≤ d.commits = is.repair.count.covers before one in
+    left_is_difference (setting_in d) (setting_at d.log (settled_of d.log)) (desk_in d) before after (is.repair.history.network (settled_of d.log) low).nodes (omega arith)
 
 pub core_holds : RestIsLoading → ShownIsLoading → (d : CoreData) → IsCore d → HoldsOfCore d
 core_holds rest shown d is = record {
@@ -120,6 +151,7 @@ core_holds rest shown d is = record {
   up_to_date = λ at.
       let both = shows_all shown d is at in
       (both.0, subst (λ (s : Setting). IsLoading s (counts_of (curves_of d.shown))) (core_now d is) both.1);
+  uncounted = left_since d is;
 }
 
 pub core_holds_at : RestIsLoading → ShownIsLoading → (d v : CoreData) → d ≡ v → IsCore d → HoldsOfCore v

@@ -20,7 +20,7 @@ use Rattle.ltm_core.specs.declared.answers.Committed.TheVariants.{Ok as Done, St
 use Rattle.ltm_core.specs.declared.answers.Published.{Published}
 use Rattle.ltm_core.specs.declared.answers.Published.TheVariants.{Done as Shown, NotAtRest}
 use Rattle.ltm_core.specs.Claims.{ClaimData, DoneData}
-use Rattle.ltm_core.specs.Log.{version_now}
+use Rattle.ltm_core.specs.Log.{version_now, settled_of}
 use Rattle.ltm_core.specs.Settling.{setting_at}
 use Rattle.ltm_core.specs.Cores.{CoreData, repair_of, IsResting, claims_of, left_of, undone_of, IsCore}
 use Rattle.ltm_core.specs.CoreAnswers.{answer_in, TellsCommit, TellsGiveBack, TellsAccept, TellsPublish, TellsSettle}
@@ -105,3 +105,7 @@ pub record HoldsOfCore (d : CoreData) : Type 0 where
   pub rest : IsResting d → IsLoading (setting_of d.scenario) (repair_of d).desk.counts
   -- where all batches are shown, the core rests, and what is shown is the loading of the scenario as it is now
   pub up_to_date : version_of d.shown ≡ version_now d.log → IsResting d × IsLoading (setting_of d.scenario) (counts_of (curves_of d.shown))
+  -- where no commit was made since the last settle count, the pairs with other inputs than the loading are those by which
+  -- it differs from the loading of the last settle count
+  pub uncounted : d.commits ≡ 0 → (before after : Counts) → IsLoading (setting_at d.log (settled_of d.log)) before → IsLoading (setting_in d) after →
+      left_of d after ≡ how_many_differ (setting_at d.log (settled_of d.log)) (setting_in d) before after

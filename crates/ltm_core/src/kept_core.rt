@@ -98,7 +98,7 @@ fn begin(alloc: Global, scenario: &Scenario) -> Result<Begun, NoMemory>
 
 impl Core {
     ghost use Rattle.ltm_core.specs.Cores.{IsCore, IsShownOf, IsResting, IsNoneOut, claims_of, repair_of};
-    ghost use Rattle.ltm_core.specs.CoreAnswers.{IsOpeningCore};
+    ghost use Rattle.ltm_core.specs.CoreAnswers.{IsOpeningCore, Keeps};
     ghost use Rattle.ltm_core.specs.Runs.{HoldsOfCore};
 
     /// A core of a scenario, whose loading is worked out and shown: at rest, and no batch accepted. All memory for repairs
@@ -211,7 +211,8 @@ impl Core {
 
     /// Tells workers to end.
     pub fn stop(&mut self)
-        ensures { self.new ≡ record self.old { stopped = true } }
+        ensures only { self.new ≡ record self.old { stopped = true } }
+        ensures stays { Keeps self.old self.new }
     {
         self.stopped = true;
     }
