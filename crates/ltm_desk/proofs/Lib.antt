@@ -1,0 +1,10 @@
+pub mod Bools
+pub mod RowPlaces
+pub mod Startings
+pub mod Activating
+pub mod Noting
+pub mod Placings
+pub mod Listing
+pub mod Windows
+pub mod Wakings
+pub mod Reading
