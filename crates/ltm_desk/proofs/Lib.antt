@@ -8,3 +8,8 @@ pub mod Listing
 pub mod Windows
 pub mod Wakings
 pub mod Reading
+pub mod Desks
+pub mod Standing
+pub mod Dropping
+pub mod Taking
+pub mod Searches

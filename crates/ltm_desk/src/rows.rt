@@ -101,7 +101,7 @@ impl KeptRows {
     }
 
     /// The row of a pair.
-    #[tactic(auto, unfolding(crate::specs::Kept::row_of))]
+    #[tactic(auto, unfolding(crate::specs::Rows::row_of))]
     pub fn row(&self, node: usize, slot: usize) -> &[u64]
         requires node { node < nodes_of self.now }
         requires slot { slot < slots_of self.now }
