@@ -3,13 +3,16 @@ use Rattle.std.proofs.Common.{◌≡◌, ◌≢◌, ℕ, ◌+◌, ◌<◌, ◌�
 use Rattle.std.proofs.Math.Path.{fun_ext}
 use Rattle.std.specs.Prelude.{Option, Some, None}
 use Rattle.std.proofs.lemmas.Bool.{cases_lt, cases_Bool, lt-ltb, le-ltb}
+use Rattle.ltm_curve.specs.declared.changed.Changed.{Changed}
+use Rattle.ltm_curve.specs.Cells.{is_changed}
 use Rattle.ltm_loading.specs.Setting.{Setting}
 use Rattle.ltm_frontier.specs.Frontier.{is_active, is_claimed}
 use Rattle.ltm_repair.specs.Desk.{Desk, IsIdle}
 use Rattle.ltm_desk.specs.declared.table.Table.{Table}
 use Rattle.ltm_desk.specs.Rows.{row_of}
-use Rattle.ltm_desk.specs.Pairs.{of_pairs}
-use Rattle.ltm_desk.specs.Desks.{claim_of, desk_at}
+use Rattle.ltm_desk.specs.Pairs.{of_pairs, of_cells}
+use Rattle.ltm_desk.specs.Desks.{claim_of, desk_at, changed_at}
+use Rattle.ltm_desk.specs.Dropping.{SameWorkAs}
 
 pub of_pair : {A : Type 0} (s : Setting) (none : A) (f : ℕ → ℕ → A) (u t : ℕ) → u < s.nodes → t < s.slots → of_pairs s none f u t ≡ f u t
 of_pair s none f u t x l = rw (lt-ltb u s.nodes x, lt-ltb t s.slots l) refl
@@ -120,3 +123,12 @@ same_desk s a b curves kept active claims =
     let A : of_pairs s false (is_active b.frontier) ≡ of_pairs s false (is_active a.frontier) = same_pairs s false (is_active b.frontier) (is_active a.frontier) active in
     let C : of_pairs s None (claim_of b) ≡ of_pairs s None (claim_of a) = same_pairs s None (claim_of b) (claim_of a) claims in
     rw (curves, kept, A, C) refl
+
+-- ---- cells
+pub changed_same : (s : Setting) (a b : Table) → b.changed ≡ a.changed → changed_at s b ≡ changed_at s a
+unfolding changed_at
+changed_same s a b e = ap (λ (z : Changed). of_cells s (is_changed z)) e
+
+-- what stays where only active pairs and the index change
+pub changed_stays : (s : Setting) (a b : Table) → SameWorkAs a b → changed_at s b ≡ changed_at s a
+changed_stays s a b same = changed_same s a b (ap (λ (z : Table). z.changed) same)

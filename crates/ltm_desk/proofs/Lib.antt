@@ -13,3 +13,6 @@ pub mod Standing
 pub mod Dropping
 pub mod Taking
 pub mod Searches
+pub mod Fronts
+pub mod Counting
+pub mod Giving

@@ -1,9 +1,9 @@
-use Rattle.std.proofs.Common.{◌≡◌, ℕ, ◌<◌, List, ap, sym, ◌∙◌, arith, subst}
+use Rattle.std.proofs.Common.{◌≡◌, ℕ, ◌<◌, List, ap, refl, sym, ◌∙◌, arith, subst}
 use Rattle.ltm_node.specs.Shape.{width}
 use Rattle.ltm_node.specs.declared.shape.NodeShape.{NodeShape}
 use Rattle.ltm_setting.specs.Setting.{setting_of}
 use Rattle.ltm_desk.specs.Rows.{PutsRow}
-use Rattle.ltm_desk.proofs.Desks.{active_is}
+use Rattle.ltm_desk.proofs.Desks.{active_is, changed_same}
 use Rattle.ltm_desk.proofs.Taking.{one_claimed, takes_desk, takes_ready}
 use Rattle.ltm_desk.proofs.table.Table.take.Goals as goal
 
@@ -32,3 +32,6 @@ returns-clause-takes c =
     let puts : PutsRow c.args.self.now.claims c.put.new.self c.args.pair.node.0 0 c.args.inputs.now.row = subst (λ (z : List ℕ). PutsRow c.args.self.now.claims c.put.new.self c.args.pair.node.0 0 z) c.row.ensures.row c.put.ensures in
     takes_desk s c.args.self.now c.args.pair.node.0 c.args.pair.slot c.args.inputs.now c.claim_mark.new.self c.put.new.self c.requires.ready c.requires.slot c.requires.idle c.requires.work
     (one_claimed s c.args.self.now c.args.pair.slot c.requires.ready c.requires.one_slot) c.claim_mark.ensures puts
+
+pub returns-clause-changed : goal.returns-clause-changed
+returns-clause-changed c = changed_same (setting_of c.args.scenario.now) c.args.self.now _ refl
