@@ -16,3 +16,4 @@ pub mod Searches
 pub mod Fronts
 pub mod Counting
 pub mod Giving
+pub mod Committing

@@ -22,9 +22,9 @@ use crate::wake::wake;
 use ltm_curve::{Changed, Curves};
 use ltm_flows::{apply, cold};
 use ltm_frontier::Frontier;
-use ltm_loading::{inputs_by_place, outputs_small};
-use ltm_node::{NodeInputs, Solved};
-use ltm_pairs::ReadIndex;
+use ltm_loading::{counts_by_place, inputs_by_place, outputs_small};
+use ltm_node::{NodeInputs, Solved, no_arrivals, same_shape};
+use ltm_pairs::{ReadIndex, readers_wake};
 use ltm_scenario::{Edit, Scenario};
 use ltm_setting::{is_setting, link_count, node_count, slot_count};
 use ltm_units::{NoMemory, Pair};
@@ -32,6 +32,13 @@ use std::alloc::Global;
 
 /// The greatest count of numbers that the inputs of a pair are: room for them serves every claim.
 pub const WIDEST: u32 = 1162;
+
+/// Whether two rows are equal.
+fn same_row(a: &[u64], b: &[u64]) -> bool
+    ensures { IsTrue result ↔ a.now ≡ b.now }
+{
+    a == b
+}
 
 /// What a repair works on: the counts, the inputs that are kept of each pair, the active and the claimed pairs with the
 /// inputs of the claims, for each link and boundary the slots that read there, and the cells that commits have changed.
@@ -126,7 +133,10 @@ impl Table {
         requires { IsReady (setting_of scenario.now) self.now }
         ensures { IsTrue result ↔ IsAtRest (setting_of scenario.now) (desk_at (setting_of scenario.now) self.now) }
     {
-        self.frontier.front().is_none()
+        match self.frontier.front() {
+            None => return true,
+            Some(_) => return false,
+        }
     }
 
     /// Whether the pair is claimed with these inputs. It may be any pair.
@@ -134,13 +144,16 @@ impl Table {
         requires { IsReady (setting_of scenario.now) self.now }
         ensures { IsTrue result ↔ ((desk_at (setting_of scenario.now) self.now).claimed pair.node.0 pair.slot ≡ Some row.now) }
     {
-        if pair.node.0 >= node_count(scenario) || pair.slot >= slot_count(scenario) {
+        if pair.node.0 >= node_count(scenario) {
+            return false;
+        }
+        if pair.slot >= slot_count(scenario) {
             return false;
         }
         if !self.frontier.is_claimed(pair) {
             return false;
         }
-        self.claims.row(pair.node.0 as usize, 0) == row
+        same_row(self.claims.row(pair.node.0 as usize, 0), row)
     }
 
     /// Makes a claimed pair active again.
@@ -171,7 +184,12 @@ impl Table {
     {
         is_setting(scenario);
         inputs_by_place();
+        counts_by_place();
         outputs_small();
+        same_shape();
+        no_arrivals();
+        readers_wake();
+        let _slots = slot_count(scenario);
         let outputs = solved.outputs();
         place_pair(scenario, &self.curves, pair, &mut self.index);
         wake(
