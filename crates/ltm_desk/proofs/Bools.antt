@@ -1,6 +1,6 @@
 -- Tests, and tests of which one passes.
-use Rattle.std.proofs.Common.{◌≡◌, ◌≢◌, ℕ, zero, suc, ◌+◌, ◌<◌, ◌≤◌, ◌==◌, ◌&&◌, ◌||◌, not, nat_le, nat_lt, Bool, true, false, arith, inl, inr, ◌⊎◌, refl, ap, sym, ◌∙◌, subst, add-one}
-use Rattle.std.proofs.lemmas.Bool.{cases_lt, cases_eq, cases_Bool, eqb-true, eq-eqb, ne_eqb}
+use Rattle.std.proofs.Common.{◌≡◌, ◌≢◌, ℕ, zero, suc, ◌+◌, ◌<◌, ◌==◌, ◌&&◌, ◌||◌, not, Bool, true, false, arith, inl, inr, ◌⊎◌, refl, ap, sym, ◌∙◌, subst, add-one}
+use Rattle.std.proofs.lemmas.Bool.{cases_lt, cases_eq, cases_Bool, eq-eqb, ne_eqb}
 use Rattle.ltm_pairs.specs.Changes.{some_below}
 
 pub or_false : (a : Bool) → (a || false) ≡ a

@@ -1,6 +1,6 @@
 -- A claimed pair is committed.
-use Rattle.std.proofs.Common.{◌≡◌, ◌≢◌, ℕ, ◌+◌, ◌<◌, ◌≤◌, ◌==◌, ◌&&◌, ◌||◌, not, nat_le, nat_lt, List, Bool, true, false, refl, ap, sym, ◌∙◌, subst, arith, inl, inr, ◌⊎◌}
-use Rattle.std.specs.Prelude.{Option, Some, None}
+use Rattle.std.proofs.Common.{◌≡◌, ◌≢◌, ℕ, ◌+◌, ◌<◌, ◌≤◌, ◌==◌, ◌&&◌, ◌||◌, not, nat_lt, List, Bool, true, false, refl, ap, sym, ◌∙◌, subst, arith, inl, inr, ◌⊎◌}
+use Rattle.std.specs.Prelude.{Some, None}
 use Rattle.std.proofs.lemmas.Bool.{cases_lt, cases_eq, cases_Bool, eqb-true, eq-eqb, ne_eqb, lt-ltb, le-ltb, le-leb, lt-leb}
 use Rattle.ltm_curve.specs.Counts.{Counts}
 use Rattle.ltm_curve.specs.Table.{counts_of}
@@ -18,33 +18,31 @@ use Rattle.ltm_loading.specs.NextPair.{Applies, IsOf, IsPairInputs}
 use Rattle.ltm_loading.specs.ByPlace.{HoldsCounts, CountsByPlace}
 use Rattle.ltm_flows.specs.Shaped.{IsShaped}
 use Rattle.ltm_frontier.specs.declared.frontier.Frontier.{Frontier}
-use Rattle.ltm_frontier.specs.Frontier.{nodes_of as nodes_in, slots_of as slots_in, is_active, is_claimed, is_pair, Releases, Activates}
+use Rattle.ltm_frontier.specs.Frontier.{nodes_of as nodes_in, slots_of as slots_in, is_active, is_claimed, Releases, Activates}
 use Rattle.ltm_index.specs.declared.read_index.ReadIndex.{ReadIndex}
 use Rattle.ltm_repair.specs.Desk.{Desk, IsOther, IsIdle}
 use Rattle.ltm_repair.specs.Facts.{IsClaim}
 use Rattle.ltm_repair.specs.Moves.{Sets, WakesReaders, Commits}
-use Rattle.ltm_repair.specs.Index.{PlacesCommitted}
 use Rattle.ltm_repair.proofs.Making.{applied_sets}
 use Rattle.ltm_repair.proofs.KeepsCommit.{commit_keeps}
 use Rattle.ltm_repair.proofs.Index.{index_stays_current}
-use Rattle.ltm_repair.proofs.Cases.{cases_pair}
-use Rattle.ltm_pairs.specs.Changes.{some_below, differs_at}
+use Rattle.ltm_pairs.specs.Changes.{differs_at}
 use Rattle.ltm_pairs.specs.Readers.{reads_commit}
 use Rattle.ltm_pairs.specs.Waking.{ReadersWake, ReadersKeepPositions}
 use Rattle.ltm_desk.specs.declared.rows.KeptRows.{KeptRows}
 use Rattle.ltm_desk.specs.declared.table.Table.{Table}
 use Rattle.ltm_desk.specs.Rows.{row_of, PutsRow}
 use Rattle.ltm_desk.specs.Pairs.{of_pairs, of_cells}
-use Rattle.ltm_desk.specs.Desks.{claim_of, desk_at, place_of, changed_at}
+use Rattle.ltm_desk.specs.Desks.{desk_at, place_of, changed_at}
 use Rattle.ltm_desk.specs.Ready.{IsReady}
 use Rattle.ltm_desk.specs.Placing.{PlacesPair}
 use Rattle.ltm_desk.specs.Waking.{arm_differs, out_differs, sink_differs, is_cell, changes_arms, changes_outs, changes_sink, changes, PutsCells, wakes}
 use Rattle.ltm_desk.specs.Committing.{readers, rewritten}
-use Rattle.ltm_desk.proofs.Bools.{or_false, or_right, or_left, or_one, and_false, and_both, and_true, and_or, none_below, one_below, some_one, same_tests, do_not_differ, differ_is}
+use Rattle.ltm_desk.proofs.Bools.{or_right, or_left, or_one, and_false, and_both, and_true, none_below, one_below, some_one, same_tests, do_not_differ, differ_is}
 use Rattle.ltm_desk.proofs.Noting.{cells_stay}
 use Rattle.ltm_desk.proofs.Standing.{placed_here, other_places}
 use Rattle.ltm_desk.proofs.Reading.{SetsOutputs, ArePlaced, arm_is, out_is, sink_is, wakes_are_readers, early, early_reads}
-use Rattle.ltm_desk.proofs.Desks.{of_pair, past_pair, same_of_pairs, cases_pairs, active_is, claimed_is, kept_is, claim_same, claim_off, claimed_on, claimed_off, claimed_row, same_claim, idle_here}
+use Rattle.ltm_desk.proofs.Desks.{of_pair, past_pair, same_of_pairs, cases_pairs, claimed_is, claim_same, claim_off, claimed_row, same_claim, idle_here}
 use Rattle.ltm_desk.proofs.Dropping.{pair_test, other_test, and_not}
 use Rattle.ltm_desk.proofs.Taking.{rows_stay, one_slot}
 
@@ -228,8 +226,8 @@ active_readers s t u v n o x h m f c k w y is p q =
         | inr free ↦
             let idle : IsIdle (desk_at s t) w y = idle_here s t w y p q off free in
             let other : IsOther u v w y = λ a b.
-                let here : (desk_at s t).claimed w y ≡ Some n.row = subst (λ (z : ℕ). (desk_at s t).claimed z y ≡ Some n.row) a (subst (λ (z : ℕ). (desk_at s t).claimed u z ≡ Some n.row) b is.claimed) in
-                let none : (desk_at s t).claimed w y ≡ None = idle.1 in cc in
+            let here : (desk_at s t).claimed w y ≡ Some n.row = subst (λ (z : ℕ). (desk_at s t).claimed z y ≡ Some n.row) a (subst (λ (z : ℕ). (desk_at s t).claimed u z ≡ Some n.row) b is.claimed) in
+            let none : (desk_at s t).claimed w y ≡ None = idle.1 in cc in
             let placed : ArePlaced s old (place_of x) w y = λ i l. other_places s old t.index x u v w y is.setting is.ready.fits.index is.places claim.is_node p other i l ∙ is.ready.index w y p q idle i l in
             ap (λ z. is_active t.frontier w y || (W && not z)) free
             ∙ (ap (λ z. is_active t.frontier w y || z) (and_not_false W)

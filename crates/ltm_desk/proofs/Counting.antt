@@ -1,10 +1,10 @@
 -- How many pairs are claimed, and how many cells are changed.
-use Rattle.std.proofs.Common.{◌≡◌, ◌≢◌, ℕ, ◌+◌, ◌<◌, ◌≤◌, ◌==◌, ◌&&◌, Bool, true, false, if◌then◌else◌, refl, ap, sym, ◌∙◌, subst, arith, inl, inr}
-use Rattle.std.specs.Prelude.{Option, Some, None, is_some}
-use Rattle.std.proofs.lemmas.Bool.{cases_lt, cases_Bool, eq-eqb, ne_eqb, lt-ltb, le-leb}
+use Rattle.std.proofs.Common.{◌≡◌, ℕ, ◌+◌, ◌<◌, ◌==◌, ◌&&◌, Bool, true, false, if◌then◌else◌, refl, ap, sym, ◌∙◌, arith, inl, inr}
+use Rattle.std.specs.Prelude.{Some, None, is_some}
+use Rattle.std.proofs.lemmas.Bool.{cases_Bool, eq-eqb, ne_eqb, lt-ltb, le-leb}
 use Rattle.ltm_units.specs.Sums.{sum_below}
 use Rattle.ltm_units.proofs.Sums.{sum_below-same, sum_below-zero, sum_below-change, sum_below-positive, le-sum_below, SomeTerm}
-use Rattle.ltm_curve.specs.Cells.{cell_groups, cell_slots, is_changed, changed_count}
+use Rattle.ltm_curve.specs.Cells.{is_changed, changed_count}
 use Rattle.ltm_curve.specs.declared.changed.Changed.{Changed}
 use Rattle.ltm_loading.specs.Setting.{Setting}
 use Rattle.ltm_loading.specs.Groups.{groups}
@@ -12,14 +12,13 @@ use Rattle.ltm_marks.specs.Marks.{width_of, rows_of, is_marked}
 use Rattle.ltm_frontier.specs.Ones.{one_if}
 use Rattle.ltm_frontier.specs.Claims.{width, slot_in, has_node}
 use Rattle.ltm_frontier.specs.declared.frontier.Frontier.{Frontier}
-use Rattle.ltm_frontier.specs.Frontier.{nodes_of, slots_of, is_claimed, claims_of}
+use Rattle.ltm_frontier.specs.Frontier.{is_claimed, claims_of}
 use Rattle.ltm_repair.specs.Counting.{claims_out}
 use Rattle.ltm_repair.specs.Answers.{HasClaimAt, IsNoneClaimed}
 use Rattle.ltm_desk.specs.declared.table.Table.{Table}
 use Rattle.ltm_desk.specs.Rows.{row_of}
-use Rattle.ltm_desk.specs.Pairs.{of_cells}
 use Rattle.ltm_desk.specs.Cells.{count_cells}
-use Rattle.ltm_desk.specs.Desks.{claim_of, desk_at, changed_at}
+use Rattle.ltm_desk.specs.Desks.{desk_at, changed_at}
 use Rattle.ltm_desk.specs.Ready.{IsReady}
 use Rattle.ltm_desk.proofs.Bools.{and_both, and_true}
 use Rattle.ltm_desk.proofs.Desks.{claimed_is, claim_off, claimed_row}

@@ -1,13 +1,13 @@
 -- The desk of a table, pair by pair.
-use Rattle.std.proofs.Common.{◌≡◌, ◌≢◌, ℕ, ◌+◌, ◌<◌, ◌≤◌, ◌&&◌, List, Bool, true, false, if◌then◌else◌, refl, ap, sym, ◌∙◌, arith, inl, inr, ◌⊎◌}
+use Rattle.std.proofs.Common.{◌≡◌, ◌≢◌, ℕ, ◌<◌, ◌≤◌, List, true, false, if◌then◌else◌, refl, ap, sym, ◌∙◌, inl, inr, ◌⊎◌}
 use Rattle.std.proofs.Math.Path.{fun_ext}
-use Rattle.std.specs.Prelude.{Option, Some, None}
+use Rattle.std.specs.Prelude.{Some, None}
 use Rattle.std.proofs.lemmas.Bool.{cases_lt, cases_Bool, lt-ltb, le-ltb}
 use Rattle.ltm_curve.specs.declared.changed.Changed.{Changed}
 use Rattle.ltm_curve.specs.Cells.{is_changed}
 use Rattle.ltm_loading.specs.Setting.{Setting}
 use Rattle.ltm_frontier.specs.Frontier.{is_active, is_claimed}
-use Rattle.ltm_repair.specs.Desk.{Desk, IsIdle}
+use Rattle.ltm_repair.specs.Desk.{IsIdle}
 use Rattle.ltm_desk.specs.declared.table.Table.{Table}
 use Rattle.ltm_desk.specs.Rows.{row_of}
 use Rattle.ltm_desk.specs.Pairs.{of_pairs, of_cells}

@@ -1,25 +1,23 @@
 -- Settled pairs are dropped, and a pair is claimed.
-use Rattle.std.proofs.Common.{◌≡◌, ◌≢◌, ℕ, ◌+◌, ◌-◌, ◌*◌, min, ◌<◌, ◌≤◌, ◌&&◌, ◌==◌, not, List, Bool, true, false, refl, ap, sym, ◌∙◌, subst, arith, inl, inr, ◌⊎◌}
-use Rattle.std.specs.Prelude.{Option, Some, None}
+use Rattle.std.proofs.Common.{◌≡◌, ℕ, ◌+◌, ◌*◌, min, ◌<◌, ◌≤◌, ◌&&◌, ◌==◌, not, List, Bool, true, false, refl, ap, sym, ◌∙◌, subst, arith, inl, inr}
+use Rattle.std.specs.Prelude.{Some}
 use Rattle.std.proofs.Math.Nat.{mul-le-mul_right}
-use Rattle.std.proofs.lemmas.Bool.{cases_lt, cases_eq, cases_Bool, eq-eqb, ne_eqb}
-use Rattle.ltm_curve.specs.Counts.{Counts}
+use Rattle.std.proofs.lemmas.Bool.{cases_lt, cases_eq, eq-eqb, ne_eqb}
 use Rattle.ltm_curve.specs.Table.{counts_of}
 use Rattle.ltm_node.specs.Inputs.{Inputs}
 use Rattle.ltm_node.specs.Shape.{width}
 use Rattle.ltm_node.specs.Solvable.{IsSolvable}
 use Rattle.ltm_loading.specs.Setting.{Setting, IsSetting}
-use Rattle.ltm_loading.specs.Loading.{IsFront}
 use Rattle.ltm_loading.specs.Pairs.{shape_at, pair_row}
 use Rattle.ltm_loading.specs.NextPair.{IsPairInputs}
 use Rattle.ltm_index.specs.declared.read_index.ReadIndex.{ReadIndex}
 use Rattle.ltm_frontier.specs.declared.frontier.Frontier.{Frontier}
-use Rattle.ltm_frontier.specs.Frontier.{nodes_of as nodes_in, is_active, is_claimed, is_pair, IsNextActive, NoneActive as NoneIn, Deactivates}
+use Rattle.ltm_frontier.specs.Frontier.{nodes_of as nodes_in, is_active, is_pair, IsNextActive, NoneActive as NoneIn, Deactivates}
 use Rattle.ltm_repair.specs.Desk.{Desk, IsOther, IsSettled, IsIdleBefore}
-use Rattle.ltm_repair.specs.Moves.{DropsSettled, TakesClaim}
-use Rattle.ltm_repair.specs.Index.{IsPlaced, IndexIsCurrent}
+use Rattle.ltm_repair.specs.Moves.{DropsSettled}
+use Rattle.ltm_repair.specs.Index.{IsPlaced}
 use Rattle.ltm_repair.proofs.Cases.{cases_pair}
-use Rattle.ltm_repair.proofs.Keeps.{drop_keeps, drop_idle_before}
+use Rattle.ltm_repair.proofs.Keeps.{drop_keeps}
 use Rattle.ltm_repair.proofs.Fronts.{idle_front}
 use Rattle.ltm_repair.proofs.Index.{index_stays_current}
 use Rattle.ltm_sending.specs.Front.{IsAtFront}
@@ -69,8 +67,10 @@ drops_one s t u v f x ready node slot settled step =
     record {
       drops = record {
         each = λ w y. elim (cases_pair u v w y) [
-          | inl at ↦ inr (subst (λ (z : ℕ). (desk_at s new).active z y ≡ false) at.0 (subst (λ (z : ℕ). (desk_at s new).active u z ≡ false) at.1 off),
-                subst (λ (z : ℕ). IsSettled s (desk_at s t) z y) at.0 (subst (λ (z : ℕ). IsSettled s (desk_at s t) u z) at.1 settled))
+          | inl at ↦ inr (
+            subst (λ (z : ℕ). (desk_at s new).active z y ≡ false) at.0 (subst (λ (z : ℕ). (desk_at s new).active u z ≡ false) at.1 off),
+            subst (λ (z : ℕ). IsSettled s (desk_at s t) z y) at.0 (subst (λ (z : ℕ). IsSettled s (desk_at s t) u z) at.1 settled),
+          )
           | inr other ↦ inl (same w y other)
         ];
         claimed = same_claims s t new (λ w y p q. claim_same t new w y (step.claims.pairs w y) refl);

@@ -1,6 +1,5 @@
 -- The front of a table.
-use Rattle.std.proofs.Common.{◌≡◌, ℕ, ◌<◌, ◌≤◌, ◌||◌, Bool, true, false, refl, ap, sym, ◌∙◌, subst, arith, inl, inr}
-use Rattle.std.specs.Prelude.{Some, None}
+use Rattle.std.proofs.Common.{◌≡◌, ℕ, ◌<◌, ◌||◌, Bool, true, false, refl, sym, ◌∙◌, subst, arith, inl, inr}
 use Rattle.std.proofs.lemmas.Bool.{cases_lt}
 use Rattle.ltm_loading.specs.Setting.{Setting}
 use Rattle.ltm_frontier.specs.declared.frontier.Frontier.{Frontier}
@@ -10,10 +9,9 @@ use Rattle.ltm_repair.specs.Facts.{IsSound}
 use Rattle.ltm_repair.specs.Index.{IndexIsCurrent}
 use Rattle.ltm_repair.specs.Answers.{HasClaimAt}
 use Rattle.ltm_desk.specs.declared.table.Table.{Table}
-use Rattle.ltm_desk.specs.Rows.{row_of}
 use Rattle.ltm_desk.specs.Desks.{desk_at, place_of}
 use Rattle.ltm_desk.specs.Ready.{IsReady}
-use Rattle.ltm_desk.proofs.Desks.{active_is, claimed_off, claimed_row, claimed_on, claim_same, same_desk, idle_here}
+use Rattle.ltm_desk.proofs.Desks.{active_is, claimed_off, claim_same, same_desk, idle_here}
 use Rattle.ltm_desk.proofs.Taking.{front_of_claims}
 
 -- the same pairs are the same desk

@@ -1,20 +1,20 @@
 -- A claimed pair is given back.
-use Rattle.std.proofs.Common.{◌≡◌, ◌≢◌, ℕ, ◌<◌, ◌≤◌, ◌&&◌, ◌||◌, not, List, Bool, true, false, IsTrue, ◌↔◌, refl, ap, sym, ◌∙◌, subst, arith, inl, inr, ◌⊎◌}
-use Rattle.std.specs.Prelude.{Option, Some, None}
-use Rattle.std.proofs.lemmas.Bool.{cases_lt, cases_eq, cases_Bool, false≢true}
+use Rattle.std.proofs.Common.{◌≡◌, ◌≢◌, ℕ, ◌<◌, ◌&&◌, ◌||◌, not, List, Bool, true, false, IsTrue, ◌↔◌, refl, ap, sym, ◌∙◌, arith, inl, inr}
+use Rattle.std.specs.Prelude.{Some, None}
+use Rattle.std.proofs.lemmas.Bool.{false≢true}
 use Rattle.ltm_loading.specs.Setting.{Setting}
 use Rattle.ltm_frontier.specs.declared.frontier.Frontier.{Frontier}
 use Rattle.ltm_frontier.specs.Frontier.{nodes_of as nodes_in, slots_of as slots_in, is_active, is_claimed, is_pair, Releases, Activates}
-use Rattle.ltm_repair.specs.Desk.{Desk, IsOther}
+use Rattle.ltm_repair.specs.Desk.{IsOther}
 use Rattle.ltm_repair.specs.Moves.{GivesBack}
 use Rattle.ltm_repair.proofs.Keeps.{give_back_keeps}
 use Rattle.ltm_repair.proofs.Index.{index_stays_current}
 use Rattle.ltm_desk.specs.declared.table.Table.{Table}
 use Rattle.ltm_desk.specs.Rows.{row_of}
-use Rattle.ltm_desk.specs.Desks.{claim_of, desk_at, place_of}
+use Rattle.ltm_desk.specs.Desks.{desk_at, place_of}
 use Rattle.ltm_desk.specs.Ready.{IsReady}
 use Rattle.ltm_desk.proofs.Bools.{or_false, or_right, and_false}
-use Rattle.ltm_desk.proofs.Desks.{cases_pairs, active_is, claimed_is, claimed_past, claim_same, claim_on, claim_off, claimed_on, claimed_pair, same_active, same_claim}
+use Rattle.ltm_desk.proofs.Desks.{cases_pairs, active_is, claimed_is, claimed_past, claim_same, claim_on, claim_off, claimed_pair, same_active, same_claim}
 use Rattle.ltm_desk.proofs.Dropping.{pair_test, other_test, and_not}
 
 pub gives_desk : (s : Setting) (t : Table) (u v : ℕ) (m f : Frontier) → IsReady s t → (desk_at s t).claimed u v ≢ None → Releases t.frontier m u v → Activates m f (is_pair u v) →

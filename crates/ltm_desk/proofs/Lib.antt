@@ -17,3 +17,5 @@ pub mod Fronts
 pub mod Counting
 pub mod Giving
 pub mod Committing
+pub mod Beginnings
+pub mod Batching

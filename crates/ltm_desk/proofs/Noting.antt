@@ -1,10 +1,10 @@
 -- Cells are noted in steps.
-use Rattle.std.proofs.Common.{◌≡◌, ◌≢◌, ℕ, ◌+◌, ◌<◌, ◌≤◌, ◌==◌, ◌&&◌, ◌||◌, not, Bool, true, false, refl, ap, sym, ◌∙◌, arith, inl, inr, subst, slice_index}
+use Rattle.std.proofs.Common.{◌≡◌, ℕ, ◌+◌, ◌<◌, ◌==◌, ◌&&◌, ◌||◌, not, Bool, true, false, refl, ap, sym, ◌∙◌, arith, inl, inr, subst}
 use Rattle.std.proofs.lemmas.Bool.{cases_eq, eq-eqb, ne_eqb}
-use Rattle.ltm_curve.specs.Cells.{cell_groups, cell_slots, is_changed, IsCell, HasCells, PutsCell}
+use Rattle.ltm_curve.specs.Cells.{is_changed, IsCell, HasCells, PutsCell}
 use Rattle.ltm_curve.specs.declared.changed.Changed.{Changed}
 use Rattle.ltm_pairs.specs.Changes.{some_below}
-use Rattle.ltm_desk.specs.Waking.{row_differs, is_cell, PutsCells}
+use Rattle.ltm_desk.specs.Waking.{is_cell, PutsCells}
 use Rattle.ltm_desk.proofs.Bools.{or_false, or_three, or_right, and_false, one_more, same_below}
 
 cell_of : (a b : Changed) (f : ℕ → ℕ → Bool) (g k : ℕ) → PutsCells a b f → IsCell a g k → IsCell b g k

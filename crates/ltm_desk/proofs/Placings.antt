@@ -1,6 +1,6 @@
 -- Positions are placed one after another.
-use Rattle.std.proofs.Common.{◌≡◌, ℕ, ◌+◌, ◌<◌, refl, ap, sym, ◌∙◌, arith, inl, inr, subst}
-use Rattle.std.specs.Prelude.{Option, Some}
+use Rattle.std.proofs.Common.{◌≡◌, ℕ, ◌+◌, ◌<◌, refl, ap, sym, ◌∙◌, arith, inl, inr}
+use Rattle.std.specs.Prelude.{Some}
 use Rattle.std.proofs.lemmas.Bool.{cases_lt, cases_eq}
 use Rattle.ltm_curve.specs.Counts.{Counts}
 use Rattle.ltm_loading.specs.Setting.{Setting, IsSetting}
@@ -18,7 +18,7 @@ pub places_next : (s : Setting) (c : Counts) (old mid new : ReadIndex) (u t n l 
 places_next s c old mid new u t n l k is x below first next here at =
     let there : (i : ℕ) → i < s.ins u → s.in_link u i < s.links = λ i m. is.network.in_link_is_link u i x m in
     let placed_here : (i : ℕ) → s.in_link u i ≡ l → entry_of new (s.in_link u i) t ≡ Some (position s c (s.in_link u i) t) = λ i same.
-        ap (λ (z : ℕ). entry_of new z t) same ∙ (next.entry ∙ (ap (λ (z : ℕ). Some z) at ∙ ap (λ (z : ℕ). Some (position s c z t)) (sym same))) in
+    ap (λ (z : ℕ). entry_of new z t) same ∙ (next.entry ∙ (ap (λ (z : ℕ). Some z) at ∙ ap (λ (z : ℕ). Some (position s c z t)) (sym same))) in
     record {
       lists = record { links = next.size.links ∙ first.lists.links; slots = next.size.slots ∙ first.lists.slots };
       placed = λ i m. elim (cases_lt i n) [

@@ -1,7 +1,7 @@
 -- What wakes by the outputs and the index are the readers of the commit, at each pair whose places are its positions.
-use Rattle.std.proofs.Common.{◌≡◌, ◌≢◌, ℕ, zero, suc, ◌+◌, ◌-◌, ◌*◌, ◌<◌, ◌≤◌, ◌==◌, ◌&&◌, ◌||◌, not, nat_le, Bool, true, false, if◌then◌else◌, refl, ap, sym, ◌∙◌, arith, inl, inr, ◌⊎◌, subst}
+use Rattle.std.proofs.Common.{◌≡◌, ◌≢◌, ℕ, zero, suc, ◌-◌, ◌<◌, ◌≤◌, ◌==◌, ◌&&◌, ◌||◌, not, nat_le, Bool, true, false, if◌then◌else◌, refl, ap, sym, ◌∙◌, arith, inl, inr, subst}
 use Rattle.std.specs.Prelude.{Option, Some, None}
-use Rattle.std.proofs.lemmas.Bool.{cases_eq, cases_lt, eqb-true, eq-eqb, ne_eqb, lt-ltb, le-ltb, lt-leb, le-leb}
+use Rattle.std.proofs.lemmas.Bool.{cases_lt, eqb-true, ne_eqb, le-ltb, lt-leb, le-leb}
 use Rattle.ltm_units.specs.Sums.{sum_below}
 use Rattle.ltm_units.proofs.Sums.{sum_below-same}
 use Rattle.ltm_curve.specs.Counts.{Counts, total}
@@ -17,9 +17,9 @@ use Rattle.ltm_frontier.specs.Frontier.{is_pair}
 use Rattle.ltm_pairs.specs.Windows.{reads_ago}
 use Rattle.ltm_pairs.specs.Changes.{some_below, differs_at, node_differs}
 use Rattle.ltm_pairs.specs.Readers.{position_before, reads_first, reads_own, reads_left, reads_entered, reads_commit}
-use Rattle.ltm_desk.specs.Waking.{arm_differs, out_differs, sink_differs, any_differs, is_between, last_before, wakes_tail, wakes_later, wakes_listed, wakes_head, wakes_tails, wakes_heads, wakes_others, wakes}
-use Rattle.ltm_desk.proofs.Bools.{or_false, and_false, same_below, none_below, only_below, do_not_differ, turn, last_first}
-use Rattle.ltm_desk.proofs.Wakings.{arm_in, arm_origin}
+use Rattle.ltm_desk.specs.Waking.{arm_differs, out_differs, sink_differs, any_differs, is_between, last_before, wakes_tail, wakes_head, wakes_tails, wakes_heads, wakes}
+use Rattle.ltm_desk.proofs.Bools.{and_false, same_below, none_below, only_below, do_not_differ, turn, last_first}
+use Rattle.ltm_desk.proofs.Wakings.{arm_in}
 
 -- the counts of a node are set to the outputs at a boundary, and no others
 pub record SetsOutputs (s : Setting) (old new : Counts) (u k : ℕ) (o : Outputs) : Type 0 where

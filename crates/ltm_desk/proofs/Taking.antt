@@ -1,27 +1,27 @@
 -- A pair is claimed.
-use Rattle.std.proofs.Common.{◌≡◌, ◌≢◌, ℕ, ◌+◌, ◌<◌, ◌≤◌, ◌==◌, ◌&&◌, ◌||◌, not, List, Bool, true, false, refl, ap, sym, ◌∙◌, subst, arith, inl, inr}
-use Rattle.std.specs.Prelude.{Option, Some, None}
+use Rattle.std.proofs.Common.{◌≡◌, ◌≢◌, ℕ, ◌<◌, ◌==◌, ◌&&◌, ◌||◌, not, List, true, false, refl, ap, sym, ◌∙◌, arith, inl, inr}
+use Rattle.std.specs.Prelude.{Some}
 use Rattle.std.proofs.lemmas.Bool.{cases_lt, cases_eq, cases_Bool, eqb-true}
 use Rattle.ltm_node.specs.Inputs.{Inputs}
 use Rattle.ltm_loading.specs.Setting.{Setting}
 use Rattle.ltm_frontier.specs.declared.frontier.Frontier.{Frontier}
 use Rattle.ltm_frontier.specs.Frontier.{nodes_of as nodes_in, slots_of as slots_in, is_active, is_claimed, is_pair, ClaimsAreOf, ClaimsPair}
 use Rattle.ltm_frontier.specs.Claims.{has_node, slot_in}
-use Rattle.ltm_repair.specs.Desk.{Desk, IsOther, IsIdle, IsIdleBefore}
-use Rattle.ltm_repair.specs.Facts.{IsSound, IsClaim, ClaimsAreCurrent}
+use Rattle.ltm_repair.specs.Desk.{Desk, IsOther, IsIdleBefore}
+use Rattle.ltm_repair.specs.Facts.{IsSound}
 use Rattle.ltm_repair.specs.Moves.{TakesClaim}
-use Rattle.ltm_repair.specs.Answers.{HasClaimAt, IsNoneClaimed}
-use Rattle.ltm_repair.proofs.Cases.{cases_pair, cases_option}
+use Rattle.ltm_repair.specs.Answers.{HasClaimAt}
+use Rattle.ltm_repair.proofs.Cases.{cases_option}
 use Rattle.ltm_repair.proofs.Keeps.{take_keeps}
 use Rattle.ltm_repair.proofs.Index.{index_stays_current}
 use Rattle.ltm_desk.specs.declared.rows.KeptRows.{KeptRows}
 use Rattle.ltm_desk.specs.declared.table.Table.{Table}
-use Rattle.ltm_desk.specs.Rows.{nodes_of, slots_of, width_of, row_of, PutsRow}
-use Rattle.ltm_desk.specs.Desks.{claim_of, desk_at, place_of}
+use Rattle.ltm_desk.specs.Rows.{row_of, PutsRow}
+use Rattle.ltm_desk.specs.Desks.{desk_at, place_of}
 use Rattle.ltm_desk.specs.Ready.{IsReady, HasRows}
 use Rattle.ltm_desk.specs.Dropping.{IsWork}
 use Rattle.ltm_desk.proofs.Bools.{or_false, or_right, and_false, and_both}
-use Rattle.ltm_desk.proofs.Desks.{active_is, claimed_is, claim_same, claim_on, claim_off, claimed_on, claimed_off, claimed_row, same_active, same_claim}
+use Rattle.ltm_desk.proofs.Desks.{active_is, claimed_is, claim_same, claim_on, claim_off, claimed_row, same_active, same_claim}
 use Rattle.ltm_desk.proofs.Dropping.{pair_test, other_test, and_not}
 
 -- a row put in its place leaves the sizes

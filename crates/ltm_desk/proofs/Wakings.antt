@@ -1,11 +1,9 @@
 -- What wakes, arm after arm.
-use Rattle.std.proofs.Common.{◌≡◌, ◌≢◌, ℕ, ◌+◌, ◌-◌, ◌*◌, ◌^◌, ◌<◌, ◌≤◌, ◌==◌, ◌&&◌, ◌||◌, not, nat_le, nat_lt, Bool, true, false, List, length, slice_index, sum, refl, ap, sym, ◌∙◌, arith, inl, inr, subst}
-use Rattle.std.specs.Prelude.{Option, Some, None}
-use Rattle.std.proofs.lemmas.Bool.{cases_eq, cases_lt, eq-eqb, ne_eqb, lt-ltb, le-ltb}
+use Rattle.std.proofs.Common.{◌≡◌, ℕ, ◌+◌, ◌*◌, ◌^◌, ◌<◌, ◌≤◌, ◌==◌, ◌&&◌, ◌||◌, not, Bool, false, List, length, slice_index, sum, refl, ap, sym, ◌∙◌, arith, inl, inr}
+use Rattle.std.proofs.lemmas.Bool.{cases_lt, lt-ltb, le-ltb}
 use Rattle.ltm_units.specs.Sums.{sum_below}
 use Rattle.ltm_units.proofs.Sums.{sum_below-same, sum_below-most}
-use Rattle.ltm_curve.specs.Counts.{Counts, total}
-use Rattle.ltm_curve.specs.First.{last_within}
+use Rattle.ltm_curve.specs.Counts.{Counts}
 use Rattle.ltm_curve.specs.declared.changed.Changed.{Changed}
 use Rattle.ltm_curve.proofs.Lists.{sum_below-list}
 use Rattle.ltm_node.specs.Outputs.{Outputs, left_after, entered_after, arrived_after}
@@ -13,12 +11,12 @@ use Rattle.ltm_loading.specs.Setting.{Setting}
 use Rattle.ltm_loading.specs.Groups.{up_of, down_of, dep_of, arr_of}
 use Rattle.ltm_loading.specs.Pairs.{arms_of, arm_group}
 use Rattle.ltm_frontier.specs.declared.frontier.Frontier.{Frontier}
-use Rattle.ltm_frontier.specs.Frontier.{is_pair, Activates}
+use Rattle.ltm_frontier.specs.Frontier.{Activates}
 use Rattle.ltm_pairs.specs.Changes.{some_below}
-use Rattle.ltm_desk.specs.Waking.{row_differs, arm_differs, out_differs, sink_differs, any_differs, is_cell, PutsCells, changes_arms, changes_outs, changes_sink, changes, last_before, wakes_tail, wakes_later, wakes_listed, wakes_head, wakes_tails, wakes_heads, wakes_others, wakes}
+use Rattle.ltm_desk.specs.Waking.{row_differs, arm_differs, out_differs, sink_differs, any_differs, is_cell, PutsCells, changes_arms, changes_outs, changes, wakes_tail, wakes_head, wakes_tails, wakes_heads}
 use Rattle.ltm_desk.proofs.Bools.{same_below, one_more, or_false, or_three}
 use Rattle.ltm_desk.proofs.Noting.{puts_next, puts_as, puts_both}
-use Rattle.ltm_desk.proofs.Activating.{act_next, act_as, act_both}
+use Rattle.ltm_desk.proofs.Activating.{act_next}
 
 pub row_same : (m : ℕ) (c : Counts) (g h k : ℕ) (f r : ℕ → ℕ) → g ≡ h → ((d : ℕ) → d < m → f d ≡ r d) → row_differs m c g k f ≡ row_differs m c h k r
 row_same m c g h k f r e same =

@@ -1,5 +1,5 @@
 -- An accepted batch.
-use Rattle.std.specs.Prelude.{◌≡◌, ℕ, List, Bool, false}
+use Rattle.std.specs.Prelude.{ℕ, List, Bool, false}
 use Rattle.ltm_units.specs.declared.places.Reach.{Reach}
 use Rattle.ltm_scenario.specs.declared.edit.Edit.{Edit}
 use Rattle.ltm_scenario.specs.Data.{ScenarioData}
@@ -11,7 +11,7 @@ use Rattle.ltm_pairs.specs.Touched.{is_touched, ReadsSameBut}
 use Rattle.ltm_desk.specs.declared.table.Table.{Table}
 use Rattle.ltm_desk.specs.Pairs.{of_pairs}
 use Rattle.ltm_desk.specs.Desks.{desk_at}
-use Rattle.ltm_desk.specs.Ready.{IsReady}
+use Rattle.ltm_desk.specs.Ready.{FitsTable, IsReady}
 
 -- the edits lead from one scenario to another of its shape, and a pair outside their reaches reads the same of both
 pub record LeadsTo (before after : ScenarioData) (edits : List Edit) : Type 0 where
@@ -31,3 +31,7 @@ pub record TakesIn (before after : ScenarioData) (edits : List Edit) (old new : 
 -- the pairs of reaches
 abbrev pub in_reaches : List Reach → ℕ → ℕ → Bool
 in_reaches reaches u t = lies_in_one reaches u t
+
+-- a table has the sizes of every scenario of one shape
+abbrev pub TablesFit : Type 0
+TablesFit = (before after : ScenarioData) (t : Table) → SameShape before after → FitsTable (setting_of before) t → FitsTable (setting_of after) t

@@ -1,5 +1,5 @@
 -- What is said of pairs of node and slot, and of cells, and nothing of what is none.
-use Rattle.std.specs.Prelude.{ℕ, ◌+◌, ◌&&◌, Bool, false, nat_le, nat_lt, if◌then◌else◌}
+use Rattle.std.specs.Prelude.{ℕ, ◌&&◌, Bool, nat_le, nat_lt, if◌then◌else◌}
 use Rattle.ltm_loading.specs.Setting.{Setting}
 use Rattle.ltm_loading.specs.Groups.{groups}
 

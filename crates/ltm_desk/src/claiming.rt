@@ -112,7 +112,12 @@ impl Table {
     }
 
     /// The first pair to be worked on, from a slot on before which every pair is idle, where none is claimed.
-    fn first_work(&mut self, scenario: &Scenario, front: u32, inputs: &mut NodeInputs) -> Option<Pair>
+    fn first_work(
+        &mut self,
+        scenario: &Scenario,
+        front: u32,
+        inputs: &mut NodeInputs,
+    ) -> Option<Pair>
         requires ready { IsReady (setting_of scenario.now) self.old }
         requires front { front ≤ (setting_of scenario.now).slots }
         requires idle { IsIdleBefore (setting_of scenario.now) (desk_at (setting_of scenario.now) self.old) front }

@@ -11,6 +11,7 @@ mod batches;
 mod claiming;
 mod differing;
 mod found;
+mod laws;
 mod opening;
 mod places;
 mod rows;
@@ -18,4 +19,5 @@ mod table;
 mod wake;
 
 pub use found::Found;
+pub use laws::tables_fit;
 pub use table::{Table, WIDEST};

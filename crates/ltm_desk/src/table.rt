@@ -202,7 +202,11 @@ impl Table {
             &mut self.frontier,
         );
         apply(scenario, &mut self.curves, pair, outputs);
-        self.kept.put(pair.node.0 as usize, pair.slot as usize, solved.inputs().row());
+        self.kept.put(
+            pair.node.0 as usize,
+            pair.slot as usize,
+            solved.inputs().row(),
+        );
         self.frontier.release(pair);
     }
 

@@ -306,7 +306,13 @@ fn note_origin(
     }
     let origin = in_links(scenario, pair.node).len() as u32;
     let group = 2 * link_count(scenario) + pair.node.0;
-    note(curves, changed, group, pair.slot + 1, outputs.left_row(origin))
+    note(
+        curves,
+        changed,
+        group,
+        pair.slot + 1,
+        outputs.left_row(origin),
+    )
 }
 
 /// Wakes the readers of what a pair is to set, as the outputs say, but for its own next slot, and notes the cells that
@@ -336,7 +342,14 @@ fn wake_others(
     let tails = wake_tails(scenario, curves, pair, outputs, changed, frontier);
     let origin = note_origin(scenario, curves, pair, outputs, changed);
     let heads = wake_heads(scenario, curves, index, pair, outputs, changed, frontier);
-    let sink = note_sink(scenario, curves, changed, pair.node, pair.slot + 1, outputs.arrived());
+    let sink = note_sink(
+        scenario,
+        curves,
+        changed,
+        pair.node,
+        pair.slot + 1,
+        outputs.arrived(),
+    );
     (tails | origin) | (heads | sink)
 }
 

@@ -1,4 +1,4 @@
-use Rattle.std.proofs.Common.{◌==◌, ◌≡◌, ◌≢◌, ◌<◌, not, ℕ, length, slice_index, arith, sym}
+use Rattle.std.proofs.Common.{◌==◌, ◌≢◌, ◌<◌, not, ℕ, length, slice_index, arith, sym}
 use Rattle.std.proofs.lemmas.Grind.{common_steps}
 use Rattle.ltm_desk.proofs.Bools.{one_below, differ}
 use Rattle.ltm_desk.proofs.differing.differs.Goals as goal

@@ -1,4 +1,4 @@
-use Rattle.std.proofs.Common.{◌≡◌, sym, ◌∙◌, slice_index}
+use Rattle.std.proofs.Common.{sym, ◌∙◌, slice_index}
 use Rattle.ltm_curve.specs.Table.{counts_of}
 use Rattle.ltm_desk.proofs.Noting.{differs_same}
 use Rattle.ltm_desk.proofs.differing.note.Goals as goal

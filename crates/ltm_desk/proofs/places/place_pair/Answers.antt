@@ -1,4 +1,4 @@
-use Rattle.std.proofs.Common.{arith, sym, ◌∙◌, ◌<◌, ◌≡◌}
+use Rattle.std.proofs.Common.{arith, ◌<◌}
 use Rattle.ltm_curve.specs.Table.{counts_of}
 use Rattle.ltm_setting.specs.Setting.{setting_of}
 use Rattle.ltm_inputs.proofs.Arms.{link_item}

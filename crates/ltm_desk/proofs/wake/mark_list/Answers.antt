@@ -1,4 +1,4 @@
-use Rattle.std.proofs.Common.{◌≡◌, ℕ, refl, subst}
+use Rattle.std.proofs.Common.{ℕ, refl, subst}
 use Rattle.std.specs.Prelude.{Option}
 use Rattle.ltm_index.specs.Lists.{list_of}
 use Rattle.ltm_index.specs.Chains.{behind}

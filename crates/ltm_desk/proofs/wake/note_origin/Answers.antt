@@ -1,5 +1,5 @@
-use Rattle.std.proofs.Common.{◌≡◌, ℕ, ◌+◌, ◌*◌, ◌<◌, ap, sym, ◌∙◌, arith, slice_index}
-use Rattle.ltm_curve.specs.Table.{counts_of, destinations_of}
+use Rattle.std.proofs.Common.{◌≡◌, ℕ, ◌+◌, ◌*◌, ap, sym, ◌∙◌, arith, slice_index}
+use Rattle.ltm_curve.specs.Table.{counts_of}
 use Rattle.ltm_node.specs.declared.shape.NodeShape.{NodeShape}
 use Rattle.ltm_node.specs.Outputs.{left_after}
 use Rattle.ltm_loading.specs.Pairs.{arm_group}

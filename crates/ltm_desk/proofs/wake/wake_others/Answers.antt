@@ -1,6 +1,5 @@
-use Rattle.std.proofs.Common.{◌≡◌, ◌+◌, ℕ, ap, ◌∙◌}
+use Rattle.std.proofs.Common.{◌+◌, ap, ◌∙◌}
 use Rattle.ltm_curve.specs.Table.{counts_of}
-use Rattle.ltm_node.specs.Outputs.{arrived_after}
 use Rattle.ltm_setting.specs.Setting.{setting_of}
 use Rattle.ltm_desk.specs.Waking.{sink_differs}
 use Rattle.ltm_desk.proofs.Wakings.{all_value, all_cells}

@@ -1,4 +1,4 @@
-use Rattle.std.proofs.Common.{◌≡◌, ℕ, ◌<◌, sym, ◌∙◌, subst, arith}
+use Rattle.std.proofs.Common.{ℕ, ◌∙◌, subst, arith}
 use Rattle.ltm_setting.specs.Setting.{setting_of}
 use Rattle.ltm_frontier.specs.Claims.{slot_in}
 use Rattle.ltm_repair.specs.Desk.{Desk}

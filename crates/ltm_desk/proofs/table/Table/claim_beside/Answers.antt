@@ -1,4 +1,4 @@
-use Rattle.std.proofs.Common.{◌≡◌, ℕ, sym, ◌∙◌}
+use Rattle.std.proofs.Common.{◌∙◌}
 use Rattle.ltm_setting.specs.Setting.{setting_of}
 use Rattle.ltm_desk.specs.Desks.{desk_at}
 use Rattle.ltm_repair.proofs.Keeps.{drop_idle_before}

@@ -1,6 +1,6 @@
 use Rattle.std.proofs.Common.{refl}
-use Rattle.ltm_desk.specs.Desks.{desk_at, changed_at}
-use Rattle.ltm_desk.proofs.Opening.{cleared_ready, cleared_none}
+use Rattle.ltm_desk.specs.Desks.{desk_at}
+use Rattle.ltm_desk.proofs.Beginnings.{cleared_ready, cleared_none}
 use Rattle.ltm_desk.proofs.table.Table.clear_changed.Goals as goal
 
 pub returns-clause-ready : goal.returns-clause-ready

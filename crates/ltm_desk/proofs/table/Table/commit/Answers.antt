@@ -1,18 +1,16 @@
-use Rattle.std.proofs.Common.{◌≡◌, ◌≢◌, ℕ, ◌+◌, ◌<◌, List, refl, ap, sym, ◌∙◌, subst, arith}
-use Rattle.std.specs.Prelude.{Some, None}
+use Rattle.std.proofs.Common.{◌≡◌, ℕ, List, ap, sym, ◌∙◌, subst, arith}
+use Rattle.std.specs.Prelude.{Some}
 use Rattle.ltm_curve.specs.Table.{counts_of}
 use Rattle.ltm_node.specs.Shape.{width}
 use Rattle.ltm_node.specs.Inputs.{Inputs}
 use Rattle.ltm_node.specs.Outputs.{Outputs}
 use Rattle.ltm_node.specs.Step.{IsNodeStep}
-use Rattle.ltm_loading.specs.Pairs.{shape_at}
-use Rattle.ltm_loading.specs.NextPair.{IsPairInputs}
 use Rattle.ltm_setting.specs.Setting.{setting_of}
 use Rattle.ltm_flows.proofs.Steps.{none_arrived}
 use Rattle.ltm_repair.specs.Facts.{IsClaim}
 use Rattle.ltm_desk.specs.Rows.{PutsRow}
 use Rattle.ltm_desk.specs.Desks.{desk_at}
-use Rattle.ltm_desk.proofs.Desks.{claimed_pair, claimed_on}
+use Rattle.ltm_desk.proofs.Desks.{claimed_on}
 use Rattle.ltm_desk.proofs.Dropping.{at_front}
 use Rattle.ltm_desk.proofs.Committing.{CommitsTable, commits_desk, commits_ready, commits_cells, claim_inputs}
 use Rattle.ltm_desk.proofs.table.Table.commit.Goals as goal
@@ -32,7 +30,7 @@ wake-requires-clause-small c = λ i.
     omega (
       arith,
       c.outputs_small.ensures s (counts_of c.args.self.now.curves) c.args.pair.slot c.args.pair.node.0 c.args.solved.now.inputs c.outputs-outputs.result.now c.is_setting.ensures.setting claim.is_slot claim.is_node front.front
-      (claim_inputs s c.args.self.now c.args.pair.node.0 c.args.pair.slot c.args.solved.now.inputs c.requires.ready c.requires.claimed c.requires.shape) step i,
+          (claim_inputs s c.args.self.now c.args.pair.node.0 c.args.pair.slot c.args.solved.now.inputs c.requires.ready c.requires.claimed c.requires.shape) step i,
       c.slot_count-slots.ensures.few,
       c.slot_count-slots.ensures.value,
       claim.is_slot,
@@ -52,7 +50,7 @@ apply-requires-clause-small c = λ i.
     omega (
       arith,
       c.outputs_small.ensures s (counts_of c.args.self.now.curves) c.args.pair.slot c.args.pair.node.0 c.args.solved.now.inputs c.outputs-outputs.result.now c.is_setting.ensures.setting claim.is_slot claim.is_node front.front
-      (claim_inputs s c.args.self.now c.args.pair.node.0 c.args.pair.slot c.args.solved.now.inputs c.requires.ready c.requires.claimed c.requires.shape) step i,
+          (claim_inputs s c.args.self.now c.args.pair.node.0 c.args.pair.slot c.args.solved.now.inputs c.requires.ready c.requires.claimed c.requires.shape) step i,
       c.slot_count-slots.ensures.few,
       c.slot_count-slots.ensures.value,
       claim.is_slot,

@@ -1,6 +1,3 @@
-use Rattle.std.proofs.Common.{ap, sym}
-use Rattle.ltm_curve.specs.declared.curves.Curves.{Curves}
-use Rattle.ltm_curve.specs.Table.{counts_of}
 use Rattle.ltm_desk.specs.Desks.{desk_at}
 use Rattle.std.proofs.Common.{refl}
 use Rattle.ltm_desk.proofs.table.Table.curves.Goals as goal

@@ -1,6 +1,5 @@
-use Rattle.std.proofs.Common.{◌≡◌, ℕ, ◌<◌, true, false, sym, ◌∙◌, arith, subst}
+use Rattle.std.proofs.Common.{◌≡◌, ℕ, ◌<◌, true, false, sym, ◌∙◌, arith}
 use Rattle.ltm_setting.specs.Setting.{setting_of}
-use Rattle.ltm_repair.specs.Desk.{IsIdleBefore}
 use Rattle.ltm_repair.proofs.Keeps.{drop_idle_before}
 use Rattle.ltm_desk.specs.Desks.{desk_at}
 use Rattle.ltm_desk.proofs.Dropping.{at_front, drops_more, none_more, none_left, same_trans, most_wide, settled_here, work_here}

@@ -1,4 +1,4 @@
-use Rattle.std.proofs.Common.{◌≡◌, ℕ, sym, ◌∙◌, subst, arith}
+use Rattle.std.proofs.Common.{sym, subst, arith}
 use Rattle.ltm_setting.specs.Setting.{setting_of}
 use Rattle.ltm_repair.specs.Desk.{Desk, IsIdleBefore}
 use Rattle.ltm_repair.specs.Answers.{HasClaimAt}

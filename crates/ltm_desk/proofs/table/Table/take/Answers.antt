@@ -1,6 +1,5 @@
-use Rattle.std.proofs.Common.{◌≡◌, ℕ, ◌<◌, List, ap, refl, sym, ◌∙◌, arith, subst}
+use Rattle.std.proofs.Common.{ℕ, List, ap, refl, sym, ◌∙◌, subst}
 use Rattle.ltm_node.specs.Shape.{width}
-use Rattle.ltm_node.specs.declared.shape.NodeShape.{NodeShape}
 use Rattle.ltm_setting.specs.Setting.{setting_of}
 use Rattle.ltm_desk.specs.Rows.{PutsRow}
 use Rattle.ltm_desk.proofs.Desks.{active_is, changed_same}
