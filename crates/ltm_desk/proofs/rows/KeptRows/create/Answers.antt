@@ -1,0 +1,17 @@
+use Rattle.std.proofs.Common.{◌≡◌, ℕ, ◌-◌, ◌*◌, ◌∙◌, List, length, slice_index, ap, arith}
+use Rattle.std.proofs.lemmas.List.{get_or_read}
+use Rattle.ltm_setting.specs.Setting.{setting_of}
+use Rattle.ltm_desk.specs.Starts.{AreStarts}
+use Rattle.ltm_desk.proofs.Startings.{starts_rise}
+use Rattle.ltm_desk.proofs.rows.KeptRows.create.Goals as goal
+
+pub invariant_of-result : goal.invariant_of-result
+invariant_of-result c =
+    let xs : List ℕ = c.in_ok-starts.starts.items in
+    let h : AreStarts (setting_of c.args.scenario.now) (setting_of c.args.scenario.now).nodes xs = c.in_ok-starts.ensures in
+    let at : c.len.result - 1 ≡ length xs - 1 = omega (c.len.ensures, c.in_ok-starts.starts.ok.0, arith) in
+    record {
+      some = omega (h.long, arith);
+      rising = starts_rise (setting_of c.args.scenario.now) (setting_of c.args.scenario.now).nodes xs h;
+      long = c.in_ok-numbers.ensures ∙ ap (λ z. c.args.slots * z) (get_or_read xs _ _ (omega (h.long, at, arith)) c.index-width.ensures 0 ∙ ap (λ z. slice_index xs z) at);
+    }

@@ -1,0 +1,116 @@
+use Rattle.std.proofs.Common.{◌≡◌, ℕ, List, ap, sym, ◌∙◌, subst, arith}
+use Rattle.std.specs.Prelude.{Some}
+use Rattle.ltm_curve.specs.Table.{counts_of}
+use Rattle.ltm_node.specs.Shape.{width}
+use Rattle.ltm_node.specs.Inputs.{Inputs}
+use Rattle.ltm_node.specs.Outputs.{Outputs}
+use Rattle.ltm_node.specs.Step.{IsNodeStep}
+use Rattle.ltm_setting.specs.Setting.{setting_of}
+use Rattle.ltm_flows.proofs.Steps.{none_arrived}
+use Rattle.ltm_repair.specs.Facts.{IsClaim}
+use Rattle.ltm_desk.specs.Rows.{PutsRow}
+use Rattle.ltm_desk.specs.Desks.{desk_at}
+use Rattle.ltm_desk.proofs.Desks.{claimed_on}
+use Rattle.ltm_desk.proofs.Dropping.{at_front}
+use Rattle.ltm_desk.proofs.Committing.{CommitsTable, commits_desk, commits_ready, commits_cells, claim_inputs}
+use Rattle.ltm_desk.proofs.table.Table.commit.Goals as goal
+
+pub place_pair-requires-clause-ready : goal.place_pair-requires-clause-ready
+place_pair-requires-clause-ready c =
+    let s = setting_of c.args.scenario.now in
+    let claim : IsClaim s (desk_at s c.args.self.now) c.args.pair.node.0 c.args.pair.slot c.args.solved.now.inputs.row = c.requires.ready.sound.claims c.args.pair.node.0 c.args.pair.slot c.args.solved.now.inputs.row c.requires.claimed in
+    at_front s c.args.self.now c.args.pair.slot c.requires.ready claim.is_slot claim.front
+
+pub wake-requires-clause-small : goal.wake-requires-clause-small
+wake-requires-clause-small c = λ i.
+    let s = setting_of c.args.scenario.now in
+    let claim : IsClaim s (desk_at s c.args.self.now) c.args.pair.node.0 c.args.pair.slot c.args.solved.now.inputs.row = c.requires.ready.sound.claims c.args.pair.node.0 c.args.pair.slot c.args.solved.now.inputs.row c.requires.claimed in
+    let front = at_front s c.args.self.now c.args.pair.slot c.requires.ready claim.is_slot claim.front in
+    let step : IsNodeStep c.args.solved.now.inputs c.outputs-outputs.result.now = subst (λ (o : Outputs). IsNodeStep c.args.solved.now.inputs o) (sym c.outputs-outputs.ensures.outputs) c.outputs-outputs.ensures.step in
+    omega (
+      arith,
+      c.outputs_small.ensures s (counts_of c.args.self.now.curves) c.args.pair.slot c.args.pair.node.0 c.args.solved.now.inputs c.outputs-outputs.result.now c.is_setting.ensures.setting claim.is_slot claim.is_node front.front
+          (claim_inputs s c.args.self.now c.args.pair.node.0 c.args.pair.slot c.args.solved.now.inputs c.requires.ready c.requires.claimed c.requires.shape) step i,
+      c.slot_count-slots.ensures.few,
+      c.slot_count-slots.ensures.value,
+      claim.is_slot,
+    )
+
+pub apply-requires-clause-node : goal.apply-requires-clause-node
+apply-requires-clause-node c =
+    let s = setting_of c.args.scenario.now in
+    (c.requires.ready.sound.claims c.args.pair.node.0 c.args.pair.slot c.args.solved.now.inputs.row c.requires.claimed).is_node
+
+pub apply-requires-clause-small : goal.apply-requires-clause-small
+apply-requires-clause-small c = λ i.
+    let s = setting_of c.args.scenario.now in
+    let claim : IsClaim s (desk_at s c.args.self.now) c.args.pair.node.0 c.args.pair.slot c.args.solved.now.inputs.row = c.requires.ready.sound.claims c.args.pair.node.0 c.args.pair.slot c.args.solved.now.inputs.row c.requires.claimed in
+    let front = at_front s c.args.self.now c.args.pair.slot c.requires.ready claim.is_slot claim.front in
+    let step : IsNodeStep c.args.solved.now.inputs c.outputs-outputs.result.now = subst (λ (o : Outputs). IsNodeStep c.args.solved.now.inputs o) (sym c.outputs-outputs.ensures.outputs) c.outputs-outputs.ensures.step in
+    omega (
+      arith,
+      c.outputs_small.ensures s (counts_of c.args.self.now.curves) c.args.pair.slot c.args.pair.node.0 c.args.solved.now.inputs c.outputs-outputs.result.now c.is_setting.ensures.setting claim.is_slot claim.is_node front.front
+          (claim_inputs s c.args.self.now c.args.pair.node.0 c.args.pair.slot c.args.solved.now.inputs c.requires.ready c.requires.claimed c.requires.shape) step i,
+      c.slot_count-slots.ensures.few,
+      c.slot_count-slots.ensures.value,
+      claim.is_slot,
+    )
+
+pub apply-requires-clause-no_sink : goal.apply-requires-clause-no_sink
+apply-requires-clause-no_sink c own =
+    let s = setting_of c.args.scenario.now in
+    let step : IsNodeStep c.args.solved.now.inputs c.outputs-outputs.result.now = subst (λ (o : Outputs). IsNodeStep c.args.solved.now.inputs o) (sym c.outputs-outputs.ensures.outputs) c.outputs-outputs.ensures.step in
+    none_arrived s (counts_of c.args.self.now.curves) c.args.pair.node.0 c.args.pair.slot c.args.solved.now.inputs c.outputs-outputs.result.now c.inputs_by_place.ensures c.no_arrivals.ensures
+    (claim_inputs s c.args.self.now c.args.pair.node.0 c.args.pair.slot c.args.solved.now.inputs c.requires.ready c.requires.claimed c.requires.shape) step own
+
+pub put-requires-clause-node : goal.put-requires-clause-node
+put-requires-clause-node c =
+    omega (arith, (c.requires.ready.sound.claims c.args.pair.node.0 c.args.pair.slot c.args.solved.now.inputs.row c.requires.claimed).is_node, c.requires.ready.fits.kept.nodes)
+
+pub put-requires-clause-width : goal.put-requires-clause-width
+put-requires-clause-width c =
+    let node = (c.requires.ready.sound.claims c.args.pair.node.0 c.args.pair.slot c.args.solved.now.inputs.row c.requires.claimed).is_node in
+    c.row.ensures.width ∙ (ap (λ (n : Inputs). width n.shape) c.inputs.ensures.inputs ∙ (ap width c.requires.shape ∙ sym (c.requires.ready.fits.kept.widths c.args.pair.node.0 node)))
+
+pub release-requires-clause-node : goal.release-requires-clause-node
+release-requires-clause-node c =
+    omega (arith, (c.requires.ready.sound.claims c.args.pair.node.0 c.args.pair.slot c.args.solved.now.inputs.row c.requires.claimed).is_node, c.requires.ready.fits.frontier.nodes, c.wake.ensures.wakes.size.nodes)
+
+pub release-requires-clause-claimed : goal.release-requires-clause-claimed
+release-requires-clause-claimed c =
+    let s = setting_of c.args.scenario.now in
+    let claim : IsClaim s (desk_at s c.args.self.now) c.args.pair.node.0 c.args.pair.slot c.args.solved.now.inputs.row = c.requires.ready.sound.claims c.args.pair.node.0 c.args.pair.slot c.args.solved.now.inputs.row c.requires.claimed in
+    c.wake.ensures.wakes.claims.pairs c.args.pair.node.0 c.args.pair.slot
+    ∙ claimed_on s c.args.self.now c.args.pair.node.0 c.args.pair.slot claim.is_node claim.is_slot (λ none. let some : (desk_at s c.args.self.now).claimed c.args.pair.node.0 c.args.pair.slot ≡ Some c.args.solved.now.inputs.row = c.requires.claimed in cc)
+
+all_set : (c : goal.After-release) → CommitsTable (setting_of c.args.scenario.now) c.args.self.now c.args.pair.node.0 c.args.pair.slot c.args.solved.now.inputs c.outputs-outputs.result.now c.place_pair.new.index c.wake.new.changed c.wake.new.frontier c.release.new.self c.apply.new.curves c.put.new.self
+all_set c =
+    let s = setting_of c.args.scenario.now in
+    let step : IsNodeStep c.args.solved.now.inputs c.outputs-outputs.result.now = subst (λ (o : Outputs). IsNodeStep c.args.solved.now.inputs o) (sym c.outputs-outputs.ensures.outputs) c.outputs-outputs.ensures.step in
+    record {
+      setting = c.is_setting.ensures.setting;
+      ready = c.requires.ready;
+      claimed = c.requires.claimed;
+      shape = c.requires.shape;
+      step = step;
+      same_shape = (c.same_shape.ensures _ _ step).0 ∙ c.requires.shape;
+      places = c.place_pair.ensures;
+      cells = c.wake.ensures.cells;
+      wakes = c.wake.ensures.wakes;
+      shaped = c.apply.ensures.shape;
+      applies = c.apply.ensures.applies;
+      puts = subst (λ (z : List ℕ). PutsRow c.args.self.now.kept c.put.new.self c.args.pair.node.0 c.args.pair.slot z) (c.row.ensures.row ∙ ap (λ (n : Inputs). n.row) c.inputs.ensures.inputs) c.put.ensures;
+      frees = c.release.ensures;
+      by_place = c.counts_by_place.ensures;
+      wake = c.readers_wake.ensures.wake;
+      positions = c.readers_wake.ensures.positions;
+    }
+
+pub returns-clause-ready : goal.returns-clause-ready
+returns-clause-ready c = commits_ready _ _ _ _ _ _ _ _ _ _ _ _ (all_set c)
+
+pub returns-clause-desk : goal.returns-clause-desk
+returns-clause-desk c = commits_desk _ _ _ _ _ _ _ _ _ _ _ _ (all_set c)
+
+pub returns-clause-changed : goal.returns-clause-changed
+returns-clause-changed c = λ g k. commits_cells _ _ _ _ _ _ _ _ _ _ _ _ (all_set c) g k

@@ -1,0 +1,12 @@
+pub mod Rows
+pub mod Starts
+pub mod Pairs
+pub mod Desks
+pub mod Cells
+pub mod Ready
+pub mod Dropping
+pub mod Searching
+pub mod Placing
+pub mod Waking
+pub mod Committing
+pub mod Batches

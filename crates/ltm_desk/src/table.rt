@@ -1,0 +1,225 @@
+//! The working table of a repair, and what each call makes of its desk.
+ghost use Rattle.std.specs.Prelude.{◌≡◌, ◌≢◌, ◌↔◌, ◌||◌, ◌<◌, ◌≤◌, ℕ, IfOk, IsTrue, Some, None, false};
+ghost use Rattle.ltm_curve.specs.Table.{counts_of};
+ghost use Rattle.ltm_curve.specs.Cells.{is_changed, HasCells};
+ghost use Rattle.ltm_loading.specs.Setting.{Setting};
+ghost use Rattle.ltm_loading.specs.Groups.{groups};
+ghost use Rattle.ltm_loading.specs.Pairs.{shape_at};
+ghost use Rattle.ltm_scenario.specs.Data.{ScenarioData};
+ghost use Rattle.ltm_setting.specs.Setting.{setting_of};
+ghost use Rattle.ltm_flows.specs.Shaped.{IsShaped};
+ghost use Rattle.ltm_repair.specs.Counting.{claims_out};
+ghost use Rattle.ltm_repair.specs.Desk.{IsAtRest};
+ghost use Rattle.ltm_repair.specs.Moves.{GivesBack, Commits};
+ghost use Rattle.ltm_desk.specs.Cells.{count_cells};
+ghost use Rattle.ltm_desk.specs.Committing.{readers, rewritten};
+
+use crate::batches::mark_touched;
+use crate::opening::keep_all;
+use crate::places::place_pair;
+use crate::rows::KeptRows;
+use crate::wake::wake;
+use ltm_curve::{Changed, Curves};
+use ltm_flows::{apply, cold};
+use ltm_frontier::Frontier;
+use ltm_loading::{counts_by_place, inputs_by_place, outputs_small};
+use ltm_node::{NodeInputs, Solved, no_arrivals, same_shape};
+use ltm_pairs::{ReadIndex, readers_wake};
+use ltm_scenario::{Edit, Scenario};
+use ltm_setting::{is_setting, link_count, node_count, slot_count};
+use ltm_units::{NoMemory, Pair};
+use std::alloc::Global;
+
+/// The greatest count of numbers that the inputs of a pair are: room for them serves every claim.
+pub const WIDEST: u32 = 1162;
+
+/// Whether two rows are equal.
+fn same_row(a: &[u64], b: &[u64]) -> bool
+    ensures { IsTrue result ↔ a.now ≡ b.now }
+{
+    a == b
+}
+
+/// What a repair works on: the counts, the inputs that are kept of each pair, the active and the claimed pairs with the
+/// inputs of the claims, for each link and boundary the slots that read there, and the cells that commits have changed.
+#[derive(Drop)]
+pub struct Table {
+    pub(crate) curves: Curves,
+    pub(crate) kept: KeptRows,
+    pub(crate) frontier: Frontier,
+    pub(crate) claims: KeptRows,
+    pub(crate) index: ReadIndex,
+    pub(crate) changed: Changed,
+}
+
+impl Table {
+    ghost use Rattle.ltm_desk.specs.Desks.{desk_at, changed_at, curves_of, cells_of};
+    ghost use Rattle.ltm_desk.specs.Ready.{FitsTable, IsReady, IsOpened};
+    ghost use Rattle.ltm_desk.specs.Batches.{LeadsTo, TakesIn};
+
+    /// The table of the loading of a scenario, at rest.
+    pub fn create(alloc: Global, scenario: &Scenario) -> Result<Table, NoMemory>
+        ensures { IfOk result (IsOpened (setting_of scenario.now)) }
+    {
+        is_setting(scenario);
+        let nodes = node_count(scenario);
+        let links = link_count(scenario);
+        let slots = slot_count(scenario);
+        let curves = cold(alloc, scenario)?;
+        let mut kept = KeptRows::create(alloc, scenario, slots as usize)?;
+        let mut index = ReadIndex::create(alloc, links, slots)?;
+        let mut inputs = NodeInputs::create(alloc, WIDEST)?;
+        keep_all(scenario, &curves, &mut kept, &mut index, &mut inputs);
+        let frontier = Frontier::create(alloc, nodes, slots)?;
+        let claims = KeptRows::create(alloc, scenario, 1)?;
+        let changed = Changed::create(alloc, 2 * links + nodes + 1, slots)?;
+        Ok(Table {
+            curves,
+            kept,
+            frontier,
+            claims,
+            index,
+            changed,
+        })
+    }
+
+    /// The working counts.
+    #[inline]
+    pub fn curves(&self) -> &Curves
+        ensures curves { result.now ≡ curves_of self.now }
+        ensures counts { (s : Setting) → (desk_at s self.now).counts ≡ counts_of result.now }
+        ensures shape { (s : Setting) → IsReady s self.now → IsShaped s result.now }
+    {
+        &self.curves
+    }
+
+    /// The cells in which a commit has changed some count since they were last cleared.
+    #[inline]
+    pub fn cells(&self) -> &Changed
+        ensures cells { result.now ≡ cells_of self.now }
+        ensures shape { (s : Setting) → IsReady s self.now → HasCells result.now (groups s) s.slots }
+        ensures changed { (s : Setting) (g k : ℕ) → g < groups s → k ≤ s.slots → is_changed result.now g k ≡ changed_at s self.now g k }
+    {
+        &self.changed
+    }
+
+    /// How many cells these are.
+    #[inline]
+    pub fn changed(&self) -> u64
+        ensures { (s : Setting) → IsReady s self.now → result ≡ count_cells s (changed_at s self.now) }
+    {
+        self.changed.count()
+    }
+
+    /// Clears the changed cells.
+    pub fn clear_changed(&mut self)
+        ensures ready { (s : Setting) → IsReady s self.old → IsReady s self.new }
+        ensures desk { (s : Setting) → desk_at s self.new ≡ desk_at s self.old }
+        ensures none { (s : Setting) (g k : ℕ) → changed_at s self.new g k ≡ false }
+    {
+        self.changed.clear();
+    }
+
+    /// How many pairs are claimed.
+    #[inline]
+    pub fn claimed(&self) -> u32
+        ensures { (s : Setting) → IsReady s self.now → result ≡ claims_out s.nodes s.slots (desk_at s self.now) }
+    {
+        self.frontier.claimed()
+    }
+
+    /// Whether no pair is active or claimed.
+    pub fn is_at_rest(&self, scenario: &Scenario) -> bool
+        requires { IsReady (setting_of scenario.now) self.now }
+        ensures { IsTrue result ↔ IsAtRest (setting_of scenario.now) (desk_at (setting_of scenario.now) self.now) }
+    {
+        match self.frontier.front() {
+            None => return true,
+            Some(_) => return false,
+        }
+    }
+
+    /// Whether the pair is claimed with these inputs. It may be any pair.
+    pub fn holds(&self, scenario: &Scenario, pair: Pair, row: &[u64]) -> bool
+        requires { IsReady (setting_of scenario.now) self.now }
+        ensures { IsTrue result ↔ ((desk_at (setting_of scenario.now) self.now).claimed pair.node.0 pair.slot ≡ Some row.now) }
+    {
+        if pair.node.0 >= node_count(scenario) {
+            return false;
+        }
+        if pair.slot >= slot_count(scenario) {
+            return false;
+        }
+        if !self.frontier.is_claimed(pair) {
+            return false;
+        }
+        same_row(self.claims.row(pair.node.0 as usize, 0), row)
+    }
+
+    /// Makes a claimed pair active again.
+    pub fn give_back(&mut self, scenario: &Scenario, pair: Pair)
+        requires ready { IsReady (setting_of scenario.now) self.old }
+        requires claimed { (desk_at (setting_of scenario.now) self.old).claimed pair.node.0 pair.slot ≢ None }
+        ensures ready { IsReady (setting_of scenario.now) self.new }
+        ensures desk { GivesBack (desk_at (setting_of scenario.now) self.old) pair.node.0 pair.slot (desk_at (setting_of scenario.now) self.new) }
+        ensures changed { changed_at (setting_of scenario.now) self.new ≡ changed_at (setting_of scenario.now) self.old }
+    {
+        self.frontier.release(pair);
+        self.frontier.mark(pair);
+    }
+
+    /// Sets the counts of a claimed pair to the step of its inputs and keeps these. The readers of what changed become
+    /// active, exactly those, and the cells with another count are noted. Takes no memory.
+    pub fn commit(&mut self, scenario: &Scenario, pair: Pair, solved: &Solved)
+        requires ready { IsReady (setting_of scenario.now) self.old }
+        requires claimed { (desk_at (setting_of scenario.now) self.old).claimed pair.node.0 pair.slot ≡ Some solved.now.inputs.row }
+        requires shape { solved.now.inputs.shape ≡ shape_at (setting_of scenario.now) pair.node.0 }
+        ensures ready { IsReady (setting_of scenario.now) self.new }
+        ensures desk { Commits (setting_of scenario.now) (desk_at (setting_of scenario.now) self.old) pair.node.0 pair.slot solved.now.inputs.row
+            (readers (setting_of scenario.now) (desk_at (setting_of scenario.now) self.old) (desk_at (setting_of scenario.now) self.new) pair.node.0 pair.slot)
+            (desk_at (setting_of scenario.now) self.new) }
+        ensures changed { (g k : ℕ) → changed_at (setting_of scenario.now) self.new g k
+            ≡ (changed_at (setting_of scenario.now) self.old g k
+            || rewritten (setting_of scenario.now) (desk_at (setting_of scenario.now) self.old) (desk_at (setting_of scenario.now) self.new) g k) }
+    {
+        is_setting(scenario);
+        inputs_by_place();
+        counts_by_place();
+        outputs_small();
+        same_shape();
+        no_arrivals();
+        readers_wake();
+        let _slots = slot_count(scenario);
+        let outputs = solved.outputs();
+        place_pair(scenario, &self.curves, pair, &mut self.index);
+        wake(
+            scenario,
+            &self.curves,
+            &self.index,
+            pair,
+            outputs,
+            &mut self.changed,
+            &mut self.frontier,
+        );
+        apply(scenario, &mut self.curves, pair, outputs);
+        self.kept.put(
+            pair.node.0 as usize,
+            pair.slot as usize,
+            solved.inputs().row(),
+        );
+        self.frontier.release(pair);
+    }
+
+    /// Takes an accepted batch in: claims are void, and what was active or claimed or is touched is active. The scenario is
+    /// the one after the batch.
+    pub fn take_in(&mut self, scenario: &Scenario, edits: &[Edit])
+        requires { FitsTable (setting_of scenario.now) self.old }
+        ensures batch { (before : ScenarioData) → LeadsTo before scenario.now edits.now → IsReady (setting_of before) self.old
+            → TakesIn before scenario.now edits.now self.old self.new }
+        ensures changed { (s : Setting) → changed_at s self.new ≡ changed_at s self.old }
+    {
+        is_setting(scenario);
+        self.frontier.void_all();
+        mark_touched(scenario, &mut self.frontier, edits);
+    }
+}
