@@ -27,13 +27,13 @@ use Rattle.ltm_desk.specs.Batches.{LeadsTo, TakesIn, touches}
 use Rattle.ltm_core.specs.Log.{Log, version_now, settled_of, scenario_at, scenario_now, with_batch}
 use Rattle.ltm_core.specs.Settling.{setting_at}
 use Rattle.ltm_core.specs.Laws.{RepairLaws}
-use Rattle.ltm_core.specs.Cores.{CoreData, desk_in, repair_of, IsNoneOut, IsLog, IsCore}
+use Rattle.ltm_core.specs.Cores.{CoreData, desk_in, repair_of, IsNoneOut, IsAlike, IsLog, IsCore}
 use Rattle.ltm_core.specs.CoreAnswers.{AcceptsBatch, TellsAccept}
 use Rattle.ltm_core.specs.Taking.{TakesBatch}
 use Rattle.ltm_core.proofs.Logs.{version_batch, settled_batch, earlier_scenario, last_scenario, accepted_now, holds_more, opening_batch}
 use Rattle.ltm_core.proofs.Cores.{core_now, after_event, none_there}
 use Rattle.ltm_core.proofs.Showings.{shown_low}
-use Rattle.ltm_core.proofs.Shapes.{shape_trans, same_sizes, SameSizes, cells_next}
+use Rattle.ltm_core.proofs.Shapes.{alike_trans, same_sizes, SameSizes, cells_next}
 
 -- the core with the batch
 abbrev pub after_accept : CoreData → List Edit → ScenarioData → Table → CoreData
@@ -49,7 +49,7 @@ record Taken (d : CoreData) (batch : List Edit) (next : ScenarioData) (t : Table
 
 taken_of : (d : CoreData) (batch : List Edit) (next : ScenarioData) (t : Table) → IsCore d → TakesBatch d.scenario next d.table t batch → Taken d batch next t
 taken_of d batch next t is takes =
-    let sizes : SameSizes (setting_of d.scenario) (setting_of next) = same_sizes d.scenario next takes.shape in
+    let sizes : SameSizes (setting_of d.scenario) (setting_of next) = same_sizes d.scenario next takes.alike in
     let edited : edited_all (scenario_now d.log) batch ≡ Ok next = subst (λ (z : ScenarioData). edited_all z batch ≡ Ok next) (sym is.scenario) takes.edited in
     record {
       setting = takes.setting;
@@ -95,21 +95,21 @@ log_more d batch next t is takes few =
     let taken : Taken d batch next t = taken_of d batch next t is takes in
     let edited : edited_all (scenario_now d.log) batch ≡ Ok next = subst (λ (z : ScenarioData). edited_all z batch ≡ Ok next) (sym is.scenario) takes.edited in
     let more : version_now (with_batch d.log batch) ≡ version_now d.log + 1 = version_batch d.log batch in
-    let here : SameShape d.log.opening d.scenario = subst (λ (z : ScenarioData). SameShape d.log.opening z) (last_scenario d.log ∙ is.scenario) (is.log.shape (version_now d.log) (omega arith)) in
+    let here : IsAlike d.log.opening d.scenario = subst (λ (z : ScenarioData). IsAlike d.log.opening z) (last_scenario d.log ∙ is.scenario) (is.log.alike (version_now d.log) (omega arith)) in
     let last : scenario_at (with_batch d.log batch) (version_now d.log + 1) ≡ next =
     ap (λ (k : ℕ). scenario_at (with_batch d.log batch) k) (sym more) ∙ (last_scenario (with_batch d.log batch) ∙ taken.after) in
-    let P : ScenarioData → Type 0 = λ z. SameShape (with_batch d.log batch).opening z in
+    let P : ScenarioData → Type 0 = λ z. IsAlike (with_batch d.log batch).opening z in
     record {
       accepted = holds_more d.log batch next is.log.accepted edited;
       scenarios = λ k l. elim (cases_eq k (version_now d.log + 1)) [
         | inl end ↦ subst IsScenario (sym (ap (λ (i : ℕ). scenario_at (with_batch d.log batch) i) end ∙ last)) takes.scenario
         | inr other ↦ subst IsScenario (sym (earlier_scenario d.log batch k (omega arith))) (is.log.scenarios k (omega arith))
       ];
-      shape = λ k l. elim (cases_eq k (version_now d.log + 1)) [
+      alike = λ k l. elim (cases_eq k (version_now d.log + 1)) [
         | inl end ↦ subst P (sym (ap (λ (i : ℕ). scenario_at (with_batch d.log batch) i) end ∙ last))
-            (subst (λ (z : ScenarioData). SameShape z next) (sym (opening_batch d.log batch)) (shape_trans d.log.opening d.scenario next here takes.shape))
+            (subst (λ (z : ScenarioData). IsAlike z next) (sym (opening_batch d.log batch)) (alike_trans d.log.opening d.scenario next here takes.alike))
         | inr other ↦ subst P (sym (earlier_scenario d.log batch k (omega arith)))
-            (subst (λ (z : ScenarioData). SameShape z (scenario_at d.log k)) (sym (opening_batch d.log batch)) (is.log.shape k (omega arith)))
+            (subst (λ (z : ScenarioData). IsAlike z (scenario_at d.log k)) (sym (opening_batch d.log batch)) (is.log.alike k (omega arith)))
       ];
       few = omega (more, few, arith);
     }
@@ -176,16 +176,16 @@ have_slots s is = record { entry = is.entry; exit = is.exit }
 pub batch_network : BatchTouchesReaders → (s next : ScenarioData) (batch : List Edit) → IsScenario s → edited_all s batch ≡ Ok next → SameNetwork (setting_of s) (setting_of next)
 batch_network law s next batch is edited = (law 1 s next batch (have_slots s is) edited).0.network
 
-pub takes_batch : BatchTouchesReaders → (s next : ScenarioData) (batch edits : List Edit) (old new : Table) → IsScenario s → IsScenario next → IsValid next → SameShape s next → IsSetting (setting_of next) →
+pub takes_batch : BatchTouchesReaders → (s next : ScenarioData) (batch edits : List Edit) (old new : Table) → IsScenario s → IsScenario next → IsValid next → SameShape s next → next.setup.slots ≡ s.setup.slots → IsSetting (setting_of next) →
     edited_all s batch ≡ Ok next → edits ≡ batch → IsReady (setting_of s) old → ((before : ScenarioData) → LeadsTo before next edits → IsReady (setting_of before) old → TakesIn before next edits old new) →
     ((z : Setting) → changed_at z new ≡ changed_at z old) → TakesBatch s next old new batch
-takes_batch law s next batch edits old new scenario scenario' valid shape setting edited same ready taken cells =
+takes_batch law s next batch edits old new scenario scenario' valid shape slots setting edited same ready taken cells =
     let leads : LeadsTo s next batch = record { shape = shape; reads = (law 1 s next batch (have_slots s scenario) edited).1 } in
     record {
       edited = edited;
       scenario = scenario';
       valid = valid;
-      shape = shape;
+      alike = record { slots = slots; network = shape.network; destinations = shape.destinations };
       setting = setting;
       network = batch_network law s next batch scenario edited;
       table = subst (λ (es : List Edit). TakesIn s next es old new) same (taken s (subst (λ (es : List Edit). LeadsTo s next es) (sym same) leads) ready);

@@ -3,7 +3,6 @@ use Rattle.std.proofs.Common.{◌≡◌, ℕ, ◌<◌, ◌≤◌, List, [], Bool
 use Rattle.ltm_scenario.specs.Data.{ScenarioData}
 use Rattle.ltm_scenario.specs.IsScenario.{IsScenario}
 use Rattle.ltm_scenario.specs.declared.edit.Edit.{Edit}
-use Rattle.ltm_scenario.specs.Shape.{SameShape}
 use Rattle.ltm_scenario.specs.Valid.{IsValid}
 use Rattle.ltm_curve.specs.Table.{counts_of}
 use Rattle.ltm_loading.specs.Setting.{Setting, IsSetting}
@@ -22,9 +21,9 @@ use Rattle.ltm_desk.specs.Ready.{IsOpened}
 use Rattle.ltm_core.specs.Log.{Log, HoldsAccepted, batches_of, log_of, version_now, settled_of, scenario_at, scenario_now}
 use Rattle.ltm_core.specs.Settling.{setting_at}
 use Rattle.ltm_core.specs.Laws.{RepairLaws}
-use Rattle.ltm_core.specs.Cores.{CoreData, desk_in, repair_of, IsResting, IsNoneOut, IsLog, IsCore}
+use Rattle.ltm_core.specs.Cores.{CoreData, desk_in, repair_of, IsResting, IsNoneOut, IsAlike, IsLog, IsCore}
 use Rattle.ltm_core.specs.CoreAnswers.{IsOpeningCore}
-use Rattle.ltm_core.proofs.Shapes.{shape_refl}
+use Rattle.ltm_core.proofs.Shapes.{alike_refl}
 
 -- the log of a core that begins
 abbrev pub first_log : ScenarioData → Log
@@ -73,7 +72,7 @@ unfolding HoldsAccepted batches_of version_now
 log_begun s is = record {
   accepted = tt;
   scenarios = λ k l. subst IsScenario (sym (first_at s k l)) is;
-  shape = λ k l. subst (λ (z : ScenarioData). SameShape s z) (sym (first_at s k l)) (shape_refl s);
+  alike = λ k l. subst (λ (z : ScenarioData). IsAlike s z) (sym (first_at s k l)) (alike_refl s);
   few = lit< tt;
 }
 

@@ -129,12 +129,12 @@ left_is_difference s q d before after same none =
     let F : ℕ → ℕ → ℕ = λ u t. unlike (d.kept u t) (row_of q before u t) in
     sum_pairs-same s.nodes s.slots (λ u t. unlike (d.kept u t) (Some (pair_row s after u t))) (λ u t. unlike (row_of q before u t) (Some (pair_row s after u t)))
     (λ u t x l.
-        let low : F u t ≤ sum_pairs q.nodes s.slots F = le-sum_pairs q.nodes s.slots F u t (omega (same, x, arith)) l in
-        let zero : F u t ≡ 0 = omega (none, low, arith) in
-        elim (unlike_cases (d.kept u t) (row_of q before u t)) [
-          | inl kept ↦ ap (λ o. unlike o (Some (pair_row s after u t))) kept.0
-          | inr other ↦ absurd (let one : F u t ≡ 1 = other.1 in omega arith)
-        ])
+    let low : F u t ≤ sum_pairs q.nodes s.slots F = le-sum_pairs q.nodes s.slots F u t (omega (same, x, arith)) l in
+    let zero : F u t ≡ 0 = omega (none, low, arith) in
+    elim (unlike_cases (d.kept u t) (row_of q before u t)) [
+      | inl kept ↦ ap (λ o. unlike o (Some (pair_row s after u t))) kept.0
+      | inr other ↦ absurd (let one : F u t ≡ 1 = other.1 in omega arith)
+    ])
 
 left_since : (d : CoreData) → IsCore d → d.commits ≡ 0 → (before after : Counts) → IsLoading (setting_at d.log (settled_of d.log)) before → IsLoading (setting_in d) after →
     left_of d after ≡ how_many_differ (setting_at d.log (settled_of d.log)) (setting_in d) before after

@@ -1,15 +1,11 @@
--- Scenarios of one shape make settings of one size.
+-- Scenarios that are alike make settings of one size.
 use Rattle.std.proofs.Common.{◌≡◌, ℕ, ◌+◌, ◌<◌, ◌≤◌, Bool, ◌&&◌, refl, ap, sym, ◌∙◌, arith}
 use Rattle.std.specs.Prelude.{nat_lt, nat_le}
 use Rattle.ltm_curve.specs.declared.curves.Curves.{Curves}
 use Rattle.ltm_curve.specs.Cells.{is_changed}
 use Rattle.ltm_scenario.specs.Data.{ScenarioData}
-use Rattle.ltm_scenario.specs.Shape.{SameShape}
 use Rattle.ltm_loading.specs.Setting.{Setting}
-use Rattle.ltm_node.specs.Shape.{width}
 use Rattle.ltm_loading.specs.Groups.{groups}
-use Rattle.ltm_loading.specs.Networks.{SameNetwork}
-use Rattle.ltm_repair.proofs.Networks.{shape_same}
 use Rattle.ltm_setting.specs.Setting.{setting_of}
 use Rattle.ltm_flows.specs.Shaped.{IsShaped}
 use Rattle.ltm_flows.specs.declared.loading.Loading.{Loading}
@@ -17,17 +13,16 @@ use Rattle.ltm_flows.specs.Shown.{Shows, Fits}
 use Rattle.ltm_desk.specs.declared.table.Table.{Table}
 use Rattle.ltm_desk.specs.Pairs.{of_cells}
 use Rattle.ltm_desk.specs.Desks.{changed_at}
-use Rattle.ltm_desk.specs.declared.rows.KeptRows.{KeptRows}
-use Rattle.ltm_desk.specs.Ready.{FitsTable, HasRows}
+use Rattle.ltm_core.specs.Cores.{IsAlike}
 
-pub shape_refl : (s : ScenarioData) → SameShape s s
-shape_refl s = record { setup = refl; network = refl; destinations = refl }
+pub alike_refl : (s : ScenarioData) → IsAlike s s
+alike_refl s = record { slots = refl; network = refl; destinations = refl }
 
-pub shape_sym : (a b : ScenarioData) → SameShape a b → SameShape b a
-shape_sym a b same = record { setup = sym same.setup; network = sym same.network; destinations = sym same.destinations }
+pub alike_sym : (a b : ScenarioData) → IsAlike a b → IsAlike b a
+alike_sym a b same = record { slots = sym same.slots; network = sym same.network; destinations = sym same.destinations }
 
-pub shape_trans : (a b c : ScenarioData) → SameShape a b → SameShape b c → SameShape a c
-shape_trans a b c one two = record { setup = two.setup ∙ one.setup; network = two.network ∙ one.network; destinations = two.destinations ∙ one.destinations }
+pub alike_trans : (a b c : ScenarioData) → IsAlike a b → IsAlike b c → IsAlike a c
+alike_trans a b c one two = record { slots = two.slots ∙ one.slots; network = two.network ∙ one.network; destinations = two.destinations ∙ one.destinations }
 
 -- as many groups, nodes, links, destinations and slots
 pub record SameSizes (r s : Setting) : Type 0 where
@@ -37,14 +32,14 @@ pub record SameSizes (r s : Setting) : Type 0 where
   pub destinations : s.destinations ≡ r.destinations
   pub slots : s.slots ≡ r.slots
 
-pub same_sizes : (a b : ScenarioData) → SameShape a b → SameSizes (setting_of a) (setting_of b)
+pub same_sizes : (a b : ScenarioData) → IsAlike a b → SameSizes (setting_of a) (setting_of b)
 unfolding setting_of
 same_sizes a b same = record {
   groups = ap (λ n. groups (setting_of (record a { network = n }))) same.network;
   nodes = ap (λ n. (setting_of (record a { network = n })).nodes) same.network;
   links = ap (λ n. (setting_of (record a { network = n })).links) same.network;
   destinations = ap (λ n. (setting_of (record a { destinations = n })).destinations) same.destinations;
-  slots = ap (λ n. (setting_of (record a { setup = n })).slots) same.setup;
+  slots = same.slots;
 }
 
 shaped_next : (r s : Setting) (c : Curves) → SameSizes r s → IsShaped r c → IsShaped s c
@@ -68,21 +63,3 @@ unfolding changed_at
 cells_next r s t same =
     ap (λ (n : ℕ). λ g k. (nat_lt g n && nat_le k s.slots) && is_changed t.changed g k) same.groups
     ∙ ap (λ (n : ℕ). λ g k. (nat_lt g (groups r) && nat_le k n) && is_changed t.changed g k) same.slots
-
-rows_next : (r s : Setting) (slots slots' : ℕ) (k : KeptRows) → SameNetwork r s → slots' ≡ slots → HasRows r slots k → HasRows s slots' k
-rows_next r s slots slots' k same at has = record {
-  nodes = has.nodes ∙ same.nodes;
-  same_slots = has.same_slots ∙ sym at;
-  widths = λ u x. has.widths u (omega (same.nodes, x, arith)) ∙ ap width (shape_same r s u same);
-}
-
--- and the table fits
-pub fits_next : (r s : Setting) (t : Table) → SameSizes r s → SameNetwork r s → FitsTable r t → FitsTable s t
-fits_next r s t sizes same fits = record {
-  curves = shaped_next r s t.curves sizes fits.curves;
-  kept = rows_next r s r.slots s.slots t.kept same sizes.slots fits.kept;
-  claims = rows_next r s 1 1 t.claims same refl fits.claims;
-  frontier = record { nodes = fits.frontier.nodes ∙ same.nodes; slots = fits.frontier.slots ∙ sym sizes.slots };
-  index = record { links = fits.index.links ∙ same.links; slots = fits.index.slots ∙ sym sizes.slots };
-  changed = record { same_groups = fits.changed.same_groups ∙ sym sizes.groups; same_slots = fits.changed.same_slots ∙ sym sizes.slots };
-}

@@ -12,7 +12,6 @@ use Rattle.ltm_loading.specs.Groups.{groups}
 use Rattle.ltm_loading.specs.Loading.{IsLoading}
 use Rattle.ltm_scenario.specs.Data.{ScenarioData}
 use Rattle.ltm_scenario.specs.IsScenario.{IsScenario}
-use Rattle.ltm_scenario.specs.Shape.{SameShape}
 use Rattle.ltm_setting.specs.Setting.{setting_of}
 use Rattle.ltm_flows.specs.declared.loading.Loading.{Loading}
 use Rattle.ltm_flows.specs.Shown.{Shows, Fits, AgreesOutside, version_of, curves_of}
@@ -28,10 +27,10 @@ use Rattle.ltm_desk.specs.Ready.{IsReady}
 use Rattle.ltm_core.specs.Log.{Log, version_now, settled_of, scenario_at, scenario_now, with_mark}
 use Rattle.ltm_core.specs.Settling.{setting_at, difference, IsSettleCount, SettleCountsAreExact}
 use Rattle.ltm_core.specs.Laws.{RepairLaws}
-use Rattle.ltm_core.specs.Cores.{CoreData, desk_in, repair_of, IsResting, IsShownOf, IsLog, IsCore}
+use Rattle.ltm_core.specs.Cores.{CoreData, desk_in, repair_of, IsResting, IsShownOf, IsAlike, IsLog, IsCore}
 use Rattle.ltm_core.specs.CoreAnswers.{PublishesAll, SettlesAll}
 use Rattle.ltm_core.proofs.Logs.{last_scenario, version_marked, settled_marked, marked_scenario, marked_now, opening_marked, holds_marked}
-use Rattle.ltm_core.proofs.Shapes.{SameSizes, same_sizes, shape_sym, shape_trans, shown_fits as fits_of}
+use Rattle.ltm_core.proofs.Shapes.{SameSizes, same_sizes, alike_sym, alike_trans, shown_fits as fits_of}
 use Rattle.ltm_core.proofs.Cores.{core_now, after_event, rests_there, rests_here, rest_here}
 
 -- ---- publishing
@@ -148,8 +147,8 @@ marked_log log is =
     record {
       accepted = holds_marked log is.accepted;
       scenarios = λ k l. subst IsScenario (sym (marked_scenario log k)) (is.scenarios k (omega arith));
-      shape = λ k l. subst (λ (z : ScenarioData). SameShape (with_mark log).opening z) (sym (marked_scenario log k))
-          (subst (λ (z : ScenarioData). SameShape z (scenario_at log k)) (sym (opening_marked log)) (is.shape k (omega arith)));
+      alike = λ k l. subst (λ (z : ScenarioData). IsAlike (with_mark log).opening z) (sym (marked_scenario log k))
+          (subst (λ (z : ScenarioData). IsAlike z (scenario_at log k)) (sym (opening_marked log)) (is.alike k (omega arith)));
       few = omega (is.few, same, arith);
     }
 
@@ -213,8 +212,8 @@ core_stops d b is = record {
 }
 
 -- ---- what is shown
-core_shape : (d : CoreData) → IsCore d → SameShape d.log.opening d.scenario
-core_shape d is = subst (λ (z : ScenarioData). SameShape d.log.opening z) (last_scenario d.log ∙ is.scenario) (is.log.shape (version_now d.log) (omega arith))
+core_shape : (d : CoreData) → IsCore d → IsAlike d.log.opening d.scenario
+core_shape d is = subst (λ (z : ScenarioData). IsAlike d.log.opening z) (last_scenario d.log ∙ is.scenario) (is.log.alike (version_now d.log) (omega arith))
 
 pub core_network_at : (d v : CoreData) → d ≡ v → IsCore d → d.scenario.network ≡ v.log.opening.network
 core_network_at d v same is = subst (λ (z : CoreData). d.scenario.network ≡ z.log.opening.network) same (core_shape d is).network
@@ -226,7 +225,7 @@ core_shown d is =
       is_version = low;
       shows = is.shows;
       scenario = is.log.scenarios (version_of d.shown) low;
-      network = (is.log.shape (version_of d.shown) low).network;
+      network = (is.log.alike (version_of d.shown) low).network;
     }
 
 pub core_shown_at : (d v : CoreData) → d ≡ v → IsCore d → IsShownOf v.log v.shown
@@ -237,7 +236,7 @@ shown_sizes : (d : CoreData) → IsCore d → SameSizes (setting_at d.log (versi
 shown_sizes d is =
     let low : version_of d.shown ≤ version_now d.log = shown_low d is in
     same_sizes (scenario_at d.log (version_of d.shown)) d.scenario
-    (shape_trans (scenario_at d.log (version_of d.shown)) d.log.opening d.scenario (shape_sym d.log.opening (scenario_at d.log (version_of d.shown)) (is.log.shape (version_of d.shown) low)) (core_shape d is))
+    (alike_trans (scenario_at d.log (version_of d.shown)) d.log.opening d.scenario (alike_sym d.log.opening (scenario_at d.log (version_of d.shown)) (is.log.alike (version_of d.shown) low)) (core_shape d is))
 
 pub core_fits : (d : CoreData) → IsCore d → Fits (setting_of d.scenario) d.shown
 core_fits d is = fits_of (setting_at d.log (version_of d.shown)) (setting_of d.scenario) (version_of d.shown) d.shown (shown_sizes d is) is.shows

@@ -5,7 +5,6 @@ use Rattle.ltm_curve.specs.Counts.{Counts}
 use Rattle.ltm_scenario.specs.declared.edit.Edit.{Edit}
 use Rattle.ltm_scenario.specs.Data.{ScenarioData}
 use Rattle.ltm_scenario.specs.IsScenario.{IsScenario}
-use Rattle.ltm_scenario.specs.Shape.{SameShape}
 use Rattle.ltm_scenario.specs.Valid.{IsValid}
 use Rattle.ltm_setting.specs.Setting.{setting_of}
 use Rattle.ltm_flows.specs.declared.loading.Loading.{Loading}
@@ -83,6 +82,12 @@ unfoldable pub undone_of : CoreData → ℕ
 undone_of d = undone (now (repair_of d)).nodes (now (repair_of d)).slots (repair_of d).desk
 
 -- ---- what holds of every core
+-- scenarios of one horizon, network and destinations
+pub record IsAlike (s next : ScenarioData) : Type 0 where
+  pub slots : next.setup.slots ≡ s.setup.slots
+  pub network : next.network ≡ s.network
+  pub destinations : next.destinations ≡ s.destinations
+
 -- what is shown is the loading of the first so many accepted batches
 pub record IsShownOf (log : Log) (loading : Loading) : Type 0 where
   pub is_version : version_of loading ≤ version_now log
@@ -90,11 +95,11 @@ pub record IsShownOf (log : Log) (loading : Loading) : Type 0 where
   pub scenario : IsScenario (scenario_at log (version_of loading))
   pub network : (scenario_at log (version_of loading)).network ≡ log.opening.network
 
--- each batch is accepted after those before it, and each leaves a scenario of the opening one's shape
+-- each batch is accepted after those before it, and leaves a scenario like the opening one
 pub record IsLog (log : Log) : Type 0 where
   pub accepted : HoldsAccepted log
   pub scenarios : (k : ℕ) → k ≤ version_now log → IsScenario (scenario_at log k)
-  pub shape : (k : ℕ) → k ≤ version_now log → SameShape log.opening (scenario_at log k)
+  pub alike : (k : ℕ) → k ≤ version_now log → IsAlike log.opening (scenario_at log k)
   pub few : version_now log < 2 ^ 63
 
 -- a core's scenario is that of its log and valid, its desk is that of a repair, and it shows a loading

@@ -1,11 +1,9 @@
 //! The buffers of one worker.
+use ltm_desk::WIDEST;
 use ltm_node::{NodeInputs, NodeOutputs};
 use ltm_units::NoMemory;
 use std::alloc::Global;
 use std::marker::Model;
-
-/// The greatest number of inputs of a pair: 5 arms, 4 out-links and 64 destinations.
-const WIDEST: u32 = 1162;
 
 /// The buffers of one worker, with room for the inputs and the counts of any pair of any scenario. So one worker may serve
 /// every core.

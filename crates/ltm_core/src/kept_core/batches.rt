@@ -8,7 +8,7 @@ ghost use Rattle.ltm_core.specs.Taking.{TakesBatch};
 
 use super::Core;
 use crate::laws::repair_laws;
-use ltm_desk::Table;
+use ltm_desk::{Table, tables_fit};
 use ltm_pairs::batch_touches_readers;
 use ltm_scenario::{Batch, EditCause, EditFault, Scenario};
 use ltm_setting::is_setting;
@@ -69,6 +69,7 @@ fn take_batch(
     ensures cause { IfErr result (λ e. e.1.cause ≢ EditCause.NoMemory → edited_all scenario.old batch ≡ Err e.1) }
 {
     batch_touches_readers();
+    tables_fit();
     let _before = scenario.setup();
     match scenario.accept(&batch) {
         Ok(()) => {
