@@ -41,6 +41,11 @@ pub enum Edit {
         to: u32,
         amount: Units,
     },
+    /// Raises the horizon to that many slots. The entry and exit limits of the new slots are those that were never set; rows
+    /// of demand and split rows stay.
+    Horizon {
+        slots: u32,
+    },
 }
 
 impl Edit {
@@ -54,7 +59,7 @@ impl Edit {
         match *self {
             Edit::Demand { amount, .. } | Edit::Limit { amount, .. } | Edit::Exit { amount, .. } =>
                 amount,
-            Edit::Split { .. } | Edit::Diagram { .. } => Units(0),
+            Edit::Split { .. } | Edit::Diagram { .. } | Edit::Horizon { .. } => Units(0),
         }
     }
 }
@@ -70,7 +75,7 @@ pub enum EditCause {
     NoOrigin,
     /// The origin, or the node of a split row, is the destination.
     SameEnds,
-    /// The slots are none, or go past the horizon.
+    /// The slots are none, or go past the horizon; or a new horizon is no longer than the old one, or above 10,000 slots.
     BadSlots,
     /// The origin and the destination have no split row; or the row would be the first of its node and destination and
     /// begin late; or a weight leads to a node that is not the destination and has no split row for it.
@@ -81,6 +86,8 @@ pub enum EditCause {
     TooManyRows,
     /// The diagram sets no limits at the step of the setup.
     Diagram(DiagramFault),
+    /// Over the new horizon the cells would be more than 54,000,000; this many.
+    CellsOver(u128),
     /// Memory was not found.
     NoMemory,
 }
