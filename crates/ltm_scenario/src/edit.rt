@@ -50,7 +50,7 @@ pub enum Edit {
 
 impl Edit {
     ghost use Rattle.std.specs.Prelude.{◌≡◌};
-    ghost use Rattle.ltm_scenario.specs.Edits.{amount_of};
+    ghost use Rattle.ltm_scenario.specs.Edits.{amount_of, slots_after};
 
     /// The amount of the edit, 0 where its kind has none.
     pub fn amount(&self) -> Units
@@ -60,6 +60,20 @@ impl Edit {
             Edit::Demand { amount, .. } | Edit::Limit { amount, .. } | Edit::Exit { amount, .. } =>
                 amount,
             Edit::Split { .. } | Edit::Diagram { .. } | Edit::Horizon { .. } => Units(0),
+        }
+    }
+
+    /// The horizon once the edit is accepted, where it was that many slots.
+    pub fn slots_after(&self, slots: u32) -> u32
+        ensures { result ≡ slots_after slots self.now }
+    {
+        match *self {
+            Edit::Horizon { slots: more } => more,
+            Edit::Demand { .. }
+            | Edit::Limit { .. }
+            | Edit::Split { .. }
+            | Edit::Diagram { .. }
+            | Edit::Exit { .. } => slots,
         }
     }
 }
