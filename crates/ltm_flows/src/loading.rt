@@ -1,9 +1,10 @@
 //! A finished loading, as others read it.
 ghost use Rattle.std.specs.Prelude.{◌≡◌, ◌≤◌, ◌<◌, ◌+◌, ◌*◌, ◌-◌, ℕ, length, IfOk};
 ghost use Rattle.ltm_units.specs.Sums.{sum_below};
+ghost use Rattle.ltm_curve.specs.Cells.{HasCells};
 ghost use Rattle.ltm_curve.specs.Table.{groups_of, destinations_of, slots_of, counts_of, total_of};
 ghost use Rattle.ltm_loading.specs.Setting.{Setting, IsSetting};
-ghost use Rattle.ltm_loading.specs.Groups.{up_of, down_of};
+ghost use Rattle.ltm_loading.specs.Groups.{up_of, down_of, groups};
 ghost use Rattle.ltm_loading.specs.Loading.{IsLoading};
 ghost use Rattle.ltm_loading.specs.Totals.{arrived, entered_link, left_link};
 ghost use Rattle.ltm_setting.specs.Setting.{setting_of};
@@ -11,7 +12,7 @@ ghost use Rattle.ltm_flows.specs.Shaped.{IsShaped};
 
 use crate::in_all::Totals;
 use crate::tables::{free_times, generated_by_boundary, write_free_times, write_generated};
-use ltm_curve::Curves;
+use ltm_curve::{Changed, Curves};
 use ltm_loading::{counts_small, never_fall};
 use ltm_scenario::Scenario;
 use ltm_setting::{is_setting, link_count, node_count, step};
@@ -54,6 +55,7 @@ impl Loading {
       generated_of,
       Shows,
       Fits,
+      AgreesOutside,
     };
     ghost use Rattle.ltm_flows.specs.InAll.{AreTotals};
 
@@ -106,19 +108,22 @@ impl Loading {
     }
 
     /// Becomes the loading of another scenario with as many links, nodes, destinations and slots, from its finished
-    /// curves. Takes no memory.
-    pub fn refresh(&mut self, scenario: &Scenario, curves: &Curves, version: u64)
+    /// curves, of which the changed cells alone are copied: outside them the counts are the same. Takes no memory.
+    pub fn refresh(&mut self, scenario: &Scenario, curves: &Curves, changed: &Changed, version: u64)
         requires fits { Fits (setting_of scenario.now) self.old }
         requires shape { IsShaped (setting_of scenario.now) curves.now }
         requires loading { IsLoading (setting_of scenario.now) (counts_of curves.now) }
-        ensures { Shows (setting_of scenario.now) version self.new }
+        requires cells { HasCells changed.now (groups (setting_of scenario.now)) (setting_of scenario.now).slots }
+        requires outside { AgreesOutside self.old curves.now changed.now }
+        ensures shows { Shows (setting_of scenario.now) version self.new }
+        ensures counts { counts_of (curves_of self.new) ≡ counts_of curves.now }
     {
         counts_small();
         never_fall();
         is_setting(scenario);
         write_free_times(scenario, &mut self.free);
         write_generated(scenario, &mut self.generated);
-        self.curves.copy_from(curves);
+        self.curves.copy_changed(curves, changed);
         self.step = step(scenario);
         self.version = version;
     }
