@@ -36,11 +36,16 @@ fn limits_set_and_put_back(rt: HostRuntime) -> Result<(), Fail> {
 /// What is set in the new slots is gone once the horizon was lowered again.
 fn longer_and_back(rt: &impl Abort, table: LimitTable) {
     let mut table = table;
+    assert!(rt; table.links() == 2 && table.slots() == 4);
     table.lengthen(6);
-    assert!(rt; table.slots() == 6 && table.limit(1, 3) == 7 && table.limit(1, 4) == 32_000);
-    assert!(rt; table.set(1, 4, 6, 5).is_ok() && table.limit(1, 5) == 5);
+    assert!(rt; table.links() == 2 && table.slots() == 6);
+    assert!(rt; table.limit(1, 3) == 7 && table.limit(1, 4) == 32_000);
+    assert!(rt; table.set(1, 4, 6, 5).is_ok());
+    assert!(rt; table.links() == 2 && table.slots() == 6);
+    assert!(rt; table.limit(1, 5) == 5);
     table.shorten(4);
-    assert!(rt; table.slots() == 4 && table.limit(1, 3) == 7);
     table.lengthen(6);
+    assert!(rt; table.links() == 2 && table.slots() == 6);
+    assert!(rt; table.limit(1, 3) == 7);
     assert!(rt; table.limit(1, 4) == 32_000 && table.limit(1, 5) == 32_000);
 }

@@ -73,8 +73,8 @@ pub record EditKeeps (s next : ScenarioData) : Type 0 where
 abbrev pub EditsKeep : Type 0
 EditsKeep = (s next : ScenarioData) (edit : Edit) → edited s edit ≡ Ok next → EditKeeps s next
 
--- each pair of the first that does not pass the test reads the same of both scenarios, whatever the counts are, and its in-links have
--- the same positions
+-- each pair of the first scenario that does not pass the test reads the same of both, whatever the counts are, and its
+-- in-links have the same positions
 pub record ReadsSameBut (s next : ScenarioData) (touched : ℕ → ℕ → Bool) : Type 0 where
   pub inputs : (c : Counts) (u t : ℕ) → t < s.setup.slots → touched u t ≡ false → pair_row (setting_of next) c u t ≡ pair_row (setting_of s) c u t
   pub positions : (c : Counts) (u t i : ℕ) → t < s.setup.slots → touched u t ≡ false → i < (setting_of s).ins u →
