@@ -12,6 +12,7 @@ ghost use Rattle.ltm_curve.specs.Totals.{AreTotals};
 use ltm_units::NoMemory;
 use std::alloc::Global;
 
+mod adding;
 mod copies;
 mod room;
 
