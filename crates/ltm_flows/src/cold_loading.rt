@@ -5,18 +5,18 @@ ghost use Rattle.ltm_node.specs.Shape.{width};
 ghost use Rattle.ltm_node.specs.Solvable.{IsSolvable};
 ghost use Rattle.ltm_loading.specs.Setting.{IsSetting};
 ghost use Rattle.ltm_loading.specs.Loading.{IsFront, IsLoading};
-ghost use Rattle.ltm_loading.specs.NextPair.{IsPairInputs};
+ghost use Rattle.ltm_loading.specs.Uncounted.{IsUncountedPair};
 ghost use Rattle.ltm_loading.specs.Pairs.{shape_at};
 ghost use Rattle.ltm_setting.specs.Setting.{setting_of};
 ghost use Rattle.ltm_flows.specs.Shaped.{IsShaped};
 ghost use Rattle.ltm_flows.specs.Working.{IsWorking, IsWorkingAt, HasRoom};
 
-use crate::node_counts::apply;
+use crate::moves::add_moves;
 use ltm_curve::Curves;
-use ltm_inputs::{inputs_if_sent, widest};
+use ltm_inputs::{uncounted_if_sent, widest};
 use ltm_loading::{
     counts_by_place, counts_set_only, inputs_by_place, inputs_read_only, next_pair, next_slot,
-    outputs_small, set_by_one_pair,
+    outputs_small, set_by_one_pair, step_by_moves,
 };
 use ltm_node::{NodeInputs, NodeOutputs, no_arrivals, nothing_moves, same_shape, solve};
 use ltm_scenario::Scenario;
@@ -72,19 +72,20 @@ fn load_pair(scenario: &Scenario, curves: &mut Curves, pair: Pair, room: Room) -
     counts_by_place();
     nothing_moves();
     let mut room = room;
-    if inputs_if_sent(scenario, curves, pair, &mut room.inputs) {
+    if uncounted_if_sent(scenario, curves, pair, &mut room.inputs) {
         return write_pair(scenario, curves, pair, room);
     }
     room
 }
 
-/// The step of a node in a slot, from its inputs.
+/// The step of a node in a slot: what moves, from inputs with 0 for each count, is added to its counts, which were carried on
+/// to the slot's end.
 fn write_pair(scenario: &Scenario, curves: &mut Curves, pair: Pair, room: Room) -> Room
     requires setting { IsSetting (setting_of scenario.now) }
     requires node { pair.node.0 < (setting_of scenario.now).nodes }
     requires slot { pair.slot < (setting_of scenario.now).slots }
     requires working { IsWorkingAt (setting_of scenario.now) curves.old pair.slot pair.node.0 }
-    requires reads { IsPairInputs (setting_of scenario.now) (counts_of curves.old) pair.node.0 pair.slot room.inputs }
+    requires reads { IsUncountedPair (setting_of scenario.now) (counts_of curves.old) pair.node.0 pair.slot room.inputs }
     requires solvable { IsSolvable room.inputs }
     requires inputs { HasRoom (setting_of scenario.now) room.inputs.room }
     requires outputs { HasRoom (setting_of scenario.now) room.outputs.room }
@@ -92,8 +93,9 @@ fn write_pair(scenario: &Scenario, curves: &mut Curves, pair: Pair, room: Room) 
     ensures inputs { HasRoom (setting_of scenario.now) result.inputs.room }
     ensures outputs { HasRoom (setting_of scenario.now) result.outputs.room }
 {
-    inputs_by_place();
+    counts_by_place();
     outputs_small();
+    step_by_moves();
     next_pair();
     same_shape();
     no_arrivals();
@@ -101,12 +103,12 @@ fn write_pair(scenario: &Scenario, curves: &mut Curves, pair: Pair, room: Room) 
     let _slots = slot_count(scenario);
     let mut steps = Steps::new();
     let (inputs, outputs) = solve(room.inputs, room.outputs, &mut steps).release();
-    apply(scenario, curves, pair, &outputs);
+    add_moves(scenario, curves, pair, &outputs);
     Room { inputs, outputs }
 }
 
-/// The steps of all nodes in a slot. All counts are first carried on to the slot's end, and those of the nodes where
-/// something is sent are then written.
+/// The steps of all nodes in a slot. All counts are first carried on to the slot's end, and what moves is then added
+/// there.
 fn load_slot(scenario: &Scenario, curves: &mut Curves, slot: u32, room: Room) -> Room
     requires setting { IsSetting (setting_of scenario.now) }
     requires slot { slot < (setting_of scenario.now).slots }

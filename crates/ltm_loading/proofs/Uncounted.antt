@@ -7,7 +7,6 @@ use Rattle.ltm_curve.proofs.Lists.{length-list_below, index-list_below}
 use Rattle.ltm_node.specs.declared.shape.NodeShape.{NodeShape}
 use Rattle.ltm_node.specs.Shape.{counts_width}
 use Rattle.ltm_node.specs.Inputs.{Inputs}
-use Rattle.ltm_node.specs.Outputs.{Outputs}
 use Rattle.ltm_node.specs.Step.{IsNodeStep}
 use Rattle.ltm_node.specs.Laws.{IsUncounted, IsMovedOn}
 use Rattle.ltm_node.proofs.Uncounted.{moves_add_holds, uncounted_solvable}
@@ -15,7 +14,7 @@ use Rattle.ltm_loading.specs.Setting.{Setting}
 use Rattle.ltm_loading.specs.Groups.{up_of}
 use Rattle.ltm_loading.specs.Flows.{receiving}
 use Rattle.ltm_loading.specs.Pairs.{arms_of, shape_at, sending, arm_group, arm_capacity, arrived_by, grid, pair_row, pair_inputs, count_row}
-use Rattle.ltm_loading.specs.Uncounted.{uncounted_row, IsUncountedPair, moved_on, outputs_at, StepByMoves, UncountedInRange}
+use Rattle.ltm_loading.specs.Uncounted.{uncounted_row, moved_on, outputs_at, StepByMoves, UncountedInRange}
 use Rattle.ltm_loading.proofs.Rows.{HasParts, HasCounts, has_parts, pair_parts, next_counts, length-grid}
 use Rattle.ltm_loading.proofs.SameRows.{length-pair_row}
 use Rattle.ltm_loading.proofs.Setters.{same_step}

@@ -11,4 +11,4 @@ returns-clause-working c =
     let counts = counts_of c.args.curves.now in
     let u = c.args.pair.node.0 in
     working_idle s c.args.curves.now c.args.pair.slot u c.requires.working
-    (idle_meets s counts u c.args.pair.slot c.inputs_by_place.ensures c.counts_by_place.ensures c.nothing_moves.ensures c.requires.setting c.requires.node (c.inputs_if_sent.ensures.idle.0 c.if-inputs_if_sent.false) (λ g d of m. c.requires.working.carried u g d (omega arith) c.requires.node of m))
+    (idle_meets s counts u c.args.pair.slot c.inputs_by_place.ensures c.counts_by_place.ensures c.nothing_moves.ensures c.requires.setting c.requires.node (c.uncounted_if_sent.ensures.idle.0 c.if-uncounted_if_sent.false) (λ g d of m. c.requires.working.carried u g d (omega arith) c.requires.node of m))
