@@ -3,22 +3,7 @@ ghost use Rattle.std.specs.Prelude.{◌≡◌, ℕ, ◌+◌, ◌*◌, ◌^◌, �
 
 use super::{Curves, sum_of};
 
-/// Adds amounts to a row of counts in 32 bits: of two counts, as with two destinations, without a loop.
-#[inline]
-fn add_to(row: &mut [u32], amounts: &[u64])
-    requires count { length row.old ≡ length amounts.now }
-    requires small { (d : ℕ) → d < length amounts.now → slice_index row.old d + slice_index amounts.now d < 2 ^ 31 }
-    ensures { (d : ℕ) → d < length amounts.now → slice_index row.new d ≡ slice_index row.old d + slice_index amounts.now d }
-{
-    if row.len() == 2 {
-        row[0] += amounts[0] as u32;
-        row[1] += amounts[1] as u32;
-    } else {
-        add_many(row, amounts);
-    }
-}
-
-/// The same for any count of counts.
+/// Adds amounts to a row of counts in 32 bits.
 fn add_many(row: &mut [u32], amounts: &[u64])
     requires count { length row.old ≡ length amounts.now }
     requires small { (d : ℕ) → d < length amounts.now → slice_index row.old d + slice_index amounts.now d < 2 ^ 31 }
@@ -27,6 +12,18 @@ fn add_many(row: &mut [u32], amounts: &[u64])
     for destination in 0..row.len() {
         row[destination] += amounts[destination] as u32;
     }
+}
+
+/// The same for two counts.
+#[inline]
+fn add_both(row: &mut [u32], amounts: &[u64])
+    requires counts { length row.old ≡ 2 }
+    requires count { length amounts.now ≡ 2 }
+    requires small { (d : ℕ) → d < length amounts.now → slice_index row.old d + slice_index amounts.now d < 2 ^ 31 }
+    ensures { (d : ℕ) → d < length amounts.now → slice_index row.new d ≡ slice_index row.old d + slice_index amounts.now d }
+{
+    row[0] += amounts[0] as u32;
+    row[1] += amounts[1] as u32;
 }
 
 impl Curves {
@@ -42,15 +39,38 @@ impl Curves {
             → counts_of self.old group d boundary + slice_index amounts.now d < 2 ^ 31 }
         ensures { AddsRow self.old self.new group boundary amounts.now }
     {
-        if amounts.len() == 1 {
+        if amounts.len() == 2 {
+            self.add_two(group, boundary, amounts);
+        } else if amounts.len() == 1 {
             let count = self.get(group, 0, boundary) + amounts[0];
             self.set_only(group, boundary, count);
-        } else if amounts.len() > 1 {
+        } else if amounts.len() > 2 {
             self.add_several(group, boundary, amounts);
         }
     }
 
-    /// The same where there are several destinations: the total grows by as much.
+    /// The same where there are two destinations, without a loop.
+    #[inline]
+    #[tactic(auto, using(crate::proofs::Places::total_small), unfolding(crate::specs::Table::counts_of))]
+    fn add_two(&mut self, group: u32, boundary: u32, amounts: &[u64])
+        requires group { group < groups_of self.old }
+        requires boundary { boundary ≤ slots_of self.old }
+        requires count { length amounts.now ≡ destinations_of self.old }
+        requires two { destinations_of self.old ≡ 2 }
+        requires small { (d : ℕ) → d < length amounts.now
+            → counts_of self.old group d boundary + slice_index amounts.now d < 2 ^ 31 }
+        ensures { AddsRow self.old self.new group boundary amounts.now }
+    {
+        let total = self.kept_total(group, boundary);
+        let row = self.row_number(group, boundary);
+        let from = self.start(group, boundary);
+        let to = from + self.destinations as usize;
+        self.totals[row] = total + sum_of(amounts);
+        add_both(&mut self.counts[from..to], amounts);
+    }
+
+    /// The same where there are several destinations: the total grows by as much. Kept out of line.
+    #[inline(never)]
     #[tactic(auto, using(crate::proofs::Places::total_small), unfolding(crate::specs::Table::counts_of))]
     fn add_several(&mut self, group: u32, boundary: u32, amounts: &[u64])
         requires group { group < groups_of self.old }
@@ -66,6 +86,6 @@ impl Curves {
         let from = self.start(group, boundary);
         let to = from + self.destinations as usize;
         self.totals[row] = total + sum_of(amounts);
-        add_to(&mut self.counts[from..to], amounts);
+        add_many(&mut self.counts[from..to], amounts);
     }
 }
