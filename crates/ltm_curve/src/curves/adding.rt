@@ -3,18 +3,24 @@ ghost use Rattle.std.specs.Prelude.{◌≡◌, ℕ, ◌+◌, ◌*◌, ◌^◌, �
 
 use super::{Curves, sum_of};
 
-/// Adds amounts to a row of counts in 32 bits.
-fn add_many(row: &mut [u32], amounts: &[u64])
+/// Adds amounts to a row of counts in 32 bits, and gives their sum.
+fn add_many(row: &mut [u32], amounts: &[u64]) -> u64
     requires count { length row.old ≡ length amounts.now }
+    requires few { length amounts.now ≤ 64 }
     requires small { (d : ℕ) → d < length amounts.now → slice_index row.old d + slice_index amounts.now d < 2 ^ 31 }
-    ensures { (d : ℕ) → d < length amounts.now → slice_index row.new d ≡ slice_index row.old d + slice_index amounts.now d }
+    ensures whole { result ≡ sum amounts.now }
+    ensures added { (d : ℕ) → d < length amounts.now → slice_index row.new d ≡ slice_index row.old d + slice_index amounts.now d }
 {
+    let mut whole = 0u64;
     for destination in 0..row.len() {
-        row[destination] += amounts[destination] as u32;
+        let amount = amounts[destination];
+        whole += amount;
+        row[destination] += amount as u32;
     }
+    whole
 }
 
-/// The same for two counts.
+/// Adds amounts to two counts.
 #[inline]
 fn add_both(row: &mut [u32], amounts: &[u64])
     requires counts { length row.old ≡ 2 }
@@ -85,7 +91,7 @@ impl Curves {
         let row = self.row_number(group, boundary);
         let from = self.start(group, boundary);
         let to = from + self.destinations as usize;
-        self.totals[row] = total + sum_of(amounts);
-        add_many(&mut self.counts[from..to], amounts);
+        let whole = add_many(&mut self.counts[from..to], amounts);
+        self.totals[row] = total + whole;
     }
 }
