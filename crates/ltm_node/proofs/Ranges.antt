@@ -87,7 +87,7 @@ weights_fit n d xs few small is long =
 
 -- ---- a share of nothing
 
-pub nothing_of : (p e x : ℕ) → x ≡ 0 → p * x / e ≡ 0
+nothing_of : (p e x : ℕ) → x ≡ 0 → p * x / e ≡ 0
 nothing_of p e x none = omega (arith, mul-le-mul_left p (let z : x ≤ 0 = omega arith in z))
 
 weight_within : (xs : List ℕ) (k : ℕ) → get_or xs k 0 ≤ sum xs

@@ -1,12 +1,11 @@
 -- An amount is split out-link by out-link.
-use Rattle.std.proofs.Common.{◌≡◌, ℕ, zero, suc, ◌+◌, ◌-◌, ◌*◌, ◌/◌, ◌<◌, ◌≤◌, List, [], ◌∷◌, sum, drop, get_or, length, slice_index, arith, ap, ◌∙◌, sym, subst, inl, inr}
+use Rattle.std.proofs.Common.{◌≡◌, ℕ, zero, suc, ◌+◌, ◌-◌, ◌*◌, ◌/◌, ◌<◌, ◌≤◌, List, [], ◌∷◌, sum, drop, get_or, length, slice_index, arith, ap, ◌∙◌, sym, inl, inr}
 use Rattle.std.proofs.lemmas.Bool.{cases_lt}
 use Rattle.std.proofs.lemmas.List.Sums.{sum_by-cons}
 use Rattle.ltm_units.specs.Sums.{sum_below}
 use Rattle.ltm_units.specs.Nested.{nested_split}
 use Rattle.ltm_units.proofs.Splits.{nested_split-le, nested_split-zero}
 use Rattle.ltm_node.specs.Splitting.{IsSplitUpTo}
-use Rattle.ltm_node.proofs.Ranges.{nothing_of}
 
 some_weight : (ws : List ℕ) (out : ℕ) → 0 < sum (drop out ws) → out < length ws
 some_weight [] zero some = absurd (omega arith)
@@ -72,26 +71,3 @@ sum_ended (suc m) k f le none =
       | inl less ↦ let at : suc m ≡ k = omega arith in ap (λ z. sum_below z f) at
       | inr more ↦ omega (arith, sum_ended m k f more none, none m more)
     ]
-
--- over the first weights, all of which are 0, nothing is split
-pub record Leads (amount : ℕ) (ws : List ℕ) (whole first : ℕ) : Type 0 where
-  pub split : IsSplitUpTo amount ws first amount whole
-  pub none : (j : ℕ) → j < first → slice_index (nested_split amount ws) j ≡ 0
-
-pub leads : (amount : ℕ) (ws : List ℕ) (whole first : ℕ) → whole ≡ sum ws → first ≤ length ws → ((j : ℕ) → j < first → slice_index ws j ≡ 0) → Leads amount ws whole first
-leads amount ws whole zero is l zeros = record { split = split_begun amount ws whole is; none = λ j m. absurd (omega arith) }
-leads amount ws whole (suc k) is l zeros =
-    let h : Leads amount ws whole k = leads amount ws whole k is (omega arith) (λ j m. zeros j (omega arith)) in
-    let inside : k < length ws = omega arith in
-    let v : 0 ≡ amount * get_or ws k 0 / whole = sym (nothing_of amount whole (get_or ws k 0) (zeros k (omega arith))) in
-    let next : IsSplitUpTo amount ws (k + 1) (amount - 0) (whole - get_or ws k 0) = split_next amount ws k amount whole 0 h.split inside v in
-    let same : amount - 0 ≡ amount = omega arith in
-    let kept : whole - get_or ws k 0 ≡ whole = omega (arith, zeros k (omega arith)) in
-    let at : k + 1 ≡ suc k = omega arith in
-    record {
-      split = subst (λ (z : ℕ). IsSplitUpTo amount ws z amount whole) at (subst (λ (z : ℕ). IsSplitUpTo amount ws (k + 1) z whole) same (subst (λ (z : ℕ). IsSplitUpTo amount ws (k + 1) (amount - 0) z) kept next));
-      none = λ j m. elim (cases_lt j k) [
-        | inl low ↦ h.none j low
-        | inr last ↦ let here : k ≡ j = omega arith in subst (λ (z : ℕ). slice_index (nested_split amount ws) z ≡ 0) here (sym (part_next amount ws k amount whole 0 h.split inside v))
-      ];
-    }

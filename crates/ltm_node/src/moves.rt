@@ -14,7 +14,7 @@ use crate::inputs::NodeInputs;
 use crate::loads::{Load, Part};
 use crate::portion::Portion;
 use crate::shape::NodeShape;
-use crate::split::{first_of, part_of, sum_of};
+use crate::split::{part_of, sum_of};
 use ltm_shares::Sent;
 
 /// The arms of a node, each of which moves a portion of what it sends. The shape and the row of the inputs are at hand, so
@@ -34,7 +34,6 @@ pub struct Mover<'a> {
 
 impl Mover<'_> {
     ghost use Rattle.ltm_node.specs.Moving.{IsMovingBy, IsMovingAt, HaveMovedTo, IsLoad, IsPart, moved_by};
-    ghost use Rattle.ltm_node.specs.Splitting.{NoWeightBefore};
 
     /// The arms of a node that move this portion of what they send.
     #[inline]
@@ -130,22 +129,12 @@ impl Mover<'_> {
         row[self.shape.left_after_place(load.arm, load.destination)] += total;
     }
 
-    /// The first out-link with a weight for a destination.
+    /// Adds what moves of a load that is split over weights of this sum.
     #[inline]
-    fn first_weight(&self, destination: u32) -> u32
-        requires { destination < self.now.inputs.now.shape.destinations }
-        ensures { NoWeightBefore self.now.inputs.now destination result }
-    {
-        first_of(self.weights(destination))
-    }
-
-    /// Adds what moves of a load that is split over weights of this sum, the first of which is this out-link's.
-    #[inline]
-    fn split(&self, load: Load, whole: u64, first: u32, row: &mut [u64], sent: &mut Sent)
+    fn split(&self, load: Load, whole: u64, row: &mut [u64], sent: &mut Sent)
         requires load { IsLoad self.now.inputs.now load }
         requires elsewhere { is_own self.now.inputs.now.shape load.destination ≡ false }
         requires whole { whole ≡ sum (weights self.now.inputs.now load.destination) }
-        requires first { NoWeightBefore self.now.inputs.now load.destination first }
         requires before { IsMovingAt self.now load.destination load.arm row.old sent.old }
         ensures after { IsMovingAt self.now load.destination (load.arm + 1) row.new sent.new }
     {
@@ -153,7 +142,7 @@ impl Mover<'_> {
         let mut left = load.amount;
         let mut rest = whole;
         let mut total = 0u64;
-        let mut out = first;
+        let mut out = 0u32;
         while rest > 0 {
             let weight = weights[out as usize];
             let part = load.by(out, part_of(left, weight, rest));
@@ -167,16 +156,15 @@ impl Mover<'_> {
 
     /// Adds what an arm moves to a destination that is not the node.
     #[inline]
-    fn send(&self, load: Load, whole: u64, first: u32, row: &mut [u64], sent: &mut Sent)
+    fn send(&self, load: Load, whole: u64, row: &mut [u64], sent: &mut Sent)
         requires load { IsLoad self.now.inputs.now load }
         requires elsewhere { is_own self.now.inputs.now.shape load.destination ≡ false }
         requires whole { whole ≡ sum (weights self.now.inputs.now load.destination) }
-        requires first { NoWeightBefore self.now.inputs.now load.destination first }
         requires before { IsMovingAt self.now load.destination load.arm row.old sent.old }
         ensures after { IsMovingAt self.now load.destination (load.arm + 1) row.new sent.new }
     {
         if load.amount > 0 {
-            self.split(load, whole, first, row, sent);
+            self.split(load, whole, row, sent);
         }
     }
 
@@ -201,16 +189,9 @@ impl Mover<'_> {
         ensures after { HaveMovedTo self.now (destination + 1) row.new sent.new }
     {
         let whole = self.whole_weight(destination);
-        let first = self.first_weight(destination);
         let mut place = destination as usize;
         for arm in 0..self.shape.arms {
-            self.send(
-                self.load_at(arm, destination, place),
-                whole,
-                first,
-                row,
-                sent,
-            );
+            self.send(self.load_at(arm, destination, place), whole, row, sent);
             place += self.shape.destinations as usize;
         }
     }

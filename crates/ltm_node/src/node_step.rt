@@ -20,7 +20,8 @@ use crate::outputs::NodeOutputs;
 use crate::portion::Portion;
 use ltm_shares::{ARMS, NodeDemands, OUTS, Sent, Shares, shares};
 
-/// Writes the counts at the end of the slot.
+/// Writes the node step of the inputs into the room of the outputs, as `solve` does, for a caller that keeps both. Takes no
+/// memory.
 pub fn write_step(inputs: &NodeInputs, outputs: &mut NodeOutputs)
     requires solvable { IsSolvable inputs.now }
     requires room { counts_width inputs.now.shape ≤ outputs.old.room }

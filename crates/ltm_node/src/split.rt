@@ -1,5 +1,5 @@
 //! How an amount for a destination is split over the weights of the out-links.
-ghost use Rattle.std.specs.Prelude.{◌≡◌, ℕ, ◌<◌, ◌≤◌, ◌*◌, ◌/◌, ◌^◌, length, sum, slice_index};
+ghost use Rattle.std.specs.Prelude.{◌≡◌, ◌<◌, ◌≤◌, ◌*◌, ◌/◌, ◌^◌, length, sum};
 
 /// The part of what is left of an amount that goes to one of the weights that are left.
 #[inline]
@@ -33,20 +33,4 @@ pub fn sum_of(weights: &[u64]) -> u64
         [one, two, three] => *one + *two + *three,
         [one, two, three, four, ..] => *one + *two + *three + *four,
     }
-}
-
-/// The first weight above 0; behind the last where there is none.
-#[inline]
-pub fn first_of(weights: &[u64]) -> u32
-    requires few { length weights.now ≤ 4 }
-    ensures within { result ≤ length weights.now }
-    ensures zeros { (j : ℕ) → j < result → slice_index weights.now j ≡ 0 }
-{
-    let count = weights.len() as u32;
-    for out in 0..count {
-        if weights[out as usize] > 0 {
-            return out;
-        }
-    }
-    count
 }

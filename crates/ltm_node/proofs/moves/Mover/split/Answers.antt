@@ -1,6 +1,6 @@
 use Rattle.std.proofs.Common.{◌≡◌, ◌≤◌, ◌<◌, ℕ, ◌+◌, ◌-◌, ◌*◌, ◌/◌, ◌∙◌, ap, arith, rules, subst, sym, List, sum, get_or, length, slice_index}
 use Rattle.ltm_units.specs.Nested.{nested_split}
-use Rattle.ltm_units.proofs.Sums.{sum_below_more, sum_below-zero}
+use Rattle.ltm_units.proofs.Sums.{sum_below_more}
 use Rattle.ltm_shares.specs.Sent.{sent_at}
 use Rattle.ltm_node.specs.declared.loads.Part.{Part}
 use Rattle.ltm_node.specs.Inputs.{weights}
@@ -10,27 +10,9 @@ use Rattle.ltm_node.specs.Splitting.{IsSplitUpTo}
 use Rattle.ltm_node.specs.Step.{moved}
 use Rattle.ltm_node.specs.Moving.{IsMoving, IsPart}
 use Rattle.ltm_node.proofs.Ranges.{sending_small, weights_fit, part_is, moved_none, moved_small, moved_out_small}
-use Rattle.ltm_node.proofs.Splitting.{out_within, weight_within_rest, part_next, split_next, split_ended, sum_ended, Leads, leads}
+use Rattle.ltm_node.proofs.Splitting.{out_within, weight_within_rest, part_next, split_next, split_ended, sum_ended}
 use Rattle.ltm_node.proofs.Amounts.{entered_past}
 use Rattle.ltm_node.proofs.moves.Mover.split.Goals as goal
-
-pub loop-rest-init : goal.loop-rest-init
-loop-rest-init c =
-    let n = c.args.self.now.inputs.now in
-    let e : ℕ = denominator c.args.self.now.portion in
-    let p : ℕ → ℕ = numerator c.args.self.now.portion in
-    let s : IsSolvable n = search rules in
-    let a : ℕ = c.args.load.arm in
-    let b : ℕ = c.args.load.destination in
-    let lead : Leads c.args.load.amount (weights n b) c.args.whole c.args.first =
-    leads c.args.load.amount (weights n b) c.args.whole c.args.first c.requires.whole (omega (arith, c.requires.first.within, ap length c.weights-weights.ensures.weights, c.weights-weights.ensures.outs)) c.requires.first.none in
-    let none : (j : ℕ) → j < c.args.first → moved n e p a b j ≡ 0 = λ j m. moved_none n e p a b j (sym (part_is n c.args.load.amount a b j 0 c.requires.elsewhere c.requires.load.amount (sym (lead.none j m)))) in
-    record {
-      within = c.requires.first.within;
-      split = lead.split;
-      total = sym (sum_below-zero c.args.first (λ j. moved n e p a b j) none);
-      moving = entered_past n e p b a 0 c.args.first c.args.row.now (sent_at c.args.sent.now) s c.requires.before (omega arith) c.requires.first.within (λ j more less. none j less);
-    }
 
 pub part_of-requires-clause-left : goal.part_of-requires-clause-left
 part_of-requires-clause-left c =
