@@ -12,7 +12,7 @@ use Rattle.ltm_node.specs.Laws.{NoArrivals, NothingMoves}
 use Rattle.ltm_loading.specs.Setting.{Setting, IsSetting}
 use Rattle.ltm_loading.specs.Groups.{up_of, arr_of}
 use Rattle.ltm_loading.specs.Pairs.{arms_of, arm_group, shape_at, arrived_by, grid, pair_inputs, count_row, pair_outputs, MeetsStep}
-use Rattle.ltm_loading.specs.NextPair.{IsOf}
+use Rattle.ltm_loading.specs.NextPair.{IsOf, IsPairInputs}
 use Rattle.ltm_loading.specs.Uncounted.{IsUncountedPair}
 use Rattle.ltm_loading.specs.ByPlace.{InputsByPlace, CountsByPlace, HoldsInputs, HoldsCounts}
 use Rattle.ltm_loading.proofs.Rows.{length-grid}
@@ -20,8 +20,17 @@ use Rattle.ltm_loading.proofs.Uncounted.{uncounted_parts}
 use Rattle.ltm_inputs.specs.Idle.{IsIdle}
 
 -- nothing arrives at a node that is no destination
-pub none_arrived : (s : Setting) (c : Counts) (u t : ℕ) (n : Inputs) (o : Outputs) → NoArrivals → IsUncountedPair s c u t n → IsNodeStep n o → s.own u ≡ None → arrived_after o ≡ 0
-none_arrived s c u t n o law reads step own =
+pub none_arrived : (s : Setting) (c : Counts) (u t : ℕ) (n : Inputs) (o : Outputs) → InputsByPlace → NoArrivals → IsPairInputs s c u t n → IsNodeStep n o → s.own u ≡ None → arrived_after o ≡ 0
+none_arrived s c u t n o by_place law reads step own =
+    let come : arrived n ≡ 0 =
+    ap (λ (z : NodeShape). slice_index n.row (arrived_place z)) reads.shape
+    ∙ (ap (λ (xs : List ℕ). slice_index xs (arrived_place (shape_at s u))) reads.row
+    ∙ ((by_place s c u t).0.arrived ∙ ap (λ (z : Option ℕ). arrived_by s c z t) own)) in
+    law n o step (ap (λ (z : NodeShape). z.own) reads.shape ∙ own) ∙ come
+
+-- nor does anything move into it
+pub none_moves_in : (s : Setting) (c : Counts) (u t : ℕ) (n : Inputs) (o : Outputs) → NoArrivals → IsUncountedPair s c u t n → IsNodeStep n o → s.own u ≡ None → arrived_after o ≡ 0
+none_moves_in s c u t n o law reads step own =
     let come : arrived n ≡ 0 =
     ap (λ (z : NodeShape). slice_index n.row (arrived_place z)) reads.shape
     ∙ (ap (λ (xs : List ℕ). slice_index xs (arrived_place (shape_at s u))) reads.row ∙ (uncounted_parts s c u t).arrived) in

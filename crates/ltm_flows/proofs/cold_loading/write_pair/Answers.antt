@@ -6,7 +6,7 @@ use Rattle.ltm_loading.specs.Pairs.{shape_at, pair_inputs, count_row}
 use Rattle.ltm_loading.specs.NextPair.{Applies}
 use Rattle.ltm_loading.specs.Uncounted.{moved_on, outputs_at}
 use Rattle.ltm_setting.specs.Setting.{setting_of}
-use Rattle.ltm_flows.proofs.Steps.{none_arrived, kept_row}
+use Rattle.ltm_flows.proofs.Steps.{none_moves_in, kept_row}
 use Rattle.ltm_flows.proofs.Progress.{working_next}
 use Rattle.ltm_flows.proofs.cold_loading.write_pair.Goals as goal
 
@@ -39,7 +39,7 @@ add_moves-requires-clause-small c k =
     )
 
 pub add_moves-requires-clause-no_sink : goal.add_moves-requires-clause-no_sink
-add_moves-requires-clause-no_sink c own = none_arrived _ (counts_of c.args.curves.now) _ c.args.pair.slot _ _ c.no_arrivals.ensures c.requires.reads c.write_step.ensures.step own
+add_moves-requires-clause-no_sink c own = none_moves_in _ (counts_of c.args.curves.now) _ c.args.pair.slot _ _ c.no_arrivals.ensures c.requires.reads c.write_step.ensures.step own
 
 pub returns-clause-working : goal.returns-clause-working
 returns-clause-working c =
