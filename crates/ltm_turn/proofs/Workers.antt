@@ -1,13 +1,12 @@
 -- A split and a join keep the rule.
-use Rattle.std.proofs.Common.{◌≡◌, ◌≢◌, ◌⊎◌, ℕ, zero, suc, ◌≤◌, ◌<◌, ◌==◌, Bool, true, false, List, [], ◌∷◌, ◌++◌, set, length, get_or, max, refl, sym, ap, ◌∙◌, inl, inr, ⊎_elim, subst, arith, Option, Some, None}
-use mathlib.Core.Option.{some, none, some-injective, some-ne-none}
-use mathlib.Core.Option as maybe
+use Rattle.std.proofs.Common.{◌≡◌, ◌≢◌, ◌⊎◌, ℕ, ◌≤◌, true, false, List, [], ◌∷◌, ◌++◌, set, max, sym, ap, ◌∙◌, inl, inr, ⊎_elim, arith}
+use mathlib.Core.Option.{some, some-injective}
 use lib.ListN.{get_elem?}
-use Rattle.atomic_table.specs.Table.{State, Splits, Joins}
+use Rattle.atomic_table.specs.Table.{Splits, Joins}
 use Rattle.atomic_table.proofs.Lists.{at_set, at_longer, at_snoc, set_else}
 use Rattle.ltm_turn.specs.declared.view.View.{View}
 use Rattle.ltm_turn.specs.Views.{after_split, worker_view, after_join, spent_view}
-use Rattle.ltm_turn.specs.Rule.{one_if, working, IsFree, IsHeld, IsTurn}
+use Rattle.ltm_turn.specs.Rule.{one_if, IsFree, IsHeld, IsTurn}
 use Rattle.ltm_turn.proofs.Working.{working_set, working_snoc}
 use Rattle.ltm_turn.proofs.Changes.{clash, at_new', holder_else, Seated, At}
 
