@@ -1,5 +1,4 @@
--- What the rule of a turn says between any two steps, in five facts. Views are numbered in the order in which their passes
--- were made, the editor's being the first.
+-- What the rule of a turn says between any two steps, in five facts.
 use Rattle.std.specs.Prelude.{◌≡◌, ◌⊎◌, ℕ, ◌≤◌, true, List, [], ◌∷◌, Option, Some}
 use mathlib.Core.Option.{some, none}
 use lib.ListN.{get_elem?}
@@ -11,6 +10,7 @@ module _ {T E : Type 0} where
   abbrev pub IsView : State (Option T) (View E) → ℕ → View E → Type 0
   IsView s j v = get_elem? s.views j ≡ some v
 
+  -- the word is this number
   abbrev pub WordIs : State (Option T) (View E) → ℕ → Type 0
   WordIs s n = s.words ≡ n ∷ []
 

@@ -5,6 +5,7 @@ use lib.ListN.{get_elem?}
 use Rattle.atomic_table.specs.Table.{State}
 use Rattle.ltm_turn.specs.declared.view.View.{View}
 
+-- 1 where it is true, and else 0
 abbrev pub one_if : Bool → ℕ
 one_if true = 1
 one_if false = 0

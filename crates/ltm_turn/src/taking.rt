@@ -1,5 +1,5 @@
 //! How the turn is taken and given.
-ghost use Rattle.std.specs.Prelude.{◌≡◌, ◌≤◌, true, false, [], ◌∷◌, None};
+ghost use Rattle.std.specs.Prelude.{◌≡◌, ◌≤◌, true, false, [], ◌∷◌, None, IfSome};
 ghost use mathlib.Core.List.{IsPrefix};
 ghost use Rattle.ltm_turn.specs.Views.{holding, idle};
 ghost use Rattle.ltm_turn.specs.Passes.{turn_id, editor_turn, worker_turn, editor_held_turn, worker_held_turn, editor_list, editor_seen, worker_seen, editor_workers, editor_found, editor_found_number, editor_held_workers, editor_value, worker_found, worker_found_number, worker_value};
@@ -13,7 +13,21 @@ use ltm_told::Told;
 use std::sync::Wait;
 
 impl<T: Told> Turn<T> {
-    // Waits until the turn is free, takes it, and takes the value out of its slot.
+    // Takes the turn if it is free, and the value out of its slot.
+    fn try_acquire(&self, seat: &mut Seat<Option<T>, View<T::Entry>>) -> Option<T>
+        requires table { seat.old.table_id ≡ self.now.table.shared.table_id }
+        requires idle { (seat.old.me.1 ≡ []) × (seat.old.me.0.editor ≡ false → seat.old.me.0.works ≡ true) }
+        ensures table { seat.new.table_id ≡ seat.old.table_id }
+        ensures won { IfSome result (λ x. (seat.new.me ≡ (holding seat.old.me.0 (T.entries x) (T.number x), (0, None) ∷ [])) × (seat.old.me.0.number ≤ T.number x) × (seat.old.me.0.editor ≡ true → T.entries x ≡ seat.old.me.0.entries)) }
+        ensures lost { result ≡ None → seat.new.me ≡ seat.old.me }
+    {
+        if self.table.shared.compare_exchange::<Take>(seat, 0, 0, 1) == 0 {
+            return Some(self.table.shared.exchange(seat, 0, None).unwrap());
+        }
+        None
+    }
+
+    // Waits until the turn is free, and takes it.
     fn acquire<R: Wait>(&self, rt: &R, seat: &mut Seat<Option<T>, View<T::Entry>>) -> T
         requires table { seat.old.table_id ≡ self.now.table.shared.table_id }
         requires idle { (seat.old.me.1 ≡ []) × (seat.old.me.0.editor ≡ false → seat.old.me.0.works ≡ true) }
@@ -23,8 +37,8 @@ impl<T: Told> Turn<T> {
     {
         let backoff = Backoff::new();
         for _ in rt.forever() {
-            if self.table.shared.compare_exchange::<Take>(seat, 0, 0, 1) == 0 {
-                return self.table.shared.exchange(seat, 0, None).unwrap();
+            if let Some(value) = self.try_acquire(seat) {
+                return value;
             }
             backoff.snooze();
         }
