@@ -31,6 +31,8 @@ pub struct Loading {
     free: Vec<Millis>,
     generated: Vec<Units>,
     curves: Curves,
+    ghost some_step: { 1 ≤ step.0 },
+    ghost short_step: { step.0 ≤ 60000 },
     ghost few_links: { links ≤ 4000 },
     ghost few_nodes: { nodes ≤ 8000 },
     ghost few_destinations: { destinations_of curves ≤ 64 },
@@ -135,16 +137,21 @@ impl Loading {
         self.version
     }
 
-    /// Its curves.
+    /// Its curves, of which none falls.
     pub fn curves(&self) -> &Curves
-        ensures { result.now ≡ curves_of self.now }
+        ensures value { result.now ≡ curves_of self.now }
+        ensures groups { groups_of (curves_of self.now) ≡ 2 * links_of self.now + nodes_of self.now + 1 }
+        ensures rises { (g d k : ℕ) → g < groups_of (curves_of self.now) → d < destinations_of (curves_of self.now)
+            → k < last_of self.now → counts_of (curves_of self.now) g d k ≤ counts_of (curves_of self.now) g d (k + 1) }
     {
         &self.curves
     }
 
-    /// The length of a slot.
+    /// The length of a slot, 1 to 60,000 ms.
     pub fn step(&self) -> Millis
-        ensures { result.0 ≡ step_of self.now }
+        ensures value { result.0 ≡ step_of self.now }
+        ensures some { 1 ≤ result.0 }
+        ensures small { result.0 ≤ 60000 }
     {
         self.step
     }
@@ -158,7 +165,8 @@ impl Loading {
 
     /// How many links there are.
     pub fn links(&self) -> u32
-        ensures { result ≡ links_of self.now }
+        ensures value { result ≡ links_of self.now }
+        ensures few { result ≤ 4000 }
     {
         self.links
     }
