@@ -12,6 +12,7 @@ mod claiming;
 mod differing;
 mod found;
 mod laws;
+mod marking;
 mod opening;
 mod places;
 mod rows;

@@ -139,6 +139,20 @@ impl Table {
         }
     }
 
+    /// Whether the pair is active. It may be any pair.
+    pub fn is_active(&self, scenario: &Scenario, pair: Pair) -> bool
+        requires { IsReady (setting_of scenario.now) self.now }
+        ensures { result ≡ (desk_at (setting_of scenario.now) self.now).active pair.node.0 pair.slot }
+    {
+        if pair.node.0 >= node_count(scenario) {
+            return false;
+        }
+        if pair.slot >= slot_count(scenario) {
+            return false;
+        }
+        self.frontier.is_active(pair)
+    }
+
     /// Whether the pair is claimed with these inputs. It may be any pair.
     pub fn holds(&self, scenario: &Scenario, pair: Pair, row: &[u64]) -> bool
         requires { IsReady (setting_of scenario.now) self.now }
