@@ -9,6 +9,7 @@
 
 mod batches;
 mod claiming;
+mod commits;
 mod differing;
 mod found;
 mod laws;

@@ -62,7 +62,8 @@ fn close(rt: &impl Abort, alloc: Global, scenario: &mut Scenario, table: &mut Ta
     let batch = Batch::of(alloc, &[closure(rt)]).expect(rt, "a batch");
     assert!(rt; batch.has_amounts());
     assert!(rt; scenario.check().is_ok());
-    let _setup = scenario.setup();
+    let slots = scenario.setup().slots;
+    assert!(rt; batch.horizon(slots) == slots);
     match scenario.accept(&batch) {
         Ok(()) => table.take_in(scenario, batch.edits()),
         Err(_) => panic!(rt; "a refusal"),
