@@ -5,7 +5,6 @@ use Rattle.std.proofs.lemmas.Bool.{cases_lt}
 use Rattle.ltm_curve.specs.Table.{counts_of}
 use Rattle.ltm_node.specs.Shape.{width}
 use Rattle.ltm_scenario.specs.declared.edit.Edit.{Edit}
-use Rattle.ltm_scenario.specs.declared.setup.Setup.{Setup}
 use Rattle.ltm_network.specs.Network.{NetworkData}
 use Rattle.std.specs.List.{list_any}
 use Rattle.ltm_scenario.specs.Data.{ScenarioData}
@@ -46,9 +45,9 @@ one_network a b same = record {
   own = rw same.destinations refl;
 }
 
-pub one_horizon : (a b : ScenarioData) → SameShape a b → (setting_of a).slots ≡ (setting_of b).slots
+pub one_horizon : (a b : ScenarioData) → b.setup.slots ≡ a.setup.slots → (setting_of a).slots ≡ (setting_of b).slots
 unfolding setting_of
-one_horizon a b same = rw same.setup refl
+one_horizon a b same = sym same
 
 shape_same : (r s : Setting) (u : ℕ) → SameNetwork r s → shape_at r u ≡ shape_at s u
 shape_same r s u same = rw (same.ins, same.outs, same.destinations, same.own) refl
@@ -74,16 +73,16 @@ fits_same r s t same slots fits =
     }
 
 pub tables_fit : TablesFit
-tables_fit before after t same fits = fits_same (setting_of before) (setting_of after) t (one_network before after same) (one_horizon before after same) fits
+tables_fit before after t same horizon fits = fits_same (setting_of before) (setting_of after) t (one_network before after same) (one_horizon before after horizon) fits
 
 -- ---- what is touched
 touched_of : NetworkData → ℕ → List Edit → ℕ → ℕ → Bool
 touched_of network slots edits u t = list_any (λ edit. lies_in_one (touched_in network slots edit) u t) edits
 
-touched_same : (a b : ScenarioData) (edits : List Edit) (u t : ℕ) → SameShape a b → is_touched b edits u t ≡ is_touched a edits u t
+touched_same : (a b : ScenarioData) (edits : List Edit) (u t : ℕ) → SameShape a b → b.setup.slots ≡ a.setup.slots → is_touched b edits u t ≡ is_touched a edits u t
 unfolding touched_of
-touched_same a b edits u t same =
-    ap (λ (z : NetworkData). touched_of z b.setup.slots edits u t) same.network ∙ ap (λ (z : Setup). touched_of a.network z.slots edits u t) same.setup
+touched_same a b edits u t same horizon =
+    ap (λ (z : NetworkData). touched_of z b.setup.slots edits u t) same.network ∙ ap (λ (z : ℕ). touched_of a.network z edits u t) horizon
 
 horizon_is : (a : ScenarioData) → (setting_of a).slots ≡ a.setup.slots
 unfolding setting_of
@@ -116,7 +115,7 @@ accepts_desk before after edits t m f is =
     let s : Setting = setting_of after in
     let new : Table = record t { frontier = f } in
     let network : SameNetwork r s = one_network before after is.leads.shape in
-    let slots : r.slots ≡ s.slots = one_horizon before after is.leads.shape in
+    let slots : r.slots ≡ s.slots = one_horizon before after is.leads.horizon in
     let nodes : r.nodes ≡ s.nodes = network.nodes in
     let in_nodes : (u : ℕ) → u < s.nodes → u < nodes_in t.frontier = λ u x. omega (arith, x, nodes, is.ready.fits.frontier.nodes) in
     let in_slots : (v : ℕ) → v < s.slots → v < slots_in t.frontier = λ v l. omega (arith, l, slots, is.ready.fits.frontier.slots) in
@@ -142,7 +141,7 @@ accepts_desk before after edits t m f is =
             let all : is_active f u v ≡ ((is_active t.frontier u v || is_claimed t.frontier u v) || is_touched before edits u v) =
             is.marks.active u v (omega (arith, in_nodes u x, is.voids.size.nodes)) (omega (arith, in_slots v late, is.voids.size.slots))
             ∙ (ap (λ z. z || (is_touched after edits u v && not (is_claimed m u v))) (is.voids.active u v (in_nodes u x) (in_slots v late))
-            ∙ ap (λ z. (is_active t.frontier u v || is_claimed t.frontier u v) || z) (and_all (is_touched after edits u v) (is_claimed m u v) (free u v x) ∙ touched_same before after edits u v is.leads.shape)) in
+            ∙ ap (λ z. (is_active t.frontier u v || is_claimed t.frontier u v) || z) (and_all (is_touched after edits u v) (is_claimed m u v) (free u v x) ∙ touched_same before after edits u v is.leads.shape is.leads.horizon)) in
             active_is s new u v x late ∙ (all
             ∙ sym (ap (λ z. (z || is_some ((desk_at r t).claimed u v)) || touches before edits u v) (active_is r t u v node l)
             ∙ (ap (λ z. (is_active t.frontier u v || is_some z) || touches before edits u v) (claimed_is r t u v node l)
@@ -164,7 +163,7 @@ takes_batch before after edits t m f is =
     let s : Setting = setting_of after in
     let new : Table = record t { frontier = f } in
     let network : SameNetwork r s = one_network before after is.leads.shape in
-    let slots : r.slots ≡ s.slots = one_horizon before after is.leads.shape in
+    let slots : r.slots ≡ s.slots = one_horizon before after is.leads.horizon in
     let fits : FitsTable s t = fits_same r s t network slots is.ready.fits in
     let accepts : Accepts r s (desk_at r t) (touches before edits) (desk_at s new) = accepts_desk before after edits t m f is in
     record {

@@ -1,5 +1,5 @@
 -- An accepted batch.
-use Rattle.std.specs.Prelude.{ℕ, List, Bool, false}
+use Rattle.std.specs.Prelude.{◌≡◌, ℕ, List, Bool, false}
 use Rattle.ltm_units.specs.declared.places.Reach.{Reach}
 use Rattle.ltm_scenario.specs.declared.edit.Edit.{Edit}
 use Rattle.ltm_scenario.specs.Data.{ScenarioData}
@@ -13,9 +13,11 @@ use Rattle.ltm_desk.specs.Pairs.{of_pairs}
 use Rattle.ltm_desk.specs.Desks.{desk_at}
 use Rattle.ltm_desk.specs.Ready.{FitsTable, IsReady}
 
--- the edits lead from one scenario to another of its shape, and a pair outside their reaches reads the same of both
+-- the edits lead from one scenario to another of its shape and horizon, and a pair outside their reaches reads the same of
+-- both
 pub record LeadsTo (before after : ScenarioData) (edits : List Edit) : Type 0 where
   pub shape : SameShape before after
+  pub horizon : after.setup.slots ≡ before.setup.slots
   pub reads : ReadsSameBut before after (is_touched before edits)
 
 -- the pairs of a scenario that edits touch
@@ -32,6 +34,8 @@ pub record TakesIn (before after : ScenarioData) (edits : List Edit) (old new : 
 abbrev pub in_reaches : List Reach → ℕ → ℕ → Bool
 in_reaches reaches u t = lies_in_one reaches u t
 
--- a table has the sizes of every scenario of one shape
+-- a table has the sizes of every scenario of one shape and horizon
 abbrev pub TablesFit : Type 0
-TablesFit = (before after : ScenarioData) (t : Table) → SameShape before after → FitsTable (setting_of before) t → FitsTable (setting_of after) t
+TablesFit =
+    (before after : ScenarioData) (t : Table) → SameShape before after → after.setup.slots ≡ before.setup.slots →
+    FitsTable (setting_of before) t → FitsTable (setting_of after) t

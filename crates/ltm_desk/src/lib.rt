@@ -9,9 +9,11 @@
 
 mod batches;
 mod claiming;
+mod commits;
 mod differing;
 mod found;
 mod laws;
+mod marking;
 mod opening;
 mod places;
 mod rows;

@@ -1,30 +1,25 @@
 //! The working table of a repair, and what each call makes of its desk.
-ghost use Rattle.std.specs.Prelude.{◌≡◌, ◌≢◌, ◌↔◌, ◌||◌, ◌<◌, ◌≤◌, ℕ, IfOk, IsTrue, Some, None, false};
+ghost use Rattle.std.specs.Prelude.{◌≡◌, ◌≢◌, ◌↔◌, ◌<◌, ◌≤◌, ℕ, IfOk, IsTrue, Some, None, false};
 ghost use Rattle.ltm_curve.specs.Table.{counts_of};
 ghost use Rattle.ltm_curve.specs.Cells.{is_changed, HasCells};
 ghost use Rattle.ltm_loading.specs.Setting.{Setting};
 ghost use Rattle.ltm_loading.specs.Groups.{groups};
-ghost use Rattle.ltm_loading.specs.Pairs.{shape_at};
 ghost use Rattle.ltm_scenario.specs.Data.{ScenarioData};
 ghost use Rattle.ltm_setting.specs.Setting.{setting_of};
 ghost use Rattle.ltm_flows.specs.Shaped.{IsShaped};
 ghost use Rattle.ltm_repair.specs.Counting.{claims_out};
 ghost use Rattle.ltm_repair.specs.Desk.{IsAtRest};
-ghost use Rattle.ltm_repair.specs.Moves.{GivesBack, Commits};
+ghost use Rattle.ltm_repair.specs.Moves.{GivesBack};
 ghost use Rattle.ltm_desk.specs.Cells.{count_cells};
-ghost use Rattle.ltm_desk.specs.Committing.{readers, rewritten};
 
 use crate::batches::mark_touched;
 use crate::opening::keep_all;
-use crate::places::place_pair;
 use crate::rows::KeptRows;
-use crate::wake::wake;
 use ltm_curve::{Changed, Curves};
-use ltm_flows::{apply, cold};
+use ltm_flows::cold;
 use ltm_frontier::Frontier;
-use ltm_loading::{counts_by_place, inputs_by_place, outputs_small};
-use ltm_node::{NodeInputs, Solved, no_arrivals, same_shape};
-use ltm_pairs::{ReadIndex, readers_wake};
+use ltm_node::NodeInputs;
+use ltm_pairs::ReadIndex;
 use ltm_scenario::{Edit, Scenario};
 use ltm_setting::{is_setting, link_count, node_count, slot_count};
 use ltm_units::{NoMemory, Pair};
@@ -139,6 +134,20 @@ impl Table {
         }
     }
 
+    /// Whether the pair is active. It may be any pair.
+    pub fn is_active(&self, scenario: &Scenario, pair: Pair) -> bool
+        requires { IsReady (setting_of scenario.now) self.now }
+        ensures { result ≡ (desk_at (setting_of scenario.now) self.now).active pair.node.0 pair.slot }
+    {
+        if pair.node.0 >= node_count(scenario) {
+            return false;
+        }
+        if pair.slot >= slot_count(scenario) {
+            return false;
+        }
+        self.frontier.is_active(pair)
+    }
+
     /// Whether the pair is claimed with these inputs. It may be any pair.
     pub fn holds(&self, scenario: &Scenario, pair: Pair, row: &[u64]) -> bool
         requires { IsReady (setting_of scenario.now) self.now }
@@ -166,48 +175,6 @@ impl Table {
     {
         self.frontier.release(pair);
         self.frontier.mark(pair);
-    }
-
-    /// Sets the counts of a claimed pair to the step of its inputs and keeps these. The readers of what changed become
-    /// active, exactly those, and the cells with another count are noted. Takes no memory.
-    pub fn commit(&mut self, scenario: &Scenario, pair: Pair, solved: &Solved)
-        requires ready { IsReady (setting_of scenario.now) self.old }
-        requires claimed { (desk_at (setting_of scenario.now) self.old).claimed pair.node.0 pair.slot ≡ Some solved.now.inputs.row }
-        requires shape { solved.now.inputs.shape ≡ shape_at (setting_of scenario.now) pair.node.0 }
-        ensures ready { IsReady (setting_of scenario.now) self.new }
-        ensures desk { Commits (setting_of scenario.now) (desk_at (setting_of scenario.now) self.old) pair.node.0 pair.slot solved.now.inputs.row
-            (readers (setting_of scenario.now) (desk_at (setting_of scenario.now) self.old) (desk_at (setting_of scenario.now) self.new) pair.node.0 pair.slot)
-            (desk_at (setting_of scenario.now) self.new) }
-        ensures changed { (g k : ℕ) → changed_at (setting_of scenario.now) self.new g k
-            ≡ (changed_at (setting_of scenario.now) self.old g k
-            || rewritten (setting_of scenario.now) (desk_at (setting_of scenario.now) self.old) (desk_at (setting_of scenario.now) self.new) g k) }
-    {
-        is_setting(scenario);
-        inputs_by_place();
-        counts_by_place();
-        outputs_small();
-        same_shape();
-        no_arrivals();
-        readers_wake();
-        let _slots = slot_count(scenario);
-        let outputs = solved.outputs();
-        place_pair(scenario, &self.curves, pair, &mut self.index);
-        wake(
-            scenario,
-            &self.curves,
-            &self.index,
-            pair,
-            outputs,
-            &mut self.changed,
-            &mut self.frontier,
-        );
-        apply(scenario, &mut self.curves, pair, outputs);
-        self.kept.put(
-            pair.node.0 as usize,
-            pair.slot as usize,
-            solved.inputs().row(),
-        );
-        self.frontier.release(pair);
     }
 
     /// Takes an accepted batch in: claims are void, and what was active or claimed or is touched is active. The scenario is

@@ -1,19 +1,16 @@
 //! The readers of a commit become active, and the cells that it changes are noted.
 //!
 //! All is told before the counts are set, from the counts that stand and those that are to be set: each row is compared
-//! once. The tail of an in-link whose exits differ reads them a wave time later, in at most two slots. The head of an
-//! out-link whose entries differ reads them a free-flow time later, in at most two slots, or where the units end that it
-//! may send: these slots stand in the index.
-ghost use Rattle.std.specs.Prelude.{◌≡◌, ◌==◌, ◌&&◌, ◌||◌, ◌+◌, ◌-◌, ◌^◌, ◌<◌, ◌≤◌, ℕ, length, slice_index, sum, nat_le, false};
-ghost use Rattle.ltm_units.specs.Sums.{sum_below};
+//! once. Where a row differs its cell is noted, and the tail or the head of the link wakes in the slots that read it. Where
+//! any row differs the node's own next slot wakes.
+ghost use Rattle.std.specs.Prelude.{◌≡◌, ◌&&◌, ◌+◌, ◌^◌, ◌<◌, ◌≤◌, ℕ, length, slice_index, sum, false};
 ghost use Rattle.ltm_curve.specs.Table.{counts_of};
 ghost use Rattle.ltm_curve.specs.Cells.{HasCells};
 ghost use Rattle.ltm_loading.specs.Groups.{up_of, down_of, dep_of, groups};
-ghost use Rattle.ltm_loading.specs.Pairs.{arms_of, arm_group, shape_at};
+ghost use Rattle.ltm_loading.specs.Pairs.{shape_at};
 ghost use Rattle.ltm_setting.specs.Setting.{setting_of};
 ghost use Rattle.ltm_flows.specs.Shaped.{IsShaped};
-ghost use Rattle.ltm_frontier.specs.Frontier.{nodes_of, slots_of as slots_in, is_pair, Activates};
-ghost use Rattle.ltm_index.specs.Lists.{links_of, slots_of};
+ghost use Rattle.ltm_frontier.specs.Frontier.{Activates};
 ghost use Rattle.ltm_pairs.specs.Changes.{some_below};
 ghost use Rattle.ltm_desk.specs.Desks.{place_of};
 ghost use Rattle.ltm_desk.specs.Ready.{HasPairs, HasLists};
@@ -28,8 +25,6 @@ ghost use Rattle.ltm_desk.specs.Waking.{
   changes_outs,
   changes,
   wakes_tail,
-  wakes_later,
-  wakes_listed,
   wakes_head,
   wakes_tails,
   wakes_heads,
@@ -38,117 +33,14 @@ ghost use Rattle.ltm_desk.specs.Waking.{
 };
 
 use crate::differing::{note, note_sink};
+use crate::marking::{mark_head, mark_tail};
 use ltm_curve::{Changed, Curves};
 use ltm_frontier::Frontier;
 use ltm_node::NodeOutputs;
-use ltm_pairs::{ReadIndex, readers_ago, slots_stand_by_entry};
+use ltm_pairs::ReadIndex;
 use ltm_scenario::Scenario;
-use ltm_setting::{delays, head, in_links, is_setting, link_count, out_links, slot_count, tail};
-use ltm_units::{LinkId, NodeId, Pair};
-
-/// Marks a pair, unless its slot is below one.
-fn mark_from(frontier: &mut Frontier, pair: Pair, from: u32)
-    requires node { pair.node.0 < nodes_of frontier.old }
-    requires slot { pair.slot < slots_in frontier.old }
-    ensures { Activates frontier.old frontier.new (λ w v. nat_le from v && is_pair pair.node.0 pair.slot w v) }
-{
-    if pair.slot >= from {
-        frontier.mark(pair);
-    }
-}
-
-/// Marks the slots of a node, from one on, that stand in the list of a link and a boundary.
-fn mark_list(
-    index: &ReadIndex,
-    frontier: &mut Frontier,
-    link: LinkId,
-    boundary: u32,
-    node: NodeId,
-    from: u32,
-)
-    requires link { link.0 < links_of index.now }
-    requires boundary { boundary ≤ slots_of index.now }
-    requires node { node.0 < nodes_of frontier.old }
-    requires slots { slots_of index.now ≡ slots_in frontier.old }
-    ensures { Activates frontier.old frontier.new (λ w v. nat_le from v && ((w == node.0) && (place_of index.now link.0 v == boundary))) }
-{
-    slots_stand_by_entry(index);
-    let mut at = index.next_reader(link, boundary, None);
-    while let Some(slot) = at {
-        mark_from(frontier, Pair { node, slot }, from);
-        at = index.next_reader(link, boundary, Some(slot));
-    }
-}
-
-/// Marks the head of a link in the slots, from a boundary on, that stand in the lists from one boundary up to that one.
-fn mark_listed(
-    scenario: &Scenario,
-    index: &ReadIndex,
-    frontier: &mut Frontier,
-    link: LinkId,
-    low: u32,
-    boundary: u32,
-)
-    requires link { link.0 < (setting_of scenario.now).links }
-    requires low { low ≤ boundary }
-    requires boundary { boundary ≤ (setting_of scenario.now).slots }
-    requires lists { HasLists (setting_of scenario.now) index.now }
-    requires pairs { HasPairs (setting_of scenario.now) frontier.old }
-    ensures { Activates frontier.old frontier.new (wakes_listed (setting_of scenario.now) (place_of index.now) link.0 low boundary) }
-{
-    let node = head(scenario, link);
-    for entry in low..boundary + 1 {
-        mark_list(index, frontier, link, entry, node, boundary);
-    }
-}
-
-/// Marks the head of a link in the slots that read a boundary a free-flow time later.
-fn mark_later(scenario: &Scenario, frontier: &mut Frontier, link: LinkId, boundary: u32)
-    requires link { link.0 < (setting_of scenario.now).links }
-    requires pairs { HasPairs (setting_of scenario.now) frontier.old }
-    ensures { Activates frontier.old frontier.new (wakes_later (setting_of scenario.now) link.0 boundary) }
-{
-    is_setting(scenario);
-    let free = delays(scenario, link).free;
-    let node = head(scenario, link);
-    frontier.mark_range(readers_ago(node, boundary, free, slot_count(scenario)));
-}
-
-/// Marks the tail of a link in the slots that read a boundary a wave time later.
-fn mark_tail(scenario: &Scenario, frontier: &mut Frontier, link: LinkId, boundary: u32)
-    requires link { link.0 < (setting_of scenario.now).links }
-    requires pairs { HasPairs (setting_of scenario.now) frontier.old }
-    ensures { Activates frontier.old frontier.new (wakes_tail (setting_of scenario.now) link.0 boundary) }
-{
-    is_setting(scenario);
-    let wave = delays(scenario, link).wave;
-    let node = tail(scenario, link);
-    frontier.mark_range(readers_ago(node, boundary, wave, slot_count(scenario)));
-}
-
-/// Marks the head of a link in the slots that read a boundary, by which so many units have now entered the link.
-fn mark_head(
-    scenario: &Scenario,
-    curves: &Curves,
-    index: &ReadIndex,
-    frontier: &mut Frontier,
-    link: LinkId,
-    boundary: u32,
-    entered: u64,
-)
-    requires link { link.0 < (setting_of scenario.now).links }
-    requires boundary { boundary ≤ (setting_of scenario.now).slots }
-    requires shape { IsShaped (setting_of scenario.now) curves.now }
-    requires lists { HasLists (setting_of scenario.now) index.now }
-    requires pairs { HasPairs (setting_of scenario.now) frontier.old }
-    ensures { Activates frontier.old frontier.new
-        (wakes_head (setting_of scenario.now) (counts_of curves.now) (place_of index.now) link.0 boundary entered) }
-{
-    let _links = link_count(scenario);
-    let low = curves.position(2 * link.0, entered, boundary.saturating_sub(1));
-    mark_later(scenario, frontier, link, boundary);
-    mark_listed(scenario, index, frontier, link, low, boundary);
-}
+use ltm_setting::{in_links, is_setting, link_count, out_links, slot_count};
+use ltm_units::{LinkId, Pair};
 
 /// Wakes the tail of an in-link if some count of what has left it differs.
 fn wake_tail(

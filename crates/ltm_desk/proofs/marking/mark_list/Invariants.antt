@@ -2,7 +2,7 @@ use Rattle.std.proofs.Common.{◌<◌, length, IfSome, Contains}
 use Rattle.ltm_index.specs.Chains.{list_from}
 use Rattle.ltm_index.specs.Lists.{list_of, slots_of}
 use Rattle.ltm_desk.proofs.Listing.{Marked}
-use Rattle.ltm_desk.proofs.wake.mark_list.Given as goal
+use Rattle.ltm_desk.proofs.marking.mark_list.Given as goal
 
 abbrev pub invariant-loop-at : goal.invariant-loop-at
 invariant-loop-at l = record {

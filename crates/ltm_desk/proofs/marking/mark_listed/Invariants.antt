@@ -2,7 +2,7 @@ use Rattle.std.proofs.Common.{◌+◌, ◌≤◌, ◌==◌, ◌&&◌, nat_le, na
 use Rattle.ltm_setting.specs.Setting.{setting_of}
 use Rattle.ltm_frontier.specs.Frontier.{Activates}
 use Rattle.ltm_desk.specs.Desks.{place_of}
-use Rattle.ltm_desk.proofs.wake.mark_listed.Given as goal
+use Rattle.ltm_desk.proofs.marking.mark_listed.Given as goal
 
 abbrev pub invariant-loop-entry : goal.invariant-loop-entry
 invariant-loop-entry l =

@@ -3,7 +3,7 @@ use Rattle.std.specs.Prelude.{Option}
 use Rattle.ltm_index.specs.Lists.{list_of}
 use Rattle.ltm_index.specs.Chains.{behind}
 use Rattle.ltm_desk.proofs.Listing.{Marked, marked_next, marked_all}
-use Rattle.ltm_desk.proofs.wake.mark_list.Goals as goal
+use Rattle.ltm_desk.proofs.marking.mark_list.Goals as goal
 
 pub loop-at-preserved : goal.loop-at-preserved
 loop-at-preserved c =
