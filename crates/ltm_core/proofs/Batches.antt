@@ -180,7 +180,7 @@ pub takes_batch : BatchTouchesReaders → (s next : ScenarioData) (batch edits :
     edited_all s batch ≡ Ok next → edits ≡ batch → IsReady (setting_of s) old → ((before : ScenarioData) → LeadsTo before next edits → IsReady (setting_of before) old → TakesIn before next edits old new) →
     ((z : Setting) → changed_at z new ≡ changed_at z old) → TakesBatch s next old new batch
 takes_batch law s next batch edits old new scenario scenario' valid shape slots setting edited same ready taken cells =
-    let leads : LeadsTo s next batch = record { shape = shape; reads = (law 1 s next batch (have_slots s scenario) edited).1 } in
+    let leads : LeadsTo s next batch = record { shape = shape; reads = (law 1 s next batch (have_slots s scenario) edited).1; horizon = slots } in
     record {
       edited = edited;
       scenario = scenario';
