@@ -3,7 +3,7 @@ use Rattle.std.specs.Prelude.{ℕ, ◌+◌, List, [], ◌∷◌, codes, Option, 
 use Rattle.serde_json.specs.Data.{Data, Items, no_items, item}
 use Rattle.ltm_network.specs.Names.{same}
 use Rattle.ltm_scenario.specs.declared.edit.Edit.{Edit}
-use Rattle.ltm_scenario.specs.declared.edit.Edit.TheVariants.{Demand, Limit, Split, Diagram as NewDiagram, Exit}
+use Rattle.ltm_scenario.specs.declared.edit.Edit.TheVariants.{Demand, Limit, Split, Diagram as NewDiagram, Exit, Horizon}
 use Rattle.ltm_script.specs.declared.command.CommandFault.{CommandFault}
 use Rattle.ltm_script.specs.declared.command.CommandFault.TheVariants.{NotCommand}
 use Rattle.ltm_script.specs.Members.{◌>>=◌, text_in, name_in, whole_in, amount_in}
@@ -51,6 +51,11 @@ diagram_of d = do
   jam_per_km ← whole_in (codes "jam_per_km") d
   Some (NewDiagram link (record { length_m = length_m; free_kmh = free_kmh; wave_kmh = wave_kmh; jam_per_km = jam_per_km }))
 
+unfoldable pub horizon_of : Data → Option Edit
+horizon_of d = do
+  slots ← whole_in (codes "slots") d
+  Some (Horizon slots)
+
 -- an edit by the word for its kind
 abbrev pub edit_by : List ℕ → Data → Option Edit
 edit_by kind d =
@@ -59,6 +64,7 @@ edit_by kind d =
     else if same kind (codes "split") then split_of d
     else if same kind (codes "diagram") then diagram_of d
     else if same kind (codes "exit") then exit_of d
+    else if same kind (codes "horizon") then horizon_of d
     else None
 
 abbrev pub edit_of : Data → Option Edit

@@ -20,6 +20,6 @@ command_in (Some d) = command_of d
 abbrev pub reading : List ℕ → Result Command CommandFault
 reading line = command_in (value_of line)
 
--- the reading of a line never asks for memory
-abbrev pub HasOneReading : Type 0
-HasOneReading = (line : List ℕ) → reading line ≢ Err NoMemory
+-- a line is read as a command or as a fault of its own, never as want of memory
+abbrev pub EveryLineIsRead : Type 0
+EveryLineIsRead = (line : List ℕ) → reading line ≢ Err NoMemory

@@ -2,7 +2,7 @@
 ghost use Rattle.std.specs.Prelude.{◌≡◌, ◌≤◌, Some, IfSome, IfOk, OnErr, length};
 ghost use Rattle.serde_json.specs.View.{view, items_view};
 ghost use Rattle.ltm_scenario.specs.Edits.{amount_of, HaveAmounts};
-ghost use Rattle.ltm_script.specs.Edits.{demand_of, limit_of, split_of, diagram_of, exit_of, edit_of, edits_from};
+ghost use Rattle.ltm_script.specs.Edits.{demand_of, limit_of, split_of, diagram_of, exit_of, horizon_of, edit_of, edits_from};
 ghost use Rattle.ltm_script.specs.Gives.{Gives};
 
 use crate::CommandFault;
@@ -102,6 +102,15 @@ fn read_diagram(value: &Value) -> Option<Edit>
     Some(Edit::Diagram { link, diagram })
 }
 
+#[tactic(auto, unfolding(crate::specs::Edits::horizon_of))]
+fn read_horizon(value: &Value) -> Option<Edit>
+    ensures edit { result ≡ horizon_of (view value.now) }
+    ensures small { IfSome result (λ edit. amount_of edit ≤ 1000000000) }
+{
+    let slots = find_whole(value, "slots")?;
+    Some(Edit::Horizon { slots })
+}
+
 /// The edit that a value is, by its kind.
 fn read_edit(value: &Value) -> Option<Edit>
     ensures edit { result ≡ edit_of (view value.now) }
@@ -113,6 +122,7 @@ fn read_edit(value: &Value) -> Option<Edit>
         "split" => read_split(value),
         "diagram" => read_diagram(value),
         "exit" => read_exit(value),
+        "horizon" => read_horizon(value),
         _ => None,
     }
 }

@@ -12,7 +12,7 @@ mod members;
 mod weights;
 
 pub use command::{Command, CommandFault};
-pub use line::{has_one_reading, read_command};
+pub use line::{every_line_is_read, read_command};
 
 #[cfg(test)]
 mod tests;

@@ -3,7 +3,7 @@ ghost use Rattle.std.specs.Prelude.{◌≡◌, ◌≢◌, ◌≤◌, Some, Err, 
 ghost use Rattle.serde_json.specs.Find.{as_array, get};
 ghost use Rattle.serde_json.specs.View.{view, items_view};
 ghost use Rattle.ltm_script.specs.Commands.{command_of, array_of, HasAmounts};
-ghost use Rattle.ltm_script.specs.Line.{reading, HasOneReading};
+ghost use Rattle.ltm_script.specs.Line.{reading, EveryLineIsRead};
 
 use crate::edits::read_edits;
 use crate::members::{find_name, find_text, find_whole};
@@ -85,7 +85,7 @@ pub fn read_command(alloc: Global, line: &[u8]) -> Result<Command, CommandFault>
     }
 }
 
-/// What is said of a line is its one reading, where memory is found.
-pub fn has_one_reading()
-    ensures { HasOneReading }
+/// Each line has its one reading, which is a command or a fault of the line, and never want of memory.
+pub fn every_line_is_read()
+    ensures { EveryLineIsRead }
 {}

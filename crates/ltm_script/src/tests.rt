@@ -90,6 +90,8 @@ fn an_edit_that_is_none_is_told_by_its_place(rt: HostRuntime) -> Result<(), Fail
             r#"{"kind":"diagram","link":"a","length_m":20,"free_kmh":36,"wave_kmh":36,"jam_per_km":0}"#,
             None,
         ),
+        (r#"{"kind":"horizon","slots":4}"#, None),
+        (r#"{"kind":"horizon","slots":"4"}"#, NO_FIRST),
     ];
     for (edits, fault) in table {
         let line = format!(in rt.alloc(); "{{\"do\":\"edit\",\"edits\":[{edits}]}}")?;
