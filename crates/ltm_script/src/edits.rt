@@ -1,0 +1,150 @@
+//! The edits of a command.
+ghost use Rattle.std.specs.Prelude.{◌≡◌, ◌≤◌, Some, IfSome, IfOk, OnErr, length};
+ghost use Rattle.serde_json.specs.View.{view, items_view};
+ghost use Rattle.ltm_scenario.specs.Edits.{amount_of, HaveAmounts};
+ghost use Rattle.ltm_script.specs.Edits.{demand_of, limit_of, split_of, diagram_of, exit_of, horizon_of, edit_of, edits_from};
+ghost use Rattle.ltm_script.specs.Gives.{Gives};
+
+use crate::CommandFault;
+use crate::members::{find_amount, find_name, find_text, find_whole};
+use crate::weights::find_weights;
+use ltm_diagram::Diagram;
+use ltm_scenario::Edit;
+use serde_json::Value;
+use std::alloc::Global;
+
+#[tactic(auto, unfolding(crate::specs::Edits::demand_of))]
+fn read_demand(value: &Value) -> Option<Edit>
+    ensures edit { result ≡ demand_of (view value.now) }
+    ensures small { IfSome result (λ edit. amount_of edit ≤ 1000000000) }
+{
+    let origin = find_name(value, "origin")?;
+    let destination = find_name(value, "destination")?;
+    let from = find_whole(value, "from")?;
+    let to = find_whole(value, "to")?;
+    let amount = find_amount(value, "vehicles")?;
+    Some(Edit::Demand {
+        origin,
+        destination,
+        from,
+        to,
+        amount,
+    })
+}
+
+#[tactic(auto, unfolding(crate::specs::Edits::limit_of))]
+fn read_limit(value: &Value) -> Option<Edit>
+    ensures edit { result ≡ limit_of (view value.now) }
+    ensures small { IfSome result (λ edit. amount_of edit ≤ 1000000000) }
+{
+    let link = find_name(value, "link")?;
+    let from = find_whole(value, "from")?;
+    let to = find_whole(value, "to")?;
+    let amount = find_amount(value, "vehicles")?;
+    Some(Edit::Limit {
+        link,
+        from,
+        to,
+        amount,
+    })
+}
+
+#[tactic(auto, unfolding(crate::specs::Edits::exit_of))]
+fn read_exit(value: &Value) -> Option<Edit>
+    ensures edit { result ≡ exit_of (view value.now) }
+    ensures small { IfSome result (λ edit. amount_of edit ≤ 1000000000) }
+{
+    let link = find_name(value, "link")?;
+    let from = find_whole(value, "from")?;
+    let to = find_whole(value, "to")?;
+    let amount = find_amount(value, "vehicles")?;
+    Some(Edit::Exit {
+        link,
+        from,
+        to,
+        amount,
+    })
+}
+
+#[tactic(auto, unfolding(crate::specs::Edits::split_of))]
+fn read_split(value: &Value) -> Option<Edit>
+    ensures edit { result ≡ split_of (view value.now) }
+    ensures small { IfSome result (λ edit. amount_of edit ≤ 1000000000) }
+{
+    let node = find_name(value, "node")?;
+    let destination = find_name(value, "destination")?;
+    let from = find_whole(value, "from")?;
+    let weights = find_weights(value, node)?;
+    Some(Edit::Split {
+        node,
+        destination,
+        from,
+        weights,
+    })
+}
+
+#[tactic(auto, unfolding(crate::specs::Edits::diagram_of))]
+fn read_diagram(value: &Value) -> Option<Edit>
+    ensures edit { result ≡ diagram_of (view value.now) }
+    ensures small { IfSome result (λ edit. amount_of edit ≤ 1000000000) }
+{
+    let link = find_name(value, "link")?;
+    let length_m = find_whole(value, "length_m")?;
+    let free_kmh = find_whole(value, "free_kmh")?;
+    let wave_kmh = find_whole(value, "wave_kmh")?;
+    let jam_per_km = find_whole(value, "jam_per_km")?;
+    let diagram = Diagram {
+        length_m,
+        free_kmh,
+        wave_kmh,
+        jam_per_km,
+    };
+    Some(Edit::Diagram { link, diagram })
+}
+
+#[tactic(auto, unfolding(crate::specs::Edits::horizon_of))]
+fn read_horizon(value: &Value) -> Option<Edit>
+    ensures edit { result ≡ horizon_of (view value.now) }
+    ensures small { IfSome result (λ edit. amount_of edit ≤ 1000000000) }
+{
+    let slots = find_whole(value, "slots")?;
+    Some(Edit::Horizon { slots })
+}
+
+/// The edit that a value is, by its kind.
+fn read_edit(value: &Value) -> Option<Edit>
+    ensures edit { result ≡ edit_of (view value.now) }
+    ensures small { IfSome result (λ edit. amount_of edit ≤ 1000000000) }
+{
+    match find_text(value, "kind")? {
+        "demand" => read_demand(value),
+        "limit" => read_limit(value),
+        "split" => read_split(value),
+        "diagram" => read_diagram(value),
+        "exit" => read_exit(value),
+        "horizon" => read_horizon(value),
+        _ => None,
+    }
+}
+
+/// The edits that the values are, or the place of the first that is none, counted from 1.
+pub(crate) fn read_edits(alloc: Global, values: &[Value]) -> Result<Vec<Edit>, CommandFault>
+    requires { length values.now ≤ 32 }
+    ensures edits { Gives result (λ edits. edits.items) (edits_from 1 (items_view values.now)) }
+    ensures amounts { IfOk result (λ edits. HaveAmounts edits.items) }
+{
+    let mut edits = Vec::new(alloc);
+    let mut place: u32 = 1;
+    for value in values {
+        match read_edit(value) {
+            None => return Err(CommandFault::NotCommand(place)),
+            Some(edit) => {
+                if edits.push(edit).is_err() {
+                    return Err(CommandFault::NoMemory);
+                }
+            }
+        }
+        place += 1;
+    }
+    Ok(edits)
+}

@@ -1,0 +1,91 @@
+//! A line as a command.
+ghost use Rattle.std.specs.Prelude.{◌≡◌, ◌≢◌, ◌≤◌, Some, Err, IfOk, OnErr, codes, length, option_map, option_and_then};
+ghost use Rattle.serde_json.specs.Find.{as_array, get};
+ghost use Rattle.serde_json.specs.View.{view, items_view};
+ghost use Rattle.ltm_script.specs.Commands.{command_of, array_of, HasAmounts};
+ghost use Rattle.ltm_script.specs.Line.{reading, EveryLineIsRead};
+
+use crate::edits::read_edits;
+use crate::members::{find_name, find_text, find_whole};
+use crate::{Command, CommandFault};
+use ltm_scenario::{Batch, BatchFault};
+use serde_json::Value;
+use std::alloc::Global;
+
+/// The most edits of a command.
+const MOST_EDITS: usize = 32;
+
+/// The array of a command's edits.
+fn find_edits(value: &Value) -> Option<&Vec<Value>>
+    ensures { option_map (λ v. items_view v.now.items) result ≡ option_and_then as_array (get (codes "edits") (view value.now)) }
+{
+    match value.get("edits") {
+        Some(found) => found.as_array(),
+        None => None,
+    }
+}
+
+/// The values as a batch.
+#[tactic(auto, using(crate::proofs::Placed::counts))]
+fn read_batch(alloc: Global, values: &Vec<Value>) -> Result<Command, CommandFault>
+    ensures command { result ≢ Err CommandFault.NoMemory → result ≡ array_of (Some (items_view values.now.items)) }
+    ensures amounts { IfOk result HasAmounts }
+{
+    if values.is_empty() || values.len() > MOST_EDITS {
+        return Err(CommandFault::NotCommand(0));
+    }
+    let edits = read_edits(alloc, values.as_slice())?;
+    match Batch::of(alloc, edits.as_slice()) {
+        Ok(batch) => Ok(Command::Edit(batch)),
+        Err(_) => Err(CommandFault::NoMemory),
+    }
+}
+
+/// The command that a value is.
+fn read_value(alloc: Global, value: &Value) -> Result<Command, CommandFault>
+    ensures command { result ≢ Err CommandFault.NoMemory → result ≡ command_of (view value.now) }
+    ensures amounts { IfOk result HasAmounts }
+{
+    let no_command = CommandFault::NotCommand(0);
+    match find_text(value, "do").ok_or(no_command)? {
+        "edit" => read_batch(alloc, find_edits(value).ok_or(no_command)?),
+        "totals" => Ok(Command::Totals),
+        "link" => {
+            let link = find_name(value, "link").ok_or(no_command)?;
+            Ok(Command::Link(link))
+        }
+        "time" => {
+            let link = find_name(value, "link").ok_or(no_command)?;
+            let slot = find_whole(value, "slot").ok_or(no_command)?;
+            Ok(Command::Time { link, slot })
+        }
+        "settle" => Ok(Command::Settle),
+        _ => Err(no_command),
+    }
+}
+
+/// Reads a line of a script, without its newline.
+///
+/// The line is one JSON value as `serde_json` reads it: a member that stands twice counts as it stands last, and members
+/// that no command asks for are passed over.
+#[tactic(auto, using(crate::proofs::Lines::values))]
+pub fn read_command(alloc: Global, line: &[u8]) -> Result<Command, CommandFault>
+    ensures command { result ≢ Err CommandFault.NoMemory → result ≡ reading line.now }
+    ensures amounts { IfOk result HasAmounts }
+{
+    match Value::from_slice(alloc, line) {
+        Ok(value) => read_value(alloc, &value),
+        Err(e) => {
+            if e.is_memory() {
+                Err(CommandFault::NoMemory)
+            } else {
+                Err(CommandFault::NotJson)
+            }
+        }
+    }
+}
+
+/// Each line has its one reading, which is a command or a fault of the line, and never want of memory.
+pub fn every_line_is_read()
+    ensures { EveryLineIsRead }
+{}
