@@ -102,6 +102,9 @@ unfolding left_of undone_of claims_of repair_of
 runs_hold law = record {
   shown = shown_numbers law;
   accepted = accepted_numbers law;
+  changed = λ d e u t is step. law.changed (repair_of d) (repair_of e) u t is.repair step;
+  woken = λ d e touched step u t l. law.woken (repair_of d) (repair_of e) touched step u t l;
+  others = λ d e x step no_commit no_batch u t on. law.others (repair_of d) (repair_of e) x step no_commit no_batch u t on;
   none_twice = λ d e events h u t. law.none_twice (repair_of d) (repair_of e) events h.core.repair (run_of d e events h.run) h.no_batch u t;
   useful = λ d e events c h loading. law.useful (repair_of d) (repair_of e) events c h.core.repair (run_of d e events h.run) h.no_batch (loads d c loading);
   drained = λ d e events c h rest loading. law.drained (repair_of d) (repair_of e) events c h.core.repair (run_of d e events h.run) h.no_batch (rests e rest) (loads d c loading);
