@@ -12,6 +12,7 @@ mod faults;
 mod fields;
 mod links;
 mod parts;
+mod roads;
 mod setup;
 mod signals;
 mod splits;
@@ -20,3 +21,4 @@ mod texts;
 
 pub use case::read_case;
 pub use faults::{CaseCause, CaseFault, File};
+pub use roads::read_roads;
