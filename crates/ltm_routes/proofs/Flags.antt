@@ -23,7 +23,7 @@ tight_begins r to link (Some t) (Some h) from_tail from_head tight =
     record { from_tail = t.0; from_head = h.0; least_from_tail = from_tail; least_from_head = from_head; sum = grind (arith, nat_tests) }
 
 -- a least time is the only one
-least_is : (r : Roads) (from to a b : ℕ) → IsLeast r from to a → IsLeast r from to b → a ≡ b
+pub least_is : (r : Roads) (from to a b : ℕ) → IsLeast r from to a → IsLeast r from to b → a ≡ b
 least_is r from to a b x y =
     let ta = x.taken in
     let tb = y.taken in

@@ -7,3 +7,4 @@ pub mod Starting
 pub mod Flags
 pub mod Rows
 pub mod Placed
+pub mod One

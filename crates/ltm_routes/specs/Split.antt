@@ -74,6 +74,10 @@ abbrev pub with_splits : ScenarioData → List SplitRow → Result ScenarioData 
 with_splits s [] = Ok s
 with_splits s (row ∷ rows) = with_split s row.0 row.1 >>= λ next. with_splits next rows
 
+-- nothing but split rows was changed
+abbrev pub KeepsRest : ScenarioData → ScenarioData → Type 0
+KeepsRest s next = next ≡ record s { splits = next.splits }
+
 -- ---- flags that a test gives
 pub record AreFlags (count : ℕ) (test : ℕ → Bool) (flags : List Bool) : Type 0 where
   pub flag_for_each : length flags ≡ count

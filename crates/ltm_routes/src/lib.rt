@@ -8,6 +8,7 @@
 
 mod faults;
 mod found;
+mod laws;
 mod potentials;
 mod roads;
 mod search;
@@ -15,5 +16,6 @@ mod set_rows;
 
 pub use faults::RoutesFault;
 pub use found::{Routes, all_routes};
+pub use laws::routes_are_one;
 pub use potentials::verify;
-pub use set_rows::{set_all, set_routes};
+pub use set_rows::{is_routed, set_all, set_routes};

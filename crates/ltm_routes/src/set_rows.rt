@@ -3,7 +3,7 @@ ghost use Rattle.std.specs.Prelude.{◌≡◌, ◌≢◌, ◌<◌, ◌≤◌, �
 ghost use Rattle.std.specs.List.{list_all};
 ghost use Rattle.ltm_scenario.specs.Reads.{destination_node};
 ghost use Rattle.ltm_routes.specs.Roads.{roads_of};
-ghost use Rattle.ltm_routes.specs.Split.{RoutesData, AreRoutes, AreAllRoutes, weight_of, route_split, is_routed, rows_from, rows_to, route_splits, with_splits};
+ghost use Rattle.ltm_routes.specs.Split.{RoutesData, AreRoutes, AreAllRoutes, weight_of, route_split, is_routed, rows_from, rows_to, route_splits, with_splits, KeepsRest};
 ghost use Rattle.ltm_routes.specs.Setting.{is_before, HasSet};
 
 use crate::faults::RoutesFault;
@@ -43,7 +43,7 @@ fn route_split(
 }
 
 /// Whether a node has a row: it is not the destination, and has a route.
-fn is_routed(scenario: &Scenario, destination: u32, routes: &Routes, node: NodeId) -> bool
+pub fn is_routed(scenario: &Scenario, destination: u32, routes: &Routes, node: NodeId) -> bool
     requires destination { destination < length scenario.now.destinations }
     requires node { node.0 < length routes.now.potentials }
     ensures { result ≡ is_routed scenario.now destination routes.now node.0 }
@@ -127,6 +127,7 @@ pub fn set_all(
     requires none { scenario.splits ≡ [] }
     requires routes { AreAllRoutes scenario all.now }
     ensures set { IfOk result (λ next. with_splits scenario (route_splits scenario all.now) ≡ Ok next) }
+    ensures rest { IfOk result (KeepsRest scenario) }
 
     // Only more than 50,000 rows are refused.
     ensures few { OnOk result (length (route_splits scenario all.now) ≤ 50000) }
