@@ -19,6 +19,6 @@ mod splits;
 mod tables;
 mod texts;
 
-pub use case::read_case;
+pub use case::{check_case, read_case};
 pub use faults::{CaseCause, CaseFault, File};
 pub use roads::read_roads;
