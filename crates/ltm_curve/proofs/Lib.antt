@@ -9,4 +9,5 @@ pub mod Blocks
 pub mod Mixing
 pub mod Cells
 pub mod Copying
+pub mod Adding
 pub mod Longer

@@ -1,7 +1,7 @@
 -- Lists of the first numbers of a function, and their sums.
 use Rattle.std.proofs.Common.{◌≡◌, ℕ, zero, suc, ◌+◌, ◌-◌, ◌<◌, ◌≤◌, List, [], ◌∷◌, length, sum, take, replicate, slice_index, slice_set, get_or-set_same, get_or-set_other, arith, inl, inr, refl, ap, sym, ◌∙◌}
 use Rattle.std.proofs.lemmas.Bool.{cases_lt, cases_eq}
-use Rattle.std.proofs.lemmas.List.{ext_get_or, get_or-replicate, get_or_past, get_or-take, length-replicate}
+use Rattle.std.proofs.lemmas.List.{ext_get_or, get_or-replicate, get_or_past, get_or-take, length-replicate, length-set}
 use Rattle.std.proofs.lemmas.List.Sums.{sum_by-cons}
 use Rattle.ltm_units.specs.Sums.{sum_below}
 use Rattle.ltm_units.specs.Nested.{nested_split}
@@ -62,3 +62,9 @@ written xs f k v all l here i m =
       | inl same ↦ ap (slice_index (slice_set xs k v)) same ∙ (get_or-set_same xs k v 0 l ∙ (here ∙ ap f (sym same)))
       | inr other ↦ get_or-set_other xs k i v 0 other ∙ all i (omega arith)
     ]
+
+-- a list of two is written
+pub written_two : (xs : List ℕ) (f : ℕ → ℕ) (n a b : ℕ) → n ≡ 2 → length xs ≡ n → a ≡ f 0 → b ≡ f 1 → (d : ℕ) → d < n → slice_index (slice_set (slice_set xs 0 a) 1 b) d ≡ f d
+written_two xs f n a b two long first other d l =
+    let one : (i : ℕ) → i < 1 → slice_index (slice_set xs 0 a) i ≡ f i = λ i m. written xs f 0 a (λ k z. absurd (omega arith)) (omega arith) first i (omega arith) in
+    written (slice_set xs 0 a) f 1 b one (omega (arith, length-set xs 0 a)) other d (omega arith)

@@ -1,8 +1,9 @@
 -- The share of each destination in turn, out of what is left of a part.
-use Rattle.std.proofs.Common.{◌≡◌, ℕ, suc, ◌+◌, ◌-◌, ◌*◌, ◌/◌, ◌<◌, ◌≤◌, List, ◌∷◌, length, sum, drop, slice_index, arith, ap, sym, ◌∙◌, subst}
+use Rattle.std.proofs.Common.{◌≡◌, ℕ, suc, ◌+◌, ◌-◌, ◌*◌, ◌/◌, ◌<◌, ◌≤◌, List, [], ◌∷◌, length, sum, drop, slice_index, arith, ap, sym, ◌∙◌, subst}
 use Rattle.std.proofs.lemmas.List.{drop_more}
 use Rattle.std.proofs.lemmas.List.Sums.{sum_by-cons}
 use Rattle.ltm_units.specs.Nested.{nested_split}
+use Rattle.ltm_units.proofs.Splits.{sum-nested_split}
 use Rattle.ltm_curve.specs.First.{entries, mixed, RowsRise}
 use Rattle.ltm_curve.proofs.Lists.{length-list_below, index-list_below}
 use Rattle.ltm_curve.proofs.Firsts.{mixed_next}
@@ -74,3 +75,26 @@ takes m rows k part rest whole d before entered share h l rise within is_before 
       is_mixed = is_mixed;
       next = same_next (entries m rows k) part rest whole d (rest * slice_index (entries m rows k) d / whole) (slice_index (entries m rows k) d) share entered same has.1 has.0.next;
     }
+
+-- two destinations: what of the part the first does not get is the other's
+pub record MixedPair (m : ℕ) (rows : ℕ → ℕ → ℕ) (k part share : ℕ) : Type 0 where
+  pub first : mixed m rows k part 0 ≡ rows 0 k + share
+  pub other : mixed m rows k part 1 ≡ rows 1 k + (part - share)
+
+mixed_pair : (rows : ℕ → ℕ → ℕ) (k part : ℕ) → part ≤ sum (entries 2 rows k) → MixedPair 2 rows k part (part * (rows 0 (k + 1) - rows 0 k) / (rows 0 (k + 1) - rows 0 k + (rows 1 (k + 1) - rows 1 k)))
+mixed_pair rows k part within =
+    let a : ℕ = rows 0 (k + 1) - rows 0 k in
+    let b : ℕ = rows 1 (k + 1) - rows 1 k in
+    let one : sum (b ∷ []) ≡ b = sum_by-cons (λ y. y) b [] ∙ omega arith in
+    let share : part * a / (a + sum (b ∷ [])) ≡ part * a / (a + b) = ap (λ (z : ℕ). part * a / (a + z)) one in
+    let rest : ℕ = slice_index (nested_split part (entries 2 rows k)) 1 in
+    let all : sum (nested_split part (entries 2 rows k)) ≡ part = sum-nested_split (entries 2 rows k) part (λ none. omega arith) in
+    let both : sum (nested_split part (entries 2 rows k)) ≡ part * a / (a + sum (b ∷ [])) + sum (rest ∷ []) = sum_by-cons (λ y. y) (part * a / (a + sum (b ∷ []))) (rest ∷ []) in
+    let last : sum (rest ∷ []) ≡ rest = sum_by-cons (λ y. y) rest [] ∙ omega arith in
+    record { first = omega (arith, share); other = omega (arith, share, all, both, last) }
+
+pub mixed_two : (m : ℕ) (rows : ℕ → ℕ → ℕ) (k part share : ℕ) → m ≡ 2 → part ≤ sum (entries m rows k) → share ≡ part * (rows 0 (k + 1) - rows 0 k) / (rows 0 (k + 1) - rows 0 k + (rows 1 (k + 1) - rows 1 k)) → MixedPair m rows k part share
+mixed_two m rows k part share two within e =
+    subst (λ (z : ℕ). MixedPair m rows k part z) (sym e)
+    (subst (λ (z : ℕ). MixedPair z rows k part (part * (rows 0 (k + 1) - rows 0 k) / (rows 0 (k + 1) - rows 0 k + (rows 1 (k + 1) - rows 1 k)))) (sym two)
+    (mixed_pair rows k part (subst (λ (z : ℕ). part ≤ sum (entries z rows k)) two within)))

@@ -61,6 +61,12 @@ pub record SetsRow (old new : Curves) (group boundary : ℕ) (counts : List ℕ)
   pub here : (d : ℕ) → d < destinations_of old → counts_of new group d boundary ≡ slice_index counts d
   pub others : (g d k : ℕ) → IsIn old g d k → (g ≢ group) ⊎ (k ≢ boundary) → counts_of new g d k ≡ counts_of old g d k
 
+-- amounts are added to the counts of one group at one boundary, and no other count changes
+pub record AddsRow (old new : Curves) (group boundary : ℕ) (amounts : List ℕ) : Type 0 where
+  pub shape : SameShape new old
+  pub here : (d : ℕ) → d < destinations_of old → counts_of new group d boundary ≡ counts_of old group d boundary + slice_index amounts d
+  pub others : (g d k : ℕ) → IsIn old g d k → (g ≢ group) ⊎ (k ≢ boundary) → counts_of new g d k ≡ counts_of old g d k
+
 -- the counts of a boundary stand also at the next one, and no other count is changed
 pub record Carries (old new : Curves) (boundary : ℕ) : Type 0 where
   pub shape : SameShape new old

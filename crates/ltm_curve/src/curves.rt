@@ -12,6 +12,7 @@ ghost use Rattle.ltm_curve.specs.Totals.{AreTotals};
 use ltm_units::NoMemory;
 use std::alloc::Global;
 
+mod adding;
 mod copies;
 mod room;
 
@@ -297,10 +298,12 @@ impl Curves {
         ensures total { result ≡ total_of self.now group boundary }
         ensures small { result ≤ 2 ^ 37 }
     {
-        match self.destinations {
-            0 => 0,
-            1 => self.get(group, 0, boundary),
-            _ => self.kept_total(group, boundary),
+        if self.destinations > 1 {
+            self.kept_total(group, boundary)
+        } else if self.destinations == 1 {
+            self.get(group, 0, boundary)
+        } else {
+            0
         }
     }
 

@@ -1,5 +1,6 @@
 //! A group of curves, as rows of counts.
-ghost use Rattle.std.specs.Prelude.{◌<◌};
+ghost use Rattle.std.specs.Prelude.{◌≡◌, ℕ, ◌+◌, ◌-◌, ◌^◌, ◌<◌, ◌≤◌, length, sum, slice_index};
+ghost use Rattle.ltm_curve.specs.First.{entries, mixed, RowsRise};
 
 use crate::curves::Curves;
 use crate::rows::Rows;
@@ -10,6 +11,35 @@ pub(crate) struct Group<'a> {
     pub(crate) curves: &'a Curves,
     pub(crate) group: u32,
     ghost in_range: { group < curves.now.groups },
+}
+
+impl Group<'_> {
+    ghost use Rattle.ltm_curve.specs.Table.{destinations_of, slots_of, counts_of};
+
+    /// Writes the counts of two destinations at a slot's start with their shares of a part of the units that enter in the
+    /// slot, each less a number: what of the part the first does not get is the other's.
+    #[inline]
+    fn write_mixed_two(&self, slot: u32, part: u64, less: &[u32], into: &mut [u64])
+        requires two { destinations_of self.now.curves.now ≡ 2 }
+        requires next { slot + 1 < 2 ^ 32 }
+        requires slot { slot < slots_of self.now.curves.now }
+        requires rise { RowsRise (destinations_of self.now.curves.now) (counts_of self.now.curves.now self.now.group) (slot + 1) }
+        requires part { part ≤ sum (entries (destinations_of self.now.curves.now) (counts_of self.now.curves.now self.now.group) slot) }
+        requires less { length less.now ≡ destinations_of self.now.curves.now }
+        requires room { length into.old ≡ destinations_of self.now.curves.now }
+        requires behind { (d : ℕ) → d < destinations_of self.now.curves.now → slice_index less.now d
+            ≤ mixed (destinations_of self.now.curves.now) (counts_of self.now.curves.now self.now.group) slot part d }
+        ensures { (d : ℕ) → d < destinations_of self.now.curves.now → slice_index into.new d
+            ≡ mixed (destinations_of self.now.curves.now) (counts_of self.now.curves.now self.now.group) slot part d - slice_index less.now d }
+    {
+        let before = self.curves.row(self.group, slot);
+        let after = self.curves.row(self.group, slot + 1);
+        let entered = u64::from(after[0] - before[0]);
+        let whole = entered + u64::from(after[1] - before[1]);
+        let share = share_of(part, entered, whole);
+        into[0] = u64::from(before[0]) + share - u64::from(less[0]);
+        into[1] = u64::from(before[1]) + (part - share) - u64::from(less[1]);
+    }
 }
 
 impl Rows for Group<'_> {
@@ -42,6 +72,10 @@ impl Rows for Group<'_> {
     }
 
     fn write_mixed_less(&self, slot: u32, part: u64, less: &[u32], into: &mut [u64]) {
+        if less.len() == 2 {
+            self.write_mixed_two(slot, part, less, into);
+            return;
+        }
         let before = self.curves.row(self.group, slot);
         let after = self.curves.row(self.group, slot + 1);
         let mut rest = part;

@@ -5,3 +5,4 @@ pub mod Origins
 pub mod Kept
 pub mod Places
 pub mod RowsLeft
+pub mod Texts

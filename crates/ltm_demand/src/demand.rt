@@ -332,6 +332,14 @@ impl Demand {
         self.slots = slots;
     }
 
+    /// Lowers the horizon, as to undo a `lengthen`, to no less than any row's end. No row changes.
+    pub fn shorten(&mut self, fewer: u32)
+        requires { AreDemandRows fewer self.old.demand.rows }
+        ensures { self.new ≡ record self.old { demand = record { slots = fewer; rows = self.old.demand.rows } } }
+    {
+        self.slots = fewer;
+    }
+
     /// The slots of the horizon.
     pub fn slots(&self) -> u32
         ensures { result ≡ self.now.demand.slots }

@@ -32,6 +32,11 @@ pub enum DemandFault {
 }
 
 impl fmt::Display for DemandFault {
+    ghost use Rattle.std.specs.Prelude.{Some};
+    ghost use Rattle.ltm_demand.specs.Texts.{fault_text};
+
+    ghost output = { λ fault. Some (fault_text fault) };
+
     fn fmt<W: fmt::Write>(&self, f: &mut fmt::Formatter<W>) -> fmt::Result {
         match self {
             DemandFault::BadSlots => write!(f, "bad slots"),

@@ -91,14 +91,14 @@ out_apart s u i j v x l m e =
     omega (arith, v.network.out_place_of u i x (omega arith), v.network.out_place_of u j x m, ap s.out_place same)
 
 -- they are different groups, and not those of what has arrived
-arm_not_out : (s : Setting) (u i j : ℕ) → IsSetting s → u < s.nodes → j < s.outs u → out_group s u j ≢ arm_group s u i
+pub arm_not_out : (s : Setting) (u i j : ℕ) → IsSetting s → u < s.nodes → j < s.outs u → out_group s u j ≢ arm_group s u i
 arm_not_out s u i j v x m e =
     elim (cases_lt i (s.ins u)) [
       | inl link ↦ omega (arith, e, pick_first i (s.ins u) (down_of (s.in_link u i)) (dep_of s u) link)
       | inr origin ↦ omega (arith, e, pick_second i (s.ins u) (down_of (s.in_link u i)) (dep_of s u) origin, v.network.out_link_is_link u j x m)
     ]
 
-arm_not_come : (s : Setting) (u i : ℕ) → IsSetting s → u < s.nodes → i < arms_of s u → arr_of s ≢ arm_group s u i
+pub arm_not_come : (s : Setting) (u i : ℕ) → IsSetting s → u < s.nodes → i < arms_of s u → arr_of s ≢ arm_group s u i
 arm_not_come s u i v x l e =
     elim (cases_lt i (s.ins u)) [
       | inl link ↦ omega (arith, e, pick_first i (s.ins u) (down_of (s.in_link u i)) (dep_of s u) link, v.network.in_link_is_link u i x link)

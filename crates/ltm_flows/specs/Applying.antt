@@ -1,5 +1,5 @@
 -- What of a node's counts is written.
-use Rattle.std.specs.Prelude.{◌≡◌, ◌≢◌, ℕ, ◌<◌, ◌≤◌, Some}
+use Rattle.std.specs.Prelude.{◌≡◌, ◌≢◌, ℕ, ◌+◌, ◌<◌, ◌≤◌, Some}
 use Rattle.ltm_curve.specs.Counts.{Counts}
 use Rattle.ltm_loading.specs.Setting.{Setting}
 use Rattle.ltm_loading.specs.Groups.{up_of, arr_of, groups}
@@ -8,6 +8,10 @@ use Rattle.ltm_loading.specs.Pairs.{arrived_by}
 -- the group of what has entered an out-link
 abbrev pub out_group : Setting → ℕ → ℕ → ℕ
 out_group s u j = up_of (s.out_link u j)
+
+-- what has been counted of some groups at a boundary, and what moves
+abbrev pub with_moves : Counts → ℕ → (ℕ → ℕ) → (ℕ → ℕ → ℕ) → ℕ → ℕ → ℕ
+with_moves c boundary group moves i d = c (group i) d boundary + moves i d
 
 -- so many groups are given their counts at a boundary, and no other count changes
 pub record SetsGroups (s : Setting) (boundary count : ℕ) (group : ℕ → ℕ) (value : ℕ → ℕ → ℕ) (old new : Counts) : Type 0 where

@@ -1,7 +1,9 @@
 -- What a finished loading shows, and of which setting it is the loading.
-use Rattle.std.specs.Prelude.{◌≡◌, ℕ, ◌<◌, ◌≤◌, map, slice_index}
+use Rattle.std.specs.Prelude.{◌≡◌, ℕ, ◌<◌, ◌≤◌, map, slice_index, false}
 use Rattle.ltm_curve.specs.declared.curves.Curves.{Curves}
-use Rattle.ltm_curve.specs.Table.{counts_of, slots_of}
+use Rattle.ltm_curve.specs.declared.changed.Changed.{Changed}
+use Rattle.ltm_curve.specs.Table.{counts_of, slots_of, IsIn}
+use Rattle.ltm_curve.specs.Cells.{is_changed}
 use Rattle.ltm_loading.specs.Setting.{Setting}
 use Rattle.ltm_loading.specs.Loading.{IsLoading}
 use Rattle.ltm_loading.specs.Totals.{generated}
@@ -51,3 +53,7 @@ pub record Fits (s : Setting) (l : Loading) : Type 0 where
   pub shape : IsShaped s (curves_of l)
   pub links : links_of l ≡ s.links
   pub nodes : nodes_of l ≡ s.nodes
+
+-- outside the changed cells a loading has the counts of these curves
+abbrev pub AgreesOutside : Loading → Curves → Changed → Type 0
+AgreesOutside l c changed = (g d k : ℕ) → IsIn (curves_of l) g d k → is_changed changed g k ≡ false → counts_of (curves_of l) g d k ≡ counts_of c g d k

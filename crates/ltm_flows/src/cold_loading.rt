@@ -5,23 +5,23 @@ ghost use Rattle.ltm_node.specs.Shape.{width};
 ghost use Rattle.ltm_node.specs.Solvable.{IsSolvable};
 ghost use Rattle.ltm_loading.specs.Setting.{IsSetting};
 ghost use Rattle.ltm_loading.specs.Loading.{IsFront, IsLoading};
-ghost use Rattle.ltm_loading.specs.NextPair.{IsPairInputs};
+ghost use Rattle.ltm_loading.specs.Uncounted.{IsUncountedPair};
 ghost use Rattle.ltm_loading.specs.Pairs.{shape_at};
 ghost use Rattle.ltm_setting.specs.Setting.{setting_of};
 ghost use Rattle.ltm_flows.specs.Shaped.{IsShaped};
 ghost use Rattle.ltm_flows.specs.Working.{IsWorking, IsWorkingAt, HasRoom};
 
-use crate::node_counts::apply;
+use crate::moves::add_moves;
 use ltm_curve::Curves;
-use ltm_inputs::{inputs_if_sent, widest};
+use ltm_inputs::{uncounted_if_sent, widest};
 use ltm_loading::{
     counts_by_place, counts_set_only, inputs_by_place, inputs_read_only, next_pair, next_slot,
-    outputs_small, set_by_one_pair,
+    outputs_small, set_by_one_pair, step_by_moves,
 };
-use ltm_node::{NodeInputs, NodeOutputs, no_arrivals, nothing_moves, same_shape, solve};
+use ltm_node::{NodeInputs, NodeOutputs, no_arrivals, nothing_moves, same_shape, write_step};
 use ltm_scenario::Scenario;
 use ltm_setting::{destination_count, is_setting, link_count, node_count, slot_count};
-use ltm_units::{NoMemory, NodeId, Pair, Steps};
+use ltm_units::{NoMemory, NodeId, Pair};
 use std::alloc::Global;
 
 /// Room for the step of any node.
@@ -57,74 +57,70 @@ fn make_room(alloc: Global, scenario: &Scenario) -> Result<Room, NoMemory>
 }
 
 /// The step of a node in a slot. Where its arms send nothing, its counts stay as they were carried on.
-fn load_pair(scenario: &Scenario, curves: &mut Curves, pair: Pair, room: Room) -> Room
+fn load_pair(scenario: &Scenario, curves: &mut Curves, pair: Pair, room: &mut Room)
     requires setting { IsSetting (setting_of scenario.now) }
     requires node { pair.node.0 < (setting_of scenario.now).nodes }
     requires slot { pair.slot < (setting_of scenario.now).slots }
     requires working { IsWorkingAt (setting_of scenario.now) curves.old pair.slot pair.node.0 }
-    requires inputs { HasRoom (setting_of scenario.now) room.inputs.room }
-    requires outputs { HasRoom (setting_of scenario.now) room.outputs.room }
+    requires inputs { HasRoom (setting_of scenario.now) room.old.inputs.room }
+    requires outputs { HasRoom (setting_of scenario.now) room.old.outputs.room }
     ensures working { IsWorkingAt (setting_of scenario.now) curves.new pair.slot (pair.node.0 + 1) }
-    ensures inputs { HasRoom (setting_of scenario.now) result.inputs.room }
-    ensures outputs { HasRoom (setting_of scenario.now) result.outputs.room }
+    ensures inputs { HasRoom (setting_of scenario.now) room.new.inputs.room }
+    ensures outputs { HasRoom (setting_of scenario.now) room.new.outputs.room }
 {
     inputs_by_place();
     counts_by_place();
     nothing_moves();
-    let mut room = room;
-    if inputs_if_sent(scenario, curves, pair, &mut room.inputs) {
-        return write_pair(scenario, curves, pair, room);
+    if uncounted_if_sent(scenario, curves, pair, &mut room.inputs) {
+        write_pair(scenario, curves, pair, room);
     }
-    room
 }
 
-/// The step of a node in a slot, from its inputs.
-fn write_pair(scenario: &Scenario, curves: &mut Curves, pair: Pair, room: Room) -> Room
+/// The step of a node in a slot: what moves, from inputs with 0 for each count, is added to its counts, which were carried on
+/// to the slot's end.
+fn write_pair(scenario: &Scenario, curves: &mut Curves, pair: Pair, room: &mut Room)
     requires setting { IsSetting (setting_of scenario.now) }
     requires node { pair.node.0 < (setting_of scenario.now).nodes }
     requires slot { pair.slot < (setting_of scenario.now).slots }
     requires working { IsWorkingAt (setting_of scenario.now) curves.old pair.slot pair.node.0 }
-    requires reads { IsPairInputs (setting_of scenario.now) (counts_of curves.old) pair.node.0 pair.slot room.inputs }
-    requires solvable { IsSolvable room.inputs }
-    requires inputs { HasRoom (setting_of scenario.now) room.inputs.room }
-    requires outputs { HasRoom (setting_of scenario.now) room.outputs.room }
+    requires reads { IsUncountedPair (setting_of scenario.now) (counts_of curves.old) pair.node.0 pair.slot room.old.inputs }
+    requires solvable { IsSolvable room.old.inputs }
+    requires inputs { HasRoom (setting_of scenario.now) room.old.inputs.room }
+    requires outputs { HasRoom (setting_of scenario.now) room.old.outputs.room }
     ensures working { IsWorkingAt (setting_of scenario.now) curves.new pair.slot (pair.node.0 + 1) }
-    ensures inputs { HasRoom (setting_of scenario.now) result.inputs.room }
-    ensures outputs { HasRoom (setting_of scenario.now) result.outputs.room }
+    ensures inputs { HasRoom (setting_of scenario.now) room.new.inputs.room }
+    ensures outputs { HasRoom (setting_of scenario.now) room.new.outputs.room }
 {
-    inputs_by_place();
+    counts_by_place();
     outputs_small();
+    step_by_moves();
     next_pair();
     same_shape();
     no_arrivals();
     set_by_one_pair();
     let _slots = slot_count(scenario);
-    let mut steps = Steps::new();
-    let (inputs, outputs) = solve(room.inputs, room.outputs, &mut steps).release();
-    apply(scenario, curves, pair, &outputs);
-    Room { inputs, outputs }
+    write_step(&room.inputs, &mut room.outputs);
+    add_moves(scenario, curves, pair, &room.outputs);
 }
 
-/// The steps of all nodes in a slot. All counts are first carried on to the slot's end, and those of the nodes where
-/// something is sent are then written.
-fn load_slot(scenario: &Scenario, curves: &mut Curves, slot: u32, room: Room) -> Room
+/// The steps of all nodes in a slot. All counts are first carried on to the slot's end, and what moves is then added
+/// there.
+fn load_slot(scenario: &Scenario, curves: &mut Curves, slot: u32, room: &mut Room)
     requires setting { IsSetting (setting_of scenario.now) }
     requires slot { slot < (setting_of scenario.now).slots }
     requires working { IsWorking (setting_of scenario.now) curves.old slot }
-    requires inputs { HasRoom (setting_of scenario.now) room.inputs.room }
-    requires outputs { HasRoom (setting_of scenario.now) room.outputs.room }
+    requires inputs { HasRoom (setting_of scenario.now) room.old.inputs.room }
+    requires outputs { HasRoom (setting_of scenario.now) room.old.outputs.room }
     ensures working { IsWorking (setting_of scenario.now) curves.new (slot + 1) }
-    ensures inputs { HasRoom (setting_of scenario.now) result.inputs.room }
-    ensures outputs { HasRoom (setting_of scenario.now) result.outputs.room }
+    ensures inputs { HasRoom (setting_of scenario.now) room.new.inputs.room }
+    ensures outputs { HasRoom (setting_of scenario.now) room.new.outputs.room }
 {
     next_slot();
     begin_slot(scenario, curves, slot);
-    let mut room = room;
     for node in 0..node_count(scenario) {
         let node = NodeId(node);
-        room = load_pair(scenario, curves, Pair { node, slot }, room);
+        load_pair(scenario, curves, Pair { node, slot }, room);
     }
-    room
 }
 
 /// Carries all counts on to the end of a slot.
@@ -149,7 +145,7 @@ pub fn cold(alloc: Global, scenario: &Scenario) -> Result<Curves, NoMemory>
     let mut curves = fresh(alloc, scenario)?;
     let mut room = make_room(alloc, scenario)?;
     for slot in 0..slot_count(scenario) {
-        room = load_slot(scenario, &mut curves, slot, room);
+        load_slot(scenario, &mut curves, slot, &mut room);
     }
     Ok(curves)
 }

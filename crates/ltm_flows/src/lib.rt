@@ -9,6 +9,7 @@
 mod cold_loading;
 mod in_all;
 mod loading;
+mod moves;
 mod node_counts;
 mod summing;
 mod tables;

@@ -1,9 +1,10 @@
 //! A finished loading, as others read it.
 ghost use Rattle.std.specs.Prelude.{◌≡◌, ◌≤◌, ◌<◌, ◌+◌, ◌*◌, ◌-◌, ℕ, length, IfOk};
 ghost use Rattle.ltm_units.specs.Sums.{sum_below};
+ghost use Rattle.ltm_curve.specs.Cells.{HasCells};
 ghost use Rattle.ltm_curve.specs.Table.{groups_of, destinations_of, slots_of, counts_of, total_of};
 ghost use Rattle.ltm_loading.specs.Setting.{Setting, IsSetting};
-ghost use Rattle.ltm_loading.specs.Groups.{up_of, down_of};
+ghost use Rattle.ltm_loading.specs.Groups.{up_of, down_of, groups};
 ghost use Rattle.ltm_loading.specs.Loading.{IsLoading};
 ghost use Rattle.ltm_loading.specs.Totals.{arrived, entered_link, left_link};
 ghost use Rattle.ltm_setting.specs.Setting.{setting_of};
@@ -11,7 +12,7 @@ ghost use Rattle.ltm_flows.specs.Shaped.{IsShaped};
 
 use crate::in_all::Totals;
 use crate::tables::{free_times, generated_by_boundary, write_free_times, write_generated};
-use ltm_curve::Curves;
+use ltm_curve::{Changed, Curves};
 use ltm_loading::{counts_small, never_fall};
 use ltm_scenario::Scenario;
 use ltm_setting::{is_setting, link_count, node_count, step};
@@ -30,6 +31,8 @@ pub struct Loading {
     free: Vec<Millis>,
     generated: Vec<Units>,
     curves: Curves,
+    ghost some_step: { 1 ≤ step.0 },
+    ghost short_step: { step.0 ≤ 60000 },
     ghost few_links: { links ≤ 4000 },
     ghost few_nodes: { nodes ≤ 8000 },
     ghost few_destinations: { destinations_of curves ≤ 64 },
@@ -54,6 +57,7 @@ impl Loading {
       generated_of,
       Shows,
       Fits,
+      AgreesOutside,
     };
     ghost use Rattle.ltm_flows.specs.InAll.{AreTotals};
 
@@ -106,19 +110,22 @@ impl Loading {
     }
 
     /// Becomes the loading of another scenario with as many links, nodes, destinations and slots, from its finished
-    /// curves. Takes no memory.
-    pub fn refresh(&mut self, scenario: &Scenario, curves: &Curves, version: u64)
+    /// curves, of which the changed cells alone are copied: outside them the counts are the same. Takes no memory.
+    pub fn refresh(&mut self, scenario: &Scenario, curves: &Curves, changed: &Changed, version: u64)
         requires fits { Fits (setting_of scenario.now) self.old }
         requires shape { IsShaped (setting_of scenario.now) curves.now }
         requires loading { IsLoading (setting_of scenario.now) (counts_of curves.now) }
-        ensures { Shows (setting_of scenario.now) version self.new }
+        requires cells { HasCells changed.now (groups (setting_of scenario.now)) (setting_of scenario.now).slots }
+        requires outside { AgreesOutside self.old curves.now changed.now }
+        ensures shows { Shows (setting_of scenario.now) version self.new }
+        ensures counts { counts_of (curves_of self.new) ≡ counts_of curves.now }
     {
         counts_small();
         never_fall();
         is_setting(scenario);
         write_free_times(scenario, &mut self.free);
         write_generated(scenario, &mut self.generated);
-        self.curves.copy_from(curves);
+        self.curves.copy_changed(curves, changed);
         self.step = step(scenario);
         self.version = version;
     }
@@ -130,16 +137,21 @@ impl Loading {
         self.version
     }
 
-    /// Its curves.
+    /// Its curves, of which none falls.
     pub fn curves(&self) -> &Curves
-        ensures { result.now ≡ curves_of self.now }
+        ensures value { result.now ≡ curves_of self.now }
+        ensures groups { groups_of (curves_of self.now) ≡ 2 * links_of self.now + nodes_of self.now + 1 }
+        ensures rises { (g d k : ℕ) → g < groups_of (curves_of self.now) → d < destinations_of (curves_of self.now)
+            → k < last_of self.now → counts_of (curves_of self.now) g d k ≤ counts_of (curves_of self.now) g d (k + 1) }
     {
         &self.curves
     }
 
-    /// The length of a slot.
+    /// The length of a slot, 1 to 60,000 ms.
     pub fn step(&self) -> Millis
-        ensures { result.0 ≡ step_of self.now }
+        ensures value { result.0 ≡ step_of self.now }
+        ensures some { 1 ≤ result.0 }
+        ensures small { result.0 ≤ 60000 }
     {
         self.step
     }
@@ -153,7 +165,8 @@ impl Loading {
 
     /// How many links there are.
     pub fn links(&self) -> u32
-        ensures { result ≡ links_of self.now }
+        ensures value { result ≡ links_of self.now }
+        ensures few { result ≤ 4000 }
     {
         self.links
     }

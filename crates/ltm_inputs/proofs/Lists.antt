@@ -1,5 +1,5 @@
 -- Lists and tables of the numbers of a function, joined and compared.
-use Rattle.std.proofs.Common.{◌≡◌, ℕ, ◌+◌, ◌-◌, ◌*◌, ◌/◌, ◌%◌, ◌<◌, List, ◌++◌, length, length-append, replicate, arith, inl, inr, ap, sym, ◌∙◌}
+use Rattle.std.proofs.Common.{append_assoc, slice_index, ◌≡◌, ℕ, ◌+◌, ◌-◌, ◌*◌, ◌/◌, ◌%◌, ◌<◌, List, ◌++◌, length, length-append, replicate, arith, inl, inr, ap, sym, ◌∙◌}
 use Rattle.std.proofs.Math.Nat.{mul-le-mul_left}
 use Rattle.std.proofs.lemmas.Bool.{cases_lt}
 use Rattle.std.proofs.lemmas.Nat.{div-mul-add, mod-mul-add, div_below, mod_below}
@@ -54,3 +54,15 @@ grid-same n w f g same =
 pub zeros : (n : ℕ) (f : ℕ → ℕ) → ((k : ℕ) → f k ≡ 0) → replicate n 0 ≡ list_below n f
 zeros n f none =
     list_from n f (replicate n 0) (length-replicate n 0) (λ k l. get_or-replicate n k 0 0 l ∙ sym (none k))
+
+-- zeros are three tables of zeros, and what comes behind them
+pub zeros_joined : (a o : ℕ) (xs rest : List ℕ) → length xs ≡ a + o + 1 → ((k : ℕ) → k < length xs → slice_index xs k ≡ 0) →
+    xs ++ rest ≡ list_below a (λ k. 0) ++ (list_below o (λ k. 0) ++ (list_below 1 (λ k. 0) ++ rest))
+zeros_joined a o xs rest long none =
+    let p : List ℕ = list_below a (λ k. 0) in
+    let q : List ℕ = list_below o (λ k. 0) in
+    let r : List ℕ = list_below 1 (λ k. 0) in
+    let all : xs ≡ p ++ (q ++ r) =
+    list_from (a + o + 1) (λ k. 0) xs long (λ k l. none k (omega arith))
+    ∙ (list_below-more (a + o) 1 (λ k. 0) ∙ (ap (λ (z : List ℕ). z ++ r) (list_below-more a o (λ k. 0)) ∙ append_assoc p q r)) in
+    ap (λ (z : List ℕ). z ++ rest) all ∙ (append_assoc p (q ++ r) rest ∙ ap (λ (z : List ℕ). p ++ z) (append_assoc q r rest))

@@ -13,6 +13,7 @@ use Rattle.ltm_loading.specs.Groups.{up_of}
 use Rattle.ltm_loading.specs.Flows.{receiving}
 use Rattle.ltm_loading.specs.Pairs.{arms_of, shape_at, sending, arm_group, arm_capacity, arrived_by, pair_row, pair_inputs}
 use Rattle.ltm_loading.specs.NextPair.{IsPairInputs}
+use Rattle.ltm_loading.specs.Uncounted.{uncounted_row, IsUncountedPair}
 use Rattle.ltm_loading.proofs.Rows.{length-grid}
 use Rattle.ltm_inputs.specs.Parts.{sending_part, left_part, entered_part, arrived_part, supply_part, capacity_part, weights_part}
 
@@ -68,6 +69,14 @@ row_size s c u t =
 pub written_row : (s : Setting) (c : Counts) (u t : ℕ) (old new : Inputs) (numbers : List ℕ) → old.shape ≡ shape_at s u → new ≡ with_numbers old numbers → width old.shape ≤ length numbers → take (width old.shape) numbers ≡ pair_row s c u t →
     IsPairInputs s c u t new
 written_row s c u t old new numbers shape is long row = record {
+  shape = ap (λ (n : Inputs). n.shape) is ∙ shape;
+  row = ap (λ (n : Inputs). n.row) is ∙ (take-append-le (width old.shape) numbers (drop (length numbers) old.row) long ∙ row);
+}
+
+-- so is a row with 0 for each count
+pub written_uncounted : (s : Setting) (c : Counts) (u t : ℕ) (old new : Inputs) (numbers : List ℕ) → old.shape ≡ shape_at s u → new ≡ with_numbers old numbers → width old.shape ≤ length numbers → take (width old.shape) numbers ≡ uncounted_row s c u t →
+    IsUncountedPair s c u t new
+written_uncounted s c u t old new numbers shape is long row = record {
   shape = ap (λ (n : Inputs). n.shape) is ∙ shape;
   row = ap (λ (n : Inputs). n.row) is ∙ (take-append-le (width old.shape) numbers (drop (length numbers) old.row) long ∙ row);
 }

@@ -15,7 +15,7 @@ mod numbers;
 mod shapes;
 mod weights;
 
-pub use inputs::{inputs_if_sent, inputs_of};
+pub use inputs::{inputs_of, uncounted_if_sent};
 pub use shapes::{shape_of, widest};
 
 #[cfg(test)]

@@ -1,13 +1,22 @@
 //! Numbers of 32 bits, and amounts above 0.
 ghost use Rattle.std.specs.Prelude.{◌≡◌, ◌↔◌, ◌<◌, ℕ, IsFalse, length, slice_index};
 
-/// Writes some numbers of 32 bits: one or two, as for one or two destinations, without a loop.
+/// Writes some numbers of 32 bits: up to four, as for the out-links of a node, without a loop.
 #[inline]
 pub(crate) fn put_numbers(numbers: &[u32], into: &mut [u64])
     requires { length into.old ≡ length numbers.now }
     ensures { into.new ≡ numbers.now }
 {
-    if into.len() == 2 {
+    if into.len() == 4 {
+        into[0] = u64::from(numbers[0]);
+        into[1] = u64::from(numbers[1]);
+        into[2] = u64::from(numbers[2]);
+        into[3] = u64::from(numbers[3]);
+    } else if into.len() == 3 {
+        into[0] = u64::from(numbers[0]);
+        into[1] = u64::from(numbers[1]);
+        into[2] = u64::from(numbers[2]);
+    } else if into.len() == 2 {
         into[0] = u64::from(numbers[0]);
         into[1] = u64::from(numbers[1]);
     } else if into.len() == 1 {
@@ -17,7 +26,8 @@ pub(crate) fn put_numbers(numbers: &[u32], into: &mut [u64])
     }
 }
 
-/// The same for any count of numbers.
+/// The same for any count of numbers. Kept out of line.
+#[inline(never)]
 fn put_many(numbers: &[u32], into: &mut [u64])
     requires { length into.old ≡ length numbers.now }
     ensures { into.new ≡ numbers.now }

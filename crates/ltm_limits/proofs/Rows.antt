@@ -14,15 +14,15 @@ pub limits_long : (table : List ℕ) (links slots : ℕ) → length (limits_in t
 unfolding limits_in
 limits_long table links slots = length-map-range_with_len (limits_of_link table links slots) 0 links
 
-link_long : (table : List ℕ) (links slots link : ℕ) → length (limits_of_link table links slots link) ≡ slots
+pub link_long : (table : List ℕ) (links slots link : ℕ) → length (limits_of_link table links slots link) ≡ slots
 unfolding limits_of_link
 link_long table links slots link = length-map-range_with_len (λ slot. said table links link slot) 0 slots
 
-link_at : (table : List ℕ) (links slots link : ℕ) → link < links → get_or (limits_in table links slots) link [] ≡ limits_of_link table links slots link
+pub link_at : (table : List ℕ) (links slots link : ℕ) → link < links → get_or (limits_in table links slots) link [] ≡ limits_of_link table links slots link
 unfolding limits_in
 link_at table links slots link h = get_or-map-range_with_len (limits_of_link table links slots) 0 links link link [] h (omega arith)
 
-slot_at : (table : List ℕ) (links slots link slot : ℕ) → slot < slots → get_or (limits_of_link table links slots link) slot 0 ≡ said table links link slot
+pub slot_at : (table : List ℕ) (links slots link slot : ℕ) → slot < slots → get_or (limits_of_link table links slots link) slot 0 ≡ said table links link slot
 unfolding limits_of_link
 slot_at table links slots link slot h = get_or-map-range_with_len (λ s. said table links link s) 0 slots slot slot 0 h (omega arith)
 
@@ -39,7 +39,7 @@ pub places_small : (slots links : ℕ) → links ≤ 4000 → slots ≤ 10000 �
 places_small slots links links_few slots_few = omega (arith, mul-le-mul_left slots links_few)
 
 -- a link has the limits in a list where each place has what the table says
-link_is : (table : List ℕ) (links slots link : ℕ) (xs : List ℕ) → length xs ≡ slots → ((slot : ℕ) → slot < slots → get_or xs slot 0 ≡ said table links link slot) → xs ≡ limits_of_link table links slots link
+pub link_is : (table : List ℕ) (links slots link : ℕ) (xs : List ℕ) → length xs ≡ slots → ((slot : ℕ) → slot < slots → get_or xs slot 0 ≡ said table links link slot) → xs ≡ limits_of_link table links slots link
 unfolding limits_of_link
 link_is table links slots link xs long same = fill_by_all (λ slot. said table links link slot) xs slots 0 long same
 
@@ -49,7 +49,7 @@ link_same t u links slots link same =
     link_is u links slots link (limits_of_link t links slots link) (link_long t links slots link) (λ slot h. slot_at t links slots link slot h ∙ same slot h)
 
 -- a list of rows, each that of its link, is the limits
-limits_are : (table : List ℕ) (links slots : ℕ) (rows : List (List ℕ)) → length rows ≡ links → ((link : ℕ) → link < links → get_or rows link [] ≡ limits_of_link table links slots link) → rows ≡ limits_in table links slots
+pub limits_are : (table : List ℕ) (links slots : ℕ) (rows : List (List ℕ)) → length rows ≡ links → ((link : ℕ) → link < links → get_or rows link [] ≡ limits_of_link table links slots link) → rows ≡ limits_in table links slots
 unfolding limits_in
 limits_are table links slots rows long same = fill_by_all (limits_of_link table links slots) rows links [] long same
 
@@ -58,7 +58,7 @@ limits_same t u links slots same =
     limits_are u links slots (limits_in t links slots) (limits_long t links slots) (λ link hl. link_at t links slots link hl ∙ link_same t u links slots link (λ slot hs. same link slot hl hs))
 
 -- limits that were never set may stand at the end
-get_or-padded : (xs : List ℕ) (n i : ℕ) → get_or (xs ++ replicate n never_set) i never_set ≡ get_or xs i never_set
+pub get_or-padded : (xs : List ℕ) (n i : ℕ) → get_or (xs ++ replicate n never_set) i never_set ≡ get_or xs i never_set
 get_or-padded xs n i =
     elim (cases_lt i (length xs)) [
       | inl inside ↦ get_or_append_left xs (replicate n never_set) never_set i inside
@@ -226,3 +226,11 @@ exchanged_back table links slots link from values inside fits =
     ∙ ap (λ r. set limits link (written from were r)) (get_or-set_same limits link (written from values row) [] (omega (arith, limits_long table links slots)))
     ∙ ap (set limits link) (written_back from values row (omega arith))
     ∙ set-get_or limits link []
+
+-- what stood there, written over the exchanged limits, gives back the limits
+pub exchange_undone : (old new : List ℕ) (links slots link from : ℕ) (values were : List ℕ) → AreExchanged old new links link from values → link < links → from + length values ≤ slots → length were ≡ length values → ((k : ℕ) → k < length values → slice_index were k ≡ said old links link (from + k)) → with_values (limits_in new links slots) link from were ≡ limits_in old links slots
+exchange_undone old new links slots link from values were exchanged inside fits long same =
+    let stood : were ≡ values_of (limits_in old links slots) link from (length were) = values_were old links slots link from were inside (omega (arith, long, fits)) (λ k h. same k (omega (arith, long, h))) in
+    ap (λ ls. with_values ls link from were) (limits_exchanged old new links slots link from values exchanged inside fits)
+    ∙ ap (with_values (with_values (limits_in old links slots) link from values) link from) (stood ∙ ap (values_of (limits_in old links slots) link from) long)
+    ∙ exchanged_back old links slots link from values inside fits

@@ -1,11 +1,11 @@
 -- What stays where limits are written.
-use Rattle.std.proofs.Common.{◌≡◌, ◌≢◌, ℕ, ◌+◌, ◌-◌, ◌<◌, ◌≤◌, ◌⊎◌, List, [], ◌∷◌, length, replicate, get_or, slice_set, arith, inl, inr, refl, ap, sym, ◌∙◌, length-append, get_or-set_same, get_or-set_other}
-use Rattle.std.proofs.lemmas.List.{length-replicate, get_or-replicate}
+use Rattle.std.proofs.Common.{◌≡◌, ◌≢◌, ℕ, ◌+◌, ◌-◌, ◌<◌, ◌≤◌, ◌⊎◌, List, [], ◌∷◌, ◌++◌, length, map, replicate, get_or, slice_set, arith, inl, inr, refl, ap, sym, ◌∙◌, length-append, get_or-set_same, get_or-set_other}
+use Rattle.std.proofs.lemmas.List.{length-map, length-replicate, get_or-map, get_or_append_left, get_or-append_right, get_or-replicate}
 use Rattle.std.proofs.lemmas.List.Elements.{All-nil, All-push, All-set}
 use Rattle.std.proofs.lemmas.Bool.{cases_eq}
 use Rattle.std.proofs.Math.ListN.{length-set}
-use Rattle.ltm_limits.specs.Limits.{limit_at, written, with_values, with_limit, with_link, never_set, AreWhole}
-use Rattle.ltm_limits.specs.Laws.{LimitsAreSet, LimitsStayWhole}
+use Rattle.ltm_limits.specs.Limits.{limit_at, written, with_values, with_limit, with_link, stretched, lengthened, never_set, AreWhole}
+use Rattle.ltm_limits.specs.Laws.{LimitsAreSet, LimitsAreLengthened, LimitsStayWhole}
 use Rattle.ltm_limits.proofs.Rows.{written_before, written_inside, written_behind, length-written}
 
 -- ---- limits that are set
@@ -45,7 +45,38 @@ set_elsewhere limits link from to limit other slot there order fits apart =
 pub limits_set : LimitsAreSet
 limits_set = record { here = set_here; elsewhere = set_elsewhere }
 
+-- ---- a longer horizon
+row_longer : (limits : List (List ℕ)) (slots link : ℕ) → link < length limits → get_or (lengthened limits slots) link [] ≡ stretched slots (get_or limits link [])
+row_longer limits slots link there = get_or-map (stretched slots) limits link [] [] there
+
+stays_before : (limits : List (List ℕ)) (slots link slot : ℕ) → link < length limits → slot < length (get_or limits link []) → limit_at (lengthened limits slots) link slot ≡ limit_at limits link slot
+stays_before limits slots link slot there before =
+    let row : List ℕ = get_or limits link [] in
+    ap (λ (xs : List ℕ). get_or xs slot 0) (row_longer limits slots link there)
+    ∙ get_or_append_left row (replicate (slots - length row) never_set) 0 slot before
+
+none_past : (limits : List (List ℕ)) (slots link slot : ℕ) → link < length limits → length (get_or limits link []) ≤ slot → slot < slots → limit_at (lengthened limits slots) link slot ≡ never_set
+none_past limits slots link slot there past within =
+    let row : List ℕ = get_or limits link [] in
+    ap (λ (xs : List ℕ). get_or xs slot 0) (row_longer limits slots link there)
+    ∙ get_or-append_right row (replicate (slots - length row) never_set) (length row) slot 0 refl past
+    ∙ get_or-replicate (slots - length row) (slot - length row) never_set 0 (omega (arith, past, within))
+
+pub limits_longer : LimitsAreLengthened
+limits_longer = record { here = stays_before; past = none_past }
+
 -- ---- limits for each link and slot
+whole_longer : (limits : List (List ℕ)) (links slots more : ℕ) → slots ≤ more → AreWhole limits links slots → AreWhole (lengthened limits more) links more
+whole_longer limits links slots more longer whole = record {
+  for_each = length-map limits (stretched more) ∙ whole.for_each;
+  long = λ k d below.
+      let there : k < length limits = omega (arith, below, length-map limits (stretched more)) in
+      let row : List ℕ = get_or limits k d in
+      let long : length row ≡ slots = whole.long k d there in
+      ap length (get_or-map (stretched more) limits k d d there)
+      ∙ omega (arith, long, longer, length-append row (replicate (more - length row) never_set), length-replicate (more - length row) never_set);
+}
+
 whole_more : (limits : List (List ℕ)) (links slots : ℕ) → AreWhole limits links slots → AreWhole (with_link limits slots) (links + 1) slots
 whole_more limits links slots whole = record {
   for_each = length-append limits (replicate slots never_set ∷ []) ∙ ap (λ n. n + 1) whole.for_each;
@@ -62,4 +93,4 @@ whole_written limits links slots link from values there fits whole =
     }
 
 pub limits_whole : LimitsStayWhole
-limits_whole = record { none = λ slots. record { for_each = refl; long = All-nil _ }; more = whole_more; written = whole_written }
+limits_whole = record { none = λ slots. record { for_each = refl; long = All-nil _ }; more = whole_more; longer = whole_longer; written = whole_written }

@@ -1,5 +1,5 @@
 -- The limits of links: for each link its limit at each slot.
-use Rattle.std.specs.Prelude.{◌≡◌, ℕ, ◌+◌, ◌-◌, List, [], ◌∷◌, ◌++◌, All, length, take, drop, replicate, slice_index, slice_index_or, slice_set}
+use Rattle.std.specs.Prelude.{◌≡◌, ℕ, ◌+◌, ◌-◌, List, [], ◌∷◌, ◌++◌, All, length, map, take, drop, replicate, slice_index, slice_index_or, slice_set}
 
 -- a limit that was never set: no link passes more in a slot
 abbrev pub never_set : ℕ
@@ -28,6 +28,18 @@ values_of limits link from count = take count (drop from (slice_index_or limits 
 -- one link more, whose limits were never set
 abbrev pub with_link : List (List ℕ) → ℕ → List (List ℕ)
 with_link limits slots = limits ++ replicate slots never_set ∷ []
+
+-- a link's limits over that many slots: those past its last slot were never set
+abbrev pub stretched : ℕ → List ℕ → List ℕ
+stretched slots row = row ++ replicate (slots - length row) never_set
+
+-- the limits over a longer horizon
+abbrev pub lengthened : List (List ℕ) → ℕ → List (List ℕ)
+lengthened limits slots = map (stretched slots) limits
+
+-- the limits of the first slots alone
+abbrev pub shortened : List (List ℕ) → ℕ → List (List ℕ)
+shortened limits slots = map (take slots) limits
 
 -- a row for each link, and in each row a limit for each slot
 pub record AreWhole (limits : List (List ℕ)) (links slots : ℕ) : Type 0 where

@@ -13,6 +13,10 @@ limits_of_link table links slots link = map (λ slot. said table links link slot
 unfoldable pub limits_in : List ℕ → ℕ → ℕ → List (List ℕ)
 limits_in table links slots = map (limits_of_link table links slots) (range_with_len 0 links)
 
+-- past the horizon no limit is set
+abbrev pub IsQuiet : List ℕ → ℕ → ℕ → Type 0
+IsQuiet table links slots = (link slot : ℕ) → link < links → slots ≤ slot → said table links link slot ≡ never_set
+
 -- in one table stand these values for a link from a slot on, and in their place the other's; the rest is the same
 pub record AreExchanged (old new : List ℕ) (links link from : ℕ) (values : List ℕ) : Type 0 where
   pub written : (k : ℕ) → k < length values → said new links link (from + k) ≡ slice_index values k

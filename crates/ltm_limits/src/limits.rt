@@ -1,5 +1,6 @@
 //! The table of limits.
 ghost use Rattle.std.specs.Prelude.{◌≡◌, ℕ, ◌+◌, ◌-◌, ◌*◌, ◌/◌, ◌%◌, ◌<◌, ◌≤◌, ◌==◌, List, [], length, vec_len, slice_index, slice_index_or, replicate, IfOk, OnOk, OnErr, if◌then◌else◌};
+ghost use Rattle.ltm_limits.specs.Limits.{never_set};
 ghost use Rattle.ltm_limits.specs.Tables.{said, wide_at, AreExchanged};
 
 use ltm_units::NoMemory;
@@ -11,7 +12,8 @@ const NEVER_SET: u16 = 32_000;
 
 /// For each link its limit at each slot, in thousandths of a vehicle.
 ///
-/// The table reaches as far as limits were set; past its end each limit is the one that was never set.
+/// The table reaches as far as limits were set; past its end, and past the horizon, each limit is the one that was never
+/// set. So a longer horizon changes no table.
 #[derive(Drop)]
 pub struct LimitTable {
     links: u32,
@@ -20,22 +22,22 @@ pub struct LimitTable {
 }
 
 impl Model for LimitTable {
-    ghost use Rattle.std.specs.Prelude.{◌≤◌, ◌*◌, vec_len};
+    ghost use Rattle.std.specs.Prelude.{◌≤◌, vec_len};
     ghost use Rattle.ltm_limits.specs.Limits.{LimitsState};
-    ghost use Rattle.ltm_limits.specs.Tables.{limits_in};
+    ghost use Rattle.ltm_limits.specs.Tables.{limits_in, IsQuiet};
 
     ghost Value = { LimitsState };
 
     ghost view = { λ t. record { limits = limits_in t.table.items t.links t.slots; slots = t.slots; places = vec_len t.table } };
 
-    ghost invariant = { λ t. (t.links ≤ 4000) × (t.slots ≤ 10000) × (vec_len t.table ≤ t.slots * t.links) };
+    ghost invariant = { λ t. (t.links ≤ 4000) × (t.slots ≤ 10000) × IsQuiet t.table.items t.links t.slots };
 }
 
 impl LimitTable {
-    ghost use Rattle.ltm_limits.specs.Limits.{limit_at, with_values, with_limit, values_of, with_link};
+    ghost use Rattle.ltm_limits.specs.Limits.{limit_at, with_values, with_limit, values_of, with_link, lengthened, shortened};
 
     /// No link, and that many slots.
-    #[tactic(auto, using(crate::proofs::Rows::limits_none))]
+    #[tactic(auto, using(crate::proofs::Rows::limits_none, crate::proofs::Horizons::quiet_without_links))]
     pub fn new(alloc: Global, slots: u32) -> LimitTable
         requires { slots ≤ 10000 }
         ensures limits { result.limits ≡ [] }
@@ -75,7 +77,7 @@ impl LimitTable {
     }
 
     /// Sees to it that the limits of the slots below `to` can be exchanged. No limit changes.
-    #[tactic(auto, using(crate::proofs::Rows::limits_reach, crate::proofs::Rows::limits_long, crate::proofs::Rows::places_small))]
+    #[tactic(auto, using(crate::proofs::Rows::limits_reach, crate::proofs::Rows::limits_long, crate::proofs::Rows::places_small, crate::proofs::Horizons::quiet_reach))]
     pub fn reach(&mut self, to: u32) -> Result<(), NoMemory>
         requires { to ≤ self.old.slots }
         ensures limits { self.new.limits ≡ self.old.limits }
@@ -91,7 +93,7 @@ impl LimitTable {
     }
 
     /// Exchanges the limits of a link from a slot on with these. No memory is taken.
-    #[tactic(auto, using(crate::proofs::Rows::limits_exchanged, crate::proofs::Rows::values_were, crate::proofs::Rows::exchanged_back, crate::proofs::Rows::limits_long))]
+    #[tactic(auto, using(crate::proofs::Rows::limits_exchanged, crate::proofs::Rows::values_were, crate::proofs::Rows::exchange_undone, crate::proofs::Rows::limits_long, crate::proofs::Horizons::quiet_exchanged))]
     pub fn exchange(&mut self, link: u32, from: u32, values: &mut [u16])
         requires link { link < length self.old.limits }
         requires within { from + length values.old ≤ self.old.slots }
@@ -132,7 +134,7 @@ impl LimitTable {
     }
 
     /// The limits with one link more, whose limits were never set.
-    #[tactic(auto, using(crate::proofs::Rows::limits_widened, crate::proofs::Rows::limits_more_of_none, crate::proofs::Rows::limits_long))]
+    #[tactic(auto, using(crate::proofs::Rows::limits_widened, crate::proofs::Rows::limits_more_of_none, crate::proofs::Rows::limits_long, crate::proofs::Horizons::quiet_past, crate::proofs::Horizons::quiet_empty))]
     pub fn with_link(&self) -> Result<LimitTable, NoMemory>
         requires { length self.now.limits < 4000 }
         ensures limits { IfOk result (λ t. t.limits ≡ with_link self.now.limits self.now.slots) }
@@ -153,6 +155,31 @@ impl LimitTable {
             slots: self.slots,
             table,
         })
+    }
+
+    /// Raises the horizon, at most to 10,000 slots. The limits of the new slots were never set. No memory is taken.
+    #[tactic(auto, using(crate::proofs::Horizons::limits_lengthened, crate::proofs::Horizons::quiet_later, crate::proofs::Horizons::shortened_back))]
+    pub fn lengthen(&mut self, slots: u32)
+        requires longer { self.old.slots ≤ slots }
+        requires most { slots ≤ 10000 }
+        ensures limits { self.new.limits ≡ lengthened self.old.limits slots }
+        ensures back { shortened self.new.limits self.old.slots ≡ self.old.limits }
+        ensures slots { self.new.slots ≡ slots }
+        ensures places { self.new.places ≡ self.old.places }
+    {
+        self.slots = slots;
+    }
+
+    /// Lowers the horizon, as to undo a `lengthen`. What was set in the slots past it is gone. No memory is taken.
+    #[tactic(auto, using(crate::proofs::Horizons::limits_shortened, crate::proofs::Horizons::quiet_shorter))]
+    pub fn shorten(&mut self, slots: u32)
+        requires { slots ≤ self.old.slots }
+        ensures limits { self.new.limits ≡ shortened self.old.limits slots }
+        ensures slots { self.new.slots ≡ slots }
+        ensures places { self.new.places ≡ self.old.places }
+    {
+        forget(&mut self.table, slots as usize * self.links as usize);
+        self.slots = slots;
     }
 
     /// An equal table, on the same allocator.
@@ -176,6 +203,17 @@ fn read(table: &[u16], place: usize) -> u16
         table[place]
     } else {
         NEVER_SET
+    }
+}
+
+/// Unsets all limits from a place on.
+fn forget(table: &mut Vec<u16>, from: usize)
+    ensures before { (k : ℕ) → k < from → slice_index_or table.new.items k never_set ≡ slice_index_or table.old.items k never_set }
+    ensures behind { (k : ℕ) → from ≤ k → slice_index_or table.new.items k never_set ≡ never_set }
+    ensures len { vec_len table.new ≡ vec_len table.old }
+{
+    for place in from..table.len() {
+        table[place] = NEVER_SET;
     }
 }
 

@@ -1,5 +1,6 @@
 //! Worked cases: what no clause says.
-use crate::{LimitTable, limits_are_set, limits_stay_whole};
+use crate::{LimitTable, limits_are_lengthened, limits_are_set, limits_stay_whole};
+use std::process::Abort;
 use std::test::Fail;
 
 #[test]
@@ -25,7 +26,26 @@ fn limits_set_and_put_back(rt: HostRuntime) -> Result<(), Fail> {
         (copy.limit(1, 1), copy.limit(1, 2), copy.limit(1, 3)),
         (32_000, 32_000, 7)
     );
+    longer_and_back(&rt, copy);
     limits_are_set();
+    limits_are_lengthened();
     limits_stay_whole();
     Ok(())
+}
+
+/// What is set in the new slots is gone once the horizon was lowered again.
+fn longer_and_back(rt: &impl Abort, table: LimitTable) {
+    let mut table = table;
+    assert!(rt; table.links() == 2 && table.slots() == 4);
+    table.lengthen(6);
+    assert!(rt; table.links() == 2 && table.slots() == 6);
+    assert!(rt; table.limit(1, 3) == 7 && table.limit(1, 4) == 32_000);
+    assert!(rt; table.set(1, 4, 6, 5).is_ok());
+    assert!(rt; table.links() == 2 && table.slots() == 6);
+    assert!(rt; table.limit(1, 5) == 5);
+    table.shorten(4);
+    table.lengthen(6);
+    assert!(rt; table.links() == 2 && table.slots() == 6);
+    assert!(rt; table.limit(1, 3) == 7);
+    assert!(rt; table.limit(1, 4) == 32_000 && table.limit(1, 5) == 32_000);
 }

@@ -22,3 +22,4 @@ pub mod Unlike
 pub mod PairSums
 pub mod DifferingLaws
 pub mod OneRoad
+pub mod Uncounted

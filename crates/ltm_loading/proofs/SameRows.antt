@@ -91,7 +91,7 @@ same_counts xs ys a o m gone enter come p q long same_long =
       ]
     ])
 
-length-pair_row : (s : Setting) (c : Counts) (u t : ℕ) → length (pair_row s c u t) ≡ 2 * (arms_of s u * s.destinations) + s.outs u * s.destinations + 1 + s.outs u + arms_of s u + s.destinations * s.outs u
+pub length-pair_row : (s : Setting) (c : Counts) (u t : ℕ) → length (pair_row s c u t) ≡ 2 * (arms_of s u * s.destinations) + s.outs u * s.destinations + 1 + s.outs u + arms_of s u + s.destinations * s.outs u
 length-pair_row s c u t =
     let p1 : List ℕ = grid (arms_of s u) s.destinations (sending s c u t) in
     let p2 : List ℕ = grid (arms_of s u) s.destinations (λ i d. c (arm_group s u i) d t) in

@@ -13,3 +13,4 @@ pub mod Networks
 pub mod Reads
 pub mod Differing
 pub mod OneRoad
+pub mod Uncounted

@@ -19,6 +19,7 @@ ghost use Rattle.ltm_loading.specs.Ranges.{
   OutputsSmall,
 };
 ghost use Rattle.ltm_loading.specs.NextPair.{NextPair, NextSlot};
+ghost use Rattle.ltm_loading.specs.Uncounted.{StepByMoves, UncountedInRange};
 ghost use Rattle.ltm_loading.specs.ByPlace.{InputsByPlace, CountsByPlace};
 ghost use Rattle.ltm_loading.specs.Ready.{LinksAreReady, OriginsAreReady};
 ghost use Rattle.ltm_loading.specs.Reads.{
@@ -152,6 +153,17 @@ pub fn next_pair()
 /// Once all nodes of a slot are done, the front is one slot longer.
 pub fn next_slot()
     ensures { NextSlot }
+{}
+
+/// What a pair moves does not depend on its counts: where 0 is read for each of them, the node step is what moves, and the
+/// counts and what moves are the node step.
+pub fn step_by_moves()
+    ensures { StepByMoves }
+{}
+
+/// What a pair of the front's slot reads is in the range of a node step also with 0 for each count.
+pub fn uncounted_in_range()
+    ensures { UncountedInRange }
 {}
 
 /// The inputs of a pair are known by their numbers: by what they hold at each place of the node's shape.

@@ -17,6 +17,7 @@ pub use laws::{
     differing_either_way, differing_is_within_pairs, first_in_first_out, in_range, inputs_by_parts,
     inputs_by_place, inputs_read_only, left_has_entered, links_are_ready, never_fall, next_pair,
     next_slot, none_differ, one_front, one_loading, one_road_is_worked, origins_are_ready,
-    outputs_small, position_read_only, set_by_one_pair, setting_read_only, totals_small,
-    within_capacity, within_exit, within_produced, within_storage,
+    outputs_small, position_read_only, set_by_one_pair, setting_read_only, step_by_moves,
+    totals_small, uncounted_in_range, within_capacity, within_exit, within_produced,
+    within_storage,
 };

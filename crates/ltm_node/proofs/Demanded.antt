@@ -46,7 +46,8 @@ small_agrees n m a h = record {
   weights = λ j l. omega (arith, inflow_agrees n m n.priority m.priority j a (omega (arith, a.outs)) a.priority, h.weights j (omega (arith, a.outs)));
 }
 
-shares_agree : (n m : Demands) (d : ℕ) (p : ℕ → ℕ) → Agrees n m → AreShares m d p → AreShares n d p
+-- shares of demands that agree
+pub shares_agree : (n m : Demands) (d : ℕ) (p : ℕ → ℕ) → Agrees n m → AreShares m d p → AreShares n d p
 shares_agree n m d p a s =
     let same : (j : ℕ) → j < n.outs → inflow m p j ≡ inflow n p j = λ j l. inflow_agrees n m p p j a l (λ i b. refl) in
     record {

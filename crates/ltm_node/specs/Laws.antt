@@ -2,7 +2,7 @@ use Rattle.std.specs.Prelude.{◌≡◌, ℕ, ◌+◌, ◌*◌, ◌<◌, ◌≤�
 use Rattle.ltm_units.specs.Sums.{sum_below}
 use Rattle.ltm_shares.specs.Shares.{AreShares}
 use Rattle.ltm_node.specs.Shape.{counts_width, is_own}
-use Rattle.ltm_node.specs.Inputs.{Inputs, sending, left, entered, arrived, supply}
+use Rattle.ltm_node.specs.Inputs.{Inputs, sending, left, entered, arrived, supply, capacity, weight}
 use Rattle.ltm_node.specs.Outputs.{Outputs, left_after, entered_after, arrived_after}
 use Rattle.ltm_node.specs.Demands.{demands}
 use Rattle.ltm_node.specs.Solvable.{IsSolvable}
@@ -79,3 +79,30 @@ pub record StaysAsItWas (n : Inputs) (o : Outputs) : Type 0 where
 -- where nothing is sent, the counts that stay as they were are the node step
 abbrev pub NothingMoves : Type 0
 NothingMoves = (n : Inputs) (o : Outputs) → NothingIsSent n → StaysAsItWas n o → IsNodeStep n o
+
+-- the same inputs where nothing has been counted
+pub record IsUncounted (n m : Inputs) : Type 0 where
+  pub shape : m.shape ≡ n.shape
+  pub width : length m.row ≡ length n.row
+  pub sending : (arm destination : ℕ) → arm < n.shape.arms → destination < n.shape.destinations → sending m arm destination ≡ sending n arm destination
+  pub supply : (out : ℕ) → out < n.shape.outs → supply m out ≡ supply n out
+  pub capacity : (arm : ℕ) → arm < n.shape.arms → capacity m arm ≡ capacity n arm
+  pub weight : (destination out : ℕ) → destination < n.shape.destinations → out < n.shape.outs → weight m destination out ≡ weight n destination out
+  pub left : (arm destination : ℕ) → arm < n.shape.arms → destination < n.shape.destinations → left m arm destination ≡ 0
+  pub entered : (out destination : ℕ) → out < n.shape.outs → destination < n.shape.destinations → entered m out destination ≡ 0
+  pub arrived : arrived m ≡ 0
+
+-- the counts at the end of the slot are those at its beginning and what moves
+pub record IsMovedOn (n : Inputs) (moves o : Outputs) : Type 0 where
+  pub shape : o.shape ≡ n.shape
+  pub width : length o.row ≡ counts_width n.shape
+  pub left : (arm destination : ℕ) → arm < n.shape.arms → destination < n.shape.destinations →
+      left_after o arm destination ≡ left n arm destination + left_after moves arm destination
+  pub entered : (out destination : ℕ) → out < n.shape.outs → destination < n.shape.destinations →
+      entered_after o out destination ≡ entered n out destination + entered_after moves out destination
+  pub arrived : arrived_after o ≡ arrived n + arrived_after moves
+
+-- what moves does not depend on the counts: it is the node step where nothing has been counted, and the counts and what
+-- moves are the node step
+abbrev pub MovesAdd : Type 0
+MovesAdd = (n m : Inputs) (moves o : Outputs) → IsUncounted n m → IsNodeStep m moves → IsMovedOn n moves o → IsNodeStep n o

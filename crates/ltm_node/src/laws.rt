@@ -9,6 +9,7 @@ ghost use Rattle.ltm_node.specs.Laws.{
   SameShape,
   NoArrivals,
   NothingMoves,
+  MovesAdd,
 };
 
 /// Two lists of shares for the same inputs are equal fractions.
@@ -54,4 +55,10 @@ pub fn no_arrivals()
 /// Where no arm sends anything, the counts stay as they were.
 pub fn nothing_moves()
     ensures { NothingMoves }
+{}
+
+/// What moves does not depend on the counts: the node step of inputs where nothing has been counted is what moves, and the
+/// counts and what moves are the node step.
+pub fn moves_add()
+    ensures { MovesAdd }
 {}

@@ -20,9 +20,10 @@ mod split;
 
 pub use inputs::NodeInputs;
 pub use laws::{
-    no_arrivals, nothing_lost, nothing_lost_in_all, nothing_moves, one_solution, one_step,
-    same_shape, sending_kept, supply_kept,
+    moves_add, no_arrivals, nothing_lost, nothing_lost_in_all, nothing_moves, one_solution,
+    one_step, same_shape, sending_kept, supply_kept,
 };
+pub use node_step::write_step;
 pub use outputs::NodeOutputs;
 pub use shape::NodeShape;
 pub use solved::{Solved, solve};

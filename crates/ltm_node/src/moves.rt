@@ -5,7 +5,7 @@
 //! 0 moves nothing and is passed over.
 ghost use Rattle.std.specs.Prelude.{◌≡◌, ◌<◌, ◌+◌, false, true, sum, length};
 ghost use Rattle.ltm_units.specs.Sums.{sum_below};
-ghost use Rattle.ltm_node.specs.Shape.{is_own, width};
+ghost use Rattle.ltm_node.specs.Shape.{is_own, sending_place, width};
 ghost use Rattle.ltm_node.specs.Inputs.{weights};
 ghost use Rattle.ltm_node.specs.Solvable.{IsSolvable};
 ghost use Rattle.ltm_node.specs.Portion.{AreFractions};
@@ -51,6 +51,23 @@ impl Mover<'_> {
         }
     }
 
+    /// What an arm sends to a destination, from its place in the row.
+    #[inline]
+    fn load_at(&self, arm: u32, destination: u32, place: usize) -> Load
+        requires arm { arm < self.now.inputs.now.shape.arms }
+        requires destination { destination < self.now.inputs.now.shape.destinations }
+        requires place { place ≡ sending_place self.now.shape arm destination }
+        ensures arm { result.arm ≡ arm }
+        ensures destination { result.destination ≡ destination }
+        ensures load { IsLoad self.now.inputs.now result }
+    {
+        Load {
+            arm,
+            destination,
+            amount: self.numbers[place],
+        }
+    }
+
     /// What an arm sends to a destination.
     #[inline]
     fn load(&self, arm: u32, destination: u32) -> Load
@@ -60,11 +77,7 @@ impl Mover<'_> {
         ensures destination { result.destination ≡ destination }
         ensures load { IsLoad self.now.inputs.now result }
     {
-        Load {
-            arm,
-            destination,
-            amount: self.numbers[self.shape.sending_place(arm, destination)],
-        }
+        self.load_at(arm, destination, self.shape.sending_place(arm, destination))
     }
 
     /// The weights of all out-links for a destination.
@@ -176,8 +189,10 @@ impl Mover<'_> {
         ensures after { HaveMovedTo self.now (destination + 1) row.new sent.new }
     {
         let whole = self.whole_weight(destination);
+        let mut place = destination as usize;
         for arm in 0..self.shape.arms {
-            self.send(self.load(arm, destination), whole, row, sent);
+            self.send(self.load_at(arm, destination, place), whole, row, sent);
+            place += self.shape.destinations as usize;
         }
     }
 

@@ -8,6 +8,7 @@ ghost use Rattle.ltm_shares.specs.Demands.{demands_of};
 ghost use Rattle.ltm_shares.specs.Sent.{sent_at};
 ghost use Rattle.ltm_shares.specs.Shares.{AreShares};
 ghost use Rattle.ltm_node.specs.Shape.{counts_width};
+ghost use Rattle.ltm_node.specs.Inputs.{supply};
 ghost use Rattle.ltm_node.specs.Demands.{sent, demands};
 ghost use Rattle.ltm_node.specs.Solvable.{IsSolvable};
 ghost use Rattle.ltm_node.specs.Step.{IsNodeStep};
@@ -19,7 +20,8 @@ use crate::outputs::NodeOutputs;
 use crate::portion::Portion;
 use ltm_shares::{ARMS, NodeDemands, OUTS, Sent, Shares, shares};
 
-/// Writes the counts at the end of the slot.
+/// Writes the node step of the inputs into the room of the outputs, as `solve` does, for a caller that keeps both. Takes no
+/// memory.
 pub fn write_step(inputs: &NodeInputs, outputs: &mut NodeOutputs)
     requires solvable { IsSolvable inputs.now }
     requires room { counts_width inputs.now.shape ≤ outputs.old.room }
@@ -63,26 +65,31 @@ fn fits_supply(inputs: &NodeInputs, sent: &Sent) -> bool
     ensures { IsTrue result → FitsSupply inputs.now sent.now }
 {
     for out in 0..inputs.outs() {
-        if inflow(inputs, sent, out) > inputs.supply(out) {
+        if !fits_into(inputs, sent, out) {
             return false;
         }
     }
     true
 }
 
-/// What an out-link gets where each arm sends all.
+/// Whether an out-link gets no more than it can take where each arm sends all. The arms are added up for as long as it does,
+/// which also keeps so short a loop from being widened.
 #[tactic(auto, using(ltm_units::proofs::Sums::sum_below_more_le, ltm_units::proofs::Sums::sum_below_more))]
-fn inflow(inputs: &NodeInputs, sent: &Sent, out: u32) -> u64
+fn fits_into(inputs: &NodeInputs, sent: &Sent, out: u32) -> bool
     requires solvable { IsSolvable inputs.now }
     requires sent { HoldsSent inputs.now sent.now }
     requires out { out < inputs.now.shape.outs }
-    ensures { result ≡ sum_below inputs.now.shape.arms (λ i. sent_at sent.now i out) }
+    ensures { IsTrue result → sum_below inputs.now.shape.arms (λ i. sent_at sent.now i out) ≤ supply inputs.now out }
 {
+    let most = inputs.supply(out);
     let mut total = 0u64;
     for arm in 0..inputs.arms() {
         total += sent.at(arm as usize, out as usize);
+        if total > most {
+            return false;
+        }
     }
-    total
+    true
 }
 
 /// What an arm sends.

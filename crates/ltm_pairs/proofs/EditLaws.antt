@@ -1,6 +1,6 @@
 -- The laws of scenarios, limits, demand and weights that tell what an edit leaves alone.
 use Rattle.std.proofs.Common.{◌≡◌, ℕ, List}
-use Rattle.ltm_limits.specs.Laws.{LimitsAreSet}
+use Rattle.ltm_limits.specs.Laws.{LimitsAreSet, LimitsAreLengthened}
 use Rattle.ltm_demand.specs.declared.row.DemandRow.{DemandRow}
 use Rattle.ltm_demand.specs.Rows.{edited as edited_rows}
 use Rattle.ltm_demand.specs.Produced.{by_end, IsSilent as IsNoRowOf}
@@ -12,6 +12,7 @@ use Rattle.ltm_loading.specs.Reads.{SettingReadOnly, PositionReadOnly}
 pub record EditLaws : Type 0 where
   pub make : EditsMake
   pub limits : LimitsAreSet
+  pub longer : LimitsAreLengthened
   pub production : (rows : List DemandRow) (row : DemandRow) (o d t : ℕ) → IsNoRowOf o t row → by_end (edited_rows rows row) o d t ≡ by_end rows o d t
   pub weights : (rows : List SplitRow) (key : SplitKey) (w : List ℕ) (n d t : ℕ) → IsNoKeyOf n t key → row_in_force (put_in rows key w) n d t ≡ row_in_force rows n d t
   pub reads : SettingReadOnly

@@ -1,22 +1,21 @@
 -- What a pair reads outside the reaches of an edit.
-use Rattle.std.proofs.Common.{◌≡◌, ℕ, ◌<◌, ◌≤◌, ◌⊎◌, ◌||◌, min, List, [], ◌∷◌, ◌++◌, Bool, true, false, length, Some, Option, get_or, arith, inl, inr, refl, ap, subst}
+use Rattle.std.proofs.Common.{◌≡◌, ℕ, ◌<◌, ◌≤◌, ◌⊎◌, ◌||◌, min, List, [], ◌∷◌, ◌++◌, Bool, true, false, length, Some, Option, arith, inl, inr, refl, ap, subst}
 use Rattle.std.specs.Option.{option_map_or}
 use Rattle.std.proofs.lemmas.List.{length-map}
 use Rattle.ltm_units.specs.declared.places.Reach.{Reach}
-use Rattle.ltm_limits.specs.Limits.{AreWhole}
 use Rattle.ltm_network.specs.Network.{NetworkData, Link, find_node, find_link, tail_of, head_of, link_names}
 use Rattle.ltm_network.proofs.Apart.{named_there}
 use Rattle.ltm_scenario.specs.declared.edit.Edit.{Edit}
 use Rattle.ltm_scenario.specs.Data.{ScenarioData}
 use Rattle.ltm_scenario.specs.Build.{as_limit}
 use Rattle.ltm_scenario.specs.Edits.{weights_at}
-use Rattle.ltm_scenario.specs.Makes.{Makes, demand, entry, exit, split, diagram}
+use Rattle.ltm_scenario.specs.Makes.{Makes, demand, entry, exit, split, diagram, horizon}
 use Rattle.ltm_loading.specs.Networks.{SameFor}
 use Rattle.ltm_setting.specs.Setting.{setting_of}
 use Rattle.ltm_pairs.specs.Reaches.{reach, lies_in, lies_in_one}
 use Rattle.ltm_pairs.specs.Touched.{of_node, of_end, touched_by, HaveSlots, TouchedHoldsReaders}
 use Rattle.ltm_pairs.proofs.EditLaws.{EditLaws}
-use Rattle.ltm_pairs.proofs.Touching.{outside, outside_slots, by_demand, by_split, by_entry, by_exit, by_diagram}
+use Rattle.ltm_pairs.proofs.Touching.{outside, outside_slots, row_long, by_demand, by_split, by_entry, by_exit, by_diagram, by_horizon}
 
 -- ---- tests
 no_end : (a : Bool) → a || false ≡ false → a ≡ false
@@ -42,9 +41,6 @@ end_at network end name from to link u t is h =
 -- a link that is found is one
 pub link_there : (s : ScenarioData) (name : List ℕ) (link : ℕ) → find_link s.network name ≡ Some link → link < length s.network.links
 link_there s name link is = omega ((named_there (link_names s.network) name link is).0, length-map s.network.links (λ (l : Link). l.name), arith)
-
-pub row_long : (limits : List (List ℕ)) (links slots link : ℕ) → AreWhole limits links slots → link < links → length (get_or limits link []) ≡ slots
-row_long limits links slots link whole l = whole.long link [] (omega (arith, whole.for_each))
 
 -- not in a reach from a slot on, or not in a reach that is cut at the horizon
 from_on : (node from slots first u t : ℕ) → lies_in u t (reach node from slots) ≡ false → t < slots → first ≡ from → (node ≡ u → ⊥) ⊎ (t < first)
@@ -83,6 +79,7 @@ same_for laws s next edit whole (diagram name new link named sets) u t l h =
     let both = neither (lies_in u t (reach (tail_of s.network link) 0 slots)) (lies_in u t (reach (head_of s.network link) 0 slots))
     (subst (λ (o : Option ℕ). lies_in_one (option_map_or (λ l. reach (tail_of s.network l) 0 slots ∷ []) o [] ++ option_map_or (λ l. reach (head_of s.network l) 0 slots ∷ []) o []) u t ≡ false) named h) in
     by_diagram s link new u t (nowhere (tail_of s.network link) slots u t both.0 l) (nowhere (head_of s.network link) slots u t both.1 l)
+same_for laws s next edit whole (horizon slots said) u t l h = by_horizon laws s slots u t whole.entry whole.exit l
 
 pub touched_holds_readers : EditLaws → TouchedHoldsReaders
 touched_holds_readers laws s next edit whole is =

@@ -1,7 +1,9 @@
 pub mod EditLaws
 pub mod Touching
 pub mod EditReaches
+pub mod LongerReaches
 pub mod EditKeeps
+pub mod Horizons
 pub mod Bools
 pub mod Positions
 pub mod Bystanders

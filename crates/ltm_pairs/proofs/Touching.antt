@@ -13,8 +13,9 @@ use Rattle.ltm_demand.specs.declared.row.DemandRow.{DemandRow}
 use Rattle.ltm_demand.specs.Rows.{edited as edited_rows}
 use Rattle.ltm_splits.specs.declared.keys.SplitKey.{SplitKey}
 use Rattle.ltm_splits.specs.Rows.{put_in}
-use Rattle.ltm_limits.specs.Limits.{with_limit}
+use Rattle.ltm_limits.specs.Limits.{with_limit, AreWhole}
 use Rattle.ltm_scenario.specs.Data.{ScenarioData}
+use Rattle.ltm_scenario.specs.Horizon.{with_slots}
 use Rattle.ltm_setting.specs.Setting.{set_by, limits_at, produced_by, setting_of}
 use Rattle.ltm_loading.specs.Networks.{SameFor}
 use Rattle.ltm_pairs.specs.Reaches.{reach, lies_in}
@@ -153,6 +154,33 @@ by_diagram s link diagram u t tail head =
       out_capacity = λ j x. ap (λ z. z.capacity) (limits_stay s link diagram (out_link s.network u j) (leaves j x));
       storage = λ j x. ap (λ z. z.storage) (limits_stay s link diagram (out_link s.network u j) (leaves j x));
       entry_limit = λ j x. refl;
+      origin_capacity = refl;
+      produced = λ d k x l. refl;
+      weight = λ d j x y. refl;
+    }
+
+-- ---- the horizon
+-- the row of a link is as long as the horizon
+pub row_long : (limits : List (List ℕ)) (links slots link : ℕ) → AreWhole limits links slots → link < links → length (get_or limits link []) ≡ slots
+row_long limits links slots link whole l = whole.long link [] (omega (arith, whole.for_each))
+
+pub by_horizon : EditLaws → (s : ScenarioData) (slots u t : ℕ) → AreWhole s.entry (length s.network.links) s.setup.slots → AreWhole s.exit (length s.network.links) s.setup.slots → t < s.setup.slots → SameFor (setting_of (with_slots s slots)) (setting_of s) u t
+unfolding setting_of
+by_horizon laws s slots u t entry exit before =
+    record {
+      network = record { nodes = refl; links = refl; destinations = refl; ins = refl; in_link = refl; outs = refl; out_link = refl; own = refl };
+      step = refl;
+      free_time = λ i x. refl;
+      in_capacity = λ i x. refl;
+      exit_limit = λ i x.
+          let there = (has_places s.network).in_link_is_link u i x in
+          laws.longer.here s.exit slots (in_link s.network u i) t (omega (arith, exit.for_each, there)) (omega (arith, before, row_long s.exit (length s.network.links) s.setup.slots (in_link s.network u i) exit there));
+      wave_time = λ j x. refl;
+      out_capacity = λ j x. refl;
+      storage = λ j x. refl;
+      entry_limit = λ j x.
+          let there = (has_places s.network).out_link_is_link u j x in
+          laws.longer.here s.entry slots (out_link s.network u j) t (omega (arith, entry.for_each, there)) (omega (arith, before, row_long s.entry (length s.network.links) s.setup.slots (out_link s.network u j) entry there));
       origin_capacity = refl;
       produced = λ d k x l. refl;
       weight = λ d j x y. refl;

@@ -59,10 +59,11 @@ fn add_head(scenario: &Scenario, name: &Name, from: u32, to: u32, into: &mut Spr
 /// | exit limit | the head of the link, in the slots named |
 /// | weights | their node, from their first slot to the horizon |
 /// | diagram | the tail of the link, and then the head, in every slot |
+/// | horizon | none; `all_new` has the slots from the present horizon to the longer one |
 ///
 /// A name that the scenario does not have has no reach, and such an edit is refused. A pair outside of the reaches reads
-/// the same numbers once the edit is accepted, whatever the counts are; `batch_touches_readers` says so of a whole batch.
-/// Takes no memory.
+/// the same numbers once the edit is accepted, whatever the counts are; `batch_touches_readers` says so of a whole batch,
+/// and `added_slots_are_new` that the batch adds the slots that are told, and no others. Takes no memory.
 #[tactic(auto, unfolding(ltm_setting::specs::Setting::setting_of))]
 pub fn touched(scenario: &Scenario, edit: &Edit, into: &mut Spread)
     ensures reaches { into.new.reaches ≡ touched_by scenario.now edit.now }
@@ -80,5 +81,6 @@ pub fn touched(scenario: &Scenario, edit: &Edit, into: &mut Spread)
             add_head(scenario, &link, 0, slots, into);
         }
         Edit::Exit { link, from, to, .. } => add_head(scenario, &link, from, to.min(slots), into),
+        Edit::Horizon { slots: more } => into.add_slots(slots, more),
     }
 }

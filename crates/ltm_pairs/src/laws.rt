@@ -1,17 +1,17 @@
 //! What the reaches and readers leave out reads the same as before.
-ghost use Rattle.ltm_pairs.specs.Touched.{EditsKeep, TouchedHoldsReaders, BatchTouchesReaders};
+ghost use Rattle.ltm_pairs.specs.Touched.{EditsKeep, TouchedHoldsReaders, BatchTouchesReaders, AddedSlotsAreNew};
 ghost use Rattle.ltm_pairs.specs.Readers.{ReadersAreAll, PositionsStay};
 ghost use Rattle.ltm_pairs.specs.Dependents.{DependentsAreAll};
 ghost use Rattle.ltm_pairs.specs.OneRoad.{ReadersOnOneRoad};
 ghost use Rattle.ltm_pairs.specs.Waking.{ReadersWake, ReadersKeepPositions, DependentsWake};
 
 use ltm_demand::production_stays;
-use ltm_limits::{limits_are_set, limits_stay_whole};
+use ltm_limits::{limits_are_lengthened, limits_are_set, limits_stay_whole};
 use ltm_loading::{inputs_by_parts, position_read_only, set_by_one_pair, setting_read_only};
 use ltm_scenario::edits_make;
 use ltm_splits::rows_stay;
 
-/// An accepted edit keeps network and horizon.
+/// An accepted edit keeps the network, and a horizon that is no shorter.
 pub fn edits_keep()
     ensures { EditsKeep }
 {
@@ -27,6 +27,7 @@ pub fn touched_holds_readers()
     production_stays();
     rows_stay();
     limits_are_set();
+    limits_are_lengthened();
     setting_read_only();
     position_read_only();
 }
@@ -38,6 +39,13 @@ pub fn batch_touches_readers()
     edits_make();
     edits_keep();
     touched_holds_readers();
+}
+
+/// The slots that an accepted batch adds are those that its edits add.
+pub fn added_slots_are_new()
+    ensures { AddedSlotsAreNew }
+{
+    edits_make();
 }
 
 /// A commit changes the inputs of its readers alone.

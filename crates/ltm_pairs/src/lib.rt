@@ -16,8 +16,8 @@ pub use arm_set::ArmSet;
 pub use commits::dependents;
 pub use edits::touched;
 pub use laws::{
-    batch_touches_readers, dependents_are_all, dependents_wake, edits_keep, positions_stay,
-    readers_are_all, readers_on_one_road, readers_wake, touched_holds_readers,
+    added_slots_are_new, batch_touches_readers, dependents_are_all, dependents_wake, edits_keep,
+    positions_stay, readers_are_all, readers_on_one_road, readers_wake, touched_holds_readers,
 };
 pub use ltm_index::{ReadIndex, slots_stand_by_entry};
 pub use spread::Spread;

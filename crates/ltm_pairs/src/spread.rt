@@ -1,5 +1,5 @@
 //! A short list of reaches.
-ghost use Rattle.std.specs.Prelude.{◌≡◌, ◌<◌, [], ◌∷◌, ◌++◌, length};
+ghost use Rattle.std.specs.Prelude.{◌≡◌, ◌<◌, [], ◌∷◌, ◌++◌, length, Some};
 ghost use Rattle.ltm_pairs.specs.Reaches.{no_spread};
 
 use ltm_units::{NodeId, Reach};
@@ -57,6 +57,13 @@ impl Spread {
     {
         self.count = 0;
         self.all_new = None;
+    }
+
+    /// Says of which slots every pair is new.
+    pub(crate) fn add_slots(&mut self, from: u32, to: u32)
+        ensures { self.new ≡ record self.old { all_new = Some (from, to) } }
+    {
+        self.all_new = Some((from, to));
     }
 
     /// Puts one more reach behind the others.

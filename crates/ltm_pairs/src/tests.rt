@@ -122,6 +122,19 @@ fn reaches_of_edits(rt: HostRuntime) {
     }
 }
 
+// A longer horizon has no reach, and tells its slots until the next call.
+#[test]
+fn slots_of_a_longer_horizon(rt: HostRuntime) {
+    let scenario = corridor(&rt, rt.alloc());
+    let mut spread = Spread::new();
+    touched(&scenario, &Edit::Horizon { slots: 20 }, &mut spread);
+    assert!(rt; spread.reaches().is_empty());
+    assert!(rt; spread.all_new == Some((12, 20)));
+    touched(&scenario, &exit(&rt, "b", 1, 20), &mut spread);
+    assert_eq!(rt; spread.reaches().first().copied(), Some(reach(2, 1, 12)));
+    assert!(rt; spread.all_new.is_none());
+}
+
 // Node n2 in slot 3: its next slot; slots of n1, where 4500 ms later reads boundary 4; and n3 from slot 4 on.
 #[test]
 fn reaches_of_commits(rt: HostRuntime) {

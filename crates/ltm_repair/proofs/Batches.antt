@@ -114,7 +114,7 @@ accept_counts s touched e is step =
           let two : strayed (now s).slots (s.settings s.settled) c s.desk ≤ s.commits = is.count.covers c loading in
           omega arith));
       no_waste = λ loadings are.
-          let old : AreLoadings s loadings = λ k l. (rw (step.settings k l) at (are k (omega arith))) in
+          let old : AreLoadings s loadings = λ k low l. (rw (step.settings k l) at (are k (omega (step.settled, low, arith)) (omega arith))) in
           let one : s.commits + left_to_do (now s) (loadings s.accepted) s.desk ≤ all_differences s loadings = is.count.no_waste loadings old in
           let two : left_to_do (now e) (loadings e.accepted) e.desk ≤ left_to_do (now s) (loadings s.accepted) s.desk + differing (now s) (now e) (loadings s.accepted) (loadings e.accepted) =
           accept_left (now s) (now e) s.desk touched e.desk (loadings s.accepted) (loadings e.accepted) step.network.nodes step.desk in

@@ -133,8 +133,9 @@ commit_counts s u t row wakes e is step =
           omega arith);
       no_waste = rw (books.settings, books.settled, books.accepted, step.commits) (λ loadings are.
           let before : s.commits + left_to_do (now s) (loadings s.accepted) s.desk ≤ all_differences s loadings = is.count.no_waste loadings are in
+          let first : s.settled ≤ s.accepted = settled_within s is in
           let fewer : left_to_do (now s) (loadings s.accepted) e.desk + 1 ≡ left_to_do (now s) (loadings s.accepted) s.desk =
-          commit_done (now s) s.desk u t row wakes e.desk (loadings s.accepted) (now_is_setting s is) is.desk step.desk (are s.accepted (omega arith)) in
+          commit_done (now s) s.desk u t row wakes e.desk (loadings s.accepted) (now_is_setting s is) is.desk step.desk (are s.accepted first (omega arith)) in
           omega arith);
       fits = rw (books.settings, books.settled, books.accepted, step.commits)
           (let l : undone (now s).nodes (now s).slots e.desk + 1 ≤ undone (now s).nodes (now s).slots s.desk =
@@ -186,7 +187,7 @@ settle_counts s n e is step =
       covers = rw (step.settings, step.settled, step.accepted, step.commits, step.desk) (λ c loading.
           let home : strayed (now s).slots (now s) c s.desk ≡ 0 = rest_home (now s) s.desk c setting is.desk rest loading in omega arith);
       no_waste = rw (step.settings, step.settled, step.accepted, step.commits, step.desk) (λ loadings are.
-          let done : left_to_do (now s) (loadings s.accepted) s.desk ≡ 0 = rest_done (now s) s.desk (loadings s.accepted) setting is.desk rest (are s.accepted (omega arith)) in omega arith);
+          let done : left_to_do (now s) (loadings s.accepted) s.desk ≡ 0 = rest_done (now s) s.desk (loadings s.accepted) setting is.desk rest (are s.accepted (omega arith) (omega arith)) in omega arith);
       fits = rw (step.settings, step.settled, step.accepted, step.commits, step.desk)
           (let none : undone (now s).nodes (now s).slots s.desk ≡ 0 = rest_undone (now s) s.desk rest in omega arith);
     }

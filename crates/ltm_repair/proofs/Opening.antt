@@ -66,7 +66,7 @@ opening_counts s o rest sound =
       covers = rw at_settled (λ c loading.
           let z : strayed (now s).slots (now s) c s.desk ≡ 0 = rest_home (now s) s.desk c o.rest.setting sound rest loading in omega arith);
       no_waste = λ loadings are.
-          let z : left_to_do (now s) (loadings s.accepted) s.desk ≡ 0 = rest_done (now s) s.desk (loadings s.accepted) o.rest.setting sound rest (are s.accepted (omega arith)) in
+          let z : left_to_do (now s) (loadings s.accepted) s.desk ≡ 0 = rest_done (now s) s.desk (loadings s.accepted) o.rest.setting sound rest (are s.accepted (rw (o.settled, o.accepted) (omega arith)) (omega arith)) in
           omega (z, none, arith);
       fits = let z : undone (now s).nodes (now s).slots s.desk ≡ 0 = rest_undone (now s) s.desk rest in omega (z, none, arith);
     }

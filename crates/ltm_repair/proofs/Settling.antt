@@ -17,8 +17,8 @@ settle_tells s e n is step loadings are =
     record {
       at_least =
           let low : differing (s.settings s.settled) (now s) (loadings s.settled) (loadings s.accepted) ≤ strayed (now s).slots (s.settings s.settled) (loadings s.settled) s.desk =
-          rest_strays (now s) s.desk (loadings s.accepted) (s.settings s.settled) (loadings s.settled) (now_is_setting s is) ((is.history.network s.settled first).nodes) is.desk rest (are s.accepted (omega arith)) in
-          let high : strayed (now s).slots (s.settings s.settled) (loadings s.settled) s.desk ≤ s.commits = is.count.covers (loadings s.settled) (are s.settled first) in
+          rest_strays (now s) s.desk (loadings s.accepted) (s.settings s.settled) (loadings s.settled) (now_is_setting s is) ((is.history.network s.settled first).nodes) is.desk rest (are s.accepted first (omega arith)) in
+          let high : strayed (now s).slots (s.settings s.settled) (loadings s.settled) s.desk ≤ s.commits = is.count.covers (loadings s.settled) (are s.settled (omega arith) first) in
           omega arith;
       at_most = let all : s.commits + left_to_do (now s) (loadings s.accepted) s.desk ≤ all_differences s loadings = is.count.no_waste loadings are in omega arith;
     }

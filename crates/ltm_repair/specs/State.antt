@@ -24,9 +24,9 @@ pub record RepairState : Type 0 where
 abbrev pub now : RepairState → Setting
 now s = s.settings s.accepted
 
--- loadings of the settings after each number of batches
+-- loadings of the settings after each number of batches, from those of the last settle count on
 abbrev pub AreLoadings : RepairState → (ℕ → Counts) → Type 0
-AreLoadings s loadings = (k : ℕ) → k ≤ s.accepted → IsLoading (s.settings k) (loadings k)
+AreLoadings s loadings = (k : ℕ) → s.settled ≤ k → k ≤ s.accepted → IsLoading (s.settings k) (loadings k)
 
 -- by how many pairs the loading after one batch more differs from that after k batches
 abbrev pub batch_difference : RepairState → (ℕ → Counts) → ℕ → ℕ

@@ -1,38 +1,53 @@
 -- Edits, one by one and in batches, keep a scenario valid and its shape.
-use Rattle.std.proofs.Common.{◌≡◌, ℕ, ◌+◌, List, [], ◌∷◌, Ok, Err, Result, refl, subst, ◌∙◌}
+use Rattle.std.proofs.Common.{◌≡◌, ℕ, ◌+◌, List, [], ◌∷◌, Ok, Err, Result, arith, refl, sym, ap, subst, ◌∙◌}
 use Rattle.ltm_scenario.specs.declared.edit.Edit.{Edit}
 use Rattle.ltm_scenario.specs.declared.edit.EditCause.{EditCause}
+use Rattle.ltm_scenario.specs.declared.setup.Setup.{Setup}
 use Rattle.ltm_scenario.specs.Data.{ScenarioData}
 use Rattle.ltm_scenario.specs.Shape.{SameShape}
 use Rattle.ltm_scenario.specs.Valid.{IsValid}
 use Rattle.ltm_scenario.specs.Build.{with_entry_limit, with_exit_limit}
-use Rattle.ltm_scenario.specs.Edits.{weights_at, with_diagram, edited, edited_from, at_place}
-use Rattle.ltm_scenario.specs.Makes.{Makes, demand, entry, split, diagram, exit}
-use Rattle.ltm_scenario.proofs.Keeps.{split_kept, demand_kept, entry_kept, exit_kept, diagrams_kept}
+use Rattle.ltm_scenario.specs.Edits.{weights_at, with_diagram, edited, edited_from, at_place, slots_after, horizon_after}
+use Rattle.ltm_scenario.specs.Makes.{Makes, demand, entry, split, diagram, exit, horizon}
+use Rattle.ltm_scenario.proofs.Keeps.{split_kept, demand_kept, entry_kept, exit_kept, diagrams_kept, horizon_kept}
 use Rattle.ltm_scenario.proofs.Making.{bound, makes}
 
 Keeps : ScenarioData → ScenarioData → Type 0
 Keeps old new = SameShape old new × (IsValid old → IsValid new)
 
+-- the same setup, network and destinations
+alike : (s next : ScenarioData) → next.setup ≡ s.setup → next.network ≡ s.network → next.destinations ≡ s.destinations → SameShape s next
+alike s next setup network destinations =
+    let slots : next.setup.slots ≡ s.setup.slots = ap (λ (z : Setup). z.slots) setup in
+    record { step = ap (λ (z : Setup). z.step) setup; slots = omega (arith, slots); origin_capacity = ap (λ (z : Setup). z.origin_capacity) setup; network = network; destinations = destinations }
+
 pub shape_stays : (s : ScenarioData) → SameShape s s
-shape_stays s = record { setup = refl; network = refl; destinations = refl }
+shape_stays s = alike s s refl refl refl
 
 shape_through : (a b c : ScenarioData) → SameShape a b → SameShape b c → SameShape a c
-shape_through a b c p q = record { setup = q.setup ∙ p.setup; network = q.network ∙ p.network; destinations = q.destinations ∙ p.destinations }
+shape_through a b c p q = record {
+  step = q.step ∙ p.step;
+  slots = omega (arith, p.slots, q.slots);
+  origin_capacity = q.origin_capacity ∙ p.origin_capacity;
+  network = q.network ∙ p.network;
+  destinations = q.destinations ∙ p.destinations;
+}
 
 -- ---- one edit
 kept_by_edit : (s next : ScenarioData) (edit : Edit) → Makes s next edit → Keeps s next
 unfolding Keeps
 kept_by_edit s next edit (demand origin destination from to amount row said) =
-    (record { setup = refl; network = refl; destinations = refl }, λ valid. demand_kept s row valid said.is_split)
+    (alike s next refl refl refl, λ valid. demand_kept s row valid said.is_split)
 kept_by_edit s next edit (entry name from to amount link said) =
-    (record { setup = refl; network = refl; destinations = refl }, λ valid. entry_kept s (with_entry_limit s link from to amount.0).entry valid)
+    (alike s next refl refl refl, λ valid. entry_kept s (with_entry_limit s link from to amount.0).entry valid)
 kept_by_edit s next edit (split node destination from weights key said) =
-    (record { setup = refl; network = refl; destinations = refl }, λ valid. split_kept s key (weights_at s key.node.0 weights) valid said.closed)
+    (alike s next refl refl refl, λ valid. split_kept s key (weights_at s key.node.0 weights) valid said.closed)
 kept_by_edit s next edit (diagram name new link named sets) =
-    (record { setup = refl; network = refl; destinations = refl }, λ valid. diagrams_kept s (with_diagram s link new).diagrams valid)
+    (alike s next refl refl refl, λ valid. diagrams_kept s (with_diagram s link new).diagrams valid)
 kept_by_edit s next edit (exit name from to amount link said) =
-    (record { setup = refl; network = refl; destinations = refl }, λ valid. exit_kept s (with_exit_limit s link from to amount.0).exit valid)
+    (alike s next refl refl refl, λ valid. exit_kept s (with_exit_limit s link from to amount.0).exit valid)
+kept_by_edit s next edit (horizon slots said) =
+    (record { step = refl; slots = omega (arith, said.longer); origin_capacity = refl; network = refl; destinations = refl }, λ valid. horizon_kept s slots valid said.small)
 
 -- ---- a batch
 pub placed : {A : Type 0} (place : ℕ) (r : Result A EditCause) (x : A) → at_place place r ≡ Ok x → r ≡ Ok x
@@ -57,3 +72,21 @@ batch_keeps_shape place s next edits is = (batch_keeps place s next edits is).0
 pub batch_keeps_valid : (place : ℕ) (s next : ScenarioData) (edits : List Edit) → edited_from place s edits ≡ Ok next → IsValid s → IsValid next
 unfolding Keeps
 batch_keeps_valid place s next edits is valid = (batch_keeps place s next edits is).1 valid
+
+-- ---- the horizon
+edit_sets_horizon : (s next : ScenarioData) (edit : Edit) → Makes s next edit → next.setup.slots ≡ slots_after s.setup.slots edit
+edit_sets_horizon s next edit (demand origin destination from to amount row said) = refl
+edit_sets_horizon s next edit (entry name from to amount link said) = refl
+edit_sets_horizon s next edit (split node destination from weights key said) = refl
+edit_sets_horizon s next edit (diagram name new link named sets) = refl
+edit_sets_horizon s next edit (exit name from to amount link said) = refl
+edit_sets_horizon s next edit (horizon slots said) = refl
+
+pub batch_sets_horizon : (place : ℕ) (s next : ScenarioData) (edits : List Edit) → edited_from place s edits ≡ Ok next → next.setup.slots ≡ horizon_after s.setup.slots edits
+batch_sets_horizon place s next [] is =
+    let same : s ≡ next = cc in
+    ap (λ (z : ScenarioData). z.setup.slots) (sym same)
+batch_sets_horizon place s next (edit ∷ edits) is =
+    let one = bound (at_place place (edited s edit)) (λ (mid : ScenarioData). edited_from (place + 1) mid edits) next is in
+    batch_sets_horizon (place + 1) one.0 next edits one.2
+    ∙ ap (λ n. horizon_after n edits) (edit_sets_horizon s one.0 edit (makes s one.0 edit (placed place (edited s edit) one.0 one.1)))

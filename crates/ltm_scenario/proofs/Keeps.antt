@@ -14,7 +14,8 @@ use Rattle.ltm_splits.specs.Rows.{SplitRow, split_cmp, is_of, put_in}
 use Rattle.ltm_scenario.specs.Data.{ScenarioData}
 use Rattle.ltm_scenario.specs.Reads.{destination_node, has_split}
 use Rattle.ltm_scenario.specs.Cells.{most_cells}
-use Rattle.ltm_scenario.specs.Valid.{IsValid, has_start, leads_on, all_lead_on, is_demand_split, is_split_begun, is_split_led}
+use Rattle.ltm_scenario.specs.Horizon.{with_slots}
+use Rattle.ltm_scenario.specs.Valid.{IsValid, is_small, has_start, leads_on, all_lead_on, is_demand_split, is_split_begun, is_split_led}
 use Rattle.ltm_scenario.specs.Edits.{is_open}
 use Rattle.ltm_scenario.proofs.Kept.{split_exact, All-edited}
 use Rattle.ltm_scenario.proofs.Shapes.{cells_with}
@@ -171,4 +172,13 @@ diagrams_kept s diagrams valid = record {
   splits_are_begun = valid.splits_are_begun;
   splits_are_led = valid.splits_are_led;
   small = ap (λ n. nat_le n most_cells) (cells_with s.setup s.network s.destinations (record s { diagrams = diagrams }) refl refl refl ∙ sym (cells_with s.setup s.network s.destinations s refl refl refl)) ∙ valid.small;
+}
+
+-- ---- the horizon
+pub horizon_kept : (s : ScenarioData) (slots : ℕ) → IsValid s → is_small (with_slots s slots) ≡ true → IsValid (with_slots s slots)
+horizon_kept s slots valid small = record {
+  demand_is_split = valid.demand_is_split;
+  splits_are_begun = valid.splits_are_begun;
+  splits_are_led = valid.splits_are_led;
+  small = small;
 }

@@ -4,6 +4,7 @@ pub mod Batches
 pub mod Bounds
 pub mod Empty
 pub mod Found
+pub mod Horizons
 pub mod Keeps
 pub mod Kept
 pub mod Linked

@@ -1,5 +1,5 @@
 -- What an accepted edit makes of a scenario.
-use Rattle.std.proofs.Common.{◌≡◌, ℕ, ◌<◌, ◌≤◌, ◌==◌, not, nat_lt, List, Bool, true, false, Some, None, Option, Ok, Err, Result, sum, arith, refl, sym, ap, subst, ◌∙◌}
+use Rattle.std.proofs.Common.{◌≡◌, ℕ, ◌<◌, ◌≤◌, ◌==◌, not, nat_lt, nat_le, if◌then◌else◌, List, Bool, true, false, Some, None, Option, Ok, Err, Result, sum, arith, refl, sym, ap, subst, ◌∙◌}
 use Rattle.std.specs.List.{list_all}
 use Rattle.std.specs.Result.{is_ok}
 use Rattle.std.proofs.lemmas.Bool.Decides.{nat_tests}
@@ -11,16 +11,21 @@ use Rattle.ltm_demand.specs.Rows.{DemandData, edited as edited_rows}
 use Rattle.ltm_splits.specs.declared.keys.SplitKey.{SplitKey}
 use Rattle.ltm_splits.specs.Rows as splits
 use Rattle.ltm_splits.specs.Rows.{SplitRow, SplitsData, put_in, key_of}
-use Rattle.ltm_scenario.specs.declared.edit.Edit.TheVariants.{Demand, Limit, Split, Diagram as NewDiagram, Exit}
+use Rattle.ltm_scenario.specs.declared.edit.Edit.TheVariants.{Demand, Limit, Split, Diagram as NewDiagram, Exit, Horizon}
 use Rattle.ltm_scenario.specs.declared.edit.EditCause.{EditCause}
 use Rattle.ltm_scenario.specs.declared.edit.EditCause.TheVariants.{UnknownName, UnknownDestination, NoOrigin, SameEnds, BadSlots, OpenSplit, ZeroWeight, Diagram as BadDiagram}
 use Rattle.ltm_scenario.specs.Weights.{NamedWeight}
 use Rattle.ltm_scenario.specs.Data.{ScenarioData, demand_of, splits_of}
 use Rattle.ltm_scenario.specs.Reads.{destination_of, has_no_out_link, has_split}
 use Rattle.ltm_scenario.specs.Build.{with_demand, with_split, with_entry_limit, with_exit_limit, are_slots, ◌>>=◌}
-use Rattle.ltm_scenario.specs.Edits.{refuse, found, caused, cause_of_demand, cause_of_split, demand_row, limited_link, split_key, split_row, weights_at, is_open, is_out_link, diagram_edited, with_diagram}
-use Rattle.ltm_scenario.specs.Makes.{IsRowSaid, IsLinkSaid, IsSplitSaid, Makes, EditsMake, demand, entry, split, diagram, exit}
+use Rattle.ltm_scenario.specs.Edits.{refuse, found, caused, cause_of_demand, cause_of_split, cause_of_horizon, demand_row, limited_link, split_key, split_row, weights_at, is_open, is_out_link, diagram_edited, with_diagram}
+use Rattle.ltm_scenario.specs.declared.faults.HorizonFault.{HorizonFault}
+use Rattle.ltm_scenario.specs.declared.faults.HorizonFault.TheVariants.{BadSlots as HorizonSlots, CellsOver}
+use Rattle.ltm_scenario.specs.Cells.{cells_over, most_cells}
+use Rattle.ltm_scenario.specs.Horizon.{with_slots, with_horizon, is_longer}
+use Rattle.ltm_scenario.specs.Makes.{IsRowSaid, IsLinkSaid, IsSplitSaid, IsHorizonSaid, Makes, EditsMake, demand, entry, split, diagram, exit, horizon}
 use Rattle.ltm_scenario.proofs.Kept.{with_row_rows, with_split_row_rows}
+use Rattle.ltm_scenario.proofs.Horizons.{longer_cells}
 
 -- a chain that ends well went well at each step
 pub bound : {A B F : Type 0} (r : Result A F) (next : A → Result B F) (y : B) → (r >>= next) ≡ Ok y → (x : A) × (r ≡ Ok x) × (next x ≡ Ok y)
@@ -124,6 +129,21 @@ with_split_is s next key weights is =
     let same : record s { splits = (d.0).rows } ≡ next = cc (d.2) in
     sym same ∙ ap (λ (n : SplitsData). record s { splits = n.rows }) (with_split_row_rows (splits_of s) d.0 key weights d.1)
 
+-- ---- the horizon
+-- a chosen answer is none of the faults
+chosen : {A : Type 0} (b : Bool) (r : Result A HorizonFault) (fault : HorizonFault) (x : A) → (if b then r else Err fault) ≡ Ok x → (b ≡ true) × (r ≡ Ok x)
+chosen true r fault x is = (refl, is)
+chosen false r fault x is = cc
+
+horizon_said : (s next : ScenarioData) (slots : ℕ) → with_horizon s slots ≡ Ok next → IsHorizonSaid s slots × (with_slots s slots ≡ next)
+unfolding with_horizon
+horizon_said s next slots is =
+    let a = chosen (is_longer s slots) (if nat_le (cells_over s slots) most_cells then Ok (with_slots s slots) else Err (CellsOver (cells_over s slots))) HorizonSlots next is in
+    let b = chosen (nat_le (cells_over s slots) most_cells) (Ok (with_slots s slots)) (CellsOver (cells_over s slots)) next a.1 in
+    let same : with_slots s slots ≡ next = cc (b.1) in
+    let longer = a.0 in
+    (record { longer = grind (longer, arith, nat_tests); within = grind (longer, arith, nat_tests); small = ap (λ n. nat_le n most_cells) (longer_cells s slots) ∙ b.0 }, same)
+
 -- ---- each kind
 pub makes : EditsMake
 unfolding diagram_edited
@@ -153,3 +173,6 @@ makes s next (Exit name from to amount) is =
     let l = bound (limited_link s name from to) (λ link. Ok (with_exit_limit s link from to amount.0)) next is in
     let same : with_exit_limit s l.0 from to amount.0 ≡ next = cc (l.2) in
     subst (λ (z : ScenarioData). Makes s z (Exit name from to amount)) same (exit name from to amount l.0 (link_said s name from to l.0 l.1))
+makes s next (Horizon slots) is =
+    let said = horizon_said s next slots (uncaused cause_of_horizon (with_horizon s slots) next is) in
+    subst (λ (z : ScenarioData). Makes s z (Horizon slots)) said.1 (horizon slots said.0)

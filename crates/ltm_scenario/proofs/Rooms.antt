@@ -4,7 +4,7 @@ use Rattle.std.proofs.lemmas.Bool.Decides.{nat_tests}
 use Rattle.ltm_demand.specs.declared.row.DemandRow.{DemandRow}
 use Rattle.ltm_demand.specs.Rows.{DemandData, OriginRoom, IsNoLess, CanRestore, room_at, own_rows, amount_at}
 use Rattle.ltm_scenario.specs.declared.undo.Undo.{Undo}
-use Rattle.ltm_scenario.specs.declared.undo.Undo.TheVariants.{Demand, Entry, Exit, NewSplit, OldSplit, Diagram}
+use Rattle.ltm_scenario.specs.declared.undo.Undo.TheVariants.{Demand, Entry, Exit, NewSplit, OldSplit, Diagram, Horizon}
 use Rattle.ltm_scenario.specs.Data.{ScenarioData, demand_of}
 use Rattle.ltm_scenario.specs.State.{ScenarioState, KeepsRoom}
 use Rattle.ltm_scenario.specs.Undo.{undone, Fits, CanUndo, Undoes}
@@ -49,6 +49,7 @@ fits_in_room s a1 a2 a3 b1 b2 b3 (Exit link from was) h1 h2 h3 fits = (fits.0, f
 fits_in_room s a1 a2 a3 b1 b2 b3 (NewSplit key) h1 h2 h3 fits = tt
 fits_in_room s a1 a2 a3 b1 b2 b3 (OldSplit key was) h1 h2 h3 fits = fits
 fits_in_room s a1 a2 a3 b1 b2 b3 (Diagram link diagram limits) h1 h2 h3 fits = fits
+fits_in_room s a1 a2 a3 b1 b2 b3 (Horizon slots) h1 h2 h3 fits = fits
 
 same_scenario : (old : ScenarioState) (s : ScenarioData) (b1 : List OriginRoom) (b2 b3 : ℕ) (undo : Undo) → s ≡ old.scenario → KeepsRoom old (record { scenario = s; demand_room = b1; entry_places = b2; exit_places = b3 }) → CanUndo old undo → CanUndo (record { scenario = s; demand_room = b1; entry_places = b2; exit_places = b3 }) undo
 same_scenario old s b1 b2 b3 undo same room can =

@@ -1,10 +1,10 @@
--- What no edit changes fixes the cells.
-use Rattle.std.proofs.Common.{◌≡◌, ℕ, List, length, sum_by, refl, sym, ◌∙◌}
+-- What no edit changes, and the horizon, fix the cells.
+use Rattle.std.proofs.Common.{◌≡◌, ℕ, List, length, sum_by, refl, sym, ap, ◌∙◌}
 use Rattle.std.specs.List.{range_with_len}
 use Rattle.ltm_network.specs.Network.{NetworkData, in_links, out_links}
 use Rattle.ltm_scenario.specs.declared.setup.Setup.{Setup}
 use Rattle.ltm_scenario.specs.Data.{ScenarioData}
-use Rattle.ltm_scenario.specs.Cells.{arms_of, width_of, widths, cells_of, cells}
+use Rattle.ltm_scenario.specs.Cells.{arms_of, width_of, widths, cells_of, cells_over, cells}
 use Rattle.ltm_scenario.specs.Shape.{SameShape}
 
 -- the cells by what they rest on
@@ -14,11 +14,19 @@ cells_by setup network destinations =
     (length network.links) (length network.nodes) (length destinations)
 
 cells_are : (s : ScenarioData) → cells s ≡ cells_by s.setup s.network s.destinations
-unfolding cells widths cells_by
+unfolding cells cells_over widths cells_by
 cells_are s = refl
 
 pub cells_with : (setup : Setup) (network : NetworkData) (destinations : List ℕ) (s : ScenarioData) → s.setup ≡ setup → s.network ≡ network → s.destinations ≡ destinations → cells s ≡ cells_by setup network destinations
 cells_with setup network destinations s a b c = cells_are s ∙ (λ i. cells_by (a i) (b i) (c i))
 
-pub same_cells : (old new : ScenarioData) → SameShape old new → cells new ≡ cells old
-same_cells old new same = cells_with old.setup old.network old.destinations new same.setup same.network same.destinations ∙ sym (cells_are old)
+-- the cells by what they rest on, of the setup the horizon alone
+by_slots : (a b : Setup) (network : NetworkData) (destinations : List ℕ) → a.slots ≡ b.slots → cells_by a network destinations ≡ cells_by b network destinations
+unfolding cells_by
+by_slots a b network destinations same = ap (λ n. cells_by (record b { slots = n }) network destinations) same
+
+pub same_cells : (old new : ScenarioData) → SameShape old new → new.setup.slots ≡ old.setup.slots → cells new ≡ cells old
+same_cells old new same slots =
+    cells_with new.setup old.network old.destinations new refl same.network same.destinations
+    ∙ by_slots new.setup old.setup old.network old.destinations slots
+    ∙ sym (cells_are old)

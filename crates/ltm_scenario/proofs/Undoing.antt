@@ -17,7 +17,7 @@ use Rattle.ltm_splits.specs.Rows as splits
 use Rattle.ltm_splits.specs.Rows.{SplitRow, SplitsData, put_back, row_of}
 use Rattle.ltm_scenario.specs.declared.tables.Tables.TheInside.{Inside}
 use Rattle.ltm_scenario.specs.declared.undo.Undo.{Undo}
-use Rattle.ltm_scenario.specs.declared.undo.Undo.TheVariants.{Demand, Entry, Exit, NewSplit, OldSplit, Diagram}
+use Rattle.ltm_scenario.specs.declared.undo.Undo.TheVariants.{Demand, Entry, Exit, NewSplit, OldSplit, Diagram, Horizon}
 use Rattle.ltm_scenario.specs.Data.{ScenarioData}
 use Rattle.ltm_scenario.specs.Diagrams.{DiagramsState}
 use Rattle.ltm_scenario.specs.State.{ScenarioState}
@@ -28,7 +28,7 @@ use Rattle.ltm_scenario.specs.Undo.{undone, CanUndo, Undoes}
 use Rattle.ltm_scenario.proofs.Kept.{with_row_rows}
 
 -- what is undone is what was, so it is a scenario
-undoes_by : (old new : ScenarioState) (undo : Undo) → IsScenario old.scenario → undone new.scenario undo ≡ old.scenario → Rattle.ltm_scenario.specs.Undo.Fits new undo → Undoes old new undo
+pub undoes_by : (old new : ScenarioState) (undo : Undo) → IsScenario old.scenario → undone new.scenario undo ≡ old.scenario → Rattle.ltm_scenario.specs.Undo.Fits new undo → Undoes old new undo
 undoes_by old new undo is back fits = record { back = back; can = record { scenario = subst IsScenario (sym back) is; fits = fits } }
 
 -- ---- demand
@@ -116,6 +116,7 @@ split_undoes t next key weights (OldSplit at was) are note back stands =
     (ap (λ (rs : List SplitRow). record (scenario_in t) { splits = rs }) (ap (λ k. splits.put_in next.rows k was.items) note.0 ∙ ap (put_back next.rows key) (sym note.1) ∙ back))
     (some, note.2)
 split_undoes t next key weights (Diagram link diagram limits) are note back stands = absurd note
+split_undoes t next key weights (Horizon slots) are note back stands = absurd note
 
 pub splits_restored : (t : Inside) (next : SplitsData) (rows : List SplitRow) → AreTables t → IsScenario (record (scenario_in t) { splits = rows }) → next ≡ splits.with_rows t.splits rows → (scenario_in (record t { splits = next }) ≡ record (scenario_in t) { splits = rows }) × AreTables (record t { splits = next })
 splits_restored t next rows are is done =

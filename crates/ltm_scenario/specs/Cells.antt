@@ -29,8 +29,12 @@ abbrev pub cells_of : ℕ → ℕ → ℕ → ℕ → ℕ → ℕ
 cells_of slots widths links nodes destinations =
     slots * widths + 2 * (slots + 1) * (2 * links + nodes + 1) * destinations + 2 * links * slots
 
+-- what a loading of the scenario would keep over that many slots
+unfoldable pub cells_over : ScenarioData → ℕ → ℕ
+cells_over s slots = cells_of slots (widths s) (length s.network.links) (length s.network.nodes) (length s.destinations)
+
 unfoldable pub cells : ScenarioData → ℕ
-cells s = cells_of s.setup.slots (widths s) (length s.network.links) (length s.network.nodes) (length s.destinations)
+cells s = cells_over s s.setup.slots
 
 abbrev pub most_cells : ℕ
 most_cells = 54000000

@@ -14,14 +14,17 @@ use Rattle.ltm_splits.specs.declared.keys.SplitFault.{SplitFault}
 use Rattle.ltm_splits.specs.declared.keys.SplitFault.TheVariants.{BadSlots as SplitSlots, ZeroWeight as SplitWeight, TooManyRows as SplitRows, NoMemory as SplitMemory}
 use Rattle.ltm_splits.specs.Rows.{SplitRow, key_of}
 use Rattle.ltm_scenario.specs.declared.edit.Edit.{Edit}
-use Rattle.ltm_scenario.specs.declared.edit.Edit.TheVariants.{Demand, Limit, Split, Diagram as NewDiagram, Exit}
+use Rattle.ltm_scenario.specs.declared.edit.Edit.TheVariants.{Demand, Limit, Split, Diagram as NewDiagram, Exit, Horizon}
 use Rattle.ltm_scenario.specs.declared.edit.EditFault.{EditFault}
 use Rattle.ltm_scenario.specs.declared.edit.EditCause.{EditCause}
-use Rattle.ltm_scenario.specs.declared.edit.EditCause.TheVariants.{UnknownName, UnknownDestination, NoOrigin, SameEnds, BadSlots, OpenSplit, ZeroWeight, TooManyRows, Diagram as BadDiagram, NoMemory}
+use Rattle.ltm_scenario.specs.declared.edit.EditCause.TheVariants.{UnknownName, UnknownDestination, NoOrigin, SameEnds, BadSlots, OpenSplit, ZeroWeight, TooManyRows, Diagram as BadDiagram, CellsOver, NoMemory}
+use Rattle.ltm_scenario.specs.declared.faults.HorizonFault.{HorizonFault}
+use Rattle.ltm_scenario.specs.declared.faults.HorizonFault.TheVariants.{BadSlots as HorizonSlots, CellsOver as HorizonCells, NoMemory as HorizonMemory}
 use Rattle.ltm_scenario.specs.Weights.{NamedWeight}
 use Rattle.ltm_scenario.specs.Data.{ScenarioData}
 use Rattle.ltm_scenario.specs.Reads.{destination_of, has_no_out_link, has_split}
 use Rattle.ltm_scenario.specs.Valid.{all_lead_on}
+use Rattle.ltm_scenario.specs.Horizon.{with_horizon}
 use Rattle.ltm_scenario.specs.Build.{with_demand, with_split, with_entry_limit, with_exit_limit, are_slots, ◌>>=◌}
 
 -- the fault, where the test holds
@@ -43,6 +46,11 @@ cause_of_split SplitSlots = BadSlots
 cause_of_split SplitWeight = ZeroWeight
 cause_of_split SplitRows = TooManyRows
 cause_of_split SplitMemory = NoMemory
+
+abbrev pub cause_of_horizon : HorizonFault → EditCause
+cause_of_horizon HorizonSlots = BadSlots
+cause_of_horizon (HorizonCells cells) = CellsOver cells
+cause_of_horizon HorizonMemory = NoMemory
 
 -- a refusal of a part, as the edit's cause
 abbrev pub caused : {A F : Type 0} → (F → EditCause) → Result A F → Result A EditCause
@@ -133,6 +141,10 @@ diagram_edited s name diagram =
     caused BadDiagram (limits_of diagram s.setup.step.0) >>= λ _.
     Ok (with_diagram s link diagram)
 
+-- ---- the horizon
+abbrev pub horizon_edited : ScenarioData → ℕ → Result ScenarioData EditCause
+horizon_edited s slots = caused cause_of_horizon (with_horizon s slots)
+
 -- ---- one edit, and a batch
 abbrev pub edited : ScenarioData → Edit → Result ScenarioData EditCause
 edited s (Demand origin destination from to amount) = demand_edited s origin destination from to amount.0
@@ -140,6 +152,7 @@ edited s (Limit link from to amount) = limit_edited s link from to amount.0
 edited s (Split node destination from weights) = split_edited s node destination from weights
 edited s (NewDiagram link diagram) = diagram_edited s link diagram
 edited s (Exit link from to amount) = exit_edited s link from to amount.0
+edited s (Horizon slots) = horizon_edited s slots
 
 abbrev pub at_place : {A : Type 0} → ℕ → Result A EditCause → Result A EditFault
 at_place place (Ok x) = Ok x
@@ -161,6 +174,21 @@ amount_of (Limit link from to amount) = amount.0
 amount_of (Split node destination from weights) = 0
 amount_of (NewDiagram link diagram) = 0
 amount_of (Exit link from to amount) = amount.0
+amount_of (Horizon slots) = 0
+
+-- the horizon once an accepted edit is made
+abbrev pub slots_after : ℕ → Edit → ℕ
+slots_after slots (Demand origin destination from to amount) = slots
+slots_after slots (Limit link from to amount) = slots
+slots_after slots (Split node destination from weights) = slots
+slots_after slots (NewDiagram link diagram) = slots
+slots_after slots (Exit link from to amount) = slots
+slots_after slots (Horizon more) = more
+
+-- the horizon once all edits of an accepted batch are made: that of the last edit that raises it, if one does
+abbrev pub horizon_after : ℕ → List Edit → ℕ
+horizon_after slots [] = slots
+horizon_after slots (edit ∷ edits) = horizon_after (slots_after slots edit) edits
 
 -- each amount is at most a million vehicles
 abbrev pub HaveAmounts : List Edit → Type 0

@@ -5,6 +5,7 @@ pub mod Check
 pub mod Data
 pub mod Diagrams
 pub mod Edits
+pub mod Horizon
 pub mod Makes
 pub mod IsScenario
 pub mod Reads

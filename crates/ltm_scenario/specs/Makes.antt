@@ -9,12 +9,13 @@ use Rattle.ltm_demand.specs.Rows.{edited as edited_rows}
 use Rattle.ltm_splits.specs.declared.keys.SplitKey.{SplitKey}
 use Rattle.ltm_splits.specs.Rows.{put_in}
 use Rattle.ltm_scenario.specs.declared.edit.Edit.{Edit}
-use Rattle.ltm_scenario.specs.declared.edit.Edit.TheVariants.{Demand, Limit, Split, Diagram as NewDiagram, Exit}
+use Rattle.ltm_scenario.specs.declared.edit.Edit.TheVariants.{Demand, Limit, Split, Diagram as NewDiagram, Exit, Horizon}
 use Rattle.ltm_scenario.specs.Weights.{NamedWeight}
 use Rattle.ltm_scenario.specs.Data.{ScenarioData}
 use Rattle.ltm_scenario.specs.Reads.{destination_of}
-use Rattle.ltm_scenario.specs.Valid.{is_demand_split}
+use Rattle.ltm_scenario.specs.Valid.{is_demand_split, is_small}
 use Rattle.ltm_scenario.specs.Build.{with_entry_limit, with_exit_limit}
+use Rattle.ltm_scenario.specs.Horizon.{with_slots}
 use Rattle.ltm_scenario.specs.Edits.{edited, weights_at, is_open, with_diagram}
 
 -- the name is that of a destination
@@ -46,6 +47,12 @@ pub record IsSplitSaid (s : ScenarioData) (node destination : List ℕ) (from : 
   pub within : from < s.setup.slots
   pub closed : is_open s key.node.0 key.destination key.from (weights_at s key.node.0 weights) ≡ false
 
+-- the horizon that an edit says: longer than it was, and short enough
+pub record IsHorizonSaid (s : ScenarioData) (slots : ℕ) : Type 0 where
+  pub longer : s.setup.slots < slots
+  pub within : slots ≤ 10000
+  pub small : is_small (with_slots s slots) ≡ true
+
 -- an edit of each kind changes one part of the scenario
 pub data Makes (s : ScenarioData) : ScenarioData → Edit → Type 0 where
   demand : (origin destination : List ℕ) (from to : ℕ) (amount : Units) (row : DemandRow) → IsRowSaid s origin destination from to amount.0 row →
@@ -58,6 +65,7 @@ pub data Makes (s : ScenarioData) : ScenarioData → Edit → Type 0 where
       Makes s (with_diagram s link new) (NewDiagram name new)
   exit : (name : List ℕ) (from to : ℕ) (amount : Units) (link : ℕ) → IsLinkSaid s name from to link →
       Makes s (with_exit_limit s link from to amount.0) (Exit name from to amount)
+  horizon : (slots : ℕ) → IsHorizonSaid s slots → Makes s (with_slots s slots) (Horizon slots)
 
 abbrev pub EditsMake : Type 0
 EditsMake = (s next : ScenarioData) (edit : Edit) → edited s edit ≡ Ok next → Makes s next edit

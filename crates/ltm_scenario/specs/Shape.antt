@@ -1,9 +1,11 @@
--- What no edit changes.
-use Rattle.std.specs.Prelude.{◌≡◌}
+-- What no edit changes, and what none lowers.
+use Rattle.std.specs.Prelude.{◌≡◌, ◌≤◌}
 use Rattle.ltm_scenario.specs.Data.{ScenarioData}
 
--- the same setup, nodes, links and destinations
+-- the same step, capacity of origins, nodes, links and destinations, and a horizon that is no shorter
 pub record SameShape (old new : ScenarioData) : Type 0 where
-  pub setup : new.setup ≡ old.setup
+  pub step : new.setup.step ≡ old.setup.step
+  pub slots : old.setup.slots ≤ new.setup.slots
+  pub origin_capacity : new.setup.origin_capacity ≡ old.setup.origin_capacity
   pub network : new.network ≡ old.network
   pub destinations : new.destinations ≡ old.destinations

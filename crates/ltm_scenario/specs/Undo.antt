@@ -6,8 +6,9 @@ use Rattle.ltm_demand.specs.Rows.{CanRestore, edited as edited_rows}
 use Rattle.ltm_splits.specs.Rows.{taken_out, put_in, row_of}
 use Rattle.ltm_splits.specs.WeightsLie.{AreWeights}
 use Rattle.ltm_scenario.specs.declared.undo.Undo.{Undo}
-use Rattle.ltm_scenario.specs.declared.undo.Undo.TheVariants.{Demand, Entry, Exit, NewSplit, OldSplit, Diagram}
+use Rattle.ltm_scenario.specs.declared.undo.Undo.TheVariants.{Demand, Entry, Exit, NewSplit, OldSplit, Diagram, Horizon}
 use Rattle.ltm_scenario.specs.Data.{ScenarioData}
+use Rattle.ltm_scenario.specs.Horizon.{with_fewer_slots}
 use Rattle.ltm_scenario.specs.State.{ScenarioState, demand_state}
 use Rattle.ltm_scenario.specs.IsScenario.{IsScenario}
 
@@ -19,6 +20,7 @@ undone s (Exit link from was) = record s { exit = with_values s.exit link from w
 undone s (NewSplit key) = record s { splits = taken_out s.splits key }
 undone s (OldSplit key was) = record s { splits = put_in s.splits key was.items }
 undone s (Diagram link diagram limits) = record s { diagrams = slice_set s.diagrams link diagram }
+undone s (Horizon slots) = with_fewer_slots s slots
 
 -- what undoing asks of the tables, so that it needs no memory
 abbrev pub Fits : ScenarioState → Undo → Type 0
@@ -28,6 +30,7 @@ Fits s (Exit link from was) = (link < length s.scenario.exit) × (from + vec_len
 Fits s (NewSplit key) = Unit {0}
 Fits s (OldSplit key was) = IsSome (row_of s.scenario.splits key) × AreWeights was.items
 Fits s (Diagram link diagram limits) = (link < length s.scenario.diagrams) × (limits_of diagram s.scenario.setup.step.0 ≡ Ok limits)
+Fits s (Horizon slots) = slots ≤ s.scenario.setup.slots
 
 -- it can be undone without memory, and then is a scenario
 pub record CanUndo (s : ScenarioState) (undo : Undo) : Type 0 where

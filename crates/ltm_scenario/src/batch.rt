@@ -1,7 +1,7 @@
 //! Batches of edits.
 ghost use Rattle.std.specs.Prelude.{◌≡◌, ◌≤◌, ◌+◌, length, List, IfOk, Ok, Err, ◌&&◌, nat_le, OnOk, true, false, ◌≢◌, IfErr, ◌↔◌, IsTrue};
 ghost use Rattle.std.specs.List.{list_all};
-ghost use Rattle.ltm_scenario.specs.Edits.{amount_of};
+ghost use Rattle.ltm_scenario.specs.Edits.{amount_of, horizon_after};
 
 use crate::edit::Edit;
 use ltm_units::NoMemory;
@@ -73,6 +73,13 @@ impl Batch {
         are_amounts(&self.edits)
     }
 
+    /// The horizon once the batch is accepted, where it was that many slots.
+    pub fn horizon(&self, slots: u32) -> u32
+        ensures { result ≡ horizon_after slots self.now }
+    {
+        horizon_after(&self.edits, slots)
+    }
+
     /// An equal batch, on the same allocator.
     pub fn try_copy(&self) -> Result<Batch, NoMemory>
         ensures { IfOk result (λ copy. copy ≡ self.now) }
@@ -80,6 +87,16 @@ impl Batch {
         let alloc = *self.edits.allocator();
         let edits = Vec::from_slice(alloc, &self.edits)?;
         Ok(Batch { edits })
+    }
+}
+
+/// The horizon once the edits are made one after another.
+fn horizon_after(edits: &[Edit], slots: u32) -> u32
+    ensures { result ≡ horizon_after slots edits.now }
+{
+    match edits.split_first() {
+        Some((edit, rest)) => horizon_after(rest, edit.slots_after(slots)),
+        None => slots,
     }
 }
 

@@ -2,7 +2,7 @@
 ghost use Rattle.std.specs.Prelude.{◌≡◌, ℕ, ◌+◌, ◌*◌, ◌<◌, ◌≤◌, List, [], All, length, map};
 ghost use Rattle.std.specs.List.{list_all, zip};
 ghost use Rattle.ltm_scenario.specs.Reads.{has_split};
-ghost use Rattle.ltm_scenario.specs.Cells.{width, widths, cells, cells_of};
+ghost use Rattle.ltm_scenario.specs.Cells.{width, widths, cells, cells_over, cells_of};
 ghost use Rattle.ltm_scenario.specs.Valid.{has_start, leads_on};
 ghost use Rattle.ltm_scenario.specs.Check.{no_split, first_over, demand_row_checked, weight_checked, split_row_checked, cells_checked, checked};
 ghost use Rattle.ltm_scenario.specs.IsScenario.{IsDemandOf, IsSplitOf};
@@ -14,7 +14,7 @@ use ltm_splits::SplitKey;
 use ltm_units::{LinkId, NodeId};
 
 /// The most cells of a case.
-const MOST_CELLS: u128 = 54_000_000;
+pub const MOST_CELLS: u128 = 54_000_000;
 
 impl Tables {
     /// How many cells a loading has: the numbers that its pairs read, the counts of two sets of curves, and the limits.
@@ -22,9 +22,17 @@ impl Tables {
     pub fn cells(&self) -> u128
         ensures { result ≡ cells self.now.scenario }
     {
+        self.cells_over(self.setup().slots)
+    }
+
+    /// How many it would have over that many slots.
+    #[tactic(auto, unfolding(crate::specs::Cells::cells_over))]
+    pub fn cells_over(&self, slots: u32) -> u128
+        ensures { result ≡ cells_over self.now.scenario slots }
+    {
         let network = self.network();
         cells_of(
-            self.setup().slots,
+            slots,
             self.widths(),
             network.links(),
             network.nodes(),

@@ -41,11 +41,16 @@ pub enum Edit {
         to: u32,
         amount: Units,
     },
+    /// Raises the horizon to that many slots. The entry and exit limits of the new slots are those that were never set; rows
+    /// of demand and split rows stay.
+    Horizon {
+        slots: u32,
+    },
 }
 
 impl Edit {
     ghost use Rattle.std.specs.Prelude.{◌≡◌};
-    ghost use Rattle.ltm_scenario.specs.Edits.{amount_of};
+    ghost use Rattle.ltm_scenario.specs.Edits.{amount_of, slots_after};
 
     /// The amount of the edit, 0 where its kind has none.
     pub fn amount(&self) -> Units
@@ -54,7 +59,21 @@ impl Edit {
         match *self {
             Edit::Demand { amount, .. } | Edit::Limit { amount, .. } | Edit::Exit { amount, .. } =>
                 amount,
-            Edit::Split { .. } | Edit::Diagram { .. } => Units(0),
+            Edit::Split { .. } | Edit::Diagram { .. } | Edit::Horizon { .. } => Units(0),
+        }
+    }
+
+    /// The horizon once the edit is accepted, where it was that many slots.
+    pub fn slots_after(&self, slots: u32) -> u32
+        ensures { result ≡ slots_after slots self.now }
+    {
+        match *self {
+            Edit::Horizon { slots: more } => more,
+            Edit::Demand { .. }
+            | Edit::Limit { .. }
+            | Edit::Split { .. }
+            | Edit::Diagram { .. }
+            | Edit::Exit { .. } => slots,
         }
     }
 }
@@ -70,7 +89,7 @@ pub enum EditCause {
     NoOrigin,
     /// The origin, or the node of a split row, is the destination.
     SameEnds,
-    /// The slots are none, or go past the horizon.
+    /// The slots are none, or go past the horizon; or a new horizon is no longer than the old one, or above 10,000 slots.
     BadSlots,
     /// The origin and the destination have no split row; or the row would be the first of its node and destination and
     /// begin late; or a weight leads to a node that is not the destination and has no split row for it.
@@ -81,6 +100,8 @@ pub enum EditCause {
     TooManyRows,
     /// The diagram sets no limits at the step of the setup.
     Diagram(DiagramFault),
+    /// Over the new horizon the cells would be more than 54,000,000; this many.
+    CellsOver(u128),
     /// Memory was not found.
     NoMemory,
 }

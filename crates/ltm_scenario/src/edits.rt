@@ -2,7 +2,7 @@
 ghost use Rattle.std.specs.Prelude.{◌≡◌, ◌≢◌, ℕ, ◌+◌, ◌<◌, ◌≤◌, ◌^◌, List, [], All, length, map, Ok, Err, OnOk, OnErr, IfOk, IfErr, sum, ◌==◌, false, true};
 ghost use Rattle.ltm_scenario.specs.Reads.{has_no_out_link};
 ghost use Rattle.ltm_scenario.specs.Build.{are_slots};
-ghost use Rattle.ltm_scenario.specs.Edits.{demand_row, demand_edited, limited_link, limit_edited, exit_edited, diagram_edited, edited, edited_from, cause_of_demand, amount_of, HaveAmounts};
+ghost use Rattle.ltm_scenario.specs.Edits.{demand_row, demand_edited, limited_link, limit_edited, exit_edited, diagram_edited, horizon_edited, edited, edited_from, cause_of_demand, cause_of_horizon, amount_of, HaveAmounts};
 ghost use Rattle.ltm_scenario.specs.State.{KeepsRoom};
 ghost use Rattle.ltm_scenario.specs.Undo.{Undoes};
 ghost use Rattle.ltm_scenario.specs.IsScenario.{IsDemandOf};
@@ -10,6 +10,7 @@ ghost use Rattle.ltm_scenario.specs.IsScenario.{IsDemandOf};
 mod split;
 
 use crate::edit::{Edit, EditCause, EditFault};
+use crate::faults::HorizonFault;
 use crate::tables::Tables;
 use crate::undo::Undo;
 use ltm_demand::{DemandFault, DemandRow};
@@ -23,6 +24,16 @@ fn cause_of_demand(fault: DemandFault) -> EditCause
         DemandFault::BadSlots => EditCause::BadSlots,
         DemandFault::TooManyRows => EditCause::TooManyRows,
         DemandFault::NoMemory => EditCause::NoMemory,
+    }
+}
+
+fn cause_of_horizon(fault: HorizonFault) -> EditCause
+    ensures { result ≡ cause_of_horizon fault }
+{
+    match fault {
+        HorizonFault::BadSlots => EditCause::BadSlots,
+        HorizonFault::CellsOver(cells) => EditCause::CellsOver(cells),
+        HorizonFault::NoMemory => EditCause::NoMemory,
     }
 }
 
@@ -89,6 +100,7 @@ impl Tables {
                 to,
                 amount,
             } => return self.edit_exit(&link, from, to, amount),
+            Edit::Horizon { slots } => return self.edit_horizon(slots),
         }
     }
 
@@ -255,6 +267,19 @@ impl Tables {
         match diagram.limits(self.setup().step) {
             Ok(limits) => return Ok(self.change_diagram(link.0, diagram, limits)),
             Err(fault) => return Err(EditCause::Diagram(fault)),
+        }
+    }
+
+    fn edit_horizon(&mut self, slots: u32) -> Result<Undo, EditCause>
+        ensures ok { OnOk result (horizon_edited self.old.scenario slots ≡ Ok self.new.scenario) }
+        ensures undo { IfOk result (Undoes self.old self.new) }
+        ensures err { OnErr result (self.new.scenario ≡ self.old.scenario) }
+        ensures cause { IfErr result (λ e. horizon_edited self.old.scenario slots ≡ Err e) }
+        ensures room { KeepsRoom self.old self.new }
+    {
+        match self.lengthen(slots) {
+            Ok(undo) => return Ok(undo),
+            Err(fault) => return Err(cause_of_horizon(fault)),
         }
     }
 }

@@ -46,6 +46,17 @@ impl From<NoMemory> for DestinationFault {
     }
 }
 
+/// Why the horizon is not raised.
+#[derive(Clone, Copy, Debug, PartialEq, Eq)]
+pub enum HorizonFault {
+    /// The slots are no more than there are, or more than 10,000.
+    BadSlots,
+    /// The cells would be more than 54,000,000; this many.
+    CellsOver(u128),
+    /// Memory was not found. `Scenario::lengthen` takes none, so it never comes from there.
+    NoMemory,
+}
+
 /// The first broken rule of a case.
 #[derive(Clone, Copy, PartialEq, Eq)]
 pub enum ScenarioFault {

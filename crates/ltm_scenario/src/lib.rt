@@ -3,7 +3,7 @@
 //! - **On what it stands**: `ltm_network`, `ltm_diagram`, `ltm_demand`, `ltm_splits` and `ltm_limits`, each with a table of
 //!   its own, which it holds side by side and in step.
 //! - **What a call costs**: a read costs what its table's costs; an edit costs what its table's call costs and a few
-//!   look-ups by name, and takes no copy of the scenario; `check` passes over all rows once.
+//!   look-ups by name, and takes no copy of the scenario; a longer horizon costs a pass over the nodes, for the cells; `check` passes over all rows once.
 //! - **When to change it here**: when a case says more, when a rule of a valid case changes, or for another kind of edit.
 #![tactic(auto)]
 
@@ -23,7 +23,7 @@ mod weights;
 
 pub use batch::{Batch, BatchFault};
 pub use edit::{Edit, EditCause, EditFault};
-pub use faults::{DestinationFault, LinkFault, ScenarioFault};
+pub use faults::{DestinationFault, HorizonFault, LinkFault, ScenarioFault};
 pub use laws::edits_make;
 pub use scenario::Scenario;
 pub use setup::{Setup, SetupFault};

@@ -12,13 +12,14 @@ ghost use Rattle.ltm_scenario.specs.Cells.{cells};
 ghost use Rattle.ltm_scenario.specs.Valid.{IsValid};
 ghost use Rattle.ltm_scenario.specs.Check.{checked};
 ghost use Rattle.ltm_scenario.specs.Build.{with_link, with_destination, with_demand, with_split, with_exit, HasNoSplitAt};
-ghost use Rattle.ltm_scenario.specs.Edits.{edited_all, HaveAmounts};
+ghost use Rattle.ltm_scenario.specs.Horizon.{with_horizon};
+ghost use Rattle.ltm_scenario.specs.Edits.{edited_all, horizon_after, HaveAmounts};
 ghost use Rattle.ltm_scenario.specs.Shape.{SameShape};
 ghost use Rattle.ltm_scenario.specs.IsScenario.{IsScenario, IsDemandOf, IsSplitOf};
 
 use crate::batch::Batch;
 use crate::edit::{EditCause, EditFault};
-use crate::faults::{DestinationFault, LinkFault, ScenarioFault};
+use crate::faults::{DestinationFault, HorizonFault, LinkFault, ScenarioFault};
 use crate::setup::{Setup, SetupFault};
 use crate::tables::Tables;
 use ltm_demand::{Demand, DemandFault, DemandRow};
@@ -144,6 +145,19 @@ impl Scenario {
         self.tables.set_exit(link, from, to, amount)
     }
 
+    /// Raises the horizon to that many slots; it never falls. The entry and exit limits of the new slots are those that were
+    /// never set, and all rows stay. It takes no memory, and costs a pass over the nodes.
+    pub fn lengthen(&mut self, slots: u32) -> Result<(), HorizonFault>
+        ensures ok { OnOk result (with_horizon self.old slots ≡ Ok self.new) }
+        ensures err { OnErr result (self.new ≡ self.old) }
+        ensures cause { IfErr result (λ e. with_horizon self.old slots ≡ Err e) }
+    {
+        match self.tables.lengthen(slots) {
+            Ok(_) => return Ok(()),
+            Err(fault) => return Err(fault),
+        }
+    }
+
     /// Whether the case is valid, or the first broken rule: demand rows in order of origin and destination, then split
     /// rows in order of node, destination and first slot, then the number of cells. It takes no memory.
     #[tactic(auto, using(crate::proofs::Validity::valid_is_checked))]
@@ -163,10 +177,10 @@ impl Scenario {
     }
 
     /// Makes all edits of a batch in order, or changes nothing and names the first that is refused after those before it,
-    /// with its cause. A valid scenario stays valid, and no edit changes its cells.
+    /// with its cause. A valid scenario stays valid; its shape stays, but that the horizon may grow, and its cells with it.
     ///
     /// Each amount is at most 1,000,000,000 units. It costs about what the edits touch.
-    #[tactic(auto, using(crate::proofs::Batches::batch_keeps_valid, crate::proofs::Batches::batch_keeps_shape, crate::proofs::Batches::shape_stays, crate::proofs::Shapes::same_cells))]
+    #[tactic(auto, using(crate::proofs::Batches::batch_keeps_valid, crate::proofs::Batches::batch_keeps_shape, crate::proofs::Batches::shape_stays, crate::proofs::Batches::batch_sets_horizon, crate::proofs::Shapes::same_cells))]
     pub fn accept(&mut self, batch: &Batch) -> Result<(), EditFault>
         requires valid { IsValid self.old }
         requires amounts { HaveAmounts batch.now }
@@ -180,7 +194,8 @@ impl Scenario {
 
         ensures valid { IsValid self.new }
         ensures shape { SameShape self.old self.new }
-        ensures cells { cells self.new ≡ cells self.old }
+        ensures horizon { OnOk result (self.new.setup.slots ≡ horizon_after self.old.setup.slots batch.now) }
+        ensures cells { self.new.setup.slots ≡ self.old.setup.slots → cells self.new ≡ cells self.old }
     {
         let edits = batch.edits();
         match self.tables.accept_from(1, edits) {

@@ -30,4 +30,6 @@ pub enum Undo {
         diagram: Diagram,
         limits: Limits,
     },
+    /// The slots of the horizon.
+    Horizon(u32),
 }

@@ -184,7 +184,13 @@ pub fn full_road(rt: &impl Abort, alloc: Global) -> Scenario {
 
 /// The same as `unsplit_road` with its split row.
 pub fn one_road(rt: &impl Abort, alloc: Global) -> Scenario {
-    let mut scenario = unsplit_road(rt, alloc);
+    road_over(rt, alloc, 4)
+}
+
+/// The same over that many slots.
+pub fn road_over(rt: &impl Abort, alloc: Global, slots: u32) -> Scenario {
+    let mut scenario = bare_road(rt, alloc, slots);
+    demand(rt, &mut scenario, 0, 0);
     split(rt, &mut scenario, 0, 0, 0, &[1]);
     scenario
 }

@@ -8,7 +8,7 @@ use std::process::Abort;
 use std::test::Fail;
 
 /// Gives a valid scenario the batch of the edits.
-fn accept(
+pub fn accept(
     rt: &impl Abort,
     alloc: Global,
     scenario: &mut Scenario,
@@ -19,11 +19,19 @@ fn accept(
     assert!(rt; batch.edits().len() == edits.len());
     assert!(rt; batch.has_amounts());
     assert!(rt; scenario.check().is_ok());
-    scenario.accept(&batch)
+    let after = batch.horizon(scenario.setup().slots);
+    let answer = scenario.accept(&batch);
+    assert!(rt; answer.is_err() || scenario.setup().slots == after);
+    answer
 }
 
 /// Why the edit alone is refused; none where it is made.
-fn cause(rt: &impl Abort, alloc: Global, scenario: &mut Scenario, edit: Edit) -> Option<EditCause> {
+pub fn cause(
+    rt: &impl Abort,
+    alloc: Global,
+    scenario: &mut Scenario,
+    edit: Edit,
+) -> Option<EditCause> {
     match accept(rt, alloc, scenario, &[edit]) {
         Ok(()) => None,
         Err(fault) => {
@@ -34,7 +42,7 @@ fn cause(rt: &impl Abort, alloc: Global, scenario: &mut Scenario, edit: Edit) ->
 }
 
 /// A vehicle between two nodes over some slots.
-fn demand(rt: &impl Abort, origin: &str, destination: &str, from: u32, to: u32) -> Edit {
+pub fn demand(rt: &impl Abort, origin: &str, destination: &str, from: u32, to: u32) -> Edit {
     Edit::Demand {
         origin: name(rt, origin),
         destination: name(rt, destination),
@@ -44,7 +52,7 @@ fn demand(rt: &impl Abort, origin: &str, destination: &str, from: u32, to: u32) 
     }
 }
 
-fn limit(rt: &impl Abort, link: &str, from: u32, to: u32) -> Edit {
+pub fn limit(rt: &impl Abort, link: &str, from: u32, to: u32) -> Edit {
     Edit::Limit {
         link: name(rt, link),
         from,

@@ -11,4 +11,6 @@ mod cases;
 #[cfg(test)]
 mod edits;
 #[cfg(test)]
+mod horizons;
+#[cfg(test)]
 mod rules;

@@ -58,7 +58,7 @@ fn close_exit(rt: &impl Abort, scenario: &mut Scenario) {
 }
 
 /// The entry and the exit limit of the only link in a slot.
-fn limits_at(rt: &impl Abort, scenario: &Scenario, slot: u32) -> (u64, u64) {
+pub fn limits_at(rt: &impl Abort, scenario: &Scenario, slot: u32) -> (u64, u64) {
     assert!(rt; scenario.network().links() == 1);
     assert!(rt; slot < scenario.setup().slots);
     let entry = scenario.entry_limit(LinkId(0), slot);

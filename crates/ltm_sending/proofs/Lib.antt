@@ -2,3 +2,4 @@ pub mod Past
 pub mod Waiting
 pub mod Links
 pub mod Origins
+pub mod Lasts

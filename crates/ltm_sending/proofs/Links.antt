@@ -1,5 +1,5 @@
 -- What the code finds of a link.
-use Rattle.std.proofs.Common.{◌≡◌, ℕ, ◌+◌, ◌-◌, ◌<◌, ◌≤◌, min, arith, ap, sym, ◌∙◌, subst}
+use Rattle.std.proofs.Common.{◌≡◌, ℕ, ◌+◌, ◌-◌, ◌<◌, ◌≤◌, min, arith, ap, refl, sym, ◌∙◌, subst}
 use Rattle.ltm_units.specs.Sums.{sum_below}
 use Rattle.ltm_curve.specs.Counts.{Counts, total, Rises}
 use Rattle.ltm_curve.specs.First.{first_units}
@@ -51,6 +51,7 @@ found_at s c l t by left v x ready below within is_left =
     let rest : (d : ℕ) → d < m → link_first s c l t d ≡ rest_of m rows gone goal by d = λ d y. ap (λ (z : ℕ). z - gone d) (first_by m rows goal by t ready.part below within d y) in
     let whole : sum_below m (link_first s c l t) ≡ goal - left = omega (arith, ready.sum) in
     record {
+      whole = refl;
       leave = may_leave_by m rows gone goal by t leave below within;
       entered = below;
       gone = is_left;

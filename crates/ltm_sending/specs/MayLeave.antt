@@ -6,7 +6,7 @@ use Rattle.ltm_curve.specs.First.{first_units}
 use Rattle.ltm_curve.specs.FirstLaws.{IsPart}
 use Rattle.ltm_loading.specs.Setting.{Setting}
 use Rattle.ltm_loading.specs.Groups.{up_of, down_of, dep_of}
-use Rattle.ltm_loading.specs.Flows.{limited, link_sending, origin_sending}
+use Rattle.ltm_loading.specs.Flows.{limited, link_goal, link_sending, origin_sending}
 
 -- what each destination has of the first units that has not left yet
 abbrev pub rest_of : ℕ → (ℕ → ℕ → ℕ) → (ℕ → ℕ) → ℕ → ℕ → ℕ → ℕ
@@ -21,6 +21,7 @@ pub record MayLeave (destinations : ℕ) (rows : ℕ → ℕ → ℕ) (gone : �
 -- of the first `goal` units of a link, all of which entered by a boundary, so many have left; what the link sends is of
 -- the rest
 pub record WaitOnLink (s : Setting) (c : Counts) (l t destinations : ℕ) (goal by left : ℕ) : Type 0 where
+  pub whole : goal ≡ link_goal s c l t
   pub leave : MayLeave destinations (c (up_of l)) (λ d. c (down_of l) d t) goal by
   pub entered : by ≤ t
   pub gone : left ≡ total destinations (c (down_of l)) t

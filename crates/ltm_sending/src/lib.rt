@@ -1,4 +1,5 @@
-//! What a link and an origin send in a slot, by destination, and what a link can take, at the front of a loading.
+//! What a link and an origin send in a slot, by destination, what a link can take, and at which boundary the units that
+//! may leave a link end, at the front of a loading.
 //!
 //! All is read from a scenario and from the curves of a loading that are done up to the slot; nothing is changed and no
 //! memory is taken. A call costs a few totals of a boundary; where something leaves for one of several destinations, also
@@ -14,7 +15,7 @@ mod origin;
 mod parts;
 mod produced;
 
-pub use link::{receive, send_link};
+pub use link::{position_of, receive, send_link};
 pub use origin::send_origin;
 
 #[cfg(test)]

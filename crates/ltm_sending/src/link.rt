@@ -1,9 +1,11 @@
 //! What a link sends and what it can take.
 ghost use Rattle.std.specs.Prelude.{◌≡◌, ℕ, ◌+◌, ◌*◌, ◌^◌, ◌<◌, ◌≤◌, length, slice_index};
-ghost use Rattle.ltm_curve.specs.Table.{groups_of, destinations_of, counts_of};
+ghost use Rattle.ltm_curve.specs.Counts.{Rises};
+ghost use Rattle.ltm_curve.specs.First.{last_within};
+ghost use Rattle.ltm_curve.specs.Table.{groups_of, destinations_of, slots_of, counts_of, total_of};
 ghost use Rattle.ltm_loading.specs.Setting.{IsSetting};
 ghost use Rattle.ltm_loading.specs.Groups.{up_of};
-ghost use Rattle.ltm_loading.specs.Flows.{link_sending, receiving};
+ghost use Rattle.ltm_loading.specs.Flows.{position, link_sending, receiving};
 ghost use Rattle.ltm_setting.specs.Setting.{setting_of};
 ghost use Rattle.ltm_sending.specs.Front.{IsAtFront};
 ghost use Rattle.ltm_sending.specs.MayLeave.{WaitOnLink};
@@ -56,6 +58,39 @@ fn waiting_on(scenario: &Scenario, curves: &Curves, link: LinkId, slot: u32) -> 
         by: ago.by,
         left,
     }
+}
+
+/// The last boundary not above a slot by which a group has no more than so many units, where its totals do not fall. The
+/// search goes down boundary by boundary: from `by` where the next boundary has passed that number, else from the slot.
+#[inline]
+#[tactic(auto, using(crate::proofs::Lasts::passed_by))]
+fn last_with(curves: &Curves, group: u32, units: u64, by: u32, slot: u32) -> u32
+    requires group { group < groups_of curves.now }
+    requires slot { slot ≤ slots_of curves.now }
+    requires rises { Rises (total_of curves.now group) slot }
+    ensures last { result ≡ last_within (total_of curves.now group) units slot }
+    ensures below { result ≤ slot }
+{
+    if by < slot && curves.total(group, by + 1) > units {
+        return curves.position(group, units, by);
+    }
+    curves.position(group, units, slot)
+}
+
+/// The position of a slot for a link: the last boundary by which no more has entered the link than may have left it by the
+/// slot's end. Of which destinations these units are is read there. Costs a few totals, and one more for each slot that
+/// units wait to leave.
+pub fn position_of(scenario: &Scenario, curves: &Curves, link: LinkId, slot: u32) -> u32
+    requires link { link.0 < (setting_of scenario.now).links }
+    requires ready { IsAtFront (setting_of scenario.now) curves.now slot }
+    ensures position { result ≡ position (setting_of scenario.now) (counts_of curves.now) link.0 slot }
+    ensures below { result ≤ slot }
+{
+    is_setting(scenario);
+    links_are_ready();
+    let waiting = waiting_on(scenario, curves, link, slot);
+    let up = entered_group(curves, link);
+    last_with(curves, up, waiting.goal, waiting.by, slot)
 }
 
 /// Writes what a link sends of each destination, out of the units that wait: the search for the boundary at which they

@@ -3,7 +3,6 @@ pub mod Order
 pub mod Pairs
 pub mod Place
 pub mod Sums
-pub mod FirstPlaces
 pub mod Sorted
 pub mod Kept
 pub mod Meaning

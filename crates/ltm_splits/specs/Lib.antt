@@ -4,5 +4,5 @@ pub mod Entries
 pub mod WeightsLie
 pub mod WeightsBack
 pub mod Latest
-pub mod FirstPlaces
 pub mod RowLists
+pub mod Texts

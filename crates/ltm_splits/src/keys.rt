@@ -26,14 +26,18 @@ pub enum SplitFault {
 }
 
 impl fmt::Display for SplitFault {
+    ghost use Rattle.std.specs.Prelude.{Some};
+    ghost use Rattle.ltm_splits.specs.Texts.{fault_text};
+
+    ghost output = { λ fault. Some (fault_text fault) };
+
     fn fmt<W: fmt::Write>(&self, f: &mut fmt::Formatter<W>) -> fmt::Result {
-        let text = match self {
-            SplitFault::BadSlots => "the first slot is not below the horizon",
-            SplitFault::ZeroWeight => "no weight is above 0",
-            SplitFault::TooManyRows => "more than 50000 split rows",
-            SplitFault::NoMemory => "out of memory",
-        };
-        write!(f, "{text}")
+        match self {
+            SplitFault::BadSlots => write!(f, "the first slot is not below the horizon"),
+            SplitFault::ZeroWeight => write!(f, "no weight is above 0"),
+            SplitFault::TooManyRows => write!(f, "more than 50000 split rows"),
+            SplitFault::NoMemory => write!(f, "out of memory"),
+        }
     }
 }
 

@@ -1,9 +1,8 @@
 //! Split rows: how the traffic of a node for a destination is spread over the node's out-links, from a slot on.
 //!
 //! It stands on `ltm_units` alone. To ask for the row in force costs two steps through flat lists where a node and a
-//! destination have one row, which lies in the second of them, and a search by halving where they have more; the sum of
-//! its weights and the first two out-links that have one lie beside it. To set a row costs a move of that short list at
-//! most. Change it here where a row means something else, or comes into force otherwise than from its first slot on.
+//! destination have one row, which lies in the second of them, and a search by halving where they have more. To set a
+//! row costs a move of that short list at most. Change it here where a row means something else, or comes into force otherwise than from its first slot on.
 //! Contracts see a table as its horizon and the list of its rows in the order of their keys.
 #![tactic(auto)]
 

@@ -115,8 +115,8 @@ impl Splits {
         }
     }
 
-    /// The weights in force at the slot, as they lie in the table with what is kept beside them: those of the row with the
-    /// greatest first slot at or before it.
+    /// The weights in force at the slot, as they lie in the table: those of the row with the greatest first slot at or
+    /// before it.
     #[inline]
     pub fn weights_at(&self, node: NodeId, destination: u32, slot: u32) -> Option<&Weights>
         ensures { option_copied result ≡ row_in_force self.now.rows node.0 destination slot }
@@ -176,6 +176,14 @@ impl Splits {
         ensures { self.new ≡ with_slots self.old slots }
     {
         self.slots = slots;
+    }
+
+    /// Lowers the horizon, as to undo a `lengthen`. No row changes, and no memory is taken.
+    pub fn shorten(&mut self, fewer: u32)
+        requires { fewer ≤ self.old.slots }
+        ensures { self.new ≡ with_slots self.old fewer }
+    {
+        self.slots = fewer;
     }
 
     /// Gives a row that stands other weights, as to undo a `set`. No memory is taken.

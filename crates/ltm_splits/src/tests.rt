@@ -27,6 +27,9 @@ fn refuses_in_order(rt: HostRuntime) -> Result<(), Fail> {
     assert_eq!(rt; splits.slots(), 10);
     assert!(rt; splits.set(NodeId(7), 1, 9, &[1, 1]) == Ok(()));
     assert_eq!(rt; splits.row_count(), 3);
+    splits.lengthen(12);
+    splits.shorten(11);
+    assert_eq!(rt; splits.slots(), 11);
     let fault = SplitFault::ZeroWeight;
     assert_eq!(rt;
         format!(in rt.alloc(); "{fault}")?.as_str(),
@@ -110,35 +113,5 @@ fn goes_over_the_rows_and_undoes(rt: HostRuntime) -> Result<(), Fail> {
         [(1, 2, 0), (1, 2, 5), (3, 0, 0)].as_slice()
     );
     crate::rules_of_rows();
-    Ok(())
-}
-
-#[test]
-fn keeps_the_sum_and_the_first_outs(rt: HostRuntime) -> Result<(), Fail> {
-    let mut splits = Splits::new(rt.alloc(), 1);
-    // Weights, their sum, and the first two places with a weight.
-    let cases: [(&[u32], u64, u32, Option<u32>); 4] = [
-        (&[0, 3], 3, 1, None),
-        (&[1, 1], 2, 0, Some(1)),
-        (&[0, 2, 0, 5], 7, 1, Some(3)),
-        (
-            &[4_294_967_295, 0, 0, 4_294_967_295],
-            8_589_934_590,
-            0,
-            Some(3),
-        ),
-    ];
-    for (weights, sum, first, second) in cases {
-        assert!(rt; splits.set(NodeId(0), 0, 0, weights) == Ok(()));
-        match splits.weights_at(NodeId(0), 0, 0) {
-            Some(found) => {
-                assert_eq!(rt; found.as_slice(), weights);
-                assert_eq!(rt; found.sum(), sum);
-                assert_eq!(rt; found.first(), first);
-                assert!(rt; found.second() == second);
-            }
-            None => assert!(rt; false, "no row"),
-        }
-    }
     Ok(())
 }

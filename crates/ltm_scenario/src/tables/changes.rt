@@ -144,6 +144,7 @@ impl Tables {
                 diagram,
                 limits,
             } => self.restore_diagram(link, diagram, limits),
+            Undo::Horizon(slots) => self.shorten(slots),
         }
     }
 

@@ -5,10 +5,13 @@ use Rattle.ltm_flows.proofs.Steps.{idle_meets}
 use Rattle.ltm_flows.proofs.Progress.{working_idle}
 use Rattle.ltm_flows.proofs.cold_loading.load_pair.Goals as goal
 
-pub returns-clause-working : goal.returns-clause-working
-returns-clause-working c =
+pub returns-else-uncounted_if_sent-clause-working : goal.returns-else-uncounted_if_sent-clause-working
+returns-else-uncounted_if_sent-clause-working c =
     let s = setting_of c.args.scenario.now in
     let counts = counts_of c.args.curves.now in
     let u = c.args.pair.node.0 in
     working_idle s c.args.curves.now c.args.pair.slot u c.requires.working
-    (idle_meets s counts u c.args.pair.slot c.inputs_by_place.ensures c.counts_by_place.ensures c.nothing_moves.ensures c.requires.setting c.requires.node (c.inputs_if_sent.ensures.idle.0 c.if-inputs_if_sent.false) (λ g d of m. c.requires.working.carried u g d (omega arith) c.requires.node of m))
+    (idle_meets s counts u c.args.pair.slot c.inputs_by_place.ensures c.counts_by_place.ensures c.nothing_moves.ensures c.requires.setting c.requires.node (c.uncounted_if_sent.ensures.idle.0 c.if-uncounted_if_sent.false) (λ g d of m. c.requires.working.carried u g d (omega arith) c.requires.node of m))
+
+pub write_pair-requires-clause-reads : goal.write_pair-requires-clause-reads
+write_pair-requires-clause-reads c = c.uncounted_if_sent.ensures.inputs c.if-uncounted_if_sent.true

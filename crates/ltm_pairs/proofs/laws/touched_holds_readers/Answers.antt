@@ -6,6 +6,7 @@ returns c =
     touched_holds_readers (record {
       make = c.edits_make.ensures;
       limits = c.limits_are_set.ensures;
+      longer = c.limits_are_lengthened.ensures;
       production = c.production_stays.ensures;
       weights = c.rows_stay.ensures;
       reads = c.setting_read_only.ensures;

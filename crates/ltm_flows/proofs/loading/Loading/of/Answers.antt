@@ -5,6 +5,8 @@ use Rattle.ltm_flows.proofs.loading.Loading.of.Goals as goal
 
 pub invariant_of-result : goal.invariant_of-result
 invariant_of-result c = record {
+  some_step = c.step.ensures.some;
+  short_step = c.step.ensures.small;
   few_links = c.link_count.ensures.few;
   few_nodes = c.node_count.ensures.few;
   few_destinations = c.args.curves.few;

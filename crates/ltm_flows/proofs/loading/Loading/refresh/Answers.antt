@@ -17,25 +17,25 @@ invariant_of-self-clause-amounts c =
       arith,
       ap length (with_items_is c.args.self.now.generated c.write_generated.new.into (c.write_generated.auto.into ∙ c.deref_mut-2.ensures.len)),
       c.write_generated.auto.into ∙ (ap length c.deref_mut-2.ensures.value ∙ c.args.self.now.amounts),
-      c.copy_from.ensures.same.shape.slots,
+      c.copy_changed.ensures.same.shape.slots,
       c.requires.shape.same_slots,
       c.requires.fits.shape.same_slots,
     )
 
 pub invariant_of-self-clause-small : goal.invariant_of-self-clause-small
 invariant_of-self-clause-small c =
-    all_small (setting_of c.args.scenario.now) c.copy_from.new.self c.counts_small.ensures c.is_setting.ensures.setting (record {
-      same_groups = c.copy_from.ensures.same.shape.groups ∙ c.requires.shape.same_groups;
-      same_destinations = c.copy_from.ensures.same.shape.destinations ∙ c.requires.shape.same_destinations;
-      same_slots = c.copy_from.ensures.same.shape.slots ∙ c.requires.shape.same_slots;
+    all_small (setting_of c.args.scenario.now) c.copy_changed.new.self c.counts_small.ensures c.is_setting.ensures.setting (record {
+      same_groups = c.copy_changed.ensures.same.shape.groups ∙ c.requires.shape.same_groups;
+      same_destinations = c.copy_changed.ensures.same.shape.destinations ∙ c.requires.shape.same_destinations;
+      same_slots = c.copy_changed.ensures.same.shape.slots ∙ c.requires.shape.same_slots;
     })
-    (subst (λ (z : Counts). IsLoading (setting_of c.args.scenario.now) z) (sym c.copy_from.ensures.all) c.requires.loading)
+    (subst (λ (z : Counts). IsLoading (setting_of c.args.scenario.now) z) (sym c.copy_changed.ensures.all) c.requires.loading)
 
 pub invariant_of-self-clause-rises : goal.invariant_of-self-clause-rises
 invariant_of-self-clause-rises c =
-    all_rise (setting_of c.args.scenario.now) c.copy_from.new.self c.never_fall.ensures c.is_setting.ensures.setting (record {
-      same_groups = c.copy_from.ensures.same.shape.groups ∙ c.requires.shape.same_groups;
-      same_destinations = c.copy_from.ensures.same.shape.destinations ∙ c.requires.shape.same_destinations;
-      same_slots = c.copy_from.ensures.same.shape.slots ∙ c.requires.shape.same_slots;
+    all_rise (setting_of c.args.scenario.now) c.copy_changed.new.self c.never_fall.ensures c.is_setting.ensures.setting (record {
+      same_groups = c.copy_changed.ensures.same.shape.groups ∙ c.requires.shape.same_groups;
+      same_destinations = c.copy_changed.ensures.same.shape.destinations ∙ c.requires.shape.same_destinations;
+      same_slots = c.copy_changed.ensures.same.shape.slots ∙ c.requires.shape.same_slots;
     })
-    (subst (λ (z : Counts). IsLoading (setting_of c.args.scenario.now) z) (sym c.copy_from.ensures.all) c.requires.loading)
+    (subst (λ (z : Counts). IsLoading (setting_of c.args.scenario.now) z) (sym c.copy_changed.ensures.all) c.requires.loading)

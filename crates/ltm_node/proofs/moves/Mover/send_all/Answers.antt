@@ -18,5 +18,5 @@ returns c =
     let all : c.loop-arm.arm ≡ n.shape.arms = omega (arith, c.loop-arm-test.false, ap (λ (z : NodeShape). z.arms) same) in
     record {
       after = next_destination n e p c.args.destination c.loop-arm.row sent s
-          (subst (λ (k : ℕ). IsMoving n e p c.args.destination k 0 c.loop-arm.row sent) all c.loop-arm.invariant);
+          (subst (λ (k : ℕ). IsMoving n e p c.args.destination k 0 c.loop-arm.row sent) all c.loop-arm.invariant.moving);
     }

@@ -1,6 +1,6 @@
 use Rattle.std.proofs.Common.{◌≡◌, ℕ, ◌≤◌, ◌++◌, ◌∷◌, ◌-◌, zero, suc, [], length, take, drop, replicate, refl, sym, ap, subst, ◌∙◌, arith}
 use Rattle.std.proofs.lemmas.List.{take_at}
-use Rattle.ltm_splits.specs.WeightsLie.{AreWeights, padded, IsBeside}
+use Rattle.ltm_splits.specs.WeightsLie.{AreWeights, padded}
 use Rattle.ltm_splits.proofs.weights.Weights.of.Goals as goal
 
 zeros_left : (n : ℕ) → n ≤ 4 → drop {A = ℕ} n (0 ∷ 0 ∷ 0 ∷ 0 ∷ []) ≡ replicate (4 - n) 0
@@ -17,4 +17,4 @@ invariant_of-result c =
     let copied : c.copy_from_slice.new.self ≡ weights = c.copy_from_slice.ensures.after in
     let same : take (length weights) (c.copy_from_slice.new.self ++ drop {A = ℕ} (length weights) (0 ∷ 0 ∷ 0 ∷ 0 ∷ [])) ≡ weights =
     take_at c.copy_from_slice.new.self _ (length weights) (ap length copied) ∙ copied in
-    (subst AreWeights (sym same) c.requires, c.requires.0, ap (λ front. front ++ drop {A = ℕ} (length weights) (0 ∷ 0 ∷ 0 ∷ 0 ∷ [])) copied ∙ ap (λ back. weights ++ back) (zeros_left (length weights) c.requires.0) ∙ ap padded (sym same), subst (λ ws. IsBeside ws c.sum_of.result c.first_place-first.result c.place_behind.result) (sym same) (record { sum_is = c.sum_of.ensures; first_is = c.first_place-first.ensures.place; second_is = c.place_behind.ensures.place }))
+    (subst AreWeights (sym same) c.requires, c.requires.0, ap (λ front. front ++ drop {A = ℕ} (length weights) (0 ∷ 0 ∷ 0 ∷ 0 ∷ [])) copied ∙ ap (λ back. weights ++ back) (zeros_left (length weights) c.requires.0) ∙ ap padded (sym same))

@@ -1,0 +1,119 @@
+//! What moves at a node in a slot is added to the counts of a loading.
+ghost use Rattle.std.specs.Prelude.{◌≡◌, ◌≤◌, ◌<◌, ◌+◌, ◌^◌, ℕ, length, slice_index, None};
+ghost use Rattle.ltm_curve.specs.Table.{counts_of};
+ghost use Rattle.ltm_node.specs.Outputs.{left_after, entered_after, arrived_after};
+ghost use Rattle.ltm_loading.specs.Setting.{IsSetting};
+ghost use Rattle.ltm_loading.specs.Pairs.{arms_of, arm_group, arrived_by, shape_at};
+ghost use Rattle.ltm_loading.specs.NextPair.{Applies};
+ghost use Rattle.ltm_loading.specs.Uncounted.{moved_on};
+ghost use Rattle.ltm_setting.specs.Setting.{setting_of};
+ghost use Rattle.ltm_flows.specs.Applying.{out_group, with_moves, SetsGroups, SetsSink};
+ghost use Rattle.ltm_flows.specs.Shaped.{IsShaped};
+
+use ltm_curve::Curves;
+use ltm_loading::counts_by_place;
+use ltm_node::NodeOutputs;
+use ltm_scenario::Scenario;
+use ltm_setting::{in_links, is_setting, link_count, node_count, out_links, own, slot_count};
+use ltm_units::{NodeId, Pair};
+
+/// Adds what leaves each arm: each in-link, then the origin.
+fn add_arms(
+    scenario: &Scenario,
+    curves: &mut Curves,
+    node: NodeId,
+    boundary: u32,
+    moves: &NodeOutputs,
+)
+    requires setting { IsSetting (setting_of scenario.now) }
+    requires node { node.0 < (setting_of scenario.now).nodes }
+    requires boundary { boundary ≤ (setting_of scenario.now).slots }
+    requires shape { IsShaped (setting_of scenario.now) curves.old }
+    requires moves { moves.now.shape ≡ shape_at (setting_of scenario.now) node.0 }
+    requires small { (i d : ℕ) → i < arms_of (setting_of scenario.now) node.0 → d < (setting_of scenario.now).destinations
+        → with_moves (counts_of curves.old) boundary (arm_group (setting_of scenario.now) node.0) (left_after moves.now) i d < 2 ^ 31 }
+    ensures shape { IsShaped (setting_of scenario.now) curves.new }
+    ensures sets { SetsGroups (setting_of scenario.now) boundary (arms_of (setting_of scenario.now) node.0)
+        (arm_group (setting_of scenario.now) node.0)
+        (with_moves (counts_of curves.old) boundary (arm_group (setting_of scenario.now) node.0) (left_after moves.now))
+        (counts_of curves.old) (counts_of curves.new) }
+{
+    let links = in_links(scenario, node);
+    let groups = 2 * link_count(scenario);
+    let _nodes = node_count(scenario);
+    for (arm, link) in links.iter().enumerate() {
+        curves.add_row(2 * link.0 + 1, boundary, moves.left_row(arm as u32));
+    }
+    if !out_links(scenario, node).is_empty() {
+        let origin = moves.left_row(links.len() as u32);
+        curves.add_row(groups + node.0, boundary, origin);
+    }
+}
+
+/// Adds what enters each out-link.
+fn add_outs(
+    scenario: &Scenario,
+    curves: &mut Curves,
+    node: NodeId,
+    boundary: u32,
+    moves: &NodeOutputs,
+)
+    requires setting { IsSetting (setting_of scenario.now) }
+    requires node { node.0 < (setting_of scenario.now).nodes }
+    requires boundary { boundary ≤ (setting_of scenario.now).slots }
+    requires shape { IsShaped (setting_of scenario.now) curves.old }
+    requires moves { moves.now.shape ≡ shape_at (setting_of scenario.now) node.0 }
+    requires small { (j d : ℕ) → j < (setting_of scenario.now).outs node.0 → d < (setting_of scenario.now).destinations
+        → with_moves (counts_of curves.old) boundary (out_group (setting_of scenario.now) node.0) (entered_after moves.now) j d < 2 ^ 31 }
+    ensures shape { IsShaped (setting_of scenario.now) curves.new }
+    ensures sets { SetsGroups (setting_of scenario.now) boundary ((setting_of scenario.now).outs node.0)
+        (out_group (setting_of scenario.now) node.0)
+        (with_moves (counts_of curves.old) boundary (out_group (setting_of scenario.now) node.0) (entered_after moves.now))
+        (counts_of curves.old) (counts_of curves.new) }
+{
+    let _links = link_count(scenario);
+    for (out, link) in out_links(scenario, node).iter().enumerate() {
+        curves.add_row(2 * link.0, boundary, moves.entered_row(out as u32));
+    }
+}
+
+/// Adds what arrives at a node that is a destination.
+fn add_sink(scenario: &Scenario, curves: &mut Curves, node: NodeId, boundary: u32, arrives: u64)
+    requires boundary { boundary ≤ (setting_of scenario.now).slots }
+    requires shape { IsShaped (setting_of scenario.now) curves.old }
+    requires small { arrived_by (setting_of scenario.now) (counts_of curves.old) ((setting_of scenario.now).own node.0) boundary + arrives < 2 ^ 31 }
+    requires no_sink { (setting_of scenario.now).own node.0 ≡ None → arrives ≡ 0 }
+    ensures shape { IsShaped (setting_of scenario.now) curves.new }
+    ensures sets { SetsSink (setting_of scenario.now) node.0 boundary
+        (arrived_by (setting_of scenario.now) (counts_of curves.old) ((setting_of scenario.now).own node.0) boundary + arrives)
+        (counts_of curves.old) (counts_of curves.new) }
+{
+    if let Some(destination) = own(scenario, node) {
+        let group = 2 * link_count(scenario) + node_count(scenario);
+        let count = curves.get(group, destination, boundary) + arrives;
+        curves.set(group, destination, boundary, count);
+    }
+}
+
+/// Adds what moves at a node in a slot to its counts at the slot's end, and to no others. The moves are of the node's
+/// shape. Takes no memory.
+pub(crate) fn add_moves(scenario: &Scenario, curves: &mut Curves, pair: Pair, moves: &NodeOutputs)
+    requires node { pair.node.0 < (setting_of scenario.now).nodes }
+    requires slot { pair.slot < (setting_of scenario.now).slots }
+    requires shape { IsShaped (setting_of scenario.now) curves.old }
+    requires moves { moves.now.shape ≡ shape_at (setting_of scenario.now) pair.node.0 }
+    requires small { (i : ℕ) → slice_index (moved_on (setting_of scenario.now) (counts_of curves.old) pair.node.0 (pair.slot + 1) moves.now.row) i < 2 ^ 31 }
+    requires no_sink { (setting_of scenario.now).own pair.node.0 ≡ None → arrived_after moves.now ≡ 0 }
+    ensures shape { IsShaped (setting_of scenario.now) curves.new }
+    ensures applies { Applies (setting_of scenario.now) pair.node.0 (pair.slot + 1)
+        (moved_on (setting_of scenario.now) (counts_of curves.old) pair.node.0 (pair.slot + 1) moves.now.row)
+        (counts_of curves.old) (counts_of curves.new) }
+{
+    is_setting(scenario);
+    counts_by_place();
+    let _slots = slot_count(scenario);
+    let boundary = pair.slot + 1;
+    add_arms(scenario, curves, pair.node, boundary, moves);
+    add_outs(scenario, curves, pair.node, boundary, moves);
+    add_sink(scenario, curves, pair.node, boundary, moves.arrived());
+}

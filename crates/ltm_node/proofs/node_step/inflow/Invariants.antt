@@ -1,7 +1,0 @@
-use Rattle.std.proofs.Common.{◌≡◌}
-use Rattle.ltm_shares.specs.Sent.{sent_at}
-use Rattle.ltm_units.specs.Sums.{sum_below}
-use Rattle.ltm_node.proofs.node_step.inflow.Given as goal
-
-abbrev pub invariant-loop-arm : goal.invariant-loop-arm
-invariant-loop-arm l = l.total ≡ sum_below l.arm (λ i. sent_at l.sent i l.out)

@@ -1,0 +1,6 @@
+mod Working
+mod Changes
+mod Takes
+mod Workers
+mod Ends
+mod Between
