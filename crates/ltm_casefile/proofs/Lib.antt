@@ -2,3 +2,4 @@ pub mod Fetching
 pub mod Numbers
 pub mod Places
 pub mod Sums
+pub mod Unsplit

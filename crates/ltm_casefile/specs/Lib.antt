@@ -4,6 +4,7 @@ pub mod Demand
 pub mod Faults
 pub mod Fields
 pub mod Links
+pub mod Roads
 pub mod Rows
 pub mod Setup
 pub mod Signals

@@ -66,7 +66,7 @@ fn cause_of(fault: ScenarioFault) -> CaseCause
 }
 
 /// Whether the rules of a valid case hold; the first that is broken.
-fn check(scenario: &Scenario) -> Result<(), CaseFault>
+pub fn check_case(scenario: &Scenario) -> Result<(), CaseFault>
     ensures ok { OnOk result (whole scenario.now ≡ Ok scenario.now) }
     ensures valid { OnOk result (IsValid scenario.now) }
     ensures fault { IfErr result (Says (whole scenario.now)) }
@@ -94,7 +94,7 @@ fn build(alloc: Global, parts: Parts) -> Result<Scenario, CaseFault>
         signals,
     } = parts;
     fill(alloc, &mut scenario, &texts, &signals)?;
-    check(&scenario)?;
+    check_case(&scenario)?;
     Ok(scenario)
 }
 

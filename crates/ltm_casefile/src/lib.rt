@@ -12,11 +12,13 @@ mod faults;
 mod fields;
 mod links;
 mod parts;
+mod roads;
 mod setup;
 mod signals;
 mod splits;
 mod tables;
 mod texts;
 
-pub use case::read_case;
+pub use case::{check_case, read_case};
 pub use faults::{CaseCause, CaseFault, File};
+pub use roads::read_roads;

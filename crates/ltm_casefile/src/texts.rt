@@ -40,7 +40,7 @@ impl Texts {
 }
 
 /// The bytes of one file of the folder.
-fn fetch<F: Folder>(
+pub fn fetch<F: Folder>(
     alloc: Global,
     folder: &mut F,
     doc: Doc,

@@ -1,0 +1,46 @@
+-- The scenario of the setup, the links and the demand, which has no split row.
+use Rattle.std.specs.Prelude.{ℕ, Bool, true, false, List, Result, Ok}
+use Rattle.ltm_io.specs.declared.doc.Doc.{Doc}
+use Rattle.ltm_io.specs.declared.doc.Doc.TheVariants as doc
+use Rattle.ltm_io.specs.Folder.{Files}
+use Rattle.ltm_scenario.specs.Data.{ScenarioData}
+use Rattle.ltm_scenario.specs.Build.{◌>>=◌}
+use Rattle.ltm_records.specs.Left.{records_of}
+use Rattle.ltm_casefile.specs.declared.faults.CaseFault.{CaseFault}
+use Rattle.ltm_casefile.specs.declared.faults.File.TheVariants as file
+use Rattle.ltm_casefile.specs.declared.tables.Table.TheVariants as table
+use Rattle.ltm_casefile.specs.Setup.{setup_of}
+use Rattle.ltm_casefile.specs.Case.{sized, with_file}
+
+-- the bytes of the files that say the roads and who travels on them
+pub record RoadTexts : Type 0 where
+  pub setup : List ℕ
+  pub links : List ℕ
+  pub demand : List ℕ
+
+unfoldable pub road_texts_of : Files → Result RoadTexts CaseFault
+road_texts_of files =
+    sized file.Setup (files doc.Setup) >>= λ setup.
+    sized file.Links (files doc.Links) >>= λ links.
+    sized file.Demand (files doc.Demand) >>= λ demand.
+    Ok (record { setup = setup; links = links; demand = demand })
+
+-- a scenario without links, with what links and demand say
+unfoldable pub roads_filled : ScenarioData → RoadTexts → Result ScenarioData CaseFault
+roads_filled s texts = with_file table.Links s texts.links >>= λ linked. with_file table.Demand linked texts.demand
+
+-- what the setup says of signals is read, and no signals come with it
+unfoldable pub roads_in : RoadTexts → Result ScenarioData CaseFault
+roads_in texts = setup_of (records_of texts.setup) >>= λ opened. roads_filled opened.scenario texts
+
+-- the scenario without split rows, or the first fault: of a file that is there and short enough, then of the setup, of the
+-- links, of the demand
+abbrev pub unsplit_case_of : Files → Result ScenarioData CaseFault
+unsplit_case_of files = road_texts_of files >>= λ texts. roads_in texts
+
+-- the files that are read for it
+abbrev pub is_of_roads : Doc → Bool
+is_of_roads doc.Setup = true
+is_of_roads doc.Links = true
+is_of_roads doc.Demand = true
+is_of_roads other = false

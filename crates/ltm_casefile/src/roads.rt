@@ -1,0 +1,115 @@
+//! The roads and the demand of a case, without its splits.
+ghost use Rattle.std.specs.Prelude.{◌≡◌, ◌≤◌, ◌⊎◌, ℕ, [], Ok, Err, IfOk, IfErr, OnOk, IfSome, Some, true, false};
+ghost use Rattle.ltm_io.specs.Folder.{Files};
+ghost use Rattle.ltm_io.specs.Faults.{Rose};
+ghost use Rattle.ltm_io.specs.declared.doc.Doc.{Doc};
+ghost use Rattle.ltm_records.specs.Left.{records_of};
+ghost use Rattle.ltm_casefile.specs.Faults.{Agrees, Says, HasRisen, WasAsked};
+ghost use Rattle.ltm_casefile.specs.Roads.{road_texts_of, roads_filled, roads_in, unsplit_case_of, is_of_roads};
+
+use crate::faults::{CaseFault, File};
+use crate::setup::open_setup;
+use crate::tables::Table;
+use crate::texts::fetch;
+use ltm_io::{Doc, Folder};
+use ltm_scenario::Scenario;
+use std::alloc::Global;
+use std::marker::Model;
+
+/// The bytes of the files that say the roads and who travels on them.
+#[derive(Drop)]
+struct RoadTexts {
+    setup: Vec<u8>,
+    links: Vec<u8>,
+    demand: Vec<u8>,
+}
+
+impl Model for RoadTexts {
+    ghost use Rattle.ltm_casefile.specs.Roads.{RoadTexts as RoadTextsData};
+
+    ghost Value = { RoadTextsData };
+
+    ghost view = { λ t. record { setup = t.setup.items; links = t.links.items; demand = t.demand.items } };
+}
+
+/// The bytes of these files, fetched in order.
+#[tactic(auto, unfolding(crate::specs::Roads::road_texts_of))]
+fn fetch_road_texts<F: Folder>(alloc: Global, folder: &mut F) -> Result<RoadTexts, CaseFault>
+    ensures keeps { F.told folder.new ≡ F.told folder.old }
+    ensures later { (d : Doc) → F.faults folder.old d ≤ F.faults folder.new d }
+    ensures others { (d : Doc) → is_of_roads d ≡ false → F.faults folder.new d ≡ F.faults folder.old d }
+    ensures ok { IfOk result (λ t. IfSome (F.told folder.old) (λ files. road_texts_of files ≡ Ok t)) }
+    ensures fault { IfErr result (λ e. IfSome (F.told folder.old) (λ files. Agrees (road_texts_of files) e)) }
+    ensures risen { IfErr result (HasRisen (F.faults folder.old) (F.faults folder.new)) }
+    ensures asked { IfErr result (WasAsked is_of_roads) }
+{
+    let setup = fetch(alloc, folder, Doc::Setup, File::Setup)?;
+    let links = fetch(alloc, folder, Doc::Links, File::Links)?;
+    let demand = fetch(alloc, folder, Doc::Demand, File::Demand)?;
+    Ok(RoadTexts {
+        setup,
+        links,
+        demand,
+    })
+}
+
+/// Adds the links and the demand to a scenario without links.
+#[tactic(auto, unfolding(crate::specs::Roads::roads_filled))]
+fn fill_roads(alloc: Global, scenario: &mut Scenario, texts: &RoadTexts) -> Result<(), CaseFault>
+    requires { scenario.old.splits ≡ [] }
+    ensures ok { OnOk result (roads_filled scenario.old texts.now ≡ Ok scenario.new) }
+    ensures fault { IfErr result (Says (roads_filled scenario.old texts.now)) }
+{
+    match Table::Links.add_to(alloc, scenario, &texts.links) {
+        Ok(()) => {}
+        Err(fault) => return Err(fault),
+    }
+    match Table::Demand.add_to(alloc, scenario, &texts.demand) {
+        Ok(()) => return Ok(()),
+        Err(fault) => return Err(fault),
+    }
+}
+
+/// The scenario that the texts say.
+#[tactic(auto, unfolding(crate::specs::Roads::roads_in), using(crate::proofs::Unsplit::unsplit))]
+fn build_roads(alloc: Global, texts: &RoadTexts) -> Result<Scenario, CaseFault>
+    ensures ok { IfOk result (λ scenario. roads_in texts.now ≡ Ok scenario) }
+    ensures unsplit { IfOk result (λ scenario. scenario.splits ≡ []) }
+    ensures fault { IfErr result (Says (roads_in texts.now)) }
+{
+    let opened = open_setup(alloc, &texts.setup)?;
+    let mut scenario = opened.scenario;
+    fill_roads(alloc, &mut scenario, texts)?;
+    Ok(scenario)
+}
+
+/// The scenario without split rows that the setup, the links and the demand of a folder describe, or the first fault:
+/// first a file that is missing, cannot be read or is too long, in this order; then what they say, in this order. Whether
+/// the case is whole is not asked.
+///
+/// The setup may ask for signals; they are not fetched.
+pub fn read_roads<F: Folder>(alloc: Global, folder: &mut F) -> Result<Scenario, CaseFault>
+    ensures ok { IfOk result (λ scenario. IfSome (F.told folder.old) (λ files. unsplit_case_of files ≡ Ok scenario)) }
+    ensures unsplit { IfOk result (λ scenario. scenario.splits ≡ []) }
+
+    // Too long a file and bad records are told as they are.
+    ensures fault { IfErr result (λ e. IfSome (F.told folder.old) (λ files. Agrees (unsplit_case_of files) e)) }
+
+    // A file is not given only where its count of faults rose in this call, and it is one of these three.
+    ensures risen { IfErr result (HasRisen (F.faults folder.old) (F.faults folder.new)) }
+    ensures asked { IfErr result (WasAsked is_of_roads) }
+
+    ensures keeps { F.told folder.new ≡ F.told folder.old }
+    ensures later { (d : Doc) → F.faults folder.old d ≤ F.faults folder.new d }
+    ensures others { (d : Doc) → is_of_roads d ≡ false → F.faults folder.new d ≡ F.faults folder.old d }
+
+    // Where no count rose of these files, the answer is the one of the files, or memory was not found.
+    ensures complete { (files : Files) → F.told folder.old ≡ Some files
+        → ((d : Doc) → is_of_roads d ≡ true → Rose (F.faults folder.old d) (F.faults folder.new d) → ⊥)
+        → (result ≡ unsplit_case_of files) ⊎ (result ≡ Err CaseFault.NoMemory) }
+{
+    match fetch_road_texts(alloc, folder) {
+        Ok(texts) => return build_roads(alloc, &texts),
+        Err(fault) => return Err(fault),
+    }
+}

@@ -1,0 +1,92 @@
+-- Tight links are those with which least routes begin; and lists with one more.
+use Rattle.std.proofs.Common.{◌≡◌, ◌≢◌, ℕ, zero, suc, ◌+◌, ◌<◌, ◌≤◌, ◌==◌, ◌⊎◌, inl, inr, ◌↔◌, Bool, true, false, List, [], ◌∷◌, ◌++◌, length, Option, Some, None, slice_index_or, refl, ap, sym, subst, arith, ◌∙◌, length-append}
+use Rattle.std.proofs.lemmas.Bool.Decides.{nat_tests}
+use Rattle.ltm_units.specs.declared.quantities.Millis.{Millis}
+use Rattle.ltm_scenario.specs.Data.{ScenarioData}
+use Rattle.ltm_scenario.specs.Reads.{destination_node}
+use Rattle.ltm_routes.specs.Roads.{Roads, AreRoads, roads_of}
+use Rattle.ltm_routes.specs.Routes.{IsRoute, time_of, IsLeast, IsLeastTime, Begins}
+use Rattle.ltm_routes.specs.Potentials.{potential_at, AreLeastTimes, is_tight, is_tight_over}
+use Rattle.ltm_routes.specs.Split.{RoutesData, AreRoutes, AreFlags, AreFirstRoutes, no_routes, routes_to, begins_at}
+use Rattle.ltm_routes.proofs.Searching.{decide}
+
+pub tight_begins : (r : Roads) (to link : ℕ) (tail head : Option Millis) → IsLeastTime r (r.tail link) to tail → IsLeastTime r (r.head link) to head → is_tight tail (r.free_time link) head ≡ true → Begins r to link
+tight_begins r to link None head from_tail from_head tight = absurd (differ tight)
+  where
+    differ : false ≡ true → ⊥
+    differ e = cc
+tight_begins r to link (Some t) None from_tail from_head tight = absurd (differ tight)
+  where
+    differ : false ≡ true → ⊥
+    differ e = cc
+tight_begins r to link (Some t) (Some h) from_tail from_head tight =
+    record { from_tail = t.0; from_head = h.0; least_from_tail = from_tail; least_from_head = from_head; sum = grind (arith, nat_tests) }
+
+-- a least time is the only one
+pub least_is : (r : Roads) (from to a b : ℕ) → IsLeast r from to a → IsLeast r from to b → a ≡ b
+least_is r from to a b x y =
+    let ta = x.taken in
+    let tb = y.taken in
+    let ab : a ≤ time_of r tb.0 = x.least tb.0 tb.1 in
+    let ba : b ≤ time_of r ta.0 = y.least ta.0 ta.1 in
+    let ea : time_of r ta.0 ≡ a = ta.2 in
+    let eb : time_of r tb.0 ≡ b = tb.2 in
+    omega arith
+
+least_told : (r : Roads) (from to a : ℕ) (o : Option Millis) → IsLeast r from to a → IsLeastTime r from to o → (t : Millis) × (o ≡ Some t) × (t.0 ≡ a)
+least_told r from to a None x told = let ta = x.taken in absurd (told ta.0 ta.1)
+least_told r from to a (Some t) x told = (t, refl, least_is r from to t.0 a told x)
+
+begins_tight : (r : Roads) (to link : ℕ) (tail head : Option Millis) → IsLeastTime r (r.tail link) to tail → IsLeastTime r (r.head link) to head → Begins r to link → is_tight tail (r.free_time link) head ≡ true
+begins_tight r to link tail head from_tail from_head b =
+    let t = least_told r (r.tail link) to b.from_tail tail b.least_from_tail from_tail in
+    let h = least_told r (r.head link) to b.from_head head b.least_from_head from_head in
+    subst (λ o. is_tight o (r.free_time link) head ≡ true) (sym t.1) (subst (λ o. is_tight (Some t.0) (r.free_time link) o ≡ true) (sym h.1)
+    (same (t.0) (h.0) (r.free_time link) (t.2 ∙ sym b.sum ∙ ap (λ n. r.free_time link + n) (sym h.2))))
+  where
+    same : (t h : Millis) (n : ℕ) → t.0 ≡ n + h.0 → (t.0 == n + h.0) ≡ true
+    same t h n e = grind (arith, nat_tests)
+
+pub are_routes : (r : Roads) (to : ℕ) (p : List (Option Millis)) (flags : List Bool) → AreRoads r → length p ≡ r.nodes → AreLeastTimes r to p → AreFlags r.links (is_tight_over r p) flags
+    → AreRoutes r to (record { potentials = p; begins = flags })
+are_routes r to p flags roads long least are = record {
+  potential_for_each = long;
+  flag_for_each = are.flag_for_each;
+  least = least;
+  begin = λ link low. (
+    λ (is : slice_index_or flags link false ≡ true). tight_begins r to link (potential_at p (r.tail link)) (potential_at p (r.head link)) (least (r.tail link) (roads.tails link low)) (least (r.head link) (roads.heads link low))
+        (sym (are.each link low) ∙ is),
+    λ (b : Begins r to link). are.each link low ∙ begins_tight r to link (potential_at p (r.tail link)) (potential_at p (r.head link)) (least (r.tail link) (roads.tails link low)) (least (r.head link) (roads.heads link low)) b,
+  );
+}
+
+-- ---- one more
+pub pushed_at : {A : Type 0} (xs : List A) (x d : A) → slice_index_or (xs ++ x ∷ []) (length xs) d ≡ x
+pushed_at [] x d = refl
+pushed_at (y ∷ xs) x d = pushed_at xs x d
+
+pub pushed_before : {A : Type 0} (xs : List A) (x d : A) (i : ℕ) → i < length xs → slice_index_or (xs ++ x ∷ []) i d ≡ slice_index_or xs i d
+pushed_before [] x d i low = absurd (omega arith)
+pushed_before (y ∷ xs) x d zero low = refl
+pushed_before (y ∷ xs) x d (suc i) low = pushed_before xs x d i (omega arith)
+
+pub one_flag_more : (count : ℕ) (test : ℕ → Bool) (flags : List Bool) (flag : Bool) → AreFlags count test flags → flag ≡ test count → AreFlags (count + 1) test (flags ++ flag ∷ [])
+one_flag_more count test flags flag are is = record {
+  flag_for_each = length-append flags (flag ∷ []) ∙ ap (λ n. n + 1) are.flag_for_each;
+  each = λ place low. elim (decide place count) [
+    | inl same ↦ ap (λ n. slice_index_or (flags ++ flag ∷ []) n false) (same ∙ sym are.flag_for_each) ∙ pushed_at flags flag false ∙ is ∙ ap test (sym same)
+    | inr other ↦ let here : place < length flags = (let long = are.flag_for_each in omega arith) in pushed_before flags flag false place here ∙ are.each place (omega arith)
+  ];
+}
+
+pub one_routes_more : (s : ScenarioData) (count : ℕ) (all : List RoutesData) (routes : RoutesData) → AreFirstRoutes s count all → AreRoutes (roads_of s) (destination_node s count) routes
+    → AreFirstRoutes s (count + 1) (all ++ routes ∷ [])
+one_routes_more s count all routes are is = record {
+  routes_for_each = length-append all (routes ∷ []) ∙ ap (λ n. n + 1) are.routes_for_each;
+  routes = λ place low. elim (decide place count) [
+    | inl same ↦ subst (λ n. AreRoutes (roads_of s) (destination_node s n) (routes_to (all ++ routes ∷ []) n)) (sym same)
+        (subst (AreRoutes (roads_of s) (destination_node s count)) (sym (ap (λ n. slice_index_or (all ++ routes ∷ []) n no_routes) (sym are.routes_for_each) ∙ pushed_at all routes no_routes)) is)
+    | inr other ↦ let here : place < length all = (let long = are.routes_for_each in omega arith) in
+        subst (AreRoutes (roads_of s) (destination_node s place)) (sym (pushed_before all routes no_routes place here)) (are.routes place (omega arith))
+  ];
+}

@@ -1,0 +1,10 @@
+pub mod Kept
+pub mod Least
+pub mod Exact
+pub mod Out
+pub mod Searching
+pub mod Starting
+pub mod Flags
+pub mod Rows
+pub mod Placed
+pub mod One

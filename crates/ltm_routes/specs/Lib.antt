@@ -1,0 +1,6 @@
+pub mod Roads
+pub mod Routes
+pub mod Potentials
+pub mod Search
+pub mod Split
+pub mod Setting

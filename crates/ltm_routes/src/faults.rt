@@ -1,0 +1,35 @@
+//! Why route splits are not set.
+use ltm_units::NoMemory;
+use std::error::Error;
+use std::fmt;
+
+#[derive(Clone, Copy, Debug, PartialEq, Eq)]
+pub enum RoutesFault {
+    /// The route splits are more than 50,000 rows.
+    TooManyRows,
+    /// Memory was not found.
+    NoMemory,
+}
+
+impl fmt::Display for RoutesFault {
+    fn fmt<W: fmt::Write>(&self, f: &mut fmt::Formatter<W>) -> fmt::Result {
+        let text = match self {
+            RoutesFault::TooManyRows => "more than 50000 split rows",
+            RoutesFault::NoMemory => "out of memory",
+        };
+        write!(f, "{text}")
+    }
+}
+
+impl Error for RoutesFault {}
+
+impl From<NoMemory> for RoutesFault {
+    ghost use Rattle.std.specs.Prelude.{◌≡◌};
+    ghost use Rattle.ltm_routes.specs.declared.faults.RoutesFault.TheVariants as fault;
+
+    ghost from_gives = { λ _ e. e ≡ fault.NoMemory };
+
+    fn from(_e: NoMemory) -> RoutesFault {
+        RoutesFault::NoMemory
+    }
+}

@@ -1,0 +1,163 @@
+//! The split rows that send traffic along least routes.
+ghost use Rattle.std.specs.Prelude.{◌≡◌, ◌≢◌, ◌<◌, ◌≤◌, ◌+◌, List, [], length, true, Ok, Err, IfOk, OnOk};
+ghost use Rattle.std.specs.List.{list_all};
+ghost use Rattle.ltm_scenario.specs.Reads.{destination_node};
+ghost use Rattle.ltm_routes.specs.Roads.{roads_of};
+ghost use Rattle.ltm_routes.specs.Split.{RoutesData, AreRoutes, AreAllRoutes, weight_of, route_split, is_routed, rows_from, rows_to, route_splits, with_splits, KeepsRest};
+ghost use Rattle.ltm_routes.specs.Setting.{is_before, HasSet};
+
+use crate::faults::RoutesFault;
+use crate::found::{Routes, all_routes};
+use crate::roads::keep_roads;
+use ltm_network::links_at_their_places;
+use ltm_scenario::Scenario;
+use ltm_splits::SplitFault;
+use ltm_units::{LinkId, NoMemory, NodeId};
+use std::alloc::Global;
+
+/// The weight of a link: 1 where a least route begins with it.
+fn weight_of(routes: &Routes, link: LinkId) -> u32
+    requires { link.0 < length routes.now.begins }
+    ensures { result ≡ weight_of routes.now link.0 }
+{
+    if routes.on_route(link) { 1 } else { 0 }
+}
+
+/// A weight for each out-link of a node, in order of link number.
+fn route_split(
+    alloc: Global,
+    scenario: &Scenario,
+    routes: &Routes,
+    node: NodeId,
+) -> Result<Vec<u32>, NoMemory>
+    requires node { node.0 < length scenario.now.network.nodes }
+    requires flag_for_each { length routes.now.begins ≡ length scenario.now.network.links }
+    ensures { IfOk result (λ weights. weights.items ≡ route_split scenario.now routes.now node.0) }
+{
+    let links = scenario.network().out_links(node);
+    let mut weights = Vec::new(alloc);
+    'each: for link in links {
+        weights.push(weight_of(routes, *link))?;
+    }
+    Ok(weights)
+}
+
+/// Whether a node has a row: it is not the destination, and has a route.
+pub fn is_routed(scenario: &Scenario, destination: u32, routes: &Routes, node: NodeId) -> bool
+    requires destination { destination < length scenario.now.destinations }
+    requires node { node.0 < length routes.now.potentials }
+    ensures { result ≡ is_routed scenario.now destination routes.now node.0 }
+{
+    node.0 != scenario.destination_node(destination).0 && routes.potential(node).is_some()
+}
+
+/// A row of least routes is refused only where memory is wanting, or where it would be one too many.
+fn fault_of(fault: SplitFault) -> RoutesFault
+    ensures { result ≡ RoutesFault.TooManyRows → fault ≢ SplitFault.NoMemory }
+{
+    match fault {
+        SplitFault::NoMemory => RoutesFault::NoMemory,
+        SplitFault::BadSlots => RoutesFault::TooManyRows,
+        SplitFault::ZeroWeight => RoutesFault::TooManyRows,
+        SplitFault::TooManyRows => RoutesFault::TooManyRows,
+    }
+}
+
+/// Sets the row of a node, where it has one.
+fn set_row(
+    alloc: Global,
+    scenario: &mut Scenario,
+    destination: u32,
+    routes: &Routes,
+    node: NodeId,
+) -> Result<(), RoutesFault>
+    requires destination { destination < length scenario.old.destinations }
+    requires node { node.0 < length scenario.old.network.nodes }
+    requires routes { AreRoutes (roads_of scenario.old) (destination_node scenario.old destination) routes.now }
+    requires before { list_all (is_before destination node.0) scenario.old.splits ≡ true }
+    ensures ok { OnOk result (HasSet scenario.old (rows_from scenario.old destination routes.now node.0) scenario.new destination (node.0 + 1)) }
+    ensures too_many { result ≡ Err RoutesFault.TooManyRows
+        → 50000 < length scenario.old.splits + length (rows_from scenario.old destination routes.now node.0) }
+{
+    keep_roads(scenario);
+    links_at_their_places();
+    let _setup = scenario.setup();
+    if !is_routed(scenario, destination, routes, node) {
+        return Ok(());
+    }
+    let weights = route_split(alloc, scenario, routes, node)?;
+    match scenario.set_split(node, destination, 0, &weights) {
+        Ok(()) => return Ok(()),
+        Err(fault) => return Err(fault_of(fault)),
+    }
+}
+
+/// Sets the rows of a destination.
+fn set_rows_to(
+    alloc: Global,
+    scenario: &mut Scenario,
+    destination: u32,
+    routes: &Routes,
+) -> Result<(), RoutesFault>
+    requires destination { destination < length scenario.old.destinations }
+    requires routes { AreRoutes (roads_of scenario.old) (destination_node scenario.old destination) routes.now }
+    requires before { list_all (is_before destination 0) scenario.old.splits ≡ true }
+    ensures ok { OnOk result (HasSet scenario.old (rows_to scenario.old destination routes.now) scenario.new (destination + 1) 0) }
+    ensures too_many { result ≡ Err RoutesFault.TooManyRows
+        → 50000 < length scenario.old.splits + length (rows_to scenario.old destination routes.now) }
+{
+    let nodes = scenario.network().nodes();
+    for node in 0..nodes {
+        match set_row(alloc, scenario, destination, routes, NodeId(node)) {
+            Ok(()) => {}
+            Err(RoutesFault::TooManyRows) => return Err(RoutesFault::TooManyRows),
+            Err(RoutesFault::NoMemory) => return Err(RoutesFault::NoMemory),
+        }
+    }
+    Ok(())
+}
+
+/// Sets the route splits of all destinations from slot 0 on, given the routes to each, in order of destination, then of
+/// node. No split row stands before. Either fault gives the scenario up.
+pub fn set_all(
+    alloc: Global,
+    mut scenario: Scenario,
+    all: &[Routes],
+) -> Result<Scenario, RoutesFault>
+    requires none { scenario.splits ≡ [] }
+    requires routes { AreAllRoutes scenario all.now }
+    ensures set { IfOk result (λ next. with_splits scenario (route_splits scenario all.now) ≡ Ok next) }
+    ensures rest { IfOk result (KeepsRest scenario) }
+
+    // Only more than 50,000 rows are refused.
+    ensures few { OnOk result (length (route_splits scenario all.now) ≤ 50000) }
+    ensures too_many { result ≡ Err RoutesFault.TooManyRows → 50000 < length (route_splits scenario all.now) }
+{
+    let _setup = scenario.setup();
+    let destinations = scenario.destinations().len() as u32;
+    for destination in 0..destinations {
+        match set_rows_to(
+            alloc,
+            &mut scenario,
+            destination,
+            &all[destination as usize],
+        ) {
+            Ok(()) => {}
+            Err(RoutesFault::TooManyRows) => return Err(RoutesFault::TooManyRows),
+            Err(RoutesFault::NoMemory) => return Err(RoutesFault::NoMemory),
+        }
+    }
+    Ok(scenario)
+}
+
+/// Finds the routes to each destination and sets their splits.
+pub fn set_routes(alloc: Global, scenario: Scenario) -> Result<Scenario, RoutesFault>
+    requires { scenario.splits ≡ [] }
+    ensures set { IfOk result (λ next. (all : List RoutesData) × AreAllRoutes scenario all
+        × (length (route_splits scenario all) ≤ 50000) × (with_splits scenario (route_splits scenario all) ≡ Ok next)) }
+    ensures too_many { result ≡ Err RoutesFault.TooManyRows → (all : List RoutesData) × AreAllRoutes scenario all
+        × (50000 < length (route_splits scenario all)) }
+{
+    let all = all_routes(alloc, &scenario)?;
+    set_all(alloc, scenario, &all)
+}
