@@ -11,7 +11,7 @@ pub enum Command {
     Totals,
     /// What has entered and left the link of this name: `{"do":"link","link":"a"}`.
     Link(Name),
-    /// How long the link of this name takes that is entered at the end of the slot:
+    /// How long a vehicle takes to pass the link of this name that enters it at the beginning of the slot:
     /// `{"do":"time","link":"a","slot":3}`.
     Time { link: Name, slot: u32 },
     /// To show all edits, and to count what was computed anew: `{"do":"settle"}`.
