@@ -66,7 +66,7 @@ batch_accepted s nodes width j last h net l in_grid pos has few =
     let whole : edited_all s (two_edits j last) ≡ Ok (record (with_entry_limit s j 5 15 1000) { demand = edited_rows s.demand (last_row (number s.network last)) }) =
     ap (λ (r : Result ScenarioData EditCause). at_place 1 r >>= λ next. at_place 2 (demand_edited next (name_of_node last) (name_of_node 0) 0 10 30000) >>= λ end. Ok end) limit
     ∙ ap (λ (r : Result ScenarioData EditCause). at_place 2 r >>= λ end. Ok end) demand in
-    subst IsOk (sym whole) tt
+    subst IsOk (sym whole) refl
 
 -- the batch of the made case
 pub made_accepted : (start nodes width j : ℕ) → IsGrid nodes width → IsScenario (made_from start nodes width).scenario → j < length (made_from start nodes width).scenario.network.links →

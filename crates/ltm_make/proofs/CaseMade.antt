@@ -140,8 +140,8 @@ covered_at start nodes width g is u (suc zero) l x apart =
     ap (λ (o : Option ℕ). unwrap_or o (length (made_from start nodes width).scenario.network.nodes)) (ap (place_of (made_from start nodes width).scenario.network.nodes) (sym name.same) ∙ is.network.nodes_apart u l) in
     let node : destination_node (made_from start nodes width).scenario 1 ≡ number (made_from start nodes width).scenario.network (width - 1) = ap (λ (list : List ℕ). slice_index list 1) h.ends in
     let other : name.number + 1 ≢ width = λ e.
-      let k : name.number ≡ width - 1 = omega arith in
-      not_same u (destination_node (made_from start nodes width).scenario 1) apart (sym at ∙ (ap (number (made_from start nodes width).scenario.network) k ∙ sym node)) in
+    let k : name.number ≡ width - 1 = omega arith in
+    not_same u (destination_node (made_from start nodes width).scenario 1) apart (sym at ∙ (ap (number (made_from start nodes width).scenario.network) k ∙ sym node)) in
     subst (λ (v : ℕ). has_split (made_from start nodes width).scenario.splits v 1 ≡ true) at (made_away start nodes width name.number name.below other)
 covered_at start nodes width g is u (suc (suc d)) l x apart = absurd (omega arith)
 

@@ -21,9 +21,9 @@ is_other k a e = grind (arith, nat_tests)
 
 one_at : (k a : ℕ) → cond {A = ℕ} (k == a) 1 0 + still (k + 1) a ≤ still k a
 one_at k a = elim (cases_eq k a) [
-    | inl same ↦ let is : cond {A = ℕ} (k == a) 1 0 ≡ 1 = ap (λ (b : Bool). cond {A = ℕ} b 1 0) (is_same k a same) in omega arith
-    | inr other ↦ let is : cond {A = ℕ} (k == a) 1 0 ≡ 0 = ap (λ (b : Bool). cond {A = ℕ} b 1 0) (is_other k a other) in omega arith
-  ]
+  | inl same ↦ let is : cond {A = ℕ} (k == a) 1 0 ≡ 1 = ap (λ (b : Bool). cond {A = ℕ} b 1 0) (is_same k a same) in omega arith
+  | inr other ↦ let is : cond {A = ℕ} (k == a) 1 0 ≡ 0 = ap (λ (b : Bool). cond {A = ℕ} b 1 0) (is_other k a other) in omega arith
+]
 
 if_of : {X : Type 0} (f : List X → ℕ) (b : Bool) (xs : List X) (most : ℕ) → f xs ≤ most → f [] ≤ most → f (cond b xs []) ≤ most
 if_of f true xs most some none = some

@@ -37,7 +37,7 @@ AreNamed nodes names = (u : ℕ) → u < length names → IsNamed nodes (get_or 
 
 named_by : (nodes : ℕ) (names : List (List ℕ)) (k : ℕ) (b : Bool) → k < nodes → AreNamed nodes names → AreNamed nodes (cond b names (names ++ name_of_node k ∷ []))
 named_by nodes names k true l h = h
-named_by nodes names k false l h u x =
+named_by nodes names k false l h = λ u x.
     elim (cases_lt u (length names)) [
       | inl low ↦ subst (IsNamed nodes) (sym (get_or-append names (name_of_node k ∷ []) [] u low)) (h u low)
       | inr high ↦

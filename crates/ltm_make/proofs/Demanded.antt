@@ -109,7 +109,7 @@ home_origin s n w k h pos l few = record {
   goes_out = goes_out s n w k h l;
   there = omega (arith, ap length h.ends);
   apart = ap (λ (list : List ℕ). number s.network k == slice_index list 0) h.ends
-    ∙ numbers_apart s.network k 0 (node_found s.network n w k h.grid h.along l) (node_found s.network n w 0 h.grid h.along (omega arith)) (omega (arith, h.grid.few)) (omega arith) (omega arith);
+      ∙ numbers_apart s.network k 0 (node_found s.network n w k h.grid h.along l) (node_found s.network n w 0 h.grid h.along (omega arith)) (omega (arith, h.grid.few)) (omega arith) (omega arith);
 }
 
 pub away_origin : (s : ScenarioData) (n w k : ℕ) → IsLaid n w s → k + 1 ≢ w → k < n → length s.demand < 10000 → IsOrigin s k 1
@@ -120,6 +120,6 @@ away_origin s n w k h other l few = record {
   goes_out = goes_out s n w k h l;
   there = omega (arith, ap length h.ends);
   apart = ap (λ (list : List ℕ). number s.network k == slice_index list 1) h.ends
-    ∙ numbers_apart s.network k (w - 1) (node_found s.network n w k h.grid h.along l) (node_found s.network n w (w - 1) h.grid h.along (omega (arith, some_width n w h.grid, few_width n w h.grid)))
+      ∙ numbers_apart s.network k (w - 1) (node_found s.network n w k h.grid h.along l) (node_found s.network n w (w - 1) h.grid h.along (omega (arith, some_width n w h.grid, few_width n w h.grid)))
       (omega (arith, h.grid.few)) (omega (arith, h.grid.few, few_width n w h.grid)) (omega (arith, some_width n w h.grid));
 }

@@ -49,10 +49,10 @@ are_roads nodes width zero some l = λ i x. absurd (omega arith)
 are_roads nodes width (suc m) some l =
     roads_joined nodes (roads nodes width m) (roads_at nodes width m) (are_roads nodes width m some (omega arith))
     (roads_joined nodes (cond (has_right nodes width m) (both_ways m (m + 1)) []) (cond (has_below nodes width m) (both_ways m (m + width)) [])
-      (roads_if nodes (has_right nodes width m) (both_ways m (m + 1))
-        (λ h. both_roads nodes m (m + 1) (omega arith) (below_from (m + 1) nodes (second_of (nat_lt (m % width + 1) width) (nat_lt (m + 1) nodes) h)) (omega arith)))
-      (roads_if nodes (has_below nodes width m) (both_ways m (m + width))
-        (λ h. both_roads nodes m (m + width) (omega arith) (below_from (m + width) nodes h) (omega arith))))
+    (roads_if nodes (has_right nodes width m) (both_ways m (m + 1))
+    (λ h. both_roads nodes m (m + 1) (omega arith) (below_from (m + 1) nodes (second_of (nat_lt (m % width + 1) width) (nat_lt (m + 1) nodes) h)) (omega arith)))
+    (roads_if nodes (has_below nodes width m) (both_ways m (m + width))
+    (λ h. both_roads nodes m (m + width) (omega arith) (below_from (m + width) nodes h) (omega arith))))
 
 -- the first elements hold one fewer than all, where the next one counts
 one_more : (p : Road → Bool) (xs : List Road) (i : ℕ) → i < length xs → p (road_at xs i) ≡ true → count_by p (take i xs) + 1 ≤ count_by p xs
@@ -68,8 +68,8 @@ one_more p xs i l is =
 pub roads_below : (nodes width i : ℕ) → nodes ≤ 400 → 1 ≤ width → AreBelow (2 ^ 64) (take i (roads nodes width nodes))
 roads_below nodes width i few some =
     let at : (j : ℕ) → j < length (take i (roads nodes width nodes)) → IsRoad nodes (road_at (take i (roads nodes width nodes)) j) = λ j l.
-      let short = length-take i (roads nodes width nodes) in
-      subst (IsRoad nodes) (sym (get_or-take i (roads nodes width nodes) j no_road (omega arith))) (are_roads nodes width nodes some (omega arith) j (omega arith)) in
+    let short = length-take i (roads nodes width nodes) in
+    subst (IsRoad nodes) (sym (get_or-take i (roads nodes width nodes) j no_road (omega arith))) (are_roads nodes width nodes some (omega arith) j (omega arith)) in
     record { from = λ j l. omega (arith, (at j l).from); to = λ j l. omega (arith, (at j l).to) }
 
 -- each road after those before it is one that is taken

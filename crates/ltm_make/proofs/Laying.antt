@@ -109,7 +109,7 @@ home_room s n w k h pos l few = record {
   few = few;
   there = omega (arith, ap length h.ends);
   apart = ap (λ (list : List ℕ). number s.network k == slice_index list 0) h.ends
-    ∙ numbers_apart s.network k 0 (node_found s.network n w k h.grid h.along l) (node_found s.network n w 0 h.grid h.along (omega arith)) (omega (arith, h.grid.few)) (omega arith) (omega arith);
+      ∙ numbers_apart s.network k 0 (node_found s.network n w k h.grid h.along l) (node_found s.network n w 0 h.grid h.along (omega arith)) (omega (arith, h.grid.few)) (omega arith) (omega arith);
 }
 
 pub away_room : (s : ScenarioData) (n w k : ℕ) → IsLaid n w s → k + 1 ≢ w → k < n → length s.splits < 50000 → HasRoom s k 1
@@ -118,7 +118,7 @@ away_room s n w k h other l few = record {
   few = few;
   there = omega (arith, ap length h.ends);
   apart = ap (λ (list : List ℕ). number s.network k == slice_index list 1) h.ends
-    ∙ numbers_apart s.network k (w - 1) (node_found s.network n w k h.grid h.along l) (node_found s.network n w (w - 1) h.grid h.along (omega (arith, some_width n w h.grid, few_width n w h.grid)))
+      ∙ numbers_apart s.network k (w - 1) (node_found s.network n w k h.grid h.along l) (node_found s.network n w (w - 1) h.grid h.along (omega (arith, some_width n w h.grid, few_width n w h.grid)))
       (omega (arith, h.grid.few)) (omega (arith, h.grid.few, few_width n w h.grid)) (omega (arith, some_width n w h.grid));
 }
 
@@ -127,4 +127,4 @@ pub ends_apart : (d : NetworkData) (n w : ℕ) → IsGrid n w → IsAlong d (roa
 ends_apart d n w g h =
     ap (λ (b : Bool). cond {A = Option ℕ} b (Some 0) None)
     (numbers_apart d 0 (w - 1) (node_found d n w 0 g h (omega (arith, g.some))) (node_found d n w (w - 1) g h (omega (arith, some_width n w g, few_width n w g)))
-      (omega arith) (omega (arith, g.few, few_width n w g)) (omega (arith, some_width n w g)))
+    (omega arith) (omega (arith, g.few, few_width n w g)) (omega (arith, some_width n w g)))

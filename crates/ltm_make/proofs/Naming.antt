@@ -16,8 +16,8 @@ digits_pass n small =
     decimal_by_steps (λ k ds. list_all is_name_byte ds ≡ true)
     (λ k l. ap (λ (b : Bool). b && true) (digit_byte (48 + k) (omega arith) (omega arith)))
     (λ k ds l h. list_all-append is_name_byte ds ((48 + k % 10) ∷ [])
-      ∙ (ap (λ (b : Bool). b && list_all is_name_byte ((48 + k % 10) ∷ [])) h
-      ∙ ap (λ (b : Bool). b && true) (digit_byte (48 + k % 10) (omega arith) (omega arith))))
+    ∙ (ap (λ (b : Bool). b && list_all is_name_byte ((48 + k % 10) ∷ [])) h
+    ∙ ap (λ (b : Bool). b && true) (digit_byte (48 + k % 10) (omega arith) (omega arith))))
     n small
 
 is_named : (text : List ℕ) → 1 ≤ length text → length text ≤ 32 → list_all is_name_byte text ≡ true → is_name text ≡ true

@@ -90,7 +90,7 @@ left_road n w k some l h =
     let e : k - 1 + 1 ≡ k = omega arith in
     road_among n w (k - 1) n k (k - 1)
     (to_right n w (k - 1) k (k - 1) (is_right n w (k - 1) (omega (arith, column_left w k some h, mod_below k w some)) (omega arith))
-      (subst (λ (z : ℕ). HasRoad (both_ways (k - 1) (k - 1 + 1)) z (k - 1)) e (back (k - 1) (k - 1 + 1))))
+    (subst (λ (z : ℕ). HasRoad (both_ways (k - 1) (k - 1 + 1)) z (k - 1)) e (back (k - 1) (k - 1 + 1))))
     (omega arith)
 
 pub up_road : (n w k : ℕ) → 1 ≤ w → w ≤ k → k < n → HasRoad (roads n w n) k (k - w)
@@ -98,7 +98,7 @@ up_road n w k some above l =
     let e : k - w + w ≡ k = omega arith in
     road_among n w (k - w) n k (k - w)
     (to_below n w (k - w) k (k - w) (is_below n w (k - w) (omega arith))
-      (subst (λ (z : ℕ). HasRoad (both_ways (k - w) (k - w + w)) z (k - w)) e (back (k - w) (k - w + w))))
+    (subst (λ (z : ℕ). HasRoad (both_ways (k - w) (k - w + w)) z (k - w)) e (back (k - w) (k - w + w))))
     (omega arith)
 
 pub right_road : (n w k : ℕ) → k % w + 1 < w → k + 1 < n → HasRoad (roads n w n) k (k + 1)

@@ -48,12 +48,12 @@ out_by d roads c None is h below small = omega arith
 out_by d roads c (Some u) is h below small =
     passes_fewer (leaves u) (λ (r : Road). r.from == c) 0 d.links roads no_link no_road h.long
     (λ i l leaves_it.
-      let l' : i < length roads = omega (arith, h.long) in
-      let at : tail_of d i ≡ u = grind (arith, nat_tests) in
-      let there = named_there d.nodes (name_of_node (road_at roads i).from) (tail_of d i) (h.tails i l') in
-      let mine = named_there d.nodes (name_of_node c) u (sym is) in
-      let names : name_of_node (road_at roads i).from ≡ name_of_node c = sym there.1 ∙ (ap (λ (k : ℕ). get_or d.nodes k []) at ∙ mine.1) in
-      is_same (road_at roads i).from c (numbered_apart 120 (road_at roads i).from c (below.from i l') small names))
+    let l' : i < length roads = omega (arith, h.long) in
+    let at : tail_of d i ≡ u = grind (arith, nat_tests) in
+    let there = named_there d.nodes (name_of_node (road_at roads i).from) (tail_of d i) (h.tails i l') in
+    let mine = named_there d.nodes (name_of_node c) u (sym is) in
+    let names : name_of_node (road_at roads i).from ≡ name_of_node c = sym there.1 ∙ (ap (λ (k : ℕ). get_or d.nodes k []) at ∙ mine.1) in
+    is_same (road_at roads i).from c (numbered_apart 120 (road_at roads i).from c (below.from i l') small names))
 
 pub out_few : (d : NetworkData) (roads : List Road) (c : ℕ) → IsAlong d roads → AreBelow (2 ^ 64) roads → c < 2 ^ 64 → out_degree d (name_of_node c) ≤ count_by (λ (r : Road). r.from == c) roads
 out_few d roads c h below small = out_by d roads c (find_node d (name_of_node c)) refl h below small
@@ -64,12 +64,12 @@ in_by d roads c None is h below small = omega arith
 in_by d roads c (Some u) is h below small =
     passes_fewer (enters u) (λ (r : Road). r.to == c) 0 d.links roads no_link no_road h.long
     (λ i l enters_it.
-      let l' : i < length roads = omega (arith, h.long) in
-      let at : head_of d i ≡ u = grind (arith, nat_tests) in
-      let there = named_there d.nodes (name_of_node (road_at roads i).to) (head_of d i) (h.heads i l') in
-      let mine = named_there d.nodes (name_of_node c) u (sym is) in
-      let names : name_of_node (road_at roads i).to ≡ name_of_node c = sym there.1 ∙ (ap (λ (k : ℕ). get_or d.nodes k []) at ∙ mine.1) in
-      is_same (road_at roads i).to c (numbered_apart 120 (road_at roads i).to c (below.to i l') small names))
+    let l' : i < length roads = omega (arith, h.long) in
+    let at : head_of d i ≡ u = grind (arith, nat_tests) in
+    let there = named_there d.nodes (name_of_node (road_at roads i).to) (head_of d i) (h.heads i l') in
+    let mine = named_there d.nodes (name_of_node c) u (sym is) in
+    let names : name_of_node (road_at roads i).to ≡ name_of_node c = sym there.1 ∙ (ap (λ (k : ℕ). get_or d.nodes k []) at ∙ mine.1) in
+    is_same (road_at roads i).to c (numbered_apart 120 (road_at roads i).to c (below.to i l') small names))
 
 pub in_few : (d : NetworkData) (roads : List Road) (c : ℕ) → IsAlong d roads → AreBelow (2 ^ 64) roads → c < 2 ^ 64 → in_degree d (name_of_node c) ≤ count_by (λ (r : Road). r.to == c) roads
 in_few d roads c h below small = in_by d roads c (find_node d (name_of_node c)) refl h below small
@@ -79,11 +79,11 @@ pub new_name : (d : NetworkData) (roads : List Road) → IsAlong d roads → len
 new_name d roads h few =
     position_none (same (name_of_link (length d.links))) 0 (link_names d) []
     (λ j l. or_false (same (name_of_link (length d.links)) (get_or (link_names d) j []))
-      (λ is.
-        let l' : j < length d.links = omega (arith, length-link_names d) in
-        let names : name_of_link (length d.links) ≡ name_of_link j = same_exact (name_of_link (length d.links)) (get_or (link_names d) j []) is ∙ (link_at d j l' ∙ h.names j (omega (arith, h.long))) in
-        let one : length d.links ≡ j = numbered_apart 108 (length d.links) j (omega (arith, h.long)) (omega (arith, h.long)) names in
-        absurd (omega arith)))
+    (λ is.
+    let l' : j < length d.links = omega (arith, length-link_names d) in
+    let names : name_of_link (length d.links) ≡ name_of_link j = same_exact (name_of_link (length d.links)) (get_or (link_names d) j []) is ∙ (link_at d j l' ∙ h.names j (omega (arith, h.long))) in
+    let one : length d.links ≡ j = numbered_apart 108 (length d.links) j (omega (arith, h.long)) (omega (arith, h.long)) names in
+    absurd (omega arith)))
 
 -- what is asked of a road that comes next
 pub record IsNext (roads : List Road) (r : Road) : Type 0 where

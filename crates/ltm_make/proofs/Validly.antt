@@ -88,17 +88,17 @@ true_le a b l = grind (arith, nat_tests)
 pub is_valid : (s : ScenarioData) → IsScenario s → IsCovered s → IsValid s
 is_valid s is h = record {
   demand_is_split = list_all-from_AllPass (is_demand_split s) s.demand
-    (λ k d l. let r = is.demand k d l in h.covered (get_or s.demand k d).origin.0 (get_or s.demand k d).destination r.origin_is_node (omega (arith, r.destination_is_one, h.two)) r.ends_differ);
+      (λ k d l. let r = is.demand k d l in h.covered (get_or s.demand k d).origin.0 (get_or s.demand k d).destination r.origin_is_node (omega (arith, r.destination_is_one, h.two)) r.ends_differ);
   splits_are_begun = list_all-from_AllPass (is_split_begun s) s.splits
-    (λ k d l.
+      (λ k d l.
       let row : SplitRow = get_or s.splits k d in
       list_any_at (λ (x : SplitRow). is_of (get_or s.splits k d).0.node.0 (get_or s.splits k d).0.destination x && (x.0.from == 0)) s.splits k d l
       (and_join (is_of (get_or s.splits k d).0.node.0 (get_or s.splits k d).0.destination (get_or s.splits k d)) ((get_or s.splits k d).0.from == 0)
-        (and_join ((get_or s.splits k d).0.node.0 == (get_or s.splits k d).0.node.0) ((get_or s.splits k d).0.destination == (get_or s.splits k d).0.destination)
-          (is_same (get_or s.splits k d).0.node.0 (get_or s.splits k d).0.node.0 refl) (is_same (get_or s.splits k d).0.destination (get_or s.splits k d).0.destination refl))
-        (is_same (get_or s.splits k d).0.from 0 (h.begun k d l))));
+      (and_join ((get_or s.splits k d).0.node.0 == (get_or s.splits k d).0.node.0) ((get_or s.splits k d).0.destination == (get_or s.splits k d).0.destination)
+      (is_same (get_or s.splits k d).0.node.0 (get_or s.splits k d).0.node.0 refl) (is_same (get_or s.splits k d).0.destination (get_or s.splits k d).0.destination refl))
+      (is_same (get_or s.splits k d).0.from 0 (h.begun k d l))));
   splits_are_led = list_all-from_AllPass (is_split_led s) s.splits
-    (λ k d l.
+      (λ k d l.
       let r = is.splits k d l in
       links_lead s h (get_or s.splits k d).0.destination (omega (arith, r.destination_is_one, h.two)) (out_links s.network (get_or s.splits k d).0.node.0) (get_or s.splits k d).1
       (λ i x. is.network.head_is_node (get_or (out_links s.network (get_or s.splits k d).0.node.0) i 0) ((has_places s.network).out_link_is_link (get_or s.splits k d).0.node.0 i x)));

@@ -14,9 +14,9 @@ use Rattle.ltm_make.proofs.Counting.{is_same, is_other}
 -- a branch with a least weight of 1 weighs something
 weighs : (b : Branch) (g : Lcg) → b.least ≡ 1 → 1 ≤ weight_of b g
 weighs b g one = elim (b.choices == 0) as (λ (t : Bool). 1 ≤ cond {A = ℕ} t b.least (b.least + Rattle.ltm_make.specs.Words.word g % b.choices)) [
-    | true ↦ omega arith
-    | false ↦ omega arith
-  ]
+  | true ↦ omega arith
+  | false ↦ omega arith
+]
 
 pub some_weight : (d : NetworkData) (k : ℕ) (b : Branch) (g : Lcg) (second : Option Way) → HasLink d k b.to → b.least ≡ 1 →
     (sum (map (λ link. weight_to (way_of d b g) second (head_of d link)) (out_links d (number d k))) == 0) ≡ false

@@ -17,7 +17,7 @@ mod names;
 mod splitting;
 mod words;
 
-pub use made::{MakeFault, Made, make_case};
+pub use made::{Made, MakeFault, make_case};
 
 #[cfg(test)]
 mod tests;

@@ -19,6 +19,7 @@ use std::alloc::Global;
 
 /// The fewest and the most nodes of a made case.
 const FEWEST: u32 = 4;
+
 const MOST: u32 = 400;
 
 /// How many bytes a schedule has for each node.

@@ -1,5 +1,5 @@
 //! Made cases of the two ends of the range.
-use crate::{MakeFault, Made, make_case};
+use crate::{Made, MakeFault, make_case};
 use std::process::Abort;
 
 /// Nodes, links, and pairs of node and slot.

@@ -49,7 +49,7 @@ add_demands-requires-clause-laid c =
     subst (λ (m : Making). IsLaid c.args.grid.nodes c.args.grid.width m.scenario)
     (sym (c.in_ok-add_splits.ensures ∙ ap (with_splits c.args.grid.nodes c.args.grid.width c.args.grid.nodes) ended))
     (splits_laid c.args.grid.nodes c.args.grid.width c.args.grid.nodes (with_ends c.args.grid.width (with_grid c.args.grid.nodes c.args.grid.width (opened c.args.start)))
-      (ends_laid c.args.start c.args.grid.nodes c.args.grid.width c.requires))
+    (ends_laid c.args.start c.args.grid.nodes c.args.grid.width c.requires))
 
 pub add_demands-requires-clause-none : goal.add_demands-requires-clause-none
 add_demands-requires-clause-none c =

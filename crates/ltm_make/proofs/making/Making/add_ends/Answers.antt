@@ -17,7 +17,7 @@ pub node_at-requires-2 : goal.node_at-requires-2
 node_at-requires-2 c =
     subst (λ (d : NetworkData). IsFound d (c.args.grid.width - 1)) (sym c.network-2.ensures)
     (node_found c.args.self.now.scenario.network c.args.grid.nodes c.args.grid.width (c.args.grid.width - 1) c.requires.grid c.requires.along
-      (omega (arith, some_width c.args.grid.nodes c.args.grid.width c.requires.grid, few_width c.args.grid.nodes c.args.grid.width c.requires.grid)))
+    (omega (arith, some_width c.args.grid.nodes c.args.grid.width c.requires.grid, few_width c.args.grid.nodes c.args.grid.width c.requires.grid)))
 
 pub add_end-requires-2-clause-new : goal.add_end-requires-2-clause-new
 add_end-requires-2-clause-new c =
