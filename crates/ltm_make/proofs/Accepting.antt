@@ -1,21 +1,19 @@
 -- The batch of a made case is accepted.
-use Rattle.std.proofs.Common.{◌≡◌, ◌≢◌, ℕ, ◌+◌, ◌-◌, ◌*◌, ◌^◌, ◌<◌, ◌≤◌, ◌==◌, ◌&&◌, not, Bool, true, false, cond, nat_lt, nat_le, List, [], ◌∷◌, length, Option, Some, Result, Ok, IsOk, refl, sym, ap, subst, ◌∙◌, arith}
+use Rattle.std.proofs.Common.{◌≡◌, ℕ, ◌-◌, ◌<◌, ◌==◌, ◌&&◌, not, Bool, true, false, cond, nat_lt, nat_le, List, [], ◌∷◌, length, Option, Some, Result, Ok, IsOk, refl, sym, ap, subst, ◌∙◌, arith}
 use Rattle.std.specs.List.{position_from}
-use Rattle.ltm_network.specs.Network.{find_node, find_link, link_name, out_links}
+use Rattle.ltm_network.specs.Network.{find_link, link_name, out_links}
 use Rattle.ltm_network.specs.IsNetwork.{IsNetwork}
 use Rattle.ltm_network.proofs.Apart.{names_found}
 use Rattle.ltm_demand.specs.declared.row.DemandRow.{DemandRow}
 use Rattle.ltm_demand.specs.Rows.{edited as edited_rows}
 use Rattle.ltm_scenario.specs.declared.edit.EditCause.{EditCause}
-use Rattle.ltm_scenario.specs.declared.edit.EditCause.TheVariants.{UnknownName, UnknownDestination, NoOrigin, SameEnds, BadSlots, OpenSplit}
-use Rattle.ltm_scenario.specs.declared.edit.EditFault.{EditFault}
+use Rattle.ltm_scenario.specs.declared.edit.EditCause.TheVariants.{UnknownName, BadSlots}
 use Rattle.ltm_scenario.specs.Data.{ScenarioData}
 use Rattle.ltm_scenario.specs.Reads.{destination_of, has_no_out_link, has_split}
 use Rattle.ltm_scenario.specs.IsScenario.{IsScenario}
 use Rattle.ltm_scenario.specs.Build.{with_demand, with_entry_limit, are_slots, ◌>>=◌}
-use Rattle.ltm_scenario.specs.Edits.{refuse, found, cause_of_demand, caused, demand_row, demand_edited, limited_link, limit_edited, at_place, edited_from, edited_all}
+use Rattle.ltm_scenario.specs.Edits.{refuse, found, cause_of_demand, caused, demand_row, demand_edited, limited_link, limit_edited, at_place, edited_all}
 use Rattle.ltm_make.specs.Names.{name_of_node, name_of_link}
-use Rattle.ltm_make.specs.Grid.{roads}
 use Rattle.ltm_make.specs.Branches.{number}
 use Rattle.ltm_make.specs.Splits.{IsGrid, IsLaid}
 use Rattle.ltm_make.specs.MadeCase.{made_from, two_edits}

@@ -1,14 +1,13 @@
 -- A network along roads has a link for each, and takes the next one.
-use Rattle.std.proofs.Common.{◌≡◌, ◌≢◌, ℕ, zero, suc, ◌+◌, ◌*◌, ◌^◌, ◌<◌, ◌≤◌, ◌==◌, Bool, true, false, cond, List, [], ◌∷◌, ◌++◌, length, get_or, is_some, unwrap_or, Option, Some, None, refl, sym, ap, subst, ◌∙◌, arith, length-append, append_assoc, inl, inr, count_by}
-use Rattle.std.specs.List.{position_from}
+use Rattle.std.proofs.Common.{◌≡◌, ℕ, ◌+◌, ◌^◌, ◌<◌, Bool, cond, List, [], ◌∷◌, ◌++◌, length, get_or, is_some, unwrap_or, Option, Some, None, refl, sym, ap, subst, ◌∙◌, arith, length-append, append_assoc, inl, inr}
 use Rattle.std.proofs.Math.ListN.{get_or-append}
 use Rattle.std.proofs.lemmas.List.{get_or_push, append-nil}
-use Rattle.std.proofs.lemmas.Bool.{cases_lt, cases_eq}
+use Rattle.std.proofs.lemmas.Bool.{cases_lt}
 use Rattle.std.proofs.lemmas.Fmt.{decimal_injective}
 use Rattle.ltm_network.specs.Names.{same, place_of, named, number_of}
-use Rattle.ltm_network.specs.Network.{Link, NetworkData, no_link, link_name, tail_of, head_of}
-use Rattle.ltm_network.proofs.Apart.{position_last, named_there, found_still}
-use Rattle.ltm_network.proofs.Finding.{same_exact, same_itself}
+use Rattle.ltm_network.specs.Network.{Link, NetworkData, no_link, tail_of, head_of}
+use Rattle.ltm_network.proofs.Apart.{position_last, found_still}
+use Rattle.ltm_network.proofs.Finding.{same_itself}
 use Rattle.ltm_make.specs.declared.grid.Road.{Road}
 use Rattle.ltm_make.specs.Names.{numbered, name_of_node, name_of_link}
 use Rattle.ltm_make.specs.Links.{joined}

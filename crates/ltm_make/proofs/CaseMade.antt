@@ -1,6 +1,6 @@
 -- The made case is laid on its grid, and covered.
-use Rattle.std.proofs.Common.{◌≡◌, ◌≢◌, ℕ, zero, suc, ◌+◌, ◌-◌, ◌*◌, ◌<◌, ◌≤◌, ◌==◌, Bool, true, false, cond, List, [], ◌∷◌, length, get_or, unwrap_or, Option, Some, slice_index, refl, sym, ap, subst, ◌∙◌, arith, inl, inr}
-use Rattle.std.proofs.lemmas.Bool.{cases_lt, cases_eq}
+use Rattle.std.proofs.Common.{◌≡◌, ◌≢◌, ℕ, zero, suc, ◌+◌, ◌-◌, ◌*◌, ◌<◌, ◌≤◌, ◌==◌, Bool, true, false, cond, List, [], ◌∷◌, length, unwrap_or, Option, slice_index, refl, sym, ap, subst, ◌∙◌, arith, inl, inr}
+use Rattle.std.proofs.lemmas.Bool.{cases_lt}
 use Rattle.ltm_network.specs.Names.{place_of}
 use Rattle.ltm_network.specs.Network.{NetworkData}
 use Rattle.ltm_splits.specs.Rows.{SplitRow}
@@ -10,13 +10,11 @@ use Rattle.ltm_scenario.specs.Valid.{IsValid}
 use Rattle.ltm_scenario.specs.IsScenario.{IsScenario}
 use Rattle.ltm_make.specs.declared.grid.Road.{Road}
 use Rattle.ltm_make.specs.declared.making.Making.{Making}
-use Rattle.ltm_make.specs.Names.{name_of_node}
 use Rattle.ltm_make.specs.Grid.{IsWidth, roads}
 use Rattle.ltm_make.specs.Links.{with_road, with_roads, opened, with_grid}
-use Rattle.ltm_make.specs.Roads.{network_along}
 use Rattle.ltm_make.specs.Branches.{number}
 use Rattle.ltm_make.specs.Splits.{with_ends, with_splits, IsGrid, IsLaid}
-use Rattle.ltm_make.specs.Demands.{with_demand_row, with_homeward, with_awayward, with_demands}
+use Rattle.ltm_make.specs.Demands.{with_demands}
 use Rattle.ltm_make.specs.MadeCase.{made_from}
 use Rattle.ltm_make.proofs.Counting.{is_same}
 use Rattle.ltm_make.proofs.Gridding.{are_roads}
@@ -25,7 +23,7 @@ use Rattle.ltm_make.proofs.Roading.{some_width, road_from}
 use Rattle.ltm_make.proofs.SplitsMade.{splits_laid}
 use Rattle.ltm_make.proofs.Demanded.{demands_laid, few_demands}
 use Rattle.ltm_make.proofs.Covered.{AreNamed, along_named, splits_network, home_covered, away_covered, Begun, splits_begun}
-use Rattle.ltm_make.proofs.Validly.{IsCovered, is_valid}
+use Rattle.ltm_make.proofs.Validly.{is_valid}
 
 -- a grid has one width
 pub one_width : (nodes v w : ℕ) → IsWidth nodes v → IsWidth nodes w → v ≡ w

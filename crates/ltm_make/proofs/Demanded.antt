@@ -1,21 +1,21 @@
 -- Demand rows of a made case find room.
-use Rattle.std.proofs.Common.{◌≡◌, ◌≢◌, ℕ, zero, suc, ◌+◌, ◌-◌, ◌*◌, ◌^◌, ◌<◌, ◌≤◌, ◌==◌, Bool, true, false, cond, List, [], ◌∷◌, ◌++◌, length, filter, refl, ap, subst, sym, ◌∙◌, arith, length-append, slice_index, Result, Ok}
+use Rattle.std.proofs.Common.{◌≡◌, ◌≢◌, ℕ, zero, suc, ◌+◌, ◌-◌, ◌*◌, ◌<◌, ◌≤◌, ◌==◌, Bool, true, false, cond, List, [], ◌∷◌, ◌++◌, length, filter, refl, ap, ◌∙◌, arith, length-append, slice_index, Result, Ok}
 use Rattle.std.specs.declared.cmp.Ordering.{Ordering}
 use Rattle.std.specs.declared.cmp.Ordering.TheVariants.{Less, Equal, Greater}
 use Rattle.std.specs.Ordering.{is_lt, is_gt}
 use Rattle.ltm_demand.specs.declared.row.DemandRow.{DemandRow}
 use Rattle.ltm_demand.specs.declared.row.DemandFault.{DemandFault}
-use Rattle.ltm_demand.specs.Rows.{DemandData, row_cmp, before, behind, shown, edited, has_slots, with_row}
+use Rattle.ltm_demand.specs.Rows.{DemandData, row_cmp, before, behind, shown, edited, has_slots}
 use Rattle.ltm_demand.proofs.Restoring.{with_row_done}
 use Rattle.ltm_network.specs.Network.{out_links}
-use Rattle.ltm_scenario.specs.Data.{ScenarioData, demand_of}
+use Rattle.ltm_scenario.specs.Data.{ScenarioData}
 use Rattle.ltm_scenario.specs.Build.{with_demand, ◌>>=◌}
 use Rattle.ltm_make.specs.declared.making.Making.{Making}
 use Rattle.ltm_make.specs.Grid.{roads}
 use Rattle.ltm_make.specs.Branches.{number}
 use Rattle.ltm_make.specs.Splits.{IsLaid}
 use Rattle.ltm_make.specs.Demands.{row_from, with_demand_row, with_homeward, with_awayward, with_demands, IsOrigin}
-use Rattle.ltm_make.proofs.Roading.{HasRoad, road_from, road_link, node_found, numbers_apart, some_width, few_width}
+use Rattle.ltm_make.proofs.Roading.{road_from, road_link, node_found, numbers_apart, some_width, few_width}
 
 both_by : {X : Type 0} (a b : Bool) (x : X) (ps qs : List X) (n : ℕ) → (a ≡ true → b ≡ false) → length ps + length qs ≤ n → length (cond a (x ∷ ps) ps) + length (cond b (x ∷ qs) qs) ≤ suc n
 both_by true true x ps qs n h l = let e : true ≡ false = h refl in cc

@@ -1,14 +1,13 @@
 -- A case with links along roads.
-use Rattle.std.proofs.Common.{◌≡◌, ℕ, ◌<◌, ◌≤◌, ◌+◌, List, [], ◌∷◌, ◌++◌, length, take, refl, sym, ap, subst, ◌∙◌, arith, Ok}
-use Rattle.std.proofs.lemmas.List.{take_more, length-take}
+use Rattle.std.proofs.Common.{◌≡◌, ℕ, ◌<◌, ◌≤◌, List, [], ◌∷◌, ◌++◌, length, take, refl, sym, ap, subst, ◌∙◌, Ok}
 use Rattle.ltm_network.specs.Network.{NetworkData, checked}
 use Rattle.ltm_scenario.specs.Data.{ScenarioData, empty_scenario}
 use Rattle.ltm_make.specs.declared.grid.Road.{Road}
 use Rattle.ltm_make.specs.declared.making.Making.{Making}
 use Rattle.ltm_make.specs.Names.{name_of_node, name_of_link}
 use Rattle.ltm_make.specs.Grid.{roads}
-use Rattle.ltm_make.specs.Links.{joined, with_road, with_roads, TakesLinks, made_setup}
-use Rattle.ltm_make.specs.Roads.{no_road, road_at, network_along, IsAlong}
+use Rattle.ltm_make.specs.Links.{with_road, with_roads, TakesLinks, made_setup}
+use Rattle.ltm_make.specs.Roads.{road_at, network_along, IsAlong}
 use Rattle.ltm_make.proofs.Along.{along_none, along}
 use Rattle.ltm_make.proofs.Taken.{next_is_taken}
 use Rattle.ltm_make.proofs.Gridding.{roads_below, next_road}

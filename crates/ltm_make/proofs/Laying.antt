@@ -1,15 +1,15 @@
 -- The branches of split rows lead along links.
-use Rattle.std.proofs.Common.{◌≡◌, ◌≢◌, ℕ, suc, ◌+◌, ◌-◌, ◌*◌, ◌%◌, ◌^◌, ◌<◌, ◌≤◌, ◌==◌, ◌&&◌, Bool, true, false, cond, nat_lt, nat_le, List, [], ◌∷◌, length, IfSome, Option, Some, None, refl, sym, ap, subst, ◌∙◌, arith, inl, inr, slice_index}
-use Rattle.std.proofs.lemmas.Bool.{cases_lt, cases_eq}
+use Rattle.std.proofs.Common.{◌≡◌, ◌≢◌, ℕ, ◌+◌, ◌-◌, ◌%◌, ◌<◌, ◌≤◌, ◌==◌, ◌&&◌, Bool, true, false, cond, nat_lt, nat_le, List, [], ◌∷◌, length, Option, Some, None, refl, ap, ◌∙◌, arith, inl, inr, slice_index}
+use Rattle.std.proofs.lemmas.Bool.{cases_lt}
 use Rattle.std.proofs.lemmas.Bool.Decides.{nat_tests}
 use Rattle.ltm_network.specs.Network.{NetworkData}
 use Rattle.ltm_scenario.specs.Data.{ScenarioData}
-use Rattle.ltm_scenario.specs.Reads.{destination_of, destination_node}
+use Rattle.ltm_scenario.specs.Reads.{destination_of}
 use Rattle.ltm_make.specs.declared.branches.Branch.{Branch}
 use Rattle.ltm_make.specs.Grid.{has_right, roads}
 use Rattle.ltm_make.specs.Roads.{IsAlong}
 use Rattle.ltm_make.specs.Branches.{number, nearer, home_first, home_second, away_first, away_second}
-use Rattle.ltm_make.specs.Splits.{IsFound, HasLink, AreBranches, HasRoom, IsGrid, IsLaid}
+use Rattle.ltm_make.specs.Splits.{AreBranches, HasRoom, IsGrid, IsLaid}
 use Rattle.ltm_make.proofs.Roading.{HasRoad, column_first, left_road, up_road, right_road, some_width, few_width, start_found, end_found, road_link, node_found, numbers_apart}
 
 true_test : (a b : ℕ) → a < b → nat_lt a b ≡ true

@@ -1,9 +1,8 @@
 -- A link of a made case is taken.
-use Rattle.std.proofs.Common.{◌≡◌, ℕ, zero, suc, ◌<◌, arith, refl, ap, ◌∙◌, List, Result, Ok, Err}
+use Rattle.std.proofs.Common.{◌≡◌, ℕ, zero, suc, ◌<◌, arith, refl, ap, ◌∙◌, List, Ok}
 use Rattle.ltm_diagram.specs.declared.diagram.Limits.{Limits}
 use Rattle.ltm_diagram.specs.Limits.{limits_of}
 use Rattle.ltm_network.specs.Network.{checked, linked as network_linked}
-use Rattle.ltm_scenario.specs.declared.faults.LinkFault.{LinkFault}
 use Rattle.ltm_scenario.specs.Data.{ScenarioData}
 use Rattle.ltm_scenario.specs.Build.{with_link, linked}
 use Rattle.ltm_scenario.proofs.Linked.{is_linked}

@@ -1,17 +1,17 @@
 -- Which roads a grid has, and the links along them.
-use Rattle.std.proofs.Common.{◌≡◌, ◌≢◌, ℕ, zero, suc, ◌+◌, ◌-◌, ◌*◌, ◌/◌, ◌%◌, ◌^◌, ◌<◌, ◌≤◌, ◌==◌, ◌&&◌, Bool, true, false, cond, nat_lt, List, [], ◌∷◌, ◌++◌, length, get_or, unwrap_or, Option, Some, refl, sym, ap, subst, ◌∙◌, arith, length-append, inl, inr}
+use Rattle.std.proofs.Common.{◌≡◌, ◌≢◌, ℕ, zero, suc, ◌+◌, ◌-◌, ◌*◌, ◌/◌, ◌%◌, ◌^◌, ◌<◌, ◌≤◌, ◌==◌, Bool, true, false, cond, List, [], ◌++◌, length, get_or, unwrap_or, Option, Some, refl, sym, ap, subst, ◌∙◌, arith, length-append, inl, inr}
 use Rattle.std.proofs.Math.ListN.{get_or-append}
 use Rattle.std.proofs.lemmas.List.{get_or-append-add}
-use Rattle.std.proofs.lemmas.Bool.{cases_lt, cases_eq}
+use Rattle.std.proofs.lemmas.Bool.{cases_lt}
 use Rattle.std.proofs.lemmas.Bool.Decides.{nat_tests}
 use Rattle.std.proofs.lemmas.Nat.{mul-le, mod-mul-add, div-add-mod', mod_below}
-use Rattle.ltm_network.specs.Names.{place_of, number_of}
+use Rattle.ltm_network.specs.Names.{place_of}
 use Rattle.ltm_network.specs.Network.{NetworkData, tail_of, head_of, out_links, out_link, out_place}
 use Rattle.ltm_network.proofs.Apart.{named_there}
 use Rattle.ltm_network.proofs.Counted.{has_places}
 use Rattle.ltm_make.specs.declared.grid.Road.{Road}
 use Rattle.ltm_make.specs.Names.{name_of_node}
-use Rattle.ltm_make.specs.Grid.{IsWidth, has_right, has_below, both_ways, roads_at, roads}
+use Rattle.ltm_make.specs.Grid.{has_right, has_below, both_ways, roads_at, roads}
 use Rattle.ltm_make.specs.Roads.{no_road, road_at, IsAlong}
 use Rattle.ltm_make.specs.Branches.{number}
 use Rattle.ltm_make.specs.Splits.{IsFound, HasLink, IsGrid}

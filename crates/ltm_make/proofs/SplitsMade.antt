@@ -1,11 +1,10 @@
 -- A case with split rows keeps its links and ends.
-use Rattle.std.proofs.Common.{◌≡◌, ℕ, zero, suc, ◌+◌, ◌*◌, ◌<◌, ◌≤◌, ◌==◌, Bool, true, false, cond, List, [], ◌∷◌, length, Option, refl, ap, subst, sym, arith}
+use Rattle.std.proofs.Common.{◌≡◌, ℕ, zero, suc, ◌+◌, ◌*◌, ◌≤◌, ◌==◌, Bool, true, false, cond, List, [], ◌∷◌, length, Option, ap, arith}
 use Rattle.std.specs.declared.cmp.Ordering.TheVariants.{Less, Equal, Greater}
 use Rattle.std.specs.Ordering.{match_ordering}
 use Rattle.std.specs.BTreeMap.{insert_entry}
 use Rattle.ltm_splits.specs.declared.keys.SplitKey.{SplitKey}
 use Rattle.ltm_splits.specs.Rows.{SplitRow, split_cmp, key_of, put_in}
-use Rattle.ltm_scenario.specs.Data.{ScenarioData}
 use Rattle.ltm_make.specs.declared.branches.Branch.{Branch}
 use Rattle.ltm_make.specs.declared.making.Making.{Making}
 use Rattle.ltm_make.specs.Branches.{number, home_first, home_second, away_first, away_second}

@@ -1,20 +1,18 @@
 -- A scenario whose nodes are covered by split rows from slot 0 is valid.
-use Rattle.std.proofs.Common.{◌≡◌, ◌≢◌, ℕ, zero, suc, ◌+◌, ◌*◌, ◌<◌, ◌≤◌, ◌==◌, ◌&&◌, ◌||◌, Bool, true, false, cond, nat_le, List, [], ◌∷◌, length, get_or, All, sum_by, refl, sym, ap, subst, ◌∙◌, arith}
-use Rattle.std.specs.List.{list_any, list_all, zip, range_with_len}
+use Rattle.std.proofs.Common.{◌≡◌, ℕ, suc, ◌+◌, ◌*◌, ◌<◌, ◌≤◌, ◌==◌, ◌&&◌, ◌||◌, Bool, true, false, cond, nat_le, List, [], ◌∷◌, length, get_or, refl, ap, ◌∙◌, arith}
+use Rattle.std.specs.List.{list_all, zip, range_with_len}
 use Rattle.std.proofs.lemmas.List.Sums.{list_all-from_AllPass, sum_by-le}
 use Rattle.std.proofs.lemmas.List.Folds.{list_any_at}
 use Rattle.std.proofs.lemmas.List.FromFn.{length-range_with_len}
-use Rattle.std.proofs.lemmas.Bool.{cases_lt}
 use Rattle.std.proofs.lemmas.Bool.Decides.{nat_tests}
-use Rattle.ltm_network.specs.Network.{NetworkData, head_of, out_links, in_links}
+use Rattle.ltm_network.specs.Network.{head_of, out_links, in_links}
 use Rattle.ltm_network.specs.IsNetwork.{IsNetwork}
 use Rattle.ltm_network.proofs.Counted.{has_places}
-use Rattle.ltm_demand.specs.declared.row.DemandRow.{DemandRow}
 use Rattle.ltm_splits.specs.Rows.{SplitRow, is_of}
 use Rattle.ltm_scenario.specs.Data.{ScenarioData}
 use Rattle.ltm_scenario.specs.Reads.{destination_node, has_split}
-use Rattle.ltm_scenario.specs.Cells.{arms_of, width_of, width, widths, cells_of, cells_over, cells, most_cells}
-use Rattle.ltm_scenario.specs.Valid.{has_start, leads_on, all_lead_on, is_demand_split, is_split_begun, is_split_led, is_small, IsValid}
+use Rattle.ltm_scenario.specs.Cells.{arms_of, width_of, width, widths, cells_of, cells_over, cells}
+use Rattle.ltm_scenario.specs.Valid.{leads_on, is_demand_split, is_split_begun, is_split_led, IsValid}
 use Rattle.ltm_scenario.specs.IsScenario.{IsScenario}
 use Rattle.ltm_make.proofs.Counting.{is_same}
 use Rattle.ltm_make.proofs.Covered.{Begun}

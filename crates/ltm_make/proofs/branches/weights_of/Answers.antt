@@ -1,4 +1,4 @@
-use Rattle.std.proofs.Common.{◌≡◌, ◌∙◌, ℕ, List, ap, arith, map}
+use Rattle.std.proofs.Common.{◌∙◌, ℕ, ap, map}
 use Rattle.std.proofs.lemmas.List.{take_all}
 use Rattle.ltm_units.specs.declared.places.LinkId.{LinkId}
 use Rattle.ltm_network.specs.Network.{head_of}

@@ -1,4 +1,4 @@
-use Rattle.std.proofs.Common.{◌≡◌, ◌∙◌, ◌-◌, ◌*◌, ◌<◌, ◌%◌, ℕ, List, length, ap, arith, subst, sym, IsOk}
+use Rattle.std.proofs.Common.{◌≡◌, ◌∙◌, ◌-◌, ◌*◌, ◌%◌, ℕ, List, length, ap, arith, subst, sym, IsOk}
 use Rattle.rand_pcg.specs.Lcg.{Lcg}
 use Rattle.ltm_network.specs.Network.{NetworkData}
 use Rattle.ltm_scenario.specs.declared.edit.Edit.{Edit}
@@ -7,7 +7,6 @@ use Rattle.ltm_scenario.specs.Valid.{IsValid}
 use Rattle.ltm_scenario.specs.IsScenario.{IsScenario}
 use Rattle.ltm_scenario.specs.Edits.{edited_all}
 use Rattle.ltm_make.specs.declared.making.Making.{Making}
-use Rattle.ltm_make.specs.declared.made.Made.{Made}
 use Rattle.ltm_make.specs.Words.{word, rest}
 use Rattle.ltm_make.specs.Splits.{IsGrid}
 use Rattle.ltm_make.specs.MadeCase.{made_from, two_edits, bytes_of, IsMade}

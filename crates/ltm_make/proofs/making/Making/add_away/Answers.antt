@@ -1,6 +1,6 @@
-use Rattle.std.proofs.Common.{ℕ, Option, arith, subst, sym}
+use Rattle.std.proofs.Common.{Option, arith, subst, sym}
 use Rattle.ltm_make.specs.declared.branches.Branch.{Branch}
-use Rattle.ltm_make.specs.Branches.{away_first, away_second}
+use Rattle.ltm_make.specs.Branches.{away_first}
 use Rattle.ltm_make.specs.Splits.{AreBranches}
 use Rattle.ltm_make.proofs.Laying.{away_branches, away_room}
 use Rattle.ltm_make.proofs.making.Making.add_away.Goals as goal

@@ -1,4 +1,4 @@
-use Rattle.std.proofs.Common.{◌+◌, ◌*◌, ℕ, ap, arith, length, subst, sym}
+use Rattle.std.proofs.Common.{◌*◌, ap, arith, length, subst, sym}
 use Rattle.ltm_make.specs.declared.making.Making.{Making}
 use Rattle.ltm_make.specs.Splits.{IsLaid}
 use Rattle.ltm_make.proofs.Demanded.{homeward_laid, demands_laid, few_homeward, few_demands}

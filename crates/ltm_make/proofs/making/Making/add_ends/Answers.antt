@@ -1,4 +1,4 @@
-use Rattle.std.proofs.Common.{◌≡◌, ◌∙◌, ◌-◌, ◌++◌, ◌∷◌, [], ℕ, List, None, ap, arith, subst, sym}
+use Rattle.std.proofs.Common.{◌≡◌, ◌∙◌, ◌-◌, ◌++◌, ◌∷◌, [], ℕ, List, ap, arith, subst, sym}
 use Rattle.ltm_network.specs.Network.{NetworkData}
 use Rattle.ltm_scenario.specs.Data.{ScenarioData}
 use Rattle.ltm_scenario.specs.Reads.{destination_of}

@@ -1,6 +1,6 @@
-use Rattle.std.proofs.Common.{ℕ, Option, arith, subst, sym}
+use Rattle.std.proofs.Common.{Option, arith, subst, sym}
 use Rattle.ltm_make.specs.declared.branches.Branch.{Branch}
-use Rattle.ltm_make.specs.Branches.{home_first, home_second}
+use Rattle.ltm_make.specs.Branches.{home_first}
 use Rattle.ltm_make.specs.Splits.{AreBranches}
 use Rattle.ltm_make.proofs.Laying.{home_branches, home_room}
 use Rattle.ltm_make.proofs.making.Making.add_home.Goals as goal

@@ -1,4 +1,4 @@
-use Rattle.std.proofs.Common.{◌≡◌, ◌==◌, ℕ, List, false, sum, map, ap, subst, sym, ◌∙◌, Option}
+use Rattle.std.proofs.Common.{◌≡◌, ◌==◌, ℕ, List, false, sum, map, ap, subst, sym, ◌∙◌}
 use Rattle.ltm_network.specs.Network.{NetworkData, head_of, out_links}
 use Rattle.ltm_scenario.specs.Data.{ScenarioData}
 use Rattle.ltm_make.specs.declared.branches.Way.{Way}

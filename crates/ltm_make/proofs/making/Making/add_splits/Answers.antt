@@ -1,6 +1,6 @@
-use Rattle.std.proofs.Common.{◌+◌, ◌*◌, ℕ, ap, arith, length, subst, sym}
+use Rattle.std.proofs.Common.{◌*◌, ap, arith, length, subst, sym}
 use Rattle.ltm_make.specs.declared.making.Making.{Making}
-use Rattle.ltm_make.specs.Splits.{with_home, with_splits, IsLaid}
+use Rattle.ltm_make.specs.Splits.{IsLaid}
 use Rattle.ltm_make.proofs.SplitsMade.{home_laid, splits_laid, few_home, few_splits}
 use Rattle.ltm_make.proofs.making.Making.add_splits.Goals as goal
 
