@@ -1,0 +1,16 @@
+pub mod Naming
+pub mod Linking
+pub mod Along
+pub mod Counting
+pub mod Taken
+pub mod Gridding
+pub mod GridMade
+pub mod Weighing
+pub mod Roading
+pub mod Laying
+pub mod SplitsMade
+pub mod Demanded
+pub mod Covered
+pub mod Validly
+pub mod CaseMade
+pub mod Accepting

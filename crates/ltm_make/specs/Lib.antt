@@ -1,0 +1,9 @@
+pub mod Words
+pub mod Names
+pub mod Grid
+pub mod Links
+pub mod Roads
+pub mod Branches
+pub mod Splits
+pub mod Demands
+pub mod MadeCase
