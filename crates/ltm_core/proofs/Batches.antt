@@ -1,5 +1,5 @@
 -- What an accepted batch makes of a core.
-use Rattle.std.proofs.Common.{◌≡◌, ◌≢◌, ℕ, ◌+◌, ◌<◌, ◌≤◌, ◌^◌, List, [], ◌∷◌, ◌++◌, Bool, false, inl, inr, refl, ap, sym, subst, ◌∙◌, arith}
+use Rattle.std.proofs.Common.{◌≡◌, ◌≢◌, ℕ, ◌+◌, ◌<◌, ◌≤◌, ◌^◌, List, inl, inr, refl, ap, sym, subst, ◌∙◌, arith}
 use Rattle.std.specs.Prelude.{Result, Ok, Err, OnOk, OnErr, IfErr}
 use Rattle.std.proofs.lemmas.Bool.{cases_eq}
 use Rattle.ltm_scenario.specs.declared.edit.Edit.{Edit}
@@ -13,18 +13,16 @@ use Rattle.ltm_scenario.specs.Shape.{SameShape}
 use Rattle.ltm_loading.specs.Setting.{Setting, IsSetting}
 use Rattle.ltm_loading.specs.Networks.{SameNetwork}
 use Rattle.ltm_setting.specs.Setting.{setting_of}
-use Rattle.ltm_flows.specs.declared.loading.Loading.{Loading}
 use Rattle.ltm_flows.specs.Shown.{Shows, version_of}
-use Rattle.ltm_repair.specs.Desk.{Desk}
-use Rattle.ltm_repair.specs.State.{RepairState, now}
+use Rattle.ltm_repair.specs.State.{now}
 use Rattle.ltm_repair.specs.Moves.{Accepts}
 use Rattle.ltm_repair.specs.Events.{Accept, Accepted}
-use Rattle.ltm_pairs.specs.Touched.{HaveSlots, EditKeeps, is_touched, BatchTouchesReaders}
+use Rattle.ltm_pairs.specs.Touched.{HaveSlots, BatchTouchesReaders}
 use Rattle.ltm_desk.specs.declared.table.Table.{Table}
 use Rattle.ltm_desk.specs.Desks.{desk_at, changed_at}
 use Rattle.ltm_desk.specs.Ready.{IsReady}
 use Rattle.ltm_desk.specs.Batches.{LeadsTo, TakesIn, touches}
-use Rattle.ltm_core.specs.Log.{Log, version_now, settled_of, scenario_at, scenario_now, with_batch}
+use Rattle.ltm_core.specs.Log.{Log, version_now, scenario_at, scenario_now, with_batch}
 use Rattle.ltm_core.specs.Settling.{setting_at}
 use Rattle.ltm_core.specs.Laws.{RepairLaws}
 use Rattle.ltm_core.specs.Cores.{CoreData, desk_in, repair_of, IsNoneOut, IsAlike, IsLog, IsCore}
@@ -180,7 +178,7 @@ pub takes_batch : BatchTouchesReaders → (s next : ScenarioData) (batch edits :
     edited_all s batch ≡ Ok next → edits ≡ batch → IsReady (setting_of s) old → ((before : ScenarioData) → LeadsTo before next edits → IsReady (setting_of before) old → TakesIn before next edits old new) →
     ((z : Setting) → changed_at z new ≡ changed_at z old) → TakesBatch s next old new batch
 takes_batch law s next batch edits old new scenario scenario' valid shape slots setting edited same ready taken cells =
-    let leads : LeadsTo s next batch = record { shape = shape; reads = (law 1 s next batch (have_slots s scenario) edited).1 } in
+    let leads : LeadsTo s next batch = record { shape = shape; reads = (law 1 s next batch (have_slots s scenario) edited).1; horizon = slots } in
     record {
       edited = edited;
       scenario = scenario';

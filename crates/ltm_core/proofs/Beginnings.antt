@@ -12,8 +12,8 @@ use Rattle.ltm_loading.specs.LoadingLaws.{OneLoading}
 use Rattle.ltm_setting.specs.Setting.{setting_of}
 use Rattle.ltm_flows.specs.declared.loading.Loading.{Loading}
 use Rattle.ltm_flows.specs.Shown.{Shows, curves_of, version_of}
-use Rattle.ltm_repair.specs.Desk.{IsSettled, IsIdle}
-use Rattle.ltm_repair.specs.State.{RepairState, now}
+use Rattle.ltm_repair.specs.Desk.{IsSettled}
+use Rattle.ltm_repair.specs.State.{now}
 use Rattle.ltm_repair.specs.Repair.{IsOpening}
 use Rattle.ltm_desk.specs.declared.table.Table.{Table}
 use Rattle.ltm_desk.specs.Desks.{desk_at}
@@ -21,7 +21,7 @@ use Rattle.ltm_desk.specs.Ready.{IsOpened}
 use Rattle.ltm_core.specs.Log.{Log, HoldsAccepted, batches_of, log_of, version_now, settled_of, scenario_at, scenario_now}
 use Rattle.ltm_core.specs.Settling.{setting_at}
 use Rattle.ltm_core.specs.Laws.{RepairLaws}
-use Rattle.ltm_core.specs.Cores.{CoreData, desk_in, repair_of, IsResting, IsNoneOut, IsAlike, IsLog, IsCore}
+use Rattle.ltm_core.specs.Cores.{CoreData, repair_of, IsResting, IsNoneOut, IsAlike, IsLog, IsCore}
 use Rattle.ltm_core.specs.CoreAnswers.{IsOpeningCore}
 use Rattle.ltm_core.proofs.Shapes.{alike_refl}
 

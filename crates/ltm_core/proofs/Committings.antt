@@ -1,6 +1,6 @@
 -- What a commit makes of a core.
-use Rattle.std.proofs.Common.{◌≡◌, ℕ, ◌+◌, ◌-◌, ◌*◌, ◌<◌, ◌≤◌, ◌^◌, List, Bool, true, false, cond, ◌||◌, ◌&&◌, refl, ap, sym, subst, ◌∙◌, arith, lit<}
-use Rattle.std.specs.Prelude.{Some, is_some, nat_lt, nat_le}
+use Rattle.std.proofs.Common.{◌≡◌, ℕ, ◌+◌, ◌-◌, ◌*◌, ◌<◌, ◌≤◌, ◌^◌, List, Bool, false, cond, ◌||◌, refl, sym, subst, ◌∙◌, arith, lit<}
+use Rattle.std.specs.Prelude.{Some, is_some}
 use Rattle.std.proofs.lemmas.Bool.{lt-ltb, le-leb}
 use Rattle.ltm_units.specs.declared.places.Pair.{Pair}
 use Rattle.ltm_node.specs.Inputs.{Inputs}
@@ -12,7 +12,7 @@ use Rattle.ltm_setting.specs.Setting.{setting_of}
 use Rattle.ltm_repair.specs.Desk.{Desk}
 use Rattle.ltm_repair.specs.Facts.{IsClaim}
 use Rattle.ltm_repair.specs.Counting.{undone, claims_out}
-use Rattle.ltm_repair.specs.State.{RepairState, now}
+use Rattle.ltm_repair.specs.State.{now}
 use Rattle.ltm_repair.specs.Repair.{IsRepair}
 use Rattle.ltm_repair.specs.Moves.{Commits}
 use Rattle.ltm_repair.specs.Events.{Commit, Committed}
@@ -23,7 +23,6 @@ use Rattle.ltm_pairs.proofs.Bools.{same_at}
 use Rattle.ltm_desk.specs.declared.table.Table.{Table}
 use Rattle.ltm_desk.specs.Desks.{desk_at, changed_at}
 use Rattle.ltm_desk.specs.Ready.{IsReady}
-use Rattle.ltm_desk.specs.Pairs.{of_cells}
 use Rattle.ltm_desk.specs.Committing.{readers, rewritten}
 use Rattle.ltm_core.specs.Log.{version_now, settled_of}
 use Rattle.ltm_core.specs.Laws.{RepairLaws}

@@ -1,13 +1,9 @@
 -- What the calls of a table make of a core.
-use Rattle.std.proofs.Common.{◌≡◌, ℕ, ◌+◌, ◌-◌, ◌*◌, ◌<◌, ◌≤◌, ◌^◌, List, [], ◌∷◌, Bool, true, false, IsTrue, ◌↔◌, cond, inl, inr, refl, ap, sym, subst, ◌∙◌, arith, lit<}
-use Rattle.std.specs.Prelude.{Some, None, is_some, nat_lt, nat_le}
-use Rattle.std.proofs.lemmas.Bool.{false≢true, lt-ltb, le-leb}
-use Rattle.ltm_curve.specs.Table.{counts_of}
+use Rattle.std.proofs.Common.{◌≡◌, ℕ, ◌≤◌, [], ◌∷◌, Bool, true, false, IsTrue, ◌↔◌, cond, inl, inr, refl, ap, sym, subst, ◌∙◌, arith}
+use Rattle.std.specs.Prelude.{None, is_some}
 use Rattle.ltm_loading.specs.Setting.{Setting, IsSetting}
-use Rattle.ltm_loading.specs.Groups.{groups}
 use Rattle.ltm_loading.specs.Loading.{IsLoading}
 use Rattle.ltm_setting.specs.Setting.{setting_of}
-use Rattle.ltm_flows.specs.Shown.{version_of, curves_of}
 use Rattle.ltm_repair.specs.Desk.{Desk, IsAtRest}
 use Rattle.ltm_loading.specs.Differing.{sum_pairs}
 use Rattle.ltm_loading.proofs.PairSums.{le-sum_pairs, sum_pairs-none}
@@ -19,11 +15,9 @@ use Rattle.ltm_repair.specs.Events.{CoreEvent, Happens, OnlyDesk}
 use Rattle.ltm_repair.specs.Answers.{IsNoneClaimed}
 use Rattle.ltm_repair.specs.Kept.{RunsKeepFacts, RestIsLoading}
 use Rattle.ltm_desk.specs.declared.table.Table.{Table}
-use Rattle.ltm_desk.specs.Desks.{desk_at, changed_at}
+use Rattle.ltm_desk.specs.Desks.{changed_at}
 use Rattle.ltm_desk.specs.Cells.{count_cells}
 use Rattle.ltm_desk.specs.Ready.{IsReady}
-use Rattle.ltm_core.specs.Log.{Log, version_now, settled_of, scenario_at, scenario_now}
-use Rattle.ltm_core.specs.Settling.{setting_at}
 use Rattle.ltm_core.specs.Cores.{CoreData, desk_in, repair_of, IsResting, IsNoneOut, claims_of, IsCore}
 use Rattle.ltm_core.proofs.Logs.{last_scenario}
 

@@ -1,5 +1,5 @@
 -- What holds of every run of a core.
-use Rattle.std.proofs.Common.{◌≡◌, ℕ, ◌+◌, ◌*◌, ◌<◌, ◌≤◌, List, [], ◌∷◌, inl, inr, refl, ap, sym, subst, ◌∙◌, arith}
+use Rattle.std.proofs.Common.{◌≡◌, ℕ, ◌≤◌, List, [], ◌∷◌, inl, inr, ap, subst, arith}
 use Rattle.std.specs.Prelude.{Option, Some, None, Result, Ok, Err, ◌⊎◌}
 use Rattle.ltm_curve.specs.Counts.{Counts}
 use Rattle.ltm_curve.specs.Table.{counts_of}
@@ -11,15 +11,13 @@ use Rattle.ltm_loading.specs.Loading.{IsLoading}
 use Rattle.ltm_loading.specs.Differing.{sum_pairs, unlike, row_of, differing as how_many_differ}
 use Rattle.ltm_loading.proofs.PairSums.{le-sum_pairs, sum_pairs-same}
 use Rattle.ltm_loading.proofs.Unlike.{unlike_cases}
-use Rattle.ltm_setting.specs.Setting.{setting_of}
 use Rattle.ltm_flows.specs.Shown.{version_of, curves_of}
-use Rattle.ltm_repair.specs.State.{RepairState, now}
-use Rattle.ltm_repair.specs.Repair.{IsRepair}
+use Rattle.ltm_repair.specs.State.{now}
 use Rattle.ltm_repair.specs.Desk.{Desk, IsAtRest}
 use Rattle.ltm_repair.specs.Counting.{left_to_do, strayed}
-use Rattle.ltm_repair.specs.Events.{CoreEvent, GiveBack, Accept, Stay, Happens, Accepted}
-use Rattle.ltm_repair.specs.Runs.{CoreRun, AcceptsNothing}
-use Rattle.ltm_repair.specs.Kept.{RunsTakeNothingBack, RestIsLoading, ShownIsLoading}
+use Rattle.ltm_repair.specs.Events.{CoreEvent, GiveBack, Stay}
+use Rattle.ltm_repair.specs.Runs.{CoreRun}
+use Rattle.ltm_repair.specs.Kept.{RestIsLoading, ShownIsLoading}
 use Rattle.ltm_repair.specs.Work.{RepairsOneBatch}
 use Rattle.ltm_repair.specs.Making.{AnswersAreEvents}
 use Rattle.ltm_core.specs.declared.answers.Committed.{Committed}
@@ -32,7 +30,7 @@ use Rattle.ltm_core.specs.Settling.{setting_at}
 use Rattle.ltm_core.specs.Laws.{RunLaws}
 use Rattle.ltm_core.specs.Cores.{CoreData, desk_in, repair_of, IsResting, claims_of, left_of, undone_of, IsCore}
 use Rattle.ltm_core.specs.CoreAnswers.{TellsCommit, TellsGiveBack, TellsAccept, TellsPublish, TellsSettle}
-use Rattle.ltm_core.specs.Runs.{Does, IsRun, CallsAreEvents, commit_event, accept_event, publish_event, settle_event, setting_in, RepairsBatch, WorksOn, HoldsOfRuns, HoldsOfCore}
+use Rattle.ltm_core.specs.Runs.{Does, IsRun, CallsAreEvents, commit_event, accept_event, publish_event, settle_event, setting_in, RepairsBatch, HoldsOfRuns, HoldsOfCore}
 use Rattle.ltm_core.proofs.Cores.{core_now}
 use Rattle.ltm_core.proofs.Claimings.{claim_kept_or_not}
 
@@ -102,6 +100,9 @@ unfolding left_of undone_of claims_of repair_of
 runs_hold law = record {
   shown = shown_numbers law;
   accepted = accepted_numbers law;
+  changed = λ d e u t is step. law.changed (repair_of d) (repair_of e) u t is.repair step;
+  woken = λ d e touched step u t l. law.woken (repair_of d) (repair_of e) touched step u t l;
+  others = λ d e x step no_commit no_batch u t on. law.others (repair_of d) (repair_of e) x step no_commit no_batch u t on;
   none_twice = λ d e events h u t. law.none_twice (repair_of d) (repair_of e) events h.core.repair (run_of d e events h.run) h.no_batch u t;
   useful = λ d e events c h loading. law.useful (repair_of d) (repair_of e) events c h.core.repair (run_of d e events h.run) h.no_batch (loads d c loading);
   drained = λ d e events c h rest loading. law.drained (repair_of d) (repair_of e) events c h.core.repair (run_of d e events h.run) h.no_batch (rests e rest) (loads d c loading);

@@ -1,5 +1,5 @@
 -- Scenarios that are alike make settings of one size.
-use Rattle.std.proofs.Common.{◌≡◌, ℕ, ◌+◌, ◌<◌, ◌≤◌, Bool, ◌&&◌, refl, ap, sym, ◌∙◌, arith}
+use Rattle.std.proofs.Common.{◌≡◌, ℕ, ◌&&◌, refl, ap, sym, ◌∙◌}
 use Rattle.std.specs.Prelude.{nat_lt, nat_le}
 use Rattle.ltm_curve.specs.declared.curves.Curves.{Curves}
 use Rattle.ltm_curve.specs.Cells.{is_changed}
@@ -11,7 +11,6 @@ use Rattle.ltm_flows.specs.Shaped.{IsShaped}
 use Rattle.ltm_flows.specs.declared.loading.Loading.{Loading}
 use Rattle.ltm_flows.specs.Shown.{Shows, Fits}
 use Rattle.ltm_desk.specs.declared.table.Table.{Table}
-use Rattle.ltm_desk.specs.Pairs.{of_cells}
 use Rattle.ltm_desk.specs.Desks.{changed_at}
 use Rattle.ltm_core.specs.Cores.{IsAlike}
 

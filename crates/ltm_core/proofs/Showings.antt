@@ -1,13 +1,12 @@
 -- What publishing and a settle count make of a core.
-use Rattle.std.proofs.Common.{◌≡◌, ℕ, ◌+◌, ◌-◌, ◌<◌, ◌≤◌, Bool, true, false, if◌then◌else◌, refl, ap, sym, subst, ◌∙◌, arith}
+use Rattle.std.proofs.Common.{◌≡◌, ℕ, ◌+◌, ◌-◌, ◌<◌, ◌≤◌, Bool, false, if◌then◌else◌, refl, ap, sym, subst, ◌∙◌, arith}
 use Rattle.ltm_units.specs.Sums.{sum_below}
 use Rattle.ltm_units.proofs.Sums.{sum_below-zero}
 use Rattle.ltm_curve.specs.declared.curves.Curves.{Curves}
 use Rattle.ltm_curve.specs.declared.changed.Changed.{Changed}
-use Rattle.ltm_curve.specs.Counts.{Counts}
-use Rattle.ltm_curve.specs.Table.{counts_of, IsIn}
+use Rattle.ltm_curve.specs.Table.{counts_of}
 use Rattle.ltm_curve.specs.Cells.{is_changed}
-use Rattle.ltm_loading.specs.Setting.{Setting, IsSetting}
+use Rattle.ltm_loading.specs.Setting.{Setting}
 use Rattle.ltm_loading.specs.Groups.{groups}
 use Rattle.ltm_loading.specs.Loading.{IsLoading}
 use Rattle.ltm_scenario.specs.Data.{ScenarioData}
@@ -15,7 +14,7 @@ use Rattle.ltm_scenario.specs.IsScenario.{IsScenario}
 use Rattle.ltm_setting.specs.Setting.{setting_of}
 use Rattle.ltm_flows.specs.declared.loading.Loading.{Loading}
 use Rattle.ltm_flows.specs.Shown.{Shows, Fits, AgreesOutside, version_of, curves_of}
-use Rattle.ltm_repair.specs.Desk.{Desk, IsAtRest}
+use Rattle.ltm_repair.specs.Desk.{IsAtRest}
 use Rattle.ltm_repair.specs.State.{RepairState, now, all_differences, IsSettleCount as IsCountOf}
 use Rattle.ltm_repair.specs.Repair.{IsRepair}
 use Rattle.ltm_repair.specs.Events.{Publish, Published, Settle, Settled}
@@ -24,14 +23,14 @@ use Rattle.ltm_desk.specs.declared.table.Table.{Table}
 use Rattle.ltm_desk.specs.Desks.{desk_at, changed_at}
 use Rattle.ltm_desk.specs.Cells.{count_cells}
 use Rattle.ltm_desk.specs.Ready.{IsReady}
-use Rattle.ltm_core.specs.Log.{Log, version_now, settled_of, scenario_at, scenario_now, with_mark}
+use Rattle.ltm_core.specs.Log.{Log, version_now, settled_of, scenario_at, with_mark}
 use Rattle.ltm_core.specs.Settling.{setting_at, difference, IsSettleCount, SettleCountsAreExact}
 use Rattle.ltm_core.specs.Laws.{RepairLaws}
 use Rattle.ltm_core.specs.Cores.{CoreData, desk_in, repair_of, IsResting, IsShownOf, IsAlike, IsLog, IsCore}
 use Rattle.ltm_core.specs.CoreAnswers.{PublishesAll, SettlesAll}
 use Rattle.ltm_core.proofs.Logs.{last_scenario, version_marked, settled_marked, marked_scenario, marked_now, opening_marked, holds_marked}
 use Rattle.ltm_core.proofs.Shapes.{SameSizes, same_sizes, alike_sym, alike_trans, shown_fits as fits_of}
-use Rattle.ltm_core.proofs.Cores.{core_now, after_event, rests_there, rests_here, rest_here}
+use Rattle.ltm_core.proofs.Cores.{core_now, after_event, rests_there}
 
 -- ---- publishing
 -- what publishing makes of table and loading: the cells are cleared, and the working counts are shown

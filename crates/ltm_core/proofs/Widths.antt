@@ -1,5 +1,5 @@
 -- The widest row of all scenarios.
-use Rattle.std.proofs.Common.{ℕ, ◌+◌, ◌*◌, ◌≤◌, arith}
+use Rattle.std.proofs.Common.{ℕ, ◌*◌, ◌≤◌, arith}
 use Rattle.std.proofs.Math.Nat.{mul-le-mul_right, mul-le-mul_left}
 use Rattle.ltm_node.specs.Inputs.{Inputs}
 use Rattle.ltm_node.specs.Solvable.{IsSolvable}

@@ -1,5 +1,5 @@
 -- What the calls of a core answer, and exactly when.
-use Rattle.std.specs.Prelude.{◌≡◌, ◌≢◌, ◌↔◌, ℕ, ◌+◌, ◌<◌, ◌||◌, List, [], Option, Some, None, Result, Ok, Err, Bool, false}
+use Rattle.std.specs.Prelude.{◌≡◌, ◌≢◌, ℕ, ◌+◌, ◌<◌, ◌||◌, List, [], Option, Some, None, Result, Ok, Err, false}
 use Rattle.ltm_units.specs.declared.places.Pair.{Pair}
 use Rattle.ltm_node.specs.Inputs.{Inputs}
 use Rattle.ltm_scenario.specs.declared.edit.Edit.{Edit}
@@ -22,7 +22,7 @@ use Rattle.ltm_core.specs.declared.answers.Committed.TheVariants.{Ok as Done, St
 use Rattle.ltm_core.specs.declared.answers.Published.{Published}
 use Rattle.ltm_core.specs.declared.answers.Published.TheVariants.{Done as Shown, NotAtRest}
 use Rattle.ltm_core.specs.Claims.{ClaimData, DoneData}
-use Rattle.ltm_core.specs.Log.{Log, version_now, scenario_now, with_batch, with_mark}
+use Rattle.ltm_core.specs.Log.{version_now, scenario_now, with_batch, with_mark}
 use Rattle.ltm_core.specs.Settling.{IsSettleCount}
 use Rattle.ltm_core.specs.Cores.{CoreData, desk_in, repair_of, IsResting, IsNoneOut}
 

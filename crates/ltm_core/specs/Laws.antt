@@ -1,5 +1,5 @@
 -- The laws of a repair by which a core keeps its facts.
-use Rattle.ltm_repair.specs.Kept.{OpeningIsRepair, RunsKeepFacts, RestIsLoading, ShownIsLoading, RunsTakeNothingBack}
+use Rattle.ltm_repair.specs.Kept.{OpeningIsRepair, RunsKeepFacts, RestIsLoading, ShownIsLoading, RunsTakeNothingBack, ClaimsHaveChanged, BatchesWakeTouched, OthersWakeNone}
 use Rattle.ltm_repair.specs.Making.{AnswersAreEvents}
 use Rattle.ltm_repair.specs.Settling.{SettleTells}
 use Rattle.ltm_repair.specs.Work.{NoneTwice, CommitsDifferences, CommitsAreDiffering, CommitsAreUseful, DrainsAreExact, CommitsAreBounded, ClaimsAreUndone, ClaimsBalance, WorkIsBounded}
@@ -16,6 +16,9 @@ pub record RepairLaws : Type 0 where
 -- the laws of its runs
 pub record RunLaws : Type 0 where
   pub nothing_back : RunsTakeNothingBack
+  pub changed : ClaimsHaveChanged
+  pub woken : BatchesWakeTouched
+  pub others : OthersWakeNone
   pub none_twice : NoneTwice
   pub useful : CommitsAreUseful
   pub drained : DrainsAreExact

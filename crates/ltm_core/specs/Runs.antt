@@ -1,5 +1,5 @@
 -- Runs of a core: its events one after another, in any order, by any number of owners.
-use Rattle.std.specs.Prelude.{◌≡◌, ℕ, ◌+◌, ◌*◌, ◌<◌, ◌≤◌, ◌⊎◌, List, [], ◌∷◌, Option, Some, None, Result, Ok, Err}
+use Rattle.std.specs.Prelude.{◌≡◌, ◌≢◌, ◌↔◌, Bool, true, ℕ, ◌+◌, ◌*◌, ◌<◌, ◌≤◌, ◌⊎◌, List, [], ◌∷◌, Option, Some, None, Result, Ok, Err}
 use Rattle.ltm_curve.specs.Counts.{Counts}
 use Rattle.ltm_curve.specs.Table.{counts_of}
 use Rattle.ltm_scenario.specs.declared.edit.Edit.{Edit}
@@ -12,8 +12,8 @@ use Rattle.ltm_setting.specs.Setting.{setting_of}
 use Rattle.ltm_flows.specs.Shown.{version_of, curves_of}
 use Rattle.ltm_repair.specs.Answers.{AnswersClaim}
 use Rattle.ltm_repair.specs.Making.{claim_event}
-use Rattle.ltm_repair.specs.Events.{CoreEvent, GiveBack, Commit, Accept, Publish, Settle, Stay, Happens}
-use Rattle.ltm_repair.specs.Runs.{in_all, look_in, claim_in, give_back_in, work_in, commits_of, commits_in, AcceptsNothing}
+use Rattle.ltm_repair.specs.Events.{CoreEvent, Accepted, Claim, GiveBack, Commit, Accept, Publish, Settle, Stay, Happens}
+use Rattle.ltm_repair.specs.Runs.{in_all, look_in, claim_in, give_back_in, commit_in, batch_in, work_in, commits_of, commits_in, AcceptsNothing}
 use Rattle.ltm_core.specs.declared.answers.Claimed.{Claimed}
 use Rattle.ltm_core.specs.declared.answers.Committed.{Committed}
 use Rattle.ltm_core.specs.declared.answers.Committed.TheVariants.{Ok as Done, Stale}
@@ -83,6 +83,14 @@ pub record HoldsOfRuns : Type 0 where
   -- the shown number and the number of batches never fall
   pub shown : (d e : CoreData) (events : List CoreEvent) → IsCore d → IsRun d events e → version_of d.shown ≤ version_of e.shown
   pub accepted : (d e : CoreData) (events : List CoreEvent) → IsCore d → IsRun d events e → version_now d.log ≤ version_now e.log
+  -- a pair is claimed only where what it reads now is not what is kept of it
+  pub changed : (d e : CoreData) (u t : ℕ) → IsCore d → Does d (Claim u t) e → (repair_of d).desk.kept u t ≢ Some (pair_row (setting_in d) (repair_of d).desk.counts u t)
+  -- a batch makes those pairs active that were active, were claimed or are touched, and no other; nothing but a commit or a
+  -- batch makes a pair active that was neither active nor claimed
+  pub woken : (d e : CoreData) (touched : ℕ → ℕ → Bool) → Accepted (repair_of d) touched (repair_of e) → (u t : ℕ) → t < (setting_in d).slots →
+      ((repair_of e).desk.active u t ≡ true) ↔ (((repair_of d).desk.active u t ≡ true) ⊎ (((repair_of d).desk.claimed u t ≢ None) ⊎ (touched u t ≡ true)))
+  pub others : (d e : CoreData) (x : CoreEvent) → Does d x e → commit_in x ≡ 0 → batch_in x ≡ 0 → (u t : ℕ) → (repair_of e).desk.active u t ≡ true →
+      ((repair_of d).desk.active u t ≡ true) ⊎ ((repair_of d).desk.claimed u t ≢ None)
   -- without a batch no pair is committed twice, and each commit leaves one pair less whose kept inputs are not those of the loading
   pub none_twice : (d e : CoreData) (events : List CoreEvent) → WorksOn d events e → (u t : ℕ) → commits_of u t events ≤ 1
   pub useful : (d e : CoreData) (events : List CoreEvent) (c : Counts) → WorksOn d events e → IsLoading (setting_in d) c → commits_in events + left_of e c ≡ left_of d c

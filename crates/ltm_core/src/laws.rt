@@ -5,10 +5,11 @@ ghost use Rattle.ltm_core.specs.Runs.{CallsAreEvents, HoldsOfRuns};
 ghost use Rattle.ltm_core.specs.Settling.{SettleCountsAreExact};
 
 use ltm_repair::{
-    answers_are_events, claims_are_undone, claims_balance, commits_are_bounded,
-    commits_are_differing, commits_are_useful, commits_differences, drains_are_exact, none_twice,
-    opening_is_repair, rest_is_loading, runs_keep_facts, runs_take_nothing_back, settle_tells,
-    shown_is_loading, work_is_bounded,
+    answers_are_events, batches_wake_touched, claims_are_undone, claims_balance,
+    claims_have_changed, commits_are_bounded, commits_are_differing, commits_are_useful,
+    commits_differences, drains_are_exact, none_twice, opening_is_repair, others_wake_none,
+    rest_is_loading, runs_keep_facts, runs_take_nothing_back, settle_tells, shown_is_loading,
+    work_is_bounded,
 };
 
 /// The laws of a repair by which a core keeps its facts.
@@ -29,6 +30,9 @@ fn run_laws()
     ensures { RunLaws }
 {
     runs_take_nothing_back();
+    claims_have_changed();
+    batches_wake_touched();
+    others_wake_none();
     none_twice();
     commits_are_useful();
     drains_are_exact();

@@ -115,6 +115,8 @@ fn batch_of(rt: &impl Abort, alloc: Global, edits: &[Edit]) -> Batch {
 pub fn accept(rt: &impl Abort, alloc: Global, core: &mut Core, edits: &[Edit]) -> Option<u32> {
     let batch = batch_of(rt, alloc, edits);
     assert!(rt; batch.has_amounts());
+    let slots = core.scenario().setup().slots;
+    assert!(rt; batch.horizon(slots) == slots);
     match core.accept(batch) {
         Ok(()) => None,
         Err((back, fault)) => {
@@ -163,17 +165,36 @@ pub fn drain(rt: &impl Abort, core: &mut Core, steps: &mut Steps) {
     panic!(rt; "no end of work");
 }
 
-/// Repairs, publishes and counts: the version, the commits since the last count, and generated, arrived, on links and
-/// waiting of what is then shown, in units.
-pub fn settle(rt: &impl Abort, core: &mut Core) -> (u64, u128, [u64; 4]) {
+/// The version that is shown now; none where the core is not at rest.
+pub fn publish(core: &mut Core) -> Option<u64> {
+    match core.publish() {
+        Published::Done(version) => Some(version),
+        Published::NotAtRest => None,
+    }
+}
+
+/// The commits since the last count; none where not all batches are shown.
+pub fn count(core: &mut Core) -> Option<u128> {
+    core.settle_count()
+}
+
+/// Repairs, publishes and counts: the version, the commits since the last count, and how many steps were made.
+pub fn settle(rt: &impl Abort, core: &mut Core) -> (Option<u64>, Option<u128>, u64) {
     let mut steps = Steps::new();
     drain(rt, core, &mut steps);
-    let Published::Done(version) = core.publish() else {
-        panic!(rt; "not at rest");
-    };
-    let count = core.settle_count().expect(rt, "a count");
-    assert_eq!(rt; u128::from(steps.count()), count);
-    (version, count, totals(core))
+    let version = publish(core);
+    let commits = count(core);
+    (version, commits, steps.count())
+}
+
+/// How many batches are accepted, how many of them are shown, how many pairs are claimed, and how many cells changed.
+pub fn books(core: &Core) -> [u64; 4] {
+    [
+        core.version(),
+        core.shown().version(),
+        u64::from(core.claimed()),
+        core.changed(),
+    ]
 }
 
 /// Generated, arrived, on links and waiting of what is shown, in units.

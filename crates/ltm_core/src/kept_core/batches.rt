@@ -4,7 +4,7 @@ ghost use Rattle.ltm_scenario.specs.Edits.{edited_all, HaveAmounts};
 ghost use Rattle.ltm_scenario.specs.Valid.{IsValid};
 ghost use Rattle.ltm_setting.specs.Setting.{setting_of};
 ghost use Rattle.ltm_desk.specs.Ready.{IsReady};
-ghost use Rattle.ltm_core.specs.Taking.{TakesBatch};
+ghost use Rattle.ltm_core.specs.Taking.{TakesBatch, KeepsHorizon};
 
 use super::Core;
 use crate::laws::repair_laws;
@@ -56,6 +56,7 @@ fn take_batch(
     requires mark_room { vec_len marks.old < vec_capacity marks.old }
     requires valid { IsValid scenario.old }
     requires amounts { HaveAmounts batch }
+    requires horizon { KeepsHorizon scenario.old.setup.slots batch }
     requires ready { IsReady (setting_of scenario.old) table.old }
     ensures ok { OnOk result (TakesBatch scenario.old scenario.new table.old table.new batch) }
     ensures batches { OnOk result (batches.new.items ≡ batches.old.items ++ batch ∷ []) }
@@ -89,9 +90,10 @@ impl Core {
     /// Makes all edits of a batch in order, or changes nothing and gives the batch back with the first edit that is refused
     /// and its cause. Claims are void; a pair is then active exactly where it was active or claimed, or is touched.
     ///
-    /// Each amount is at most 1,000,000,000 units. All memory is taken first.
+    /// Each amount is at most 1,000,000,000 units, and no edit raises the horizon. All memory is taken first.
     pub fn accept(&mut self, batch: Batch) -> Result<(), (Batch, EditFault)>
-        requires { HaveAmounts batch }
+        requires amounts { HaveAmounts batch }
+        requires horizon { KeepsHorizon self.old.scenario.setup.slots batch }
         ensures answer { TellsAccept self.old batch result self.new }
         ensures shown { self.new.shown ≡ self.old.shown }
     {

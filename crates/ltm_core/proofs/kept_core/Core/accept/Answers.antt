@@ -1,6 +1,12 @@
+use Rattle.std.proofs.Common.{subst, sym}
+use Rattle.ltm_core.specs.Cores.{CoreData}
+use Rattle.ltm_core.specs.Taking.{KeepsHorizon}
 use Rattle.ltm_core.proofs.Logs.{put_log, same_log, same_length, few_more}
 use Rattle.ltm_core.proofs.Batches.{core_after_batch, core_tells_accept}
 use Rattle.ltm_core.proofs.kept_core.Core.accept.Goals as goal
+
+pub take_batch-requires-clause-horizon : goal.take_batch-requires-clause-horizon
+take_batch-requires-clause-horizon c = subst (λ (z : CoreData). KeepsHorizon z.scenario.setup.slots c.args.batch) (sym c.self.view_is) c.requires.horizon
 
 pub invariant_of-self : goal.invariant_of-self
 invariant_of-self c = (

@@ -1,5 +1,4 @@
 use Rattle.std.proofs.Common.{sym, ap, ◌∙◌, length}
-use Rattle.ltm_core.specs.Log.{Log}
 use Rattle.ltm_core.proofs.Beginnings.{first_kept, core_begins, core_begins_at, core_begun_at}
 use Rattle.ltm_core.proofs.kept_core.Core.create.Goals as goal
 

@@ -1,7 +1,4 @@
-use Rattle.std.proofs.Common.{◌≡◌, Some}
 use Rattle.ltm_core.proofs.Claimings.{kept_in, tells_give, core_after_give}
-use Rattle.ltm_core.specs.Cores.{CoreData, core_of, desk_in}
-use Rattle.ltm_core.specs.CoreAnswers.{IsKeptClaim}
 use Rattle.ltm_core.proofs.kept_core.Core.free.Goals as goal
 
 pub give_back-requires-clause-ready : goal.give_back-requires-clause-ready

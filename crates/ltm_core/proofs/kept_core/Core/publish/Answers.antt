@@ -1,10 +1,9 @@
-use Rattle.std.proofs.Common.{◌≡◌, ℕ, ◌∙◌, true, false, arith, ap, sym, subst, refl}
+use Rattle.std.proofs.Common.{◌≡◌, ℕ, ◌∙◌, arith, ap, sym, subst, refl}
 use Rattle.ltm_curve.specs.Counts.{Counts}
 use Rattle.ltm_loading.specs.Loading.{IsLoading}
 use Rattle.ltm_setting.specs.Setting.{setting_of}
 use Rattle.ltm_flows.specs.Shown.{Shows}
 use Rattle.ltm_core.specs.Log.{log_of, version_now}
-use Rattle.ltm_core.specs.Cores.{CoreData}
 use Rattle.ltm_core.proofs.Logs.{kept_version}
 use Rattle.ltm_core.proofs.Cores.{rest_here, not_resting_at}
 use Rattle.ltm_core.proofs.Showings.{ShowsTable, core_fits, core_agrees, core_after_publish, core_publishes_at}
