@@ -1,7 +1,6 @@
 -- What a claim and its commit do to a core, and what many of them do.
 use Rattle.std.proofs.Common.{◌≡◌, ℕ, ◌+◌, ◌-◌, ◌<◌, ◌^◌, min, Bool, List, [], ◌∷◌, ◌++◌, inl, inr, refl, ap, sym, subst, ◌∙◌, arith}
 use Rattle.std.specs.Prelude.{Option}
-use Rattle.ltm_curve.specs.Counts.{Counts}
 use Rattle.ltm_loading.specs.Setting.{Setting}
 use Rattle.ltm_repair.specs.State.{RepairState, now}
 use Rattle.ltm_repair.specs.Events.{CoreEvent, Look, Claim, Commit, SameBooks, Committed}
