@@ -1,0 +1,135 @@
+-- What a claim and its commit do to a core, and what many of them do.
+use Rattle.std.proofs.Common.{◌≡◌, ℕ, ◌+◌, ◌-◌, ◌<◌, ◌^◌, min, Bool, List, [], ◌∷◌, ◌++◌, inl, inr, refl, ap, sym, subst, ◌∙◌, arith}
+use Rattle.std.specs.Prelude.{Option}
+use Rattle.ltm_loading.specs.Setting.{Setting}
+use Rattle.ltm_repair.specs.State.{RepairState, now}
+use Rattle.ltm_repair.specs.Events.{CoreEvent, Look, Claim, Commit, SameBooks, Committed}
+use Rattle.ltm_repair.specs.Desk.{IsAtRest}
+use Rattle.ltm_repair.specs.Answers.{Got, NotYet, Rest, AnswersClaim, IsNoneClaimed}
+use Rattle.ltm_repair.specs.Runs.{in_all, batch_in, commit_in, commits_in}
+use Rattle.ltm_repair.proofs.Cases.{cases_pair}
+use Rattle.ltm_units.specs.declared.places.Pair.{Pair}
+use Rattle.ltm_core.specs.Cores.{CoreData, repair_of, IsResting, IsNoneOut, undone_of, IsCore}
+use Rattle.ltm_core.specs.declared.answers.Claimed.TheVariants.{Got as GotClaim, Rest as AtRest}
+use Rattle.ltm_core.specs.Claims.{ClaimData, ScratchData}
+use Rattle.ltm_core.specs.CoreAnswers.{answer_in, KeepsAll, CommitsDone}
+use Rattle.ltm_core.specs.Runs.{IsRun, CallsAreEvents, WorksOn, HoldsOfRuns, HoldsOfCore}
+use Rattle.ltm_workers.specs.Draining.{Works, CountsLeft, CountsDifferences}
+
+-- ---- runs one after another
+runs_join : (d m e : CoreData) (xs ys : List CoreEvent) → IsRun d xs m → IsRun m ys e → IsRun d (xs ++ ys) e
+runs_join d m e [] ys same run = subst (λ (z : CoreData). IsRun z ys e) same run
+runs_join d m e (x ∷ xs) ys (n, first, rest) run = (n, first, runs_join n m e xs ys rest run)
+
+in_all_joined : (f : CoreEvent → ℕ) (xs ys : List CoreEvent) → in_all f (xs ++ ys) ≡ in_all f xs + in_all f ys
+in_all_joined f [] ys = omega arith
+in_all_joined f (x ∷ xs) ys = let more : in_all f (xs ++ ys) ≡ in_all f xs + in_all f ys = in_all_joined f xs ys in omega arith
+
+-- ---- what stays
+pub works_none : (d : CoreData) (n : ℕ) → IsCore d → IsNoneOut d → n < 2 ^ 64 → Works d n d n
+works_none d n is none small = record {
+  events = [];
+  run = record { core = is; run = refl; no_batch = refl };
+  commits = omega arith;
+  steps = omega arith;
+  keeps = refl;
+  none_out = none;
+}
+
+pub works_more : (d m e : CoreData) (before between after : ℕ) → Works d before m between → Works m between e after → Works d before e after
+works_more d m e before between after p q =
+    let commits : commits_in (p.events ++ q.events) ≡ commits_in p.events + commits_in q.events = in_all_joined commit_in p.events q.events in
+    let batches : in_all batch_in (p.events ++ q.events) ≡ in_all batch_in p.events + in_all batch_in q.events = in_all_joined batch_in p.events q.events in
+    record {
+      events = p.events ++ q.events;
+      run = record {
+        core = p.run.core;
+        run = runs_join d m e p.events q.events p.run.run q.run.run;
+        no_batch = let a = p.run.no_batch in let b = q.run.no_batch in omega (a, b, batches, arith);
+      };
+      commits = let a = p.commits in let b = q.commits in omega (a, b, commits, arith);
+      steps = let a = p.steps in let b = q.steps in omega (a, b, commits, arith);
+      keeps = q.keeps ∙ ap (λ (z : CoreData). record z { table = e.table; commits = e.commits }) p.keeps;
+      none_out = q.none_out;
+    }
+
+-- ---- a claim and its commit
+same_now : (s e : RepairState) → SameBooks s e → now e ≡ now s
+same_now s e same = ap (λ (n : ℕ). e.settings n) same.accepted ∙ ap (λ (f : ℕ → Setting). f s.accepted) same.settings
+
+none_after : (s m e : RepairState) (u t ticket : ℕ) (row other : List ℕ) (wakes : ℕ → ℕ → Bool) → AnswersClaim s (Got u t ticket row) m → Committed m u t other wakes e → IsNoneClaimed (now s) s.desk → IsNoneClaimed (now e) e.desk
+none_after s m e u t ticket row other wakes claim commit none =
+    let P : Setting → Type 0 = λ z. IsNoneClaimed z e.desk in
+    subst P (sym (same_now m e commit.books ∙ same_now s m claim.only.books)) (λ w v x l. elim (cases_pair u t w v) [
+      | inl at ↦ rw (← at.0, ← at.1) commit.desk.free
+      | inr apart ↦
+          commit.desk.claimed w v apart
+          ∙ (claim.desk.2.others.claimed w v apart ∙ (ap (λ (f : ℕ → ℕ → Option (List ℕ)). f w v) claim.desk.1.drops.claimed ∙ none w v x l))
+    ])
+
+keeps_one : (d m e : CoreData) (pair : Pair) (row : List ℕ) → KeepsAll d m → CommitsDone m pair row e → (e.commits ≡ d.commits + 1) × (e ≡ record d { table = e.table; commits = e.commits })
+keeps_one d m e pair row same done =
+    let claimed : m.commits ≡ d.commits = ap (λ (z : CoreData). z.commits) same in
+    let counted : e.commits ≡ m.commits + 1 = ap (λ (z : CoreData). z.commits) done.keeps in (
+      omega (claimed, counted, arith),
+      done.keeps ∙ (ap (λ (n : ℕ). record m { table = e.table; commits = n }) (sym counted) ∙ ap (λ (z : CoreData). record z { table = e.table; commits = e.commits }) same),
+    )
+
+-- a pair was claimed and committed
+pub works_one : CallsAreEvents → HoldsOfRuns → (d m e : CoreData) (claim : ClaimData) (before after : ℕ) → IsCore d → IsNoneOut d →
+    AnswersClaim (repair_of d) (answer_in (GotClaim claim)) (repair_of m) → KeepsAll d m → CommitsDone m claim.pair claim.inputs.row e → after ≡ min (before + 1) (2 ^ 64 - 1) →
+    Works d before e after × (undone_of e < undone_of d)
+unfolding IsNoneOut
+works_one events runs d m e claim before after is none told same done ticks =
+    let u : ℕ = claim.pair.node.0 in
+    let t : ℕ = claim.pair.slot in
+    let kept = keeps_one d m e claim.pair claim.inputs.row same done in
+    let run : WorksOn d (Claim u t ∷ Commit u t ∷ []) e = record {
+      core = is;
+      run = (m, events.claim d m (GotClaim claim) told, (e, (claim.inputs.row, _, done.commits), refl));
+      no_batch = refl;
+    } in (
+      record {
+        events = Claim u t ∷ Commit u t ∷ [];
+        run = run;
+        commits = kept.0;
+        steps = ticks;
+        keeps = kept.1;
+        none_out = none_after (repair_of d) (repair_of m) (repair_of e) u t claim.ticket claim.inputs.row claim.inputs.row _ told done.commits none;
+      },
+      let fewer = runs.bounded d e (Claim u t ∷ Commit u t ∷ []) run in omega (fewer, arith),
+    )
+
+rests_after : (s e : RepairState) → AnswersClaim s Rest e → IsAtRest (now e) e.desk × IsNoneClaimed (now e) e.desk
+rests_after s e told =
+    let rest : IsAtRest (now e) e.desk = subst (λ (z : Setting). IsAtRest z e.desk) (sym (same_now s e told.only.books)) told.desk.1 in
+    (rest, λ u t x l. (rest u t x l).1)
+
+-- no pair was left to be worked on
+pub works_rest : CallsAreEvents → (d e : CoreData) (scratch : ScratchData) (n : ℕ) → IsCore d → n < 2 ^ 64 → AnswersClaim (repair_of d) Rest (repair_of e) → KeepsAll d e → Works d n e n × IsResting e
+unfolding IsNoneOut IsResting
+works_rest events d e scratch n is small told same =
+    let kept : e.commits ≡ d.commits = ap (λ (z : CoreData). z.commits) same in
+    let rest = rests_after (repair_of d) (repair_of e) told in (
+      record {
+        events = Look ∷ [];
+        run = record { core = is; run = (e, events.claim d e (AtRest scratch) told, refl); no_batch = refl };
+        commits = omega (kept, arith);
+        steps = omega (small, arith);
+        keeps = same ∙ ap (λ (n : ℕ). record d { table = e.table; commits = n }) (sym kept);
+        none_out = rest.1;
+      },
+      rest.0,
+    )
+
+-- no claim is out, so none is waited for
+pub never_waits : (d : CoreData) (e : RepairState) → IsNoneOut d → AnswersClaim (repair_of d) NotYet e → ⊥
+unfolding IsNoneOut
+never_waits d e none told = let out = told.not_yet.0 refl in out.1.3 (none out.1.0 out.0 out.1.1 out.1.2)
+
+-- ---- a drain
+pub counts_left : HoldsOfRuns → (d e : CoreData) (before after : ℕ) → Works d before e after → IsResting e → CountsLeft d e
+counts_left runs d e before after works rest c loading = let made = runs.drained d e works.events c works.run rest loading in let counted = works.commits in omega (made, counted, arith)
+
+pub counts_differences : (d e : CoreData) → HoldsOfCore d → CountsLeft d e → CountsDifferences d e
+counts_differences d e holds counts none before after first second = let made = counts after second in let differs = holds.uncounted none before after first second in omega (made, differs, none, arith)

@@ -1,0 +1,39 @@
+-- What work without other workers does to a core.
+use Rattle.std.specs.Prelude.{◌≡◌, ℕ, ◌+◌, ◌-◌, ◌<◌, ◌^◌, min, List}
+use Rattle.ltm_curve.specs.Counts.{Counts}
+use Rattle.ltm_loading.specs.Loading.{IsLoading}
+use Rattle.ltm_loading.specs.Differing.{differing}
+use Rattle.ltm_repair.specs.Events.{CoreEvent}
+use Rattle.ltm_repair.specs.Runs.{commits_in}
+use Rattle.ltm_core.specs.Log.{settled_of}
+use Rattle.ltm_core.specs.Settling.{setting_at}
+use Rattle.ltm_core.specs.Cores.{CoreData, IsResting, IsNoneOut, left_of, undone_of}
+use Rattle.ltm_core.specs.Runs.{setting_in, WorksOn}
+use Rattle.ltm_workers.specs.declared.draining.Turn.{Turn}
+use Rattle.ltm_workers.specs.declared.draining.Turn.TheVariants.{Worked, Rested}
+
+-- only events without a batch happened; the count of commits rose by the commits among them, and the counter of steps too,
+-- up to the greatest number that it has; all but the table and that count stays, and no claim is out
+pub record Works (old : CoreData) (before : ℕ) (new : CoreData) (after : ℕ) : Type 0 where
+  pub events : List CoreEvent
+  pub run : WorksOn old events new
+  pub commits : new.commits ≡ old.commits + commits_in events
+  pub steps : after ≡ min (before + commits_in events) (2 ^ 64 - 1)
+  pub keeps : new ≡ record old { table = new.table; commits = new.commits }
+  pub none_out : IsNoneOut new
+
+-- the commits are the pairs whose kept inputs were not those of the loading
+abbrev pub CountsLeft : CoreData → CoreData → Type 0
+CountsLeft old new = (c : Counts) → IsLoading (setting_in old) c → new.commits ≡ old.commits + left_of old c
+
+-- where none was made since the last settle count, the commits are the pairs by which the loading differs from the settled
+-- one
+abbrev pub CountsDifferences : CoreData → CoreData → Type 0
+CountsDifferences old new =
+    old.commits ≡ 0 → (before after : Counts) → IsLoading (setting_at old.log (settled_of old.log)) before → IsLoading (setting_in old) after →
+    new.commits ≡ differing (setting_at old.log (settled_of old.log)) (setting_in old) before after
+
+-- a pair was claimed and committed, and fewer are left; or none was left
+abbrev pub TellsTurn : CoreData → ℕ → Turn → CoreData → ℕ → Type 0
+TellsTurn old before (Worked scratch) new after = Works old before new after × (undone_of new < undone_of old)
+TellsTurn old before (Rested scratch) new after = Works old before new after × IsResting new

@@ -1,0 +1,81 @@
+//! Work without other workers.
+ghost use Rattle.std.specs.Prelude.{◌≡◌, ◌+◌, min};
+ghost use Rattle.ltm_core.specs.Cores.{IsNoneOut, IsResting};
+ghost use Rattle.ltm_core.specs.CoreAnswers.{IsKeptClaim, CommitsDone};
+ghost use Rattle.ltm_workers.specs.Draining.{Works, TellsTurn, CountsLeft, CountsDifferences};
+
+use crate::bench::Bench;
+use ltm_core::{Claim, Claimed, Committed, Core, Scratch, calls_are_events, runs_of_cores};
+use ltm_units::Steps;
+
+/// What became of a turn.
+pub(crate) enum Turn {
+    /// A pair was claimed and committed.
+    Worked(Scratch),
+    /// No pair is active or claimed.
+    Rested(Scratch),
+}
+
+/// Works on a claim that is kept, and commits it.
+fn finish(core: &mut Core, claim: Claim, steps: &mut Steps) -> Scratch
+    requires { IsKeptClaim core.old claim.pair claim.ticket claim.inputs }
+    ensures commits { CommitsDone core.old claim.pair claim.inputs.row core.new }
+    ensures ticks { steps.new ≡ min (steps.old + 1) u64.MAX }
+{
+    let done = claim.work(steps);
+    match core.commit(done) {
+        Committed::Ok(scratch) => return scratch,
+        Committed::Stale { .. } => unreachable!(),
+    }
+}
+
+/// Claims a pair, works on it and commits it, where there is one.
+fn work_once(core: &mut Core, scratch: Scratch, steps: &mut Steps) -> Turn
+    requires { IsNoneOut core.old }
+    ensures { TellsTurn core.old steps.old result core.new steps.new }
+{
+    calls_are_events();
+    runs_of_cores();
+    core.holds();
+    let _taken = steps.count();
+    match core.claim(scratch) {
+        Claimed::Got(claim) => return Turn::Worked(finish(core, claim, steps)),
+        Claimed::NotYet(_scratch) => unreachable!(),
+        Claimed::Rest(scratch) => return Turn::Rested(scratch),
+    }
+}
+
+/// Works until no pair is active or claimed.
+fn work_to_rest(core: &mut Core, scratch: Scratch, steps: &mut Steps) -> Scratch
+    requires { IsNoneOut core.old }
+    ensures works { Works core.old steps.old core.new steps.new }
+    ensures rest { IsResting core.new }
+{
+    core.holds();
+    let _taken = steps.count();
+    let mut scratch = scratch;
+    loop {
+        match work_once(core, scratch, steps) {
+            Turn::Worked(next) => scratch = next,
+            Turn::Rested(last) => return last,
+        }
+    }
+}
+
+/// Brings a core to rest, where no claim is out: claims a pair, works on it and commits it, until no pair is active or
+/// claimed. Each commit ticks the counter once. Takes no memory.
+pub fn drain(core: &mut Core, bench: &mut Bench, steps: &mut Steps)
+    requires { IsNoneOut core.old }
+    ensures works { Works core.old steps.old core.new steps.new }
+    ensures rest { IsResting core.new }
+    ensures count { CountsLeft core.old core.new }
+    ensures exact { CountsDifferences core.old core.new }
+{
+    runs_of_cores();
+    core.holds();
+    let Some(scratch) = bench.scratches[0].take() else {
+        unreachable!();
+    };
+    let scratch = work_to_rest(core, scratch, steps);
+    bench.scratches[0] = Some(scratch);
+}
