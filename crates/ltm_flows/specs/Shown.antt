@@ -1,12 +1,13 @@
 -- What a finished loading shows, and of which setting it is the loading.
-use Rattle.std.specs.Prelude.{◌≡◌, ℕ, ◌<◌, ◌≤◌, map, slice_index, false}
+use Rattle.std.specs.Prelude.{◌≡◌, ℕ, ◌-◌, ◌<◌, ◌≤◌, min, length, map, slice_index, false}
 use Rattle.ltm_curve.specs.declared.curves.Curves.{Curves}
 use Rattle.ltm_curve.specs.declared.changed.Changed.{Changed}
-use Rattle.ltm_curve.specs.Table.{counts_of, slots_of, IsIn}
+use Rattle.ltm_curve.specs.Table.{counts_of, groups_of, destinations_of, slots_of, room_of, SameShape, IsIn}
 use Rattle.ltm_curve.specs.Cells.{is_changed}
 use Rattle.ltm_loading.specs.Setting.{Setting}
 use Rattle.ltm_loading.specs.Loading.{IsLoading}
 use Rattle.ltm_loading.specs.Totals.{generated}
+use Rattle.ltm_loading.specs.Groups.{groups}
 use Rattle.ltm_flows.specs.Shaped.{IsShaped}
 use Rattle.ltm_flows.specs.declared.loading.Loading.{Loading}
 
@@ -37,6 +38,10 @@ free_of l link = slice_index (map (λ time. time.0) l.free.items) link
 abbrev pub generated_of : Loading → ℕ → ℕ
 generated_of l boundary = slice_index (map (λ units. units.0) l.generated.items) boundary
 
+-- for how many slots a loading has room
+abbrev pub loading_room : Loading → ℕ
+loading_room l = min (room_of l.curves) (length l.generated.items - 1)
+
 -- a loading is the one loading of a setting, under a version
 pub record Shows (s : Setting) (number : ℕ) (l : Loading) : Type 0 where
   pub version : version_of l ≡ number
@@ -48,12 +53,27 @@ pub record Shows (s : Setting) (number : ℕ) (l : Loading) : Type 0 where
   pub free : (i : ℕ) → i < s.links → free_of l i ≡ s.free_time i
   pub generated : (k : ℕ) → k ≤ s.slots → generated_of l k ≡ generated s k
 
--- a loading has the sizes of a setting
+-- a loading has the sizes of a setting, or fewer slots and room for those of the setting
 pub record Fits (s : Setting) (l : Loading) : Type 0 where
-  pub shape : IsShaped s (curves_of l)
+  pub groups : groups_of (curves_of l) ≡ groups s
+  pub destinations : destinations_of (curves_of l) ≡ s.destinations
+  pub slots : last_of l ≤ s.slots
+  pub room : s.slots ≤ loading_room l
   pub links : links_of l ≡ s.links
   pub nodes : nodes_of l ≡ s.nodes
 
--- outside the changed cells a loading has the counts of these curves
-abbrev pub AgreesOutside : Loading → Curves → Changed → Type 0
-AgreesOutside l c changed = (g d k : ℕ) → IsIn (curves_of l) g d k → is_changed changed g k ≡ false → counts_of (curves_of l) g d k ≡ counts_of c g d k
+-- outside the changed cells a loading has the counts of these curves, and those that it does not reach are 0
+pub record AgreesOutside (l : Loading) (c : Curves) (changed : Changed) : Type 0 where
+  pub agree : (g d k : ℕ) → IsIn (curves_of l) g d k → is_changed changed g k ≡ false → counts_of (curves_of l) g d k ≡ counts_of c g d k
+  pub beyond : (g d k : ℕ) → IsIn c g d k → last_of l < k → is_changed changed g k ≡ false → counts_of c g d k ≡ 0
+
+-- all that is read from a loading stays
+pub record SameLoading (old new : Loading) : Type 0 where
+  pub version : version_of new ≡ version_of old
+  pub step : step_of new ≡ step_of old
+  pub links : links_of new ≡ links_of old
+  pub nodes : nodes_of new ≡ nodes_of old
+  pub shape : SameShape (curves_of new) (curves_of old)
+  pub counts : counts_of (curves_of new) ≡ counts_of (curves_of old)
+  pub free : (i : ℕ) → free_of new i ≡ free_of old i
+  pub generated : (k : ℕ) → k ≤ last_of old → generated_of new k ≡ generated_of old k

@@ -1,5 +1,5 @@
 //! A finished loading, as others read it.
-ghost use Rattle.std.specs.Prelude.{◌≡◌, ◌≤◌, ◌<◌, ◌+◌, ◌*◌, ◌-◌, ℕ, length, IfOk};
+ghost use Rattle.std.specs.Prelude.{◌≡◌, ◌≤◌, ◌<◌, ◌+◌, ◌*◌, ◌-◌, ℕ, length, IfOk, OnOk};
 ghost use Rattle.ltm_units.specs.Sums.{sum_below};
 ghost use Rattle.ltm_curve.specs.Cells.{HasCells};
 ghost use Rattle.ltm_curve.specs.Table.{groups_of, destinations_of, slots_of, counts_of, total_of};
@@ -38,7 +38,7 @@ pub struct Loading {
     ghost few_destinations: { destinations_of curves ≤ 64 },
     ghost groups: { groups_of curves ≡ 2 * links + nodes + 1 },
     ghost times: { length free.items ≡ links },
-    ghost amounts: { length generated.items ≡ slots_of curves + 1 },
+    ghost amounts: { slots_of curves + 1 ≤ length generated.items },
     ghost small: { (g d k : ℕ) → g < groups_of curves → d < destinations_of curves → k ≤ slots_of curves
         → counts_of curves g d k ≤ 1600000000 },
     ghost rises: { (g d k : ℕ) → g < groups_of curves → d < destinations_of curves → k < slots_of curves
@@ -55,9 +55,11 @@ impl Loading {
       last_of,
       free_of,
       generated_of,
+      loading_room,
       Shows,
       Fits,
       AgreesOutside,
+      SameLoading,
     };
     ghost use Rattle.ltm_flows.specs.InAll.{AreTotals};
 
@@ -109,8 +111,39 @@ impl Loading {
         Loading::of(alloc, scenario, copy, version)
     }
 
-    /// Becomes the loading of another scenario with as many links, nodes, destinations and slots, from its finished
-    /// curves, of which the changed cells alone are copied: outside them the counts are the same. Takes no memory.
+    /// The greatest number of slots for which there is room.
+    #[inline]
+    pub fn room(&self) -> u32
+        ensures value { result ≡ loading_room self.now }
+        ensures within { last_of self.now ≤ result }
+    {
+        let curves = self.curves.room();
+        let amounts = self.generated.len() - 1;
+        if amounts < curves as usize {
+            amounts as u32
+        } else {
+            curves
+        }
+    }
+
+    /// Makes room for so many slots. Nothing else that is seen changes.
+    pub fn reserve(&mut self, slots: u32) -> Result<(), NoMemory>
+        ensures same { SameLoading self.old self.new }
+        ensures shows { (s : Setting) (version : ℕ) → Shows s version self.old → Shows s version self.new }
+        ensures room { OnOk result (slots ≤ loading_room self.new) }
+        ensures no_less { loading_room self.old ≤ loading_room self.new }
+    {
+        self.curves.reserve(slots)?;
+        let size = slots as usize + 1;
+        if size <= self.generated.len() {
+            return Ok(());
+        }
+        self.generated.resize(size, Units(0)).map_err(|_| NoMemory)
+    }
+
+    /// Becomes the loading of another scenario with as many links, nodes and destinations and no fewer slots, for which
+    /// there is room, from its finished curves, of which the changed cells alone are copied: outside them the counts are
+    /// the same, and at later boundaries 0. Takes no memory.
     pub fn refresh(&mut self, scenario: &Scenario, curves: &Curves, changed: &Changed, version: u64)
         requires fits { Fits (setting_of scenario.now) self.old }
         requires shape { IsShaped (setting_of scenario.now) curves.now }
@@ -125,6 +158,7 @@ impl Loading {
         is_setting(scenario);
         write_free_times(scenario, &mut self.free);
         write_generated(scenario, &mut self.generated);
+        self.curves.lengthen(curves.slots());
         self.curves.copy_changed(curves, changed);
         self.step = step(scenario);
         self.version = version;

@@ -36,7 +36,7 @@ fn clear(into: &mut [Units])
 
 /// Adds what the origin of a node has produced by each boundary.
 fn add_produced(scenario: &Scenario, node: NodeId, into: &mut [Units])
-    requires count { length into.old ≡ (setting_of scenario.now).slots + 1 }
+    requires count { (setting_of scenario.now).slots + 1 ≤ length into.old }
     requires few { node.0 < 8000 }
     requires small { (k : ℕ) → units_at into.old k ≤ node.0 * 10000000000000 }
     ensures sums { (k : ℕ) → k ≤ (setting_of scenario.now).slots → units_at into.new k
@@ -53,7 +53,7 @@ fn add_produced(scenario: &Scenario, node: NodeId, into: &mut [Units])
 /// Writes what all origins have produced by each boundary. An origin that has produced nothing by the last boundary is
 /// passed over.
 pub(crate) fn write_generated(scenario: &Scenario, into: &mut [Units])
-    requires { length into.old ≡ (setting_of scenario.now).slots + 1 }
+    requires { (setting_of scenario.now).slots + 1 ≤ length into.old }
     ensures { (k : ℕ) → k ≤ (setting_of scenario.now).slots → units_at into.new k ≡ generated (setting_of scenario.now) k }
 {
     is_setting(scenario);
