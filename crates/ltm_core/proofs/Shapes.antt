@@ -1,15 +1,13 @@
 -- Scenarios that are alike make settings of one size.
-use Rattle.std.proofs.Common.{◌≡◌, ℕ, ◌&&◌, refl, ap, sym, ◌∙◌}
+use Rattle.std.proofs.Common.{◌≡◌, ◌≤◌, ℕ, ◌&&◌, refl, ap, sym, ◌∙◌, arith}
 use Rattle.std.specs.Prelude.{nat_lt, nat_le}
-use Rattle.ltm_curve.specs.declared.curves.Curves.{Curves}
 use Rattle.ltm_curve.specs.Cells.{is_changed}
 use Rattle.ltm_scenario.specs.Data.{ScenarioData}
 use Rattle.ltm_loading.specs.Setting.{Setting}
 use Rattle.ltm_loading.specs.Groups.{groups}
 use Rattle.ltm_setting.specs.Setting.{setting_of}
-use Rattle.ltm_flows.specs.Shaped.{IsShaped}
 use Rattle.ltm_flows.specs.declared.loading.Loading.{Loading}
-use Rattle.ltm_flows.specs.Shown.{Shows, Fits}
+use Rattle.ltm_flows.specs.Shown.{last_of, loading_room, Shows, Fits}
 use Rattle.ltm_desk.specs.declared.table.Table.{Table}
 use Rattle.ltm_desk.specs.Desks.{changed_at}
 use Rattle.ltm_core.specs.Cores.{IsAlike}
@@ -41,17 +39,13 @@ same_sizes a b same = record {
   slots = same.slots;
 }
 
-shaped_next : (r s : Setting) (c : Curves) → SameSizes r s → IsShaped r c → IsShaped s c
-shaped_next r s c same shaped = record {
-  same_groups = shaped.same_groups ∙ sym same.groups;
-  same_destinations = shaped.same_destinations ∙ sym same.destinations;
-  same_slots = shaped.same_slots ∙ sym same.slots;
-}
-
 -- a loading has the sizes of every setting of those sizes
-pub shown_fits : (r s : Setting) (v : ℕ) (l : Loading) → SameSizes r s → Shows r v l → Fits s l
-shown_fits r s v l same shows = record {
-  shape = shaped_next r s _ same shows.shape;
+pub shown_fits : (r s : Setting) (v : ℕ) (l : Loading) → SameSizes r s → Shows r v l → last_of l ≤ loading_room l → Fits s l
+shown_fits r s v l same shows room = record {
+  groups = shows.shape.same_groups ∙ sym same.groups;
+  destinations = shows.shape.same_destinations ∙ sym same.destinations;
+  slots = omega (shows.shape.same_slots, same.slots, arith);
+  room = omega (shows.shape.same_slots, same.slots, room, arith);
   links = shows.links ∙ sym same.links;
   nodes = shows.nodes ∙ sym same.nodes;
 }

@@ -4,7 +4,7 @@ use Rattle.ltm_units.specs.Sums.{sum_below}
 use Rattle.ltm_units.proofs.Sums.{sum_below-zero}
 use Rattle.ltm_curve.specs.declared.curves.Curves.{Curves}
 use Rattle.ltm_curve.specs.declared.changed.Changed.{Changed}
-use Rattle.ltm_curve.specs.Table.{counts_of}
+use Rattle.ltm_curve.specs.Table.{counts_of, IsIn}
 use Rattle.ltm_curve.specs.Cells.{is_changed}
 use Rattle.ltm_loading.specs.Setting.{Setting}
 use Rattle.ltm_loading.specs.Groups.{groups}
@@ -12,8 +12,9 @@ use Rattle.ltm_loading.specs.Loading.{IsLoading}
 use Rattle.ltm_scenario.specs.Data.{ScenarioData}
 use Rattle.ltm_scenario.specs.IsScenario.{IsScenario}
 use Rattle.ltm_setting.specs.Setting.{setting_of}
+use Rattle.ltm_flows.specs.Shaped.{IsShaped}
 use Rattle.ltm_flows.specs.declared.loading.Loading.{Loading}
-use Rattle.ltm_flows.specs.Shown.{Shows, Fits, AgreesOutside, version_of, curves_of}
+use Rattle.ltm_flows.specs.Shown.{Shows, Fits, AgreesOutside, version_of, curves_of, last_of, loading_room}
 use Rattle.ltm_repair.specs.Desk.{IsAtRest}
 use Rattle.ltm_repair.specs.State.{RepairState, now, all_differences, IsSettleCount as IsCountOf}
 use Rattle.ltm_repair.specs.Repair.{IsRepair}
@@ -237,8 +238,8 @@ shown_sizes d is =
     same_sizes (scenario_at d.log (version_of d.shown)) d.scenario
     (alike_trans (scenario_at d.log (version_of d.shown)) d.log.opening d.scenario (alike_sym d.log.opening (scenario_at d.log (version_of d.shown)) (is.log.alike (version_of d.shown) low)) (core_shape d is))
 
-pub core_fits : (d : CoreData) → IsCore d → Fits (setting_of d.scenario) d.shown
-core_fits d is = fits_of (setting_at d.log (version_of d.shown)) (setting_of d.scenario) (version_of d.shown) d.shown (shown_sizes d is) is.shows
+pub core_fits : (d : CoreData) → IsCore d → last_of d.shown ≤ loading_room d.shown → Fits (setting_of d.scenario) d.shown
+core_fits d is room = fits_of (setting_at d.log (version_of d.shown)) (setting_of d.scenario) (version_of d.shown) d.shown (shown_sizes d is) is.shows room
 
 agrees_here : (d : CoreData) → now (repair_of d) ≡ setting_of d.scenario → IsRepair (repair_of d) → (g e k : ℕ) → g < groups (setting_of d.scenario) → e < (setting_of d.scenario).destinations →
     changed_at (setting_of d.scenario) d.table g k ≡ false → k ≤ (setting_at d.log (version_of d.shown)).slots → counts_of (curves_of d.shown) g e k ≡ (desk_in d).counts g e k
@@ -248,16 +249,25 @@ agrees_here d at is =
     k ≤ (setting_at d.log (version_of d.shown)).slots → counts_of (curves_of d.shown) g e k ≡ (desk_in d).counts g e k in
     subst P at is.shows.agree
 
-pub core_agrees : (d : CoreData) (c : Curves) (x : Changed) → IsCore d → (desk_in d).counts ≡ counts_of c →
-    ((g k : ℕ) → g < groups (setting_of d.scenario) → k ≤ (setting_of d.scenario).slots → is_changed x g k ≡ changed_at (setting_of d.scenario) d.table g k) → AgreesOutside d.shown c x
-core_agrees d c x is same cells g e k inside off =
-    let fits : Fits (setting_of d.scenario) d.shown = core_fits d is in
+agrees_in : (d : CoreData) (c : Curves) (x : Changed) → IsCore d → (desk_in d).counts ≡ counts_of c →
+    ((g k : ℕ) → g < groups (setting_of d.scenario) → k ≤ (setting_of d.scenario).slots → is_changed x g k ≡ changed_at (setting_of d.scenario) d.table g k) →
+    (g e k : ℕ) → IsIn (curves_of d.shown) g e k → is_changed x g k ≡ false → counts_of (curves_of d.shown) g e k ≡ counts_of c g e k
+agrees_in d c x is same cells g e k inside off =
     let sizes : SameSizes (setting_at d.log (version_of d.shown)) (setting_of d.scenario) = shown_sizes d is in
-    let in_groups : g < groups (setting_of d.scenario) = omega (inside.is_group, fits.shape.same_groups, arith) in
-    let in_destinations : e < (setting_of d.scenario).destinations = omega (inside.is_destination, fits.shape.same_destinations, arith) in
-    let in_slots : k ≤ (setting_of d.scenario).slots = omega (inside.is_boundary, fits.shape.same_slots, arith) in
-    let in_shown : k ≤ (setting_at d.log (version_of d.shown)).slots = omega (in_slots, sizes.slots, arith) in
+    let in_groups : g < groups (setting_of d.scenario) = omega (inside.is_group, is.shows.shape.same_groups, sizes.groups, arith) in
+    let in_destinations : e < (setting_of d.scenario).destinations = omega (inside.is_destination, is.shows.shape.same_destinations, sizes.destinations, arith) in
+    let in_shown : k ≤ (setting_at d.log (version_of d.shown)).slots = omega (inside.is_boundary, is.shows.shape.same_slots, arith) in
+    let in_slots : k ≤ (setting_of d.scenario).slots = omega (in_shown, sizes.slots, arith) in
     agrees_here d (core_now d is) is.repair g e k in_groups in_destinations (sym (cells g k in_groups in_slots) ∙ off) in_shown ∙ ap (λ (f : ℕ → ℕ → ℕ → ℕ). f g e k) same
+
+pub core_agrees : (d : CoreData) (c : Curves) (x : Changed) → IsCore d → IsShaped (setting_of d.scenario) c → (desk_in d).counts ≡ counts_of c →
+    ((g k : ℕ) → g < groups (setting_of d.scenario) → k ≤ (setting_of d.scenario).slots → is_changed x g k ≡ changed_at (setting_of d.scenario) d.table g k) → AgreesOutside d.shown c x
+core_agrees d c x is shape same cells =
+    let sizes : SameSizes (setting_at d.log (version_of d.shown)) (setting_of d.scenario) = shown_sizes d is in
+    record {
+      agree = agrees_in d c x is same cells;
+      beyond = λ g e k inside late off. absurd (omega (inside.is_boundary, shape.same_slots, late, is.shows.shape.same_slots, sizes.slots, arith));
+    }
 
 -- ---- settle counts that are exact
 pub settle_counts_are_exact : SettleCountsAreExact

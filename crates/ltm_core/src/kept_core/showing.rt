@@ -30,6 +30,7 @@ impl Core {
             return Published::NotAtRest;
         }
         let version = self.batches.len() as u64;
+        let _room = self.shown.room();
         self.shown.refresh(
             &self.scenario,
             self.table.curves(),

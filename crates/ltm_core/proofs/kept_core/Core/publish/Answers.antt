@@ -16,7 +16,7 @@ pub returns-then-not-is_at_rest-clause-answer : goal.returns-then-not-is_at_rest
 returns-then-not-is_at_rest-clause-answer c = (not_resting_at _ _ c.is_at_rest.result c.self.view_is c.self.invariant.0 c.is_at_rest.ensures c.if-not-is_at_rest.true, refl)
 
 pub refresh-requires-clause-fits : goal.refresh-requires-clause-fits
-refresh-requires-clause-fits c = core_fits _ c.self.invariant.0
+refresh-requires-clause-fits c = core_fits _ c.self.invariant.0 (omega (c.room-_room.ensures.value, c.room-_room.ensures.within, arith))
 
 pub refresh-requires-clause-loading : goal.refresh-requires-clause-loading
 refresh-requires-clause-loading c =
@@ -25,7 +25,7 @@ refresh-requires-clause-loading c =
 
 pub refresh-requires-clause-outside : goal.refresh-requires-clause-outside
 refresh-requires-clause-outside c =
-    core_agrees _ c.curves.result.now c.cells.result.now c.self.invariant.0 (c.curves.ensures.counts (setting_of c.self.inside.scenario))
+    core_agrees _ c.curves.result.now c.cells.result.now c.self.invariant.0 (c.curves.ensures.shape (setting_of c.self.inside.scenario) c.self.invariant.0.ready) (c.curves.ensures.counts (setting_of c.self.inside.scenario))
     (λ g k x l. c.cells.ensures.changed (setting_of c.self.inside.scenario) g k x l)
 
 version_is : (c : goal.After-clear_changed) → c.len-version.result ≡ version_now (log_of c.self.inside.opening c.self.inside.batches.items c.self.inside.marks.items)
