@@ -42,8 +42,8 @@ use Rattle.ltm_desk.proofs.Bools.{or_right, or_left, or_one, and_false, and_both
 use Rattle.ltm_desk.proofs.Noting.{cells_stay}
 use Rattle.ltm_desk.proofs.Standing.{placed_here, other_places}
 use Rattle.ltm_desk.proofs.Reading.{SetsOutputs, ArePlaced, arm_is, out_is, sink_is, wakes_are_readers, early, early_reads}
-use Rattle.ltm_desk.proofs.Desks.{of_pair, past_pair, same_of_pairs, cases_pairs, claimed_is, claim_same, claim_off, claimed_row, same_claim, idle_here}
-use Rattle.ltm_desk.proofs.Dropping.{pair_test, other_test, and_not}
+use Rattle.ltm_desk.proofs.Desks.{of_pair, past_pair, same_of_pairs, cases_pairs, claimed_is, claimed_pair, claimed_on, claim_same, claim_off, claimed_row, same_claim, idle_here}
+use Rattle.ltm_desk.proofs.Dropping.{pair_test, other_test, and_not, same_some}
 use Rattle.ltm_desk.proofs.Taking.{rows_stay, one_slot}
 
 -- ---- the outputs stand in the counts
@@ -325,3 +325,10 @@ commits_cells s t u v n o x h m f c k is g b =
 pub claim_inputs : (s : Setting) (t : Table) (u v : ℕ) (n : Inputs) → IsReady s t → (desk_at s t).claimed u v ≡ Some n.row → n.shape ≡ shape_at s u → IsPairInputs s (counts_of t.curves) u v n
 unfolding desk_at
 claim_inputs s t u v n ready some shape = record { shape = shape; row = (ready.sound.claims u v n.row some).now }
+
+-- the row that is kept beside a claim is that of the claim
+pub row_is_claimed : (s : Setting) (t : Table) (u v : ℕ) (row : List ℕ) → IsReady s t → (desk_at s t).claimed u v ≡ Some row → row_of t.claims u 0 ≡ row
+row_is_claimed s t u v row ready some =
+    let at = claimed_pair s t u v (λ none. cc) in
+    let on : is_claimed t.frontier u v ≡ true = claimed_on s t u v at.0 at.1 (λ none. cc) in
+    same_some (row_of t.claims u 0) row (sym (claimed_row s t u v at.0 at.1 on) ∙ some)

@@ -184,7 +184,7 @@ most_wide s u is x =
     let outs : s.outs u * d ≤ 4 * d = mul-le-mul_right d (is.small.few_outs u x) in
     omega (arith, arms, outs, is.small.few_destinations, is.small.few_ins u x, is.small.few_outs u x)
 
-same_some : (x y : List ℕ) → Some x ≡ Some y → x ≡ y
+pub same_some : (x y : List ℕ) → Some x ≡ Some y → x ≡ y
 same_some x y e = cc
 
 -- kept inputs that are those that stand ready

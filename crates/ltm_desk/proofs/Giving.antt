@@ -15,7 +15,7 @@ use Rattle.ltm_desk.specs.Desks.{desk_at, place_of}
 use Rattle.ltm_desk.specs.Ready.{IsReady}
 use Rattle.ltm_desk.proofs.Bools.{or_false, or_right, and_false}
 use Rattle.ltm_desk.proofs.Desks.{cases_pairs, active_is, claimed_is, claimed_past, claim_same, claim_on, claim_off, claimed_pair, same_active, same_claim}
-use Rattle.ltm_desk.proofs.Dropping.{pair_test, other_test, and_not}
+use Rattle.ltm_desk.proofs.Dropping.{pair_test, other_test, and_not, same_some}
 
 pub gives_desk : (s : Setting) (t : Table) (u v : ℕ) (m f : Frontier) → IsReady s t → (desk_at s t).claimed u v ≢ None → Releases t.frontier m u v → Activates m f (is_pair u v) →
     GivesBack (desk_at s t) u v (desk_at s (record t { frontier = f }))
@@ -58,9 +58,6 @@ gives_ready s t u v m f ready frees marks gives = record {
 }
 
 -- ---- whether a pair is held
-same_some : (x y : List ℕ) → Some x ≡ Some y → x ≡ y
-same_some x y e = cc
-
 pub held : (s : Setting) (t : Table) (u v : ℕ) (row mine : List ℕ) (r : Bool) → u < s.nodes → v < s.slots → is_claimed t.frontier u v ≡ true → mine ≡ row_of t.claims u 0 → (IsTrue r ↔ (mine ≡ row)) →
     IsTrue r ↔ ((desk_at s t).claimed u v ≡ Some row)
 held s t u v row mine r x l on same told =

@@ -1,5 +1,7 @@
 pub mod Bools
 pub mod RowPlaces
+pub mod Smalls
+pub mod SameRows
 pub mod Startings
 pub mod Activating
 pub mod Noting

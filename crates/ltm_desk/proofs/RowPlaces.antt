@@ -9,7 +9,7 @@ use Rattle.ltm_desk.specs.declared.rows.KeptRows.{KeptRows}
 use Rattle.ltm_desk.specs.Rows.{slot_width, nodes_of, slots_of, width_of, start_of, row_of, PutsRow}
 
 -- a part of a list, number by number
-length_part : (xs : List ℕ) (a w : ℕ) → a + w ≤ length xs → length (slice_range xs a (a + w)) ≡ w
+pub length_part : (xs : List ℕ) (a w : ℕ) → a + w ≤ length xs → length (slice_range xs a (a + w)) ≡ w
 length_part xs a w l = let e : a + w - a ≡ w = omega arith in omega (length-take-le (a + w - a) (drop a xs) (omega (length-drop a xs, e, l, arith)), e, arith)
 
 part_at : (xs : List ℕ) (a w i : ℕ) → i < w → get_or (slice_range xs a (a + w)) i 0 ≡ slice_index xs (a + i)

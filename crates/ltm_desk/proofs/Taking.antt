@@ -2,8 +2,10 @@
 use Rattle.std.proofs.Common.{◌≡◌, ◌≢◌, ℕ, ◌<◌, ◌==◌, ◌&&◌, ◌||◌, not, List, true, false, refl, ap, sym, ◌∙◌, arith, inl, inr}
 use Rattle.std.specs.Prelude.{Some}
 use Rattle.std.proofs.lemmas.Bool.{cases_lt, cases_eq, cases_Bool, eqb-true}
+use Rattle.ltm_curve.specs.Table.{counts_of}
 use Rattle.ltm_node.specs.Inputs.{Inputs}
 use Rattle.ltm_loading.specs.Setting.{Setting}
+use Rattle.ltm_loading.specs.Pairs.{pair_row}
 use Rattle.ltm_frontier.specs.declared.frontier.Frontier.{Frontier}
 use Rattle.ltm_frontier.specs.Frontier.{nodes_of as nodes_in, slots_of as slots_in, is_active, is_claimed, is_pair, ClaimsAreOf, ClaimsPair}
 use Rattle.ltm_frontier.specs.Claims.{has_node, slot_in}
@@ -49,6 +51,11 @@ one_claimed s t slot ready one w v x on =
           one v (w, node, l, λ none. cc)
       | inr late ↦ absurd (omega (arith, claimed_slot t.frontier w v x on, late, ready.fits.frontier.slots))
     ]
+
+-- the inputs of a pair to be worked on are what it reads
+pub work_row : (s : Setting) (t : Table) (u v : ℕ) (n : Inputs) → IsWork s (desk_at s t) u v n → n.row ≡ pair_row s (counts_of t.curves) u v
+unfolding desk_at
+work_row s t u v n work = work.inputs.row
 
 pub takes_desk : (s : Setting) (t : Table) (u v : ℕ) (n : Inputs) (f : Frontier) (k : KeptRows) → IsReady s t → v < s.slots → IsIdleBefore s (desk_at s t) v → IsWork s (desk_at s t) u v n →
     ClaimsAreOf t.frontier v → ClaimsPair t.frontier f u v → PutsRow t.claims k u 0 n.row → TakesClaim s (desk_at s t) u v n.row (desk_at s (record t { frontier = f; claims = k }))

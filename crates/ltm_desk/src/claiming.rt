@@ -64,7 +64,10 @@ impl Table {
             };
             let pair = Pair { node, slot };
             inputs_of(scenario, &self.curves, pair, inputs);
-            if !inputs.same(self.kept.row(node.0 as usize, slot as usize)) {
+            if !self
+                .kept
+                .is_row(node.0 as usize, slot as usize, inputs.row())
+            {
                 return Some(node);
             }
             self.drop_settled(scenario, pair);
@@ -85,6 +88,7 @@ impl Table {
             (desk_at (setting_of scenario.now) self.new) }
         ensures changed { changed_at (setting_of scenario.now) self.new ≡ changed_at (setting_of scenario.now) self.old }
     {
+        is_setting(scenario);
         self.claims.put(pair.node.0 as usize, 0, inputs.row());
         self.frontier.claim_mark(pair);
     }

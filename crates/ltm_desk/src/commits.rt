@@ -54,11 +54,9 @@ impl Table {
             &mut self.frontier,
         );
         apply(scenario, &mut self.curves, pair, outputs);
-        self.kept.put(
-            pair.node.0 as usize,
-            pair.slot as usize,
-            solved.inputs().row(),
-        );
+        let node = pair.node.0 as usize;
+        self.kept
+            .copy(node, pair.slot as usize, self.claims.row(node, 0));
         self.frontier.release(pair);
     }
 }

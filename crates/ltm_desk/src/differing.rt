@@ -1,30 +1,17 @@
 //! Which counts of a pair differ from those that are to be set.
-ghost use Rattle.std.specs.Prelude.{◌≡◌, ◌==◌, ◌&&◌, ◌<◌, ◌≤◌, length, slice_index, not};
+ghost use Rattle.std.specs.Prelude.{◌≡◌, ◌==◌, ◌&&◌, ◌<◌, ◌≤◌, length, slice_index};
 ghost use Rattle.ltm_curve.specs.Table.{groups_of, destinations_of, slots_of, counts_of};
 ghost use Rattle.ltm_curve.specs.Cells.{HasCells};
 ghost use Rattle.ltm_loading.specs.Groups.{arr_of, groups};
 ghost use Rattle.ltm_setting.specs.Setting.{setting_of};
 ghost use Rattle.ltm_flows.specs.Shaped.{IsShaped};
-ghost use Rattle.ltm_pairs.specs.Changes.{some_below};
 ghost use Rattle.ltm_desk.specs.Waking.{row_differs, sink_differs, is_cell, PutsCells};
 
+use crate::comparing::differs;
 use ltm_curve::{Changed, Curves};
 use ltm_scenario::Scenario;
 use ltm_setting::{link_count, node_count, own};
 use ltm_units::NodeId;
-
-/// Whether some number of a row is another one than stands beside it.
-fn differs(counts: &[u32], others: &[u64]) -> bool
-    requires { length counts.now ≡ length others.now }
-    ensures { result ≡ some_below (length counts.now) (λ d. not (slice_index counts.now d == slice_index others.now d)) }
-{
-    for destination in 0..counts.len() {
-        if u64::from(counts[destination]) != others[destination] {
-            return true;
-        }
-    }
-    false
-}
 
 /// Whether a row of counts is another one than a group has at a boundary; if so the cell is noted as changed.
 pub(crate) fn note(

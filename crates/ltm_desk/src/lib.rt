@@ -10,6 +10,7 @@
 mod batches;
 mod claiming;
 mod commits;
+mod comparing;
 mod differing;
 mod found;
 mod laws;

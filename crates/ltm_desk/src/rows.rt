@@ -1,24 +1,25 @@
 //! Rows of numbers, one for each pair of node and slot.
-ghost use Rattle.std.specs.Prelude.{◌≡◌, ℕ, ◌+◌, ◌-◌, ◌*◌, ◌<◌, ◌≤◌, length, slice_index, IfOk};
+ghost use Rattle.std.specs.Prelude.{◌≡◌, ℕ, ◌+◌, ◌-◌, ◌*◌, ◌^◌, ◌<◌, ◌≤◌, ◌↔◌, length, slice_index, IfOk, IsTrue};
 ghost use Rattle.ltm_node.specs.Shape.{width};
 ghost use Rattle.ltm_loading.specs.Setting.{IsSetting};
 ghost use Rattle.ltm_loading.specs.Pairs.{shape_at};
 ghost use Rattle.ltm_setting.specs.Setting.{setting_of};
 ghost use Rattle.ltm_desk.specs.Starts.{AreStarts};
 
+use crate::comparing::{same_row, write_row};
 use ltm_inputs::shape_of;
 use ltm_scenario::Scenario;
 use ltm_setting::{is_setting, node_count};
 use ltm_units::{NoMemory, NodeId};
 use std::alloc::Global;
 
-/// A row of numbers for each pair of node and slot. All rows of one slot lie side by side, so that a repair walks through
-/// memory in order and further slots can be added at the end.
+/// A row of numbers for each pair of node and slot, in 32 bits each. All rows of one slot lie side by side, so that a repair
+/// walks through memory in order and further slots can be added at the end.
 #[derive(Drop)]
 pub struct KeptRows {
     starts: Vec<usize>,
     slots: usize,
-    numbers: Vec<u64>,
+    numbers: Vec<u32>,
     ghost some: { 0 < length starts.items },
     ghost rising: { (u w : ℕ) → u ≤ w → w < length starts.items → slice_index starts.items u ≤ slice_index starts.items w },
     ghost long: { length numbers.items ≡ slots * slice_index starts.items (length starts.items - 1) },
@@ -50,12 +51,12 @@ fn width_of(scenario: &Scenario, node: NodeId) -> usize
 }
 
 /// So many zeros.
-fn zeros(alloc: Global, slots: usize, width: usize) -> Result<Vec<u64>, NoMemory>
+fn zeros(alloc: Global, slots: usize, width: usize) -> Result<Vec<u32>, NoMemory>
     requires slots { slots ≤ 10000 }
     requires width { width ≤ 9296000 }
     ensures { IfOk result (λ numbers. length numbers.items ≡ slots * width) }
 {
-    vec![in alloc; 0u64; slots * width].map_err(|_| NoMemory)
+    vec![in alloc; 0u32; slots * width].map_err(|_| NoMemory)
 }
 
 impl KeptRows {
@@ -101,19 +102,42 @@ impl KeptRows {
     }
 
     /// The row of a pair.
-    #[tactic(auto, unfolding(crate::specs::Rows::row_of))]
-    pub fn row(&self, node: usize, slot: usize) -> &[u64]
+    #[tactic(auto, unfolding(crate::specs::Rows::row_of), using(crate::proofs::RowPlaces::length_part))]
+    pub fn row(&self, node: usize, slot: usize) -> &[u32]
         requires node { node < nodes_of self.now }
         requires slot { slot < slots_of self.now }
-        ensures { result.now ≡ row_of self.now node slot }
+        ensures row { result.now ≡ row_of self.now node slot }
+        ensures width { length result.now ≡ width_of self.now node }
     {
         let from = self.start(node, slot);
         let to = from + self.width(node);
         &self.numbers[from..to]
     }
 
+    /// Whether the row of a pair is this one.
+    pub fn is_row(&self, node: usize, slot: usize, row: &[u64]) -> bool
+        requires node { node < nodes_of self.now }
+        requires slot { slot < slots_of self.now }
+        ensures { IsTrue result ↔ row_of self.now node slot ≡ row.now }
+    {
+        same_row(self.row(node, slot), row)
+    }
+
     /// Puts a row in the place of a pair's, and changes no other.
     pub fn put(&mut self, node: usize, slot: usize, row: &[u64])
+        requires node { node < nodes_of self.old }
+        requires slot { slot < slots_of self.old }
+        requires width { length row.now ≡ width_of self.old node }
+        requires small { (i : ℕ) → i < length row.now → slice_index row.now i < 2 ^ 32 }
+        ensures { PutsRow self.old self.new node slot row.now }
+    {
+        let from = self.start(node, slot);
+        let to = from + self.width(node);
+        write_row(&mut self.numbers[from..to], row);
+    }
+
+    /// Puts a row of another table in the place of a pair's, and changes no other.
+    pub fn copy(&mut self, node: usize, slot: usize, row: &[u32])
         requires node { node < nodes_of self.old }
         requires slot { slot < slots_of self.old }
         requires width { length row.now ≡ width_of self.old node }

@@ -28,13 +28,6 @@ use std::alloc::Global;
 /// The greatest count of numbers that the inputs of a pair are: room for them serves every claim.
 pub const WIDEST: u32 = 1162;
 
-/// Whether two rows are equal.
-fn same_row(a: &[u64], b: &[u64]) -> bool
-    ensures { IsTrue result ↔ a.now ≡ b.now }
-{
-    a == b
-}
-
 /// What a repair works on: the counts, the inputs that are kept of each pair, the active and the claimed pairs with the
 /// inputs of the claims, for each link and boundary the slots that read there, and the cells that commits have changed.
 #[derive(Drop)]
@@ -162,7 +155,7 @@ impl Table {
         if !self.frontier.is_claimed(pair) {
             return false;
         }
-        same_row(self.claims.row(pair.node.0 as usize, 0), row)
+        self.claims.is_row(pair.node.0 as usize, 0, row)
     }
 
     /// Makes a claimed pair active again.

@@ -1,5 +1,6 @@
 -- How many nodes have a mark.
-use Rattle.std.proofs.Common.{◌≡◌, ℕ, ◌+◌, ◌<◌, ◌≤◌, Bool, true, false, ap, sym, arith}
+use Rattle.std.proofs.Common.{◌≡◌, ℕ, ◌+◌, ◌<◌, ◌≤◌, Bool, true, false, ap, sym, arith, inl, inr}
+use Rattle.std.proofs.lemmas.Bool.{cases_Bool}
 use Rattle.ltm_units.specs.Sums.{sum_below}
 use Rattle.ltm_units.proofs.Sums.{sum_below-change, sum_below-zero, sum_below-most, le-sum_below}
 use Rattle.ltm_marks.specs.declared.marks.Marks.{Marks}
@@ -22,6 +23,13 @@ some_marked m u x is = omega (arith, le-sum_below (width_of m) (λ w. one_if (is
 
 pub none_marked_count : (m : Marks) → ((u : ℕ) → is_marked m u 0 ≡ false) → 0 ≡ marked m
 none_marked_count m none = sym (sum_below-zero (width_of m) (λ u. one_if (is_marked m u 0)) (λ k x. ap one_if (none k)))
+
+-- where none is counted none is marked
+pub none_counted : (m : Marks) → marked m ≡ 0 → (u : ℕ) → u < width_of m → is_marked m u 0 ≡ false
+none_counted m none u x = elim (cases_Bool (is_marked m u 0)) [
+  | inl is ↦ let some : 1 ≤ marked m = some_marked m u x is in absurd (omega (arith, some, none))
+  | inr off ↦ off
+]
 
 -- one mark more, or one less
 pub set_counts : (old new : Marks) (u : ℕ) (was is : Bool) → rows_of old ≡ 1 → u < width_of old → is_marked old u 0 ≡ was → SetsMark old new u 0 is → marked new + one_if was ≡ marked old + one_if is

@@ -48,6 +48,9 @@ impl Claims {
     pub fn first(&self) -> Option<u32>
         ensures { MatchOption result (NoneClaimed self.now) (λ u. (u < width self.now) × (has_node self.now u ≡ true)) }
     {
+        if self.count == 0 {
+            return None;
+        }
         match self.nodes.next_marked(0, 0) {
             Some(node) => Some(node as u32),
             None => None,

@@ -1,9 +1,20 @@
-use Rattle.std.proofs.Common.{List, ℕ, ◌∙◌, subst}
+use Rattle.std.proofs.Common.{List, ℕ, slice_index, ap, ◌∙◌, subst, arith}
 use Rattle.ltm_curve.specs.Table.{counts_of}
+use Rattle.ltm_loading.proofs.Front.{earlier_front}
 use Rattle.ltm_setting.specs.Setting.{setting_of}
 use Rattle.ltm_desk.specs.Rows.{PutsRow}
+use Rattle.ltm_desk.proofs.Smalls.{row_small}
 use Rattle.ltm_desk.proofs.Beginnings.{keeps_next}
 use Rattle.ltm_desk.proofs.opening.keep_pair.Goals as goal
+
+pub put-requires-clause-small : goal.put-requires-clause-small
+put-requires-clause-small c = λ i l.
+    let s = setting_of c.args.scenario.now in
+    omega (
+      arith,
+      ap (λ (z : List ℕ). slice_index z i) (c.row.ensures.row ∙ c.inputs_of.ensures.inputs.row),
+      row_small s (counts_of c.args.curves.now) c.args.pair.slot c.args.pair.node.0 c.requires.setting (earlier_front s (counts_of c.args.curves.now) s.slots c.args.pair.slot c.requires.loading.front (omega (arith, c.requires.slot))) c.requires.slot c.requires.node i,
+    )
 
 pub returns-clause-keeps : goal.returns-clause-keeps
 returns-clause-keeps c =

@@ -12,7 +12,7 @@ use Rattle.ltm_desk.specs.Rows.{PutsRow}
 use Rattle.ltm_desk.specs.Desks.{desk_at}
 use Rattle.ltm_desk.proofs.Desks.{claimed_on}
 use Rattle.ltm_desk.proofs.Dropping.{at_front}
-use Rattle.ltm_desk.proofs.Committing.{CommitsTable, commits_desk, commits_ready, commits_cells, claim_inputs}
+use Rattle.ltm_desk.proofs.Committing.{CommitsTable, commits_desk, commits_ready, commits_cells, claim_inputs, row_is_claimed}
 use Rattle.ltm_desk.proofs.table.Table.commit.Goals as goal
 
 pub place_pair-requires-clause-ready : goal.place_pair-requires-clause-ready
@@ -63,14 +63,21 @@ apply-requires-clause-no_sink c own =
     none_arrived s (counts_of c.args.self.now.curves) c.args.pair.node.0 c.args.pair.slot c.args.solved.now.inputs c.outputs-outputs.result.now c.inputs_by_place.ensures c.no_arrivals.ensures
     (claim_inputs s c.args.self.now c.args.pair.node.0 c.args.pair.slot c.args.solved.now.inputs c.requires.ready c.requires.claimed c.requires.shape) step own
 
-pub put-requires-clause-node : goal.put-requires-clause-node
-put-requires-clause-node c =
+pub row-requires-clause-node : goal.row-requires-clause-node
+row-requires-clause-node c =
+    omega (arith, (c.requires.ready.sound.claims c.args.pair.node.0 c.args.pair.slot c.args.solved.now.inputs.row c.requires.claimed).is_node, c.requires.ready.fits.claims.nodes)
+
+pub row-requires-clause-slot : goal.row-requires-clause-slot
+row-requires-clause-slot c = omega (arith, c.requires.ready.fits.claims.same_slots)
+
+pub copy-requires-clause-node : goal.copy-requires-clause-node
+copy-requires-clause-node c =
     omega (arith, (c.requires.ready.sound.claims c.args.pair.node.0 c.args.pair.slot c.args.solved.now.inputs.row c.requires.claimed).is_node, c.requires.ready.fits.kept.nodes)
 
-pub put-requires-clause-width : goal.put-requires-clause-width
-put-requires-clause-width c =
+pub copy-requires-clause-width : goal.copy-requires-clause-width
+copy-requires-clause-width c =
     let node = (c.requires.ready.sound.claims c.args.pair.node.0 c.args.pair.slot c.args.solved.now.inputs.row c.requires.claimed).is_node in
-    c.row.ensures.width ∙ (ap (λ (n : Inputs). width n.shape) c.inputs.ensures.inputs ∙ (ap width c.requires.shape ∙ sym (c.requires.ready.fits.kept.widths c.args.pair.node.0 node)))
+    c.row.ensures.width ∙ (c.requires.ready.fits.claims.widths c.args.pair.node.0 node ∙ sym (c.requires.ready.fits.kept.widths c.args.pair.node.0 node))
 
 pub release-requires-clause-node : goal.release-requires-clause-node
 release-requires-clause-node c =
@@ -83,7 +90,7 @@ release-requires-clause-claimed c =
     c.wake.ensures.wakes.claims.pairs c.args.pair.node.0 c.args.pair.slot
     ∙ claimed_on s c.args.self.now c.args.pair.node.0 c.args.pair.slot claim.is_node claim.is_slot (λ none. let some : (desk_at s c.args.self.now).claimed c.args.pair.node.0 c.args.pair.slot ≡ Some c.args.solved.now.inputs.row = c.requires.claimed in cc)
 
-all_set : (c : goal.After-release) → CommitsTable (setting_of c.args.scenario.now) c.args.self.now c.args.pair.node.0 c.args.pair.slot c.args.solved.now.inputs c.outputs-outputs.result.now c.place_pair.new.index c.wake.new.changed c.wake.new.frontier c.release.new.self c.apply.new.curves c.put.new.self
+all_set : (c : goal.After-release) → CommitsTable (setting_of c.args.scenario.now) c.args.self.now c.args.pair.node.0 c.args.pair.slot c.args.solved.now.inputs c.outputs-outputs.result.now c.place_pair.new.index c.wake.new.changed c.wake.new.frontier c.release.new.self c.apply.new.curves c.copy.new.self
 all_set c =
     let s = setting_of c.args.scenario.now in
     let step : IsNodeStep c.args.solved.now.inputs c.outputs-outputs.result.now = subst (λ (o : Outputs). IsNodeStep c.args.solved.now.inputs o) (sym c.outputs-outputs.ensures.outputs) c.outputs-outputs.ensures.step in
@@ -99,7 +106,7 @@ all_set c =
       wakes = c.wake.ensures.wakes;
       shaped = c.apply.ensures.shape;
       applies = c.apply.ensures.applies;
-      puts = subst (λ (z : List ℕ). PutsRow c.args.self.now.kept c.put.new.self c.args.pair.node.0 c.args.pair.slot z) (c.row.ensures.row ∙ ap (λ (n : Inputs). n.row) c.inputs.ensures.inputs) c.put.ensures;
+      puts = subst (λ (z : List ℕ). PutsRow c.args.self.now.kept c.copy.new.self c.args.pair.node.0 c.args.pair.slot z) (c.row.ensures.row ∙ row_is_claimed (setting_of c.args.scenario.now) c.args.self.now c.args.pair.node.0 c.args.pair.slot c.args.solved.now.inputs.row c.requires.ready c.requires.claimed) c.copy.ensures;
       frees = c.release.ensures;
       by_place = c.counts_by_place.ensures;
       wake = c.readers_wake.ensures.wake;

@@ -1,14 +1,25 @@
-use Rattle.std.proofs.Common.{ℕ, List, ap, refl, sym, ◌∙◌, subst}
+use Rattle.std.proofs.Common.{◌≡◌, ℕ, List, slice_index, ap, refl, sym, ◌∙◌, subst, arith}
+use Rattle.ltm_curve.specs.Table.{counts_of}
 use Rattle.ltm_node.specs.Shape.{width}
+use Rattle.ltm_loading.specs.Pairs.{pair_row}
 use Rattle.ltm_setting.specs.Setting.{setting_of}
 use Rattle.ltm_desk.specs.Rows.{PutsRow}
 use Rattle.ltm_desk.proofs.Desks.{active_is, changed_same}
-use Rattle.ltm_desk.proofs.Taking.{one_claimed, takes_desk, takes_ready}
+use Rattle.ltm_desk.proofs.Smalls.{row_small}
+use Rattle.ltm_desk.proofs.Dropping.{at_front}
+use Rattle.ltm_desk.proofs.Taking.{one_claimed, takes_desk, takes_ready, work_row}
 use Rattle.ltm_desk.proofs.table.Table.take.Goals as goal
 
 pub put-requires-clause-width : goal.put-requires-clause-width
 put-requires-clause-width c =
     c.row.ensures.width ∙ (ap width c.requires.work.inputs.shape ∙ sym (c.requires.ready.fits.claims.widths c.args.pair.node.0 c.requires.work.is_node))
+
+pub put-requires-clause-small : goal.put-requires-clause-small
+put-requires-clause-small c = λ i l.
+    let s = setting_of c.args.scenario.now in
+    let front = at_front s c.args.self.now c.args.pair.slot c.requires.ready c.requires.slot c.requires.idle in
+    let same : c.row.result.now ≡ pair_row s (counts_of c.args.self.now.curves) c.args.pair.node.0 c.args.pair.slot = c.row.ensures.row ∙ work_row s c.args.self.now c.args.pair.node.0 c.args.pair.slot c.args.inputs.now c.requires.work in
+    omega (arith, ap (λ (z : List ℕ). slice_index z i) same, row_small s (counts_of c.args.self.now.curves) c.args.pair.slot c.args.pair.node.0 c.is_setting.ensures.setting front.front c.requires.slot c.requires.work.is_node i)
 
 pub claim_mark-requires-clause-active : goal.claim_mark-requires-clause-active
 claim_mark-requires-clause-active c =
