@@ -7,6 +7,7 @@ ghost use Rattle.std.specs.Prelude.{◌≡◌, true, false, [], ◌∷◌, None}
 use crate::rule::TurnRule;
 use crate::view::View;
 use atomic_table::{Seat, Table};
+use crossbeam_utils::sync::EventCount;
 use ltm_told::Told;
 use std::alloc::Global;
 use std::snapshot::Snapshot;
@@ -23,6 +24,7 @@ use std::snapshot::Snapshot;
 /// ```
 pub struct Turn<T: Told> {
     pub(crate) table: Table<Option<T>, View<T::Entry>, Snapshot<T>, TurnRule, Global>,
+    pub(crate) news: EventCount,
     pub ghost sized: { (table.shared.table_id.words ≡ 1) × (table.shared.table_id.slots ≡ 1) },
 }
 

@@ -1,5 +1,5 @@
 //! How the turn is taken and given.
-ghost use Rattle.std.specs.Prelude.{◌≡◌, ◌≤◌, true, false, [], ◌∷◌, None, IfSome};
+ghost use Rattle.std.specs.Prelude.{◌≡◌, ◌≤◌, true, false, [], ◌∷◌, None, IfSome, IfOk, IfErr};
 ghost use mathlib.Core.List.{IsPrefix};
 ghost use Rattle.ltm_turn.specs.Views.{holding, idle};
 ghost use Rattle.ltm_turn.specs.Passes.{turn_id, editor_turn, worker_turn, editor_held_turn, worker_held_turn, editor_list, editor_seen, worker_seen, editor_workers, editor_found, editor_found_number, editor_held_workers, editor_value, worker_found, worker_found_number, worker_value};
@@ -88,6 +88,25 @@ impl<T: Told> Turn<T> {
         WorkerHeld {
             grip: WorkerGrip { seat },
             value,
+        }
+    }
+
+    /// The same, without waiting: where another holds the turn, the pass comes back, and has seen no more than before.
+    pub fn try_take_worker(&self, pass: WorkerPass<T>) -> Result<WorkerHeld<T>, WorkerPass<T>>
+        requires { worker_turn pass ≡ turn_id self.now }
+        ensures taken { IfOk result (λ held. (worker_held_turn held ≡ worker_turn pass) × (worker_found held ≡ T.entries (worker_value held))
+            × (worker_seen pass ≤ T.number (worker_value held)) × (worker_found_number held ≡ T.number (worker_value held))) }
+        ensures busy { IfErr result (λ back. (worker_turn back ≡ worker_turn pass) × (worker_seen back ≡ worker_seen pass)) }
+    {
+        let mut seat = pass.open();
+        match self.try_acquire(&mut seat) {
+            Some(value) => {
+                return Ok(WorkerHeld {
+                    grip: WorkerGrip { seat },
+                    value,
+                });
+            }
+            None => return Err(WorkerPass { seat }),
         }
     }
 

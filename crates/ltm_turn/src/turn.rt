@@ -5,6 +5,7 @@ ghost use Rattle.ltm_turn.specs.Passes.{turn_id, editor_turn, worker_turn, edito
 use crate::passes::{EditorPass, Turn, WorkerPass};
 use crate::rule::{JoinWorker, SplitWorker};
 use atomic_table::{Refused, Table};
+use crossbeam_utils::sync::EventCount;
 use ltm_told::Told;
 use ltm_units::NoMemory;
 use std::alloc::{AllocFailed, Global};
@@ -26,7 +27,13 @@ impl<T: Told> Turn<T> {
             return Err((value, NoMemory));
         }
         match Table::new(alloc, &[0], slots, &about) {
-            Ok((table, seat)) => Ok((Turn { table }, EditorPass { seat, workers: 0 })),
+            Ok((table, seat)) => Ok((
+                Turn {
+                    table,
+                    news: EventCount::new(),
+                },
+                EditorPass { seat, workers: 0 },
+            )),
             Err(Refused { mut slots }) => {
                 let Some(Some(value)) = slots.pop() else {
                     unreachable!()
@@ -73,7 +80,7 @@ impl<T: Told> Turn<T> {
         ensures list { T.entries result ≡ editor_list editor }
         ensures number { editor_seen editor ≤ T.number result }
     {
-        let Turn { table } = self;
+        let Turn { table, news: _ } = self;
         let (seat, _) = editor.open();
         let mut closed = table.close_with(seat);
         let value = closed.take(0);

@@ -1,0 +1,35 @@
+-- What is done to a core in one held turn, and what a settle beside workers is.
+use Rattle.std.specs.Prelude.{◌≡◌, ◌≤◌, ℕ, List, true, false}
+use Rattle.ltm_flows.specs.Shown.{version_of}
+use Rattle.ltm_repair.specs.Answers.{AnswersClaim}
+use Rattle.ltm_core.specs.declared.answers.Published.{Published}
+use Rattle.ltm_core.specs.declared.entry.LogEntry.{LogEntry}
+use Rattle.ltm_core.specs.Log.{Log, entries_of, with_mark, version_now}
+use Rattle.ltm_core.specs.Settling.{IsSettleCount}
+use Rattle.ltm_core.specs.Cores.{CoreData, repair_of}
+use Rattle.ltm_core.specs.CoreAnswers.{answer_in, KeepsAll, TellsPublish}
+use Rattle.ltm_workers.specs.declared.events.Look.{Look}
+use Rattle.ltm_workers.specs.declared.events.Look.TheVariants.{Stopped, Found}
+
+-- a stopped core is left as it is; of another a pair is claimed, and no more is done
+abbrev pub Looks : CoreData → Look → CoreData → Type 0
+Looks old (Stopped scratch) new = (old.stopped ≡ true) × (new ≡ old)
+Looks old (Found claimed) new = (old.stopped ≡ false) × AnswersClaim (repair_of old) (answer_in claimed) (repair_of new) × KeepsAll old new
+
+-- a stopped core is left as it is; of another the working counts are shown, where it rests
+pub record ShowsRunning (old new : CoreData) : Type 0 where
+  pub stopped : old.stopped ≡ true → new ≡ old
+  pub running : old.stopped ≡ false → (answer : Published) × TellsPublish old answer new
+
+-- so many commits were counted: a settle count of the log, after which a mark is put; all batches are shown
+pub record CountsCommits (old : CoreData) (version count : ℕ) (new : CoreData) : Type 0 where
+  pub counts : IsSettleCount old.log count
+  pub all : version ≡ version_now old.log
+  pub shown : version_of old.shown ≡ version
+  pub log : new.log ≡ with_mark old.log
+
+-- a settle beside workers, by the list that its editor found and the list that it left: so many batches are settled, with
+-- this count, and a mark is put; the editor has seen all batches shown
+unfoldable pub SettlesBeside : List LogEntry → ℕ → ℕ → List LogEntry → ℕ → Type 0
+SettlesBeside list version count list' seen' = (log : Log) × (list ≡ entries_of log) × IsSettleCount log count × (version ≡ version_now log)
+    × (list' ≡ entries_of (with_mark log)) × (version_now log ≤ seen')
