@@ -16,7 +16,7 @@ pub returns-then-not-is_at_rest-clause-answer : goal.returns-then-not-is_at_rest
 returns-then-not-is_at_rest-clause-answer c = (not_resting_at _ _ c.is_at_rest.result c.self.view_is c.self.invariant.0 c.is_at_rest.ensures c.if-not-is_at_rest.true, refl)
 
 pub refresh-requires-clause-fits : goal.refresh-requires-clause-fits
-refresh-requires-clause-fits c = core_fits _ c.self.invariant.0 (omega (c.room-_room.ensures.value, c.room-_room.ensures.within, arith))
+refresh-requires-clause-fits c = core_fits _ c.self.invariant.0 (omega (c.room-room.ensures.value, c.room-room.ensures.within, arith))
 
 pub refresh-requires-clause-loading : goal.refresh-requires-clause-loading
 refresh-requires-clause-loading c =
