@@ -5,6 +5,7 @@ pub mod Causes
 pub mod CaseFaults
 pub mod Answers
 pub mod EditFaults
+pub mod CommandFaults
 pub mod Refusals
 pub mod Times
 pub mod Made

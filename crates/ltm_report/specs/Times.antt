@@ -1,6 +1,5 @@
 -- The line of a travel time.
 use Rattle.std.specs.Prelude.{ℕ, List, ◌++◌, codes, Option, Some, None}
-use Rattle.std.specs.Fmt.{decimal}
 use Rattle.ltm_report.specs.Pieces.{number_piece, version_piece, newline}
 use Rattle.ltm_report.specs.Links.{name_piece}
 

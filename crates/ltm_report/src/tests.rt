@@ -1,13 +1,14 @@
 use crate::{
-    accepted_text, case_fault_text, edit_fault_text, link_text, load_link_text, long_script_text,
-    route_row_text, route_time_text, settled_text, size_text, splits_header_text, time_slots_text,
-    time_text, too_long_text, too_many_text, totals_text, unknown_link_text, unknown_time_text,
-    work_text,
+    accepted_text, case_fault_text, command_fault_text, edit_fault_text, link_text, load_link_text,
+    long_script_text, route_row_text, route_time_text, settled_text, size_text, splits_header_text,
+    time_slots_text, time_text, too_long_text, too_many_text, totals_text, unknown_link_text,
+    unknown_time_text, work_text,
 };
 use ltm_casefile::{CaseCause, CaseFault, File};
 use ltm_diagram::{DiagramFault, Field};
 use ltm_network::NetworkFault;
 use ltm_scenario::{EditCause, EditFault};
+use ltm_script::CommandFault;
 use ltm_units::{Millis, Name, NoMemory, Units};
 use std::alloc::Global;
 use std::test::Fail;
@@ -142,6 +143,8 @@ fn answers(alloc: Global, name: &Name) -> Result<Vec<u8>, NoMemory> {
     refused(alloc, 1, EditCause::CellsOver(180_056_004), &mut text)?;
     let zero = DiagramFault::Zero(Field::Length);
     refused(alloc, 2, EditCause::Diagram(zero), &mut text)?;
+    command_fault_text(alloc, CommandFault::NotJson, &mut text)?;
+    command_fault_text(alloc, CommandFault::NotCommand(2), &mut text)?;
     unknown_link_text(&mut text)?;
     unknown_time_text(&mut text)?;
     time_slots_text(&mut text)?;
@@ -156,7 +159,7 @@ fn answers(alloc: Global, name: &Name) -> Result<Vec<u8>, NoMemory> {
 fn answers_lines_of_a_script(rt: HostRuntime) -> Result<(), Fail> {
     let name = Name::read(b"a").ok_or("a name")?;
     let want =
-        "accepted version 1\nsettled version 1 recomputed 5\nrefused edit 1 BadSlots\nrefused edit 1 CellsOver 180056004\nrefused edit 2 Zero length_m\nrefused link UnknownName\nrefused time UnknownName\nrefused time BadSlots\nversion 1 link a slot 3 time 2000\nversion 0 link a slot 0 time none\ntoo long line 3\ntoo many commands\n";
+        "accepted version 1\nsettled version 1 recomputed 5\nrefused edit 1 BadSlots\nrefused edit 1 CellsOver 180056004\nrefused edit 2 Zero length_m\nrefused command NotJson\nrefused command NotCommand 2\nrefused link UnknownName\nrefused time UnknownName\nrefused time BadSlots\nversion 1 link a slot 3 time 2000\nversion 0 link a slot 0 time none\ntoo long line 3\ntoo many commands\n";
     assert!(rt; answers(rt.alloc(), &name)?.as_slice() == want.as_bytes());
     Ok(())
 }
