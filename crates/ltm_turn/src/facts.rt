@@ -1,5 +1,6 @@
 //! What holds of a turn between any two steps of its threads.
 ghost use Rattle.ltm_turn.specs.Rule.{IsTurn};
+ghost use Rattle.ltm_turn.specs.Boxes.{boxed};
 ghost use Rattle.ltm_turn.specs.Facts.{OneHolder, HomeWhenFree, EditorsList, NumberNeverFalls, MayBePutBack};
 
 use ltm_told::Told;
@@ -8,9 +9,9 @@ use ltm_told::Told;
 /// value is in its slot exactly while the turn is free; that a value in the slot has the list that the editor left, and a
 /// number that no view exceeds; and that a holder can put back only a value of which both hold.
 pub fn holds_between_steps<T: Told>()
-    ensures one_holder { (s : _) → IsTurn T.entries T.number s → OneHolder s }
-    ensures home_when_free { (s : _) → IsTurn T.entries T.number s → HomeWhenFree s }
-    ensures editors_list { (s : _) → IsTurn T.entries T.number s → EditorsList T.entries s }
-    ensures number_never_falls { (s : _) → IsTurn T.entries T.number s → NumberNeverFalls T.number s }
-    ensures may_be_put_back { (s : _) → IsTurn T.entries T.number s → MayBePutBack T.entries T.number s }
+    ensures one_holder { (s : _) → IsTurn (boxed T.entries) (boxed T.number) s → OneHolder s }
+    ensures home_when_free { (s : _) → IsTurn (boxed T.entries) (boxed T.number) s → HomeWhenFree s }
+    ensures editors_list { (s : _) → IsTurn (boxed T.entries) (boxed T.number) s → EditorsList (boxed T.entries) s }
+    ensures number_never_falls { (s : _) → IsTurn (boxed T.entries) (boxed T.number) s → NumberNeverFalls (boxed T.number) s }
+    ensures may_be_put_back { (s : _) → IsTurn (boxed T.entries) (boxed T.number) s → MayBePutBack (boxed T.entries) (boxed T.number) s }
 {}

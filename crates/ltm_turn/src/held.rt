@@ -13,7 +13,7 @@ impl<T: Told> EditorHeld<T> {
     pub fn get(&self) -> &T
         ensures { result.now ≡ editor_value self.now }
     {
-        &self.value
+        self.value.as_ref()
     }
 
     /// The value, to be changed: what is written stands in the held turn.
@@ -21,7 +21,7 @@ impl<T: Told> EditorHeld<T> {
         ensures* writes_back { sem 𝓛 (Lends (editor_row T.row T.Entry.row T.Told) T.row self.entry result (with_editor_value self.old)) }
         ensures value { result.now ≡ editor_value self.old }
     {
-        &mut self.value
+        self.value.as_mut()
     }
 }
 
@@ -30,7 +30,7 @@ impl<T: Told> WorkerHeld<T> {
     pub fn get(&self) -> &T
         ensures { result.now ≡ worker_value self.now }
     {
-        &self.value
+        self.value.as_ref()
     }
 
     /// The value, to be changed: what is written stands in the held turn.
@@ -38,6 +38,6 @@ impl<T: Told> WorkerHeld<T> {
         ensures* writes_back { sem 𝓛 (Lends (worker_row T.row T.Entry.row T.Told) T.row self.entry result (with_worker_value self.old)) }
         ensures value { result.now ≡ worker_value self.old }
     {
-        &mut self.value
+        self.value.as_mut()
     }
 }

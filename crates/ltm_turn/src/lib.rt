@@ -3,7 +3,7 @@
 //! - **On what it stands**: `ltm_told`, by which a value tells a list and a number; `atomic_table`, of which it has one
 //!   word and one slot; the back-off of `crossbeam_utils`, and its count of events; `NoMemory` of `ltm_units`.
 //! - **What a call costs**: a take one step that wins, and before it as many tries as find the turn held; a give two steps.
-//!   The value is moved once each way. `create` takes memory, no other call does; a take may wait, and who listens for news.
+//!   The value lies on the heap and is not moved. `create` takes memory, no other call does; a take may wait, and who listens for news.
 //! - **When to change it here**: when a pass is to know more of the value than a list and a number, or when others than the
 //!   editor are to lengthen the list. The rule and its steps are kept together: see the head of `rule`.
 #![tactic(auto)]

@@ -23,14 +23,14 @@ use std::snapshot::Snapshot;
 /// editor, worker --- join --> editor          turn, editor --- close --> the value
 /// ```
 pub struct Turn<T: Told> {
-    pub(crate) table: Table<Option<T>, View<T::Entry>, Snapshot<T>, TurnRule, Global>,
+    pub(crate) table: Table<Option<Box<T>>, View<T::Entry>, Snapshot<T>, TurnRule, Global>,
     pub(crate) news: EventCount,
     pub ghost sized: { (table.shared.table_id.words ≡ 1) × (table.shared.table_id.slots ≡ 1) },
 }
 
 /// The one pass of a turn whose holder may lengthen the list.
 pub struct EditorPass<T: Told> {
-    pub(crate) seat: Seat<Option<T>, View<T::Entry>>,
+    pub(crate) seat: Seat<Option<Box<T>>, View<T::Entry>>,
     pub(crate) workers: u32,
     pub ghost edits: { (seat.me.1 ≡ []) × (seat.me.0.editor ≡ true) × (seat.me.0.works ≡ false) × (seat.me.0.holds ≡ false) },
     pub ghost counted: { seat.me.0.workers ≡ workers },
@@ -38,14 +38,14 @@ pub struct EditorPass<T: Told> {
 
 /// A pass whose holder leaves the list as it is.
 pub struct WorkerPass<T: Told> {
-    pub(crate) seat: Seat<Option<T>, View<T::Entry>>,
+    pub(crate) seat: Seat<Option<Box<T>>, View<T::Entry>>,
     pub ghost works: { (seat.me.1 ≡ []) × (seat.me.0.editor ≡ false) × (seat.me.0.works ≡ true) × (seat.me.0.holds ≡ false) },
 }
 
 /// The editor's seat while it holds the turn. Ghost fields stand here and not on the struct that lends the value, so that
 /// what is written through a lent `&mut` is written back by itself.
 pub struct EditorGrip<T: Told> {
-    pub(crate) seat: Seat<Option<T>, View<T::Entry>>,
+    pub(crate) seat: Seat<Option<Box<T>>, View<T::Entry>>,
     pub(crate) workers: u32,
     pub ghost edits: { (seat.me.1 ≡ (0, None) ∷ []) × (seat.me.0.editor ≡ true) × (seat.me.0.works ≡ false) × (seat.me.0.holds ≡ true) },
     pub ghost counted: { seat.me.0.workers ≡ workers },
@@ -53,20 +53,20 @@ pub struct EditorGrip<T: Told> {
 
 /// A worker's seat while it holds the turn.
 pub struct WorkerGrip<T: Told> {
-    pub(crate) seat: Seat<Option<T>, View<T::Entry>>,
+    pub(crate) seat: Seat<Option<Box<T>>, View<T::Entry>>,
     pub ghost works: { (seat.me.1 ≡ (0, None) ∷ []) × (seat.me.0.editor ≡ false) × (seat.me.0.works ≡ true) × (seat.me.0.holds ≡ true) },
 }
 
 /// The turn, held by the editor, with the value. It is given back by `give_editor`, and cannot be let go.
 pub struct EditorHeld<T: Told> {
     pub(crate) grip: EditorGrip<T>,
-    pub(crate) value: T,
+    pub(crate) value: Box<T>,
 }
 
 /// The turn, held by a worker, with the value. It is given back by `give_worker`, and cannot be let go.
 pub struct WorkerHeld<T: Told> {
     pub(crate) grip: WorkerGrip<T>,
-    pub(crate) value: T,
+    pub(crate) value: Box<T>,
 }
 
 impl<T: Told> Drop for EditorPass<T> {
@@ -86,7 +86,7 @@ impl<T: Told> Drop for WorkerPass<T> {
 
 impl<T: Told> EditorPass<T> {
     // The seat, and how many workers there are.
-    pub(crate) fn open(self) -> (Seat<Option<T>, View<T::Entry>>, u32)
+    pub(crate) fn open(self) -> (Seat<Option<Box<T>>, View<T::Entry>>, u32)
         ensures { (result.0 ≡ self.seat) × (result.1 ≡ self.workers) }
     {
         let EditorPass { seat, workers } = self;
@@ -96,7 +96,7 @@ impl<T: Told> EditorPass<T> {
 
 impl<T: Told> WorkerPass<T> {
     // The seat.
-    pub(crate) fn open(self) -> Seat<Option<T>, View<T::Entry>>
+    pub(crate) fn open(self) -> Seat<Option<Box<T>>, View<T::Entry>>
         ensures { result ≡ self.seat }
     {
         let WorkerPass { seat } = self;

@@ -14,11 +14,11 @@ use std::sync::Wait;
 
 impl<T: Told> Turn<T> {
     // Takes the turn if it is free, and the value out of its slot.
-    fn try_acquire(&self, seat: &mut Seat<Option<T>, View<T::Entry>>) -> Option<T>
+    fn try_acquire(&self, seat: &mut Seat<Option<Box<T>>, View<T::Entry>>) -> Option<Box<T>>
         requires table { seat.old.table_id ≡ self.now.table.shared.table_id }
         requires idle { (seat.old.me.1 ≡ []) × (seat.old.me.0.editor ≡ false → seat.old.me.0.works ≡ true) }
         ensures table { seat.new.table_id ≡ seat.old.table_id }
-        ensures won { IfSome result (λ x. (seat.new.me ≡ (holding seat.old.me.0 (T.entries x) (T.number x), (0, None) ∷ [])) × (seat.old.me.0.number ≤ T.number x) × (seat.old.me.0.editor ≡ true → T.entries x ≡ seat.old.me.0.entries)) }
+        ensures won { IfSome result (λ x. (seat.new.me ≡ (holding seat.old.me.0 (T.entries x.value) (T.number x.value), (0, None) ∷ [])) × (seat.old.me.0.number ≤ T.number x.value) × (seat.old.me.0.editor ≡ true → T.entries x.value ≡ seat.old.me.0.entries)) }
         ensures lost { result ≡ None → seat.new.me ≡ seat.old.me }
     {
         if self.table.shared.compare_exchange::<Take>(seat, 0, 0, 1) == 0 {
@@ -28,12 +28,12 @@ impl<T: Told> Turn<T> {
     }
 
     // Waits until the turn is free, and takes it.
-    fn acquire<R: Wait>(&self, rt: &R, seat: &mut Seat<Option<T>, View<T::Entry>>) -> T
+    fn acquire<R: Wait>(&self, rt: &R, seat: &mut Seat<Option<Box<T>>, View<T::Entry>>) -> Box<T>
         requires table { seat.old.table_id ≡ self.now.table.shared.table_id }
         requires idle { (seat.old.me.1 ≡ []) × (seat.old.me.0.editor ≡ false → seat.old.me.0.works ≡ true) }
-        ensures seat { (seat.new.table_id ≡ seat.old.table_id) × (seat.new.me ≡ (holding seat.old.me.0 (T.entries result) (T.number result), (0, None) ∷ [])) }
-        ensures number { seat.old.me.0.number ≤ T.number result }
-        ensures list { seat.old.me.0.editor ≡ true → T.entries result ≡ seat.old.me.0.entries }
+        ensures seat { (seat.new.table_id ≡ seat.old.table_id) × (seat.new.me ≡ (holding seat.old.me.0 (T.entries result.value) (T.number result.value), (0, None) ∷ [])) }
+        ensures number { seat.old.me.0.number ≤ T.number result.value }
+        ensures list { seat.old.me.0.editor ≡ true → T.entries result.value ≡ seat.old.me.0.entries }
     {
         let backoff = Backoff::new();
         for _ in rt.forever() {
@@ -46,12 +46,12 @@ impl<T: Told> Turn<T> {
     }
 
     // Puts the value into its slot, notes it, and frees the turn.
-    fn release(&self, seat: &mut Seat<Option<T>, View<T::Entry>>, value: T)
+    fn release(&self, seat: &mut Seat<Option<Box<T>>, View<T::Entry>>, value: Box<T>)
         requires table { seat.old.table_id ≡ self.now.table.shared.table_id }
         requires holds { (seat.old.me.1 ≡ (0, None) ∷ []) × (seat.old.me.0.holds ≡ true) × (seat.old.me.0.editor ≡ false → seat.old.me.0.works ≡ true) }
-        requires list { seat.old.me.0.editor ≡ false → T.entries value ≡ seat.old.me.0.entries }
-        requires number { seat.old.me.0.number ≤ T.number value }
-        ensures { (seat.new.table_id ≡ seat.old.table_id) × (seat.new.me ≡ (idle (holding seat.old.me.0 (T.entries value) (T.number value)), [])) }
+        requires list { seat.old.me.0.editor ≡ false → T.entries value.value ≡ seat.old.me.0.entries }
+        requires number { seat.old.me.0.number ≤ T.number value.value }
+        ensures { (seat.new.table_id ≡ seat.old.table_id) × (seat.new.me ≡ (idle (holding seat.old.me.0 (T.entries value.value) (T.number value.value)), [])) }
     {
         let taken = self.table.shared.exchange(seat, 0, Some(value));
         let None = taken else { unreachable!() };

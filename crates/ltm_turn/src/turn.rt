@@ -19,14 +19,33 @@ impl<T: Told> Turn<T> {
         ensures err { IfErr result (λ r. r.0 ≡ value) }
     {
         let about = Snapshot::of(&value);
-        let mut slots = Vec::new(alloc);
-        if let Err(failed) = slots.push(Some(value)) {
-            let AllocFailed { value } = failed;
-            let Some(value) = value else { unreachable!() };
-            slots.destroy_empty();
-            return Err((value, NoMemory));
+        match Box::new(alloc, value) {
+            Ok(boxed) => return Turn::of_box(alloc, &about, boxed),
+            Err(failed) => {
+                let AllocFailed { value } = failed;
+                return Err((value, NoMemory));
+            }
         }
-        match Table::new(alloc, &[0], slots, &about) {
+    }
+
+    // The turn of a value that lies in a box.
+    fn of_box(
+        alloc: Global,
+        about: &Snapshot<T>,
+        boxed: Box<T>,
+    ) -> Result<(Turn<T>, EditorPass<T>), (T, NoMemory)>
+        requires { about.now.value ≡ boxed.value }
+        ensures ok { IfOk result (λ r. (editor_turn r.1 ≡ turn_id r.0) × (editor_list r.1 ≡ T.entries boxed.value) × (editor_seen r.1 ≡ T.number boxed.value) × (editor_workers r.1 ≡ 0)) }
+        ensures err { IfErr result (λ r. r.0 ≡ boxed.value) }
+    {
+        let mut slots = Vec::new(alloc);
+        if let Err(failed) = slots.push(Some(boxed)) {
+            let AllocFailed { value } = failed;
+            let Some(boxed) = value else { unreachable!() };
+            slots.destroy_empty();
+            return Err((Box::into_inner(boxed), NoMemory));
+        }
+        match Table::new(alloc, &[0], slots, about) {
             Ok((table, seat)) => Ok((
                 Turn {
                     table,
@@ -35,11 +54,11 @@ impl<T: Told> Turn<T> {
                 EditorPass { seat, workers: 0 },
             )),
             Err(Refused { mut slots }) => {
-                let Some(Some(value)) = slots.pop() else {
+                let Some(Some(boxed)) = slots.pop() else {
                     unreachable!()
                 };
                 slots.destroy_empty();
-                Err((value, NoMemory))
+                Err((Box::into_inner(boxed), NoMemory))
             }
         }
     }
@@ -85,8 +104,8 @@ impl<T: Told> Turn<T> {
         let mut closed = table.close_with(seat);
         let value = closed.take(0);
         closed.free();
-        let Some(value) = value else { unreachable!() };
-        value
+        let Some(boxed) = value else { unreachable!() };
+        Box::into_inner(boxed)
     }
 }
 
