@@ -69,7 +69,7 @@ impl Lines {
         // The kept answer, where there is one; and then nothing changes.
         ensures kept { IfSome (kept_by self.old) (λ answer. result ≡ answer) }
         ensures same { kept_by self.old ≢ None → self.new ≡ self.old }
-        ensures untouched { kept_by self.old ≢ None → S.left source.new ≡ S.left source.old }
+        ensures untouched { kept_by self.old ≢ None → source.new ≡ source.old }
 
         // Else the answer to the lines that are coming, where they are told and no read fails.
         ensures answer { kept_by self.old ≡ None → result ≢ Line.ReadFault
