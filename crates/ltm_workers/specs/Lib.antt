@@ -1,1 +1,3 @@
 pub mod Draining
+pub mod Driving
+pub mod Hands
