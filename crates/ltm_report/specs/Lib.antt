@@ -3,3 +3,10 @@ pub mod Totals
 pub mod Links
 pub mod Causes
 pub mod CaseFaults
+pub mod Answers
+pub mod EditFaults
+pub mod CommandFaults
+pub mod Refusals
+pub mod Times
+pub mod Made
+pub mod Routes

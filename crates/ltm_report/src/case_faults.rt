@@ -23,17 +23,16 @@ fn word_of_file(file: File) -> &'static [u8]
 }
 
 #[tactic(auto, unfolding(crate::specs::CaseFaults::place_piece))]
-fn push_place(alloc: Global, into: &mut Vec<u8>, file: File, row: u32) -> Result<(), NoMemory>
+fn push_place(into: &mut Vec<u8>, file: File, row: u32) -> Result<(), NoMemory>
     ensures { OnOk result (into.new.items ≡ into.old.items ++ place_piece file row) }
 {
     push_text(into, b"bad case ")?;
     push_text(into, word_of_file(file))?;
-    push_number(alloc, into, b" row ", u128::from(row))
+    push_number(into, b" row ", u128::from(row))
 }
 
 #[tactic(auto, unfolding(crate::specs::CaseFaults::bad_case_line))]
 fn push_bad_case(
-    alloc: Global,
     into: &mut Vec<u8>,
     file: File,
     row: u32,
@@ -41,9 +40,9 @@ fn push_bad_case(
 ) -> Result<(), NoMemory>
     ensures { OnOk result (into.new.items ≡ into.old.items ++ bad_case_line file row cause.now) }
 {
-    push_place(alloc, into, file, row)?;
+    push_place(into, file, row)?;
     push_text(into, b" ")?;
-    push_cause(alloc, into, cause)?;
+    push_cause(into, cause)?;
     push_newline(into)
 }
 
@@ -57,7 +56,7 @@ pub fn case_fault_text(alloc: Global, fault: &CaseFault, into: &mut Vec<u8>) -> 
         unreachable!()
     };
     let mut line = Vec::new(alloc);
-    push_bad_case(alloc, &mut line, *file, *row, cause)?;
+    push_bad_case(&mut line, *file, *row, cause)?;
     push_text(into, line.as_slice())
 }
 

@@ -7,7 +7,7 @@ use ltm_units::{Name, NoMemory, Units};
 use std::alloc::Global;
 
 #[tactic(auto, unfolding(crate::specs::Links::name_piece))]
-fn push_name(into: &mut Vec<u8>, name: &Name) -> Result<(), NoMemory>
+pub(crate) fn push_name(into: &mut Vec<u8>, name: &Name) -> Result<(), NoMemory>
     ensures { OnOk result (into.new.items ≡ into.old.items ++ name_piece name.now) }
 {
     push_text(into, b"link ")?;
@@ -72,7 +72,7 @@ pub fn link_text(
     ensures err { OnErr result (into.new.items ≡ into.old.items) }
 {
     let mut line = Vec::new(alloc);
-    push_version(alloc, &mut line, version)?;
+    push_version(&mut line, version)?;
     push_text(&mut line, b" ")?;
     push_link(alloc, &mut line, name, entered, gone)?;
     push_text(into, line.as_slice())

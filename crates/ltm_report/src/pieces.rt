@@ -4,6 +4,7 @@ ghost use Rattle.std.specs.Prelude.{◌≡◌, ◌++◌, OnOk, OnErr};
 ghost use Rattle.std.specs.Fmt.{decimal};
 ghost use Rattle.ltm_report.specs.Pieces.{amount_piece, number_piece, version_piece, newline};
 
+use itoa::Buffer;
 use ltm_units::{NoMemory, Units, write_vehicles};
 use std::alloc::Global;
 
@@ -30,24 +31,19 @@ pub(crate) fn push_amount(
 }
 
 #[tactic(auto, unfolding(crate::specs::Pieces::number_piece))]
-pub(crate) fn push_number(
-    alloc: Global,
-    into: &mut Vec<u8>,
-    words: &[u8],
-    number: u128,
-) -> Result<(), NoMemory>
+pub(crate) fn push_number(into: &mut Vec<u8>, words: &[u8], number: u128) -> Result<(), NoMemory>
     ensures { OnOk result (into.new.items ≡ into.old.items ++ number_piece words.now number) }
 {
-    let digits = format!(in alloc; "{number}")?;
+    let mut digits = Buffer::new();
     push_text(into, words)?;
-    push_text(into, digits.as_bytes())
+    push_text(into, digits.format(number).as_bytes())
 }
 
 #[tactic(auto, unfolding(crate::specs::Pieces::version_piece))]
-pub(crate) fn push_version(alloc: Global, into: &mut Vec<u8>, version: u64) -> Result<(), NoMemory>
+pub(crate) fn push_version(into: &mut Vec<u8>, version: u64) -> Result<(), NoMemory>
     ensures { OnOk result (into.new.items ≡ into.old.items ++ version_piece version) }
 {
-    push_number(alloc, into, b"version ", u128::from(version))
+    push_number(into, b"version ", u128::from(version))
 }
 
 pub(crate) fn push_newline(into: &mut Vec<u8>) -> Result<(), NoMemory>

@@ -1,8 +1,15 @@
-use crate::{case_fault_text, link_text, load_link_text, too_long_text, totals_text};
+use crate::{
+    accepted_text, case_fault_text, command_fault_text, edit_fault_text, link_text, load_link_text,
+    long_script_text, route_row_text, route_time_text, settled_text, size_text, splits_header_text,
+    time_slots_text, time_text, too_long_text, too_many_text, totals_text, unknown_link_text,
+    unknown_time_text, work_text,
+};
 use ltm_casefile::{CaseCause, CaseFault, File};
 use ltm_diagram::{DiagramFault, Field};
 use ltm_network::NetworkFault;
-use ltm_units::{Name, NoMemory, Units};
+use ltm_scenario::{EditCause, EditFault};
+use ltm_script::CommandFault;
+use ltm_units::{Millis, Name, NoMemory, Units};
 use std::alloc::Global;
 use std::test::Fail;
 
@@ -116,5 +123,68 @@ fn refuses_cases(rt: HostRuntime) -> Result<(), Fail> {
     let mut text: Vec<u8> = Vec::new(rt.alloc());
     too_long_text(rt.alloc(), File::Setup, &mut text)?;
     assert!(rt; text.as_slice() == b"too long setup\n".as_slice());
+    Ok(())
+}
+
+fn refused(
+    alloc: Global,
+    place: u32,
+    cause: EditCause,
+    into: &mut Vec<u8>,
+) -> Result<(), NoMemory> {
+    edit_fault_text(alloc, &EditFault { place, cause }, into)
+}
+
+fn answers(alloc: Global, name: &Name) -> Result<Vec<u8>, NoMemory> {
+    let mut text: Vec<u8> = Vec::new(alloc);
+    accepted_text(1, &mut text)?;
+    settled_text(1, 5, &mut text)?;
+    refused(alloc, 1, EditCause::BadSlots, &mut text)?;
+    refused(alloc, 1, EditCause::CellsOver(180_056_004), &mut text)?;
+    let zero = DiagramFault::Zero(Field::Length);
+    refused(alloc, 2, EditCause::Diagram(zero), &mut text)?;
+    command_fault_text(alloc, CommandFault::NotJson, &mut text)?;
+    command_fault_text(alloc, CommandFault::NotCommand(2), &mut text)?;
+    unknown_link_text(&mut text)?;
+    unknown_time_text(&mut text)?;
+    time_slots_text(&mut text)?;
+    time_text(alloc, 1, name, 3, Some(Millis(2000)), &mut text)?;
+    time_text(alloc, 0, name, 0, None, &mut text)?;
+    long_script_text(alloc, 3, &mut text)?;
+    too_many_text(&mut text)?;
+    Ok(text)
+}
+
+#[test]
+fn answers_lines_of_a_script(rt: HostRuntime) -> Result<(), Fail> {
+    let name = Name::read(b"a").ok_or("a name")?;
+    let want =
+        "accepted version 1\nsettled version 1 recomputed 5\nrefused edit 1 BadSlots\nrefused edit 1 CellsOver 180056004\nrefused edit 2 Zero length_m\nrefused command NotJson\nrefused command NotCommand 2\nrefused link UnknownName\nrefused time UnknownName\nrefused time BadSlots\nversion 1 link a slot 3 time 2000\nversion 0 link a slot 0 time none\ntoo long line 3\ntoo many commands\n";
+    assert!(rt; answers(rt.alloc(), &name)?.as_slice() == want.as_bytes());
+    Ok(())
+}
+
+fn made_and_routed(alloc: Global, names: &[Name; 4]) -> Result<Vec<u8>, NoMemory> {
+    let mut text: Vec<u8> = Vec::new(alloc);
+    size_text(alloc, 400, 1520, 24_000, &mut text)?;
+    work_text(alloc, 232, 232, 3_969_740_000, &mut text)?;
+    splits_header_text(&mut text)?;
+    route_row_text(alloc, &names[0], &names[1], &names[2..4], &mut text)?;
+    route_row_text(alloc, &names[0], &names[1], &names[2..3], &mut text)?;
+    route_time_text(alloc, &names[0], &names[1], Millis(2000), &mut text)?;
+    Ok(text)
+}
+
+#[test]
+fn tells_made_cases_and_routes(rt: HostRuntime) -> Result<(), Fail> {
+    let names = [
+        Name::read(b"n1").ok_or("a name")?,
+        Name::read(b"n2").ok_or("a name")?,
+        Name::read(b"a").ok_or("a name")?,
+        Name::read(b"c").ok_or("a name")?,
+    ];
+    let want =
+        "case nodes 400 links 1520 pairs 24000\nrecomputed 232 solved 232 spent 3969740000\nnode,destination,from_slot,weights\nn1,n2,0,a=1 c=1\nn1,n2,0,a=1\nfrom n1 to n2 time 2000\n";
+    assert!(rt; made_and_routed(rt.alloc(), &names)?.as_slice() == want.as_bytes());
     Ok(())
 }

@@ -49,7 +49,7 @@ pub fn totals_text(
     ensures err { OnErr result (into.new.items ≡ into.old.items) }
 {
     let mut line = Vec::new(alloc);
-    push_version(alloc, &mut line, version)?;
+    push_version(&mut line, version)?;
     push_came(alloc, &mut line, generated, arrived)?;
     push_stays(alloc, &mut line, on_links, waiting)?;
     push_newline(&mut line)?;

@@ -1,0 +1,27 @@
+-- The lines that refuse a question or the rest of a script.
+use Rattle.std.specs.Prelude.{ℕ, List, ◌++◌, codes}
+use Rattle.ltm_report.specs.Pieces.{number_piece, newline}
+
+-- no link has the name that was asked for
+unfoldable pub unknown_link_line : List ℕ
+unknown_link_line = codes "refused link UnknownName\n"
+
+-- no link has the name for which a time was asked
+unfoldable pub unknown_time_line : List ℕ
+unknown_time_line = codes "refused time UnknownName\n"
+
+-- the slot for which a time was asked is not one of the loading that is shown
+unfoldable pub time_slots_line : List ℕ
+time_slots_line = codes "refused time BadSlots\n"
+
+-- which line of a script has more bytes than are read, counted from 1
+unfoldable pub long_piece : ℕ → List ℕ
+long_piece number = number_piece (codes "too long line ") number
+
+-- a script ends at a line that is too long, as `too long line 3`
+unfoldable pub long_script_line : ℕ → List ℕ
+long_script_line number = long_piece number ++ newline
+
+-- a script has more lines than are answered
+unfoldable pub too_many_line : List ℕ
+too_many_line = codes "too many commands\n"
