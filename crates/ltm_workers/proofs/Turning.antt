@@ -14,8 +14,8 @@ use Rattle.ltm_core.specs.CoreAnswers.{CommitsDone}
 use Rattle.ltm_core.specs.Runs.{IsRun, Does}
 use Rattle.ltm_workers.specs.declared.hands.Hand.{Hand}
 use Rattle.ltm_workers.specs.declared.hands.Hand.TheVariants.{Free, Holds}
-use Rattle.ltm_workers.specs.declared.turns.Act.{Act}
-use Rattle.ltm_workers.specs.declared.turns.Act.TheVariants.{Claimed, Committed, GaveBack, Waited, Rested}
+use Rattle.ltm_workers.specs.declared.virtual_turns.Act.{Act}
+use Rattle.ltm_workers.specs.declared.virtual_turns.Act.TheVariants.{Claimed, Committed, GaveBack, Waited, Rested}
 use Rattle.ltm_workers.specs.Driving.{Held, says_give_back, worker_of, held_by, Acts, IsDrive, none_held, give_backs}
 use Rattle.ltm_workers.specs.Hands.{held_in, held_at, all_held, gave_back, waited, committed, IsEventOf, TellsAct, AreHandsKept, KeepsButWork, SparesOthers, IsNextHand, TellsTurn, Follows, FollowsToRest, LaysDown}
 use Rattle.ltm_workers.proofs.Working.{runs_join, in_all_joined}

@@ -10,8 +10,8 @@ use Rattle.ltm_core.specs.CoreAnswers.{IsKeptClaim}
 use Rattle.ltm_core.specs.Runs.{Does}
 use Rattle.ltm_workers.specs.declared.hands.Hand.{Hand}
 use Rattle.ltm_workers.specs.declared.hands.Hand.TheVariants.{Free, Holds}
-use Rattle.ltm_workers.specs.declared.turns.Act.{Act}
-use Rattle.ltm_workers.specs.declared.turns.Act.TheVariants.{Committed, GaveBack, Waited, Rested}
+use Rattle.ltm_workers.specs.declared.virtual_turns.Act.{Act}
+use Rattle.ltm_workers.specs.declared.virtual_turns.Act.TheVariants.{Committed, GaveBack, Waited, Rested}
 use Rattle.ltm_workers.specs.declared.driving.Followed.{Followed}
 use Rattle.ltm_workers.specs.declared.driving.Followed.TheVariants.{ToRest, ToEnd}
 use Rattle.ltm_workers.specs.declared.driving.Driven.{Driven}

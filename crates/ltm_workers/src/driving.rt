@@ -8,7 +8,7 @@ ghost use Rattle.ltm_workers.specs.Hands.{all_held, gave_back, waited, AreHandsK
 
 use crate::bench::{Bench, WORKERS};
 use crate::hands::{Hands, let_go, pick, take_up};
-use crate::turns::{Act, lay_down, turn};
+use crate::virtual_turns::{Act, lay_down, turn};
 use ltm_core::{Core, Scratch, logs_tell_all, runs_of_cores};
 use ltm_units::Steps;
 

@@ -11,7 +11,7 @@ mod bench;
 mod draining;
 mod driving;
 mod hands;
-mod turns;
+mod virtual_turns;
 
 pub use bench::Bench;
 pub use draining::drain;

@@ -1,7 +1,7 @@
 use Rattle.std.proofs.Common.{refl}
 use Rattle.ltm_repair.specs.Events.{Look, Claim}
 use Rattle.ltm_workers.proofs.Holding.{got_spares, got_next, wait_spares, rest_spares}
-use Rattle.ltm_workers.proofs.turns.take_pair.Goals as goal
+use Rattle.ltm_workers.proofs.virtual_turns.take_pair.Goals as goal
 
 pub returns-in-Got-clause-act : goal.returns-in-Got-clause-act
 returns-in-Got-clause-act c =

@@ -1,7 +1,7 @@
 use Rattle.std.proofs.Common.{◌≡◌, ◌<◌, arith}
 use Rattle.ltm_workers.specs.Driving.{worker_of}
 use Rattle.ltm_workers.proofs.Turning.{put_back, turn_kept, turn_full, turn_told}
-use Rattle.ltm_workers.proofs.turns.turn.Goals as goal
+use Rattle.ltm_workers.proofs.virtual_turns.turn.Goals as goal
 
 pub returns-clause-act : goal.returns-clause-act
 returns-clause-act c =
