@@ -62,7 +62,7 @@ serving_first answers s told written taken t none same =
     subst (λ (u : Analysts). IsServing answers s told (prepended taken told) written written 0 u) (sym same)
     (serving_begins answers s told (prepended taken told) written (ap (λ (b : List ℕ). prepended b told) none ∙ nothing_ahead told))
 
-appended_more : (old : Option (List ℕ)) (a b : List ℕ) → appended b (appended a old) ≡ appended (a ++ b) old
+pub appended_more : (old : Option (List ℕ)) (a b : List ℕ) → appended b (appended a old) ≡ appended (a ++ b) old
 appended_more None a b = refl
 appended_more (Some w) a b = ap Some (append_assoc w a b)
 
@@ -88,7 +88,7 @@ ends_so end count (Some script) now new lines counted (rest, at, cut) ends =
     let (before, read) = subst (λ n. EndsIfTold end count n new) at ends in
     (lines_of rest, cut, subst (λ n. EndsBefore end n (lines_of rest)) (sym counted) before)
 
-whole_front : (old new : Option (List ℕ)) (output : List ℕ) → new ≡ appended output old → AppendsFront old new output
+pub whole_front : (old new : Option (List ℕ)) (output : List ℕ) → new ≡ appended output old → AppendsFront old new output
 whole_front old new output is = (length output, omega arith, is ∙ ap (λ o. appended o old) (sym (take-length output)))
 
 wrote_all : (end : SessionEnd) (old new : Option (List ℕ)) (output : List ℕ) → new ≡ appended output old → Wrote end old new output
@@ -126,7 +126,7 @@ front_so : (end : SessionEnd) → (end ≡ WriteFault) ⊎ (end ≡ NoMemory) �
 front_so end (inl is) old new output front = subst (λ e. Wrote e old new output) (sym is) front
 front_so end (inr is) old new output front = subst (λ e. Wrote e old new output) (sym is) front
 
-front_more : (old now new : Option (List ℕ)) (output text : List ℕ) → now ≡ appended output old → AppendsFront now new text → AppendsFront old new (output ++ text)
+pub front_more : (old now new : Option (List ℕ)) (output text : List ℕ) → now ≡ appended output old → AppendsFront now new text → AppendsFront old new (output ++ text)
 front_more old now new output text is (n, few, wrote) =
     let long = length-append output text in (
       length output + n,

@@ -106,6 +106,7 @@ fn serve_lines<S: Source, W: Sink>(
     ensures read_fault { result ≡ SessionEnd.ReadFault → Rose (S.faults source.old) (S.faults source.new) }
     ensures write_fault { result ≡ SessionEnd.WriteFault → Rose (W.faults sink.old) (W.faults sink.new) }
     ensures read { (script : List ℕ) → S.left source.old ≡ Some script → result ≡ SessionEnd.Ended → S.left source.new ≡ Some [] }
+    ensures later { W.faults sink.old ≤ W.faults sink.new }
 {
     for answered in 0..MOST_LINES {
         if let Err(end) = next_line(&mut seat.lines, source, answered) {
@@ -149,6 +150,7 @@ pub fn serve_alone<S: Source, W: Sink>(
     // A fault of the outside is told only where a count of faults rose.
     ensures read_fault { result.end ≡ SessionEnd.ReadFault → Rose (S.faults source.old) (S.faults source.new) }
     ensures write_fault { result.end ≡ SessionEnd.WriteFault → Rose (W.faults sink.old) (W.faults sink.new) }
+    ensures later { W.faults sink.old ≤ W.faults sink.new }
 {
     let mut core = core;
     core.holds();
