@@ -1,5 +1,5 @@
 -- What an accepted batch makes of a core.
-use Rattle.std.proofs.Common.{◌≡◌, ◌≢◌, ℕ, ◌+◌, ◌<◌, ◌≤◌, ◌^◌, List, inl, inr, refl, ap, sym, subst, ◌∙◌, arith}
+use Rattle.std.proofs.Common.{◌≡◌, ◌≢◌, ℕ, ◌+◌, ◌<◌, ◌≤◌, ◌^◌, List, Bool, inl, inr, refl, ap, sym, subst, ◌∙◌, arith}
 use Rattle.std.specs.Prelude.{Result, Ok, Err, OnOk, OnErr, IfErr}
 use Rattle.std.proofs.lemmas.Bool.{cases_eq}
 use Rattle.ltm_scenario.specs.declared.edit.Edit.{Edit}
@@ -13,25 +13,28 @@ use Rattle.ltm_scenario.specs.Shape.{SameShape}
 use Rattle.ltm_loading.specs.Setting.{Setting, IsSetting}
 use Rattle.ltm_loading.specs.Networks.{SameNetwork}
 use Rattle.ltm_setting.specs.Setting.{setting_of}
-use Rattle.ltm_flows.specs.Shown.{Shows, version_of}
-use Rattle.ltm_repair.specs.State.{now}
+use Rattle.ltm_flows.specs.declared.loading.Loading.{Loading}
+use Rattle.ltm_flows.specs.Shown.{Shows, loading_room, version_of}
+use Rattle.ltm_repair.specs.State.{RepairState, now}
 use Rattle.ltm_repair.specs.Moves.{Accepts}
 use Rattle.ltm_repair.specs.Events.{Accept, Accepted}
 use Rattle.ltm_pairs.specs.Touched.{HaveSlots, BatchTouchesReaders}
 use Rattle.ltm_desk.specs.declared.table.Table.{Table}
 use Rattle.ltm_desk.specs.Desks.{desk_at, changed_at}
 use Rattle.ltm_desk.specs.Ready.{IsReady}
+use Rattle.ltm_desk.specs.Growing.{SeenAs as TableSeenAs}
 use Rattle.ltm_desk.specs.Batches.{LeadsTo, TakesIn, touches}
-use Rattle.ltm_core.specs.Log.{Log, version_now, scenario_at, scenario_now, with_batch}
+use Rattle.ltm_core.specs.Log.{Log, log_of, version_now, scenario_at, scenario_now, with_batch}
 use Rattle.ltm_core.specs.Settling.{setting_at}
 use Rattle.ltm_core.specs.Laws.{RepairLaws}
 use Rattle.ltm_core.specs.Cores.{CoreData, desk_in, repair_of, IsNoneOut, IsAlike, IsLog, IsCore}
-use Rattle.ltm_core.specs.CoreAnswers.{AcceptsBatch, TellsAccept}
+use Rattle.ltm_core.specs.CoreAnswers.{AcceptsBatch, LooksAs, TellsAccept}
 use Rattle.ltm_core.specs.Taking.{TakesBatch}
 use Rattle.ltm_core.proofs.Logs.{version_batch, settled_batch, earlier_scenario, last_scenario, accepted_now, holds_more, opening_batch}
 use Rattle.ltm_core.proofs.Cores.{core_now, after_event, none_there}
 use Rattle.ltm_core.proofs.Showings.{shown_low}
-use Rattle.ltm_core.proofs.Shapes.{alike_trans, same_sizes, SameSizes, cells_next}
+use Rattle.ltm_core.proofs.Shapes.{alike_trans}
+use Rattle.ltm_core.proofs.Looking.{SeenAs, with_room, repair_same, core_looks, looks_as}
 
 -- the core with the batch
 abbrev pub after_accept : CoreData → List Edit → ScenarioData → Table → CoreData
@@ -47,13 +50,12 @@ record Taken (d : CoreData) (batch : List Edit) (next : ScenarioData) (t : Table
 
 taken_of : (d : CoreData) (batch : List Edit) (next : ScenarioData) (t : Table) → IsCore d → TakesBatch d.scenario next d.table t batch → Taken d batch next t
 taken_of d batch next t is takes =
-    let sizes : SameSizes (setting_of d.scenario) (setting_of next) = same_sizes d.scenario next takes.alike in
     let edited : edited_all (scenario_now d.log) batch ≡ Ok next = subst (λ (z : ScenarioData). edited_all z batch ≡ Ok next) (sym is.scenario) takes.edited in
     record {
       setting = takes.setting;
       network = takes.network;
       table = takes.table;
-      cells = takes.cells ∙ cells_next (setting_of d.scenario) (setting_of next) d.table sizes;
+      cells = takes.table.cells;
       after = accepted_now d.log batch next edited;
     }
 
@@ -113,8 +115,8 @@ log_more d batch next t is takes few =
     }
 
 pub core_after_accept : RepairLaws → (d : CoreData) (batch : List Edit) (next : ScenarioData) (t : Table) → IsCore d → TakesBatch d.scenario next d.table t batch → version_now d.log + 1 < 2 ^ 63 →
-    IsCore (after_accept d batch next t)
-core_after_accept laws d batch next t is takes few =
+    (setting_of next).slots ≤ loading_room d.shown → IsCore (after_accept d batch next t)
+core_after_accept laws d batch next t is takes few room =
     let low : version_of d.shown ≤ version_now d.log = shown_low d is in
     let taken : Taken d batch next t = taken_of d batch next t is takes in
     record {
@@ -124,48 +126,85 @@ core_after_accept laws d batch next t is takes few =
       repair = after_event laws.keeps (repair_of d) (repair_of (after_accept d batch next t)) Accept is.repair (touches d.scenario batch, core_accepted d batch next t is takes);
       ready = takes.table.ready;
       shows = subst (λ (z : Setting). Shows z (version_of d.shown) d.shown) (sym (ap setting_of (earlier_scenario d.log batch (version_of d.shown) low))) is.shows;
+      room = room;
     }
 
-none_after : RepairLaws → (d : CoreData) (batch : List Edit) (next : ScenarioData) (t : Table) → IsCore d → TakesBatch d.scenario next d.table t batch → version_now d.log + 1 < 2 ^ 63 → IsNoneOut (after_accept d batch next t)
-none_after laws d batch next t is takes few = none_there (after_accept d batch next t) (core_after_accept laws d batch next t is takes few) (λ u v x l. takes.table.accepts.void u v)
+none_after : RepairLaws → (d : CoreData) (batch : List Edit) (next : ScenarioData) (t : Table) → IsCore d → TakesBatch d.scenario next d.table t batch → version_now d.log + 1 < 2 ^ 63 →
+    (setting_of next).slots ≤ loading_room d.shown → IsNoneOut (after_accept d batch next t)
+none_after laws d batch next t is takes few room = none_there (after_accept d batch next t) (core_after_accept laws d batch next t is takes few room) (λ u v x l. takes.table.accepts.void u v)
 
-accepts_batch : RepairLaws → (d : CoreData) (batch : List Edit) (next : ScenarioData) (t : Table) → IsCore d → TakesBatch d.scenario next d.table t batch → version_now d.log + 1 < 2 ^ 63 →
-    AcceptsBatch d batch (after_accept d batch next t)
-accepts_batch laws d batch next t is takes few =
-    let taken : Taken d batch next t = taken_of d batch next t is takes in
+looks_there : (d v m n : CoreData) → d ≡ v → m ≡ n → LooksAs d m → LooksAs v n
+looks_there d v m n same at looks = subst (λ (z : CoreData). LooksAs z n) same (subst (λ (z : CoreData). LooksAs d z) at looks)
+
+cause_there : (d v : CoreData) (batch : List Edit) (f : List Edit × EditFault) → d ≡ v → IsCore d → (f.1.cause ≢ NoMemory → edited_all d.scenario batch ≡ Err f.1) →
+    f.1.cause ≢ NoMemory → edited_all (scenario_now v.log) batch ≡ Err f.1
+cause_there d v batch f same is cause =
+    subst (λ (z : CoreData). f.1.cause ≢ NoMemory → edited_all (scenario_now z.log) batch ≡ Err f.1) same
+    (subst (λ (z : ScenarioData). f.1.cause ≢ NoMemory → edited_all z batch ≡ Err f.1) (sym is.scenario) cause)
+
+-- the core d is that before, where room was made for it first
+accepts_batch : RepairLaws → (d : CoreData) (batch : List Edit) (next : ScenarioData) (u t : Table) (l : Loading) → IsCore d → TableSeenAs d.table u → SeenAs d.shown l →
+    TakesBatch d.scenario next u t batch → version_now d.log + 1 < 2 ^ 63 → (setting_of next).slots ≤ loading_room l → AcceptsBatch d batch (after_accept (with_room d u l) batch next t)
+accepts_batch laws d batch next u t l is table shown takes few room =
+    let m : CoreData = with_room d u l in
+    let ready : IsCore m = core_looks d u l is table shown in
+    let taken : Taken m batch next t = taken_of m batch next t ready takes in
     record {
       edited = subst (λ (z : ScenarioData). edited_all z batch ≡ Ok (scenario_now (with_batch d.log batch))) (sym is.scenario)
           (subst (λ (z : ScenarioData). edited_all d.scenario batch ≡ Ok z) (sym taken.after) takes.edited);
-      keeps = ap (λ (z : ScenarioData). record d { log = with_batch d.log batch; scenario = z; table = t }) (sym taken.after);
-      accepted = core_accepted d batch next t is takes;
-      none_out = none_after laws d batch next t is takes few;
+      keeps = ap (λ (z : ScenarioData). record d { log = with_batch d.log batch; scenario = z; table = t; shown = l }) (sym taken.after);
+      shown = shown.same;
+      accepted = subst (λ (z : RepairState). Accepted z (touches d.scenario batch) (repair_of (after_accept m batch next t))) (repair_same d u l is.ready.fits table shown)
+          (core_accepted m batch next t ready takes);
+      none_out = none_after laws m batch next t ready takes few room;
     }
 
 -- ---- whatever the batch came to
-pub core_after_batch : RepairLaws → (d : CoreData) (batch : List Edit) (next : ScenarioData) (t : Table) (log : Log) (r : Result (Unit {0}) (List Edit × EditFault)) → IsCore d →
-    OnOk r (TakesBatch d.scenario next d.table t batch) → OnOk r (log ≡ with_batch d.log batch) → OnOk r (version_now d.log + 1 < 2 ^ 63) →
-    OnErr r (next ≡ d.scenario) → OnErr r (t ≡ d.table) → OnErr r (log ≡ d.log) → IsCore (record d { log = log; scenario = next; table = t })
-core_after_batch laws d batch next t log (Ok x) is takes put few p q e =
-    subst (λ (z : Log). IsCore (record d { log = z; scenario = next; table = t })) (sym put) (core_after_accept laws d batch next t is takes few)
-core_after_batch laws d batch next t log (Err f) is takes put few p q e =
-    subst (λ (z : Log). IsCore (record d { log = z; scenario = next; table = t })) (sym e)
-    (subst (λ (z : ScenarioData). IsCore (record d { scenario = z; table = t })) (sym p)
-    (subst (λ (z : Table). IsCore (record d { table = z })) (sym q) is))
+pub core_after_batch : RepairLaws → (d : CoreData) (batch : List Edit) (next : ScenarioData) (u t : Table) (l : Loading) (log : Log) (r : Result (Unit {0}) (List Edit × EditFault)) → IsCore d →
+    TableSeenAs d.table u → SeenAs d.shown l → OnOk r (TakesBatch d.scenario next u t batch) → OnOk r ((setting_of next).slots ≤ loading_room l) → OnOk r (log ≡ with_batch d.log batch) →
+    OnOk r (version_now d.log + 1 < 2 ^ 63) → OnErr r (next ≡ d.scenario) → OnErr r (t ≡ u) → OnErr r (log ≡ d.log) → IsCore (record d { log = log; scenario = next; table = t; shown = l })
+core_after_batch laws d batch next u t l log (Ok x) is table shown takes room put few p q e =
+    subst (λ (z : Log). IsCore (record d { log = z; scenario = next; table = t; shown = l })) (sym put)
+    (core_after_accept laws (with_room d u l) batch next t (core_looks d u l is table shown) takes few room)
+core_after_batch laws d batch next u t l log (Err f) is table shown takes room put few p q e =
+    subst (λ (z : Log). IsCore (record d { log = z; scenario = next; table = t; shown = l })) (sym e)
+    (subst (λ (z : ScenarioData). IsCore (record d { scenario = z; table = t; shown = l })) (sym p)
+    (subst (λ (z : Table). IsCore (record d { table = z; shown = l })) (sym q) (core_looks d u l is table shown)))
 
-pub core_tells_accept : RepairLaws → (d v : CoreData) (batch : List Edit) (next : ScenarioData) (t : Table) (log : Log) (r : Result (Unit {0}) (List Edit × EditFault)) → d ≡ v → IsCore d →
-    OnOk r (TakesBatch d.scenario next d.table t batch) → OnOk r (log ≡ with_batch d.log batch) → OnOk r (version_now d.log + 1 < 2 ^ 63) →
-    OnErr r (next ≡ d.scenario) → OnErr r (t ≡ d.table) → OnErr r (log ≡ d.log) →
+pub core_tells_accept : RepairLaws → (d v : CoreData) (batch : List Edit) (next : ScenarioData) (u t : Table) (l : Loading) (log : Log) (r : Result (Unit {0}) (List Edit × EditFault)) → d ≡ v → IsCore d →
+    TableSeenAs d.table u → SeenAs d.shown l → OnOk r (TakesBatch d.scenario next u t batch) → OnOk r ((setting_of next).slots ≤ loading_room l) → OnOk r (log ≡ with_batch d.log batch) →
+    OnOk r (version_now d.log + 1 < 2 ^ 63) → OnErr r (next ≡ d.scenario) → OnErr r (t ≡ u) → OnErr r (log ≡ d.log) →
     IfErr r (λ f. f.0 ≡ batch) → IfErr r (λ f. f.1.cause ≢ NoMemory → edited_all d.scenario batch ≡ Err f.1) →
-    TellsAccept v batch r (record d { log = log; scenario = next; table = t })
-core_tells_accept laws d v batch next t log (Ok x) same is takes put few p q e back cause =
-    subst (λ (z : Log). AcceptsBatch v batch (record d { log = z; scenario = next; table = t })) (sym put)
-    (subst (λ (z : CoreData). AcceptsBatch z batch (after_accept d batch next t)) same (accepts_batch laws d batch next t is takes few))
-core_tells_accept laws d v batch next t log (Err f) same is takes put few p q e back cause =
-    let stays : record d { log = log; scenario = next; table = t } ≡ d =
-    ap (λ (z : Log). record d { log = z; scenario = next; table = t }) e ∙ (ap (λ (z : ScenarioData). record d { scenario = z; table = t }) p ∙ ap (λ (z : Table). record d { table = z }) q) in
-    let here : f.1.cause ≢ NoMemory → edited_all (scenario_now d.log) batch ≡ Err f.1 =
-    subst (λ (z : ScenarioData). f.1.cause ≢ NoMemory → edited_all z batch ≡ Err f.1) (sym is.scenario) cause in
-    (back, stays ∙ same, subst (λ (z : CoreData). f.1.cause ≢ NoMemory → edited_all (scenario_now z.log) batch ≡ Err f.1) same here)
+    TellsAccept v batch r (record d { log = log; scenario = next; table = t; shown = l })
+core_tells_accept laws d v batch next u t l log (Ok x) same is table shown takes room put few p q e back cause =
+    subst (λ (z : Log). AcceptsBatch v batch (record d { log = z; scenario = next; table = t; shown = l })) (sym put)
+    (subst (λ (z : CoreData). AcceptsBatch z batch (after_accept (with_room d u l) batch next t)) same (accepts_batch laws d batch next u t l is table shown takes few room))
+core_tells_accept laws d v batch next u t l log (Err f) same is table shown takes room put few p q e back cause =
+    let stays : record d { log = log; scenario = next; table = t; shown = l } ≡ with_room d u l =
+    ap (λ (z : Log). record d { log = z; scenario = next; table = t; shown = l }) e
+    ∙ (ap (λ (z : ScenarioData). record d { scenario = z; table = t; shown = l }) p ∙ ap (λ (z : Table). record d { table = z; shown = l }) q) in
+    (back, looks_there d v (with_room d u l) _ same (sym stays) (looks_as d u l is table shown), cause_there d v batch f same is cause)
+
+core_refuses : (d v : CoreData) (batch : List Edit) (u : Table) (l : Loading) (log : Log) (f : List Edit × EditFault) → d ≡ v → IsCore d → TableSeenAs d.table u → SeenAs d.shown l → log ≡ d.log →
+    f.0 ≡ batch → f.1.cause ≡ NoMemory → TellsAccept v batch (Err f) (record d { log = log; table = u; shown = l })
+core_refuses d v batch u l log f same is table shown e back cause = (
+  back,
+  looks_there d v (with_room d u l) _ same (ap (λ (z : Log). record d { log = z; table = u; shown = l }) (sym e)) (looks_as d u l is table shown),
+  λ other. absurd (other cause),
+)
+
+-- the core with more room, where no memory is left for the rest
+pub core_roomy : (d : CoreData) (u : Table) (l : Loading) (log : Log) → IsCore d → TableSeenAs d.table u → SeenAs d.shown l → log ≡ d.log → IsCore (record d { log = log; table = u; shown = l })
+core_roomy d u l log is table shown same = subst (λ (z : Log). IsCore (record d { log = z; table = u; shown = l })) (sym same) (core_looks d u l is table shown)
+
+pub no_memory_tells : (d v : CoreData) (batch : List Edit) (u : Table) (l : Loading) (log : Log) (r : Result (Unit {0}) (List Edit × EditFault)) → d ≡ v → IsCore d → TableSeenAs d.table u → SeenAs d.shown l →
+    log ≡ d.log → r ≡ Err (batch, record { place = 0; cause = NoMemory }) → TellsAccept v batch r (record d { log = log; table = u; shown = l })
+no_memory_tells d v batch u l log r same is table shown e told =
+    subst (λ (z : Result (Unit {0}) (List Edit × EditFault)). TellsAccept v batch z (record d { log = log; table = u; shown = l })) (sym told)
+    (core_refuses d v batch u l log (batch, record { place = 0; cause = NoMemory }) same is table shown e refl refl)
+
+pub kept_log : (o : ScenarioData) (b c : List (List Edit)) (m n : List Bool) → c ≡ b → n ≡ m → log_of o c n ≡ log_of o b m
+kept_log o b c m n batches marks = ap (λ (z : List (List Edit)). log_of o z n) batches ∙ ap (λ (z : List Bool). log_of o b z) marks
 
 -- ---- how scenario and table take a batch in
 pub have_slots : (s : ScenarioData) → IsScenario s → HaveSlots s
@@ -174,18 +213,23 @@ have_slots s is = record { entry = is.entry; exit = is.exit }
 pub batch_network : BatchTouchesReaders → (s next : ScenarioData) (batch : List Edit) → IsScenario s → edited_all s batch ≡ Ok next → SameNetwork (setting_of s) (setting_of next)
 batch_network law s next batch is edited = (law 1 s next batch (have_slots s is) edited).0.network
 
-pub takes_batch : BatchTouchesReaders → (s next : ScenarioData) (batch edits : List Edit) (old new : Table) → IsScenario s → IsScenario next → IsValid next → SameShape s next → next.setup.slots ≡ s.setup.slots → IsSetting (setting_of next) →
+pub takes_batch : BatchTouchesReaders → (s next : ScenarioData) (batch edits : List Edit) (old new : Table) → IsScenario s → IsScenario next → IsValid next → SameShape s next → IsSetting (setting_of next) →
     edited_all s batch ≡ Ok next → edits ≡ batch → IsReady (setting_of s) old → ((before : ScenarioData) → LeadsTo before next edits → IsReady (setting_of before) old → TakesIn before next edits old new) →
-    ((z : Setting) → changed_at z new ≡ changed_at z old) → TakesBatch s next old new batch
-takes_batch law s next batch edits old new scenario scenario' valid shape slots setting edited same ready taken cells =
-    let leads : LeadsTo s next batch = record { shape = shape; reads = (law 1 s next batch (have_slots s scenario) edited).1; horizon = slots } in
+    TakesBatch s next old new batch
+takes_batch law s next batch edits old new scenario scenario' valid shape setting edited same ready taken =
+    let leads : LeadsTo s next batch = record { shape = shape; reads = (law 1 s next batch (have_slots s scenario) edited).1 } in
     record {
       edited = edited;
       scenario = scenario';
       valid = valid;
-      alike = record { slots = slots; network = shape.network; destinations = shape.destinations };
+      alike = record { slots = shape.slots; network = shape.network; destinations = shape.destinations };
       setting = setting;
       network = batch_network law s next batch scenario edited;
       table = subst (λ (es : List Edit). TakesIn s next es old new) same (taken s (subst (λ (es : List Edit). LeadsTo s next es) (sym same) leads) ready);
-      cells = cells (setting_of next);
     }
+
+-- ---- the horizon that a batch asks for
+-- the room that was made for it is room for the next scenario
+pub ok_room : (r : Result (Unit {0}) (List Edit × EditFault)) (room asked after slots : ℕ) → asked ≤ room → asked ≡ after → OnOk r (slots ≡ after) → OnOk r (slots ≤ room)
+ok_room (Ok x) room asked after slots enough same is = omega (enough, same, is, arith)
+ok_room (Err f) room asked after slots enough same is = tt

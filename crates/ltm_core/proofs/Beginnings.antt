@@ -11,7 +11,7 @@ use Rattle.ltm_loading.specs.Loading.{IsLoading}
 use Rattle.ltm_loading.specs.LoadingLaws.{OneLoading}
 use Rattle.ltm_setting.specs.Setting.{setting_of}
 use Rattle.ltm_flows.specs.declared.loading.Loading.{Loading}
-use Rattle.ltm_flows.specs.Shown.{Shows, curves_of, version_of}
+use Rattle.ltm_flows.specs.Shown.{Shows, curves_of, version_of, last_of, loading_room}
 use Rattle.ltm_repair.specs.Desk.{IsSettled}
 use Rattle.ltm_repair.specs.State.{now}
 use Rattle.ltm_repair.specs.Repair.{IsOpening}
@@ -82,14 +82,16 @@ shows_begun s l shows =
     let P : ℕ → Type 0 = λ n. Shows (setting_at (first_log s) n) n l in
     subst P (sym shows.version) (subst (λ (z : Setting). Shows z 0 l) (sym at) shows)
 
-pub core_begins : RepairLaws → OneLoading → (s : ScenarioData) (t : Table) (l : Loading) → IsScenario s → IsValid s → IsSetting (setting_of s) → IsOpened (setting_of s) t → Shows (setting_of s) 0 l → IsCore (begun s t l)
-core_begins laws law s t l scenario valid is o shows = record {
+pub core_begins : RepairLaws → OneLoading → (s : ScenarioData) (t : Table) (l : Loading) → IsScenario s → IsValid s → IsSetting (setting_of s) → IsOpened (setting_of s) t → Shows (setting_of s) 0 l →
+    last_of l ≤ loading_room l → IsCore (begun s t l)
+core_begins laws law s t l scenario valid is o shows room = record {
   log = log_begun s scenario;
   scenario = first_now s;
   valid = valid;
   repair = laws.opening (repair_of (begun s t l)) (opening_of law s t l is o shows (now_begun s t l));
   ready = o.ready;
   shows = shows_begun s l shows;
+  room = omega (shows.shape.same_slots, room, arith);
 }
 
 rests_begun : (s : ScenarioData) (t : Table) (l : Loading) → IsOpened (setting_of s) t → IsResting (begun s t l)

@@ -78,6 +78,7 @@ core_after_commit laws d t u v row is ready step = record {
       (row, readers (setting_of d.scenario) (desk_in d) (desk_at (setting_of d.scenario) t) u v, core_commits d t u v row is step);
   ready = ready;
   shows = is.shows;
+  room = is.room;
 }
 
 commits_done : (d : CoreData) (t : Table) (pair : Pair) (row : List ℕ) → IsCore d → CommitsInTable (setting_of d.scenario) d.table pair.node.0 pair.slot row t → CommitsDone d pair row (after_commit d t)

@@ -40,7 +40,7 @@ after_event law s e x is step = law s e (x ∷ []) is (e, step, refl)
 
 -- another table, of which the facts hold
 pub core_with : (d : CoreData) (t : Table) → IsCore d → IsReady (setting_of d.scenario) t → IsRepair (repair_of (record d { table = t })) → IsCore (record d { table = t })
-core_with d t is ready repair = record { log = is.log; scenario = is.scenario; valid = is.valid; repair = repair; ready = ready; shows = is.shows }
+core_with d t is ready repair = record { log = is.log; scenario = is.scenario; valid = is.valid; repair = repair; ready = ready; shows = is.shows; room = is.room }
 
 -- where the table's cells stay, all but the desk stays
 pub only_desk : (d : CoreData) (t : Table) → changed_at (setting_of d.scenario) t ≡ changed_at (setting_of d.scenario) d.table → OnlyDesk (repair_of d) (repair_of (record d { table = t }))

@@ -5,6 +5,7 @@ pub mod Claimings
 pub mod Committings
 pub mod Showings
 pub mod Shapes
+pub mod Looking
 pub mod Batches
 pub mod Beginnings
 pub mod Running

@@ -44,7 +44,7 @@ give_back_happens d e claim h = elim (claim_kept_or_not d claim.pair claim.ticke
 
 accept_happens : (d e : CoreData) (batch : List Edit) (answer : Result (Unit {0}) (List Edit × EditFault)) → TellsAccept d batch answer e → Does d (accept_event answer) e
 accept_happens d e batch (Ok taken) h = (_, h.accepted)
-accept_happens d e batch (Err refused) h = ap repair_of h.1
+accept_happens d e batch (Err refused) h = h.1.repair
 
 publish_happens : (d e : CoreData) (answer : Published) → TellsPublish d answer e → Does d (publish_event answer) e
 publish_happens d e (Shown version) h = h.published

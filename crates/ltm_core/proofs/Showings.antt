@@ -5,6 +5,7 @@ use Rattle.ltm_units.proofs.Sums.{sum_below-zero}
 use Rattle.ltm_curve.specs.declared.curves.Curves.{Curves}
 use Rattle.ltm_curve.specs.declared.changed.Changed.{Changed}
 use Rattle.ltm_curve.specs.Table.{counts_of, IsIn}
+use Rattle.ltm_flows.specs.Shaped.{IsShaped}
 use Rattle.ltm_curve.specs.Cells.{is_changed}
 use Rattle.ltm_loading.specs.Setting.{Setting}
 use Rattle.ltm_loading.specs.Groups.{groups}
@@ -12,7 +13,6 @@ use Rattle.ltm_loading.specs.Loading.{IsLoading}
 use Rattle.ltm_scenario.specs.Data.{ScenarioData}
 use Rattle.ltm_scenario.specs.IsScenario.{IsScenario}
 use Rattle.ltm_setting.specs.Setting.{setting_of}
-use Rattle.ltm_flows.specs.Shaped.{IsShaped}
 use Rattle.ltm_flows.specs.declared.loading.Loading.{Loading}
 use Rattle.ltm_flows.specs.Shown.{Shows, Fits, AgreesOutside, version_of, curves_of, last_of, loading_room}
 use Rattle.ltm_repair.specs.Desk.{IsAtRest}
@@ -30,7 +30,7 @@ use Rattle.ltm_core.specs.Laws.{RepairLaws}
 use Rattle.ltm_core.specs.Cores.{CoreData, desk_in, repair_of, IsResting, IsShownOf, IsAlike, IsLog, IsCore}
 use Rattle.ltm_core.specs.CoreAnswers.{PublishesAll, SettlesAll}
 use Rattle.ltm_core.proofs.Logs.{last_scenario, version_marked, settled_marked, marked_scenario, marked_now, opening_marked, holds_marked}
-use Rattle.ltm_core.proofs.Shapes.{SameSizes, same_sizes, alike_sym, alike_trans, shown_fits as fits_of}
+use Rattle.ltm_core.proofs.Shapes.{SameSizes, same_sizes, shown_fits as fits_of}
 use Rattle.ltm_core.proofs.Cores.{core_now, after_event, rests_there}
 
 -- ---- publishing
@@ -40,6 +40,7 @@ pub record ShowsTable (s : Setting) (version : ℕ) (old new : Table) (l : Loadi
   pub ready : IsReady s new
   pub cleared : (g k : ℕ) → changed_at s new g k ≡ false
   pub shows : Shows s version l
+  pub room : s.slots ≤ loading_room l
   pub counts : (g e k : ℕ) → g < groups s → e < s.destinations → k ≤ s.slots → counts_of (curves_of l) g e k ≡ (desk_at s old).counts g e k
 
 abbrev pub after_publish : CoreData → Table → Loading → CoreData
@@ -85,6 +86,7 @@ core_after_publish laws d t l is rest step = record {
   repair = after_event laws.keeps (repair_of d) (repair_of (after_publish d t l)) Publish is.repair (core_publishes d t l is rest step);
   ready = step.ready;
   shows = shows_last d l is step.shows;
+  room = step.room;
 }
 
 -- no cell is counted where none is changed
@@ -163,6 +165,7 @@ core_after_settle laws d is at = record {
   repair = after_event laws.keeps (repair_of d) (repair_of (after_settle d)) (Settle d.commits) is.repair (settled_of_core d at);
   ready = is.ready;
   shows = shows_marked d.log (version_of d.shown) d.shown is.shows;
+  room = is.room;
 }
 
 up_to_date : (d : CoreData) → IsCore d → version_of d.shown ≡ version_now d.log → IsResting d
@@ -209,6 +212,7 @@ core_stops d b is = record {
   repair = subst (λ (r : RepairState). IsRepair r) (same_stopped d b) is.repair;
   ready = is.ready;
   shows = is.shows;
+  room = is.room;
 }
 
 -- ---- what is shown
@@ -231,15 +235,22 @@ core_shown d is =
 pub core_shown_at : (d v : CoreData) → d ≡ v → IsCore d → IsShownOf v.log v.shown
 core_shown_at d v same is = subst (λ (z : CoreData). IsShownOf z.log z.shown) same (core_shown d is)
 
--- ---- what is shown has the sizes of the present setting, and its counts but in the changed cells
+-- ---- what is shown has the sizes of the present setting but for a longer horizon, and its counts but in the changed cells
 shown_sizes : (d : CoreData) → IsCore d → SameSizes (setting_at d.log (version_of d.shown)) (setting_of d.scenario)
 shown_sizes d is =
-    let low : version_of d.shown ≤ version_now d.log = shown_low d is in
-    same_sizes (scenario_at d.log (version_of d.shown)) d.scenario
-    (alike_trans (scenario_at d.log (version_of d.shown)) d.log.opening d.scenario (alike_sym d.log.opening (scenario_at d.log (version_of d.shown)) (is.log.alike (version_of d.shown) low)) (core_shape d is))
+    let was : IsAlike d.log.opening (scenario_at d.log (version_of d.shown)) = is.log.alike (version_of d.shown) (shown_low d is) in
+    let now : IsAlike d.log.opening d.scenario = core_shape d is in
+    same_sizes (scenario_at d.log (version_of d.shown)) d.scenario (now.network ∙ sym was.network) (now.destinations ∙ sym was.destinations)
 
-pub core_fits : (d : CoreData) → IsCore d → last_of d.shown ≤ loading_room d.shown → Fits (setting_of d.scenario) d.shown
-core_fits d is room = fits_of (setting_at d.log (version_of d.shown)) (setting_of d.scenario) (version_of d.shown) d.shown (shown_sizes d is) is.shows room
+longer_here : (d : CoreData) → now (repair_of d) ≡ setting_of d.scenario → IsRepair (repair_of d) → (k : ℕ) → k ≤ version_now d.log → (setting_at d.log k).slots ≤ (setting_of d.scenario).slots
+unfolding repair_of
+longer_here d at is k l = subst (λ (z : Setting). (setting_at d.log k).slots ≤ z.slots) at (is.history.horizon k l)
+
+shown_shorter : (d : CoreData) → IsCore d → (setting_at d.log (version_of d.shown)).slots ≤ (setting_of d.scenario).slots
+shown_shorter d is = longer_here d (core_now d is) is.repair (version_of d.shown) (shown_low d is)
+
+pub core_fits : (d : CoreData) → IsCore d → Fits (setting_of d.scenario) d.shown
+core_fits d is = fits_of (setting_at d.log (version_of d.shown)) (setting_of d.scenario) (version_of d.shown) d.shown (shown_sizes d is) (shown_shorter d is) is.shows is.room
 
 agrees_here : (d : CoreData) → now (repair_of d) ≡ setting_of d.scenario → IsRepair (repair_of d) → (g e k : ℕ) → g < groups (setting_of d.scenario) → e < (setting_of d.scenario).destinations →
     changed_at (setting_of d.scenario) d.table g k ≡ false → k ≤ (setting_at d.log (version_of d.shown)).slots → counts_of (curves_of d.shown) g e k ≡ (desk_in d).counts g e k
@@ -253,21 +264,34 @@ agrees_in : (d : CoreData) (c : Curves) (x : Changed) → IsCore d → (desk_in 
     ((g k : ℕ) → g < groups (setting_of d.scenario) → k ≤ (setting_of d.scenario).slots → is_changed x g k ≡ changed_at (setting_of d.scenario) d.table g k) →
     (g e k : ℕ) → IsIn (curves_of d.shown) g e k → is_changed x g k ≡ false → counts_of (curves_of d.shown) g e k ≡ counts_of c g e k
 agrees_in d c x is same cells g e k inside off =
-    let sizes : SameSizes (setting_at d.log (version_of d.shown)) (setting_of d.scenario) = shown_sizes d is in
-    let in_groups : g < groups (setting_of d.scenario) = omega (inside.is_group, is.shows.shape.same_groups, sizes.groups, arith) in
-    let in_destinations : e < (setting_of d.scenario).destinations = omega (inside.is_destination, is.shows.shape.same_destinations, sizes.destinations, arith) in
+    let fits : Fits (setting_of d.scenario) d.shown = core_fits d is in
+    let in_groups : g < groups (setting_of d.scenario) = omega (inside.is_group, fits.groups, arith) in
+    let in_destinations : e < (setting_of d.scenario).destinations = omega (inside.is_destination, fits.destinations, arith) in
     let in_shown : k ≤ (setting_at d.log (version_of d.shown)).slots = omega (inside.is_boundary, is.shows.shape.same_slots, arith) in
-    let in_slots : k ≤ (setting_of d.scenario).slots = omega (in_shown, sizes.slots, arith) in
+    let in_slots : k ≤ (setting_of d.scenario).slots = omega (in_shown, shown_shorter d is, arith) in
     agrees_here d (core_now d is) is.repair g e k in_groups in_destinations (sym (cells g k in_groups in_slots) ∙ off) in_shown ∙ ap (λ (f : ℕ → ℕ → ℕ → ℕ). f g e k) same
+
+beyond_here : (d : CoreData) → now (repair_of d) ≡ setting_of d.scenario → IsRepair (repair_of d) → (g e k : ℕ) → g < groups (setting_of d.scenario) → e < (setting_of d.scenario).destinations →
+    changed_at (setting_of d.scenario) d.table g k ≡ false → (setting_at d.log (version_of d.shown)).slots < k → k ≤ (setting_of d.scenario).slots → (desk_in d).counts g e k ≡ 0
+unfolding repair_of
+beyond_here d at is =
+    let P : Setting → Type 0 = λ z. (g e k : ℕ) → g < groups z → e < z.destinations → changed_at (setting_of d.scenario) d.table g k ≡ false →
+    (setting_at d.log (version_of d.shown)).slots < k → k ≤ z.slots → (desk_in d).counts g e k ≡ 0 in
+    subst P at is.shows.beyond
+
+none_beyond : (d : CoreData) (c : Curves) (x : Changed) → IsCore d → IsShaped (setting_of d.scenario) c → (desk_in d).counts ≡ counts_of c →
+    ((g k : ℕ) → g < groups (setting_of d.scenario) → k ≤ (setting_of d.scenario).slots → is_changed x g k ≡ changed_at (setting_of d.scenario) d.table g k) →
+    (g e k : ℕ) → IsIn c g e k → last_of d.shown < k → is_changed x g k ≡ false → counts_of c g e k ≡ 0
+none_beyond d c x is shape same cells g e k inside late off =
+    let in_groups : g < groups (setting_of d.scenario) = omega (inside.is_group, shape.same_groups, arith) in
+    let in_destinations : e < (setting_of d.scenario).destinations = omega (inside.is_destination, shape.same_destinations, arith) in
+    let in_slots : k ≤ (setting_of d.scenario).slots = omega (inside.is_boundary, shape.same_slots, arith) in
+    let past : (setting_at d.log (version_of d.shown)).slots < k = omega (late, is.shows.shape.same_slots, arith) in
+    sym (ap (λ (f : ℕ → ℕ → ℕ → ℕ). f g e k) same) ∙ beyond_here d (core_now d is) is.repair g e k in_groups in_destinations (sym (cells g k in_groups in_slots) ∙ off) past in_slots
 
 pub core_agrees : (d : CoreData) (c : Curves) (x : Changed) → IsCore d → IsShaped (setting_of d.scenario) c → (desk_in d).counts ≡ counts_of c →
     ((g k : ℕ) → g < groups (setting_of d.scenario) → k ≤ (setting_of d.scenario).slots → is_changed x g k ≡ changed_at (setting_of d.scenario) d.table g k) → AgreesOutside d.shown c x
-core_agrees d c x is shape same cells =
-    let sizes : SameSizes (setting_at d.log (version_of d.shown)) (setting_of d.scenario) = shown_sizes d is in
-    record {
-      agree = agrees_in d c x is same cells;
-      beyond = λ g e k inside late off. absurd (omega (inside.is_boundary, shape.same_slots, late, is.shows.shape.same_slots, sizes.slots, arith));
-    }
+core_agrees d c x is shape same cells = record { agree = agrees_in d c x is same cells; beyond = none_beyond d c x is shape same cells }
 
 -- ---- settle counts that are exact
 pub settle_counts_are_exact : SettleCountsAreExact

@@ -9,7 +9,7 @@ use Rattle.ltm_scenario.specs.Data.{ScenarioData}
 use Rattle.ltm_scenario.specs.Edits.{edited_all}
 use Rattle.ltm_loading.specs.Pairs.{shape_at}
 use Rattle.ltm_setting.specs.Setting.{setting_of}
-use Rattle.ltm_flows.specs.Shown.{version_of}
+use Rattle.ltm_flows.specs.Shown.{version_of, SameLoading}
 use Rattle.ltm_repair.specs.Answers.{ClaimAnswer, Got, NotYet, Rest}
 use Rattle.ltm_repair.specs.Events.{Committed as CommitHappened, GaveBack, Accepted, Published as PublishHappened, Settled}
 use Rattle.ltm_desk.specs.Committing.{readers, rewritten}
@@ -85,17 +85,28 @@ pub record TellsGiveBack (old : CoreData) (claim : ClaimData) (new : CoreData) :
   pub keeps : KeepsAll old new
 
 -- ---- accept: the batch is last in the log, the scenario is as edited, claims are void, and a pair is active exactly where
--- it was active or claimed or is touched by the batch
+-- it was active or claimed, is touched by the batch, or is new; what is shown stays
 pub record AcceptsBatch (old : CoreData) (batch : List Edit) (new : CoreData) : Type 0 where
   pub edited : edited_all (scenario_now old.log) batch ≡ Ok (scenario_now new.log)
-  pub keeps : new ≡ record old { log = with_batch old.log batch; scenario = scenario_now new.log; table = new.table }
+  pub keeps : new ≡ record old { log = with_batch old.log batch; scenario = scenario_now new.log; table = new.table; shown = new.shown }
+  pub shown : SameLoading old.shown new.shown
   pub accepted : Accepted (repair_of old) (touches old.scenario batch) (repair_of new)
   pub none_out : IsNoneOut new
 
--- a refused batch is given back with its first fault, and changes nothing
+-- all but room is as before
+pub record LooksAs (old new : CoreData) : Type 0 where
+  pub log : new.log ≡ old.log
+  pub scenario : new.scenario ≡ old.scenario
+  pub commits : new.commits ≡ old.commits
+  pub stopped : new.stopped ≡ old.stopped
+  pub shown : SameLoading old.shown new.shown
+  pub desk : desk_in new ≡ desk_in old
+  pub repair : repair_of new ≡ repair_of old
+
+-- a refused batch is given back with its first fault, and changes nothing but room
 abbrev pub TellsAccept : CoreData → List Edit → Result (Unit {0}) (List Edit × EditFault) → CoreData → Type 0
 TellsAccept old batch (Ok done) new = AcceptsBatch old batch new
-TellsAccept old batch (Err e) new = (e.0 ≡ batch) × (new ≡ old) × (e.1.cause ≢ NoMemory → edited_all (scenario_now old.log) batch ≡ Err e.1)
+TellsAccept old batch (Err e) new = (e.0 ≡ batch) × LooksAs old new × (e.1.cause ≢ NoMemory → edited_all (scenario_now old.log) batch ≡ Err e.1)
 
 -- ---- publish: the working counts are shown exactly at rest; else nothing changes
 pub record PublishesAll (old : CoreData) (version : ℕ) (new : CoreData) : Type 0 where

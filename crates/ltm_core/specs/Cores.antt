@@ -8,7 +8,7 @@ use Rattle.ltm_scenario.specs.IsScenario.{IsScenario}
 use Rattle.ltm_scenario.specs.Valid.{IsValid}
 use Rattle.ltm_setting.specs.Setting.{setting_of}
 use Rattle.ltm_flows.specs.declared.loading.Loading.{Loading}
-use Rattle.ltm_flows.specs.Shown.{Shows, version_of, curves_of}
+use Rattle.ltm_flows.specs.Shown.{Shows, version_of, curves_of, loading_room}
 use Rattle.ltm_repair.specs.Desk.{Desk, IsAtRest}
 use Rattle.ltm_repair.specs.Counting.{left_to_do, undone, claims_out}
 use Rattle.ltm_repair.specs.State.{RepairState, now}
@@ -82,9 +82,9 @@ unfoldable pub undone_of : CoreData → ℕ
 undone_of d = undone (now (repair_of d)).nodes (now (repair_of d)).slots (repair_of d).desk
 
 -- ---- what holds of every core
--- scenarios of one horizon, network and destinations
+-- scenarios of one network and one list of destinations, the second with no shorter horizon
 pub record IsAlike (s next : ScenarioData) : Type 0 where
-  pub slots : next.setup.slots ≡ s.setup.slots
+  pub slots : s.setup.slots ≤ next.setup.slots
   pub network : next.network ≡ s.network
   pub destinations : next.destinations ≡ s.destinations
 
@@ -102,7 +102,8 @@ pub record IsLog (log : Log) : Type 0 where
   pub alike : (k : ℕ) → k ≤ version_now log → IsAlike log.opening (scenario_at log k)
   pub few : version_now log < 2 ^ 63
 
--- a core's scenario is that of its log and valid, its desk is that of a repair, and it shows a loading
+-- a core's scenario is that of its log and valid, its desk is that of a repair, and it shows a loading, which has room for
+-- the present horizon
 pub record IsCore (d : CoreData) : Type 0 where
   pub log : IsLog d.log
   pub scenario : scenario_now d.log ≡ d.scenario
@@ -110,3 +111,4 @@ pub record IsCore (d : CoreData) : Type 0 where
   pub repair : IsRepair (repair_of d)
   pub ready : IsReady (setting_of d.scenario) d.table
   pub shows : Shows (setting_at d.log (version_of d.shown)) (version_of d.shown) d.shown
+  pub room : (setting_of d.scenario).slots ≤ loading_room d.shown

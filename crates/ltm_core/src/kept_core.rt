@@ -1,10 +1,10 @@
 //! A core: a scenario that is edited, its loading that is repaired, and a finished loading that others read.
-ghost use Rattle.std.specs.Prelude.{◌≡◌, ◌↔◌, ◌<◌, ◌*◌, ◌^◌, IsTrue, IfOk, IfErr, true};
+ghost use Rattle.std.specs.Prelude.{◌≡◌, ◌↔◌, ◌<◌, ◌≤◌, ◌*◌, ◌^◌, IsTrue, IfOk, IfErr, true};
 ghost use Rattle.ltm_curve.specs.Table.{counts_of};
 ghost use Rattle.ltm_scenario.specs.Valid.{IsValid};
 ghost use Rattle.ltm_scenario.specs.IsScenario.{IsScenario};
 ghost use Rattle.ltm_setting.specs.Setting.{setting_of};
-ghost use Rattle.ltm_flows.specs.Shown.{Shows};
+ghost use Rattle.ltm_flows.specs.Shown.{Shows, last_of, loading_room};
 ghost use Rattle.ltm_desk.specs.Cells.{count_cells};
 ghost use Rattle.ltm_desk.specs.Ready.{IsOpened};
 ghost use Rattle.ltm_core.specs.Log.{batches_of, version_now, scenario_now};
@@ -85,10 +85,12 @@ fn begin(alloc: Global, scenario: &Scenario) -> Result<Begun, NoMemory>
     ensures opening { IfOk result (λ b. b.opening ≡ scenario.now) }
     ensures table { IfOk result (λ b. IsOpened (setting_of scenario.now) b.table) }
     ensures shown { IfOk result (λ b. Shows (setting_of scenario.now) 0 b.shown) }
+    ensures room { IfOk result (λ b. last_of b.shown ≤ loading_room b.shown) }
 {
     let opening = scenario.try_copy()?;
     let table = Table::create(alloc, scenario)?;
     let shown = Loading::create(alloc, scenario, table.curves(), 0)?;
+    let _room = shown.room();
     Ok(Begun {
         opening,
         table,

@@ -1,11 +1,12 @@
 -- Pairs are made active in steps.
-use Rattle.std.proofs.Common.{◌≡◌, ℕ, ◌+◌, ◌<◌, ◌&&◌, ◌||◌, not, Bool, false, refl, ap, sym, ◌∙◌, arith}
+use Rattle.std.proofs.Common.{◌≡◌, ℕ, ◌+◌, ◌<◌, ◌≤◌, ◌==◌, ◌&&◌, ◌||◌, not, nat_le, nat_lt, Bool, true, false, refl, ap, sym, ◌∙◌, arith, inl, inr}
+use Rattle.std.proofs.lemmas.Bool.{cases_lt, cases_eq, lt-ltb, le-ltb, eq-eqb, ne_eqb}
 use Rattle.ltm_loading.specs.Setting.{Setting}
 use Rattle.ltm_frontier.specs.declared.frontier.Frontier.{Frontier}
-use Rattle.ltm_frontier.specs.Frontier.{nodes_of, slots_of, is_active, is_claimed, Activates}
+use Rattle.ltm_frontier.specs.Frontier.{nodes_of, slots_of, is_active, is_claimed, in_slots, Activates}
 use Rattle.ltm_pairs.specs.Changes.{some_below}
 use Rattle.ltm_desk.specs.Ready.{HasPairs}
-use Rattle.ltm_desk.proofs.Bools.{or_false, twice, one_more}
+use Rattle.ltm_desk.proofs.Bools.{or_false, and_on, twice, one_more}
 
 pub act_none : (f : Frontier) → Activates f f (λ w v. false)
 act_none f = record {
@@ -51,3 +52,27 @@ act_next a b c n f g first next same =
 
 pub pairs_stay : (s : Setting) (a b : Frontier) (f : ℕ → ℕ → Bool) → HasPairs s a → Activates a b f → HasPairs s b
 pairs_stay s a b f has acts = record { nodes = acts.size.nodes ∙ has.nodes; slots = acts.size.slots ∙ has.slots }
+
+-- ---- all pairs from a slot on, node after node
+node_more : (u t n from slots : ℕ) → t < slots → ((nat_lt u n && nat_le from t) || ((u == n) && (nat_le from t && nat_lt t slots))) ≡ (nat_lt u (n + 1) && nat_le from t)
+node_more u t n from slots l =
+    let inside : nat_lt t slots ≡ true = lt-ltb t slots l in
+    elim (cases_lt u n) [
+      | inl low ↦ rw (lt-ltb u n low, lt-ltb u (n + 1) (omega (arith, low)), ne_eqb u n (λ same. omega (arith, same, low))) (or_false (nat_le from t))
+      | inr high ↦ elim (cases_eq u n) [
+        | inl same ↦ rw (le-ltb u n high, lt-ltb u (n + 1) (omega (arith, same)), eq-eqb u n same, inside) (and_on (nat_le from t))
+        | inr apart ↦ rw (le-ltb u n high, le-ltb u (n + 1) (omega (arith, high, apart)), ne_eqb u n apart) refl
+      ]
+    ]
+
+pub slots_more : (a b c : Frontier) (n from slots : ℕ) → slots_of a ≡ slots → Activates a b (λ u t. nat_lt u n && nat_le from t) → Activates b c (in_slots n from slots) → Activates a c (λ u t. nat_lt u (n + 1) && nat_le from t)
+slots_more a b c n from slots same first next =
+    act_as a c (λ u t. (nat_lt u n && nat_le from t) || in_slots n from slots u t) (λ u t. nat_lt u (n + 1) && nat_le from t)
+    (act_both a b c (λ u t. nat_lt u n && nat_le from t) (in_slots n from slots) first next)
+    (λ u t x y. node_more u t n from slots (omega (arith, y, same)))
+
+pub slots_all : (a b : Frontier) (n from : ℕ) → nodes_of a ≤ n → Activates a b (λ u t. nat_lt u n && nat_le from t) → Activates a b (λ u t. nat_le from t)
+slots_all a b n from all acts = act_as a b (λ u t. nat_lt u n && nat_le from t) (λ u t. nat_le from t) acts (λ u t x y. ap (λ z. z && nat_le from t) (lt-ltb u n (omega (arith, x, all))))
+
+pub slots_none : (f : Frontier) (from : ℕ) → Activates f f (λ u t. nat_lt u 0 && nat_le from t)
+slots_none f from = act_no f (λ u t. nat_lt u 0 && nat_le from t) (λ u t x y. ap (λ z. z && nat_le from t) (le-ltb u 0 (omega arith)))

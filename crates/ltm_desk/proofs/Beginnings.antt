@@ -26,6 +26,7 @@ use Rattle.ltm_desk.specs.Desks.{desk_at, changed_at}
 use Rattle.ltm_desk.specs.Ready.{IsReady, IsOpened, HasRows, HasLists}
 use Rattle.ltm_desk.specs.Placing.{StandsAt, PlacesPair, KeepsPair, KeepsSlots}
 use Rattle.ltm_desk.proofs.Bools.{and_false}
+use Rattle.ltm_desk.proofs.RowPlaces.{put_kept, put_other}
 use Rattle.ltm_desk.proofs.Desks.{cases_pairs, kept_is, active_past, claimed_past, idle_here}
 use Rattle.ltm_desk.proofs.Listing.{place_is}
 use Rattle.ltm_desk.proofs.Taking.{rows_stay}
@@ -41,7 +42,7 @@ pub keeps_next : (s : Setting) (c : Counts) (a b : KeptRows) (x y : ReadIndex) (
     PlacesPair s c x y u slot (s.ins u) → KeepsSlots s c b y slot (u + 1)
 keeps_next s c a b x y slot u is node low keeps puts places =
     let still : (w v : ℕ) → w < s.nodes → v < s.slots → IsOther u slot w v → KeepsPair s c a x w v → KeepsPair s c b y w v = λ w v p q other pair. record {
-      row = puts.others w v (omega (arith, p, keeps.rows.nodes)) (omega (arith, q, keeps.rows.same_slots)) other ∙ pair.row;
+      row = put_other a b u slot (pair_row s c u slot) w v puts (omega (arith, p, keeps.rows.nodes)) (omega (arith, q, keeps.rows.same_slots)) other ∙ pair.row;
       placed = stands_still s c x y u slot w v is node p other places pair.placed;
     } in
     record {
@@ -50,7 +51,7 @@ keeps_next s c a b x y slot u is node low keeps puts places =
       earlier = λ w v p q. still w v p (omega arith) (λ same at. omega arith) (keeps.earlier w v p q);
       here = λ w p. elim (cases_eq w u) [
         | inr apart ↦ still w slot (omega arith) low (λ same at. apart (sym same)) (keeps.here w (omega arith))
-        | inl same ↦ subst (λ (z : ℕ). KeepsPair s c b y z slot) (sym same) (record { row = puts.here; placed = places.placed })
+        | inl same ↦ subst (λ (z : ℕ). KeepsPair s c b y z slot) (sym same) (record { row = put_kept a b u slot (pair_row s c u slot) puts; placed = places.placed })
       ];
     }
 
@@ -91,7 +92,7 @@ opens_idle s t u v opens = elim (cases_pairs s u v) [
 
 opens_kept : (s : Setting) (t : Table) (u v : ℕ) → Opens s t → u < s.nodes → v < s.slots → IsSettled s (desk_at s t) u v
 unfolding desk_at
-opens_kept s t u v opens x l = kept_is s t u v x l ∙ ap (λ (z : List ℕ). Some z) (opens.keeps.earlier u v x l).row
+opens_kept s t u v opens x l = kept_is s t u v x l ∙ (opens.keeps.earlier u v x l).row
 
 opens_sound : (s : Setting) (t : Table) → Opens s t → IsSound s (desk_at s t)
 unfolding desk_at

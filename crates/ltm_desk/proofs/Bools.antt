@@ -11,6 +11,10 @@ pub and_false : (a : Bool) → (a && false) ≡ false
 and_false true = refl
 and_false false = refl
 
+pub and_on : (a : Bool) → (a && true) ≡ a
+and_on true = refl
+and_on false = refl
+
 pub or_three : (a b c : Bool) → ((a || b) || c) ≡ (a || (b || c))
 or_three true b c = refl
 or_three false b c = refl

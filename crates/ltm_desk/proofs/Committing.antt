@@ -31,7 +31,7 @@ use Rattle.ltm_pairs.specs.Readers.{reads_commit}
 use Rattle.ltm_pairs.specs.Waking.{ReadersWake, ReadersKeepPositions}
 use Rattle.ltm_desk.specs.declared.rows.KeptRows.{KeptRows}
 use Rattle.ltm_desk.specs.declared.table.Table.{Table}
-use Rattle.ltm_desk.specs.Rows.{row_of, PutsRow}
+use Rattle.ltm_desk.specs.Rows.{row_of, kept_row, PutsRow}
 use Rattle.ltm_desk.specs.Pairs.{of_pairs, of_cells}
 use Rattle.ltm_desk.specs.Desks.{desk_at, place_of, changed_at}
 use Rattle.ltm_desk.specs.Ready.{IsReady}
@@ -39,11 +39,12 @@ use Rattle.ltm_desk.specs.Placing.{PlacesPair}
 use Rattle.ltm_desk.specs.Waking.{arm_differs, out_differs, sink_differs, is_cell, changes_arms, changes_outs, changes_sink, changes, PutsCells, wakes}
 use Rattle.ltm_desk.specs.Committing.{readers, rewritten}
 use Rattle.ltm_desk.proofs.Bools.{or_right, or_left, or_one, and_false, and_both, and_true, none_below, one_below, some_one, same_tests, do_not_differ, differ_is}
+use Rattle.ltm_desk.proofs.RowPlaces.{put_kept, put_other, same_some}
 use Rattle.ltm_desk.proofs.Noting.{cells_stay}
 use Rattle.ltm_desk.proofs.Standing.{placed_here, other_places}
 use Rattle.ltm_desk.proofs.Reading.{SetsOutputs, ArePlaced, arm_is, out_is, sink_is, wakes_are_readers, early, early_reads}
 use Rattle.ltm_desk.proofs.Desks.{of_pair, past_pair, same_of_pairs, cases_pairs, claimed_is, claimed_pair, claimed_on, claim_same, claim_off, claimed_row, same_claim, idle_here}
-use Rattle.ltm_desk.proofs.Dropping.{pair_test, other_test, and_not, same_some}
+use Rattle.ltm_desk.proofs.Dropping.{pair_test, other_test, and_not}
 use Rattle.ltm_desk.proofs.Taking.{rows_stay, one_slot}
 
 -- ---- the outputs stand in the counts
@@ -77,7 +78,7 @@ pub no_cell : (s : Setting) (f : ℕ → ℕ → Bool) (g k : ℕ) → (groups s
 no_cell s f g k (inl past) = rw (le-ltb g (groups s) past) refl
 no_cell s f g k (inr late) = ap (λ z. (nat_lt g (groups s) && z) && f g k) (lt-leb k s.slots late) ∙ ap (λ z. z && f g k) (and_false (nat_lt g (groups s)))
 
-cases_cells : (s : Setting) (g k : ℕ) → ((g < groups s) × (k ≤ s.slots)) ⊎ ((groups s ≤ g) ⊎ (s.slots < k))
+pub cases_cells : (s : Setting) (g k : ℕ) → ((g < groups s) × (k ≤ s.slots)) ⊎ ((groups s ≤ g) ⊎ (s.slots < k))
 cases_cells s g k = elim (cases_lt g (groups s)) [
   | inr past ↦ inr (inl past)
   | inl x ↦ elim (cases_lt s.slots k) [ inl late ↦ inr (inr late) | inr l ↦ inl (x, l) ]
@@ -192,9 +193,9 @@ unfolding desk_at
 desk_sets s t u v n o x h m f c k is =
     let claim : IsClaim s (desk_at s t) u v n.row = claim_is s t u v n.row is.ready is.claimed in
     applied_sets s (desk_at s t) (desk_at s (committed t x h f c k)) u v n.row n o is.setting is.ready.sound is.claimed is.shape refl is.step is.applies
-    (of_pair s None (λ w y. Some (row_of k w y)) u v claim.is_node claim.is_slot ∙ ap (λ (z : List ℕ). Some z) is.puts.here)
-    (λ w y other. same_of_pairs s None (λ a b. Some (row_of k a b)) (λ a b. Some (row_of t.kept a b)) w y
-    (λ p q. ap (λ (z : List ℕ). Some z) (is.puts.others w y (omega (arith, p, is.ready.fits.kept.nodes)) (omega (arith, q, is.ready.fits.kept.same_slots)) other)))
+    (of_pair s None (kept_row k) u v claim.is_node claim.is_slot ∙ put_kept t.kept k u v n.row is.puts)
+    (λ w y other. same_of_pairs s None (kept_row k) (kept_row t.kept) w y
+    (λ p q. put_other t.kept k u v n.row w y is.puts (omega (arith, p, is.ready.fits.kept.nodes)) (omega (arith, q, is.ready.fits.kept.same_slots)) other))
 
 and_not_false : (a : Bool) → (a && not false) ≡ a
 and_not_false true = refl
@@ -228,7 +229,7 @@ active_readers s t u v n o x h m f c k w y is p q =
             let other : IsOther u v w y = λ a b.
             let here : (desk_at s t).claimed w y ≡ Some n.row = subst (λ (z : ℕ). (desk_at s t).claimed z y ≡ Some n.row) a (subst (λ (z : ℕ). (desk_at s t).claimed u z ≡ Some n.row) b is.claimed) in
             let none : (desk_at s t).claimed w y ≡ None = idle.1 in cc in
-            let placed : ArePlaced s old (place_of x) w y = λ i l. other_places s old t.index x u v w y is.setting is.ready.fits.index is.places claim.is_node p other i l ∙ is.ready.index w y p q idle i l in
+            let placed : ArePlaced s old (place_of x) w y = λ i l. other_places s old t.index x u v w y is.setting is.places claim.is_node p other i l ∙ is.ready.index w y p q idle i l in
             ap (λ z. is_active t.frontier w y || (W && not z)) free
             ∙ (ap (λ z. is_active t.frontier w y || z) (and_not_false W)
             ∙ ap (λ z. is_active t.frontier w y || z) (wakes_are_readers s old new (place_of x) u (v + 1) o w y sets placed))
@@ -299,7 +300,7 @@ commits_ready s t u v n o x h m f c k is =
           (record {
             placed = λ i l. placed_here s (counts_of t.curves) t.index x u v (s.ins u) i is.places l
                 ∙ sym (keeps u v i claim.is_node claim.is_slot l (early_reads s d.counts e.counts u (v + 1) u v (omega arith)));
-            others = λ w y p q other. other_places s (counts_of t.curves) t.index x u v w y is.setting is.ready.fits.index is.places claim.is_node p other;
+            others = λ w y p q other. other_places s (counts_of t.curves) t.index x u v w y is.setting is.places claim.is_node p other;
             quiet = λ w y i p q l off. keeps w y i p q l (sym (of_pair s false (reads_commit s d.counts e.counts u (v + 1)) w y p q) ∙ off);
           })
           is.ready.index;

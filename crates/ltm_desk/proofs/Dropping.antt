@@ -22,7 +22,7 @@ use Rattle.ltm_repair.proofs.Fronts.{idle_front}
 use Rattle.ltm_repair.proofs.Index.{index_stays_current}
 use Rattle.ltm_sending.specs.Front.{IsAtFront}
 use Rattle.ltm_desk.specs.declared.table.Table.{Table}
-use Rattle.ltm_desk.specs.Rows.{row_of}
+use Rattle.ltm_desk.specs.Rows.{kept_row}
 use Rattle.ltm_desk.specs.Desks.{desk_at, place_of}
 use Rattle.ltm_desk.specs.Ready.{IsReady}
 use Rattle.ltm_desk.specs.Placing.{PlacesPair}
@@ -108,7 +108,7 @@ drop_ready s t u v f x is ready node slot on step places drops =
                   let off : (desk_at s new).active w y ≡ false = subst (λ (z : ℕ). (desk_at s new).active z y ≡ false) at.0 (subst (λ (z : ℕ). (desk_at s new).active u z ≡ false) at.1 drops.here) in
                   let was_on : (desk_at s t).active w y ≡ true = subst (λ (z : ℕ). (desk_at s t).active z y ≡ true) at.0 (subst (λ (z : ℕ). (desk_at s t).active u z ≡ true) at.1 was) in
                   absurd (cc)
-              | inr other ↦ other_places s (counts_of t.curves) t.index x u v w y is ready.fits.index places node p other
+              | inr other ↦ other_places s (counts_of t.curves) t.index x u v w y is places node p other
             ];
           })
           ready.index;
@@ -184,21 +184,18 @@ most_wide s u is x =
     let outs : s.outs u * d ≤ 4 * d = mul-le-mul_right d (is.small.few_outs u x) in
     omega (arith, arms, outs, is.small.few_destinations, is.small.few_ins u x, is.small.few_outs u x)
 
-pub same_some : (x y : List ℕ) → Some x ≡ Some y → x ≡ y
-same_some x y e = cc
-
 -- kept inputs that are those that stand ready
-pub settled_here : (s : Setting) (t : Table) (u slot : ℕ) (n : Inputs) → u < s.nodes → slot < s.slots → IsPairInputs s (counts_of t.curves) u slot n → n.row ≡ row_of t.kept u slot → IsSettled s (desk_at s t) u slot
+pub settled_here : (s : Setting) (t : Table) (u slot : ℕ) (n : Inputs) → u < s.nodes → slot < s.slots → IsPairInputs s (counts_of t.curves) u slot n → kept_row t.kept u slot ≡ Some n.row → IsSettled s (desk_at s t) u slot
 unfolding desk_at
-settled_here s t u slot n x l inputs same = kept_is s t u slot x l ∙ ap (λ (z : List ℕ). Some z) (sym same ∙ inputs.row)
+settled_here s t u slot n x l inputs same = kept_is s t u slot x l ∙ (same ∙ ap (λ (z : List ℕ). Some z) inputs.row)
 
 pub work_here : (s : Setting) (t : Table) (u slot : ℕ) (n : Inputs) → u < s.nodes → slot < s.slots → is_active t.frontier u slot ≡ true → IsPairInputs s (counts_of t.curves) u slot n → IsSolvable n →
-    (n.row ≡ row_of t.kept u slot → ⊥) → IsWork s (desk_at s t) u slot n
+    (kept_row t.kept u slot ≡ Some n.row → ⊥) → IsWork s (desk_at s t) u slot n
 unfolding desk_at
 work_here s t u slot n x l on inputs solvable differs = record {
   is_node = x;
   active = active_is s t u slot x l ∙ on;
   inputs = inputs;
   solvable = solvable;
-  changed = λ same. differs (inputs.row ∙ sym (same_some (row_of t.kept u slot) (pair_row s (counts_of t.curves) u slot) (sym (kept_is s t u slot x l) ∙ same)));
+  changed = λ same. differs (sym (kept_is s t u slot x l) ∙ (same ∙ ap (λ (z : List ℕ). Some z) (sym inputs.row)));
 }

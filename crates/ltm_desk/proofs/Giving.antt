@@ -14,8 +14,9 @@ use Rattle.ltm_desk.specs.Rows.{row_of}
 use Rattle.ltm_desk.specs.Desks.{desk_at, place_of}
 use Rattle.ltm_desk.specs.Ready.{IsReady}
 use Rattle.ltm_desk.proofs.Bools.{or_false, or_right, and_false}
+use Rattle.ltm_desk.proofs.RowPlaces.{same_some}
 use Rattle.ltm_desk.proofs.Desks.{cases_pairs, active_is, claimed_is, claimed_past, claim_same, claim_on, claim_off, claimed_pair, same_active, same_claim}
-use Rattle.ltm_desk.proofs.Dropping.{pair_test, other_test, and_not, same_some}
+use Rattle.ltm_desk.proofs.Dropping.{pair_test, other_test, and_not}
 
 pub gives_desk : (s : Setting) (t : Table) (u v : ℕ) (m f : Frontier) → IsReady s t → (desk_at s t).claimed u v ≢ None → Releases t.frontier m u v → Activates m f (is_pair u v) →
     GivesBack (desk_at s t) u v (desk_at s (record t { frontier = f }))

@@ -20,4 +20,5 @@ pub mod Counting
 pub mod Giving
 pub mod Committing
 pub mod Beginnings
+pub mod Roomier
 pub mod Batching

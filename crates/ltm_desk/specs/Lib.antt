@@ -4,6 +4,7 @@ pub mod Pairs
 pub mod Desks
 pub mod Cells
 pub mod Ready
+pub mod Growing
 pub mod Dropping
 pub mod Searching
 pub mod Placing

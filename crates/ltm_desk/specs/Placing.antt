@@ -7,7 +7,7 @@ use Rattle.ltm_loading.specs.Pairs.{pair_row}
 use Rattle.ltm_index.specs.declared.read_index.ReadIndex.{ReadIndex}
 use Rattle.ltm_index.specs.Lists.{entry_of}
 use Rattle.ltm_desk.specs.declared.rows.KeptRows.{KeptRows}
-use Rattle.ltm_desk.specs.Rows.{row_of}
+use Rattle.ltm_desk.specs.Rows.{kept_row}
 use Rattle.ltm_desk.specs.Ready.{HasRows, HasLists}
 
 -- the slot stands in the list of its position of each of the first in-links of a node
@@ -22,7 +22,7 @@ pub record PlacesPair (s : Setting) (c : Counts) (old new : ReadIndex) (u t plac
 
 -- the inputs of a pair are kept, and its positions are placed
 pub record KeepsPair (s : Setting) (c : Counts) (k : KeptRows) (x : ReadIndex) (u t : ℕ) : Type 0 where
-  pub row : row_of k u t ≡ pair_row s c u t
+  pub row : kept_row k u t ≡ Some (pair_row s c u t)
   pub placed : StandsAt s c x u t (s.ins u)
 
 -- so it is with all pairs of earlier slots, and with the first nodes of this one

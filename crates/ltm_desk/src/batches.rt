@@ -1,5 +1,5 @@
-//! The pairs that a batch touches become active.
-ghost use Rattle.std.specs.Prelude.{◌≡◌, ◌<◌, ◌≤◌, All};
+//! The pairs that a batch touches become active, and those of new slots.
+ghost use Rattle.std.specs.Prelude.{◌≡◌, ◌<◌, ◌≤◌, nat_le, All};
 ghost use Rattle.ltm_setting.specs.Setting.{setting_of};
 ghost use Rattle.ltm_frontier.specs.Frontier.{Activates};
 ghost use Rattle.ltm_pairs.specs.Adding.{IsFrom};
@@ -10,7 +10,8 @@ ghost use Rattle.ltm_desk.specs.Batches.{in_reaches};
 use ltm_frontier::Frontier;
 use ltm_pairs::{Spread, touched};
 use ltm_scenario::{Edit, Scenario};
-use ltm_units::Reach;
+use ltm_setting::{node_count, slot_count};
+use ltm_units::{NodeId, Reach};
 
 /// Marks the pairs of reaches.
 fn mark_reaches(scenario: &Scenario, frontier: &mut Frontier, reaches: &[Reach])
@@ -32,5 +33,20 @@ pub(crate) fn mark_touched(scenario: &Scenario, frontier: &mut Frontier, edits: 
     for edit in edits {
         touched(scenario, edit, &mut spread);
         mark_reaches(scenario, frontier, spread.reaches());
+    }
+}
+
+/// Marks the pairs of a slot and of all later ones.
+pub(crate) fn mark_from(scenario: &Scenario, frontier: &mut Frontier, from: u32)
+    requires { HasPairs (setting_of scenario.now) frontier.old }
+    ensures { Activates frontier.old frontier.new (λ u t. nat_le from t) }
+{
+    let to = slot_count(scenario);
+    for node in 0..node_count(scenario) {
+        frontier.mark_range(Reach {
+            node: NodeId(node),
+            from,
+            to,
+        });
     }
 }

@@ -66,7 +66,7 @@ impl Table {
             inputs_of(scenario, &self.curves, pair, inputs);
             if !self
                 .kept
-                .is_row(node.0 as usize, slot as usize, inputs.row())
+                .keeps(node.0 as usize, slot as usize, inputs.row())
             {
                 return Some(node);
             }

@@ -3,8 +3,9 @@
 //! It stands on `ltm_flows` and `ltm_pairs` for the numbers and for what reads them, and on `ltm_frontier` and `ltm_index`
 //! for its sets. A call says what becomes of the desk of `ltm_repair` (`desk_at`), and holds no history and no shown loading.
 //! A claim costs the inputs of the pairs that it looks at; a commit one comparison and one copy of the pair's rows, and a
-//! handful of marks; a batch the slots that it touches. Only `create` takes memory. Change it here where a repair is to keep
-//! something more beside its counts, or to find the readers of a change in another way.
+//! handful of marks; a batch the slots that it touches, and those by which the horizon is longer. Only `create` and
+//! `reserve` take memory. Change it here where a repair is to keep something more beside its counts, or to find the readers
+//! of a change in another way.
 #![tactic(auto)]
 
 mod batches;
@@ -17,10 +18,12 @@ mod laws;
 mod marking;
 mod opening;
 mod places;
+mod room;
 mod rows;
 mod table;
 mod wake;
 
 pub use found::Found;
 pub use laws::tables_fit;
+pub use room::wide_room;
 pub use table::{Table, WIDEST};

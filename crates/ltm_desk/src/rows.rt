@@ -1,5 +1,6 @@
 //! Rows of numbers, one for each pair of node and slot.
-ghost use Rattle.std.specs.Prelude.{◌≡◌, ℕ, ◌+◌, ◌-◌, ◌*◌, ◌^◌, ◌<◌, ◌≤◌, ◌↔◌, length, slice_index, IfOk, IsTrue};
+ghost use Rattle.std.specs.Prelude.{◌≡◌, ℕ, ◌+◌, ◌-◌, ◌*◌, ◌^◌, ◌<◌, ◌≤◌, ◌↔◌, length, slice_index, IfOk, OnOk, IsTrue, Some, false};
+ghost use Rattle.ltm_marks.specs.Marks.{width_of as places_of, rows_of, room_of};
 ghost use Rattle.ltm_node.specs.Shape.{width};
 ghost use Rattle.ltm_loading.specs.Setting.{IsSetting};
 ghost use Rattle.ltm_loading.specs.Pairs.{shape_at};
@@ -8,21 +9,29 @@ ghost use Rattle.ltm_desk.specs.Starts.{AreStarts};
 
 use crate::comparing::{same_row, write_row};
 use ltm_inputs::shape_of;
+use ltm_marks::Marks;
 use ltm_scenario::Scenario;
 use ltm_setting::{is_setting, node_count};
 use ltm_units::{NoMemory, NodeId};
 use std::alloc::Global;
 
-/// A row of numbers for each pair of node and slot, in 32 bits each. All rows of one slot lie side by side, so that a repair
-/// walks through memory in order and further slots can be added at the end.
+/// A row of numbers for each pair of node and slot for which one was put there, in 32 bits each. All rows of one slot lie
+/// side by side, so that a repair walks through memory in order and further slots can be added at the end.
 #[derive(Drop)]
 pub struct KeptRows {
     starts: Vec<usize>,
     slots: usize,
+    room: usize,
     numbers: Vec<u32>,
+    there: Marks,
     ghost some: { 0 < length starts.items },
+    ghost few: { slice_index starts.items (length starts.items - 1) ≤ 9296000 },
     ghost rising: { (u w : ℕ) → u ≤ w → w < length starts.items → slice_index starts.items u ≤ slice_index starts.items w },
-    ghost long: { length numbers.items ≡ slots * slice_index starts.items (length starts.items - 1) },
+    ghost long: { length numbers.items ≡ room * slice_index starts.items (length starts.items - 1) },
+    ghost within: { slots ≤ room },
+    ghost nodes: { places_of there + 1 ≡ length starts.items },
+    ghost rows: { rows_of there ≡ slots },
+    ghost bits: { room ≤ room_of there },
 }
 
 /// Where the rows of a node begin within a slot, for each node, and how many numbers the rows of a slot are.
@@ -60,22 +69,39 @@ fn zeros(alloc: Global, slots: usize, width: usize) -> Result<Vec<u32>, NoMemory
 }
 
 impl KeptRows {
-    ghost use Rattle.ltm_desk.specs.Rows.{slot_width, nodes_of, slots_of, width_of, start_of, row_of, PutsRow};
+    ghost use Rattle.ltm_desk.specs.Rows.{
+      slot_width,
+      nodes_of,
+      slots_of,
+      row_room,
+      width_of,
+      start_of,
+      row_of,
+      has_row,
+      kept_row,
+      SameRows,
+      PutsRow,
+    };
     ghost use Rattle.ltm_desk.specs.Ready.{HasRows};
 
-    /// A row of zeros for the inputs of each node in so many slots.
+    /// Room for the inputs of each node in so many slots; no row is there.
     pub fn create(alloc: Global, scenario: &Scenario, slots: usize) -> Result<KeptRows, NoMemory>
         requires { slots ≤ 10000 }
-        ensures { IfOk result (HasRows (setting_of scenario.now) slots) }
+        ensures rows { IfOk result (HasRows (setting_of scenario.now) slots) }
+        ensures none { IfOk result (λ k. (u t : ℕ) → has_row k u t ≡ false) }
     {
-        let _few = node_count(scenario);
+        let nodes = node_count(scenario);
         let starts = starts_of(alloc, scenario)?;
         let width = starts[starts.len() - 1];
         let numbers = zeros(alloc, slots, width)?;
+        let there = Marks::create(alloc, nodes as usize, slots)?;
+        let _room = there.room();
         Ok(KeptRows {
             starts,
             slots,
+            room: slots,
             numbers,
+            there,
         })
     }
 
@@ -114,6 +140,16 @@ impl KeptRows {
         &self.numbers[from..to]
     }
 
+    /// Whether a row of a pair is there.
+    #[inline]
+    pub fn has(&self, node: usize, slot: usize) -> bool
+        requires node { node < nodes_of self.now }
+        requires slot { slot < slots_of self.now }
+        ensures { result ≡ has_row self.now node slot }
+    {
+        self.there.is_marked(node, slot)
+    }
+
     /// Whether the row of a pair is this one.
     pub fn is_row(&self, node: usize, slot: usize, row: &[u64]) -> bool
         requires node { node < nodes_of self.now }
@@ -121,6 +157,18 @@ impl KeptRows {
         ensures { IsTrue result ↔ row_of self.now node slot ≡ row.now }
     {
         same_row(self.row(node, slot), row)
+    }
+
+    /// Whether this row of a pair is there.
+    pub fn keeps(&self, node: usize, slot: usize, row: &[u64]) -> bool
+        requires node { node < nodes_of self.now }
+        requires slot { slot < slots_of self.now }
+        ensures { IsTrue result ↔ kept_row self.now node slot ≡ Some row.now }
+    {
+        if !self.has(node, slot) {
+            return false;
+        }
+        self.is_row(node, slot, row)
     }
 
     /// Puts a row in the place of a pair's, and changes no other.
@@ -134,6 +182,7 @@ impl KeptRows {
         let from = self.start(node, slot);
         let to = from + self.width(node);
         write_row(&mut self.numbers[from..to], row);
+        self.there.mark(node, slot);
     }
 
     /// Puts a row of another table in the place of a pair's, and changes no other.
@@ -146,5 +195,39 @@ impl KeptRows {
         let from = self.start(node, slot);
         let to = from + self.width(node);
         self.numbers[from..to].copy_from_slice(row);
+        self.there.mark(node, slot);
+    }
+
+    /// Makes room for so many slots. Nothing else that is seen changes, also with want of memory.
+    pub fn reserve(&mut self, slots: usize) -> Result<(), NoMemory>
+        requires { slots ≤ 10000 }
+        ensures same { SameRows self.old self.new }
+        ensures slots { slots_of self.new ≡ slots_of self.old }
+        ensures room { OnOk result (slots ≤ row_room self.new) }
+    {
+        if slots <= self.room {
+            return Ok(());
+        }
+        let width = self.starts[self.starts.len() - 1];
+        self.there.reserve(slots)?;
+        match self.numbers.resize(slots * width, 0) {
+            Ok(()) => {
+                self.room = slots;
+                Ok(())
+            }
+            Err(_) => Err(NoMemory),
+        }
+    }
+
+    /// Raises the number of slots within the room. No row of a new slot is there.
+    pub fn lengthen(&mut self, slots: usize)
+        requires slots { slots_of self.old ≤ slots }
+        requires room { slots ≤ row_room self.old }
+        ensures same { SameRows self.old self.new }
+        ensures slots { slots_of self.new ≡ slots }
+        ensures none { (u t : ℕ) → u < nodes_of self.old → slots_of self.old ≤ t → has_row self.new u t ≡ false }
+    {
+        self.there.lengthen(slots);
+        self.slots = slots;
     }
 }

@@ -1,7 +1,9 @@
 //! The working table of a repair, and what each call makes of its desk.
-ghost use Rattle.std.specs.Prelude.{◌≡◌, ◌≢◌, ◌↔◌, ◌<◌, ◌≤◌, ℕ, IfOk, IsTrue, Some, None, false};
+ghost use Rattle.std.specs.Prelude.{◌≡◌, ◌≢◌, ◌↔◌, ◌<◌, ◌≤◌, ℕ, IfOk, OnOk, IsTrue, Some, None, false};
 ghost use Rattle.ltm_curve.specs.Table.{counts_of};
-ghost use Rattle.ltm_curve.specs.Cells.{is_changed, HasCells};
+ghost use Rattle.ltm_curve.specs.Cells.{is_changed, cell_slots, HasCells};
+ghost use Rattle.ltm_frontier.specs.Frontier.{slots_of as slots_in};
+ghost use Rattle.ltm_index.specs.Lists.{slots_of as slots_listed};
 ghost use Rattle.ltm_loading.specs.Setting.{Setting};
 ghost use Rattle.ltm_loading.specs.Groups.{groups};
 ghost use Rattle.ltm_scenario.specs.Data.{ScenarioData};
@@ -12,8 +14,9 @@ ghost use Rattle.ltm_repair.specs.Desk.{IsAtRest};
 ghost use Rattle.ltm_repair.specs.Moves.{GivesBack};
 ghost use Rattle.ltm_desk.specs.Cells.{count_cells};
 
-use crate::batches::mark_touched;
+use crate::batches::{mark_from, mark_touched};
 use crate::opening::keep_all;
+use crate::room::wide_room;
 use crate::rows::KeptRows;
 use ltm_curve::{Changed, Curves};
 use ltm_flows::cold;
@@ -43,6 +46,8 @@ pub struct Table {
 impl Table {
     ghost use Rattle.ltm_desk.specs.Desks.{desk_at, changed_at, curves_of, cells_of};
     ghost use Rattle.ltm_desk.specs.Ready.{FitsTable, IsReady, IsOpened};
+    ghost use Rattle.ltm_desk.specs.Growing.{horizon_of, at_horizon, HasRoom, SeenAs, Lengthens};
+    ghost use Rattle.ltm_desk.specs.Rows.{slots_of as slots_kept};
     ghost use Rattle.ltm_desk.specs.Batches.{LeadsTo, TakesIn};
 
     /// The table of the loading of a scenario, at rest.
@@ -170,16 +175,56 @@ impl Table {
         self.frontier.mark(pair);
     }
 
-    /// Takes an accepted batch in: claims are void, and what was active or claimed or is touched is active. The scenario is
-    /// the one after the batch.
+    /// Makes room for so many slots, and where there was none for at least half more slots than there was room for. Nothing
+    /// else that is seen changes, also with want of memory.
+    pub fn reserve(&mut self, slots: u32) -> Result<(), NoMemory>
+        requires { slots ≤ 10000 }
+        ensures seen { SeenAs self.old self.new }
+        ensures room { OnOk result (HasRoom self.new slots) }
+    {
+        let room = wide_room(self.curves.room(), slots);
+        let curves = self.curves.reserve(room);
+        let kept = self.kept.reserve(room as usize);
+        let frontier = self.frontier.reserve(room);
+        let index = self.index.reserve(room);
+        let changed = self.changed.reserve(room);
+        match (curves, kept, frontier, index, changed) {
+            (Ok(()), Ok(()), Ok(()), Ok(()), Ok(())) => return Ok(()),
+            _ => return Err(NoMemory),
+        }
+    }
+
+    /// Raises the horizon within the room.
+    fn lengthen(&mut self, slots: u32)
+        requires curves { horizon_of self.old ≤ slots }
+        requires kept { slots_kept self.old.kept ≤ slots }
+        requires pairs { slots_in self.old.frontier ≤ slots }
+        requires lists { slots_listed self.old.index ≤ slots }
+        requires cells { cell_slots self.old.changed ≤ slots }
+        requires room { HasRoom self.old slots }
+        ensures { Lengthens self.old self.new slots }
+    {
+        self.curves.lengthen(slots);
+        self.kept.lengthen(slots as usize);
+        self.frontier.lengthen(slots);
+        self.index.lengthen(slots);
+        self.changed.lengthen(slots);
+    }
+
+    /// Takes an accepted batch in: claims are void, what was active or claimed or is touched is active, and so are the pairs
+    /// of slots by which the horizon is longer. The scenario is the one after the batch, for whose horizon there is room.
     pub fn take_in(&mut self, scenario: &Scenario, edits: &[Edit])
-        requires { FitsTable (setting_of scenario.now) self.old }
-        ensures batch { (before : ScenarioData) → LeadsTo before scenario.now edits.now → IsReady (setting_of before) self.old
+        requires fits { FitsTable (at_horizon (setting_of scenario.now) (horizon_of self.old)) self.old }
+        requires longer { horizon_of self.old ≤ (setting_of scenario.now).slots }
+        requires room { HasRoom self.old (setting_of scenario.now).slots }
+        ensures { (before : ScenarioData) → LeadsTo before scenario.now edits.now → IsReady (setting_of before) self.old
             → TakesIn before scenario.now edits.now self.old self.new }
-        ensures changed { (s : Setting) → changed_at s self.new ≡ changed_at s self.old }
     {
         is_setting(scenario);
+        let before = self.curves.slots();
+        self.lengthen(slot_count(scenario));
         self.frontier.void_all();
         mark_touched(scenario, &mut self.frontier, edits);
+        mark_from(scenario, &mut self.frontier, before);
     }
 }

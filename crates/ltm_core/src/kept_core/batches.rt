@@ -1,17 +1,21 @@
 //! What an editor does: it has a batch accepted.
-ghost use Rattle.std.specs.Prelude.{◌≡◌, ◌≢◌, ◌<◌, ◌++◌, ◌∷◌, [], ◌^◌, false, length, IfErr, OnOk, OnErr, Err, vec_len, vec_capacity};
-ghost use Rattle.ltm_scenario.specs.Edits.{edited_all, HaveAmounts};
+ghost use Rattle.std.specs.Prelude.{◌≡◌, ◌≢◌, ℕ, ◌<◌, ◌≤◌, min, ◌++◌, ◌∷◌, [], ◌^◌, false, length, IfErr, OnOk, OnErr, Err, vec_len, vec_capacity};
+ghost use Rattle.ltm_scenario.specs.Edits.{edited_all, horizon_after, HaveAmounts};
 ghost use Rattle.ltm_scenario.specs.Valid.{IsValid};
 ghost use Rattle.ltm_setting.specs.Setting.{setting_of};
 ghost use Rattle.ltm_desk.specs.Ready.{IsReady};
-ghost use Rattle.ltm_core.specs.Taking.{TakesBatch, KeepsHorizon};
+ghost use Rattle.ltm_loading.specs.Setting.{Setting};
+ghost use Rattle.ltm_flows.specs.Shown.{Shows, SameLoading, loading_room};
+ghost use Rattle.ltm_desk.specs.Growing.{SeenAs as TableSeenAs, HasRoom as TableHasRoom};
+ghost use Rattle.ltm_core.specs.Taking.{TakesBatch};
 
 use super::Core;
 use crate::laws::repair_laws;
-use ltm_desk::{Table, tables_fit};
+use ltm_desk::{Table, tables_fit, wide_room};
+use ltm_flows::Loading;
 use ltm_pairs::batch_touches_readers;
 use ltm_scenario::{Batch, EditCause, EditFault, Scenario};
-use ltm_setting::is_setting;
+use ltm_setting::{is_setting, slot_count};
 use ltm_units::NoMemory;
 
 /// Takes the memory for one more batch and its mark.
@@ -44,6 +48,49 @@ fn push_entry(batches: &mut Vec<Batch>, marks: &mut Vec<bool>, batch: Batch)
     }
 }
 
+/// Takes the memory for a horizon.
+fn reserve_slots(table: &mut Table, shown: &mut Loading, slots: u32) -> Result<(), NoMemory>
+    requires { slots ≤ 10000 }
+    ensures table { TableSeenAs table.old table.new }
+    ensures shown { SameLoading shown.old shown.new }
+    ensures shows { (s : Setting) (version : ℕ) → Shows s version shown.old → Shows s version shown.new }
+    ensures no_less { loading_room shown.old ≤ loading_room shown.new }
+    ensures table_room { OnOk result (TableHasRoom table.new slots) }
+    ensures shown_room { OnOk result (slots ≤ loading_room shown.new) }
+{
+    let working = table.reserve(slots);
+    let wide = wide_room(shown.room(), slots);
+    let finished = shown.reserve(wide);
+    working?;
+    finished
+}
+
+/// Takes the memory for one more batch, its mark and a horizon.
+fn reserve_all(
+    batches: &mut Vec<Batch>,
+    marks: &mut Vec<bool>,
+    table: &mut Table,
+    shown: &mut Loading,
+    slots: u32,
+) -> Result<(), NoMemory>
+    requires { slots ≤ 10000 }
+    ensures batches { batches.new.items ≡ batches.old.items }
+    ensures marks { marks.new.items ≡ marks.old.items }
+    ensures table { TableSeenAs table.old table.new }
+    ensures shown { SameLoading shown.old shown.new }
+    ensures shows { (s : Setting) (version : ℕ) → Shows s version shown.old → Shows s version shown.new }
+    ensures no_less { loading_room shown.old ≤ loading_room shown.new }
+    ensures batch_room { OnOk result (vec_len batches.new < vec_capacity batches.new) }
+    ensures mark_room { OnOk result (vec_len marks.new < vec_capacity marks.new) }
+    ensures table_room { OnOk result (TableHasRoom table.new slots) }
+    ensures shown_room { OnOk result (slots ≤ loading_room shown.new) }
+{
+    let entry = reserve_entry(batches, marks);
+    let room = reserve_slots(table, shown, slots);
+    entry?;
+    room
+}
+
 /// Makes the edits of a batch, and takes it into the table and the lists, where room is reserved.
 fn take_batch(
     scenario: &mut Scenario,
@@ -56,9 +103,10 @@ fn take_batch(
     requires mark_room { vec_len marks.old < vec_capacity marks.old }
     requires valid { IsValid scenario.old }
     requires amounts { HaveAmounts batch }
-    requires horizon { KeepsHorizon scenario.old.setup.slots batch }
+    requires room { TableHasRoom table.old (min (horizon_after scenario.old.setup.slots batch) 10000) }
     requires ready { IsReady (setting_of scenario.old) table.old }
     ensures ok { OnOk result (TakesBatch scenario.old scenario.new table.old table.new batch) }
+    ensures slots { OnOk result ((setting_of scenario.new).slots ≡ min (horizon_after scenario.old.setup.slots batch) 10000) }
     ensures batches { OnOk result (batches.new.items ≡ batches.old.items ++ batch ∷ []) }
     ensures marks { OnOk result (marks.new.items ≡ marks.old.items ++ false ∷ []) }
     ensures few { OnOk result (length batches.new.items < 2 ^ 63) }
@@ -75,6 +123,7 @@ fn take_batch(
     match scenario.accept(&batch) {
         Ok(()) => {
             let _after = scenario.setup();
+            let _slots = slot_count(scenario);
             is_setting(scenario);
             table.take_in(scenario, batch.edits());
             push_entry(batches, marks, batch);
@@ -84,21 +133,42 @@ fn take_batch(
     }
 }
 
+/// A batch that is given back for want of memory.
+fn no_memory(batch: Batch) -> Result<(), (Batch, EditFault)>
+    ensures { result ≡ Err (batch, record { place = 0; cause = EditCause.NoMemory }) }
+{
+    Err((
+        batch,
+        EditFault {
+            place: 0,
+            cause: EditCause::NoMemory,
+        },
+    ))
+}
+
 impl Core {
     ghost use Rattle.ltm_core.specs.CoreAnswers.{TellsAccept};
 
-    /// Makes all edits of a batch in order, or changes nothing and gives the batch back with the first edit that is refused
-    /// and its cause. Claims are void; a pair is then active exactly where it was active or claimed, or is touched.
+    /// Makes all edits of a batch in order, or changes nothing but room and gives the batch back with the first edit that is
+    /// refused and its cause. Claims are void; a pair is then active exactly where it was active or claimed, is touched, or
+    /// is new: of a slot by which the horizon is longer. What is shown stays.
     ///
-    /// Each amount is at most 1,000,000,000 units, and no edit raises the horizon. All memory is taken first.
+    /// Each amount is at most 1,000,000,000 units. All memory is taken first: where there is no room for a longer horizon,
+    /// room for at least half more slots.
     pub fn accept(&mut self, batch: Batch) -> Result<(), (Batch, EditFault)>
         requires amounts { HaveAmounts batch }
-        requires horizon { KeepsHorizon self.old.scenario.setup.slots batch }
         ensures answer { TellsAccept self.old batch result self.new }
-        ensures shown { self.new.shown ≡ self.old.shown }
+        ensures shown { SameLoading self.old.shown self.new.shown }
     {
         repair_laws();
-        match reserve_entry(&mut self.batches, &mut self.marks) {
+        let slots = batch.horizon(self.scenario.setup().slots).min(10_000);
+        match reserve_all(
+            &mut self.batches,
+            &mut self.marks,
+            &mut self.table,
+            &mut self.shown,
+            slots,
+        ) {
             Ok(()) => {
                 return take_batch(
                     &mut self.scenario,
@@ -108,15 +178,7 @@ impl Core {
                     batch,
                 );
             }
-            Err(_) => {
-                return Err((
-                    batch,
-                    EditFault {
-                        place: 0,
-                        cause: EditCause::NoMemory,
-                    },
-                ));
-            }
+            Err(_) => return no_memory(batch),
         }
     }
 }

@@ -19,7 +19,8 @@ fn mark_last(marks: &mut Vec<bool>)
 impl Core {
     ghost use Rattle.ltm_core.specs.CoreAnswers.{TellsPublish, TellsSettle};
 
-    /// Shows the working counts, where no pair is active or claimed. The changed cells alone are copied. Takes no memory.
+    /// Shows the working counts, where no pair is active or claimed, with their horizon. The changed cells alone are copied.
+    /// Takes no memory.
     pub fn publish(&mut self) -> Published
         ensures answer { TellsPublish self.old result self.new }
         ensures log { self.new.log ≡ self.old.log }
@@ -30,13 +31,13 @@ impl Core {
             return Published::NotAtRest;
         }
         let version = self.batches.len() as u64;
-        let _room = self.shown.room();
         self.shown.refresh(
             &self.scenario,
             self.table.curves(),
             self.table.cells(),
             version,
         );
+        let _room = self.shown.room();
         self.table.clear_changed();
         Published::Done(version)
     }

@@ -1,4 +1,4 @@
-use Rattle.std.proofs.Common.{ℕ, refl, subst}
+use Rattle.std.proofs.Common.{ℕ, refl, subst, arith}
 use Rattle.std.specs.Prelude.{Option}
 use Rattle.ltm_index.specs.Lists.{list_of}
 use Rattle.ltm_index.specs.Chains.{behind}
@@ -19,5 +19,5 @@ loop-at-preserved c =
 pub returns : goal.returns
 returns c =
     let all = list_of c.args.index.now c.args.link.0 c.args.boundary in
-    marked_all c.args.frontier.now c.loop-at.frontier c.args.index.now c.args.node.0 c.args.from c.args.link.0 c.args.boundary c.slots_stand_by_entry.ensures.stands c.requires.link c.requires.boundary
+    marked_all c.args.frontier.now c.loop-at.frontier c.args.index.now c.args.node.0 c.args.from c.args.link.0 c.args.boundary c.slots_stand_by_entry.ensures.stands c.requires.link (omega arith)
     (subst (λ (o : Option ℕ). Marked c.args.frontier.now c.loop-at.frontier c.args.node.0 c.args.from all o) c.in_default.is c.loop-at.invariant.marked)

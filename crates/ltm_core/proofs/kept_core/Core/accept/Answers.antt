@@ -1,35 +1,57 @@
-use Rattle.std.proofs.Common.{subst, sym}
-use Rattle.ltm_core.specs.Cores.{CoreData}
-use Rattle.ltm_core.specs.Taking.{KeepsHorizon}
+use Rattle.std.proofs.Common.{rules, ◌≡◌, ℕ, min, length, ap, sym, ◌∙◌}
+use Rattle.ltm_scenario.specs.Edits.{horizon_after}
+use Rattle.ltm_setting.specs.Setting.{setting_of}
+use Rattle.ltm_flows.specs.Shown.{loading_room}
 use Rattle.ltm_core.proofs.Logs.{put_log, same_log, same_length, few_more}
-use Rattle.ltm_core.proofs.Batches.{core_after_batch, core_tells_accept}
+use Rattle.ltm_core.proofs.Cores.{core_setting}
+use Rattle.ltm_core.proofs.Batches.{core_after_batch, core_tells_accept, core_roomy, no_memory_tells, kept_log, ok_room}
 use Rattle.ltm_core.proofs.kept_core.Core.accept.Goals as goal
 
-pub take_batch-requires-clause-horizon : goal.take_batch-requires-clause-horizon
-take_batch-requires-clause-horizon c = subst (λ (z : CoreData). KeepsHorizon z.scenario.setup.slots c.args.batch) (sym c.self.view_is) c.requires.horizon
+pub take_batch-requires-clause-ready : goal.take_batch-requires-clause-ready
+take_batch-requires-clause-ready c = c.reserve_all.ensures.table.ready (setting_of c.self.inside.scenario) (core_setting _ c.self.invariant.0) c.self.invariant.0.ready
+
+pub invariant_of-self-in-Err : goal.invariant_of-self-in-Err
+invariant_of-self-in-Err c = (
+  core_roomy _ c.reserve_all.new.table c.reserve_all.new.shown _ c.self.invariant.0 c.reserve_all.ensures.table
+      (record { same = c.reserve_all.ensures.shown; shows = c.reserve_all.ensures.shows; room = c.reserve_all.ensures.no_less })
+      (kept_log c.self.inside.opening c.self.inside.batches.items c.reserve_all.new.batches.items c.self.inside.marks.items c.reserve_all.new.marks.items c.reserve_all.ensures.batches c.reserve_all.ensures.marks),
+  ap length c.reserve_all.ensures.marks ∙ (c.self.invariant.1 ∙ sym (ap length c.reserve_all.ensures.batches)),
+)
+
+pub returns-in-Err-clause-answer : goal.returns-in-Err-clause-answer
+returns-in-Err-clause-answer c =
+    no_memory_tells _ _ c.args.batch c.reserve_all.new.table c.reserve_all.new.shown _ c.no_memory.result c.self.view_is c.self.invariant.0 c.reserve_all.ensures.table
+    (record { same = c.reserve_all.ensures.shown; shows = c.reserve_all.ensures.shows; room = c.reserve_all.ensures.no_less })
+    (kept_log c.self.inside.opening c.self.inside.batches.items c.reserve_all.new.batches.items c.self.inside.marks.items c.reserve_all.new.marks.items c.reserve_all.ensures.batches c.reserve_all.ensures.marks) c.no_memory.ensures
 
 pub invariant_of-self : goal.invariant_of-self
-invariant_of-self c = (
-  core_after_batch c.repair_laws.ensures _ c.args.batch c.take_batch.new.scenario c.take_batch.new.table _ c.take_batch.result c.self.invariant.0 c.take_batch.ensures.ok
-      (put_log c.self.inside.opening c.self.inside.batches.items c.reserve_entry.new.batches.items c.take_batch.new.batches.items c.self.inside.marks.items c.reserve_entry.new.marks.items c.take_batch.new.marks.items c.args.batch c.take_batch.result
-      c.self.invariant.1 c.reserve_entry.ensures.batches c.reserve_entry.ensures.marks c.take_batch.ensures.batches c.take_batch.ensures.marks)
-      (few_more c.self.inside.opening c.self.inside.batches.items c.reserve_entry.new.batches.items c.take_batch.new.batches.items c.self.inside.marks.items c.args.batch c.take_batch.result
-      c.self.invariant.1 c.reserve_entry.ensures.batches c.take_batch.ensures.batches c.take_batch.ensures.few)
-      c.take_batch.ensures.same_scenario c.take_batch.ensures.same_table
-      (same_log c.self.inside.opening c.self.inside.batches.items c.reserve_entry.new.batches.items c.take_batch.new.batches.items c.self.inside.marks.items c.reserve_entry.new.marks.items c.take_batch.new.marks.items c.take_batch.result
-      c.reserve_entry.ensures.batches c.reserve_entry.ensures.marks c.take_batch.ensures.same_batches c.take_batch.ensures.same_marks),
-  same_length c.self.inside.batches.items c.reserve_entry.new.batches.items c.take_batch.new.batches.items c.self.inside.marks.items c.reserve_entry.new.marks.items c.take_batch.new.marks.items c.args.batch c.take_batch.result
-      c.self.invariant.1 c.reserve_entry.ensures.batches c.reserve_entry.ensures.marks c.take_batch.ensures.batches c.take_batch.ensures.marks c.take_batch.ensures.same_batches c.take_batch.ensures.same_marks,
-)
+invariant_of-self c =
+    let asked : c.horizon.result ≡ horizon_after c.self.inside.scenario.setup.slots c.args.batch = search rules in (
+      core_after_batch c.repair_laws.ensures _ c.args.batch c.take_batch.new.scenario c.reserve_all.new.table c.take_batch.new.table c.reserve_all.new.shown _ c.take_batch.result c.self.invariant.0
+          c.reserve_all.ensures.table (record { same = c.reserve_all.ensures.shown; shows = c.reserve_all.ensures.shows; room = c.reserve_all.ensures.no_less }) c.take_batch.ensures.ok
+          (ok_room c.take_batch.result (loading_room c.reserve_all.new.shown) c.min-slots.result _ (setting_of c.take_batch.new.scenario).slots c.in-Ok.ensures.shown_room (c.min-slots.ensures ∙ ap (λ (n : ℕ). min n 10000) asked) c.take_batch.ensures.slots)
+          (put_log c.self.inside.opening c.self.inside.batches.items c.reserve_all.new.batches.items c.take_batch.new.batches.items c.self.inside.marks.items c.reserve_all.new.marks.items c.take_batch.new.marks.items c.args.batch c.take_batch.result
+          c.self.invariant.1 c.reserve_all.ensures.batches c.reserve_all.ensures.marks c.take_batch.ensures.batches c.take_batch.ensures.marks)
+          (few_more c.self.inside.opening c.self.inside.batches.items c.reserve_all.new.batches.items c.take_batch.new.batches.items c.self.inside.marks.items c.args.batch c.take_batch.result
+          c.self.invariant.1 c.reserve_all.ensures.batches c.take_batch.ensures.batches c.take_batch.ensures.few)
+          c.take_batch.ensures.same_scenario c.take_batch.ensures.same_table
+          (same_log c.self.inside.opening c.self.inside.batches.items c.reserve_all.new.batches.items c.take_batch.new.batches.items c.self.inside.marks.items c.reserve_all.new.marks.items c.take_batch.new.marks.items c.take_batch.result
+          c.reserve_all.ensures.batches c.reserve_all.ensures.marks c.take_batch.ensures.same_batches c.take_batch.ensures.same_marks),
+      same_length c.self.inside.batches.items c.reserve_all.new.batches.items c.take_batch.new.batches.items c.self.inside.marks.items c.reserve_all.new.marks.items c.take_batch.new.marks.items c.args.batch c.take_batch.result
+          c.self.invariant.1 c.reserve_all.ensures.batches c.reserve_all.ensures.marks c.take_batch.ensures.batches c.take_batch.ensures.marks c.take_batch.ensures.same_batches c.take_batch.ensures.same_marks,
+    )
 
 pub returns-in-Ok-clause-answer : goal.returns-in-Ok-clause-answer
 returns-in-Ok-clause-answer c =
-    core_tells_accept c.repair_laws.ensures _ _ c.args.batch c.take_batch.new.scenario c.take_batch.new.table _ c.take_batch.result c.self.view_is c.self.invariant.0 c.take_batch.ensures.ok
-    (put_log c.self.inside.opening c.self.inside.batches.items c.reserve_entry.new.batches.items c.take_batch.new.batches.items c.self.inside.marks.items c.reserve_entry.new.marks.items c.take_batch.new.marks.items c.args.batch c.take_batch.result
-    c.self.invariant.1 c.reserve_entry.ensures.batches c.reserve_entry.ensures.marks c.take_batch.ensures.batches c.take_batch.ensures.marks)
-    (few_more c.self.inside.opening c.self.inside.batches.items c.reserve_entry.new.batches.items c.take_batch.new.batches.items c.self.inside.marks.items c.args.batch c.take_batch.result
-    c.self.invariant.1 c.reserve_entry.ensures.batches c.take_batch.ensures.batches c.take_batch.ensures.few)
+    let asked : c.horizon.result ≡ horizon_after c.self.inside.scenario.setup.slots c.args.batch = search rules in
+    core_tells_accept c.repair_laws.ensures _ _ c.args.batch c.take_batch.new.scenario c.reserve_all.new.table c.take_batch.new.table c.reserve_all.new.shown _ c.take_batch.result c.self.view_is c.self.invariant.0
+    c.reserve_all.ensures.table (record { same = c.reserve_all.ensures.shown; shows = c.reserve_all.ensures.shows; room = c.reserve_all.ensures.no_less }) c.take_batch.ensures.ok
+    (ok_room c.take_batch.result (loading_room c.reserve_all.new.shown) c.min-slots.result _ (setting_of c.take_batch.new.scenario).slots c.in-Ok.ensures.shown_room (c.min-slots.ensures ∙ ap (λ (n : ℕ). min n 10000) asked) c.take_batch.ensures.slots)
+    (put_log c.self.inside.opening c.self.inside.batches.items c.reserve_all.new.batches.items c.take_batch.new.batches.items c.self.inside.marks.items c.reserve_all.new.marks.items c.take_batch.new.marks.items c.args.batch c.take_batch.result
+    c.self.invariant.1 c.reserve_all.ensures.batches c.reserve_all.ensures.marks c.take_batch.ensures.batches c.take_batch.ensures.marks)
+    (few_more c.self.inside.opening c.self.inside.batches.items c.reserve_all.new.batches.items c.take_batch.new.batches.items c.self.inside.marks.items c.args.batch c.take_batch.result
+    c.self.invariant.1 c.reserve_all.ensures.batches c.take_batch.ensures.batches c.take_batch.ensures.few)
     c.take_batch.ensures.same_scenario c.take_batch.ensures.same_table
-    (same_log c.self.inside.opening c.self.inside.batches.items c.reserve_entry.new.batches.items c.take_batch.new.batches.items c.self.inside.marks.items c.reserve_entry.new.marks.items c.take_batch.new.marks.items c.take_batch.result
-    c.reserve_entry.ensures.batches c.reserve_entry.ensures.marks c.take_batch.ensures.same_batches c.take_batch.ensures.same_marks)
+    (same_log c.self.inside.opening c.self.inside.batches.items c.reserve_all.new.batches.items c.take_batch.new.batches.items c.self.inside.marks.items c.reserve_all.new.marks.items c.take_batch.new.marks.items c.take_batch.result
+    c.reserve_all.ensures.batches c.reserve_all.ensures.marks c.take_batch.ensures.same_batches c.take_batch.ensures.same_marks)
     c.take_batch.ensures.back c.take_batch.ensures.cause

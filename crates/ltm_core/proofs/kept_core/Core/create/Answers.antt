@@ -6,7 +6,7 @@ pub invariant_of-result : goal.invariant_of-result
 invariant_of-result c = (
   core_begins_at c.args.scenario _ c.in-Ok.begun.table c.in-Ok.begun.shown
       (first_kept c.args.scenario c.in-Ok.begun.opening c.new.result.items c.new-in-Ok.result.items c.in-Ok.ensures.opening c.new.ensures.items c.new-in-Ok.ensures.items)
-      (core_begins c.repair_laws.ensures c.one_loading.ensures c.args.scenario c.in-Ok.begun.table c.in-Ok.begun.shown c.setup-setup.ensures.scenario c.requires c.is_setting.ensures.setting c.in-Ok.ensures.table c.in-Ok.ensures.shown),
+      (core_begins c.repair_laws.ensures c.one_loading.ensures c.args.scenario c.in-Ok.begun.table c.in-Ok.begun.shown c.setup-setup.ensures.scenario c.requires c.is_setting.ensures.setting c.in-Ok.ensures.table c.in-Ok.ensures.shown c.in-Ok.ensures.room),
   ap length c.new-in-Ok.ensures.items ∙ sym (ap length c.new.ensures.items),
 )
 

@@ -16,7 +16,7 @@ pub returns-then-not-is_at_rest-clause-answer : goal.returns-then-not-is_at_rest
 returns-then-not-is_at_rest-clause-answer c = (not_resting_at _ _ c.is_at_rest.result c.self.view_is c.self.invariant.0 c.is_at_rest.ensures c.if-not-is_at_rest.true, refl)
 
 pub refresh-requires-clause-fits : goal.refresh-requires-clause-fits
-refresh-requires-clause-fits c = core_fits _ c.self.invariant.0 (omega (c.room-room.ensures.value, c.room-room.ensures.within, arith))
+refresh-requires-clause-fits c = core_fits _ c.self.invariant.0
 
 pub refresh-requires-clause-loading : goal.refresh-requires-clause-loading
 refresh-requires-clause-loading c =
@@ -39,6 +39,7 @@ shown_table c =
       ready = c.clear_changed.ensures.ready (setting_of c.self.inside.scenario) c.self.invariant.0.ready;
       cleared = λ g k. c.clear_changed.ensures.none (setting_of c.self.inside.scenario) g k;
       shows = subst P (version_is c) c.refresh.ensures.shows;
+      room = omega (c.room-room.ensures.value, c.room-room.ensures.within, c.refresh.ensures.shows.shape.same_slots, arith);
       counts = λ g e k x m l. ap (λ (f : Counts). f g e k) (c.refresh.ensures.counts ∙ sym (c.curves.ensures.counts (setting_of c.self.inside.scenario)));
     }
 

@@ -15,5 +15,5 @@ returns c =
     length_over from to items c.args.row.now (omega arith) (omega (c.start-from.ensures.within, c.width.ensures, arith)) (omega (c.requires.width, c.width.ensures, arith)) in
     let all = with_items_is c.args.self.now.numbers (put_over from to c.deref_mut.result.now c.write_row.new.into)
     (ap length written ∙ (long ∙ (ap length (sym c.deref_mut.ensures.value) ∙ c.deref_mut.ensures.len))) ∙ written in
-    puts_row c.args.self.now _ c.args.node c.args.slot c.args.row.now c.requires.node c.requires.slot c.requires.width c.args.self.now.long c.args.self.now.rising refl refl
+    puts_row c.args.self.now _ c.args.node c.args.slot c.args.row.now c.requires.node c.requires.slot c.requires.width c.args.self.now.long c.args.self.now.within (omega (arith, c.args.self.now.nodes)) c.args.self.now.rows c.args.self.now.rising refl refl c.mark.ensures
     (rw (← c.start-from.ensures.value, ← c.width.ensures) all)

@@ -1,4 +1,5 @@
-use Rattle.std.proofs.Common.{◌≡◌, ℕ, ◌<◌, true, false, sym, ◌∙◌, arith}
+use Rattle.std.proofs.Common.{◌≡◌, ℕ, ◌<◌, List, true, false, ap, sym, ◌∙◌, arith}
+use Rattle.std.specs.Prelude.{Some}
 use Rattle.ltm_setting.specs.Setting.{setting_of}
 use Rattle.ltm_repair.proofs.Keeps.{drop_idle_before}
 use Rattle.ltm_desk.specs.Desks.{desk_at}
@@ -20,11 +21,11 @@ inputs_of-requires-clause-room c =
     let x : c.in-Some.node.0 < (setting_of c.args.scenario.now).nodes = omega (arith, c.in-Some.ensures.is_node, c.loop-from.invariant.ready.fits.frontier.nodes) in
     omega (arith, most_wide (setting_of c.args.scenario.now) c.in-Some.node.0 c.is_setting.ensures.setting x, c.loop-from.invariant.room, c.requires.room)
 
-pub returns-then-not-is_row-clause-found : goal.returns-then-not-is_row-clause-found
-returns-then-not-is_row-clause-found c =
+pub returns-then-not-keeps-clause-found : goal.returns-then-not-keeps-clause-found
+returns-then-not-keeps-clause-found c =
     let x : c.in-Some.node.0 < (setting_of c.args.scenario.now).nodes = omega (arith, c.in-Some.ensures.is_node, c.loop-from.invariant.ready.fits.frontier.nodes) in
     work_here (setting_of c.args.scenario.now) c.loop-from.self c.in-Some.node.0 c.args.slot c.inputs_of.new.into x c.requires.slot c.in-Some.ensures.active c.inputs_of.ensures.inputs c.inputs_of.ensures.solvable
-    (λ same. let on : c.is_row.result ≡ true = c.is_row.ensures.1 (sym (c.row.ensures.row ∙ same)) in let off : c.is_row.result ≡ false = c.if-not-is_row.true in absurd (cc))
+    (λ same. let on : c.keeps.result ≡ true = c.keeps.ensures.1 (same ∙ ap (λ (z : List ℕ). Some z) (sym c.row.ensures.row)) in let off : c.keeps.result ≡ false = c.if-not-keeps.true in absurd (cc))
 
 pub drop_settled-requires-clause-idle : goal.drop_settled-requires-clause-idle
 drop_settled-requires-clause-idle c =
@@ -34,7 +35,7 @@ drop_settled-requires-clause-idle c =
 pub drop_settled-requires-clause-settled : goal.drop_settled-requires-clause-settled
 drop_settled-requires-clause-settled c =
     let x : c.in-Some.node.0 < (setting_of c.args.scenario.now).nodes = omega (arith, c.in-Some.ensures.is_node, c.loop-from.invariant.ready.fits.frontier.nodes) in
-    settled_here (setting_of c.args.scenario.now) c.loop-from.self c.in-Some.node.0 c.args.slot c.inputs_of.new.into x c.requires.slot c.inputs_of.ensures.inputs (sym (c.is_row.ensures.0 c.if-not-is_row.false ∙ c.row.ensures.row))
+    settled_here (setting_of c.args.scenario.now) c.loop-from.self c.in-Some.node.0 c.args.slot c.inputs_of.new.into x c.requires.slot c.inputs_of.ensures.inputs (c.keeps.ensures.0 c.if-not-keeps.false ∙ ap (λ (z : List ℕ). Some z) c.row.ensures.row)
 
 pub loop-from-preserved : goal.loop-from-preserved
 loop-from-preserved c =
