@@ -1,8 +1,9 @@
 mod Reported
 mod Settled
 mod Opening
-mod Progress
+pub mod Progress
 mod Ending
 mod Besides
 mod SameReports
 mod OneOutput
+mod Looking

@@ -1,6 +1,7 @@
 //! The answer to one line.
 ghost use Rattle.std.specs.Prelude.{◌≡◌, ◌++◌, ℕ, List, Ok, OnOk, OnErr};
 ghost use Rattle.ltm_core.specs.Cores.{IsResting};
+ghost use Rattle.ltm_core.specs.CoreAnswers.{LooksAs};
 ghost use Rattle.ltm_script.specs.Line.{reading};
 ghost use Rattle.ltm_session.specs.Analysts.{state_of};
 ghost use Rattle.ltm_session.specs.Answers.{CountsAlone, AnswersAlone, Settles};
@@ -17,12 +18,13 @@ use ltm_workers::Bench;
 use std::alloc::Global;
 
 /// Settles, and appends the count. Its room is taken before.
+#[tactic(auto, using(crate::proofs::Looking::looks_refl))]
 fn answer_settle(core: &mut Core, bench: &mut Bench, into: &mut Vec<u8>) -> Result<(), NoMemory>
     requires { AwaitsLine core.old }
     ensures ok { OnOk result ((text : List ℕ) × Settles CountsAlone (state_of core.old) text (state_of core.new)
         × (into.new.items ≡ into.old.items ++ text)) }
     ensures rest { OnOk result (IsResting core.new) }
-    ensures err { OnErr result ((into.new.items ≡ into.old.items) × (core.new ≡ core.old)) }
+    ensures err { OnErr result ((into.new.items ≡ into.old.items) × LooksAs core.old core.new) }
     ensures awaits { AwaitsLine core.new }
 {
     into.reserve(ANSWER_ROOM)?;
@@ -35,9 +37,10 @@ fn answer_settle(core: &mut Core, bench: &mut Bench, into: &mut Vec<u8>) -> Resu
 }
 
 /// Answers one line of a session without workers, which stands without its newline: makes the events of its command, and
-/// appends its answer. With want of memory nothing is done.
+/// appends its answer. With want of memory nothing is done, but that room may be taken.
 ///
 /// The core stands as after `Core::create`, or as after an earlier answer.
+#[tactic(auto, using(crate::proofs::Looking::looks_refl))]
 pub fn answer(
     alloc: Global,
     core: &mut Core,
@@ -51,7 +54,7 @@ pub fn answer(
         × (into.new.items ≡ into.old.items ++ text)) }
     // After a settle the core is at rest.
     ensures rest { OnOk result (reading line.now ≡ Ok Command.Settle → IsResting core.new) }
-    ensures err { OnErr result ((into.new.items ≡ into.old.items) × (core.new ≡ core.old)) }
+    ensures err { OnErr result ((into.new.items ≡ into.old.items) × LooksAs core.old core.new) }
     ensures awaits { AwaitsLine core.new }
 {
     match read_command(alloc, line) {

@@ -1,6 +1,7 @@
 //! Answers that change nothing but what an edit changes: to all lines but a settle.
 ghost use Rattle.std.specs.Prelude.{◌≡◌, ◌≢◌, ◌++◌, ℕ, ◌<◌, List, length, Ok, Err, OnOk, OnErr};
 ghost use Rattle.ltm_script.specs.Commands.{HasAmounts};
+ghost use Rattle.ltm_core.specs.CoreAnswers.{LooksAs};
 ghost use Rattle.ltm_session.specs.Reports.{totals_report, link_report, time_report};
 ghost use Rattle.ltm_session.specs.Analysts.{Analysts, state_of};
 ghost use Rattle.ltm_session.specs.Answers.{Replies, ReportsShown, TellsTimeAt};
@@ -105,6 +106,7 @@ pub(crate) fn reply_fault(
 }
 
 /// Answers a command that is no settle, and makes its event. It asks nothing of what is claimed or was counted.
+#[tactic(auto, using(crate::proofs::Looking::looks_refl))]
 pub(crate) fn reply(
     alloc: Global,
     core: &mut Core,
@@ -115,7 +117,7 @@ pub(crate) fn reply(
     requires other { command ≢ Command.Settle }
     ensures ok { OnOk result ((text : List ℕ) × Replies (state_of core.old) (Ok command) text (state_of core.new)
         × (into.new.items ≡ into.old.items ++ text)) }
-    ensures err { OnErr result ((into.new.items ≡ into.old.items) × (core.new ≡ core.old)) }
+    ensures err { OnErr result ((into.new.items ≡ into.old.items) × LooksAs core.old core.new) }
     ensures awaits { AwaitsLine core.old → AwaitsLine core.new }
 {
     match command {

@@ -66,6 +66,7 @@ fn write_answer<W: Sink>(text: &[u8], sink: &mut W) -> Result<(), SessionEnd>
 }
 
 /// Answers one line, and writes the answer whole.
+#[tactic(auto, using(crate::proofs::Looking::looks_state))]
 fn serve_line<W: Sink>(
     alloc: Global,
     core: &mut Core,

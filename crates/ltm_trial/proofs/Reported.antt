@@ -8,7 +8,6 @@ use Rattle.ltm_loading.specs.Setting.{Setting}
 use Rattle.ltm_loading.specs.Differing.{differing}
 use Rattle.ltm_times.specs.Times.{time_spent}
 use Rattle.ltm_report.specs.Made.{work_line}
-use Rattle.ltm_core.specs.Taking.{KeepsHorizon}
 use Rattle.ltm_make.specs.declared.made.Made.{Made}
 use Rattle.ltm_make.specs.Grid.{IsWidth}
 use Rattle.ltm_make.specs.MadeCase.{made_from, two_edits, IsMade}
@@ -41,12 +40,6 @@ pub trial_text : (s e : Setting) (before after : Counts) (recomputed solved : �
     text ≡ first ++ totals_of 1 e after ++ work_line recomputed solved (time_spent e after) → recomputed ≡ differing s e before after → solved ≡ recomputed → text ≡ trial_lines s e before after
 unfolding trial_lines work_of
 trial_text s e before after recomputed solved none first text empty two four counts same = rw (four, two, empty, same, counts) refl
-
-keeps_two : (slots link last : ℕ) → KeepsHorizon slots (two_edits link last)
-keeps_two slots link last = refl
-
-pub made_keeps : (start nodes width slots : ℕ) (made : Made) → IsMade start nodes width made → KeepsHorizon slots made.batch
-made_keeps start nodes width slots made is = let P : List Edit → Type 0 = λ z. KeepsHorizon slots z in subst P (sym is.batch) refl
 
 pub is_trial : (start nodes width : ℕ) (made : Made) (text : List ℕ) → IsWidth nodes width → IsMade start nodes width made → TellsTrial made.scenario made.batch text → IsTrial start nodes text
 is_trial start nodes width made text is_width is tells =

@@ -4,7 +4,6 @@ ghost use Rattle.ltm_scenario.specs.Edits.{edited_all, HaveAmounts};
 ghost use Rattle.ltm_flows.specs.Shown.{version_of};
 ghost use Rattle.ltm_core.specs.Log.{version_now, scenario_now};
 ghost use Rattle.ltm_core.specs.Cores.{IsResting, IsNoneOut};
-ghost use Rattle.ltm_core.specs.Taking.{KeepsHorizon};
 ghost use Rattle.ltm_core.specs.CoreAnswers.{IsOpeningCore, AcceptsBatch, PublishesAll, SettlesAll};
 ghost use Rattle.ltm_trial.specs.Repairs.{WorksToRest, Repairs};
 
@@ -16,7 +15,6 @@ use ltm_workers::{Bench, drain, drive};
 /// Has a batch accepted that is no other than one that can be.
 fn accept(core: &mut Core, batch: Batch) -> Result<(), NoMemory>
     requires amounts { HaveAmounts batch }
-    requires horizon { KeepsHorizon core.old.scenario.setup.slots batch }
     requires accepted { IsOk (edited_all (scenario_now core.old.log) batch) }
     ensures { OnOk result (AcceptsBatch core.old batch core.new) }
 {
@@ -72,7 +70,6 @@ pub(crate) fn repair(
 ) -> Result<(u128, u64), NoMemory>
     requires opening { IsOpeningCore core.old.scenario core.old }
     requires amounts { HaveAmounts batch }
-    requires horizon { KeepsHorizon core.old.scenario.setup.slots batch }
     requires accepted { IsOk (edited_all core.old.scenario batch) }
     ensures { IfOk result (λ done. Repairs core.old.scenario batch done.0 done.1 core.new) }
 {

@@ -9,7 +9,6 @@ ghost use Rattle.ltm_setting.specs.Setting.{setting_of};
 ghost use Rattle.ltm_flows.specs.Shown.{Shows, curves_of};
 ghost use Rattle.ltm_times.specs.Times.{time_spent};
 ghost use Rattle.ltm_report.specs.Made.{work_line};
-ghost use Rattle.ltm_core.specs.Taking.{KeepsHorizon};
 ghost use Rattle.ltm_core.specs.CoreAnswers.{IsOpeningCore};
 ghost use Rattle.ltm_trial.specs.Trial.{size_of, totals_of, IsTrial, TellsTrial};
 
@@ -56,7 +55,6 @@ fn report(
 ) -> Result<Vec<u8>, NoMemory>
     requires opening { IsOpeningCore core.old.scenario core.old }
     requires amounts { HaveAmounts batch }
-    requires horizon { KeepsHorizon core.old.scenario.setup.slots batch }
     requires accepted { IsOk (edited_all core.old.scenario batch) }
     ensures { IfOk result (λ text. TellsTrial core.old.scenario batch text.items) }
 {
@@ -81,7 +79,6 @@ fn report_and_let_go(
 ) -> Result<Vec<u8>, NoMemory>
     requires opening { IsOpeningCore core.scenario core }
     requires amounts { HaveAmounts batch }
-    requires horizon { KeepsHorizon core.scenario.setup.slots batch }
     requires accepted { IsOk (edited_all core.scenario batch) }
     ensures { IfOk result (λ text. TellsTrial core.scenario batch text.items) }
 {
@@ -95,7 +92,6 @@ fn report_and_let_go(
 fn report_made(alloc: Global, made: Made) -> Result<Vec<u8>, NoMemory>
     requires valid { IsValid made.scenario }
     requires amounts { HaveAmounts made.batch }
-    requires horizon { KeepsHorizon made.scenario.setup.slots made.batch }
     requires accepted { IsOk (edited_all made.scenario made.batch) }
     ensures { IfOk result (λ text. TellsTrial made.scenario made.batch text.items) }
 {

@@ -1,0 +1,55 @@
+-- A core that looks as before, and one after a batch, for the analysts' machine.
+use Rattle.std.proofs.Common.{◌≡◌, ℕ, List, refl, ap, sym, subst, ◌∙◌}
+use Rattle.ltm_flows.specs.Shown.{version_of, SameLoading}
+use Rattle.ltm_flows.specs.declared.loading.Loading.{Loading}
+use Rattle.ltm_scenario.specs.declared.edit.Edit.{Edit}
+use Rattle.ltm_repair.specs.Desk.{IsNoneClaimed}
+use Rattle.ltm_repair.specs.State.{RepairState, now}
+use Rattle.ltm_core.specs.Log.{Log, LogLaws, with_batch, settled_of}
+use Rattle.ltm_core.specs.Cores.{CoreData, repair_of, IsNoneOut}
+use Rattle.ltm_core.specs.CoreAnswers.{AcceptsBatch, LooksAs}
+use Rattle.ltm_session.specs.Analysts.{Analysts, state_of}
+use Rattle.ltm_session.specs.Ready.{AwaitsLine}
+
+same_loading : (l : Loading) → SameLoading l l
+same_loading l = record {
+  version = refl;
+  step = refl;
+  links = refl;
+  nodes = refl;
+  shape = record { groups = refl; destinations = refl; slots = refl };
+  counts = refl;
+  free = λ i. refl;
+  generated = λ k m. refl;
+}
+
+pub looks_refl : (d : CoreData) → LooksAs d d
+looks_refl d = record { log = refl; scenario = refl; commits = refl; stopped = refl; shown = same_loading d.shown; desk = refl; repair = refl }
+
+pub looks_state : (old new : CoreData) → LooksAs old new → state_of new ≡ state_of old
+looks_state old new is =
+    ap (λ (l : Log). record { log = l; shown = version_of new.shown }) is.log
+    ∙ ap (λ v. record { log = old.log; shown = v }) is.shown.version
+
+none_so : (old new : CoreData) → repair_of new ≡ repair_of old → IsNoneOut old → IsNoneOut new
+unfolding IsNoneOut
+none_so old new same none = subst (λ (s : RepairState). IsNoneClaimed (now s) s.desk) (sym same) none
+
+pub looks_awaits : (old new : CoreData) → LooksAs old new → AwaitsLine old → AwaitsLine new
+looks_awaits old new is awaits = record {
+  none_out = none_so old new is.repair awaits.none_out;
+  uncounted = is.commits ∙ awaits.uncounted;
+  shown = is.shown.version ∙ awaits.shown ∙ sym (ap settled_of is.log);
+}
+
+pub batch_state : (old new : CoreData) (batch : List Edit) → AcceptsBatch old batch new → state_of new ≡ record (state_of old) { log = with_batch old.log batch }
+batch_state old new batch is =
+    ap (λ (l : Log). record { log = l; shown = version_of new.shown }) (ap (λ (d : CoreData). d.log) is.keeps)
+    ∙ ap (λ v. record { log = with_batch old.log batch; shown = v }) is.shown.version
+
+pub batch_awaits : (old new : CoreData) (batch : List Edit) → LogLaws → AcceptsBatch old batch new → AwaitsLine old → AwaitsLine new
+batch_awaits old new batch laws is awaits = record {
+  none_out = is.none_out;
+  uncounted = ap (λ (d : CoreData). d.commits) is.keeps ∙ awaits.uncounted;
+  shown = is.shown.version ∙ awaits.shown ∙ sym (laws.settled_batch old.log batch) ∙ sym (ap (λ (d : CoreData). settled_of d.log) is.keeps);
+}
