@@ -3,7 +3,7 @@ use Rattle.std.proofs.Common.{◌≡◌, ℕ, List, refl, ap, sym, subst, ◌∙
 use Rattle.ltm_flows.specs.Shown.{version_of, SameLoading}
 use Rattle.ltm_flows.specs.declared.loading.Loading.{Loading}
 use Rattle.ltm_scenario.specs.declared.edit.Edit.{Edit}
-use Rattle.ltm_repair.specs.Desk.{IsNoneClaimed}
+use Rattle.ltm_repair.specs.Answers.{IsNoneClaimed}
 use Rattle.ltm_repair.specs.State.{RepairState, now}
 use Rattle.ltm_core.specs.Log.{Log, LogLaws, with_batch, settled_of}
 use Rattle.ltm_core.specs.Cores.{CoreData, repair_of, IsNoneOut}
