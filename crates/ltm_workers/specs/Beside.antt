@@ -1,5 +1,5 @@
 -- What is done to a core in one held turn, and what a settle beside workers is.
-use Rattle.std.specs.Prelude.{◌≡◌, ◌≤◌, ℕ, List, true, false}
+use Rattle.std.specs.Prelude.{◌≡◌, ◌<◌, ◌≤◌, ℕ, List, true, false}
 use Rattle.ltm_flows.specs.Shown.{version_of}
 use Rattle.ltm_repair.specs.Answers.{AnswersClaim}
 use Rattle.ltm_core.specs.declared.answers.Published.{Published}
@@ -16,10 +16,11 @@ abbrev pub Looks : CoreData → Look → CoreData → Type 0
 Looks old (Stopped scratch) new = (old.stopped ≡ true) × (new ≡ old)
 Looks old (Found claimed) new = (old.stopped ≡ false) × AnswersClaim (repair_of old) (answer_in claimed) (repair_of new) × KeepsAll old new
 
--- a stopped core is left as it is; of another the working counts are shown, where it rests
+-- a stopped core is left as it is, and one that shows all batches; of another the working counts are shown, where it rests
 pub record ShowsRunning (old new : CoreData) : Type 0 where
   pub stopped : old.stopped ≡ true → new ≡ old
-  pub running : old.stopped ≡ false → (answer : Published) × TellsPublish old answer new
+  pub up_to_date : version_of old.shown ≡ version_now old.log → new ≡ old
+  pub behind : old.stopped ≡ false → version_of old.shown < version_now old.log → (answer : Published) × TellsPublish old answer new
 
 -- so many commits were counted: a settle count of the log, after which a mark is put; all batches are shown
 pub record CountsCommits (old : CoreData) (version count : ℕ) (new : CoreData) : Type 0 where

@@ -40,13 +40,14 @@ pub(crate) fn commit_pair(core: &mut Core, done: Done) -> Scratch
     }
 }
 
-/// Shows the working counts, where no pair is active or claimed and the core is not stopped.
+/// Shows the working counts, where no pair is active or claimed, unless the core is stopped or all batches are shown already.
 pub(crate) fn show_counts(core: &mut Core)
     ensures shows { ShowsRunning core.old core.new }
     ensures log { core.new.log ≡ core.old.log }
     ensures number { version_of core.old.shown ≤ version_of core.new.shown }
 {
-    if core.stopped() {
+    let is_done = core.shown().version() == core.version();
+    if is_done || core.stopped() {
         return;
     }
     let _shown = core.shown();
