@@ -1,8 +1,8 @@
 -- A batch is taken into a scenario and a table.
-use Rattle.std.specs.Prelude.{◌≡◌, ℕ, List, Ok}
+use Rattle.std.specs.Prelude.{◌≡◌, List, Ok}
 use Rattle.ltm_scenario.specs.declared.edit.Edit.{Edit}
 use Rattle.ltm_scenario.specs.Data.{ScenarioData}
-use Rattle.ltm_scenario.specs.Edits.{edited_all, horizon_after}
+use Rattle.ltm_scenario.specs.Edits.{edited_all}
 use Rattle.ltm_scenario.specs.IsScenario.{IsScenario}
 use Rattle.ltm_scenario.specs.Valid.{IsValid}
 use Rattle.ltm_loading.specs.Setting.{IsSetting}
@@ -11,10 +11,6 @@ use Rattle.ltm_setting.specs.Setting.{setting_of}
 use Rattle.ltm_desk.specs.declared.table.Table.{Table}
 use Rattle.ltm_desk.specs.Batches.{TakesIn}
 use Rattle.ltm_core.specs.Cores.{IsAlike}
-
--- no edit of the batch raises a horizon of so many slots
-abbrev pub KeepsHorizon : ℕ → List Edit → Type 0
-KeepsHorizon slots batch = horizon_after slots batch ≡ slots
 
 -- the edits lead from s to next, and the table of s becomes one of next
 pub record TakesBatch (s next : ScenarioData) (old new : Table) (batch : List Edit) : Type 0 where
