@@ -1,3 +1,9 @@
+pub mod Acts
+pub mod Drives
+pub mod Endings
+pub mod Holding
+pub mod Owned
 pub mod Slots
+pub mod Turning
 pub mod Working
 mod Editing

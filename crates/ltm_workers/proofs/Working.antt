@@ -17,11 +17,11 @@ use Rattle.ltm_core.specs.Runs.{IsRun, CallsAreEvents, WorksOn, HoldsOfRuns, Hol
 use Rattle.ltm_workers.specs.Draining.{Works, CountsLeft, CountsDifferences}
 
 -- ---- runs one after another
-runs_join : (d m e : CoreData) (xs ys : List CoreEvent) → IsRun d xs m → IsRun m ys e → IsRun d (xs ++ ys) e
+pub runs_join : (d m e : CoreData) (xs ys : List CoreEvent) → IsRun d xs m → IsRun m ys e → IsRun d (xs ++ ys) e
 runs_join d m e [] ys same run = subst (λ (z : CoreData). IsRun z ys e) same run
 runs_join d m e (x ∷ xs) ys (n, first, rest) run = (n, first, runs_join n m e xs ys rest run)
 
-in_all_joined : (f : CoreEvent → ℕ) (xs ys : List CoreEvent) → in_all f (xs ++ ys) ≡ in_all f xs + in_all f ys
+pub in_all_joined : (f : CoreEvent → ℕ) (xs ys : List CoreEvent) → in_all f (xs ++ ys) ≡ in_all f xs + in_all f ys
 in_all_joined f [] ys = omega arith
 in_all_joined f (x ∷ xs) ys = let more : in_all f (xs ++ ys) ≡ in_all f xs + in_all f ys = in_all_joined f xs ys in omega arith
 
@@ -54,7 +54,7 @@ works_more d m e before between after p q =
     }
 
 -- ---- a claim and its commit
-same_now : (s e : RepairState) → SameBooks s e → now e ≡ now s
+pub same_now : (s e : RepairState) → SameBooks s e → now e ≡ now s
 same_now s e same = ap (λ (n : ℕ). e.settings n) same.accepted ∙ ap (λ (f : ℕ → Setting). f s.accepted) same.settings
 
 none_after : (s m e : RepairState) (u t ticket : ℕ) (row other : List ℕ) (wakes : ℕ → ℕ → Bool) → AnswersClaim s (Got u t ticket row) m → Committed m u t other wakes e → IsNoneClaimed (now s) s.desk → IsNoneClaimed (now e) e.desk
@@ -100,7 +100,7 @@ works_one events runs d m e claim before after is none told same done ticks =
       let fewer = runs.bounded d e (Claim u t ∷ Commit u t ∷ []) run in omega (fewer, arith),
     )
 
-rests_after : (s e : RepairState) → AnswersClaim s Rest e → IsAtRest (now e) e.desk × IsNoneClaimed (now e) e.desk
+pub rests_after : (s e : RepairState) → AnswersClaim s Rest e → IsAtRest (now e) e.desk × IsNoneClaimed (now e) e.desk
 rests_after s e told =
     let rest : IsAtRest (now e) e.desk = subst (λ (z : Setting). IsAtRest z e.desk) (sym (same_now s e told.only.books)) told.desk.1 in
     (rest, λ u t x l. (rest u t x l).1)

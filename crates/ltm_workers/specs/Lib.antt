@@ -1,2 +1,4 @@
 pub mod Draining
 pub mod Beside
+pub mod Driving
+pub mod Hands

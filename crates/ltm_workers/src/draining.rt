@@ -17,7 +17,7 @@ pub(crate) enum Turn {
 }
 
 /// Works on a claim that is kept, and commits it.
-fn finish(core: &mut Core, claim: Claim, steps: &mut Steps) -> Scratch
+pub(crate) fn finish(core: &mut Core, claim: Claim, steps: &mut Steps) -> Scratch
     requires { IsKeptClaim core.old claim.pair claim.ticket claim.inputs }
     ensures commits { CommitsDone core.old claim.pair claim.inputs.row core.new }
     ensures ticks { steps.new ≡ min (steps.old + 1) u64.MAX }

@@ -9,6 +9,7 @@ pub trait Gate: Sync {
 }
 
 /// Does nothing.
+#[derive(Clone, Copy)]
 pub struct PlainGate;
 
 impl Gate for PlainGate {

@@ -1,16 +1,17 @@
 use Rattle.std.proofs.Common.{ap, sym, ◌∙◌}
 use Rattle.ltm_core.specs.Log.{entries_of}
 use Rattle.ltm_core.specs.Cores.{CoreData}
+use Rattle.ltm_turn.specs.Passes.{editor_value}
 use Rattle.ltm_workers.proofs.Editing.{kept_list, marked_list, settles_counted}
 use Rattle.ltm_workers.proofs.editor_turns.count_as_editor.Goals as goal
 
 pub give_editor-requires-clause-list : goal.give_editor-requires-clause-list
 give_editor-requires-clause-list g c =
-    marked_list c.logs_tell_all.ensures _ _ c.take_editor-held.result.value c.get_mut.result.now c.count_commits.new.core c.get_mut.ensures.value c.take_editor-held.ensures.list.0 c.take_editor-held.ensures.list.1 c.in-Some.ensures.some.log
+    marked_list c.logs_tell_all.ensures _ _ (editor_value c.take_editor-held.result) c.get_mut.result.now c.count_commits.new.core c.get_mut.ensures.value c.take_editor-held.ensures.list.0 c.take_editor-held.ensures.list.1 c.in-Some.ensures.some.log
 
 pub give_editor-requires-in-None-clause-list : goal.give_editor-requires-in-None-clause-list
 give_editor-requires-in-None-clause-list g c =
-    kept_list _ _ c.take_editor-held.result.value c.get_mut.result.now c.count_commits.new.core c.get_mut.ensures.value c.take_editor-held.ensures.list.0 c.take_editor-held.ensures.list.1
+    kept_list _ _ (editor_value c.take_editor-held.result) c.get_mut.result.now c.count_commits.new.core c.get_mut.ensures.value c.take_editor-held.ensures.list.0 c.take_editor-held.ensures.list.1
     (ap (λ (d : CoreData). d.log) (c.count_commits.ensures.none c.in-None.is))
 
 pub returns-in-Some-clause-some : goal.returns-in-Some-clause-some

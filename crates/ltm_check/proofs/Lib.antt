@@ -1,0 +1,6 @@
+mod Pieces
+mod Alike
+mod Reading
+mod Arms
+mod Meeting
+mod Placing

@@ -1,0 +1,7 @@
+pub mod CountsTold
+pub mod Due
+pub mod File
+pub mod Faults
+pub mod Kept
+pub mod Verdict
+pub mod Text

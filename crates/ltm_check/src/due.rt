@@ -1,0 +1,60 @@
+//! Which record stands where in a curve file.
+ghost use Rattle.std.specs.Prelude.{◌≡◌, ◌<◌, ◌^◌};
+ghost use Rattle.ltm_loading.specs.Groups.{groups};
+ghost use Rattle.ltm_setting.specs.Setting.{setting_of};
+ghost use Rattle.ltm_scenario.specs.Reads.{destination_name};
+ghost use Rattle.ltm_check.specs.Due.{record_count, kind_of, name_of};
+
+use ltm_scenario::Scenario;
+use ltm_setting::{destination_count, link_count, node_count};
+use ltm_units::{LinkId, Name, NodeId};
+
+/// How many records stand below the header.
+pub(crate) fn record_count(scenario: &Scenario) -> u32
+    ensures count { result ≡ record_count scenario.now }
+    ensures few { result < 2 ^ 31 }
+{
+    (2 * link_count(scenario) + node_count(scenario) + 1) * destination_count(scenario)
+}
+
+/// What a group counts: what has entered a link, has left it, has left an origin, or has arrived.
+pub(crate) fn kind_of(scenario: &Scenario, group: u32) -> &'static [u8]
+    ensures { result.now ≡ kind_of scenario.now group }
+{
+    let links = scenario.network().links();
+    if u64::from(group) < 2 * u64::from(links) {
+        if group % 2 == 0 { b"up" } else { b"down" }
+    } else if u64::from(group) < 2 * u64::from(links) + u64::from(scenario.network().nodes()) {
+        b"dep"
+    } else {
+        b"arr"
+    }
+}
+
+/// The name of a destination.
+#[tactic(auto, unfolding(ltm_setting::specs::Setting::setting_of))]
+pub(crate) fn name_of_destination(scenario: &Scenario, destination: u32) -> Name
+    requires { destination < (setting_of scenario.now).destinations }
+    ensures { result ≡ destination_name scenario.now destination }
+{
+    let node = scenario.destination_node(destination);
+    scenario.network().node_name(node)
+}
+
+/// The name of the link, of the node, or of the destination, of which a group counts.
+#[tactic(auto, unfolding(ltm_setting::specs::Setting::setting_of))]
+pub(crate) fn name_of(scenario: &Scenario, group: u32, destination: u32) -> Name
+    requires group { group < groups (setting_of scenario.now) }
+    requires destination { destination < (setting_of scenario.now).destinations }
+    ensures { result ≡ name_of scenario.now group destination }
+{
+    let network = scenario.network();
+    let links = 2 * network.links();
+    if group < links {
+        network.link_name(LinkId(group / 2))
+    } else if group - links < network.nodes() {
+        network.node_name(NodeId(group - links))
+    } else {
+        name_of_destination(scenario, destination)
+    }
+}

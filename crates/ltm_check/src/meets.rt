@@ -1,0 +1,56 @@
+//! Whether the counts of a node at the end of a slot are its node step.
+ghost use Rattle.std.specs.Prelude.{◌≡◌, ◌<◌, ◌≤◌, ◌+◌, ◌↔◌, IsTrue, IfOk};
+ghost use Rattle.ltm_curve.specs.Table.{counts_of};
+ghost use Rattle.ltm_loading.specs.Pairs.{MeetsStep};
+ghost use Rattle.ltm_setting.specs.Setting.{setting_of};
+ghost use Rattle.ltm_sending.specs.Front.{IsAtFront};
+ghost use Rattle.ltm_flows.specs.Working.{HasRoom};
+
+use crate::rows::hold_counts;
+use ltm_curve::Curves;
+use ltm_flows::{inputs_of, widest};
+use ltm_loading::{counts_by_place, in_range};
+use ltm_node::{NodeInputs, NodeOutputs, one_step, same_shape, write_step};
+use ltm_scenario::Scenario;
+use ltm_setting::{is_setting, slot_count};
+use ltm_units::{NoMemory, Pair};
+use std::alloc::Global;
+
+/// Room for the step of any node.
+#[derive(Drop)]
+pub(crate) struct Room {
+    inputs: NodeInputs,
+    outputs: NodeOutputs,
+}
+
+/// Room for the step of any node of a scenario.
+pub(crate) fn make_room(alloc: Global, scenario: &Scenario) -> Result<Room, NoMemory>
+    ensures inputs { IfOk result (λ room. HasRoom (setting_of scenario.now) room.inputs.room) }
+    ensures outputs { IfOk result (λ room. HasRoom (setting_of scenario.now) room.outputs.room) }
+{
+    let widest = widest(scenario);
+    let inputs = NodeInputs::create(alloc, widest)?;
+    let outputs = NodeOutputs::create(alloc, widest)?;
+    Ok(Room { inputs, outputs })
+}
+
+/// Whether the counts of a node at the end of a slot are its node step. Takes no memory.
+pub(crate) fn meets_step(scenario: &Scenario, curves: &Curves, pair: Pair, room: &mut Room) -> bool
+    requires node { pair.node.0 < (setting_of scenario.now).nodes }
+    requires front { IsAtFront (setting_of scenario.now) curves.now pair.slot }
+    requires inputs { HasRoom (setting_of scenario.now) room.old.inputs.room }
+    requires outputs { HasRoom (setting_of scenario.now) room.old.outputs.room }
+    ensures meets { IsTrue result ↔ MeetsStep (setting_of scenario.now) (counts_of curves.now) pair.node.0 pair.slot }
+    ensures inputs { HasRoom (setting_of scenario.now) room.new.inputs.room }
+    ensures outputs { HasRoom (setting_of scenario.now) room.new.outputs.room }
+{
+    counts_by_place();
+    same_shape();
+    one_step();
+    in_range();
+    is_setting(scenario);
+    let _slots = slot_count(scenario);
+    inputs_of(scenario, curves, pair, &mut room.inputs);
+    write_step(&room.inputs, &mut room.outputs);
+    hold_counts(scenario, curves, pair.node, pair.slot + 1, &room.outputs)
+}

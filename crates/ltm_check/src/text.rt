@@ -1,0 +1,165 @@
+//! A loading's curves as a file.
+ghost use Rattle.std.specs.Prelude.{◌≡◌, ◌++◌, ◌<◌, ◌≤◌, ◌+◌, OnOk, OnErr};
+ghost use Rattle.std.specs.Fmt.{decimal};
+ghost use Rattle.ltm_curve.specs.Table.{counts_of, groups_of, destinations_of, slots_of};
+ghost use Rattle.ltm_loading.specs.Groups.{groups};
+ghost use Rattle.ltm_setting.specs.Setting.{setting_of};
+ghost use Rattle.ltm_flows.specs.Shaped.{IsShaped};
+ghost use Rattle.ltm_check.specs.Text.{texts_below, further_count, counts_text, due_text, record_text, header_text, group_text, curves_file};
+
+use crate::due::{kind_of, name_of, name_of_destination};
+use itoa::Buffer;
+use ltm_curve::Curves;
+use ltm_scenario::Scenario;
+use ltm_setting::{destination_count, slot_count};
+use ltm_units::NoMemory;
+use std::alloc::Global;
+
+/// Appends the whole text, or nothing.
+fn push_text(into: &mut Vec<u8>, text: &[u8]) -> Result<(), NoMemory>
+    ensures ok { OnOk result (into.new.items ≡ into.old.items ++ text.now) }
+    ensures err { OnErr result (into.new.items ≡ into.old.items) }
+{
+    into.extend_from_slice(text)?;
+    Ok(())
+}
+
+fn push_count(into: &mut Vec<u8>, count: u64) -> Result<(), NoMemory>
+    ensures { OnOk result (into.new.items ≡ into.old.items ++ decimal count) }
+{
+    let mut digits = Buffer::new();
+    push_text(into, digits.format(count).as_bytes())
+}
+
+#[tactic(auto, unfolding(crate::specs::Text::further_count))]
+fn push_further(into: &mut Vec<u8>, count: u64) -> Result<(), NoMemory>
+    ensures { OnOk result (into.new.items ≡ into.old.items ++ further_count count) }
+{
+    push_text(into, b" ")?;
+    push_count(into, count)
+}
+
+/// Appends the counts of a group and a destination at the boundaries behind the first.
+fn push_further_counts(
+    curves: &Curves,
+    group: u32,
+    destination: u32,
+    into: &mut Vec<u8>,
+) -> Result<(), NoMemory>
+    requires group { group < groups_of curves.now }
+    requires destination { destination < destinations_of curves.now }
+    ensures { OnOk result (into.new.items ≡ into.old.items
+        ++ texts_below (slots_of curves.now) (λ k. further_count (counts_of curves.now group destination (k + 1)))) }
+{
+    for slot in 0..curves.slots() {
+        push_further(into, curves.get(group, destination, slot + 1))?;
+    }
+    Ok(())
+}
+
+#[tactic(auto, unfolding(crate::specs::Text::counts_text))]
+fn push_counts(
+    curves: &Curves,
+    group: u32,
+    destination: u32,
+    into: &mut Vec<u8>,
+) -> Result<(), NoMemory>
+    requires group { group < groups_of curves.now }
+    requires destination { destination < destinations_of curves.now }
+    ensures { OnOk result (into.new.items ≡ into.old.items ++ counts_text (slots_of curves.now) (counts_of curves.now group destination)) }
+{
+    push_count(into, curves.get(group, destination, 0))?;
+    push_further_counts(curves, group, destination, into)
+}
+
+#[tactic(auto, unfolding(crate::specs::Text::due_text))]
+fn push_due(
+    scenario: &Scenario,
+    group: u32,
+    destination: u32,
+    into: &mut Vec<u8>,
+) -> Result<(), NoMemory>
+    requires group { group < groups (setting_of scenario.now) }
+    requires destination { destination < (setting_of scenario.now).destinations }
+    ensures { OnOk result (into.new.items ≡ into.old.items ++ due_text scenario.now group destination) }
+{
+    push_text(into, kind_of(scenario, group))?;
+    push_text(into, b",")?;
+    push_text(into, name_of(scenario, group, destination).bytes())?;
+    push_text(into, b",")?;
+    push_text(into, name_of_destination(scenario, destination).bytes())?;
+    push_text(into, b",")
+}
+
+#[tactic(auto, unfolding(crate::specs::Text::record_text))]
+fn push_record(
+    scenario: &Scenario,
+    curves: &Curves,
+    group: u32,
+    destination: u32,
+    into: &mut Vec<u8>,
+) -> Result<(), NoMemory>
+    requires shape { IsShaped (setting_of scenario.now) curves.now }
+    requires group { group < groups (setting_of scenario.now) }
+    requires destination { destination < (setting_of scenario.now).destinations }
+    ensures { OnOk result (into.new.items ≡ into.old.items ++ record_text scenario.now (counts_of curves.now) group destination) }
+{
+    push_due(scenario, group, destination, into)?;
+    push_counts(curves, group, destination, into)?;
+    push_text(into, b"\n")
+}
+
+/// Appends the records of a group, one for each destination.
+#[tactic(auto, unfolding(crate::specs::Text::group_text))]
+fn push_group(
+    scenario: &Scenario,
+    curves: &Curves,
+    group: u32,
+    into: &mut Vec<u8>,
+) -> Result<(), NoMemory>
+    requires shape { IsShaped (setting_of scenario.now) curves.now }
+    requires group { group < groups (setting_of scenario.now) }
+    ensures { OnOk result (into.new.items ≡ into.old.items ++ group_text scenario.now (counts_of curves.now) group) }
+{
+    for destination in 0..destination_count(scenario) {
+        push_record(scenario, curves, group, destination, into)?;
+    }
+    Ok(())
+}
+
+/// Appends the records of all groups.
+fn push_groups(scenario: &Scenario, curves: &Curves, into: &mut Vec<u8>) -> Result<(), NoMemory>
+    requires { IsShaped (setting_of scenario.now) curves.now }
+    ensures { OnOk result (into.new.items ≡ into.old.items
+        ++ texts_below (groups (setting_of scenario.now)) (group_text scenario.now (counts_of curves.now))) }
+{
+    for group in 0..curves.groups() {
+        push_group(scenario, curves, group, into)?;
+    }
+    Ok(())
+}
+
+#[tactic(auto, unfolding(crate::specs::Text::header_text))]
+fn push_header(into: &mut Vec<u8>) -> Result<(), NoMemory>
+    ensures { OnOk result (into.new.items ≡ into.old.items ++ header_text) }
+{
+    push_text(into, b"kind,name,destination,counts\n")
+}
+
+/// Appends curves of a scenario's shape as a curve file, as `read_curves` reads it.
+#[tactic(auto, unfolding(crate::specs::Text::curves_file))]
+pub fn curves_text(
+    alloc: Global,
+    scenario: &Scenario,
+    curves: &Curves,
+    into: &mut Vec<u8>,
+) -> Result<(), NoMemory>
+    requires { IsShaped (setting_of scenario.now) curves.now }
+    ensures ok { OnOk result (into.new.items ≡ into.old.items ++ curves_file scenario.now (counts_of curves.now)) }
+    ensures err { OnErr result (into.new.items ≡ into.old.items) }
+{
+    let mut text = Vec::new(alloc);
+    push_header(&mut text)?;
+    push_groups(scenario, curves, &mut text)?;
+    push_text(into, text.as_slice())
+}

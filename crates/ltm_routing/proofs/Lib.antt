@@ -1,0 +1,13 @@
+pub mod Plain
+pub mod Row
+pub mod Weights
+pub mod Apart
+pub mod Step
+pub mod Cases
+pub mod Facts
+pub mod Text
+pub mod WholeCase
+pub mod Routed
+pub mod Missing
+pub mod Walk
+pub mod Kept

@@ -1,0 +1,34 @@
+-- How far a session has come.
+use Rattle.std.specs.Prelude.{◌≡◌, ◌⊎◌, ℕ, ◌≤◌, List, [], ◌++◌, length, All, Option, None, Some}
+use Rattle.ltm_io.specs.Sink.{appended, AppendsFront}
+use Rattle.ltm_lines.specs.Script.{lines_of}
+use Rattle.ltm_scenario.specs.Data.{ScenarioData}
+use Rattle.ltm_session.specs.declared.ends.SessionEnd.{SessionEnd}
+use Rattle.ltm_session.specs.declared.ends.SessionEnd.TheVariants.{Ended, WriteFault, NoMemory}
+use Rattle.ltm_session.specs.Analysts.{Analysts, opening_state}
+use Rattle.ltm_session.specs.Session.{Answering, AnswersLine, AnswersLines, EndsBefore, longest_line}
+
+-- these lines were read of a script, and the rest is coming, where it is told
+abbrev pub HasRead : Option (List ℕ) → Option (List ℕ) → List (List ℕ) → Type 0
+HasRead None coming answered = Unit {0}
+HasRead (Some script) coming answered = (rest : List ℕ) × (coming ≡ Some rest) × (lines_of script ≡ answered ++ lines_of rest)
+
+-- so many lines were read and answered, what is written is their answers, and the machine stands so
+pub record IsServing (answers : Answering) (s : ScenarioData) (told coming written new : Option (List ℕ)) (count : ℕ) (t : Analysts) : Type 0 where
+  pub answered : List (List ℕ)
+  pub output : List ℕ
+  pub counted : length answered ≡ count
+  pub fit : All (λ line. length line ≤ longest_line) answered
+  pub runs : AnswersLines answers (opening_state s) answered output t
+  pub read : HasRead told coming answered
+  pub wrote : new ≡ appended output written
+
+-- what an end says of the script that is coming, after so many answered lines, and of what is left in the source after it
+abbrev pub EndsIfTold : SessionEnd → ℕ → Option (List ℕ) → Option (List ℕ) → Type 0
+EndsIfTold end answered None left = Unit {0}
+EndsIfTold end answered (Some script) left = EndsBefore end answered (lines_of script) × (end ≡ Ended → left ≡ Some [])
+
+-- a session stopped at a line: nothing was done, or it was answered and a front of the answer was written
+abbrev pub StopsAt : Answering → Analysts → List ℕ → Analysts → SessionEnd → Option (List ℕ) → Option (List ℕ) → Type 0
+StopsAt answers s line t end old new = ((end ≡ WriteFault) ⊎ (end ≡ NoMemory))
+    × (((t ≡ s) × (new ≡ old)) ⊎ ((text : List ℕ) × AnswersLine answers s line text t × AppendsFront old new text))

@@ -1,0 +1,83 @@
+//! The answer to an edit.
+ghost use Rattle.std.specs.Prelude.{◌≡◌, ◌≢◌, ◌++◌, ℕ, List, Ok, Err, IfErr, OnOk, OnErr, IsTrue, ◌↔◌};
+ghost use Rattle.ltm_scenario.specs.Edits.{edited_all, HaveAmounts};
+ghost use Rattle.ltm_script.specs.declared.command.Command.TheVariants as command;
+ghost use Rattle.ltm_core.specs.Log.{scenario_now};
+ghost use Rattle.ltm_core.specs.Taking.{KeepsHorizon};
+ghost use Rattle.ltm_core.specs.CoreAnswers.{AcceptsBatch};
+ghost use Rattle.ltm_report.specs.EditFaults.{edit_fault_line};
+ghost use Rattle.ltm_session.specs.Analysts.{state_of};
+ghost use Rattle.ltm_session.specs.Answers.{Replies};
+ghost use Rattle.ltm_session.specs.Ready.{AwaitsLine};
+
+use ltm_core::{Core, logs_tell_all};
+use ltm_report::{accepted_text, edit_fault_text};
+use ltm_scenario::{Batch, EditCause, EditFault};
+use ltm_units::NoMemory;
+use std::alloc::Global;
+
+// ---- The seam of a longer horizon: a core does not take a batch that raises it. Where it does, this test goes, and with it
+// the want of memory that is told in its place.
+/// Whether a core takes the batch.
+fn takes(core: &Core, batch: &Batch) -> bool
+    ensures { IsTrue result ↔ KeepsHorizon core.now.scenario.setup.slots batch.now }
+{
+    let slots = core.scenario().setup().slots;
+    batch.horizon(slots) == slots
+}
+
+/// Makes the edits of a batch, or changes nothing.
+fn make_edits(core: &mut Core, batch: Batch) -> Result<(), EditFault>
+    requires { HaveAmounts batch }
+    ensures ok { OnOk result (AcceptsBatch core.old batch core.new) }
+    ensures err { OnErr result (core.new ≡ core.old) }
+    ensures cause { IfErr result (λ fault. fault.cause ≢ EditCause.NoMemory → edited_all (scenario_now core.old.log) batch ≡ Err fault) }
+{
+    if !takes(core, &batch) {
+        return Err(EditFault {
+            place: 0,
+            cause: EditCause::NoMemory,
+        });
+    }
+    match core.accept(batch) {
+        Ok(()) => return Ok(()),
+        Err((_, fault)) => return Err(fault),
+    }
+}
+
+/// Appends why a batch was refused.
+fn push_refusal(alloc: Global, fault: EditFault, into: &mut Vec<u8>) -> Result<(), NoMemory>
+    ensures ok { OnOk result ((fault.cause ≢ EditCause.NoMemory) × (into.new.items ≡ into.old.items ++ edit_fault_line fault)) }
+    ensures err { OnErr result (into.new.items ≡ into.old.items) }
+{
+    if fault.cause == EditCause::NoMemory {
+        return Err(NoMemory);
+    }
+    edit_fault_text(alloc, &fault, into)
+}
+
+/// Makes the edits of a batch, or refuses it, and appends which. The text of an accepted batch is written before it is
+/// accepted, so that nothing can fail after.
+pub(crate) fn reply_edit(
+    alloc: Global,
+    core: &mut Core,
+    batch: Batch,
+    into: &mut Vec<u8>,
+) -> Result<(), NoMemory>
+    requires { HaveAmounts batch }
+    ensures ok { OnOk result ((text : List ℕ) × Replies (state_of core.old) (Ok (command.Edit batch)) text (state_of core.new)
+        × (into.new.items ≡ into.old.items ++ text)) }
+    ensures err { OnErr result ((into.new.items ≡ into.old.items) × (core.new ≡ core.old)) }
+    ensures awaits { AwaitsLine core.old → AwaitsLine core.new }
+{
+    logs_tell_all();
+    let before = into.len();
+    accepted_text(core.version() + 1, into)?;
+    match make_edits(core, batch) {
+        Ok(()) => return Ok(()),
+        Err(fault) => {
+            into.truncate(before);
+            return push_refusal(alloc, fault, into);
+        }
+    }
+}

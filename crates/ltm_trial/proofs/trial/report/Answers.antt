@@ -1,0 +1,26 @@
+use Rattle.ltm_curve.specs.Table.{counts_of}
+use Rattle.ltm_setting.specs.Setting.{setting_of}
+use Rattle.ltm_flows.specs.Shown.{curves_of, Shows}
+use Rattle.ltm_trial.specs.Repairs.{Repairs}
+use Rattle.ltm_trial.proofs.Repaired.{opens_shown}
+use Rattle.ltm_trial.proofs.Reported.{trial_text}
+use Rattle.ltm_trial.proofs.trial.report.Goals as goal
+
+pub returns : goal.returns
+returns c =
+    let shows : Shows (setting_of c.args.core.now.scenario) 0 c.args.core.now.shown = opens_shown c.args.core.now c.requires.opening c.shown-shown.ensures.is_shown in
+    let done : Repairs c.args.core.now.scenario c.args.batch c.in_ok-recomputed.recomputed c.in_ok-recomputed.solved c.repair.new.core = c.in_ok-recomputed.ensures in (
+      done.edited,
+      done.edits,
+      record {
+        before = counts_of (curves_of c.args.core.now.shown);
+        after = counts_of (curves_of c.repair.new.core.shown);
+        loads = shows.loading;
+        reloads = done.shows.loading;
+        lines =
+            trial_text (setting_of c.args.core.now.scenario) (setting_of done.edited) (counts_of (curves_of c.args.core.now.shown)) (counts_of (curves_of c.repair.new.core.shown)) c.in_ok-recomputed.recomputed c.in_ok-recomputed.solved
+            c.new-text.result.items c.push_before.new.into.items c.push_after.new.into.items c.new-text.ensures.items (c.in_ok-push_before.ensures (setting_of c.args.core.now.scenario) shows)
+            (c.in_ok-push_after.ensures (setting_of done.edited) done.shows)
+            (done.counts (counts_of (curves_of c.args.core.now.shown)) (counts_of (curves_of c.repair.new.core.shown)) shows.loading done.shows.loading) done.same;
+      },
+    )
