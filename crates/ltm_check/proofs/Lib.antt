@@ -4,3 +4,7 @@ mod Reading
 mod Arms
 mod Meeting
 mod Placing
+mod DigitsBack
+mod Joined
+mod RowsWritten
+mod ReadBack

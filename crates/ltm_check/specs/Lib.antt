@@ -5,3 +5,4 @@ pub mod Faults
 pub mod Kept
 pub mod Verdict
 pub mod Text
+pub mod ReadBack

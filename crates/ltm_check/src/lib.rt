@@ -19,9 +19,11 @@ mod record;
 mod rows;
 mod start;
 mod text;
+mod written;
 
 pub use check::check_curves;
 pub use faults::{Checked, CurvesCause, CurvesFault};
 pub use kept::kept_answers_alike;
 pub use read::read_curves;
 pub use text::curves_text;
+pub use written::written_is_read;
