@@ -9,6 +9,8 @@
 #[cfg(test)]
 mod claims;
 #[cfg(test)]
+mod drives;
+#[cfg(test)]
 mod rig;
 #[cfg(test)]
 mod roads;

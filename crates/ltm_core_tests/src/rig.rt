@@ -3,7 +3,7 @@ use crate::roads::{Case, Change, batch_of, scenario_of};
 use ltm_core::{Claim, Claimed, Committed, Core, Published, Scratch};
 use ltm_scenario::{Batch, EditCause};
 use ltm_units::Steps;
-use ltm_workers::{Bench, drain};
+use ltm_workers::{Bench, Driven, drain, drive};
 use std::alloc::Global;
 
 /// What is done.
@@ -22,6 +22,8 @@ pub enum Act {
     Work,
     /// The same by a drain.
     Drain,
+    /// A drive by a schedule.
+    Drive(&'static [u8]),
     Publish,
     Count,
     /// How many batches are accepted, how many of them are shown, how many pairs are claimed, and how many cells changed.
@@ -45,6 +47,10 @@ pub enum Told {
     Stale(u64, u64),
     /// So many steps were made.
     Steps(u64),
+    /// A drive came to rest after so many steps.
+    Rested(u64),
+    /// A schedule ended: so many bytes gave back, so many claims had to wait, and so many steps were made.
+    Ended(u64, u64, u64),
     Version(u64),
     NotAtRest,
     Commits(u128),
@@ -148,6 +154,23 @@ fn drained(core: &mut Core) -> Told {
     let mut steps = Steps::new();
     drain(core, &mut bench, &mut steps);
     Told::Steps(steps.count())
+}
+
+fn driven(core: &mut Core, schedule: &[u8]) -> Told {
+    let Ok(mut bench) = Bench::create(core) else {
+        return Told::Nothing;
+    };
+    if core.claimed() != 0 {
+        return Told::Nothing;
+    }
+    let mut steps = Steps::new();
+    match drive(core, &mut bench, schedule, &mut steps) {
+        Driven::Rest => Told::Rested(steps.count()),
+        Driven::ScheduleEnded {
+            given_back,
+            not_yet,
+        } => Told::Ended(given_back, not_yet, steps.count()),
+    }
 }
 
 fn publish(core: &mut Core) -> Told {
@@ -255,6 +278,7 @@ impl Rig {
             Act::GiveBack => self.give_back(),
             Act::Work => work(&mut self.core),
             Act::Drain => drained(&mut self.core),
+            Act::Drive(schedule) => driven(&mut self.core, schedule),
             Act::Publish => publish(&mut self.core),
             Act::Count => count(&mut self.core),
             Act::Books => books(&self.core),
