@@ -9,10 +9,7 @@ use std::process::Abort;
 
 fn folder_of(alloc: Global, links: &str) -> Result<MemFolder, NoMemory> {
     let mut folder = MemFolder::create(alloc, &[])?;
-    folder.put(
-        Doc::Setup,
-        b"step_ms,slots,origin_capacity\n1000,4,1\n",
-    )?;
+    folder.put(Doc::Setup, b"step_ms,slots,origin_capacity\n1000,4,1\n")?;
     folder.put(Doc::Links, links.as_bytes())?;
     folder.put(
         Doc::Demand,
