@@ -1,4 +1,6 @@
-pub mod OneWord
+pub mod Asked
+pub mod Choice
+pub mod Answering
 pub mod MissingFile
-pub mod Refused
+pub mod Told
 pub mod Reported

@@ -1,28 +1,17 @@
 -- What the program writes, and with which status it ends.
-use Rattle.std.specs.Prelude.{ℕ, ◌≡◌, ◌⊎◌, true, List, [], ◌∷◌, Option, IfSome, Result, Ok, Err, codes}
+use Rattle.std.specs.Prelude.{ℕ, ◌≡◌, ◌⊎◌, true, List, [], Option, IfSome, Ok, Err}
 use Rattle.ltm_io.specs.declared.doc.Doc.{Doc}
 use Rattle.ltm_io.specs.Folder.{Files}
 use Rattle.ltm_io.specs.Faults.{Rose}
 use Rattle.ltm_io.specs.Sink.{AppendsFront}
-use Rattle.ltm_scenario.specs.Data.{ScenarioData}
 use Rattle.ltm_casefile.specs.declared.faults.CaseFault.{CaseFault}
 use Rattle.ltm_casefile.specs.declared.faults.CaseFault.TheVariants as fault
-use Rattle.ltm_casefile.specs.Case.{case_of, asks_for, is_case_file}
 use Rattle.ltm_report.specs.CaseFaults.{bad_case_line, too_long_line}
-use Rattle.ltm.specs.declared.run.Status.{Status}
-use Rattle.ltm.specs.declared.run.Status.TheVariants as status
-use Rattle.ltm.specs.Report.{IsReport}
-
--- the words are the one word `load`
-abbrev pub AsksLoad : List (List ℕ) → Type 0
-AsksLoad words = words ≡ codes "load" ∷ []
-
-unfoldable pub usage_line : List ℕ
-usage_line = codes "usage: ltm load | ltm session N | ltm try START NODES\n"
-
--- what a folder tells of its files, where it tells anything, describes this
-abbrev pub Describes : Option Files → Result ScenarioData CaseFault → Type 0
-Describes told said = IfSome told (λ files. case_of files ≡ said)
+use Rattle.ltm.specs.declared.status.Status.{Status}
+use Rattle.ltm.specs.declared.status.Status.TheVariants as ending
+use Rattle.ltm.specs.declared.words.Command.{Command}
+use Rattle.ltm.specs.Words.{Asks, AsksNothing, usage_line}
+use Rattle.ltm.specs.Answers.{Answer, Answers, may_fetch, fetches}
 
 -- the line that refuses a case, and nothing where a file is missing
 abbrev pub refusal_of : CaseFault → List ℕ
@@ -31,49 +20,54 @@ refusal_of (fault.TooLong file) = too_long_line file
 refusal_of (fault.Bad file row cause) = bad_case_line file row cause
 refusal_of fault.NoMemory = []
 
--- what `load` writes for what the files describe
-abbrev pub IsTextOf : Result ScenarioData CaseFault → List ℕ → Type 0
-IsTextOf (Ok s) text = IsReport s text
-IsTextOf (Err fault) text = text ≡ refusal_of fault
+-- what is written of an answer: its text, or the line that refuses the case
+abbrev pub text_of : Answer → List ℕ
+text_of (Ok text) = text
+text_of (Err fault) = refusal_of fault
 
--- what `load` writes, over what a folder tells of its files
-abbrev pub IsLoadOutput : Option Files → List ℕ → Type 0
-IsLoadOutput told text = (said : Result ScenarioData CaseFault) × Describes told said × IsTextOf said text
+-- the status of an answer
+abbrev pub status_of : Answer → Status
+status_of (Ok text) = ending.Ok
+status_of (Err (fault.Folder file)) = ending.FolderFault
+status_of (Err (fault.TooLong file)) = ending.TooLong
+status_of (Err (fault.Bad file row cause)) = ending.BadCase
+status_of (Err fault.NoMemory) = ending.NoMemory
 
--- what the program writes for these words
-abbrev pub IsProgramOutput : List (List ℕ) → Option Files → List ℕ → Type 0
-IsProgramOutput words told text = ((AsksLoad words → ⊥) × (text ≡ usage_line)) ⊎ (AsksLoad words × IsLoadOutput told text)
+-- the whole text that belongs to a command and a status
+abbrev pub IsAnswerUnder : Command → Option Files → Status → List ℕ → Type 0
+IsAnswerUnder command told status text = (answer : Answer) × Answers command told answer × (status ≡ status_of answer) × (text ≡ text_of answer)
 
--- nothing was written, or a front of an output of `load`
-abbrev pub WritesLoadFront : Option Files → Option (List ℕ) → Option (List ℕ) → Type 0
-WritesLoadFront told old new = (new ≡ old) ⊎ ((text : List ℕ) × IsLoadOutput told text × AppendsFront old new text)
+-- the whole text that belongs to words and a status: the usage line, or what a command answers
+abbrev pub IsTextUnder : List (List ℕ) → Option Files → Status → List ℕ → Type 0
+IsTextUnder words told status text =
+    (AsksNothing words × (status ≡ ending.Usage) × (text ≡ usage_line))
+    ⊎ ((command : Command) × Asks words command × IsAnswerUnder command told status text)
 
--- nothing was written, or a front of an output
+-- nothing was written, or a front of a text that belongs to a command
+abbrev pub WritesAnswerFront : Command → Option Files → Option (List ℕ) → Option (List ℕ) → Type 0
+WritesAnswerFront command told old new =
+    (new ≡ old) ⊎ ((status : Status) × (text : List ℕ) × IsAnswerUnder command told status text × AppendsFront old new text)
+
+-- nothing was written, or a front of a text that belongs to the words
 abbrev pub WritesFront : List (List ℕ) → Option Files → Option (List ℕ) → Option (List ℕ) → Type 0
-WritesFront words told old new = (new ≡ old) ⊎ ((text : List ℕ) × IsProgramOutput words told text × AppendsFront old new text)
+WritesFront words told old new =
+    (new ≡ old) ⊎ ((status : Status) × (text : List ℕ) × IsTextUnder words told status text × AppendsFront old new text)
 
--- the count of faults rose of a file that a case may have and that this folder's setup, where it is told, asks for
-abbrev pub FileFailed : Option Files → (Doc → ℕ) → (Doc → ℕ) → Type 0
-FileFailed told before now = (d : Doc) × (is_case_file d ≡ true) × IfSome told (λ files. asks_for files d ≡ true) × Rose (before d) (now d)
+-- no fault of the outside and no want of memory: the whole text is written
+abbrev pub IsWhole : Status → Type 0
+IsWhole ending.Ok = Unit {0}
+IsWhole ending.Usage = Unit {0}
+IsWhole ending.FolderFault = ⊥
+IsWhole ending.WriteFault = ⊥
+IsWhole ending.BadCase = Unit {0}
+IsWhole ending.TooLong = Unit {0}
+IsWhole ending.NoMemory = ⊥
 
--- no count of faults rose of a file that the case asks for
-abbrev pub IsCalm : Files → (Doc → ℕ) → (Doc → ℕ) → Type 0
-IsCalm files before now = (d : Doc) → asks_for files d ≡ true → Rose (before d) (now d) → ⊥
+-- ---- faults of the folder
+-- the count of faults rose of a file that the command may fetch and that it fetches from this folder, where that is told
+abbrev pub FileFailed : Command → Option Files → (Doc → ℕ) → (Doc → ℕ) → Type 0
+FileFailed command told before now = (d : Doc) × (may_fetch command d ≡ true) × IfSome told (λ files. fetches command files d ≡ true) × Rose (before d) (now d)
 
--- the status for what the files describe
-abbrev pub status_of : Result ScenarioData CaseFault → Status
-status_of (Ok s) = status.Ok
-status_of (Err (fault.Folder file)) = status.FolderFault
-status_of (Err (fault.TooLong file)) = status.TooLong
-status_of (Err (fault.Bad file row cause)) = status.BadCase
-status_of (Err fault.NoMemory) = status.NoMemory
-
--- the exit status of the process
-abbrev pub number_of : Status → ℕ
-number_of status.Ok = 0
-number_of status.Usage = 2
-number_of status.FolderFault = 3
-number_of status.WriteFault = 5
-number_of status.BadCase = 6
-number_of status.TooLong = 7
-number_of status.NoMemory = 9
+-- no count of faults rose of a file that the command fetches
+abbrev pub IsCalm : Command → Files → (Doc → ℕ) → (Doc → ℕ) → Type 0
+IsCalm command files before now = (d : Doc) → fetches command files d ≡ true → Rose (before d) (now d) → ⊥

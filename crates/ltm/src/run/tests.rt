@@ -15,7 +15,7 @@ const SPLITS: &str = "node,destination,from_slot,weights\nn1,n2,0,a=1\n";
 const REPORT: &str =
     "version 0 generated 1.000 arrived 1.000 on_links 0.000 waiting 0.000\nlink a in 1.000 out 1.000\n";
 
-const USAGE: &str = "usage: ltm load | ltm session N | ltm try START NODES\n";
+const USAGE: &str = "usage: ltm load | ltm session N | ltm try START NODES | ltm routes [times]\n";
 
 fn folder_of(
     alloc: Global,

@@ -1,0 +1,76 @@
+//! The words of the command line.
+ghost use Rattle.std.specs.Prelude.{◌≡◌, ◌↔◌, List, [], ◌∷◌, map, string_bytes, codes, Some, None, true};
+ghost use Rattle.ltm.specs.declared.words.Command.{Command};
+ghost use Rattle.ltm.specs.Words.{Asks, usage_line};
+
+/// What the program can be asked for.
+#[derive(Clone, Copy, Debug, PartialEq, Eq)]
+pub enum Command {
+    /// The report of the case's loading.
+    Load,
+    /// A whole `splits.csv` of least free-flow routes, for the roads and the demand of the case.
+    Routes,
+    /// The least free-flow times that these routes take.
+    RouteTimes,
+}
+
+fn is_load(word: &str) -> bool
+    ensures { result ≡ true ↔ (word.now ≡ codes "load") }
+{
+    word == "load"
+}
+
+fn is_routes(word: &str) -> bool
+    ensures { result ≡ true ↔ (word.now ≡ codes "routes") }
+{
+    word == "routes"
+}
+
+fn is_times(word: &str) -> bool
+    ensures { result ≡ true ↔ (word.now ≡ codes "times") }
+{
+    word == "times"
+}
+
+fn one_word(word: &str) -> Option<Command>
+    ensures { (command : Command) → (result ≡ Some command) ↔ Asks (word.now ∷ []) command }
+{
+    if is_load(word) {
+        return Some(Command::Load);
+    }
+    if is_routes(word) {
+        return Some(Command::Routes);
+    }
+    None
+}
+
+fn two_words(first: &str, second: &str) -> Option<Command>
+    ensures { (command : Command) → (result ≡ Some command) ↔ Asks (first.now ∷ second.now ∷ []) command }
+{
+    if !is_routes(first) {
+        return None;
+    }
+    if !is_times(second) {
+        return None;
+    }
+    Some(Command::RouteTimes)
+}
+
+/// The command that the words ask for, none where they ask for none.
+pub fn command_of(words: &[String]) -> Option<Command>
+    ensures { (command : Command) → (result ≡ Some command) ↔ Asks (map string_bytes words.now) command }
+{
+    match words {
+        [word] => one_word(word.as_str()),
+        [first, second] => two_words(first.as_str(), second.as_str()),
+        _ => None,
+    }
+}
+
+/// What the usage line says, with its newline.
+#[tactic(auto, unfolding(crate::specs::Words::usage_line))]
+pub fn usage_text() -> &'static [u8]
+    ensures { result.now ≡ usage_line }
+{
+    b"usage: ltm load | ltm session N | ltm try START NODES | ltm routes [times]\n"
+}
