@@ -116,7 +116,7 @@ fn report_made(alloc: Global, made: Made) -> Result<Vec<u8>, NoMemory>
 ///
 /// ```text
 /// case nodes 4 links 8 pairs 240
-/// version 0 generated 83.000 arrived 83.000 on_links 0.000 waiting 0.000
+/// version 0 generated 53.000 arrived 53.000 on_links 0.000 waiting 0.000
 /// version 1 generated 83.000 arrived 83.000 on_links 0.000 waiting 0.000
 /// recomputed 232 solved 232 spent 3969740000
 /// ```
