@@ -20,8 +20,17 @@ two_only f (a ∷ b ∷ c ∷ rest) x y low high is then = absurd (omega arith)
 counted : {A : Type 0} (f : A → List ℕ) (xs : List A) (words : List (List ℕ)) → map f xs ≡ words → length xs ≡ length words
 counted f xs words is = sym (length-map xs f) ∙ ap length is
 
--- no command has none or more than two words
-pub none_asked : {A : Type 0} (f : A → List ℕ) (xs : List A) (c : Command) → length xs ≢ 1 → length xs ≢ 2 → Asks (map f xs) c → ⊥
-none_asked f xs command.Load one two asks = one (counted f xs (codes "load" ∷ []) asks)
-none_asked f xs command.Routes one two asks = one (counted f xs (codes "routes" ∷ []) asks)
-none_asked f xs command.RouteTimes one two asks = two (counted f xs (codes "routes" ∷ codes "times" ∷ []) asks)
+pub three_only : {A : Type 0} (f : A → List ℕ) (xs : List A) (x y z : A) → 3 ≤ length xs → length xs < 4 → x ≡ slice_index_or xs 0 x → y ≡ slice_index_or xs 1 y → z ≡ slice_index_or xs 2 z → map f xs ≡ f x ∷ f y ∷ f z ∷ []
+three_only f [] x y z low high first second third = absurd (omega arith)
+three_only f (a ∷ []) x y z low high first second third = absurd (omega arith)
+three_only f (a ∷ b ∷ []) x y z low high first second third = absurd (omega arith)
+three_only f (a ∷ b ∷ c ∷ []) x y z low high first second third =
+    ap (λ w. f w ∷ f b ∷ f c ∷ []) (sym first) ∙ ap (λ w. f x ∷ f w ∷ f c ∷ []) (sym second) ∙ ap (λ w. f x ∷ f y ∷ f w ∷ []) (sym third)
+three_only f (a ∷ b ∷ c ∷ d ∷ rest) x y z low high first second third = absurd (omega arith)
+
+-- no command has none or more than three words
+pub none_asked : {A : Type 0} (f : A → List ℕ) (xs : List A) (c : Command) → length xs ≢ 1 → length xs ≢ 2 → length xs ≢ 3 → Asks (map f xs) c → ⊥
+none_asked f xs command.Load one two three asks = one (counted f xs (codes "load" ∷ []) asks)
+none_asked f xs command.Routes one two three asks = one (counted f xs (codes "routes" ∷ []) asks)
+none_asked f xs command.RouteTimes one two three asks = two (counted f xs (codes "routes" ∷ codes "times" ∷ []) asks)
+none_asked f xs (command.Try start nodes) one two three (a, b, asks, starts, has) = three (counted f xs (codes "try" ∷ a ∷ b ∷ []) asks)

@@ -19,6 +19,7 @@ use Rattle.ltm.specs.declared.status.Status.TheVariants as ending
 use Rattle.ltm.specs.declared.words.Command.{Command}
 use Rattle.ltm.specs.declared.words.Command.TheVariants as ask
 use Rattle.ltm.specs.Words.{Asks, AsksNothing}
+use Rattle.ltm_trial.specs.Trial.{IsTrial}
 use Rattle.ltm.specs.Report.{IsReport}
 use Rattle.ltm.specs.Answers.{Answer, Answers, Describes, fetches}
 use Rattle.ltm.specs.Program.{text_of, status_of, IsAnswerUnder, IsWhole, WritesAnswerFront, WritesFront, FileFailed, IsCalm}
@@ -49,6 +50,10 @@ loaded told text (Err (fault.Folder f), says, ok, is) = cc
 loaded told text (Err (fault.TooLong f), says, ok, is) = cc
 loaded told text (Err (fault.Bad f row cause), says, ok, is) = cc
 loaded told text (Err fault.NoMemory, says, ok, is) = cc
+
+pub tried : (start nodes : ℕ) (told : Option Files) (text : List ℕ) → IsAnswerUnder (ask.Try start nodes) told ending.Ok text → IsTrial start nodes text
+tried start nodes told text (Ok t, (u, trial, same), ok, is) = let equal : u ≡ text = cc in subst (IsTrial start nodes) equal trial
+tried start nodes told text (Err fault, (u, trial, same), ok, is) = absurd (cc)
 
 pub bad_told : (command : Command) (told : Option Files) (text : List ℕ) → IsAnswerUnder command told ending.BadCase text
     → (f : File) × (row : ℕ) × (cause : CaseCause) × Answers command told (Err (fault.Bad f row cause)) × (text ≡ bad_case_line f row cause)
@@ -124,6 +129,12 @@ report_written command told old new result same ok whole =
     let r = loaded told h.0 (subst (λ x. IsAnswerUnder x told ending.Ok h.0) same (subst (λ x. IsAnswerUnder command told x h.0) ok h.1)) in
     (r.0, h.0, r.1, r.2, h.2)
 
+pub trial_written : (start nodes : ℕ) (command : Command) (told : Option Files) (old new : Option (List ℕ)) (result : Status) → command ≡ ask.Try start nodes → result ≡ ending.Ok
+    → (IsWhole result → (text : List ℕ) × IsAnswerUnder command told result text × (new ≡ appended text old)) → (text : List ℕ) × IsTrial start nodes text × (new ≡ appended text old)
+trial_written start nodes command told old new result same ok whole =
+    let h = whole (subst IsWhole (sym ok) tt) in
+    (h.0, tried start nodes told h.0 (subst (λ x. IsAnswerUnder x told ending.Ok h.0) same (subst (λ x. IsAnswerUnder command told x h.0) ok h.1)), h.2)
+
 pub bad_written : (words : List (List ℕ)) (command : Command) (told : Option Files) (old new : Option (List ℕ)) (result : Status) → Asks words command → result ≡ ending.BadCase
     → (IsWhole result → (text : List ℕ) × IsAnswerUnder command told result text × (new ≡ appended text old))
     → (c : Command) × Asks words c × (f : File) × (row : ℕ) × (cause : CaseCause) × Answers c told (Err (fault.Bad f row cause)) × (new ≡ appended (bad_case_line f row cause) old)
@@ -162,3 +173,4 @@ pub only_missing : (command : Command) (told : Option Files) (files : Files) (f 
 only_missing ask.Load told files f answer is missing says = load_missing files f answer missing (subst (λ o. Answers ask.Load o answer) is says)
 only_missing ask.Routes told files f answer is missing says = routes_missing lines.Splits files f answer missing (subst (λ o. Answers ask.Routes o answer) is says)
 only_missing ask.RouteTimes told files f answer is missing says = routes_missing lines.Times files f answer missing (subst (λ o. Answers ask.RouteTimes o answer) is says)
+only_missing (ask.Try start nodes) told files f answer is (text, trial, same) says = absurd (cc)

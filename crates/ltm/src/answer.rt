@@ -1,19 +1,22 @@
 //! What each command answers, before a byte of it is written.
-ghost use Rattle.std.specs.Prelude.{◌≡◌, Ok, Err, IfOk, IfErr, IfSome, true, false};
+ghost use Rattle.std.specs.Prelude.{◌≡◌, ◌≤◌, Ok, Err, IfOk, IfErr, IfSome, true, false};
 ghost use Rattle.ltm_io.specs.declared.doc.Doc.{Doc};
 ghost use Rattle.ltm_casefile.specs.declared.faults.File.{File};
 ghost use Rattle.ltm_casefile.specs.declared.faults.CaseFault.{CaseFault};
 ghost use Rattle.ltm_casefile.specs.Roads.{is_of_roads};
 ghost use Rattle.ltm_routing.specs.File.{IsSplitsFile, IsTimesFile};
 ghost use Rattle.ltm.specs.declared.words.Command.{Command};
-ghost use Rattle.ltm.specs.Answers.{Answers, AnswersFault, may_fetch, fetches};
+ghost use Rattle.ltm_trial.specs.Trial.{IsTrial};
+ghost use Rattle.ltm.specs.Answers.{Answers, AnswersFault, IsSized, may_fetch, fetches};
 ghost use Rattle.ltm.specs.Program.{FileFailed};
 
 use crate::load::report_case;
 use crate::words::Command;
 use ltm_casefile::CaseFault;
 use ltm_io::Folder;
+use ltm_make::MakeFault;
 use ltm_routing::{RouteLines, route_text};
+use ltm_trial::try_report;
 use std::alloc::Global;
 
 /// The `splits.csv` of least routes over the folder's roads, or why there is none.
@@ -44,12 +47,27 @@ fn route_times<F: Folder>(alloc: Global, folder: &mut F) -> Result<Vec<u8>, Case
     route_text(alloc, RouteLines::Times, folder)
 }
 
+/// The report of a trial, or that there is none for want of memory.
+fn trial(alloc: Global, start: u64, nodes: u32) -> Result<Vec<u8>, CaseFault>
+    requires few { 4 ≤ nodes }
+    requires many { nodes ≤ 400 }
+    ensures text { IfOk result (λ text. IsTrial start nodes text.items) }
+    ensures fault { IfErr result (λ e. e ≡ CaseFault.NoMemory) }
+{
+    match try_report(alloc, start, nodes) {
+        Ok(text) => Ok(text),
+        Err(MakeFault::NoMemory) => Err(CaseFault::NoMemory),
+        Err(MakeFault::BadSize) => unreachable!(),
+    }
+}
+
 /// The whole text that a command answers to a folder, or why there is none.
 pub fn answer<F: Folder>(
     alloc: Global,
     command: Command,
     folder: &mut F,
 ) -> Result<Vec<u8>, CaseFault>
+    requires { IsSized command }
     ensures keeps { F.told folder.new ≡ F.told folder.old }
     ensures others { (d : Doc) → may_fetch command d ≡ false → F.faults folder.new d ≡ F.faults folder.old d }
     ensures unasked { IfSome (F.told folder.old) (λ files. (d : Doc) → fetches command files d ≡ false → F.faults folder.new d ≡ F.faults folder.old d) }
@@ -64,5 +82,6 @@ pub fn answer<F: Folder>(
         Command::Load => report_case(alloc, folder),
         Command::Routes => route_splits(alloc, folder),
         Command::RouteTimes => route_times(alloc, folder),
+        Command::Try { start, nodes } => trial(alloc, start, nodes),
     }
 }

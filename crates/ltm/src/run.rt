@@ -13,7 +13,8 @@ ghost use Rattle.ltm_routing.specs.File.{IsSplitsFile, IsTimesFile};
 ghost use Rattle.ltm.specs.declared.words.Command.{Command};
 ghost use Rattle.ltm.specs.Words.{Asks, AsksNothing, usage_line};
 ghost use Rattle.ltm.specs.Report.{IsReport};
-ghost use Rattle.ltm.specs.Answers.{Answer, Answers, Describes, may_fetch, fetches};
+ghost use Rattle.ltm_trial.specs.Trial.{IsTrial};
+ghost use Rattle.ltm.specs.Answers.{IsSized, Answer, Answers, Describes, may_fetch, fetches};
 ghost use Rattle.ltm.specs.Program.{IsAnswerUnder, IsTextUnder, IsWhole, FileFailed, IsCalm, WritesAnswerFront, WritesFront, status_of};
 
 use crate::answer::answer;
@@ -31,6 +32,7 @@ fn run_command<F: Folder, W: Sink>(
     folder: &mut F,
     output: &mut W,
 ) -> Status
+    requires { IsSized command }
     ensures keeps { F.told folder.new ≡ F.told folder.old }
     ensures others { (d : Doc) → may_fetch command d ≡ false → F.faults folder.new d ≡ F.faults folder.old d }
     ensures unasked { IfSome (F.told folder.old) (λ files. (d : Doc) → fetches command files d ≡ false → F.faults folder.new d ≡ F.faults folder.old d) }
@@ -63,6 +65,8 @@ fn run_command<F: Folder, W: Sink>(
 /// - `routes` fetches the setup, the links and the demand, finds the least routes by free-flow time (Dijkstra 1959) and
 ///   writes the `splits.csv` that sends traffic along them, in equal parts where several are least.
 /// - `routes times` writes the times that these routes take.
+/// - `try START NODES` makes a case of the two numbers, loads it, repairs what its batch changes, and writes four lines; it
+///   touches no file.
 ///
 /// Everything is decided in this order: the words, the fetches, what the files say, the writing.
 pub fn run_alone<F: Folder, W: Sink>(
@@ -107,6 +111,8 @@ pub fn run_alone<F: Folder, W: Sink>(
     ensures times { Asks (map string_bytes words.now) Command.RouteTimes → result ≡ Status.Ok → (text : List ℕ)
         × IsTimesFile (F.told folder.old) text
         × (W.written output.new ≡ appended text (W.written output.old)) }
+    ensures trial { (start nodes : ℕ) → Asks (map string_bytes words.now) (Command.Try start nodes) → result ≡ Status.Ok → (text : List ℕ)
+        × IsTrial start nodes text × (W.written output.new ≡ appended text (W.written output.old)) }
     ensures bad_case { result ≡ Status.BadCase → (command : Command) × Asks (map string_bytes words.now) command
         × (file : File) × (row : ℕ) × (cause : CaseCause)
         × Answers command (F.told folder.old) (Err (CaseFault.Bad file row cause))

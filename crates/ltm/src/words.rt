@@ -3,6 +3,8 @@ ghost use Rattle.std.specs.Prelude.{◌≡◌, ◌↔◌, List, [], ◌∷◌, m
 ghost use Rattle.ltm.specs.declared.words.Command.{Command};
 ghost use Rattle.ltm.specs.Words.{Asks, usage_line};
 
+use ltm_trial::{read_nodes, read_start};
+
 /// What the program can be asked for.
 #[derive(Clone, Copy, Debug, PartialEq, Eq)]
 pub enum Command {
@@ -12,6 +14,8 @@ pub enum Command {
     Routes,
     /// The least free-flow times that these routes take.
     RouteTimes,
+    /// A trial of a made case: where its words start, and how many nodes it has.
+    Try { start: u64, nodes: u32 },
 }
 
 fn is_load(word: &str) -> bool
@@ -30,6 +34,12 @@ fn is_times(word: &str) -> bool
     ensures { result ≡ true ↔ (word.now ≡ codes "times") }
 {
     word == "times"
+}
+
+fn is_try(word: &str) -> bool
+    ensures { result ≡ true ↔ (word.now ≡ codes "try") }
+{
+    word == "try"
 }
 
 fn one_word(word: &str) -> Option<Command>
@@ -56,6 +66,21 @@ fn two_words(first: &str, second: &str) -> Option<Command>
     Some(Command::RouteTimes)
 }
 
+fn three_words(first: &str, second: &str, third: &str) -> Option<Command>
+    ensures { (command : Command) → (result ≡ Some command) ↔ Asks (first.now ∷ second.now ∷ third.now ∷ []) command }
+{
+    if !is_try(first) {
+        return None;
+    }
+    let Some(start) = read_start(second.as_bytes()) else {
+        return None;
+    };
+    let Some(nodes) = read_nodes(third.as_bytes()) else {
+        return None;
+    };
+    Some(Command::Try { start, nodes })
+}
+
 /// The command that the words ask for, none where they ask for none.
 pub fn command_of(words: &[String]) -> Option<Command>
     ensures { (command : Command) → (result ≡ Some command) ↔ Asks (map string_bytes words.now) command }
@@ -63,6 +88,7 @@ pub fn command_of(words: &[String]) -> Option<Command>
     match words {
         [word] => one_word(word.as_str()),
         [first, second] => two_words(first.as_str(), second.as_str()),
+        [first, second, third] => three_words(first.as_str(), second.as_str(), third.as_str()),
         _ => None,
     }
 }

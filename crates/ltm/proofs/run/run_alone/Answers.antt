@@ -5,7 +5,8 @@ use Rattle.ltm.specs.declared.words.Command.TheVariants as command
 use Rattle.ltm.specs.Words.{usage_line}
 use Rattle.ltm.specs.Answers.{Answers, may_fetch}
 use Rattle.ltm.specs.Program.{IsWhole}
-use Rattle.ltm.proofs.Told.{front_of_words, asked_one, asked_none, report_written, bad_written, long_written, usage_never, completes_asked, others_stay}
+use Rattle.ltm.proofs.Told.{front_of_words, asked_one, asked_none, report_written, trial_written, bad_written, long_written, usage_never, completes_asked, others_stay}
+use Rattle.ltm.proofs.Choice.{asked_sized}
 use Rattle.ltm.proofs.run.run_alone.Goals as goal
 
 -- ---- with a command
@@ -47,6 +48,13 @@ returns-in-Some-clause-routes g c = λ asks ok. c.run_command.ensures.splits (as
 pub returns-in-Some-clause-times : goal.returns-in-Some-clause-times
 returns-in-Some-clause-times g c = λ asks ok. c.run_command.ensures.times (asked_one _ _ c.in-Some.command command.RouteTimes c.command_of.ensures c.in-Some.is asks) ok
 
+pub run_command-requires : goal.run_command-requires
+run_command-requires g c = asked_sized _ c.in-Some.command ((c.command_of.ensures c.in-Some.command).0 c.in-Some.is)
+
+pub returns-in-Some-clause-trial : goal.returns-in-Some-clause-trial
+returns-in-Some-clause-trial g c = λ start nodes asks ok.
+    trial_written start nodes c.in-Some.command _ _ _ _ (asked_one _ _ c.in-Some.command (command.Try start nodes) c.command_of.ensures c.in-Some.is asks) ok c.run_command.ensures.whole
+
 pub returns-in-Some-clause-bad_case : goal.returns-in-Some-clause-bad_case
 returns-in-Some-clause-bad_case g c = λ is. bad_written _ c.in-Some.command _ _ _ _ ((c.command_of.ensures c.in-Some.command).0 c.in-Some.is) is c.run_command.ensures.whole
 
@@ -87,6 +95,9 @@ returns-in-None-clause-routes g c = λ asks. absurd (asked_none _ _ c.command_of
 
 pub returns-in-None-clause-times : goal.returns-in-None-clause-times
 returns-in-None-clause-times g c = λ asks. absurd (asked_none _ _ c.command_of.ensures c.in-None.is command.RouteTimes asks)
+
+pub returns-in-None-clause-trial : goal.returns-in-None-clause-trial
+returns-in-None-clause-trial g c = λ start nodes asks. absurd (asked_none _ _ c.command_of.ensures c.in-None.is (command.Try start nodes) asks)
 
 pub returns-in-None-clause-complete : goal.returns-in-None-clause-complete
 returns-in-None-clause-complete g c = λ files other is asks. absurd (asked_none _ _ c.command_of.ensures c.in-None.is other asks)
