@@ -141,3 +141,5 @@ mod networks;
 mod routes;
 #[cfg(test)]
 mod tests;
+#[cfg(test)]
+mod trials;
