@@ -169,8 +169,9 @@ fn made_and_routed(alloc: Global, names: &[Name; 4]) -> Result<Vec<u8>, NoMemory
     size_text(alloc, 400, 1520, 24_000, &mut text)?;
     work_text(alloc, 232, 232, 3_969_740_000, &mut text)?;
     splits_header_text(&mut text)?;
-    route_row_text(alloc, &names[0], &names[1], &names[2..4], &mut text)?;
-    route_row_text(alloc, &names[0], &names[1], &names[2..3], &mut text)?;
+    let all = &names[..];
+    route_row_text(alloc, &names[0], &names[1], &all[2..4], &mut text)?;
+    route_row_text(alloc, &names[0], &names[1], &all[2..3], &mut text)?;
     route_time_text(alloc, &names[0], &names[1], Millis(2000), &mut text)?;
     Ok(text)
 }
