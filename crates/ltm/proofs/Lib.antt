@@ -1,6 +1,2 @@
-pub mod Asked
-pub mod Choice
-pub mod Answering
-pub mod MissingFile
-pub mod Told
-pub mod Reported
+mod Closings
+mod Sorting

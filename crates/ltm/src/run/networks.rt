@@ -1,6 +1,8 @@
 //! Cases of whole networks, whose output was computed by another engine. The folder `examples` has more.
-use super::{Status, run_alone};
+use super::run_alone;
 use ltm_io::{Doc, MemFolder, MemSink};
+use ltm_lines::SureSource;
+use ltm_texts::Status;
 use ltm_units::NoMemory;
 use std::alloc::Global;
 use std::process::Abort;
@@ -70,7 +72,14 @@ fn expect_report<R: Abort + AllocGlobal>(rt: &R, network: &Network) -> Result<()
     words.push(String::from_str(alloc, "load")?)?;
     let mut folder = folder_of(alloc, network)?;
     let mut output = MemSink::create(alloc, 1000, &[])?;
-    let got = run_alone(alloc, words.as_slice(), &mut folder, &mut output);
+    let mut input = SureSource::create(alloc, b"", 1)?;
+    let got = run_alone(
+        alloc,
+        words.as_slice(),
+        &mut folder,
+        &mut input,
+        &mut output,
+    );
     assert!(rt; got == Status::Ok);
     assert!(rt;
         output.written() == network.report.as_bytes(),

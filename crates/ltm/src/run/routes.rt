@@ -1,6 +1,8 @@
 //! Routes by free-flow time, by hand.
-use super::{Status, run_alone};
+use super::run_alone;
 use ltm_io::{Doc, MemFolder, MemSink};
+use ltm_lines::SureSource;
+use ltm_texts::Status;
 use ltm_units::NoMemory;
 use std::alloc::{AllocError, Global};
 use std::process::Abort;
@@ -40,7 +42,8 @@ fn expect<R: Abort + AllocGlobal>(
     let alloc = rt.alloc();
     let words = words_of(alloc, words)?;
     let mut output = MemSink::create(alloc, 100, &[])?;
-    let got = run_alone(alloc, words.as_slice(), folder, &mut output);
+    let mut input = SureSource::create(alloc, b"", 1)?;
+    let got = run_alone(alloc, words.as_slice(), folder, &mut input, &mut output);
     assert!(rt; got == status, "at {text}");
     assert!(rt; output.written() == text.as_bytes(), "at {text}");
     Ok(())

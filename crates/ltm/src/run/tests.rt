@@ -1,5 +1,7 @@
-use super::{Status, run_alone};
+use super::run_alone;
 use ltm_io::{Doc, MemFolder, MemSink};
+use ltm_lines::SureSource;
+use ltm_texts::Status;
 use ltm_units::NoMemory;
 use std::alloc::{AllocError, Global};
 use std::test::Fail;
@@ -78,7 +80,14 @@ fn loads_a_case(rt: HostRuntime) -> Result<(), Fail> {
     for (setup, links, demand, text) in cases {
         let mut folder = folder_of(alloc, setup, links, demand, SPLITS)?;
         let mut output = MemSink::create(alloc, 7, &[])?;
-        let got = run_alone(alloc, words.as_slice(), &mut folder, &mut output);
+        let mut input = SureSource::create(alloc, b"", 1)?;
+        let got = run_alone(
+            alloc,
+            words.as_slice(),
+            &mut folder,
+            &mut input,
+            &mut output,
+        );
         assert!(rt; got == Status::Ok, "at {text}");
         assert!(rt; output.written() == text.as_bytes(), "at {text}");
     }
@@ -97,7 +106,14 @@ fn loads_a_corridor(rt: HostRuntime) -> Result<(), Fail> {
         "node,destination,from_slot,weights\nn1,n3,0,a=1\nn2,n3,0,b=1\n",
     )?;
     let mut output = MemSink::create(alloc, 100, &[])?;
-    let got = run_alone(alloc, words.as_slice(), &mut folder, &mut output);
+    let mut input = SureSource::create(alloc, b"", 1)?;
+    let got = run_alone(
+        alloc,
+        words.as_slice(),
+        &mut folder,
+        &mut input,
+        &mut output,
+    );
     let want =
         "version 0 generated 5.000 arrived 4.000 on_links 1.000 waiting 0.000\nlink a in 5.000 out 5.000\nlink b in 5.000 out 4.000\n";
     assert!(rt; got == Status::Ok);
@@ -139,7 +155,14 @@ fn refuses_a_bad_case(rt: HostRuntime) -> Result<(), Fail> {
     for (setup, links, splits, text) in cases {
         let mut folder = folder_of(alloc, setup, links, DEMAND, splits)?;
         let mut output = MemSink::create(alloc, 7, &[])?;
-        let got = run_alone(alloc, words.as_slice(), &mut folder, &mut output);
+        let mut input = SureSource::create(alloc, b"", 1)?;
+        let got = run_alone(
+            alloc,
+            words.as_slice(),
+            &mut folder,
+            &mut input,
+            &mut output,
+        );
         assert!(rt; got == Status::BadCase, "at {text}");
         assert!(rt; output.written() == text.as_bytes(), "at {text}");
     }
@@ -153,12 +176,26 @@ fn fetches_signals_where_they_are_asked_for(rt: HostRuntime) -> Result<(), Fail>
     let setup = "step_ms,slots,origin_capacity,signals\n1000,4,1,1\n";
     let mut folder = folder_of(alloc, setup, LINKS, DEMAND, SPLITS)?;
     let mut output = MemSink::create(alloc, 100, &[])?;
-    let got = run_alone(alloc, words.as_slice(), &mut folder, &mut output);
+    let mut input = SureSource::create(alloc, b"", 1)?;
+    let got = run_alone(
+        alloc,
+        words.as_slice(),
+        &mut folder,
+        &mut input,
+        &mut output,
+    );
     assert!(rt; got == Status::FolderFault, "without a signals file");
     assert!(rt; output.written().is_empty());
     let signals = "link,from_slot,to_slot,vehicles\nz,0,4,1\n";
     folder.put(Doc::Signals, signals.as_bytes())?;
-    let got = run_alone(alloc, words.as_slice(), &mut folder, &mut output);
+    let mut input = SureSource::create(alloc, b"", 1)?;
+    let got = run_alone(
+        alloc,
+        words.as_slice(),
+        &mut folder,
+        &mut input,
+        &mut output,
+    );
     assert!(rt; got == Status::BadCase);
     assert!(rt; output.written() == b"bad case signals row 2 Unknown 1\n".as_slice());
     Ok(())
@@ -169,12 +206,20 @@ fn other_words_are_told_the_usage(rt: HostRuntime) -> Result<(), Fail> {
     let alloc = rt.alloc();
     let mut folder = folder_of(alloc, SETUP, LINKS, DEMAND, SPLITS)?;
     let mut output = MemSink::create(alloc, 100, &[])?;
-    assert!(rt; run_alone(alloc, &[], &mut folder, &mut output) == Status::Usage);
+    let mut input = SureSource::create(alloc, b"", 1)?;
+    assert!(rt; run_alone(alloc, &[], &mut folder, &mut input, &mut output) == Status::Usage);
     assert!(rt; output.written() == USAGE.as_bytes());
     let mut words = one_word(alloc, "load")?;
     words.push(String::from_str(alloc, "x")?)?;
     let mut output = MemSink::create(alloc, 100, &[])?;
-    assert!(rt; run_alone(alloc, words.as_slice(), &mut folder, &mut output) == Status::Usage);
+    let got = run_alone(
+        alloc,
+        words.as_slice(),
+        &mut folder,
+        &mut input,
+        &mut output,
+    );
+    assert!(rt; got == Status::Usage);
     assert!(rt; output.written() == USAGE.as_bytes());
     Ok(())
 }
@@ -188,13 +233,27 @@ fn faults_of_the_outside_are_told(rt: HostRuntime) -> Result<(), Fail> {
     folder.put(Doc::Links, LINKS.as_bytes())?;
     folder.put(Doc::Splits, SPLITS.as_bytes())?;
     let mut output = MemSink::create(alloc, 7, &[])?;
-    let got = run_alone(alloc, words.as_slice(), &mut folder, &mut output);
+    let mut input = SureSource::create(alloc, b"", 1)?;
+    let got = run_alone(
+        alloc,
+        words.as_slice(),
+        &mut folder,
+        &mut input,
+        &mut output,
+    );
     assert!(rt; got == Status::FolderFault, "without a demand file");
     assert!(rt; output.written().is_empty());
     let mut folder = folder_of(alloc, SETUP, LINKS, DEMAND, SPLITS)?;
     for (failing, front) in [(1, ""), (3, "version 0 gene")] {
         let mut output = MemSink::create(alloc, 7, &[failing])?;
-        let got = run_alone(alloc, words.as_slice(), &mut folder, &mut output);
+        let mut input = SureSource::create(alloc, b"", 1)?;
+        let got = run_alone(
+            alloc,
+            words.as_slice(),
+            &mut folder,
+            &mut input,
+            &mut output,
+        );
         assert!(rt; got == Status::WriteFault, "at write {failing}");
         assert!(rt; output.written() == front.as_bytes(), "at write {failing}");
     }
@@ -209,7 +268,14 @@ fn a_file_that_is_too_long_is_refused(rt: HostRuntime) -> Result<(), Fail> {
     let long: Vec<u8> = vec![in alloc; b'\n'; 16_777_217]?;
     folder.put(Doc::Setup, long.as_slice())?;
     let mut output = MemSink::create(alloc, 100, &[])?;
-    let got = run_alone(alloc, words.as_slice(), &mut folder, &mut output);
+    let mut input = SureSource::create(alloc, b"", 1)?;
+    let got = run_alone(
+        alloc,
+        words.as_slice(),
+        &mut folder,
+        &mut input,
+        &mut output,
+    );
     assert!(rt; got == Status::TooLong);
     assert!(rt; output.written() == b"too long setup\n".as_slice());
     Ok(())

@@ -1,6 +1,8 @@
 //! Trials of made cases, with values of an engine that was written without this one.
-use super::{Status, run_alone};
+use super::run_alone;
 use ltm_io::{MemFolder, MemSink};
+use ltm_lines::SureSource;
+use ltm_texts::Status;
 use std::alloc::{AllocError, Global};
 use std::process::Abort;
 use std::test::Fail;
@@ -26,7 +28,14 @@ fn expect<R: Abort + AllocGlobal>(
     let words = words_of(alloc, words)?;
     let mut folder = MemFolder::create(alloc, &[])?;
     let mut output = MemSink::create(alloc, 100, &[])?;
-    let got = run_alone(alloc, words.as_slice(), &mut folder, &mut output);
+    let mut input = SureSource::create(alloc, b"", 1)?;
+    let got = run_alone(
+        alloc,
+        words.as_slice(),
+        &mut folder,
+        &mut input,
+        &mut output,
+    );
     assert!(rt; got == status, "at {text}");
     assert!(rt; output.written() == text.as_bytes(), "at {text}");
     Ok(())
