@@ -2,6 +2,7 @@
 use Rattle.std.proofs.Common.{ℕ, ◌≡◌, ◌≤◌, ◌⊎◌, inl, inr, refl, ap, sym, subst, ◌∙◌, arith, List, [], ◌++◌, length, Option, Some, None}
 use Rattle.std.specs.Prelude.{take, ◌≢◌, IfSome}
 use Rattle.std.proofs.lemmas.List.{append-nil, take-append-le, length-append}
+use Rattle.ltm_io.specs.Faults.{Rose}
 use Rattle.ltm_io.specs.Sink.{appended, AppendsFront}
 use Rattle.ltm_lines.specs.Script.{lines_of}
 use Rattle.ltm_scenario.specs.Data.{ScenarioData}
@@ -9,7 +10,7 @@ use Rattle.ltm_session.specs.declared.ends.SessionEnd.{SessionEnd}
 use Rattle.ltm_session.specs.declared.ends.SessionEnd.TheVariants as end
 use Rattle.ltm_session.specs.Analysts.{Analysts, opening_state}
 use Rattle.ltm_session.specs.Answers.{AnswersAlone}
-use Rattle.ltm_session.specs.Session.{IsOutputAlone, AnswersLines, IsSession, Wrote, EndsBefore}
+use Rattle.ltm_session.specs.Session.{IsOutputAlone, AnswersLines, IsSession, Wrote, EndsBefore, end_of}
 use Rattle.ltm_session.proofs.Progress.{nothing_more, appended_more, whole_front, front_more}
 use Rattle.ltm_texts.specs.declared.status.Status.{Status}
 use Rattle.ltm_texts.specs.declared.status.Status.TheVariants as ending
@@ -74,3 +75,69 @@ ended_whole s (Some lines) left old now e output t is so wrote read =
     let all : lines_of lines ≡ so.answered = cut ∙ ap (λ r. so.answered ++ r) none ∙ append-nil so.answered in
     let runs = subst (λ ls. AnswersLines AnswersAlone (opening_state s) ls output t) (sym all) so.runs in
     (output, (t, runs), subst (λ x. Wrote x old now output) is wrote, read lines refl is)
+
+-- and no line closes it
+pub ended_well : (s : ScenarioData) (script left old now new : Option (List ℕ)) (e : SessionEnd) (output : List ℕ) (t : Analysts) → e ≡ end.Ended
+    → IsSession AnswersAlone s script e output t → Wrote e old now output → ((lines : List ℕ) → script ≡ Some lines → e ≡ end.Ended → left ≡ Some [])
+    → new ≡ appended (closing_of e) now → ServesWhole IsOutputAlone s script left old new
+ended_well s script left old now new e output t is so wrote read closed =
+    subst (λ x. ServesWhole IsOutputAlone s script left old x) (sym (closed ∙ ap (λ k. appended (closing_of k) now) is ∙ sym (nothing_more now)))
+    (ended_whole s script left old now e output t is so wrote read)
+
+-- ---- fronts of a whole session
+pub served_front : (s : ScenarioData) (script old now new : Option (List ℕ)) (e : SessionEnd) (output : List ℕ) (t : Analysts)
+    → IsSession AnswersAlone s script e output t → Wrote e old now output → (new ≡ now) ⊎ AppendsFront now new (closing_of e)
+    → (new ≡ old) ⊎ ((end : SessionEnd) × (text : List ℕ) × IsServed AnswersAlone s script end text × AppendsFront old new text)
+served_front s script old now new e output t so wrote front = inr (e, output ++ closing_of e, (output, t, so, refl), closed_front e old now new output wrote front)
+
+-- ---- statuses
+-- what a closing line leaves: the status of the end, or that it was not written
+abbrev pub Closes : SessionEnd → Status → Type 0
+Closes e result = (result ≡ status_of_end e) ⊎ ((result ≡ ending.WriteFault) ⊎ (result ≡ ending.NoMemory))
+
+-- where nothing failed, the status is that of the end which the script has
+ends_plain : (e : SessionEnd) (script : List ℕ) (result : Status) → ((e ≡ end.ReadFault → ⊥) → (e ≡ end.WriteFault → ⊥) → (e ≡ end.NoMemory → ⊥) → e ≡ end_of script)
+    → (e ≡ end.ReadFault → ⊥) → (e ≡ end.WriteFault → ⊥) → result ≡ status_of_end e → (result ≡ status_of_end (end_of script)) ⊎ (result ≡ ending.NoMemory)
+ends_plain end.Ended script result says read write well = inl (well ∙ ap status_of_end (says (λ x. cc) (λ x. cc) (λ x. cc)))
+ends_plain (end.LineTooLong n) script result says read write well = inl (well ∙ ap status_of_end (says (λ x. cc) (λ x. cc) (λ x. cc)))
+ends_plain end.TooManyCommands script result says read write well = inl (well ∙ ap status_of_end (says (λ x. cc) (λ x. cc) (λ x. cc)))
+ends_plain end.ReadFault script result says read write well = absurd (read refl)
+ends_plain end.WriteFault script result says read write well = absurd (write refl)
+ends_plain end.NoMemory script result says read write well = inr well
+
+pub ends_well : (e : SessionEnd) (script : List ℕ) (result : Status) → ((e ≡ end.ReadFault → ⊥) → (e ≡ end.WriteFault → ⊥) → (e ≡ end.NoMemory → ⊥) → e ≡ end_of script)
+    → (e ≡ end.ReadFault → ⊥) → (e ≡ end.WriteFault → ⊥) → (result ≡ ending.WriteFault → ⊥) → Closes e result
+    → (result ≡ status_of_end (end_of script)) ⊎ (result ≡ ending.NoMemory)
+ends_well e script result says read write faulted (inl well) = ends_plain e script result says read write well
+ends_well e script result says read write faulted (inr (inl failed)) = absurd (faulted failed)
+ends_well e script result says read write faulted (inr (inr none)) = inr none
+
+-- a session ends in no status of the words or of the files
+of_no_files : (e : SessionEnd) → (status_of_end e ≡ ending.Usage → ⊥) × (status_of_end e ≡ ending.FolderFault → ⊥)
+of_no_files end.Ended = (λ x. cc, λ x. cc)
+of_no_files (end.LineTooLong n) = (λ x. cc, λ x. cc)
+of_no_files end.TooManyCommands = (λ x. cc, λ x. cc)
+of_no_files end.ReadFault = (λ x. cc, λ x. cc)
+of_no_files end.WriteFault = (λ x. cc, λ x. cc)
+of_no_files end.NoMemory = (λ x. cc, λ x. cc)
+
+pub no_files : (e : SessionEnd) (result : Status) → Closes e result → (result ≡ ending.Usage → ⊥) × (result ≡ ending.FolderFault → ⊥)
+no_files e result (inl well) = (λ x. (of_no_files e).0 (sym well ∙ x), λ x. (of_no_files e).1 (sym well ∙ x))
+no_files e result (inr (inl failed)) = (λ x. cc, λ x. cc)
+no_files e result (inr (inr none)) = (λ x. cc, λ x. cc)
+
+-- ---- faults of the output
+-- a count that rose in a part rose in the whole
+pub rose_after : (a b c : ℕ) → a ≤ b → Rose b c → Rose a c
+rose_after a b c later rose = omega (arith, later, rose)
+
+pub rose_before : (a b c : ℕ) → Rose a b → b ≤ c → Rose a c
+rose_before a b c rose later = omega (arith, later, rose)
+
+pub failed_writing : (e : SessionEnd) (result : Status) (a b c : ℕ) → result ≡ ending.WriteFault → (result ≡ ending.WriteFault → (e ≡ end.WriteFault) ⊎ Rose b c) → (e ≡ end.WriteFault → Rose a b)
+    → a ≤ b → b ≤ c → Rose a c
+failed_writing e result a b c is cause first later last =
+    elim (cause is) [
+      | inl failed ↦ rose_before a b c (first failed) last
+      | inr rose ↦ rose_after a b c later rose
+    ]

@@ -1,2 +1,3 @@
 mod Closings
+mod Cases
 mod Sorting

@@ -96,6 +96,7 @@ fn serve_core<S: Source, W: Sink>(
         × IsServed AnswersAlone core.log.opening (S.left input.old) end text × (W.written output.new ≡ appended text (W.written output.old)) }
     ensures front { (W.written output.new ≡ W.written output.old) ⊎ ((end : SessionEnd) × (text : List ℕ)
         × IsServed AnswersAlone core.log.opening (S.left input.old) end text × AppendsFront (W.written output.old) (W.written output.new) text) }
+    ensures of_no_files { (result ≡ Status.Usage → ⊥) × (result ≡ Status.FolderFault → ⊥) }
     ensures read_fault { result ≡ Status.ReadFault → Rose (S.faults input.old) (S.faults input.new) }
     ensures write_fault { result ≡ Status.WriteFault → Rose (W.faults output.old) (W.faults output.new) }
     ensures session { result ≡ Status.Ok → ServesWhole IsOutputAlone core.log.opening (S.left input.old) (S.left input.new) (W.written output.old) (W.written output.new) }
@@ -119,6 +120,7 @@ fn serve_case<S: Source, W: Sink>(
         × IsServed AnswersAlone scenario (S.left input.old) end text × (W.written output.new ≡ appended text (W.written output.old)) }
     ensures front { (W.written output.new ≡ W.written output.old) ⊎ ((end : SessionEnd) × (text : List ℕ)
         × IsServed AnswersAlone scenario (S.left input.old) end text × AppendsFront (W.written output.old) (W.written output.new) text) }
+    ensures of_no_files { (result ≡ Status.Usage → ⊥) × (result ≡ Status.FolderFault → ⊥) }
     ensures read_fault { result ≡ Status.ReadFault → Rose (S.faults input.old) (S.faults input.new) }
     ensures write_fault { result ≡ Status.WriteFault → Rose (W.faults output.old) (W.faults output.new) }
     ensures session { result ≡ Status.Ok → ServesWhole IsOutputAlone scenario (S.left input.old) (S.left input.new) (W.written output.old) (W.written output.new) }

@@ -1,6 +1,6 @@
 mod Asked
 pub mod Choice
 mod Answering
-mod MissingFile
+pub mod MissingFile
 pub mod Told
 mod Reported

@@ -98,7 +98,7 @@ usage_not_script result (inr (inl is)) = (λ r. cc, λ r. cc)
 usage_not_script result (inr (inr is)) = (λ r. cc, λ r. cc)
 
 -- ---- with no fault of the outside
-failed_in_calm : (command : Command) (told : Option Files) (files : Files) (before now : Doc → ℕ) → told ≡ Some files → IsCalm command files before now → FileFailed command told before now → ⊥
+pub failed_in_calm : (command : Command) (told : Option Files) (files : Files) (before now : Doc → ℕ) → told ≡ Some files → IsCalm command files before now → FileFailed command told before now → ⊥
 failed_in_calm command told files before now is calm (d, may, asked, rose) = calm d (subst (λ o. IfSome o (λ fs. fetches command fs d ≡ true)) is asked) rose
 
 told_answer : (command : Command) (told : Option Files) (files : Files) (result : Status) → told ≡ Some files → (text : List ℕ) × IsAnswerUnder command told result text
@@ -113,9 +113,11 @@ pub completes : (command : Command) (told : Option Files) (files : Files) (befor
 completes command told files before now wrote writes ending.Ok failed faulted whole is calm quiet = inl (told_answer command told files ending.Ok is (whole tt))
 completes command told files before now wrote writes ending.Usage failed faulted whole is calm quiet = inl (told_answer command told files ending.Usage is (whole tt))
 completes command told files before now wrote writes ending.FolderFault failed faulted whole is calm quiet = absurd (failed_in_calm command told files before now is calm (failed refl))
+completes command told files before now wrote writes ending.ReadFault failed faulted whole is calm quiet = inl (told_answer command told files ending.ReadFault is (whole tt))
 completes command told files before now wrote writes ending.WriteFault failed faulted whole is calm quiet = absurd (quiet (faulted refl))
 completes command told files before now wrote writes ending.BadCase failed faulted whole is calm quiet = inl (told_answer command told files ending.BadCase is (whole tt))
 completes command told files before now wrote writes ending.TooLong failed faulted whole is calm quiet = inl (told_answer command told files ending.TooLong is (whole tt))
+completes command told files before now wrote writes ending.TooManyCommands failed faulted whole is calm quiet = inl (told_answer command told files ending.TooManyCommands is (whole tt))
 completes command told files before now wrote writes ending.NoMemory failed faulted whole is calm quiet = inr refl
 
 -- the same of another name of the command
