@@ -129,9 +129,13 @@ pub fn run_alone<F: Folder, S: Source, W: Sink>(
 }
 
 #[cfg(test)]
+mod cases;
+#[cfg(test)]
 mod networks;
 #[cfg(test)]
 mod routes;
+#[cfg(test)]
+mod sessions;
 #[cfg(test)]
 mod tests;
 #[cfg(test)]
