@@ -9,6 +9,7 @@
 mod answers;
 mod claim;
 mod entry;
+mod horizons;
 mod kept_core;
 mod laws;
 mod scratch;
