@@ -1,6 +1,3 @@
-pub mod Asked
-pub mod Choice
-pub mod Answering
-pub mod MissingFile
-pub mod Told
-pub mod Reported
+mod Closings
+mod Cases
+mod Sorting

@@ -1,5 +1,2 @@
-pub mod Status
-pub mod Words
-pub mod Report
-pub mod Answers
-pub mod Program
+pub mod Sessions
+pub mod Whole

@@ -1,26 +1,20 @@
-//! - **What it is**: the program `ltm`, which loads a case on one thread and reports its totals and its links, or finds the
-//!   least free-flow routes for its demand. `main` only makes the real folder and output and calls `run_alone`, whose
+//! - **What it is**: the program `ltm`. `main` only makes the real folder, input and output and calls `run_alone`, whose
 //!   contract is that of the whole program.
-//! - **On what it stands**: `ltm_casefile`, which reads the case, `ltm_flows`, which loads it, `ltm_routing`, which finds
-//!   routes, and `ltm_report`, which writes the lines.
-//! - **What a call costs**: a cold loading, or the routes to each destination; a text is made whole before its first byte is
-//!   written.
-//! - **When to change it here**: when the words of the command line, the exit statuses or the order of the report change.
-//!   A new command gets a variant of `Command` and its words (`words.rt`, `specs/Words.antt`), what it answers and fetches
-//!   (`specs/Answers.antt`), a file of its own that makes the text, and an arm of `answer`; `run.rt` stays as it is.
+//! - **On what it stands**: `ltm_texts` for the commands whose text is made whole before it is written, `ltm_session` for the
+//!   session, which answers a script line by line, and `ltm_casefile`, which reads the case.
+//! - **What a call costs**: a cold loading, the routes to each destination or a trial; a session a cold loading, and then what
+//!   its lines cost.
+//! - **When to change it here**: when there is another command that reads the input, or when a session ends or is closed in
+//!   another way. A command with a text of its own stands in `ltm_texts`.
 #![tactic(auto)]
 
-mod answer;
-mod closing;
-mod load;
-mod report;
 mod run;
-mod status;
-mod words;
+mod serve;
 
 use ltm_io::{RealFolder, RealOutput};
+use ltm_lines::RealInput;
+use ltm_texts::Status;
 use run::run_alone;
-use status::Status;
 use std::process::ExitCode;
 use std::{env, io};
 
@@ -37,6 +31,13 @@ fn main(rt: HostRuntime) -> ExitCode {
     }
     let mut folder = RealFolder::new(&rt);
     let mut output = RealOutput::new(io::writer(&rt));
-    let status = run_alone(alloc, words.as_slice(), &mut folder, &mut output);
+    let mut input = RealInput::new(rt.reader());
+    let status = run_alone(
+        alloc,
+        words.as_slice(),
+        &mut folder,
+        &mut input,
+        &mut output,
+    );
     ExitCode::from(status.number())
 }

@@ -1,5 +1,5 @@
-//! The top call: what the words ask for, over a folder and an output.
-ghost use Rattle.std.specs.Prelude.{◌≡◌, ◌↔◌, ◌⊎◌, ℕ, List, map, string_bytes, IfSome, Some, Ok, Err, true, false};
+//! The top call: what the words ask for, over a folder, an input and an output.
+ghost use Rattle.std.specs.Prelude.{◌≡◌, ◌⊎◌, ℕ, List, map, string_bytes, IfSome, Some, Ok, Err, true, false};
 ghost use Rattle.ltm_io.specs.Faults.{Rose};
 ghost use Rattle.ltm_io.specs.Sink.{appended};
 ghost use Rattle.ltm_io.specs.Folder.{Files};
@@ -8,100 +8,82 @@ ghost use Rattle.ltm_scenario.specs.Data.{ScenarioData};
 ghost use Rattle.ltm_casefile.specs.declared.faults.File.{File};
 ghost use Rattle.ltm_casefile.specs.declared.faults.CaseCause.{CaseCause};
 ghost use Rattle.ltm_casefile.specs.declared.faults.CaseFault.{CaseFault};
+ghost use Rattle.ltm_casefile.specs.Case.{case_of, is_case_file, asks_for};
 ghost use Rattle.ltm_report.specs.CaseFaults.{bad_case_line, too_long_line};
 ghost use Rattle.ltm_routing.specs.File.{IsSplitsFile, IsTimesFile};
-ghost use Rattle.ltm.specs.declared.words.Command.{Command};
-ghost use Rattle.ltm.specs.Words.{Asks, AsksNothing, usage_line};
-ghost use Rattle.ltm.specs.Report.{IsReport};
 ghost use Rattle.ltm_trial.specs.Trial.{IsTrial};
-ghost use Rattle.ltm.specs.Answers.{IsSized, Answer, Answers, Describes, may_fetch, fetches};
-ghost use Rattle.ltm.specs.Program.{IsAnswerUnder, IsTextUnder, IsWhole, FileFailed, IsCalm, WritesAnswerFront, WritesFront, status_of};
+ghost use Rattle.ltm_texts.specs.declared.words.Command.{Command};
+ghost use Rattle.ltm_texts.specs.Words.{Asks, AsksSession, usage_line};
+ghost use Rattle.ltm_texts.specs.Report.{IsReport};
+ghost use Rattle.ltm_texts.specs.Answers.{Answer, Answers, Describes, may_fetch, fetches};
+ghost use Rattle.ltm_texts.specs.Program.{IsWhole, FileFailed, IsCalm, status_of};
+ghost use Rattle.ltm_session.specs.Session.{IsOutputAlone};
+ghost use Rattle.ltm.specs.Sessions.{ServesWhole, session_status};
+ghost use Rattle.ltm.specs.Whole.{AsksNothing, IsTextOf, WritesFrontOf, FolderFailed};
 
-use crate::answer::answer;
-use crate::closing::{refuse_case, refuse_length, write_text};
-use crate::status::Status;
-use crate::words::{Command, command_of, usage_text};
-use ltm_casefile::CaseFault;
+use crate::serve::serve;
 use ltm_io::{Folder, Sink};
+use ltm_lines::Source;
+use ltm_texts::{Status, run_texts, session_of};
 use std::alloc::Global;
 
-/// Writes what a command answers to a folder, or says why there is no answer.
-fn run_command<F: Folder, W: Sink>(
-    alloc: Global,
-    command: Command,
-    folder: &mut F,
-    output: &mut W,
-) -> Status
-    requires { IsSized command }
-    ensures keeps { F.told folder.new ≡ F.told folder.old }
-    ensures others { (d : Doc) → may_fetch command d ≡ false → F.faults folder.new d ≡ F.faults folder.old d }
-    ensures unasked { IfSome (F.told folder.old) (λ files. (d : Doc) → fetches command files d ≡ false → F.faults folder.new d ≡ F.faults folder.old d) }
-    ensures folder_fault { result ≡ Status.FolderFault → FileFailed command (F.told folder.old) (F.faults folder.old) (F.faults folder.new)
-        × (W.written output.new ≡ W.written output.old) }
-    ensures write_fault { result ≡ Status.WriteFault → Rose (W.faults output.old) (W.faults output.new) }
-    ensures whole { IsWhole result → (text : List ℕ) × IsAnswerUnder command (F.told folder.old) result text
-        × (W.written output.new ≡ appended text (W.written output.old)) }
-    ensures front { WritesAnswerFront command (F.told folder.old) (W.written output.old) (W.written output.new) }
-    ensures splits { command ≡ Command.Routes → result ≡ Status.Ok → (text : List ℕ) × IsSplitsFile (F.told folder.old) text
-        × (W.written output.new ≡ appended text (W.written output.old)) }
-    ensures times { command ≡ Command.RouteTimes → result ≡ Status.Ok → (text : List ℕ) × IsTimesFile (F.told folder.old) text
-        × (W.written output.new ≡ appended text (W.written output.old)) }
-    ensures missing { (files : Files) (file : File) → F.told folder.old ≡ Some files → Answers command (Some files) (Err (CaseFault.Folder file))
-        → (result ≡ Status.FolderFault) ⊎ (result ≡ Status.NoMemory) }
-{
-    match answer(alloc, command, folder) {
-        Ok(text) => write_text(output, text.as_slice(), Status::Ok),
-        Err(CaseFault::Folder(_)) => Status::FolderFault,
-        Err(CaseFault::TooLong(file)) => refuse_length(alloc, file, output),
-        Err(CaseFault::Bad { file, row, cause }) => refuse_case(alloc, file, row, cause, output),
-        Err(CaseFault::NoMemory) => Status::NoMemory,
-    }
-}
-
-/// Does what the words ask for, over this folder and this output.
+/// Does what the words ask for, over this folder, this input and this output.
 ///
 /// - `load` fetches the files of the case in order and reads them, loads the network (Yperman 2007; Himpe et al. 2016) and
 ///   writes the totals line and a line for each link.
+/// - `session 0` fetches and reads the case likewise, and answers the script of edits and questions on the input line by
+///   line; each answer is written whole before the next line is read.
+/// - `try START NODES` makes a case of the two numbers, loads it, repairs what its batch changes, and writes four lines; it
+///   touches no file.
 /// - `routes` fetches the setup, the links and the demand, finds the least routes by free-flow time (Dijkstra 1959) and
 ///   writes the `splits.csv` that sends traffic along them, in equal parts where several are least.
 /// - `routes times` writes the times that these routes take.
-/// - `try START NODES` makes a case of the two numbers, loads it, repairs what its batch changes, and writes four lines; it
-///   touches no file.
 ///
-/// Everything is decided in this order: the words, the fetches, what the files say, the writing.
-pub fn run_alone<F: Folder, W: Sink>(
+/// Everything is decided in this order: the words, the fetches, what the files say, the script line by line, the writing.
+pub fn run_alone<F: Folder, S: Source, W: Sink>(
     alloc: Global,
     words: &[String],
     folder: &mut F,
+    input: &mut S,
     output: &mut W,
 ) -> Status
     ensures keeps { F.told folder.new ≡ F.told folder.old }
 
-    // No other file of the folder is touched than those of the command that the words ask for.
+    // No other file of the folder is touched than those of the command that the words ask for, and the input by a session
+    // alone.
     ensures untouched { AsksNothing (map string_bytes words.now) → (d : Doc) → F.faults folder.new d ≡ F.faults folder.old d }
     ensures others { (command : Command) → Asks (map string_bytes words.now) command
         → (d : Doc) → may_fetch command d ≡ false → F.faults folder.new d ≡ F.faults folder.old d }
     ensures unasked { (command : Command) → Asks (map string_bytes words.now) command
         → IfSome (F.told folder.old) (λ files. (d : Doc) → fetches command files d ≡ false → F.faults folder.new d ≡ F.faults folder.old d) }
+    ensures session_others { AsksSession (map string_bytes words.now) 0
+        → (d : Doc) → is_case_file d ≡ false → F.faults folder.new d ≡ F.faults folder.old d }
+    ensures session_unasked { AsksSession (map string_bytes words.now) 0
+        → IfSome (F.told folder.old) (λ files. (d : Doc) → asks_for files d ≡ false → F.faults folder.new d ≡ F.faults folder.old d) }
+    ensures unread { (AsksSession (map string_bytes words.now) 0 → ⊥)
+        → (S.left input.new ≡ S.left input.old) × (S.faults input.new ≡ S.faults input.old) }
 
-    // The words decide between the usage line and a command.
+    // The words decide between the usage line, a command and a session.
     ensures usage { result ≡ Status.Usage → AsksNothing (map string_bytes words.now)
         × (W.written output.new ≡ appended usage_line (W.written output.old)) }
     ensures asked { AsksNothing (map string_bytes words.now)
         → (result ≡ Status.Usage) ⊎ ((result ≡ Status.WriteFault) ⊎ (result ≡ Status.NoMemory)) }
 
     // A fault of the outside is told only where a count of faults rose.
-    ensures folder_fault { result ≡ Status.FolderFault → (command : Command) × Asks (map string_bytes words.now) command
-        × FileFailed command (F.told folder.old) (F.faults folder.old) (F.faults folder.new)
+    ensures folder_fault { result ≡ Status.FolderFault
+        → FolderFailed (map string_bytes words.now) (F.told folder.old) (F.faults folder.old) (F.faults folder.new)
         × (W.written output.new ≡ W.written output.old) }
+    ensures read_fault { result ≡ Status.ReadFault → AsksSession (map string_bytes words.now) 0 × Rose (S.faults input.old) (S.faults input.new) }
     ensures write_fault { result ≡ Status.WriteFault → Rose (W.faults output.old) (W.faults output.new) }
 
-    // With any other status than these two and want of memory, the whole text that belongs to it is written.
-    ensures whole { IsWhole result → (text : List ℕ) × IsTextUnder (map string_bytes words.now) (F.told folder.old) result text
+    // With any other status than a folder's fault, a failed writing and want of memory, the whole text that belongs to it is
+    // written, and else a front of such a text.
+    ensures whole { IsWhole result → (text : List ℕ)
+        × IsTextOf (map string_bytes words.now) (F.told folder.old) (S.left input.old) result text
         × (W.written output.new ≡ appended text (W.written output.old)) }
-    ensures front { WritesFront (map string_bytes words.now) (F.told folder.old) (W.written output.old) (W.written output.new) }
+    ensures front { WritesFrontOf (map string_bytes words.now) (F.told folder.old) (S.left input.old) (W.written output.old) (W.written output.new) }
 
-    // What the files say decides between the text that the command asks for and a refusal.
+    // What the files say decides between the text that a command asks for and a refusal.
     ensures load { Asks (map string_bytes words.now) Command.Load → result ≡ Status.Ok → (s : ScenarioData) × (text : List ℕ)
         × Describes (F.told folder.old) (Ok s) × IsReport s text
         × (W.written output.new ≡ appended text (W.written output.old)) }
@@ -113,32 +95,47 @@ pub fn run_alone<F: Folder, W: Sink>(
         × (W.written output.new ≡ appended text (W.written output.old)) }
     ensures trial { (start nodes : ℕ) → Asks (map string_bytes words.now) (Command.Try start nodes) → result ≡ Status.Ok → (text : List ℕ)
         × IsTrial start nodes text × (W.written output.new ≡ appended text (W.written output.old)) }
-    ensures bad_case { result ≡ Status.BadCase → (command : Command) × Asks (map string_bytes words.now) command
-        × (file : File) × (row : ℕ) × (cause : CaseCause)
+    ensures bad_case { (AsksSession (map string_bytes words.now) 0 → ⊥) → result ≡ Status.BadCase → (command : Command)
+        × Asks (map string_bytes words.now) command × (file : File) × (row : ℕ) × (cause : CaseCause)
         × Answers command (F.told folder.old) (Err (CaseFault.Bad file row cause))
         × (W.written output.new ≡ appended (bad_case_line file row cause) (W.written output.old)) }
-    ensures too_long { result ≡ Status.TooLong → (command : Command) × Asks (map string_bytes words.now) command
-        × (file : File) × Answers command (F.told folder.old) (Err (CaseFault.TooLong file))
+    ensures too_long { (AsksSession (map string_bytes words.now) 0 → ⊥) → result ≡ Status.TooLong → (command : Command)
+        × Asks (map string_bytes words.now) command × (file : File) × Answers command (F.told folder.old) (Err (CaseFault.TooLong file))
         × (W.written output.new ≡ appended (too_long_line file) (W.written output.old)) }
 
-    // With no fault of the outside, the status is that of what the command answers to the files; a missing file is a fault
-    // of the outside.
+    // A session that ends well has written the answers to the whole script of the input.
+    ensures session { AsksSession (map string_bytes words.now) 0 → result ≡ Status.Ok → (s : ScenarioData)
+        × Describes (F.told folder.old) (Ok s)
+        × ServesWhole IsOutputAlone s (S.left input.old) (S.left input.new) (W.written output.old) (W.written output.new) }
+
+    // With no fault of the outside, the status is that of what the command answers to the files, or of a session of the case
+    // and the script; a missing file is a fault of the outside.
     ensures complete { (files : Files) (command : Command) → F.told folder.old ≡ Some files → Asks (map string_bytes words.now) command
         → IsCalm command files (F.faults folder.old) (F.faults folder.new) → (Rose (W.faults output.old) (W.faults output.new) → ⊥)
         → ((answer : Answer) × Answers command (Some files) answer × (result ≡ status_of answer)) ⊎ (result ≡ Status.NoMemory) }
+    ensures session_complete { (files : Files) (script : List ℕ) → F.told folder.old ≡ Some files → S.left input.old ≡ Some script
+        → AsksSession (map string_bytes words.now) 0 → IsCalm Command.Load files (F.faults folder.old) (F.faults folder.new)
+        → (Rose (S.faults input.old) (S.faults input.new) → ⊥) → (Rose (W.faults output.old) (W.faults output.new) → ⊥)
+        → (result ≡ session_status (case_of files) script) ⊎ (result ≡ Status.NoMemory) }
     ensures missing { (files : Files) (command : Command) (file : File) → F.told folder.old ≡ Some files → Asks (map string_bytes words.now) command
         → Answers command (Some files) (Err (CaseFault.Folder file)) → (result ≡ Status.FolderFault) ⊎ (result ≡ Status.NoMemory) }
+    ensures session_missing { (files : Files) (file : File) → F.told folder.old ≡ Some files → AsksSession (map string_bytes words.now) 0
+        → case_of files ≡ Err (CaseFault.Folder file) → (result ≡ Status.FolderFault) ⊎ (result ≡ Status.NoMemory) }
 {
-    match command_of(words) {
-        Some(command) => run_command(alloc, command, folder, output),
-        None => write_text(output, usage_text(), Status::Usage),
+    match session_of(words) {
+        Some(0) => serve(alloc, folder, input, output),
+        _ => run_texts(alloc, words, folder, output),
     }
 }
 
 #[cfg(test)]
+mod cases;
+#[cfg(test)]
 mod networks;
 #[cfg(test)]
 mod routes;
+#[cfg(test)]
+mod sessions;
 #[cfg(test)]
 mod tests;
 #[cfg(test)]

@@ -1,6 +1,7 @@
 //! Cases of whole networks, whose output was computed by another engine. The folder `examples` has more.
-use super::{Status, run_alone};
-use ltm_io::{Doc, MemFolder, MemSink};
+use super::cases::expect;
+use ltm_io::{Doc, MemFolder};
+use ltm_texts::Status;
 use ltm_units::NoMemory;
 use std::alloc::Global;
 use std::process::Abort;
@@ -65,19 +66,8 @@ fn folder_of(alloc: Global, network: &Network) -> Result<MemFolder, NoMemory> {
 
 /// The case is loaded, and the report is written.
 fn expect_report<R: Abort + AllocGlobal>(rt: &R, network: &Network) -> Result<(), Fail> {
-    let alloc = rt.alloc();
-    let mut words = Vec::new(alloc);
-    words.push(String::from_str(alloc, "load")?)?;
-    let mut folder = folder_of(alloc, network)?;
-    let mut output = MemSink::create(alloc, 1000, &[])?;
-    let got = run_alone(alloc, words.as_slice(), &mut folder, &mut output);
-    assert!(rt; got == Status::Ok);
-    assert!(rt;
-        output.written() == network.report.as_bytes(),
-        "at {}",
-        network.report
-    );
-    Ok(())
+    let mut folder = folder_of(rt.alloc(), network)?;
+    expect(rt, &["load"], &mut folder, Status::Ok, network.report)
 }
 
 #[test]

@@ -1,49 +1,18 @@
 //! Routes by free-flow time, by hand.
-use super::{Status, run_alone};
-use ltm_io::{Doc, MemFolder, MemSink};
+use super::cases::{DEMAND, LINKS, SETUP, USAGE, expect};
+use ltm_io::{Doc, MemFolder};
+use ltm_texts::Status;
 use ltm_units::NoMemory;
-use std::alloc::{AllocError, Global};
-use std::process::Abort;
+use std::alloc::Global;
 use std::test::Fail;
 
-const SETUP: &str = "step_ms,slots,origin_capacity\n1000,4,1\n";
-
-const LINKS: &str = "link,from,to,length_m,free_kmh,wave_kmh,jam_per_km\na,n1,n2,20,36,18,150\n";
-
-const DEMAND: &str = "origin,destination,from_slot,to_slot,vehicles\nn1,n2,0,2,1\n";
-
 /// The roads and the demand of a case; no splits, and no signals.
-fn folder_of(alloc: Global, setup: &str, links: &str, demand: &str) -> Result<MemFolder, NoMemory> {
+fn roads_of(alloc: Global, setup: &str, links: &str, demand: &str) -> Result<MemFolder, NoMemory> {
     let mut folder = MemFolder::create(alloc, &[])?;
     folder.put(Doc::Setup, setup.as_bytes())?;
     folder.put(Doc::Links, links.as_bytes())?;
     folder.put(Doc::Demand, demand.as_bytes())?;
     Ok(folder)
-}
-
-fn words_of(alloc: Global, texts: &[&str]) -> Result<Vec<String>, AllocError> {
-    let mut words = Vec::new(alloc);
-    for text in texts {
-        words.push(String::from_str(alloc, text)?)?;
-    }
-    Ok(words)
-}
-
-/// These words over the folder end with this status and write this text.
-fn expect<R: Abort + AllocGlobal>(
-    rt: &R,
-    words: &[&str],
-    folder: &mut MemFolder,
-    status: Status,
-    text: &str,
-) -> Result<(), Fail> {
-    let alloc = rt.alloc();
-    let words = words_of(alloc, words)?;
-    let mut output = MemSink::create(alloc, 100, &[])?;
-    let got = run_alone(alloc, words.as_slice(), folder, &mut output);
-    assert!(rt; got == status, "at {text}");
-    assert!(rt; output.written() == text.as_bytes(), "at {text}");
-    Ok(())
 }
 
 /// One link; two equal links, which share; and a second link that takes longer, which gets nothing. The setup may ask for
@@ -70,7 +39,7 @@ fn writes_routes(rt: HostRuntime) -> Result<(), Fail> {
     ];
     for (setup, links, row) in cases {
         let text = format!(in rt.alloc(); "node,destination,from_slot,weights\n{row}")?;
-        let mut folder = folder_of(rt.alloc(), setup, links, DEMAND)?;
+        let mut folder = roads_of(rt.alloc(), setup, links, DEMAND)?;
         expect(&rt, &["routes"], &mut folder, Status::Ok, text.as_str())?;
         let times = "from n1 to n2 time 2000\n";
         expect(&rt, &["routes", "times"], &mut folder, Status::Ok, times)?;
@@ -84,7 +53,7 @@ fn refuses_what_routes_cannot_mend(rt: HostRuntime) -> Result<(), Fail> {
     let links =
         "link,from,to,length_m,free_kmh,wave_kmh,jam_per_km\na,n1,n2,20,36,18,150\nr,n3,n1,20,36,18,150\n";
     let demand = "origin,destination,from_slot,to_slot,vehicles\nn1,n2,0,2,1\nn1,n3,0,2,1\n";
-    let mut folder = folder_of(rt.alloc(), SETUP, links, demand)?;
+    let mut folder = roads_of(rt.alloc(), SETUP, links, demand)?;
     let line = "bad case whole row 0 NoSplit n1 n3\n";
     expect(&rt, &["routes"], &mut folder, Status::BadCase, line)?;
     expect(
@@ -95,7 +64,7 @@ fn refuses_what_routes_cannot_mend(rt: HostRuntime) -> Result<(), Fail> {
         line,
     )?;
     let setup = "step_ms,slots,origin_capacity,signals\n1000,4,1,2\n";
-    let mut folder = folder_of(rt.alloc(), setup, LINKS, DEMAND)?;
+    let mut folder = roads_of(rt.alloc(), setup, LINKS, DEMAND)?;
     let line = "bad case setup row 2 Range 4\n";
     expect(&rt, &["routes"], &mut folder, Status::BadCase, line)
 }
@@ -107,7 +76,6 @@ fn routes_are_told_of_the_outside(rt: HostRuntime) -> Result<(), Fail> {
     folder.put(Doc::Setup, SETUP.as_bytes())?;
     folder.put(Doc::Links, LINKS.as_bytes())?;
     expect(&rt, &["routes"], &mut folder, Status::FolderFault, "")?;
-    let usage = "usage: ltm load | ltm session N | ltm try START NODES | ltm routes [times]\n";
-    expect(&rt, &["routes", "time"], &mut folder, Status::Usage, usage)?;
-    expect(&rt, &["times"], &mut folder, Status::Usage, usage)
+    expect(&rt, &["routes", "time"], &mut folder, Status::Usage, USAGE)?;
+    expect(&rt, &["times"], &mut folder, Status::Usage, USAGE)
 }

@@ -1,0 +1,39 @@
+-- The words ask for a command, for a session, or for neither.
+use Rattle.std.proofs.Common.{ℕ, ◌≡◌, ◌⊎◌, inl, inr, List, [], ◌∷◌, length, ap, sym, ◌∙◌, arith, Option}
+use Rattle.std.specs.Prelude.{codes}
+use Rattle.ltm_io.specs.Folder.{Files}
+use Rattle.ltm_texts.specs.declared.status.Status.{Status}
+use Rattle.ltm_texts.specs.declared.words.Command.{Command}
+use Rattle.ltm_texts.specs.declared.words.Command.TheVariants as ask
+use Rattle.ltm_texts.specs.Words.{Asks, AsksSession}
+use Rattle.ltm_texts.specs.Program.{IsTextUnder, WritesFront}
+use Rattle.ltm_session.specs.Answers.{AnswersAlone}
+use Rattle.ltm.specs.Sessions.{WritesSessionFront}
+use Rattle.ltm.specs.Whole.{IsTextOf, WritesFrontOf}
+use Rattle.ltm_texts.proofs.Choice.{first_byte, first_word}
+
+-- no words ask for both
+heads_apart : (words : List (List ℕ)) (n : List ℕ) → (first_byte (first_word words) ≡ 115 → ⊥) → words ≡ codes "session" ∷ n ∷ [] → ⊥
+heads_apart words n other is = other (ap (λ ws. first_byte (first_word ws)) is)
+
+pub apart : (words : List (List ℕ)) (c : Command) → Asks words c → AsksSession words 0 → ⊥
+apart words ask.Load asks (n, is, rest) =
+    let h : first_byte (first_word words) ≡ 108 = ap (λ ws. first_byte (first_word ws)) asks in heads_apart words n (λ e. absurd (omega (h, e, arith))) is
+apart words ask.Routes asks (n, is, rest) =
+    let h : first_byte (first_word words) ≡ 114 = ap (λ ws. first_byte (first_word ws)) asks in heads_apart words n (λ e. absurd (omega (h, e, arith))) is
+apart words ask.RouteTimes asks (n, is, rest) =
+    let h : first_byte (first_word words) ≡ 114 = ap (λ ws. first_byte (first_word ws)) asks in heads_apart words n (λ e. absurd (omega (h, e, arith))) is
+apart words (ask.Try start nodes) (a, b, asks, starts, has) (n, is, rest) =
+    let h : first_byte (first_word words) ≡ 116 = ap (λ ws. first_byte (first_word ws)) asks in heads_apart words n (λ e. absurd (omega (h, e, arith))) is
+
+pub text_words : (words : List (List ℕ)) (told : Option Files) (script : Option (List ℕ)) (result : Status) (text : List ℕ) → (AsksSession words 0 → ⊥) → IsTextUnder words told result text → IsTextOf words told script result text
+text_words words told script result text no (inl (none, is, at)) = inl ((none, no), is, at)
+text_words words told script result text no (inr (command, asks, under)) = inr (inl (command, asks, under))
+
+pub front_words : (words : List (List ℕ)) (told : Option Files) (script old new : Option (List ℕ)) → (AsksSession words 0 → ⊥) → WritesFront words told old new → WritesFrontOf words told script old new
+front_words words told script old new no (inl same) = inl same
+front_words words told script old new no (inr (result, text, under, front)) = inr (result, text, text_words words told script result text no under, front)
+
+pub session_front : (words : List (List ℕ)) (told : Option Files) (script old new : Option (List ℕ)) → AsksSession words 0 → WritesSessionFront AnswersAlone told script old new → WritesFrontOf words told script old new
+session_front words told script old new asks (inl same) = inl same
+session_front words told script old new asks (inr (result, text, under, front)) = inr (result, text, inr (inr (asks, under)), front)

@@ -1,0 +1,58 @@
+-- What a session writes, and with which status it ends.
+use Rattle.std.specs.Prelude.{ℕ, ◌≡◌, ◌⊎◌, List, [], ◌++◌, Option, IfSome, Result, Ok, Err, Some}
+use Rattle.ltm_io.specs.Folder.{Files}
+use Rattle.ltm_io.specs.Sink.{appended, AppendsFront}
+use Rattle.ltm_scenario.specs.Data.{ScenarioData}
+use Rattle.ltm_casefile.specs.declared.faults.CaseFault.{CaseFault}
+use Rattle.ltm_report.specs.Refusals.{long_script_line, too_many_line}
+use Rattle.ltm_session.specs.declared.ends.SessionEnd.{SessionEnd}
+use Rattle.ltm_session.specs.declared.ends.SessionEnd.TheVariants as end
+use Rattle.ltm_session.specs.Analysts.{Analysts}
+use Rattle.ltm_session.specs.Session.{Answering, IsSession, end_of}
+use Rattle.ltm_texts.specs.declared.status.Status.{Status}
+use Rattle.ltm_texts.specs.declared.status.Status.TheVariants as ending
+use Rattle.ltm_texts.specs.Answers.{Describes}
+use Rattle.ltm_texts.specs.Program.{status_of, refusal_of}
+
+-- the line that closes a session which its script ends early
+abbrev pub closing_of : SessionEnd → List ℕ
+closing_of end.Ended = []
+closing_of end.ReadFault = []
+closing_of end.WriteFault = []
+closing_of (end.LineTooLong number) = long_script_line number
+closing_of end.TooManyCommands = too_many_line
+closing_of end.NoMemory = []
+
+-- the status of an end
+abbrev pub status_of_end : SessionEnd → Status
+status_of_end end.Ended = ending.Ok
+status_of_end end.ReadFault = ending.ReadFault
+status_of_end end.WriteFault = ending.WriteFault
+status_of_end (end.LineTooLong number) = ending.TooLong
+status_of_end end.TooManyCommands = ending.TooManyCommands
+status_of_end end.NoMemory = ending.NoMemory
+
+-- a session by this rule of answers, of a scenario with a script, up to this end: its output, and the line that closes it
+abbrev pub IsServed : Answering → ScenarioData → Option (List ℕ) → SessionEnd → List ℕ → Type 0
+IsServed answers s script end text = (output : List ℕ) × (t : Analysts) × IsSession answers s script end output t × (text ≡ output ++ closing_of end)
+
+-- the whole text that belongs to a status: the line that refuses the case, or what a session of the case writes
+abbrev pub IsSessionUnder : Answering → Option Files → Option (List ℕ) → Status → List ℕ → Type 0
+IsSessionUnder answers told script status text =
+    ((fault : CaseFault) × Describes told (Err fault) × (status ≡ status_of (Err fault)) × (text ≡ refusal_of fault))
+    ⊎ ((s : ScenarioData) × (end : SessionEnd) × Describes told (Ok s) × (status ≡ status_of_end end) × IsServed answers s script end text)
+
+-- nothing was written, or a front of a text that belongs to a session
+abbrev pub WritesSessionFront : Answering → Option Files → Option (List ℕ) → Option (List ℕ) → Option (List ℕ) → Type 0
+WritesSessionFront answers told script old new =
+    (new ≡ old) ⊎ ((status : Status) × (text : List ℕ) × IsSessionUnder answers told script status text × AppendsFront old new text)
+
+-- with which status a session ends where nothing of the outside fails and memory is found
+abbrev pub session_status : Result ScenarioData CaseFault → List ℕ → Status
+session_status (Ok s) script = status_of_end (end_of script)
+session_status (Err fault) script = status_of (Err fault)
+
+-- an output of a session of this scenario with the whole script was written, and the script was read to its end
+abbrev pub ServesWhole : (ScenarioData → List ℕ → List ℕ → Type 0) → ScenarioData → Option (List ℕ) → Option (List ℕ) → Option (List ℕ) → Option (List ℕ) → Type 0
+ServesWhole IsOutput s script left old new = IfSome script (λ lines. (output : List ℕ) × IsOutput s lines output
+    × (new ≡ appended output old) × (left ≡ Some []))

@@ -1,0 +1,126 @@
+-- One and two words against those of the commands.
+use Rattle.std.proofs.Common.{ℕ, ◌≡◌, ◌≤◌, List, [], ◌∷◌, length, ap, sym, refl, arith, Some, None, Bool, true, false, ◌∙◌}
+use Rattle.std.specs.Prelude.{codes, ◌↔◌, ◌&&◌, nat_le, if◌then◌else◌}
+use Rattle.std.specs.List.{list_all}
+use Rattle.std.proofs.lemmas.Bool.Decides.{nat_tests}
+use Rattle.ltm_units.specs.Numbers.{is_digit, value}
+use Rattle.ltm_trial.specs.Words.{start_of, nodes_of}
+use Rattle.ltm_texts.specs.Answers.{IsSized}
+use Rattle.ltm_texts.specs.declared.words.Command.{Command}
+use Rattle.ltm_texts.specs.declared.words.Command.TheVariants as command
+use Rattle.ltm_texts.specs.Words.{Asks}
+
+abbrev pub first_byte : List ℕ → ℕ
+first_byte [] = 0
+first_byte (b ∷ rest) = b
+
+abbrev pub first_word : List (List ℕ) → List ℕ
+first_word [] = []
+first_word (w ∷ rest) = w
+
+abbrev second_word : List (List ℕ) → List ℕ
+second_word [] = []
+second_word (w ∷ rest) = first_word rest
+
+-- the words that are told apart by their first byte
+apart : (a b : List ℕ) (m n : ℕ) → a ≡ b → first_byte a ≡ m → first_byte b ≡ n → (m ≡ n → ⊥) → ⊥
+apart a b m n same first second differ = differ (sym first ∙ ap first_byte same ∙ second)
+
+load_routes : codes "load" ≡ codes "routes" → ⊥
+load_routes same = apart (codes "load") (codes "routes") 108 114 same refl refl (λ e. absurd (omega (arith, e)))
+
+-- a test does not hold and fail
+pub never : (b : Bool) → b ≡ true → b ≡ false → ⊥
+never b holds fails = cc
+
+-- a trial has three words
+not_one : (word : List ℕ) (start nodes : ℕ) → Asks (word ∷ []) (command.Try start nodes) → ⊥
+not_one word start nodes (a, b, asks, starts, has) = let long : 1 ≡ 3 = ap (λ (ws : List (List ℕ)). length ws) asks in omega (long, arith)
+
+not_two : (one two : List ℕ) (start nodes : ℕ) → Asks (one ∷ two ∷ []) (command.Try start nodes) → ⊥
+not_two one two start nodes (a, b, asks, starts, has) = let long : 2 ≡ 3 = ap (λ (ws : List (List ℕ)). length ws) asks in omega (long, arith)
+
+pub load_asked : (word : List ℕ) → word ≡ codes "load" → (c : Command) → (Some command.Load ≡ Some c) ↔ Asks (word ∷ []) c
+load_asked word is command.Load = (λ same. ap (λ w. w ∷ []) is, λ asks. refl)
+load_asked word is command.Routes = (λ same. cc, λ asks. absurd (load_routes (sym is ∙ ap first_word asks)))
+load_asked word is command.RouteTimes = (λ same. cc, λ asks. cc)
+load_asked word is (command.Try start nodes) = (λ same. cc, λ asks. absurd (not_one word start nodes asks))
+
+pub routes_asked : (word : List ℕ) → word ≡ codes "routes" → (c : Command) → (Some command.Routes ≡ Some c) ↔ Asks (word ∷ []) c
+routes_asked word is command.Load = (λ same. cc, λ asks. absurd (load_routes (sym (ap first_word asks) ∙ is)))
+routes_asked word is command.Routes = (λ same. ap (λ w. w ∷ []) is, λ asks. refl)
+routes_asked word is command.RouteTimes = (λ same. cc, λ asks. cc)
+routes_asked word is (command.Try start nodes) = (λ same. cc, λ asks. absurd (not_one word start nodes asks))
+
+pub none_of_one : (word : List ℕ) → (word ≡ codes "load" → ⊥) → (word ≡ codes "routes" → ⊥) → (c : Command) → (None ≡ Some c) ↔ Asks (word ∷ []) c
+none_of_one word one two command.Load = (λ same. cc, λ asks. absurd (one (ap first_word asks)))
+none_of_one word one two command.Routes = (λ same. cc, λ asks. absurd (two (ap first_word asks)))
+none_of_one word one two command.RouteTimes = (λ same. cc, λ asks. cc)
+none_of_one word one two (command.Try start nodes) = (λ same. cc, λ asks. absurd (not_one word start nodes asks))
+
+pub times_asked : (a b : List ℕ) → a ≡ codes "routes" → b ≡ codes "times" → (c : Command) → (Some command.RouteTimes ≡ Some c) ↔ Asks (a ∷ b ∷ []) c
+times_asked a b one two command.Load = (λ same. cc, λ asks. cc)
+times_asked a b one two command.Routes = (λ same. cc, λ asks. cc)
+times_asked a b one two command.RouteTimes = (λ same. ap (λ w. w ∷ b ∷ []) one ∙ ap (λ w. codes "routes" ∷ w ∷ []) two, λ asks. refl)
+times_asked a b one two (command.Try start nodes) = (λ same. cc, λ asks. absurd (not_two a b start nodes asks))
+
+pub none_of_two : (a b : List ℕ) → (a ≡ codes "routes" → b ≡ codes "times" → ⊥) → (c : Command) → (None ≡ Some c) ↔ Asks (a ∷ b ∷ []) c
+none_of_two a b none command.Load = (λ same. cc, λ asks. cc)
+none_of_two a b none command.Routes = (λ same. cc, λ asks. cc)
+none_of_two a b none command.RouteTimes = (λ same. cc, λ asks. absurd (none (ap first_word asks) (ap second_word asks)))
+none_of_two a b none (command.Try start nodes) = (λ same. cc, λ asks. absurd (not_two a b start nodes asks))
+
+abbrev third_word : List (List ℕ) → List ℕ
+third_word [] = []
+third_word (w ∷ rest) = second_word rest
+
+same_start : (a b : List ℕ) (m n : ℕ) → a ≡ b → start_of a ≡ Some m → start_of b ≡ Some n → m ≡ n
+same_start a b m n same first second = let both : Some m ≡ Some n = sym first ∙ (ap start_of same ∙ second) in cc
+
+same_nodes : (a b : List ℕ) (m n : ℕ) → a ≡ b → nodes_of a ≡ Some m → nodes_of b ≡ Some n → m ≡ n
+same_nodes a b m n same first second = let both : Some m ≡ Some n = sym first ∙ (ap nodes_of same ∙ second) in cc
+
+pub try_asked : (a b c : List ℕ) (start nodes : ℕ) → a ≡ codes "try" → start_of b ≡ Some start → nodes_of c ≡ Some nodes → (x : Command) → (Some (command.Try start nodes) ≡ Some x) ↔ Asks (a ∷ b ∷ c ∷ []) x
+try_asked a b c start nodes is starts has command.Load = (λ same. cc, λ asks. absurd (let long : 3 ≡ 1 = ap (λ (ws : List (List ℕ)). length ws) asks in omega (long, arith)))
+try_asked a b c start nodes is starts has command.Routes = (λ same. cc, λ asks. absurd (let long : 3 ≡ 1 = ap (λ (ws : List (List ℕ)). length ws) asks in omega (long, arith)))
+try_asked a b c start nodes is starts has command.RouteTimes = (λ same. cc, λ asks. absurd (let long : 3 ≡ 2 = ap (λ (ws : List (List ℕ)). length ws) asks in omega (long, arith)))
+try_asked a b c start nodes is starts has (command.Try s n) = (
+  λ same. let at : start ≡ s = cc in let many : nodes ≡ n = cc in (b, c, ap (λ w. w ∷ b ∷ c ∷ []) is, starts ∙ ap Some at, has ∙ ap Some many),
+  λ asks.
+      let at : start ≡ s = same_start b asks.0 start s (ap second_word asks.2) starts asks.3 in
+      let many : nodes ≡ n = same_nodes c asks.1 nodes n (ap third_word asks.2) has asks.4 in
+      ap (λ k. Some (command.Try k nodes)) at ∙ ap (λ k. Some (command.Try s k)) many,
+)
+
+pub none_of_three : (a b c : List ℕ) → ((start nodes : ℕ) → a ≡ codes "try" → start_of b ≡ Some start → nodes_of c ≡ Some nodes → ⊥) → (x : Command) → (None ≡ Some x) ↔ Asks (a ∷ b ∷ c ∷ []) x
+none_of_three a b c none command.Load = (λ same. cc, λ asks. absurd (let long : 3 ≡ 1 = ap (λ (ws : List (List ℕ)). length ws) asks in omega (long, arith)))
+none_of_three a b c none command.Routes = (λ same. cc, λ asks. absurd (let long : 3 ≡ 1 = ap (λ (ws : List (List ℕ)). length ws) asks in omega (long, arith)))
+none_of_three a b c none command.RouteTimes = (λ same. cc, λ asks. absurd (let long : 3 ≡ 2 = ap (λ (ws : List (List ℕ)). length ws) asks in omega (long, arith)))
+none_of_three a b c none (command.Try start nodes) = (
+  λ same. cc,
+  λ asks. absurd (none start nodes (ap first_word asks.2) (ap start_of (ap second_word asks.2) ∙ asks.3) (ap nodes_of (ap third_word asks.2) ∙ asks.4)),
+)
+
+-- ---- how many nodes a trial has
+when_some : (b : Bool) (v n : ℕ) → (if b then Some v else None) ≡ Some n → (b ≡ true) × (v ≡ n)
+when_some true v n is = (refl, cc)
+when_some false v n is = absurd (cc)
+
+both_true : (a b : Bool) → (a && b) ≡ true → (a ≡ true) × (b ≡ true)
+both_true true b h = (refl, h)
+both_true false b h = absurd (cc)
+
+nodes_within : (text : List ℕ) (n : ℕ) → nodes_of text ≡ Some n → (4 ≤ n) × (n ≤ 400)
+nodes_within text n is =
+    let some = when_some (nat_le 1 (length text) && nat_le (length text) 3 && list_all is_digit text && nat_le 4 (value text) && nat_le (value text) 400) (value text) n is in
+    let most = both_true (nat_le 1 (length text) && nat_le (length text) 3 && list_all is_digit text && nat_le 4 (value text)) (nat_le (value text) 400) some.0 in
+    let least = both_true (nat_le 1 (length text) && nat_le (length text) 3 && list_all is_digit text) (nat_le 4 (value text)) most.0 in
+    let same = some.1 in let a = most.1 in let b = least.1 in
+    let low : 4 ≤ value text = grind (arith, nat_tests, b) in
+    let high : value text ≤ 400 = grind (arith, nat_tests, a) in (omega (low, same, arith), omega (high, same, arith))
+
+pub asked_sized : (words : List (List ℕ)) (c : Command) → Asks words c → IsSized c
+asked_sized words command.Load asks = tt
+asked_sized words command.Routes asks = tt
+asked_sized words command.RouteTimes asks = tt
+asked_sized words (command.Try start nodes) (a, b, is, starts, has) = nodes_within b nodes has

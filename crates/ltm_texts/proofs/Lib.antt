@@ -1,0 +1,6 @@
+mod Asked
+pub mod Choice
+mod Answering
+pub mod MissingFile
+pub mod Told
+mod Reported

@@ -1,0 +1,65 @@
+-- What each command answers, a text or a fault of the files, and which files it fetches.
+use Rattle.std.specs.Prelude.{ℕ, ◌≡◌, ◌≤◌, Bool, false, List, Option, IfSome, Result, Ok, Err}
+use Rattle.ltm_io.specs.declared.doc.Doc.{Doc}
+use Rattle.ltm_io.specs.Folder.{Files}
+use Rattle.ltm_scenario.specs.Data.{ScenarioData}
+use Rattle.ltm_casefile.specs.declared.faults.CaseFault.{CaseFault}
+use Rattle.ltm_casefile.specs.declared.faults.CaseFault.TheVariants as fault
+use Rattle.ltm_casefile.specs.Case.{case_of, asks_for, is_case_file}
+use Rattle.ltm_casefile.specs.Roads.{is_of_roads}
+use Rattle.ltm_routing.specs.declared.lines.RouteLines.TheVariants as lines
+use Rattle.ltm_routing.specs.Routing.{AnswersRoutes}
+use Rattle.ltm_texts.specs.declared.words.Command.{Command}
+use Rattle.ltm_texts.specs.declared.words.Command.TheVariants as command
+use Rattle.ltm_trial.specs.Trial.{IsTrial}
+use Rattle.ltm_texts.specs.Report.{IsReport}
+
+-- a text, or the fault in place of it
+abbrev pub Answer : Type 0
+Answer = Result (List ℕ) CaseFault
+
+-- what a folder tells of its files, where it tells anything, describes this case
+abbrev pub Describes : Option Files → Result ScenarioData CaseFault → Type 0
+Describes told said = IfSome told (λ files. case_of files ≡ said)
+
+-- what `load` answers to a case
+abbrev pub LoadAnswer : Result ScenarioData CaseFault → Answer → Type 0
+LoadAnswer (Ok s) answer = (text : List ℕ) × IsReport s text × (answer ≡ Ok text)
+LoadAnswer (Err fault) answer = answer ≡ Err fault
+
+-- what a command answers to what a folder tells of its files
+abbrev pub Answers : Command → Option Files → Answer → Type 0
+Answers command.Load told answer = (said : Result ScenarioData CaseFault) × Describes told said × LoadAnswer said answer
+Answers command.Routes told answer = AnswersRoutes lines.Splits told answer
+Answers command.RouteTimes told answer = AnswersRoutes lines.Times told answer
+Answers (command.Try start nodes) told answer = (text : List ℕ) × IsTrial start nodes text × (answer ≡ Ok text)
+
+-- a fault that lies in the files is the answer; that a folder did not give a file, or memory was not found, does not lie
+-- in them
+abbrev pub AnswersFault : Command → Option Files → CaseFault → Type 0
+AnswersFault command told (fault.Folder file) = Unit {0}
+AnswersFault command told (fault.TooLong file) = Answers command told (Err (fault.TooLong file))
+AnswersFault command told (fault.Bad file row cause) = Answers command told (Err (fault.Bad file row cause))
+AnswersFault command told fault.NoMemory = Unit {0}
+
+-- a made case has 4 to 400 nodes
+abbrev pub IsSized : Command → Type 0
+IsSized command.Load = Unit {0}
+IsSized command.Routes = Unit {0}
+IsSized command.RouteTimes = Unit {0}
+IsSized (command.Try start nodes) = (4 ≤ nodes) × (nodes ≤ 400)
+
+-- ---- files
+-- the files that a command may fetch
+abbrev pub may_fetch : Command → Doc → Bool
+may_fetch command.Load d = is_case_file d
+may_fetch command.Routes d = is_of_roads d
+may_fetch command.RouteTimes d = is_of_roads d
+may_fetch (command.Try start nodes) d = false
+
+-- the files that it fetches from a folder with these files
+abbrev pub fetches : Command → Files → Doc → Bool
+fetches command.Load files d = asks_for files d
+fetches command.Routes files d = is_of_roads d
+fetches command.RouteTimes files d = is_of_roads d
+fetches (command.Try start nodes) files d = false

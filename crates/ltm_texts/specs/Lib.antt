@@ -1,0 +1,5 @@
+pub mod Status
+pub mod Words
+pub mod Report
+pub mod Answers
+pub mod Program

@@ -1,0 +1,75 @@
+-- What the program writes, and with which status it ends.
+use Rattle.std.specs.Prelude.{ℕ, ◌≡◌, ◌⊎◌, true, List, [], Option, IfSome, Ok, Err}
+use Rattle.ltm_io.specs.declared.doc.Doc.{Doc}
+use Rattle.ltm_io.specs.Folder.{Files}
+use Rattle.ltm_io.specs.Faults.{Rose}
+use Rattle.ltm_io.specs.Sink.{AppendsFront}
+use Rattle.ltm_casefile.specs.declared.faults.CaseFault.{CaseFault}
+use Rattle.ltm_casefile.specs.declared.faults.CaseFault.TheVariants as fault
+use Rattle.ltm_report.specs.CaseFaults.{bad_case_line, too_long_line}
+use Rattle.ltm_texts.specs.declared.status.Status.{Status}
+use Rattle.ltm_texts.specs.declared.status.Status.TheVariants as ending
+use Rattle.ltm_texts.specs.declared.words.Command.{Command}
+use Rattle.ltm_texts.specs.Words.{Asks, AsksNoText, usage_line}
+use Rattle.ltm_texts.specs.Answers.{Answer, Answers, may_fetch, fetches}
+
+-- the line that refuses a case, and nothing where a file is missing
+abbrev pub refusal_of : CaseFault → List ℕ
+refusal_of (fault.Folder file) = []
+refusal_of (fault.TooLong file) = too_long_line file
+refusal_of (fault.Bad file row cause) = bad_case_line file row cause
+refusal_of fault.NoMemory = []
+
+-- what is written of an answer: its text, or the line that refuses the case
+abbrev pub text_of : Answer → List ℕ
+text_of (Ok text) = text
+text_of (Err fault) = refusal_of fault
+
+-- the status of an answer
+abbrev pub status_of : Answer → Status
+status_of (Ok text) = ending.Ok
+status_of (Err (fault.Folder file)) = ending.FolderFault
+status_of (Err (fault.TooLong file)) = ending.TooLong
+status_of (Err (fault.Bad file row cause)) = ending.BadCase
+status_of (Err fault.NoMemory) = ending.NoMemory
+
+-- the whole text that belongs to a command and a status
+abbrev pub IsAnswerUnder : Command → Option Files → Status → List ℕ → Type 0
+IsAnswerUnder command told status text = (answer : Answer) × Answers command told answer × (status ≡ status_of answer) × (text ≡ text_of answer)
+
+-- the whole text that belongs to words and a status: the usage line, or what a command answers
+abbrev pub IsTextUnder : List (List ℕ) → Option Files → Status → List ℕ → Type 0
+IsTextUnder words told status text =
+    (AsksNoText words × (status ≡ ending.Usage) × (text ≡ usage_line))
+    ⊎ ((command : Command) × Asks words command × IsAnswerUnder command told status text)
+
+-- nothing was written, or a front of a text that belongs to a command
+abbrev pub WritesAnswerFront : Command → Option Files → Option (List ℕ) → Option (List ℕ) → Type 0
+WritesAnswerFront command told old new =
+    (new ≡ old) ⊎ ((status : Status) × (text : List ℕ) × IsAnswerUnder command told status text × AppendsFront old new text)
+
+-- nothing was written, or a front of a text that belongs to the words
+abbrev pub WritesFront : List (List ℕ) → Option Files → Option (List ℕ) → Option (List ℕ) → Type 0
+WritesFront words told old new =
+    (new ≡ old) ⊎ ((status : Status) × (text : List ℕ) × IsTextUnder words told status text × AppendsFront old new text)
+
+-- no fault of the outside and no want of memory: the whole text is written
+abbrev pub IsWhole : Status → Type 0
+IsWhole ending.Ok = Unit {0}
+IsWhole ending.Usage = Unit {0}
+IsWhole ending.FolderFault = ⊥
+IsWhole ending.ReadFault = Unit {0}
+IsWhole ending.WriteFault = ⊥
+IsWhole ending.BadCase = Unit {0}
+IsWhole ending.TooLong = Unit {0}
+IsWhole ending.TooManyCommands = Unit {0}
+IsWhole ending.NoMemory = ⊥
+
+-- ---- faults of the folder
+-- the count of faults rose of a file that the command may fetch and that it fetches from this folder, where that is told
+abbrev pub FileFailed : Command → Option Files → (Doc → ℕ) → (Doc → ℕ) → Type 0
+FileFailed command told before now = (d : Doc) × (may_fetch command d ≡ true) × IfSome told (λ files. fetches command files d ≡ true) × Rose (before d) (now d)
+
+-- no count of faults rose of a file that the command fetches
+abbrev pub IsCalm : Command → Files → (Doc → ℕ) → (Doc → ℕ) → Type 0
+IsCalm command files before now = (d : Doc) → fetches command files d ≡ true → Rose (before d) (now d) → ⊥

@@ -1,0 +1,80 @@
+//! The report of a scenario's loading, as one text.
+ghost use Rattle.std.specs.Prelude.{◌≡◌, ◌++◌, ◌<◌, IfOk, OnOk, length};
+ghost use Rattle.ltm_curve.specs.Table.{counts_of};
+ghost use Rattle.ltm_loading.specs.Setting.{Setting};
+ghost use Rattle.ltm_setting.specs.Setting.{setting_of};
+ghost use Rattle.ltm_flows.specs.Shown.{Shows, curves_of};
+ghost use Rattle.ltm_texts.specs.Report.{totals_text_of, link_text_of, texts_below, IsReport};
+
+use ltm_flows::{Loading, cold};
+use ltm_report::{load_link_text, totals_text};
+use ltm_scenario::Scenario;
+use ltm_units::{LinkId, NoMemory};
+use std::alloc::Global;
+
+#[tactic(auto, unfolding(crate::specs::Report::totals_text_of))]
+fn push_totals(alloc: Global, loading: &Loading, into: &mut Vec<u8>) -> Result<(), NoMemory>
+    ensures { (s : Setting) → Shows s 0 loading.now
+        → OnOk result (into.new.items ≡ into.old.items ++ totals_text_of s (counts_of (curves_of loading.now))) }
+{
+    let totals = loading.totals();
+    totals_text(
+        alloc,
+        loading.version(),
+        totals.generated,
+        totals.arrived,
+        totals.on_links,
+        totals.waiting,
+        into,
+    )
+}
+
+#[tactic(auto, unfolding(crate::specs::Report::link_text_of, ltm_setting::specs::Setting::setting_of))]
+fn push_link(
+    alloc: Global,
+    scenario: &Scenario,
+    loading: &Loading,
+    link: LinkId,
+    into: &mut Vec<u8>,
+) -> Result<(), NoMemory>
+    requires link { link.0 < length scenario.now.network.links }
+    requires loading { Shows (setting_of scenario.now) 0 loading.now }
+    ensures { OnOk result (into.new.items
+        ≡ into.old.items ++ link_text_of scenario.now (counts_of (curves_of loading.now)) link.0) }
+{
+    let name = scenario.network().link_name(link);
+    let entered = loading.entered(link);
+    let gone = loading.left(link);
+    load_link_text(alloc, &name, entered, gone, into)
+}
+
+fn push_links(
+    alloc: Global,
+    scenario: &Scenario,
+    loading: &Loading,
+    into: &mut Vec<u8>,
+) -> Result<(), NoMemory>
+    requires { Shows (setting_of scenario.now) 0 loading.now }
+    ensures { OnOk result (into.new.items ≡ into.old.items
+        ++ texts_below (length scenario.now.network.links) (link_text_of scenario.now (counts_of (curves_of loading.now)))) }
+{
+    let links = scenario.network().links();
+    for link in 0..links {
+        push_link(alloc, scenario, loading, LinkId(link), into)?;
+    }
+    Ok(())
+}
+
+/// The totals line of the loading of a scenario and the line of each link, in order of number.
+#[tactic(auto, unfolding(crate::specs::Report::load_report))]
+pub fn report_of(alloc: Global, scenario: &Scenario) -> Result<Vec<u8>, NoMemory>
+    ensures { IfOk result (λ text. IsReport scenario.now text.items) }
+{
+    let _setup = scenario.setup();
+    let curves = cold(alloc, scenario)?;
+    let loading = Loading::of(alloc, scenario, curves, 0)?;
+    let mut text = Vec::new(alloc);
+    push_totals(alloc, &loading, &mut text)?;
+    push_links(alloc, scenario, &loading, &mut text)?;
+    Ok(text)
+}
