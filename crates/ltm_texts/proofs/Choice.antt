@@ -1,14 +1,14 @@
 -- One and two words against those of the commands.
-use Rattle.std.proofs.Common.{ℕ, ◌≡◌, ◌≤◌, List, [], ◌∷◌, length, ap, sym, refl, arith, Some, None, Bool, true, false, ◌∙◌}
+use Rattle.std.proofs.Common.{ℕ, ◌≡◌, ◌≤◌, List, [], ◌∷◌, length, ap, sym, subst, refl, arith, Option, Some, None, Bool, true, false, ◌∙◌}
 use Rattle.std.specs.Prelude.{codes, ◌↔◌, ◌&&◌, nat_le, if◌then◌else◌}
 use Rattle.std.specs.List.{list_all}
 use Rattle.std.proofs.lemmas.Bool.Decides.{nat_tests}
-use Rattle.ltm_units.specs.Numbers.{is_digit, value}
+use Rattle.ltm_units.specs.Numbers.{is_digit, value, whole as whole_number}
 use Rattle.ltm_trial.specs.Words.{start_of, nodes_of}
 use Rattle.ltm_texts.specs.Answers.{IsSized}
 use Rattle.ltm_texts.specs.declared.words.Command.{Command}
 use Rattle.ltm_texts.specs.declared.words.Command.TheVariants as command
-use Rattle.ltm_texts.specs.Words.{Asks}
+use Rattle.ltm_texts.specs.Words.{Asks, AsksSession}
 
 abbrev pub first_byte : List ℕ → ℕ
 first_byte [] = 0
@@ -124,3 +124,13 @@ asked_sized words command.Load asks = tt
 asked_sized words command.Routes asks = tt
 asked_sized words command.RouteTimes asks = tt
 asked_sized words (command.Try start nodes) (a, b, is, starts, has) = nodes_within b nodes has
+
+-- ---- how many workers a session has
+pub session_asked : (a b : List ℕ) (found : Option ℕ) → a ≡ codes "session" → ((n : ℕ) → (found ≡ Some n) ↔ ((length b ≤ 2) × (whole_number b ≡ Some n) × (n ≤ 64)))
+    → (n : ℕ) → (found ≡ Some n) ↔ AsksSession (a ∷ b ∷ []) n
+session_asked a b found is counts n = (
+  λ some. let h = (counts n).0 some in (b, ap (λ w. w ∷ b ∷ []) is, h.0, h.1, h.2),
+  λ asks.
+      let same : b ≡ asks.0 = ap second_word asks.1 in
+      (counts n).1 (subst (λ w. (length w ≤ 2) × (whole_number w ≡ Some n) × (n ≤ 64)) (sym same) (asks.2, asks.3, asks.4)),
+)
