@@ -2,8 +2,23 @@
 ghost use Rattle.std.specs.Prelude.{◌≡◌, ◌==◌, ◌↔◌, ◌^◌, ◌<◌, ℕ, length, slice_index, not, IsTrue};
 ghost use Rattle.ltm_pairs.specs.Changes.{some_below};
 
-/// Whether some number of a row is another one than stands beside it.
+/// Whether some number of a row is another one than stands beside it: of two numbers, as with two destinations, without a
+/// loop.
+#[inline]
 pub(crate) fn differs(numbers: &[u32], others: &[u64]) -> bool
+    requires { length numbers.now ≡ length others.now }
+    ensures { result ≡ some_below (length numbers.now) (λ d. not (slice_index numbers.now d == slice_index others.now d)) }
+{
+    if numbers.len() == 2 {
+        let first = u64::from(numbers[0]) != others[0];
+        let second = u64::from(numbers[1]) != others[1];
+        return first | second;
+    }
+    many_differ(numbers, others)
+}
+
+/// The same for any count of numbers.
+fn many_differ(numbers: &[u32], others: &[u64]) -> bool
     requires { length numbers.now ≡ length others.now }
     ensures { result ≡ some_below (length numbers.now) (λ d. not (slice_index numbers.now d == slice_index others.now d)) }
 {
