@@ -10,3 +10,4 @@ pub mod Looking
 pub mod Batches
 pub mod Beginnings
 pub mod Running
+pub mod Production

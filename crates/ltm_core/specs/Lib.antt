@@ -7,3 +7,4 @@ pub mod Taking
 pub mod Reaching
 pub mod Laws
 pub mod Runs
+pub mod Producing

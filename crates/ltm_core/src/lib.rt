@@ -12,6 +12,7 @@ mod entry;
 mod horizons;
 mod kept_core;
 mod laws;
+mod producing;
 mod scratch;
 
 pub use answers::{Claimed, Committed, Published};
