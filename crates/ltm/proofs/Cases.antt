@@ -1,5 +1,5 @@
 -- A session of the case that the files describe, or the line that refuses it.
-use Rattle.std.proofs.Common.{ℕ, ◌≡◌, ◌⊎◌, inl, inr, refl, ap, sym, subst, ◌∙◌, List, [], Option, Some, Ok, Err}
+use Rattle.std.proofs.Common.{ℕ, ◌≡◌, ◌⊎◌, inl, inr, refl, ap, sym, subst, ◌∙◌, List, Option, Some, Ok, Err}
 use Rattle.std.specs.Prelude.{Result}
 use Rattle.ltm_io.specs.Folder.{Files}
 use Rattle.ltm_io.specs.Sink.{appended, AppendsFront}
