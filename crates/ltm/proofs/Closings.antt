@@ -1,6 +1,6 @@
 -- What a session leaves written, with the line that closes it.
 use Rattle.std.proofs.Common.{ℕ, ◌≡◌, ◌≤◌, ◌⊎◌, inl, inr, refl, ap, sym, subst, ◌∙◌, arith, List, [], ◌++◌, length, Option, Some, None}
-use Rattle.std.specs.Prelude.{take, ◌≢◌, IfSome}
+use Rattle.std.specs.Prelude.{take}
 use Rattle.std.proofs.lemmas.List.{append-nil, take-append-le, length-append}
 use Rattle.ltm_io.specs.Faults.{Rose}
 use Rattle.ltm_io.specs.Sink.{appended, AppendsFront}
