@@ -55,12 +55,12 @@ front_alone words told script old new alone (inr (status, text, is, front)) = in
 
 pub folder_alone : (words : List (List ℕ)) (told : Option Files) (before now : Doc → ℕ) → FolderFailed words told before now → FolderFailedFor words told before now
 folder_alone words told before now (inl failed) = inl failed
-folder_alone words told before now (inr (asks, failed)) = inr ((0, asks), failed)
+folder_alone words told before now (inr both) = inr ((0, both.0), both.1)
 
 -- an output without workers is one of a session
 pub serves_alone : (s : ScenarioData) (script left old new : Option (List ℕ)) → AloneIsASession → ServesWhole IsOutputAlone s script left old new → ServesWhole IsSessionOutput s script left old new
 serves_alone s None left old new law served = tt
-serves_alone s (Some lines) left old new law (output, is, rest) = (output, law s lines output is, rest)
+serves_alone s (Some lines) left old new law (output, is, wrote, read) = (output, law s lines output is, wrote, read)
 
 -- ---- a session beside workers
 under_rule : (workers : ℕ) (told : Option Files) (script : Option (List ℕ)) (status : Status) (text : List ℕ) → 0 < workers

@@ -1,5 +1,5 @@
 //! The top call: what the words ask for, over a folder, an input and an output.
-ghost use Rattle.std.specs.Prelude.{◌≡◌, ◌⊎◌, ℕ, List, map, string_bytes, IfSome, Some, Ok, Err, true, false};
+ghost use Rattle.std.specs.Prelude.{◌≡◌, ◌↔◌, ◌⊎◌, ℕ, List, map, string_bytes, IfSome, Some, Ok, Err, true, false};
 ghost use Rattle.ltm_io.specs.Faults.{Rose};
 ghost use Rattle.ltm_io.specs.Sink.{appended};
 ghost use Rattle.ltm_io.specs.Folder.{Files};
@@ -26,6 +26,16 @@ use ltm_io::{Folder, Sink};
 use ltm_lines::Source;
 use ltm_texts::{Status, run_texts, session_of};
 use std::alloc::Global;
+
+/// Whether the words ask for a session without workers.
+fn asks_alone(words: &[String]) -> bool
+    ensures { result ≡ true ↔ AsksSession (map string_bytes words.now) 0 }
+{
+    match session_of(words) {
+        Some(workers) => workers == 0,
+        None => false,
+    }
+}
 
 /// Does what the words ask for, over this folder, this input and this output.
 ///
@@ -122,9 +132,10 @@ pub fn run_alone<F: Folder, S: Source, W: Sink>(
     ensures session_missing { (files : Files) (file : File) → F.told folder.old ≡ Some files → AsksSession (map string_bytes words.now) 0
         → case_of files ≡ Err (CaseFault.Folder file) → (result ≡ Status.FolderFault) ⊎ (result ≡ Status.NoMemory) }
 {
-    match session_of(words) {
-        Some(0) => serve(alloc, folder, input, output),
-        _ => run_texts(alloc, words, folder, output),
+    if asks_alone(words) {
+        serve(alloc, folder, input, output)
+    } else {
+        run_texts(alloc, words, folder, output)
     }
 }
 
