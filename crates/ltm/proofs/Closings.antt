@@ -71,8 +71,8 @@ IsOutputBy answers s script output = (t : Analysts) × AnswersLines answers (ope
 pub ended_whole : {answers : Answering} (s : ScenarioData) (script left old now : Option (List ℕ)) (e : SessionEnd) (output : List ℕ) (t : Analysts) → e ≡ end.Ended
     → IsSession answers s script e output t → Wrote e old now output → ((lines : List ℕ) → script ≡ Some lines → e ≡ end.Ended → left ≡ Some [])
     → ServesWhole (IsOutputBy answers) s script left old now
-ended_whole s None left old now e output t is so wrote read = tt
-ended_whole s (Some lines) left old now e output t is so wrote read =
+ended_whole {answers = answers} s None left old now e output t is so wrote read = tt
+ended_whole {answers = answers} s (Some lines) left old now e output t is so wrote read =
     let (rest, cut, before) = so.ends in
     let none : rest ≡ [] = subst (λ x. EndsBefore x (length so.answered) rest) is before in
     let all : lines_of lines ≡ so.answered = cut ∙ ap (λ r. so.answered ++ r) none ∙ append-nil so.answered in
@@ -83,7 +83,7 @@ ended_whole s (Some lines) left old now e output t is so wrote read =
 pub ended_well : {answers : Answering} (s : ScenarioData) (script left old now new : Option (List ℕ)) (e : SessionEnd) (output : List ℕ) (t : Analysts) → e ≡ end.Ended
     → IsSession answers s script e output t → Wrote e old now output → ((lines : List ℕ) → script ≡ Some lines → e ≡ end.Ended → left ≡ Some [])
     → new ≡ appended (closing_of e) now → ServesWhole (IsOutputBy answers) s script left old new
-ended_well s script left old now new e output t is so wrote read closed =
+ended_well {answers = answers} s script left old now new e output t is so wrote read closed =
     subst (λ x. ServesWhole (IsOutputBy answers) s script left old x) (sym (closed ∙ ap (λ k. appended (closing_of k) now) is ∙ sym (nothing_more now)))
     (ended_whole s script left old now e output t is so wrote read)
 

@@ -1,5 +1,5 @@
 -- What a run alone and a session beside workers leave, as the program says it.
-use Rattle.std.proofs.Common.{ℕ, suc, ◌≡◌, ◌<◌, ◌⊎◌, inl, inr, refl, sym, subst, arith, List, Option, None, Some}
+use Rattle.std.proofs.Common.{ℕ, zero, suc, ◌≡◌, ◌<◌, ◌⊎◌, inl, inr, refl, sym, subst, arith, List, Option, None, Some}
 use Rattle.ltm_io.specs.declared.doc.Doc.{Doc}
 use Rattle.ltm_io.specs.Folder.{Files}
 use Rattle.ltm_io.specs.Sink.{appended}
@@ -25,7 +25,7 @@ pub no_crew : (words : List (List ℕ)) (workers : ℕ) → workers ≡ 0 → ((
 no_crew words workers is sessions n asks = subst (λ k. n ≡ k) is (sessions n asks)
 
 pub some_crew : (workers : ℕ) → (workers ≡ 0 → ⊥) → 0 < workers
-some_crew 0 other = absurd (other refl)
+some_crew zero other = absurd (other refl)
 some_crew (suc n) other = omega arith
 
 pub asks_alone : (words : List (List ℕ)) (n : ℕ) → AsksNoCrew words → AsksSession words n → AsksSession words 0
@@ -65,7 +65,7 @@ serves_alone s (Some lines) left old new law (output, is, wrote, read) = (output
 -- ---- a session beside workers
 under_rule : (workers : ℕ) (told : Option Files) (script : Option (List ℕ)) (status : Status) (text : List ℕ) → 0 < workers
     → IsSessionUnder AnswersBeside told script status text → IsSessionUnder (rule_of workers) told script status text
-under_rule 0 told script status text some under = absurd (omega (arith, some))
+under_rule zero told script status text some under = absurd (omega (arith, some))
 under_rule (suc n) told script status text some under = under
 
 pub whole_beside : (words : List (List ℕ)) (workers : ℕ) (told : Option Files) (script old new : Option (List ℕ)) (status : Status) → 0 < workers → AsksSession words workers

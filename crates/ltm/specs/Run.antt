@@ -1,5 +1,5 @@
 -- What the program writes, whatever the words ask for, sessions beside workers among it.
-use Rattle.std.specs.Prelude.{ℕ, suc, ◌≡◌, ◌⊎◌, List, Option}
+use Rattle.std.specs.Prelude.{ℕ, zero, suc, ◌≡◌, ◌⊎◌, List, Option}
 use Rattle.ltm_io.specs.declared.doc.Doc.{Doc}
 use Rattle.ltm_io.specs.Folder.{Files}
 use Rattle.ltm_io.specs.Sink.{AppendsFront}
@@ -15,7 +15,7 @@ use Rattle.ltm.specs.Sessions.{IsSessionUnder}
 
 -- the rule of answers of a session with so many workers
 abbrev pub rule_of : ℕ → Answering
-rule_of 0 = AnswersAlone
+rule_of zero = AnswersAlone
 rule_of (suc workers) = AnswersBeside
 
 -- the words ask for no command and no session

@@ -76,7 +76,10 @@ fn settled_edits_have_one_output(rt: HostRuntime) -> Result<(), Fail> {
     for workers in ["0", "2"] {
         let (status, output) = serve(&rt, workers, &mut folder, EDITS)?;
         assert!(rt; status == Status::Ok);
-        assert!(rt; output.written() == ANSWERS.as_bytes(), "beside {workers} workers");
+        assert!(rt;
+            output.written() == ANSWERS.as_bytes(),
+            "beside {workers} workers"
+        );
     }
     Ok(())
 }
