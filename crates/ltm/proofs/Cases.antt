@@ -1,5 +1,5 @@
 -- A session of the case that the files describe, or the line that refuses it.
-use Rattle.std.proofs.Common.{ℕ, ◌≡◌, ◌⊎◌, inl, inr, refl, ap, sym, subst, ◌∙◌, List, [], Option, Some, Ok, Err}
+use Rattle.std.proofs.Common.{ℕ, ◌≡◌, ◌⊎◌, inl, inr, refl, ap, sym, subst, ◌∙◌, List, Option, Some, Ok, Err}
 use Rattle.std.specs.Prelude.{Result}
 use Rattle.ltm_io.specs.Folder.{Files}
 use Rattle.ltm_io.specs.Sink.{appended, AppendsFront}
@@ -12,12 +12,11 @@ use Rattle.ltm_core.specs.Log.{version_now}
 use Rattle.ltm_core.specs.Cores.{CoreData}
 use Rattle.ltm_core.specs.CoreAnswers.{IsOpeningCore}
 use Rattle.ltm_session.specs.declared.ends.SessionEnd.{SessionEnd}
-use Rattle.ltm_session.specs.Answers.{AnswersAlone}
-use Rattle.ltm_session.specs.Session.{end_of}
+use Rattle.ltm_session.specs.Session.{Answering, end_of}
 use Rattle.ltm_texts.specs.declared.status.Status.{Status}
 use Rattle.ltm_texts.specs.declared.status.Status.TheVariants as ending
 use Rattle.ltm_texts.specs.Answers.{Describes}
-use Rattle.ltm_texts.specs.Program.{IsWhole, status_of, refusal_of}
+use Rattle.ltm_texts.specs.Program.{IsWhole, case_status, refusal_of}
 use Rattle.ltm.specs.Sessions.{IsServed, IsSessionUnder, WritesSessionFront, session_status, status_of_end}
 
 -- ---- a core that has just begun
@@ -29,34 +28,34 @@ unfolding version_now
 nothing_accepted s d opens = ap version_now opens.log
 
 -- ---- a case that is refused
-pub refused_whole : (told : Option Files) (script old new : Option (List ℕ)) (f : CaseFault) (result : Status) → Describes told (Err f)
-    → (result ≡ status_of (Err f)) ⊎ ((result ≡ ending.WriteFault) ⊎ (result ≡ ending.NoMemory)) → (result ≡ status_of (Err f) → new ≡ appended (refusal_of f) old)
-    → IsWhole result → (text : List ℕ) × IsSessionUnder AnswersAlone told script result text × (new ≡ appended text old)
+pub refused_whole : {answers : Answering} (told : Option Files) (script old new : Option (List ℕ)) (f : CaseFault) (result : Status) → Describes told (Err f)
+    → (result ≡ case_status f) ⊎ ((result ≡ ending.WriteFault) ⊎ (result ≡ ending.NoMemory)) → (result ≡ case_status f → new ≡ appended (refusal_of f) old)
+    → IsWhole result → (text : List ℕ) × IsSessionUnder answers told script result text × (new ≡ appended text old)
 refused_whole told script old new f result describes (inl well) wrote whole = (refusal_of f, inl (f, describes, well, refl), wrote well)
 refused_whole told script old new f result describes (inr (inl failed)) wrote whole = absurd (subst IsWhole failed whole)
 refused_whole told script old new f result describes (inr (inr none)) wrote whole = absurd (subst IsWhole none whole)
 
-pub refused_front : (told : Option Files) (script old new : Option (List ℕ)) (f : CaseFault) → Describes told (Err f) → (new ≡ old) ⊎ AppendsFront old new (refusal_of f)
-    → WritesSessionFront AnswersAlone told script old new
+pub refused_front : {answers : Answering} (told : Option Files) (script old new : Option (List ℕ)) (f : CaseFault) → Describes told (Err f) → (new ≡ old) ⊎ AppendsFront old new (refusal_of f)
+    → WritesSessionFront answers told script old new
 refused_front told script old new f describes (inl same) = inl same
-refused_front told script old new f describes (inr front) = inr (status_of (Err f), refusal_of f, inl (f, describes, refl, refl), front)
+refused_front told script old new f describes (inr front) = inr (case_status f, refusal_of f, inl (f, describes, refl, refl), front)
 
 pub completes_refused : (told : Option Files) (files : Files) (script : List ℕ) (f : CaseFault) (result : Status) → Describes told (Err f) → told ≡ Some files → (result ≡ ending.WriteFault → ⊥)
-    → (result ≡ status_of (Err f)) ⊎ ((result ≡ ending.WriteFault) ⊎ (result ≡ ending.NoMemory)) → (result ≡ session_status (case_of files) script) ⊎ (result ≡ ending.NoMemory)
+    → (result ≡ case_status f) ⊎ ((result ≡ ending.WriteFault) ⊎ (result ≡ ending.NoMemory)) → (result ≡ session_status (case_of files) script) ⊎ (result ≡ ending.NoMemory)
 completes_refused told files script f result describes is quiet (inl well) =
     inl (well ∙ ap (λ said. session_status said script) (sym (subst (λ o. Describes o (Err f)) is describes)))
 completes_refused told files script f result describes is quiet (inr (inl failed)) = absurd (quiet failed)
 completes_refused told files script f result describes is quiet (inr (inr none)) = inr none
 
 -- ---- a case that is served
-pub case_whole : (told : Option Files) (script old new : Option (List ℕ)) (s : ScenarioData) (result : Status) → Describes told (Ok s)
-    → (IsWhole result → (end : SessionEnd) × (text : List ℕ) × (result ≡ status_of_end end) × IsServed AnswersAlone s script end text × (new ≡ appended text old))
-    → IsWhole result → (text : List ℕ) × IsSessionUnder AnswersAlone told script result text × (new ≡ appended text old)
+pub case_whole : {answers : Answering} (told : Option Files) (script old new : Option (List ℕ)) (s : ScenarioData) (result : Status) → Describes told (Ok s)
+    → (IsWhole result → (end : SessionEnd) × (text : List ℕ) × (result ≡ status_of_end end) × IsServed answers s script end text × (new ≡ appended text old))
+    → IsWhole result → (text : List ℕ) × IsSessionUnder answers told script result text × (new ≡ appended text old)
 case_whole told script old new s result describes serves whole =
     let (end, text, is, served, wrote) = serves whole in (text, inr (s, end, describes, is, served), wrote)
 
-pub case_front : (told : Option Files) (script old new : Option (List ℕ)) (s : ScenarioData) → Describes told (Ok s)
-    → (new ≡ old) ⊎ ((end : SessionEnd) × (text : List ℕ) × IsServed AnswersAlone s script end text × AppendsFront old new text) → WritesSessionFront AnswersAlone told script old new
+pub case_front : {answers : Answering} (told : Option Files) (script old new : Option (List ℕ)) (s : ScenarioData) → Describes told (Ok s)
+    → (new ≡ old) ⊎ ((end : SessionEnd) × (text : List ℕ) × IsServed answers s script end text × AppendsFront old new text) → WritesSessionFront answers told script old new
 case_front told script old new s describes (inl same) = inl same
 case_front told script old new s describes (inr (end, text, served, front)) = inr (status_of_end end, text, inr (s, end, describes, refl, served), front)
 

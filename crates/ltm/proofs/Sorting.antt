@@ -1,5 +1,5 @@
 -- The words ask for a command, for a session, or for neither.
-use Rattle.std.proofs.Common.{ℕ, ◌≡◌, ◌⊎◌, inl, inr, List, [], ◌∷◌, length, ap, sym, ◌∙◌, arith, Option, Some, None, nat_eq, true, false}
+use Rattle.std.proofs.Common.{ℕ, ◌≡◌, inl, inr, List, [], ◌∷◌, ap, sym, ◌∙◌, arith, Option, Some, None, nat_eq, true, false}
 use Rattle.std.specs.Prelude.{codes, ◌↔◌}
 use Rattle.std.proofs.lemmas.Bool.Decides.{nat_tests}
 use Rattle.ltm_io.specs.Folder.{Files}
@@ -27,7 +27,7 @@ alone_none words found asks is = (λ test. cc, λ alone. let same : None ≡ Som
 heads_apart : (words : List (List ℕ)) (n : List ℕ) → (first_byte (first_word words) ≡ 115 → ⊥) → words ≡ codes "session" ∷ n ∷ [] → ⊥
 heads_apart words n other is = other (ap (λ ws. first_byte (first_word ws)) is)
 
-pub apart : (words : List (List ℕ)) (c : Command) → Asks words c → AsksSession words 0 → ⊥
+pub apart : {workers : ℕ} (words : List (List ℕ)) (c : Command) → Asks words c → AsksSession words workers → ⊥
 apart words ask.Load asks (n, is, few, counts, within) =
     let h : first_byte (first_word words) ≡ 108 = ap (λ ws. first_byte (first_word ws)) asks in heads_apart words n (λ e. absurd (omega (h, e, arith))) is
 apart words ask.Routes asks (n, is, few, counts, within) =
@@ -36,6 +36,10 @@ apart words ask.RouteTimes asks (n, is, few, counts, within) =
     let h : first_byte (first_word words) ≡ 114 = ap (λ ws. first_byte (first_word ws)) asks in heads_apart words n (λ e. absurd (omega (h, e, arith))) is
 apart words (ask.Try start nodes) (a, b, asks, starts, has) (n, is, few, counts, within) =
     let h : first_byte (first_word words) ≡ 116 = ap (λ ws. first_byte (first_word ws)) asks in heads_apart words n (λ e. absurd (omega (h, e, arith))) is
+apart words ask.Curves asks (n, is, few, counts, within) =
+    let h : first_byte (first_word words) ≡ 99 = ap (λ ws. first_byte (first_word ws)) asks in heads_apart words n (λ e. absurd (omega (h, e, arith))) is
+apart words ask.Check asks (n, is, few, counts, within) =
+    let h : first_byte (first_word words) ≡ 99 = ap (λ ws. first_byte (first_word ws)) asks in heads_apart words n (λ e. absurd (omega (h, e, arith))) is
 
 pub text_words : (words : List (List ℕ)) (told : Option Files) (script : Option (List ℕ)) (result : Status) (text : List ℕ) → (AsksSession words 0 → ⊥) → IsTextUnder words told result text → IsTextOf words told script result text
 text_words words told script result text unserved (inl (none, is, at)) = inl ((none, unserved), is, at)

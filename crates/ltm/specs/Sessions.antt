@@ -12,7 +12,7 @@ use Rattle.ltm_session.specs.Session.{Answering, IsSession, end_of}
 use Rattle.ltm_texts.specs.declared.status.Status.{Status}
 use Rattle.ltm_texts.specs.declared.status.Status.TheVariants as ending
 use Rattle.ltm_texts.specs.Answers.{Describes}
-use Rattle.ltm_texts.specs.Program.{status_of, refusal_of}
+use Rattle.ltm_texts.specs.Program.{case_status, refusal_of}
 
 -- the line that closes a session which its script ends early
 abbrev pub closing_of : SessionEnd → List ℕ
@@ -39,7 +39,7 @@ IsServed answers s script end text = (output : List ℕ) × (t : Analysts) × Is
 -- the whole text that belongs to a status: the line that refuses the case, or what a session of the case writes
 abbrev pub IsSessionUnder : Answering → Option Files → Option (List ℕ) → Status → List ℕ → Type 0
 IsSessionUnder answers told script status text =
-    ((fault : CaseFault) × Describes told (Err fault) × (status ≡ status_of (Err fault)) × (text ≡ refusal_of fault))
+    ((fault : CaseFault) × Describes told (Err fault) × (status ≡ case_status fault) × (text ≡ refusal_of fault))
     ⊎ ((s : ScenarioData) × (end : SessionEnd) × Describes told (Ok s) × (status ≡ status_of_end end) × IsServed answers s script end text)
 
 -- nothing was written, or a front of a text that belongs to a session
@@ -50,7 +50,7 @@ WritesSessionFront answers told script old new =
 -- with which status a session ends where nothing of the outside fails and memory is found
 abbrev pub session_status : Result ScenarioData CaseFault → List ℕ → Status
 session_status (Ok s) script = status_of_end (end_of script)
-session_status (Err fault) script = status_of (Err fault)
+session_status (Err fault) script = case_status fault
 
 -- an output of a session of this scenario with the whole script was written, and the script was read to its end
 abbrev pub ServesWhole : (ScenarioData → List ℕ → List ℕ → Type 0) → ScenarioData → Option (List ℕ) → Option (List ℕ) → Option (List ℕ) → Option (List ℕ) → Type 0

@@ -1,5 +1,5 @@
 //! The top call: what the words ask for, over a folder, an input and an output.
-ghost use Rattle.std.specs.Prelude.{◌≡◌, ◌↔◌, ◌⊎◌, ℕ, List, map, string_bytes, IfSome, Some, Ok, Err, true, false};
+ghost use Rattle.std.specs.Prelude.{◌≡◌, ◌↔◌, ◌≤◌, ◌⊎◌, ℕ, List, length, map, string_bytes, IfSome, Some, Ok, Err, true, false};
 ghost use Rattle.ltm_io.specs.Faults.{Rose};
 ghost use Rattle.ltm_io.specs.Sink.{appended};
 ghost use Rattle.ltm_io.specs.Folder.{Files};
@@ -9,14 +9,20 @@ ghost use Rattle.ltm_casefile.specs.declared.faults.File.{File};
 ghost use Rattle.ltm_casefile.specs.declared.faults.CaseCause.{CaseCause};
 ghost use Rattle.ltm_casefile.specs.declared.faults.CaseFault.{CaseFault};
 ghost use Rattle.ltm_casefile.specs.Case.{case_of, is_case_file, asks_for};
-ghost use Rattle.ltm_report.specs.CaseFaults.{bad_case_line, too_long_line};
+ghost use Rattle.ltm_report.specs.CaseFaults.{bad_case_line};
 ghost use Rattle.ltm_routing.specs.File.{IsSplitsFile, IsTimesFile};
 ghost use Rattle.ltm_trial.specs.Trial.{IsTrial};
 ghost use Rattle.ltm_texts.specs.declared.words.Command.{Command};
 ghost use Rattle.ltm_texts.specs.Words.{Asks, AsksSession, usage_line};
 ghost use Rattle.ltm_texts.specs.Report.{IsReport};
 ghost use Rattle.ltm_texts.specs.Answers.{Answer, Answers, Describes, may_fetch, fetches};
-ghost use Rattle.ltm_texts.specs.Program.{IsWhole, FileFailed, IsCalm, status_of};
+ghost use Rattle.ltm_texts.specs.Program.{IsWhole, FileFailed, IsCalm, IsMissing, IsLong, status_of, words_of};
+ghost use Rattle.ltm_records.specs.Left.{records_of};
+ghost use Rattle.ltm_check.specs.ReadBack.{TellsLoading};
+ghost use Rattle.ltm_checking.specs.declared.refusal.Refusal.{Refusal};
+ghost use Rattle.ltm_checking.specs.Lines.{yes_line};
+ghost use Rattle.ltm_checking.specs.Loaded.{IsLoadingText};
+ghost use Rattle.ltm_checking.specs.Checks.{HasCurves, most_bytes};
 ghost use Rattle.ltm_session.specs.Session.{IsOutputAlone};
 ghost use Rattle.ltm.specs.Sessions.{ServesWhole, session_status};
 ghost use Rattle.ltm.specs.Whole.{AsksNothing, IsTextOf, WritesFrontOf, FolderFailed};
@@ -48,6 +54,8 @@ fn asks_alone(words: &[String]) -> bool
 /// - `routes` fetches the setup, the links and the demand, finds the least routes by free-flow time (Dijkstra 1959) and
 ///   writes the `splits.csv` that sends traffic along them, in equal parts where several are least.
 /// - `routes times` writes the times that these routes take.
+/// - `curves` fetches, reads and loads the case as `load` does, and writes the loading as a curve file.
+/// - `check` reads the case, then fetches `curves.csv`, and says whether it is the loading of the case, or why not.
 ///
 /// Everything is decided in this order: the words, the fetches, what the files say, the script line by line, the writing.
 pub fn run_alone<F: Folder, S: Source, W: Sink>(
@@ -105,13 +113,25 @@ pub fn run_alone<F: Folder, S: Source, W: Sink>(
         × (W.written output.new ≡ appended text (W.written output.old)) }
     ensures trial { (start nodes : ℕ) → Asks (map string_bytes words.now) (Command.Try start nodes) → result ≡ Status.Ok → (text : List ℕ)
         × IsTrial start nodes text × (W.written output.new ≡ appended text (W.written output.old)) }
+    ensures curves { Asks (map string_bytes words.now) Command.Curves → result ≡ Status.Ok → (s : ScenarioData) × (text : List ℕ)
+        × Describes (F.told folder.old) (Ok s) × IsLoadingText s text
+        × (W.written output.new ≡ appended text (W.written output.old)) }
     ensures bad_case { (AsksSession (map string_bytes words.now) 0 → ⊥) → result ≡ Status.BadCase → (command : Command)
         × Asks (map string_bytes words.now) command × (file : File) × (row : ℕ) × (cause : CaseCause)
-        × Answers command (F.told folder.old) (Err (CaseFault.Bad file row cause))
+        × Answers command (F.told folder.old) (Err (Refusal.Case (CaseFault.Bad file row cause)))
         × (W.written output.new ≡ appended (bad_case_line file row cause) (W.written output.old)) }
     ensures too_long { (AsksSession (map string_bytes words.now) 0 → ⊥) → result ≡ Status.TooLong → (command : Command)
-        × Asks (map string_bytes words.now) command × (file : File) × Answers command (F.told folder.old) (Err (CaseFault.TooLong file))
-        × (W.written output.new ≡ appended (too_long_line file) (W.written output.old)) }
+        × Asks (map string_bytes words.now) command × (refusal : Refusal) × IsLong refusal × Answers command (F.told folder.old) (Err refusal)
+        × (W.written output.new ≡ appended (words_of refusal) (W.written output.old)) }
+
+    // A check says yes only where the curve file tells the loading of the case, and wherever it does.
+    ensures check { Asks (map string_bytes words.now) Command.Check → result ≡ Status.Ok → (s : ScenarioData) × (bytes : List ℕ)
+        × HasCurves (F.told folder.old) s bytes × TellsLoading s (records_of bytes)
+        × (W.written output.new ≡ appended yes_line (W.written output.old)) }
+    ensures check_complete { (files : Files) (s : ScenarioData) (bytes : List ℕ) → F.told folder.old ≡ Some files → Asks (map string_bytes words.now) Command.Check
+        → HasCurves (Some files) s bytes → length bytes ≤ most_bytes → TellsLoading s (records_of bytes)
+        → IsCalm Command.Check files (F.faults folder.old) (F.faults folder.new) → (Rose (W.faults output.old) (W.faults output.new) → ⊥)
+        → (result ≡ Status.Ok) ⊎ (result ≡ Status.NoMemory) }
 
     // A session that ends well has written the answers to the whole script of the input.
     ensures session { AsksSession (map string_bytes words.now) 0 → result ≡ Status.Ok → (s : ScenarioData)
@@ -127,8 +147,8 @@ pub fn run_alone<F: Folder, S: Source, W: Sink>(
         → AsksSession (map string_bytes words.now) 0 → IsCalm Command.Load files (F.faults folder.old) (F.faults folder.new)
         → (Rose (S.faults input.old) (S.faults input.new) → ⊥) → (Rose (W.faults output.old) (W.faults output.new) → ⊥)
         → (result ≡ session_status (case_of files) script) ⊎ (result ≡ Status.NoMemory) }
-    ensures missing { (files : Files) (command : Command) (file : File) → F.told folder.old ≡ Some files → Asks (map string_bytes words.now) command
-        → Answers command (Some files) (Err (CaseFault.Folder file)) → (result ≡ Status.FolderFault) ⊎ (result ≡ Status.NoMemory) }
+    ensures missing { (files : Files) (command : Command) (refusal : Refusal) → F.told folder.old ≡ Some files → Asks (map string_bytes words.now) command
+        → IsMissing refusal → Answers command (Some files) (Err refusal) → (result ≡ Status.FolderFault) ⊎ (result ≡ Status.NoMemory) }
     ensures session_missing { (files : Files) (file : File) → F.told folder.old ≡ Some files → AsksSession (map string_bytes words.now) 0
         → case_of files ≡ Err (CaseFault.Folder file) → (result ≡ Status.FolderFault) ⊎ (result ≡ Status.NoMemory) }
 {
@@ -140,7 +160,7 @@ pub fn run_alone<F: Folder, S: Source, W: Sink>(
 }
 
 #[cfg(test)]
-mod cases;
+pub(crate) mod cases;
 #[cfg(test)]
 mod networks;
 #[cfg(test)]

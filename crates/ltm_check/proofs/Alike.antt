@@ -34,7 +34,7 @@ kept_small a x e l = grind (arith, common_steps)
 small_kept : (a x : ℕ) → x ≡ min a 2147483647 → a < 2147483647 → a ≡ x
 small_kept a x e l = grind (arith, common_steps)
 
-shorter : (s : Setting) (c : Counts) (t k : ℕ) → k ≤ t → IsFront s c t → IsFront s c k
+pub shorter : (s : Setting) (c : Counts) (t k : ℕ) → k ≤ t → IsFront s c t → IsFront s c k
 shorter s c t k l front = record { empty = front.empty; steps = λ u j x y. front.steps u j x (omega arith) }
 
 link_agrees : (s : Setting) (told c : Counts) (t l d k : ℕ) → Laws → IsSetting s → AreKept s told c → IsFront s c t → t ≤ s.slots → l < s.links → d < s.destinations → k ≤ t

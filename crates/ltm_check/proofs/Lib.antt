@@ -8,3 +8,4 @@ mod DigitsBack
 mod Joined
 mod RowsWritten
 mod ReadBack
+mod Telling

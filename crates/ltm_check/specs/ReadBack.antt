@@ -1,11 +1,13 @@
 -- What is written is read.
-use Rattle.std.specs.Prelude.{ℕ, ◌≡◌, ◌<◌, ◌≤◌, ◌^◌, true, length}
+use Rattle.std.specs.Prelude.{ℕ, ◌≡◌, ◌<◌, ◌≤◌, ◌^◌, true, List, length}
 use Rattle.ltm_units.specs.Words.{is_name}
 use Rattle.ltm_curve.specs.Counts.{Counts}
 use Rattle.ltm_network.specs.Network.{link_name, node_name}
 use Rattle.ltm_scenario.specs.Data.{ScenarioData}
+use Rattle.ltm_records.specs.Fields.{Fields}
 use Rattle.ltm_records.specs.Left.{records_of}
 use Rattle.ltm_loading.specs.Setting.{Setting, IsSetting}
+use Rattle.ltm_loading.specs.Loading.{IsLoading}
 use Rattle.ltm_loading.specs.Groups.{groups}
 use Rattle.ltm_setting.specs.Setting.{setting_of}
 use Rattle.ltm_check.specs.File.{IsCurveFile, told}
@@ -27,3 +29,12 @@ pub record ReadsBack (s : ScenarioData) (c : Counts) : Type 0 where
 
 abbrev pub WrittenIsRead : Type 0
 WrittenIsRead = (s : ScenarioData) (c : Counts) → IsSetting (setting_of s) → AreNamed s → CanBeTold (setting_of s) c → ReadsBack s c
+
+-- the records are a curve file of the scenario, and what it counts is the loading
+pub record TellsLoading (s : ScenarioData) (records : List Fields) : Type 0 where
+  pub file : IsCurveFile s records
+  pub loading : IsLoading (setting_of s) (told s records)
+
+-- the text of a loading tells it
+abbrev pub LoadingIsTold : Type 0
+LoadingIsTold = (s : ScenarioData) (c : Counts) → IsSetting (setting_of s) → AreNamed s → IsLoading (setting_of s) c → TellsLoading s (records_of (curves_file s c))

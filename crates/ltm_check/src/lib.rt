@@ -26,4 +26,4 @@ pub use faults::{Checked, CurvesCause, CurvesFault};
 pub use kept::kept_answers_alike;
 pub use read::read_curves;
 pub use text::curves_text;
-pub use written::written_is_read;
+pub use written::{is_named, loading_is_told, written_is_read};

@@ -11,28 +11,61 @@ use Rattle.ltm_routing.specs.declared.lines.RouteLines.TheVariants as lines
 use Rattle.ltm_routing.specs.Routing as routing
 use Rattle.ltm_texts.specs.declared.words.Command.TheVariants as command
 use Rattle.ltm_texts.specs.Report.{IsReport}
+use Rattle.ltm_checking.specs.declared.refusal.Refusal.{Refusal}
+use Rattle.ltm_checking.specs.declared.refusal.Refusal.TheVariants as refusal
+use Rattle.ltm_checking.specs.Loaded.{AnswersCurves}
+use Rattle.ltm_checking.specs.Checks.{AnswersRefusal}
 use Rattle.ltm_texts.specs.Answers.{Answers, AnswersFault, Describes}
 
 pub load_told : (told : Option Files) (s : ScenarioData) (text : List ℕ) → Describes told (Ok s) → IsReport s text → Answers command.Load told (Ok text)
 load_told told s text describes report = (Ok s, describes, (text, report, refl))
 
-refused : (told : Option Files) (e : CaseFault) → IfSome told (λ files. case_of files ≡ Err e) → Answers command.Load told (Err e)
+refused : (told : Option Files) (e : CaseFault) → IfSome told (λ files. case_of files ≡ Err e) → Answers command.Load told (Err (refusal.Case e))
 refused told e describes = (Err e, describes, refl)
 
-pub load_fault : (told : Option Files) (e : CaseFault) → IfSome told (λ files. Agrees (case_of files) e) → AnswersFault command.Load told e
+pub load_fault : (told : Option Files) (e : CaseFault) → IfSome told (λ files. Agrees (case_of files) e) → AnswersFault command.Load told (refusal.Case e)
 load_fault told (fault.Folder f) agrees = tt
 load_fault told (fault.TooLong f) agrees = refused told (fault.TooLong f) agrees
 load_fault told (fault.Bad f row cause) agrees = refused told (fault.Bad f row cause) agrees
 load_fault told fault.NoMemory agrees = tt
 
-pub routes_fault : (told : Option Files) (e : CaseFault) → routing.AnswersFault lines.Splits told e → AnswersFault command.Routes told e
+pub routes_told : (told : Option Files) (text : List ℕ) → routing.AnswersRoutes lines.Splits told (Ok text) → Answers command.Routes told (Ok text)
+routes_told told text says = (Ok text, says, refl)
+
+pub times_told : (told : Option Files) (text : List ℕ) → routing.AnswersRoutes lines.Times told (Ok text) → Answers command.RouteTimes told (Ok text)
+times_told told text says = (Ok text, says, refl)
+
+pub routes_fault : (told : Option Files) (e : CaseFault) → routing.AnswersFault lines.Splits told e → AnswersFault command.Routes told (refusal.Case e)
 routes_fault told (fault.Folder f) says = tt
-routes_fault told (fault.TooLong f) says = says
-routes_fault told (fault.Bad f row cause) says = says
+routes_fault told (fault.TooLong f) says = (Err (fault.TooLong f), says, refl)
+routes_fault told (fault.Bad f row cause) says = (Err (fault.Bad f row cause), says, refl)
 routes_fault told fault.NoMemory says = tt
 
-pub times_fault : (told : Option Files) (e : CaseFault) → routing.AnswersFault lines.Times told e → AnswersFault command.RouteTimes told e
+pub times_fault : (told : Option Files) (e : CaseFault) → routing.AnswersFault lines.Times told e → AnswersFault command.RouteTimes told (refusal.Case e)
 times_fault told (fault.Folder f) says = tt
-times_fault told (fault.TooLong f) says = says
-times_fault told (fault.Bad f row cause) says = says
+times_fault told (fault.TooLong f) says = (Err (fault.TooLong f), says, refl)
+times_fault told (fault.Bad f row cause) says = (Err (fault.Bad f row cause), says, refl)
 times_fault told fault.NoMemory says = tt
+
+pub curves_told : (told : Option Files) (text : List ℕ) → AnswersCurves told (Ok text) → Answers command.Curves told (Ok text)
+curves_told told text says = (Ok text, says, refl)
+
+curves_refused : (told : Option Files) (e : CaseFault) → IfSome told (λ files. case_of files ≡ Err e) → Answers command.Curves told (Err (refusal.Case e))
+curves_refused told e describes = (Err e, (Err e, describes, refl), refl)
+
+pub curves_fault : (told : Option Files) (e : CaseFault) → IfSome told (λ files. Agrees (case_of files) e) → AnswersFault command.Curves told (refusal.Case e)
+curves_fault told (fault.Folder f) agrees = tt
+curves_fault told (fault.TooLong f) agrees = curves_refused told (fault.TooLong f) agrees
+curves_fault told (fault.Bad f row cause) agrees = curves_refused told (fault.Bad f row cause) agrees
+curves_fault told fault.NoMemory agrees = tt
+
+pub check_fault : (told : Option Files) (e : Refusal) → AnswersRefusal told e → AnswersFault command.Check told e
+check_fault told (refusal.Case (fault.Folder f)) says = tt
+check_fault told (refusal.Case (fault.TooLong f)) says = says
+check_fault told (refusal.Case (fault.Bad f row cause)) says = says
+check_fault told (refusal.Case fault.NoMemory) says = tt
+check_fault told refusal.NoCurves says = tt
+check_fault told refusal.LongCurves says = says
+check_fault told (refusal.BadCurves row cause) says = says
+check_fault told refusal.NoStart says = says
+check_fault told (refusal.NoStep node slot) says = says

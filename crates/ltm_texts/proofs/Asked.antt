@@ -34,3 +34,5 @@ none_asked f xs command.Load one two three asks = one (counted f xs (codes "load
 none_asked f xs command.Routes one two three asks = one (counted f xs (codes "routes" ∷ []) asks)
 none_asked f xs command.RouteTimes one two three asks = two (counted f xs (codes "routes" ∷ codes "times" ∷ []) asks)
 none_asked f xs (command.Try start nodes) one two three (a, b, asks, starts, has) = three (counted f xs (codes "try" ∷ a ∷ b ∷ []) asks)
+none_asked f xs command.Curves one two three asks = one (counted f xs (codes "curves" ∷ []) asks)
+none_asked f xs command.Check one two three asks = one (counted f xs (codes "check" ∷ []) asks)

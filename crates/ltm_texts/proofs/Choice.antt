@@ -29,6 +29,25 @@ apart a b m n same first second differ = differ (sym first ∙ ap first_byte sam
 load_routes : codes "load" ≡ codes "routes" → ⊥
 load_routes same = apart (codes "load") (codes "routes") 108 114 same refl refl (λ e. absurd (omega (arith, e)))
 
+load_curves : codes "load" ≡ codes "curves" → ⊥
+load_curves same = apart (codes "load") (codes "curves") 108 99 same refl refl (λ e. absurd (omega (arith, e)))
+
+load_check : codes "load" ≡ codes "check" → ⊥
+load_check same = apart (codes "load") (codes "check") 108 99 same refl refl (λ e. absurd (omega (arith, e)))
+
+routes_curves : codes "routes" ≡ codes "curves" → ⊥
+routes_curves same = apart (codes "routes") (codes "curves") 114 99 same refl refl (λ e. absurd (omega (arith, e)))
+
+routes_check : codes "routes" ≡ codes "check" → ⊥
+routes_check same = apart (codes "routes") (codes "check") 114 99 same refl refl (λ e. absurd (omega (arith, e)))
+
+abbrev second_byte : List ℕ → ℕ
+second_byte [] = 0
+second_byte (b ∷ rest) = first_byte rest
+
+curves_check : codes "curves" ≡ codes "check" → ⊥
+curves_check same = let e : 117 ≡ 104 = ap second_byte same in omega (e, arith)
+
 -- a test does not hold and fail
 pub never : (b : Bool) → b ≡ true → b ≡ false → ⊥
 never b holds fails = cc
@@ -45,30 +64,56 @@ load_asked word is command.Load = (λ same. ap (λ w. w ∷ []) is, λ asks. ref
 load_asked word is command.Routes = (λ same. cc, λ asks. absurd (load_routes (sym is ∙ ap first_word asks)))
 load_asked word is command.RouteTimes = (λ same. cc, λ asks. cc)
 load_asked word is (command.Try start nodes) = (λ same. cc, λ asks. absurd (not_one word start nodes asks))
+load_asked word is command.Curves = (λ same. cc, λ asks. absurd (load_curves (sym is ∙ ap first_word asks)))
+load_asked word is command.Check = (λ same. cc, λ asks. absurd (load_check (sym is ∙ ap first_word asks)))
 
 pub routes_asked : (word : List ℕ) → word ≡ codes "routes" → (c : Command) → (Some command.Routes ≡ Some c) ↔ Asks (word ∷ []) c
 routes_asked word is command.Load = (λ same. cc, λ asks. absurd (load_routes (sym (ap first_word asks) ∙ is)))
 routes_asked word is command.Routes = (λ same. ap (λ w. w ∷ []) is, λ asks. refl)
 routes_asked word is command.RouteTimes = (λ same. cc, λ asks. cc)
 routes_asked word is (command.Try start nodes) = (λ same. cc, λ asks. absurd (not_one word start nodes asks))
+routes_asked word is command.Curves = (λ same. cc, λ asks. absurd (routes_curves (sym is ∙ ap first_word asks)))
+routes_asked word is command.Check = (λ same. cc, λ asks. absurd (routes_check (sym is ∙ ap first_word asks)))
 
-pub none_of_one : (word : List ℕ) → (word ≡ codes "load" → ⊥) → (word ≡ codes "routes" → ⊥) → (c : Command) → (None ≡ Some c) ↔ Asks (word ∷ []) c
-none_of_one word one two command.Load = (λ same. cc, λ asks. absurd (one (ap first_word asks)))
-none_of_one word one two command.Routes = (λ same. cc, λ asks. absurd (two (ap first_word asks)))
-none_of_one word one two command.RouteTimes = (λ same. cc, λ asks. cc)
-none_of_one word one two (command.Try start nodes) = (λ same. cc, λ asks. absurd (not_one word start nodes asks))
+pub curves_asked : (word : List ℕ) → word ≡ codes "curves" → (c : Command) → (Some command.Curves ≡ Some c) ↔ Asks (word ∷ []) c
+curves_asked word is command.Load = (λ same. cc, λ asks. absurd (load_curves (sym (ap first_word asks) ∙ is)))
+curves_asked word is command.Routes = (λ same. cc, λ asks. absurd (routes_curves (sym (ap first_word asks) ∙ is)))
+curves_asked word is command.RouteTimes = (λ same. cc, λ asks. cc)
+curves_asked word is (command.Try start nodes) = (λ same. cc, λ asks. absurd (not_one word start nodes asks))
+curves_asked word is command.Curves = (λ same. ap (λ w. w ∷ []) is, λ asks. refl)
+curves_asked word is command.Check = (λ same. cc, λ asks. absurd (curves_check (sym is ∙ ap first_word asks)))
+
+pub check_asked : (word : List ℕ) → word ≡ codes "check" → (c : Command) → (Some command.Check ≡ Some c) ↔ Asks (word ∷ []) c
+check_asked word is command.Load = (λ same. cc, λ asks. absurd (load_check (sym (ap first_word asks) ∙ is)))
+check_asked word is command.Routes = (λ same. cc, λ asks. absurd (routes_check (sym (ap first_word asks) ∙ is)))
+check_asked word is command.RouteTimes = (λ same. cc, λ asks. cc)
+check_asked word is (command.Try start nodes) = (λ same. cc, λ asks. absurd (not_one word start nodes asks))
+check_asked word is command.Curves = (λ same. cc, λ asks. absurd (curves_check (sym (ap first_word asks) ∙ is)))
+check_asked word is command.Check = (λ same. ap (λ w. w ∷ []) is, λ asks. refl)
+
+pub none_of_one : (word : List ℕ) → (word ≡ codes "load" → ⊥) → (word ≡ codes "routes" → ⊥) → (word ≡ codes "curves" → ⊥) → (word ≡ codes "check" → ⊥) → (c : Command) → (None ≡ Some c) ↔ Asks (word ∷ []) c
+none_of_one word one two three four command.Load = (λ same. cc, λ asks. absurd (one (ap first_word asks)))
+none_of_one word one two three four command.Routes = (λ same. cc, λ asks. absurd (two (ap first_word asks)))
+none_of_one word one two three four command.RouteTimes = (λ same. cc, λ asks. cc)
+none_of_one word one two three four (command.Try start nodes) = (λ same. cc, λ asks. absurd (not_one word start nodes asks))
+none_of_one word one two three four command.Curves = (λ same. cc, λ asks. absurd (three (ap first_word asks)))
+none_of_one word one two three four command.Check = (λ same. cc, λ asks. absurd (four (ap first_word asks)))
 
 pub times_asked : (a b : List ℕ) → a ≡ codes "routes" → b ≡ codes "times" → (c : Command) → (Some command.RouteTimes ≡ Some c) ↔ Asks (a ∷ b ∷ []) c
 times_asked a b one two command.Load = (λ same. cc, λ asks. cc)
 times_asked a b one two command.Routes = (λ same. cc, λ asks. cc)
 times_asked a b one two command.RouteTimes = (λ same. ap (λ w. w ∷ b ∷ []) one ∙ ap (λ w. codes "routes" ∷ w ∷ []) two, λ asks. refl)
 times_asked a b one two (command.Try start nodes) = (λ same. cc, λ asks. absurd (not_two a b start nodes asks))
+times_asked a b one two command.Curves = (λ same. cc, λ asks. cc)
+times_asked a b one two command.Check = (λ same. cc, λ asks. cc)
 
 pub none_of_two : (a b : List ℕ) → (a ≡ codes "routes" → b ≡ codes "times" → ⊥) → (c : Command) → (None ≡ Some c) ↔ Asks (a ∷ b ∷ []) c
 none_of_two a b none command.Load = (λ same. cc, λ asks. cc)
 none_of_two a b none command.Routes = (λ same. cc, λ asks. cc)
 none_of_two a b none command.RouteTimes = (λ same. cc, λ asks. absurd (none (ap first_word asks) (ap second_word asks)))
 none_of_two a b none (command.Try start nodes) = (λ same. cc, λ asks. absurd (not_two a b start nodes asks))
+none_of_two a b none command.Curves = (λ same. cc, λ asks. cc)
+none_of_two a b none command.Check = (λ same. cc, λ asks. cc)
 
 abbrev third_word : List (List ℕ) → List ℕ
 third_word [] = []
@@ -84,6 +129,8 @@ pub try_asked : (a b c : List ℕ) (start nodes : ℕ) → a ≡ codes "try" →
 try_asked a b c start nodes is starts has command.Load = (λ same. cc, λ asks. absurd (let long : 3 ≡ 1 = ap (λ (ws : List (List ℕ)). length ws) asks in omega (long, arith)))
 try_asked a b c start nodes is starts has command.Routes = (λ same. cc, λ asks. absurd (let long : 3 ≡ 1 = ap (λ (ws : List (List ℕ)). length ws) asks in omega (long, arith)))
 try_asked a b c start nodes is starts has command.RouteTimes = (λ same. cc, λ asks. absurd (let long : 3 ≡ 2 = ap (λ (ws : List (List ℕ)). length ws) asks in omega (long, arith)))
+try_asked a b c start nodes is starts has command.Curves = (λ same. cc, λ asks. absurd (let long : 3 ≡ 1 = ap (λ (ws : List (List ℕ)). length ws) asks in omega (long, arith)))
+try_asked a b c start nodes is starts has command.Check = (λ same. cc, λ asks. absurd (let long : 3 ≡ 1 = ap (λ (ws : List (List ℕ)). length ws) asks in omega (long, arith)))
 try_asked a b c start nodes is starts has (command.Try s n) = (
   λ same. let at : start ≡ s = cc in let many : nodes ≡ n = cc in (b, c, ap (λ w. w ∷ b ∷ c ∷ []) is, starts ∙ ap Some at, has ∙ ap Some many),
   λ asks.
@@ -96,6 +143,8 @@ pub none_of_three : (a b c : List ℕ) → ((start nodes : ℕ) → a ≡ codes 
 none_of_three a b c none command.Load = (λ same. cc, λ asks. absurd (let long : 3 ≡ 1 = ap (λ (ws : List (List ℕ)). length ws) asks in omega (long, arith)))
 none_of_three a b c none command.Routes = (λ same. cc, λ asks. absurd (let long : 3 ≡ 1 = ap (λ (ws : List (List ℕ)). length ws) asks in omega (long, arith)))
 none_of_three a b c none command.RouteTimes = (λ same. cc, λ asks. absurd (let long : 3 ≡ 2 = ap (λ (ws : List (List ℕ)). length ws) asks in omega (long, arith)))
+none_of_three a b c none command.Curves = (λ same. cc, λ asks. absurd (let long : 3 ≡ 1 = ap (λ (ws : List (List ℕ)). length ws) asks in omega (long, arith)))
+none_of_three a b c none command.Check = (λ same. cc, λ asks. absurd (let long : 3 ≡ 1 = ap (λ (ws : List (List ℕ)). length ws) asks in omega (long, arith)))
 none_of_three a b c none (command.Try start nodes) = (
   λ same. cc,
   λ asks. absurd (none start nodes (ap first_word asks.2) (ap start_of (ap second_word asks.2) ∙ asks.3) (ap nodes_of (ap third_word asks.2) ∙ asks.4)),
@@ -124,6 +173,8 @@ asked_sized words command.Load asks = tt
 asked_sized words command.Routes asks = tt
 asked_sized words command.RouteTimes asks = tt
 asked_sized words (command.Try start nodes) (a, b, is, starts, has) = nodes_within b nodes has
+asked_sized words command.Curves asks = tt
+asked_sized words command.Check asks = tt
 
 -- ---- how many workers a session has
 pub session_asked : (a b : List ℕ) (found : Option ℕ) → a ≡ codes "session" → ((n : ℕ) → (found ≡ Some n) ↔ ((length b ≤ 2) × (whole_number b ≡ Some n) × (n ≤ 64)))

@@ -12,7 +12,10 @@ use Rattle.ltm_casefile.specs.Case.{asks_for}
 use Rattle.ltm_casefile.specs.Faults.{HasRisen, WasAsked}
 use Rattle.ltm_casefile.specs.Roads.{is_of_roads}
 use Rattle.ltm_texts.specs.declared.words.Command.TheVariants as command
-use Rattle.ltm_texts.specs.Program.{FileFailed}
+use Rattle.ltm_checking.specs.declared.refusal.Refusal.{Refusal}
+use Rattle.ltm_checking.specs.declared.refusal.Refusal.TheVariants as refusal
+use Rattle.ltm_checking.specs.Checks.{HasMissed}
+use Rattle.ltm_texts.specs.Program.{FileFailed, IsMissing}
 
 pub failed : (told : Option Files) (before now : Doc → ℕ) (f : File)
     → IfSome told (λ files. WasAsked (asks_for files) (fault.Folder f)) → HasRisen before now (fault.Folder f) → FileFailed command.Load told before now
@@ -44,3 +47,19 @@ routes_failed told before now f asked rose = roads_failed told before now f aske
 
 pub times_failed : (told : Option Files) (before now : Doc → ℕ) (f : File) → WasAsked is_of_roads (fault.Folder f) → HasRisen before now (fault.Folder f) → FileFailed command.RouteTimes told before now
 times_failed told before now f asked rose = roads_failed told before now f asked rose
+
+-- of the curve file of a case, and of a check
+pub curves_failed : (told : Option Files) (before now : Doc → ℕ) (f : File)
+    → IfSome told (λ files. WasAsked (asks_for files) (fault.Folder f)) → HasRisen before now (fault.Folder f) → FileFailed command.Curves told before now
+curves_failed told before now f asked rose = failed told before now f asked rose
+
+pub check_failed : (told : Option Files) (before now : Doc → ℕ) (e : Refusal) → HasMissed told before now e → IsMissing e → FileFailed command.Check told before now
+check_failed told before now (refusal.Case (fault.Folder f)) missed missing = missed
+check_failed told before now (refusal.Case (fault.TooLong f)) missed missing = absurd missing
+check_failed told before now (refusal.Case (fault.Bad f row cause)) missed missing = absurd missing
+check_failed told before now (refusal.Case fault.NoMemory) missed missing = absurd missing
+check_failed told before now refusal.NoCurves missed missing = missed
+check_failed told before now refusal.LongCurves missed missing = absurd missing
+check_failed told before now (refusal.BadCurves row cause) missed missing = absurd missing
+check_failed told before now refusal.NoStart missed missing = absurd missing
+check_failed told before now (refusal.NoStep node slot) missed missing = absurd missing

@@ -7,16 +7,26 @@ use Rattle.ltm_casefile.specs.declared.faults.CaseFault.{CaseFault}
 use Rattle.ltm_casefile.specs.declared.faults.CaseFault.TheVariants as fault
 use Rattle.ltm_casefile.specs.Case.{case_of, asks_for, is_case_file}
 use Rattle.ltm_casefile.specs.Roads.{is_of_roads}
+use Rattle.ltm_routing.specs.declared.lines.RouteLines.{RouteLines}
 use Rattle.ltm_routing.specs.declared.lines.RouteLines.TheVariants as lines
 use Rattle.ltm_routing.specs.Routing.{AnswersRoutes}
 use Rattle.ltm_texts.specs.declared.words.Command.{Command}
 use Rattle.ltm_texts.specs.declared.words.Command.TheVariants as command
 use Rattle.ltm_trial.specs.Trial.{IsTrial}
+use Rattle.ltm_checking.specs.declared.refusal.Refusal.{Refusal}
+use Rattle.ltm_checking.specs.declared.refusal.Refusal.TheVariants as refusal
+use Rattle.ltm_checking.specs.Loaded.{AnswersCurves}
+use Rattle.ltm_checking.specs.Checks.{AnswersCheck, is_check_file, check_asks_for}
 use Rattle.ltm_texts.specs.Report.{IsReport}
 
--- a text, or the fault in place of it
+-- a text, or the refusal in place of it
 abbrev pub Answer : Type 0
-Answer = Result (List ℕ) CaseFault
+Answer = Result (List ℕ) Refusal
+
+-- a text, or the fault of a case in place of it
+abbrev pub answer_of : Result (List ℕ) CaseFault → Answer
+answer_of (Ok text) = Ok text
+answer_of (Err fault) = Err (refusal.Case fault)
 
 -- what a folder tells of its files, where it tells anything, describes this case
 abbrev pub Describes : Option Files → Result ScenarioData CaseFault → Type 0
@@ -25,22 +35,37 @@ Describes told said = IfSome told (λ files. case_of files ≡ said)
 -- what `load` answers to a case
 abbrev pub LoadAnswer : Result ScenarioData CaseFault → Answer → Type 0
 LoadAnswer (Ok s) answer = (text : List ℕ) × IsReport s text × (answer ≡ Ok text)
-LoadAnswer (Err fault) answer = answer ≡ Err fault
+LoadAnswer (Err fault) answer = answer ≡ Err (refusal.Case fault)
+
+-- what `routes` answers
+abbrev pub RouteAnswer : RouteLines → Option Files → Answer → Type 0
+RouteAnswer lines told answer = (said : Result (List ℕ) CaseFault) × AnswersRoutes lines told said × (answer ≡ answer_of said)
+
+-- what `curves` answers
+abbrev pub CurvesAnswer : Option Files → Answer → Type 0
+CurvesAnswer told answer = (said : Result (List ℕ) CaseFault) × AnswersCurves told said × (answer ≡ answer_of said)
 
 -- what a command answers to what a folder tells of its files
 abbrev pub Answers : Command → Option Files → Answer → Type 0
 Answers command.Load told answer = (said : Result ScenarioData CaseFault) × Describes told said × LoadAnswer said answer
-Answers command.Routes told answer = AnswersRoutes lines.Splits told answer
-Answers command.RouteTimes told answer = AnswersRoutes lines.Times told answer
+Answers command.Routes told answer = RouteAnswer lines.Splits told answer
+Answers command.RouteTimes told answer = RouteAnswer lines.Times told answer
 Answers (command.Try start nodes) told answer = (text : List ℕ) × IsTrial start nodes text × (answer ≡ Ok text)
+Answers command.Curves told answer = CurvesAnswer told answer
+Answers command.Check told answer = AnswersCheck told answer
 
--- a fault that lies in the files is the answer; that a folder did not give a file, or memory was not found, does not lie
+-- a refusal that lies in the files is the answer; that a folder did not give a file, or memory was not found, does not lie
 -- in them
-abbrev pub AnswersFault : Command → Option Files → CaseFault → Type 0
-AnswersFault command told (fault.Folder file) = Unit {0}
-AnswersFault command told (fault.TooLong file) = Answers command told (Err (fault.TooLong file))
-AnswersFault command told (fault.Bad file row cause) = Answers command told (Err (fault.Bad file row cause))
-AnswersFault command told fault.NoMemory = Unit {0}
+abbrev pub AnswersFault : Command → Option Files → Refusal → Type 0
+AnswersFault command told (refusal.Case (fault.Folder file)) = Unit {0}
+AnswersFault command told (refusal.Case (fault.TooLong file)) = Answers command told (Err (refusal.Case (fault.TooLong file)))
+AnswersFault command told (refusal.Case (fault.Bad file row cause)) = Answers command told (Err (refusal.Case (fault.Bad file row cause)))
+AnswersFault command told (refusal.Case fault.NoMemory) = Unit {0}
+AnswersFault command told refusal.NoCurves = Unit {0}
+AnswersFault command told refusal.LongCurves = Answers command told (Err refusal.LongCurves)
+AnswersFault command told (refusal.BadCurves row cause) = Answers command told (Err (refusal.BadCurves row cause))
+AnswersFault command told refusal.NoStart = Answers command told (Err refusal.NoStart)
+AnswersFault command told (refusal.NoStep node slot) = Answers command told (Err (refusal.NoStep node slot))
 
 -- a made case has 4 to 400 nodes
 abbrev pub IsSized : Command → Type 0
@@ -48,6 +73,8 @@ IsSized command.Load = Unit {0}
 IsSized command.Routes = Unit {0}
 IsSized command.RouteTimes = Unit {0}
 IsSized (command.Try start nodes) = (4 ≤ nodes) × (nodes ≤ 400)
+IsSized command.Curves = Unit {0}
+IsSized command.Check = Unit {0}
 
 -- ---- files
 -- the files that a command may fetch
@@ -56,6 +83,8 @@ may_fetch command.Load d = is_case_file d
 may_fetch command.Routes d = is_of_roads d
 may_fetch command.RouteTimes d = is_of_roads d
 may_fetch (command.Try start nodes) d = false
+may_fetch command.Curves d = is_case_file d
+may_fetch command.Check d = is_check_file d
 
 -- the files that it fetches from a folder with these files
 abbrev pub fetches : Command → Files → Doc → Bool
@@ -63,3 +92,5 @@ fetches command.Load files d = asks_for files d
 fetches command.Routes files d = is_of_roads d
 fetches command.RouteTimes files d = is_of_roads d
 fetches (command.Try start nodes) files d = false
+fetches command.Curves files d = asks_for files d
+fetches command.Check files d = check_asks_for files d

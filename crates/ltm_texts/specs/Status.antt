@@ -14,3 +14,5 @@ number_of status.BadCase = 6
 number_of status.TooLong = 7
 number_of status.TooManyCommands = 8
 number_of status.NoMemory = 9
+number_of status.BadCurves = 11
+number_of status.NotLoading = 12

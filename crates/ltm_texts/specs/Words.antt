@@ -11,6 +11,8 @@ Asks words command.Load = words ≡ codes "load" ∷ []
 Asks words command.Routes = words ≡ codes "routes" ∷ []
 Asks words command.RouteTimes = words ≡ codes "routes" ∷ codes "times" ∷ []
 Asks words (command.Try start nodes) = (first second : List ℕ) × (words ≡ codes "try" ∷ first ∷ second ∷ []) × (start_of first ≡ Some start) × (nodes_of second ≡ Some nodes)
+Asks words command.Curves = words ≡ codes "curves" ∷ []
+Asks words command.Check = words ≡ codes "check" ∷ []
 
 -- the words ask for none of these
 abbrev pub AsksNoText : List (List ℕ) → Type 0
@@ -21,4 +23,4 @@ abbrev pub AsksSession : List (List ℕ) → ℕ → Type 0
 AsksSession words workers = (number : List ℕ) × (words ≡ codes "session" ∷ number ∷ []) × (length number ≤ 2) × (whole_number number ≡ Some workers) × (workers ≤ 64)
 
 unfoldable pub usage_line : List ℕ
-usage_line = codes "usage: ltm load | ltm session N | ltm try START NODES | ltm routes [times]\n"
+usage_line = codes "usage: ltm load | ltm session N | ltm try START NODES | ltm routes [times] | ltm curves | ltm check\n"

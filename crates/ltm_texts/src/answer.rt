@@ -1,18 +1,22 @@
 //! What each command answers, before a byte of it is written.
-ghost use Rattle.std.specs.Prelude.{◌≡◌, ◌≤◌, Ok, Err, IfOk, IfErr, IfSome, true, false};
+ghost use Rattle.std.specs.Prelude.{◌≡◌, ◌≢◌, ◌≤◌, Ok, Err, IfOk, IfErr, IfSome, true, false};
 ghost use Rattle.ltm_io.specs.declared.doc.Doc.{Doc};
 ghost use Rattle.ltm_casefile.specs.declared.faults.File.{File};
 ghost use Rattle.ltm_casefile.specs.declared.faults.CaseFault.{CaseFault};
+ghost use Rattle.ltm_casefile.specs.Case.{is_case_file, asks_for};
 ghost use Rattle.ltm_casefile.specs.Roads.{is_of_roads};
 ghost use Rattle.ltm_routing.specs.File.{IsSplitsFile, IsTimesFile};
 ghost use Rattle.ltm_texts.specs.declared.words.Command.{Command};
 ghost use Rattle.ltm_trial.specs.Trial.{IsTrial};
 ghost use Rattle.ltm_texts.specs.Answers.{Answers, AnswersFault, IsSized, may_fetch, fetches};
-ghost use Rattle.ltm_texts.specs.Program.{FileFailed};
+ghost use Rattle.ltm_texts.specs.Program.{FileFailed, IsMissing};
+ghost use Rattle.ltm_checking.specs.declared.refusal.Refusal.{Refusal};
+ghost use Rattle.ltm_checking.specs.Checks.{is_check_file, check_asks_for};
 
 use crate::load::report_case;
 use crate::words::Command;
 use ltm_casefile::CaseFault;
+use ltm_checking::{Refusal, case_curves, check_text};
 use ltm_io::Folder;
 use ltm_make::MakeFault;
 use ltm_routing::{RouteLines, route_text};
@@ -20,12 +24,12 @@ use ltm_trial::try_report;
 use std::alloc::Global;
 
 /// The `splits.csv` of least routes over the folder's roads, or why there is none.
-#[tactic(auto, using(crate::proofs::MissingFile::routes_failed, crate::proofs::Answering::routes_fault))]
+#[tactic(auto, using(crate::proofs::MissingFile::routes_failed, crate::proofs::Answering::routes_told, crate::proofs::Answering::routes_fault))]
 fn route_splits<F: Folder>(alloc: Global, folder: &mut F) -> Result<Vec<u8>, CaseFault>
     ensures keeps { F.told folder.new ≡ F.told folder.old }
     ensures others { (d : Doc) → is_of_roads d ≡ false → F.faults folder.new d ≡ F.faults folder.old d }
     ensures text { IfOk result (λ text. Answers Command.Routes (F.told folder.old) (Ok text.items)) }
-    ensures fault { IfErr result (AnswersFault Command.Routes (F.told folder.old)) }
+    ensures fault { IfErr result (λ e. AnswersFault Command.Routes (F.told folder.old) (Refusal.Case e)) }
     ensures failed { (file : File) → result ≡ Err (CaseFault.Folder file)
         → FileFailed Command.Routes (F.told folder.old) (F.faults folder.old) (F.faults folder.new) }
     ensures splits { IfOk result (λ text. IsSplitsFile (F.told folder.old) text.items) }
@@ -34,12 +38,12 @@ fn route_splits<F: Folder>(alloc: Global, folder: &mut F) -> Result<Vec<u8>, Cas
 }
 
 /// The least times over the folder's roads, or why there are none.
-#[tactic(auto, using(crate::proofs::MissingFile::times_failed, crate::proofs::Answering::times_fault))]
+#[tactic(auto, using(crate::proofs::MissingFile::times_failed, crate::proofs::Answering::times_told, crate::proofs::Answering::times_fault))]
 fn route_times<F: Folder>(alloc: Global, folder: &mut F) -> Result<Vec<u8>, CaseFault>
     ensures keeps { F.told folder.new ≡ F.told folder.old }
     ensures others { (d : Doc) → is_of_roads d ≡ false → F.faults folder.new d ≡ F.faults folder.old d }
     ensures text { IfOk result (λ text. Answers Command.RouteTimes (F.told folder.old) (Ok text.items)) }
-    ensures fault { IfErr result (AnswersFault Command.RouteTimes (F.told folder.old)) }
+    ensures fault { IfErr result (λ e. AnswersFault Command.RouteTimes (F.told folder.old) (Refusal.Case e)) }
     ensures failed { (file : File) → result ≡ Err (CaseFault.Folder file)
         → FileFailed Command.RouteTimes (F.told folder.old) (F.faults folder.old) (F.faults folder.new) }
     ensures times { IfOk result (λ text. IsTimesFile (F.told folder.old) text.items) }
@@ -61,18 +65,47 @@ fn trial(alloc: Global, start: u64, nodes: u32) -> Result<Vec<u8>, CaseFault>
     }
 }
 
-/// The whole text that a command answers to a folder, or why there is none.
-pub fn answer<F: Folder>(
+/// The curve file of the loading of the folder's case, or why there is none.
+#[tactic(auto, using(crate::proofs::MissingFile::curves_failed, crate::proofs::Answering::curves_told, crate::proofs::Answering::curves_fault))]
+fn curves<F: Folder>(alloc: Global, folder: &mut F) -> Result<Vec<u8>, CaseFault>
+    ensures keeps { F.told folder.new ≡ F.told folder.old }
+    ensures others { (d : Doc) → is_case_file d ≡ false → F.faults folder.new d ≡ F.faults folder.old d }
+    ensures unasked { IfSome (F.told folder.old) (λ files. (d : Doc) → asks_for files d ≡ false → F.faults folder.new d ≡ F.faults folder.old d) }
+    ensures text { IfOk result (λ text. Answers Command.Curves (F.told folder.old) (Ok text.items)) }
+    ensures fault { IfErr result (λ e. AnswersFault Command.Curves (F.told folder.old) (Refusal.Case e)) }
+    ensures failed { (file : File) → result ≡ Err (CaseFault.Folder file)
+        → FileFailed Command.Curves (F.told folder.old) (F.faults folder.old) (F.faults folder.new) }
+{
+    case_curves(alloc, folder)
+}
+
+/// That the curve file beside the folder's case is its loading, or why it is not.
+#[tactic(auto, using(crate::proofs::MissingFile::check_failed, crate::proofs::Answering::check_fault))]
+fn check<F: Folder>(alloc: Global, folder: &mut F) -> Result<Vec<u8>, Refusal>
+    ensures keeps { F.told folder.new ≡ F.told folder.old }
+    ensures others { (d : Doc) → is_check_file d ≡ false → F.faults folder.new d ≡ F.faults folder.old d }
+    ensures unasked { IfSome (F.told folder.old) (λ files. (d : Doc) → check_asks_for files d ≡ false → F.faults folder.new d ≡ F.faults folder.old d) }
+    ensures text { IfOk result (λ text. Answers Command.Check (F.told folder.old) (Ok text.items)) }
+    ensures fault { IfErr result (AnswersFault Command.Check (F.told folder.old)) }
+    ensures failed { (refusal : Refusal) → result ≡ Err refusal → IsMissing refusal
+        → FileFailed Command.Check (F.told folder.old) (F.faults folder.old) (F.faults folder.new) }
+{
+    check_text(alloc, folder)
+}
+
+/// What a command answers that asks nothing but what the files of a case say.
+fn case_answer<F: Folder>(
     alloc: Global,
     command: Command,
     folder: &mut F,
 ) -> Result<Vec<u8>, CaseFault>
-    requires { IsSized command }
+    requires sized { IsSized command }
+    requires no_check { command ≢ Command.Check }
     ensures keeps { F.told folder.new ≡ F.told folder.old }
     ensures others { (d : Doc) → may_fetch command d ≡ false → F.faults folder.new d ≡ F.faults folder.old d }
     ensures unasked { IfSome (F.told folder.old) (λ files. (d : Doc) → fetches command files d ≡ false → F.faults folder.new d ≡ F.faults folder.old d) }
     ensures text { IfOk result (λ text. Answers command (F.told folder.old) (Ok text.items)) }
-    ensures fault { IfErr result (AnswersFault command (F.told folder.old)) }
+    ensures fault { IfErr result (λ e. AnswersFault command (F.told folder.old) (Refusal.Case e)) }
     ensures failed { (file : File) → result ≡ Err (CaseFault.Folder file)
         → FileFailed command (F.told folder.old) (F.faults folder.old) (F.faults folder.new) }
     ensures splits { command ≡ Command.Routes → IfOk result (λ text. IsSplitsFile (F.told folder.old) text.items) }
@@ -83,5 +116,50 @@ pub fn answer<F: Folder>(
         Command::Routes => route_splits(alloc, folder),
         Command::RouteTimes => route_times(alloc, folder),
         Command::Try { start, nodes } => trial(alloc, start, nodes),
+        Command::Curves => curves(alloc, folder),
+        Command::Check => unreachable!(),
+    }
+}
+
+/// A text, or the fault of a case as a refusal.
+fn told<F: Folder>(alloc: Global, command: Command, folder: &mut F) -> Result<Vec<u8>, Refusal>
+    requires sized { IsSized command }
+    requires no_check { command ≢ Command.Check }
+    ensures keeps { F.told folder.new ≡ F.told folder.old }
+    ensures others { (d : Doc) → may_fetch command d ≡ false → F.faults folder.new d ≡ F.faults folder.old d }
+    ensures unasked { IfSome (F.told folder.old) (λ files. (d : Doc) → fetches command files d ≡ false → F.faults folder.new d ≡ F.faults folder.old d) }
+    ensures text { IfOk result (λ text. Answers command (F.told folder.old) (Ok text.items)) }
+    ensures fault { IfErr result (AnswersFault command (F.told folder.old)) }
+    ensures failed { (refusal : Refusal) → result ≡ Err refusal → IsMissing refusal
+        → FileFailed command (F.told folder.old) (F.faults folder.old) (F.faults folder.new) }
+    ensures splits { command ≡ Command.Routes → IfOk result (λ text. IsSplitsFile (F.told folder.old) text.items) }
+    ensures times { command ≡ Command.RouteTimes → IfOk result (λ text. IsTimesFile (F.told folder.old) text.items) }
+{
+    match case_answer(alloc, command, folder) {
+        Ok(text) => Ok(text),
+        Err(fault) => Err(Refusal::Case(fault)),
+    }
+}
+
+/// The whole text that a command answers to a folder, or why there is none.
+pub fn answer<F: Folder>(
+    alloc: Global,
+    command: Command,
+    folder: &mut F,
+) -> Result<Vec<u8>, Refusal>
+    requires { IsSized command }
+    ensures keeps { F.told folder.new ≡ F.told folder.old }
+    ensures others { (d : Doc) → may_fetch command d ≡ false → F.faults folder.new d ≡ F.faults folder.old d }
+    ensures unasked { IfSome (F.told folder.old) (λ files. (d : Doc) → fetches command files d ≡ false → F.faults folder.new d ≡ F.faults folder.old d) }
+    ensures text { IfOk result (λ text. Answers command (F.told folder.old) (Ok text.items)) }
+    ensures fault { IfErr result (AnswersFault command (F.told folder.old)) }
+    ensures failed { (refusal : Refusal) → result ≡ Err refusal → IsMissing refusal
+        → FileFailed command (F.told folder.old) (F.faults folder.old) (F.faults folder.new) }
+    ensures splits { command ≡ Command.Routes → IfOk result (λ text. IsSplitsFile (F.told folder.old) text.items) }
+    ensures times { command ≡ Command.RouteTimes → IfOk result (λ text. IsTimesFile (F.told folder.old) text.items) }
+{
+    match command {
+        Command::Check => check(alloc, folder),
+        _ => told(alloc, command, folder),
     }
 }

@@ -7,6 +7,7 @@ ghost use Rattle.ltm_casefile.specs.Case.{is_case_file, asks_for};
 ghost use Rattle.ltm_texts.specs.declared.words.Command.{Command};
 ghost use Rattle.ltm_texts.specs.Answers.{Answers, AnswersFault};
 ghost use Rattle.ltm_texts.specs.Program.{FileFailed};
+ghost use Rattle.ltm_checking.specs.declared.refusal.Refusal.{Refusal};
 
 use crate::report::report_of;
 use crate::words::Command;
@@ -21,7 +22,7 @@ pub fn report_case<F: Folder>(alloc: Global, folder: &mut F) -> Result<Vec<u8>, 
     ensures others { (d : Doc) → is_case_file d ≡ false → F.faults folder.new d ≡ F.faults folder.old d }
     ensures unasked { IfSome (F.told folder.old) (λ files. (d : Doc) → asks_for files d ≡ false → F.faults folder.new d ≡ F.faults folder.old d) }
     ensures text { IfOk result (λ text. Answers Command.Load (F.told folder.old) (Ok text.items)) }
-    ensures fault { IfErr result (AnswersFault Command.Load (F.told folder.old)) }
+    ensures fault { IfErr result (λ e. AnswersFault Command.Load (F.told folder.old) (Refusal.Case e)) }
     ensures failed { (file : File) → result ≡ Err (CaseFault.Folder file)
         → FileFailed Command.Load (F.told folder.old) (F.faults folder.old) (F.faults folder.new) }
 {

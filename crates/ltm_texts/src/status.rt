@@ -24,6 +24,10 @@ pub enum Status {
     TooManyCommands,
     /// 9: memory was not found, and a front of what was to be written, or nothing, is there.
     NoMemory,
+    /// 11: `curves.csv` is no curve file of the case, and the line of the first fault is written.
+    BadCurves,
+    /// 12: the curves of `curves.csv` are not the loading of the case, and a line that says where is written.
+    NotLoading,
 }
 
 impl Status {
@@ -41,6 +45,8 @@ impl Status {
             Status::TooLong => 7,
             Status::TooManyCommands => 8,
             Status::NoMemory => 9,
+            Status::BadCurves => 11,
+            Status::NotLoading => 12,
         }
     }
 }

@@ -1,5 +1,5 @@
 //! The commands whose whole text is made before any of it is written.
-ghost use Rattle.std.specs.Prelude.{◌≡◌, ◌↔◌, ◌⊎◌, ℕ, List, map, string_bytes, IfSome, Some, Ok, Err, true, false};
+ghost use Rattle.std.specs.Prelude.{◌≡◌, ◌↔◌, ◌≤◌, ◌⊎◌, ℕ, List, length, map, string_bytes, IfSome, Some, Ok, Err, true, false};
 ghost use Rattle.ltm_io.specs.Faults.{Rose};
 ghost use Rattle.ltm_io.specs.Sink.{appended};
 ghost use Rattle.ltm_io.specs.Folder.{Files};
@@ -8,20 +8,26 @@ ghost use Rattle.ltm_scenario.specs.Data.{ScenarioData};
 ghost use Rattle.ltm_casefile.specs.declared.faults.File.{File};
 ghost use Rattle.ltm_casefile.specs.declared.faults.CaseCause.{CaseCause};
 ghost use Rattle.ltm_casefile.specs.declared.faults.CaseFault.{CaseFault};
-ghost use Rattle.ltm_report.specs.CaseFaults.{bad_case_line, too_long_line};
+ghost use Rattle.ltm_report.specs.CaseFaults.{bad_case_line};
 ghost use Rattle.ltm_routing.specs.File.{IsSplitsFile, IsTimesFile};
 ghost use Rattle.ltm_texts.specs.declared.words.Command.{Command};
 ghost use Rattle.ltm_texts.specs.Words.{Asks, AsksNoText, usage_line};
 ghost use Rattle.ltm_texts.specs.Report.{IsReport};
 ghost use Rattle.ltm_trial.specs.Trial.{IsTrial};
 ghost use Rattle.ltm_texts.specs.Answers.{IsSized, Answer, Answers, Describes, may_fetch, fetches};
-ghost use Rattle.ltm_texts.specs.Program.{IsAnswerUnder, IsTextUnder, IsWhole, FileFailed, IsCalm, WritesAnswerFront, WritesFront, status_of};
+ghost use Rattle.ltm_texts.specs.Program.{IsAnswerUnder, IsTextUnder, IsWhole, FileFailed, IsCalm, IsMissing, IsLong, WritesAnswerFront, WritesFront, status_of, words_of};
+ghost use Rattle.ltm_records.specs.Left.{records_of};
+ghost use Rattle.ltm_check.specs.ReadBack.{TellsLoading};
+ghost use Rattle.ltm_checking.specs.declared.refusal.Refusal.{Refusal};
+ghost use Rattle.ltm_checking.specs.Lines.{yes_line};
+ghost use Rattle.ltm_checking.specs.Loaded.{IsLoadingText};
+ghost use Rattle.ltm_checking.specs.Checks.{HasCurves, most_bytes};
 
 use crate::answer::answer;
-use crate::closing::{refuse_case, refuse_length, write_text};
+use crate::closing::write_text;
+use crate::refusing::refuse;
 use crate::status::Status;
 use crate::words::{Command, command_of, usage_text};
-use ltm_casefile::CaseFault;
 use ltm_io::{Folder, Sink};
 use std::alloc::Global;
 
@@ -46,15 +52,12 @@ fn run_command<F: Folder, W: Sink>(
         × (W.written output.new ≡ appended text (W.written output.old)) }
     ensures times { command ≡ Command.RouteTimes → result ≡ Status.Ok → (text : List ℕ) × IsTimesFile (F.told folder.old) text
         × (W.written output.new ≡ appended text (W.written output.old)) }
-    ensures missing { (files : Files) (file : File) → F.told folder.old ≡ Some files → Answers command (Some files) (Err (CaseFault.Folder file))
+    ensures missing { (files : Files) (refusal : Refusal) → F.told folder.old ≡ Some files → IsMissing refusal → Answers command (Some files) (Err refusal)
         → (result ≡ Status.FolderFault) ⊎ (result ≡ Status.NoMemory) }
 {
     match answer(alloc, command, folder) {
         Ok(text) => write_text(output, text.as_slice(), Status::Ok),
-        Err(CaseFault::Folder(_)) => Status::FolderFault,
-        Err(CaseFault::TooLong(file)) => refuse_length(alloc, file, output),
-        Err(CaseFault::Bad { file, row, cause }) => refuse_case(alloc, file, row, cause, output),
-        Err(CaseFault::NoMemory) => Status::NoMemory,
+        Err(refusal) => refuse(alloc, refusal, output),
     }
 }
 
@@ -105,21 +108,33 @@ pub fn run_texts<F: Folder, W: Sink>(
         × (W.written output.new ≡ appended text (W.written output.old)) }
     ensures trial { (start nodes : ℕ) → Asks (map string_bytes words.now) (Command.Try start nodes) → result ≡ Status.Ok → (text : List ℕ)
         × IsTrial start nodes text × (W.written output.new ≡ appended text (W.written output.old)) }
+    ensures curves { Asks (map string_bytes words.now) Command.Curves → result ≡ Status.Ok → (s : ScenarioData) × (text : List ℕ)
+        × Describes (F.told folder.old) (Ok s) × IsLoadingText s text
+        × (W.written output.new ≡ appended text (W.written output.old)) }
     ensures bad_case { result ≡ Status.BadCase → (command : Command) × Asks (map string_bytes words.now) command
         × (file : File) × (row : ℕ) × (cause : CaseCause)
-        × Answers command (F.told folder.old) (Err (CaseFault.Bad file row cause))
+        × Answers command (F.told folder.old) (Err (Refusal.Case (CaseFault.Bad file row cause)))
         × (W.written output.new ≡ appended (bad_case_line file row cause) (W.written output.old)) }
     ensures too_long { result ≡ Status.TooLong → (command : Command) × Asks (map string_bytes words.now) command
-        × (file : File) × Answers command (F.told folder.old) (Err (CaseFault.TooLong file))
-        × (W.written output.new ≡ appended (too_long_line file) (W.written output.old)) }
+        × (refusal : Refusal) × IsLong refusal × Answers command (F.told folder.old) (Err refusal)
+        × (W.written output.new ≡ appended (words_of refusal) (W.written output.old)) }
 
     // With no fault of the outside, the status is that of what the command answers to the files; a missing file is a fault
     // of the outside.
     ensures complete { (files : Files) (command : Command) → F.told folder.old ≡ Some files → Asks (map string_bytes words.now) command
         → IsCalm command files (F.faults folder.old) (F.faults folder.new) → (Rose (W.faults output.old) (W.faults output.new) → ⊥)
         → ((answer : Answer) × Answers command (Some files) answer × (result ≡ status_of answer)) ⊎ (result ≡ Status.NoMemory) }
-    ensures missing { (files : Files) (command : Command) (file : File) → F.told folder.old ≡ Some files → Asks (map string_bytes words.now) command
-        → Answers command (Some files) (Err (CaseFault.Folder file)) → (result ≡ Status.FolderFault) ⊎ (result ≡ Status.NoMemory) }
+    ensures missing { (files : Files) (command : Command) (refusal : Refusal) → F.told folder.old ≡ Some files → Asks (map string_bytes words.now) command
+        → IsMissing refusal → Answers command (Some files) (Err refusal) → (result ≡ Status.FolderFault) ⊎ (result ≡ Status.NoMemory) }
+
+    // A check says yes only where the curve file tells the loading of the case, and wherever it does.
+    ensures check { Asks (map string_bytes words.now) Command.Check → result ≡ Status.Ok → (s : ScenarioData) × (bytes : List ℕ)
+        × HasCurves (F.told folder.old) s bytes × TellsLoading s (records_of bytes)
+        × (W.written output.new ≡ appended yes_line (W.written output.old)) }
+    ensures check_complete { (files : Files) (s : ScenarioData) (bytes : List ℕ) → F.told folder.old ≡ Some files → Asks (map string_bytes words.now) Command.Check
+        → HasCurves (Some files) s bytes → length bytes ≤ most_bytes → TellsLoading s (records_of bytes)
+        → IsCalm Command.Check files (F.faults folder.old) (F.faults folder.new) → (Rose (W.faults output.old) (W.faults output.new) → ⊥)
+        → (result ≡ Status.Ok) ⊎ (result ≡ Status.NoMemory) }
 {
     match command_of(words) {
         Some(command) => run_command(alloc, command, folder, output),

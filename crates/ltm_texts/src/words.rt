@@ -18,6 +18,10 @@ pub enum Command {
     RouteTimes,
     /// A trial of a made case: where its words start, and how many nodes it has.
     Try { start: u64, nodes: u32 },
+    /// The loading of the case as a curve file.
+    Curves,
+    /// Whether the curve file beside the case is its loading.
+    Check,
 }
 
 fn is_load(word: &str) -> bool
@@ -44,6 +48,18 @@ fn is_try(word: &str) -> bool
     word == "try"
 }
 
+fn is_curves(word: &str) -> bool
+    ensures { result ≡ true ↔ (word.now ≡ codes "curves") }
+{
+    word == "curves"
+}
+
+fn is_check(word: &str) -> bool
+    ensures { result ≡ true ↔ (word.now ≡ codes "check") }
+{
+    word == "check"
+}
+
 fn one_word(word: &str) -> Option<Command>
     ensures { (command : Command) → (result ≡ Some command) ↔ Asks (word.now ∷ []) command }
 {
@@ -52,6 +68,12 @@ fn one_word(word: &str) -> Option<Command>
     }
     if is_routes(word) {
         return Some(Command::Routes);
+    }
+    if is_curves(word) {
+        return Some(Command::Curves);
+    }
+    if is_check(word) {
+        return Some(Command::Check);
     }
     None
 }
@@ -139,5 +161,5 @@ pub fn session_of(words: &[String]) -> Option<u32>
 pub fn usage_text() -> &'static [u8]
     ensures { result.now ≡ usage_line }
 {
-    b"usage: ltm load | ltm session N | ltm try START NODES | ltm routes [times]\n"
+    b"usage: ltm load | ltm session N | ltm try START NODES | ltm routes [times] | ltm curves | ltm check\n"
 }

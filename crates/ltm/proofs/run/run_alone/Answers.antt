@@ -44,6 +44,15 @@ returns-then-asks_alone-clause-times g c = λ also. absurd (apart _ ask.RouteTim
 pub returns-then-asks_alone-clause-trial : goal.returns-then-asks_alone-clause-trial
 returns-then-asks_alone-clause-trial g c = λ start nodes also. absurd (apart _ (ask.Try start nodes) also (c.asks_alone.ensures.0 c.if-asks_alone.true))
 
+pub returns-then-asks_alone-clause-curves : goal.returns-then-asks_alone-clause-curves
+returns-then-asks_alone-clause-curves g c = λ also. absurd (apart _ ask.Curves also (c.asks_alone.ensures.0 c.if-asks_alone.true))
+
+pub returns-then-asks_alone-clause-check : goal.returns-then-asks_alone-clause-check
+returns-then-asks_alone-clause-check g c = λ also. absurd (apart _ ask.Check also (c.asks_alone.ensures.0 c.if-asks_alone.true))
+
+pub returns-then-asks_alone-clause-check_complete : goal.returns-then-asks_alone-clause-check_complete
+returns-then-asks_alone-clause-check_complete g c = λ files s bytes is also. absurd (apart _ ask.Check also (c.asks_alone.ensures.0 c.if-asks_alone.true))
+
 pub returns-then-asks_alone-clause-bad_case : goal.returns-then-asks_alone-clause-bad_case
 returns-then-asks_alone-clause-bad_case g c = λ unserved. absurd (unserved (c.asks_alone.ensures.0 c.if-asks_alone.true))
 
@@ -59,3 +68,6 @@ returns-then-asks_alone-clause-missing g c = λ files command f is also. absurd 
 -- ---- other words
 pub returns-else-asks_alone-clause-front : goal.returns-else-asks_alone-clause-front
 returns-else-asks_alone-clause-front g c = front_words _ _ _ _ _ (λ asks. never _ (c.asks_alone.ensures.1 asks) c.if-asks_alone.false) c.run_texts.ensures.front
+
+pub returns-else-asks_alone-clause-folder_fault : goal.returns-else-asks_alone-clause-folder_fault
+returns-else-asks_alone-clause-folder_fault g c = λ is. let h = c.run_texts.ensures.folder_fault is in (inl (h.0, h.1, h.2), h.3)

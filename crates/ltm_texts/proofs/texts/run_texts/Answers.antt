@@ -1,11 +1,10 @@
 use Rattle.std.proofs.Common.{◌≡◌, inl, inr, refl, sym, subst, Some, Err, false}
-use Rattle.ltm_casefile.specs.declared.faults.CaseFault.TheVariants as fault
 use Rattle.ltm_texts.specs.declared.status.Status.TheVariants as status
 use Rattle.ltm_texts.specs.declared.words.Command.TheVariants as command
 use Rattle.ltm_texts.specs.Words.{usage_line}
 use Rattle.ltm_texts.specs.Answers.{Answers, may_fetch}
 use Rattle.ltm_texts.specs.Program.{IsWhole}
-use Rattle.ltm_texts.proofs.Told.{front_of_words, asked_one, asked_none, report_written, trial_written, bad_written, long_written, usage_never, script_never, usage_not_script, completes_asked, others_stay}
+use Rattle.ltm_texts.proofs.Told.{front_of_words, asked_one, asked_none, report_written, curves_written, check_written, says_yes, trial_written, bad_written, long_written, usage_never, script_never, usage_not_script, completes_asked, others_stay}
 use Rattle.ltm_texts.proofs.Choice.{asked_sized}
 use Rattle.ltm_texts.proofs.texts.run_texts.Goals as goal
 
@@ -70,8 +69,22 @@ returns-in-Some-clause-complete g c = λ files other is asks calm quiet.
     (λ failed. (c.run_command.ensures.folder_fault failed).0) c.run_command.ensures.write_fault (λ whole. let h = c.run_command.ensures.whole whole in (h.0, h.1)) is calm quiet
 
 pub returns-in-Some-clause-missing : goal.returns-in-Some-clause-missing
-returns-in-Some-clause-missing g c = λ files other f is asks missing.
-    c.run_command.ensures.missing files f is (subst (λ x. Answers x (Some files) (Err (fault.Folder f))) (sym (asked_one _ _ c.in-Some.command other c.command_of.ensures c.in-Some.is asks)) missing)
+returns-in-Some-clause-missing g c = λ files other e is asks missing none.
+    c.run_command.ensures.missing files e is missing (subst (λ x. Answers x (Some files) (Err e)) (sym (asked_one _ _ c.in-Some.command other c.command_of.ensures c.in-Some.is asks)) none)
+
+pub returns-in-Some-clause-curves : goal.returns-in-Some-clause-curves
+returns-in-Some-clause-curves g c = λ asks ok.
+    curves_written c.in-Some.command _ _ _ _ (asked_one _ _ c.in-Some.command command.Curves c.command_of.ensures c.in-Some.is asks) ok c.run_command.ensures.whole
+
+pub returns-in-Some-clause-check : goal.returns-in-Some-clause-check
+returns-in-Some-clause-check g c = λ asks ok.
+    check_written c.in-Some.command _ _ _ _ (asked_one _ _ c.in-Some.command command.Check c.command_of.ensures c.in-Some.is asks) ok c.run_command.ensures.whole
+
+pub returns-in-Some-clause-check_complete : goal.returns-in-Some-clause-check_complete
+returns-in-Some-clause-check_complete g c = λ files s bytes is asks has few tells calm quiet.
+    says_yes files s bytes _ has few tells
+    (completes_asked c.in-Some.command command.Check _ files _ _ _ _ _ (asked_one _ _ c.in-Some.command command.Check c.command_of.ensures c.in-Some.is asks)
+    (λ failed. (c.run_command.ensures.folder_fault failed).0) c.run_command.ensures.write_fault (λ whole. let h = c.run_command.ensures.whole whole in (h.0, h.1)) is calm quiet)
 
 -- ---- with none
 pub returns-in-None-clause-usage : goal.returns-in-None-clause-usage
@@ -109,4 +122,13 @@ pub returns-in-None-clause-complete : goal.returns-in-None-clause-complete
 returns-in-None-clause-complete g c = λ files other is asks. absurd (asked_none _ _ c.command_of.ensures c.in-None.is other asks)
 
 pub returns-in-None-clause-missing : goal.returns-in-None-clause-missing
-returns-in-None-clause-missing g c = λ files other f is asks. absurd (asked_none _ _ c.command_of.ensures c.in-None.is other asks)
+returns-in-None-clause-missing g c = λ files other e is asks missing none. absurd (asked_none _ _ c.command_of.ensures c.in-None.is other asks)
+
+pub returns-in-None-clause-curves : goal.returns-in-None-clause-curves
+returns-in-None-clause-curves g c = λ asks. absurd (asked_none _ _ c.command_of.ensures c.in-None.is command.Curves asks)
+
+pub returns-in-None-clause-check : goal.returns-in-None-clause-check
+returns-in-None-clause-check g c = λ asks. absurd (asked_none _ _ c.command_of.ensures c.in-None.is command.Check asks)
+
+pub returns-in-None-clause-check_complete : goal.returns-in-None-clause-check_complete
+returns-in-None-clause-check_complete g c = λ files s bytes is asks. absurd (asked_none _ _ c.command_of.ensures c.in-None.is command.Check asks)
