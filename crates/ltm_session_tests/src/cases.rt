@@ -4,6 +4,7 @@ use ltm_casefile::read_case;
 use ltm_core::Core;
 use ltm_io::{Doc, MemFolder, Sink, SureSink};
 use ltm_lines::{Source, SureSource};
+use ltm_scenario::Scenario;
 use ltm_session::{Served, SessionEnd, serve_alone};
 use ltm_units::NoMemory;
 use std::alloc::Global;
@@ -17,8 +18,14 @@ pub enum Case {
     OneRoad,
     /// The same link of 25 m: its free-flow time is two and a half slots.
     LongerRoad,
+    /// The first link over three slots.
+    ShortRoad,
     /// Two links of 20 m in a row, `a` and `b`, over twelve slots; five vehicles start in the first five.
     TwoRoads,
+    /// The two links over so many slots, at least five.
+    TwoRoadsOver(u32),
+    /// A thousand links of 20 m in a row over two slots.
+    Corridor,
 }
 
 /// The four files of a case.
@@ -37,38 +44,72 @@ fn folder_of(
     Ok(folder)
 }
 
-fn one_road(alloc: Global, links: &str) -> Result<MemFolder, NoMemory> {
+fn one_road(alloc: Global, setup: &str, links: &str) -> Result<MemFolder, NoMemory> {
     folder_of(
         alloc,
-        "step_ms,slots,origin_capacity\n1000,4,1\n",
+        setup,
         links,
         "origin,destination,from_slot,to_slot,vehicles\nn1,n2,0,2,1\n",
         "node,destination,from_slot,weights\nn1,n2,0,a=1\n",
     )
 }
 
-fn two_roads(alloc: Global) -> Result<MemFolder, NoMemory> {
+fn two_roads(alloc: Global, slots: u32) -> Result<MemFolder, NoMemory> {
+    let setup = format!(in alloc; "step_ms,slots,origin_capacity\n1000,{slots},1\n")?;
     folder_of(
         alloc,
-        "step_ms,slots,origin_capacity\n1000,12,1\n",
+        &setup,
         "link,from,to,length_m,free_kmh,wave_kmh,jam_per_km\na,n1,n2,20,36,18,150\nb,n2,n3,20,36,18,150\n",
         "origin,destination,from_slot,to_slot,vehicles\nn1,n3,0,5,5\n",
         "node,destination,from_slot,weights\nn1,n3,0,a=1\nn2,n3,0,b=1\n",
     )
 }
 
+fn corridor(alloc: Global) -> Result<MemFolder, NoMemory> {
+    let mut links = String::from_str(
+        alloc,
+        "link,from,to,length_m,free_kmh,wave_kmh,jam_per_km\n",
+    )?;
+    let mut splits = String::from_str(alloc, "node,destination,from_slot,weights\n")?;
+    for tail in 0..1000u32 {
+        let head = tail + 1;
+        write!(links, "l{tail},n{tail},n{head},20,36,18,150\n")?;
+        write!(splits, "n{tail},n1000,0,l{tail}=1\n")?;
+    }
+    folder_of(
+        alloc,
+        "step_ms,slots,origin_capacity\n1000,2,1\n",
+        &links,
+        "origin,destination,from_slot,to_slot,vehicles\nn0,n1000,0,2,1\n",
+        &splits,
+    )
+}
+
+const FOUR_SLOTS: &str = "step_ms,slots,origin_capacity\n1000,4,1\n";
+
+const THREE_SLOTS: &str = "step_ms,slots,origin_capacity\n1000,3,1\n";
+
+const TWENTY_METRES: &str =
+    "link,from,to,length_m,free_kmh,wave_kmh,jam_per_km\na,n1,n2,20,36,18,150\n";
+
+const TWENTY_FIVE_METRES: &str =
+    "link,from,to,length_m,free_kmh,wave_kmh,jam_per_km\na,n1,n2,25,36,18,150\n";
+
 fn folder(alloc: Global, case: Case) -> Result<MemFolder, NoMemory> {
     match case {
-        Case::OneRoad => one_road(
-            alloc,
-            "link,from,to,length_m,free_kmh,wave_kmh,jam_per_km\na,n1,n2,20,36,18,150\n",
-        ),
-        Case::LongerRoad => one_road(
-            alloc,
-            "link,from,to,length_m,free_kmh,wave_kmh,jam_per_km\na,n1,n2,25,36,18,150\n",
-        ),
-        Case::TwoRoads => two_roads(alloc),
+        Case::OneRoad => one_road(alloc, FOUR_SLOTS, TWENTY_METRES),
+        Case::LongerRoad => one_road(alloc, FOUR_SLOTS, TWENTY_FIVE_METRES),
+        Case::ShortRoad => one_road(alloc, THREE_SLOTS, TWENTY_METRES),
+        Case::TwoRoads => two_roads(alloc, 12),
+        Case::TwoRoadsOver(slots) => two_roads(alloc, slots),
+        Case::Corridor => corridor(alloc),
     }
+}
+
+/// The scenario of a case; none without memory.
+pub fn scenario_of(alloc: Global, case: Case) -> Option<Scenario> {
+    let mut folder = folder(alloc, case).ok()?;
+    read_case(alloc, &mut folder).ok()
 }
 
 /// The core of the case in a folder; none without memory.
@@ -149,6 +190,21 @@ fn serve_script(alloc: Global, case: Case, script: &[u8]) -> Option<(Outcome, Su
 }
 
 /// Serves a script, and compares what is written and how that ends.
+pub fn expect_bytes(
+    rt: &impl Abort,
+    alloc: Global,
+    case: Case,
+    script: &[u8],
+    output: &[u8],
+    end: SessionEnd,
+) -> Outcome {
+    let (outcome, sink) = serve_script(alloc, case, script).expect(rt, "memory");
+    assert!(rt; sink.written() == output);
+    assert!(rt; outcome.end == end);
+    outcome
+}
+
+/// The same, where the output is a text.
 pub fn expect_served(
     rt: &impl Abort,
     alloc: Global,
@@ -157,10 +213,7 @@ pub fn expect_served(
     output: &str,
     end: SessionEnd,
 ) -> Outcome {
-    let (outcome, sink) = serve_script(alloc, case, script).expect(rt, "memory");
-    assert!(rt; sink.written() == output.as_bytes());
-    assert!(rt; outcome.end == end);
-    outcome
+    expect_bytes(rt, alloc, case, script, output.as_bytes(), end)
 }
 
 /// The same, where the script is answered to its end.

@@ -9,6 +9,8 @@ mod cases;
 #[cfg(test)]
 mod failing;
 #[cfg(test)]
+mod horizons;
+#[cfg(test)]
 mod lines;
 #[cfg(test)]
 mod repairs;
