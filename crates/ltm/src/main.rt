@@ -18,9 +18,19 @@ use run::run_alone;
 use std::process::ExitCode;
 use std::{env, io};
 
+/// The exit status where the process is not given its words.
+fn without_words(fault: &io::Error) -> u8 {
+    if fault.kind() == io::ErrorKind::OutOfMemory {
+        Status::NoMemory.number()
+    } else {
+        1
+    }
+}
+
 fn main(rt: HostRuntime) -> ExitCode {
-    let Ok(args) = env::args(&rt) else {
-        return ExitCode::from(1);
+    let args = match env::args(&rt) {
+        Ok(args) => args,
+        Err(fault) => return ExitCode::from(without_words(&fault)),
     };
     let alloc = rt.alloc();
     let mut words = Vec::new(alloc);
