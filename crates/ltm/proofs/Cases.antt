@@ -12,8 +12,7 @@ use Rattle.ltm_core.specs.Log.{version_now}
 use Rattle.ltm_core.specs.Cores.{CoreData}
 use Rattle.ltm_core.specs.CoreAnswers.{IsOpeningCore}
 use Rattle.ltm_session.specs.declared.ends.SessionEnd.{SessionEnd}
-use Rattle.ltm_session.specs.Answers.{AnswersAlone}
-use Rattle.ltm_session.specs.Session.{end_of}
+use Rattle.ltm_session.specs.Session.{Answering, end_of}
 use Rattle.ltm_texts.specs.declared.status.Status.{Status}
 use Rattle.ltm_texts.specs.declared.status.Status.TheVariants as ending
 use Rattle.ltm_texts.specs.Answers.{Describes}
@@ -29,15 +28,15 @@ unfolding version_now
 nothing_accepted s d opens = ap version_now opens.log
 
 -- ---- a case that is refused
-pub refused_whole : (told : Option Files) (script old new : Option (List ℕ)) (f : CaseFault) (result : Status) → Describes told (Err f)
+pub refused_whole : {answers : Answering} (told : Option Files) (script old new : Option (List ℕ)) (f : CaseFault) (result : Status) → Describes told (Err f)
     → (result ≡ case_status f) ⊎ ((result ≡ ending.WriteFault) ⊎ (result ≡ ending.NoMemory)) → (result ≡ case_status f → new ≡ appended (refusal_of f) old)
-    → IsWhole result → (text : List ℕ) × IsSessionUnder AnswersAlone told script result text × (new ≡ appended text old)
+    → IsWhole result → (text : List ℕ) × IsSessionUnder answers told script result text × (new ≡ appended text old)
 refused_whole told script old new f result describes (inl well) wrote whole = (refusal_of f, inl (f, describes, well, refl), wrote well)
 refused_whole told script old new f result describes (inr (inl failed)) wrote whole = absurd (subst IsWhole failed whole)
 refused_whole told script old new f result describes (inr (inr none)) wrote whole = absurd (subst IsWhole none whole)
 
-pub refused_front : (told : Option Files) (script old new : Option (List ℕ)) (f : CaseFault) → Describes told (Err f) → (new ≡ old) ⊎ AppendsFront old new (refusal_of f)
-    → WritesSessionFront AnswersAlone told script old new
+pub refused_front : {answers : Answering} (told : Option Files) (script old new : Option (List ℕ)) (f : CaseFault) → Describes told (Err f) → (new ≡ old) ⊎ AppendsFront old new (refusal_of f)
+    → WritesSessionFront answers told script old new
 refused_front told script old new f describes (inl same) = inl same
 refused_front told script old new f describes (inr front) = inr (case_status f, refusal_of f, inl (f, describes, refl, refl), front)
 
@@ -49,14 +48,14 @@ completes_refused told files script f result describes is quiet (inr (inl failed
 completes_refused told files script f result describes is quiet (inr (inr none)) = inr none
 
 -- ---- a case that is served
-pub case_whole : (told : Option Files) (script old new : Option (List ℕ)) (s : ScenarioData) (result : Status) → Describes told (Ok s)
-    → (IsWhole result → (end : SessionEnd) × (text : List ℕ) × (result ≡ status_of_end end) × IsServed AnswersAlone s script end text × (new ≡ appended text old))
-    → IsWhole result → (text : List ℕ) × IsSessionUnder AnswersAlone told script result text × (new ≡ appended text old)
+pub case_whole : {answers : Answering} (told : Option Files) (script old new : Option (List ℕ)) (s : ScenarioData) (result : Status) → Describes told (Ok s)
+    → (IsWhole result → (end : SessionEnd) × (text : List ℕ) × (result ≡ status_of_end end) × IsServed answers s script end text × (new ≡ appended text old))
+    → IsWhole result → (text : List ℕ) × IsSessionUnder answers told script result text × (new ≡ appended text old)
 case_whole told script old new s result describes serves whole =
     let (end, text, is, served, wrote) = serves whole in (text, inr (s, end, describes, is, served), wrote)
 
-pub case_front : (told : Option Files) (script old new : Option (List ℕ)) (s : ScenarioData) → Describes told (Ok s)
-    → (new ≡ old) ⊎ ((end : SessionEnd) × (text : List ℕ) × IsServed AnswersAlone s script end text × AppendsFront old new text) → WritesSessionFront AnswersAlone told script old new
+pub case_front : {answers : Answering} (told : Option Files) (script old new : Option (List ℕ)) (s : ScenarioData) → Describes told (Ok s)
+    → (new ≡ old) ⊎ ((end : SessionEnd) × (text : List ℕ) × IsServed answers s script end text × AppendsFront old new text) → WritesSessionFront answers told script old new
 case_front told script old new s describes (inl same) = inl same
 case_front told script old new s describes (inr (end, text, served, front)) = inr (status_of_end end, text, inr (s, end, describes, refl, served), front)
 

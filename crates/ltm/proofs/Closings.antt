@@ -9,8 +9,7 @@ use Rattle.ltm_scenario.specs.Data.{ScenarioData}
 use Rattle.ltm_session.specs.declared.ends.SessionEnd.{SessionEnd}
 use Rattle.ltm_session.specs.declared.ends.SessionEnd.TheVariants as end
 use Rattle.ltm_session.specs.Analysts.{Analysts, opening_state}
-use Rattle.ltm_session.specs.Answers.{AnswersAlone}
-use Rattle.ltm_session.specs.Session.{IsOutputAlone, AnswersLines, IsSession, Wrote, EndsBefore, end_of}
+use Rattle.ltm_session.specs.Session.{Answering, AnswersLines, IsSession, Wrote, EndsBefore, end_of}
 use Rattle.ltm_session.proofs.Progress.{nothing_more, appended_more, whole_front, front_more}
 use Rattle.ltm_texts.specs.declared.status.Status.{Status}
 use Rattle.ltm_texts.specs.declared.status.Status.TheVariants as ending
@@ -54,10 +53,10 @@ wrote_whole end.ReadFault old now output whole wrote = wrote
 wrote_whole end.WriteFault old now output whole wrote = absurd whole
 wrote_whole end.NoMemory old now output whole wrote = absurd whole
 
-pub closed_whole : (s : ScenarioData) (script old now new : Option (List ℕ)) (e : SessionEnd) (output : List ℕ) (t : Analysts) (result : Status)
-    → IsSession AnswersAlone s script e output t → Wrote e old now output → (result ≡ status_of_end e) ⊎ ((result ≡ ending.WriteFault) ⊎ (result ≡ ending.NoMemory))
+pub closed_whole : {answers : Answering} (s : ScenarioData) (script old now new : Option (List ℕ)) (e : SessionEnd) (output : List ℕ) (t : Analysts) (result : Status)
+    → IsSession answers s script e output t → Wrote e old now output → (result ≡ status_of_end e) ⊎ ((result ≡ ending.WriteFault) ⊎ (result ≡ ending.NoMemory))
     → (IsWhole result → new ≡ appended (closing_of e) now) → IsWhole result
-    → (end : SessionEnd) × (text : List ℕ) × (result ≡ status_of_end end) × IsServed AnswersAlone s script end text × (new ≡ appended text old)
+    → (end : SessionEnd) × (text : List ℕ) × (result ≡ status_of_end end) × IsServed answers s script end text × (new ≡ appended text old)
 closed_whole s script old now new e output t result so wrote (inl well) closed whole =
     let all : now ≡ appended output old = wrote_whole e old now output (subst IsWhole well whole) wrote in
     (e, output ++ closing_of e, well, (output, t, so, refl), closed whole ∙ ap (appended (closing_of e)) all ∙ appended_more old output (closing_of e))
@@ -65,29 +64,33 @@ closed_whole s script old now new e output t result so wrote (inr (inl failed)) 
 closed_whole s script old now new e output t result so wrote (inr (inr none)) closed whole = absurd (subst IsWhole none whole)
 
 -- ---- a session that ended well
-pub ended_whole : (s : ScenarioData) (script left old now : Option (List ℕ)) (e : SessionEnd) (output : List ℕ) (t : Analysts) → e ≡ end.Ended
-    → IsSession AnswersAlone s script e output t → Wrote e old now output → ((lines : List ℕ) → script ≡ Some lines → e ≡ end.Ended → left ≡ Some [])
-    → ServesWhole IsOutputAlone s script left old now
-ended_whole s None left old now e output t is so wrote read = tt
-ended_whole s (Some lines) left old now e output t is so wrote read =
+-- an output by this rule of answers
+abbrev pub IsOutputBy : Answering → ScenarioData → List ℕ → List ℕ → Type 0
+IsOutputBy answers s script output = (t : Analysts) × AnswersLines answers (opening_state s) (lines_of script) output t
+
+pub ended_whole : {answers : Answering} (s : ScenarioData) (script left old now : Option (List ℕ)) (e : SessionEnd) (output : List ℕ) (t : Analysts) → e ≡ end.Ended
+    → IsSession answers s script e output t → Wrote e old now output → ((lines : List ℕ) → script ≡ Some lines → e ≡ end.Ended → left ≡ Some [])
+    → ServesWhole (IsOutputBy answers) s script left old now
+ended_whole {answers = answers} s None left old now e output t is so wrote read = tt
+ended_whole {answers = answers} s (Some lines) left old now e output t is so wrote read =
     let (rest, cut, before) = so.ends in
     let none : rest ≡ [] = subst (λ x. EndsBefore x (length so.answered) rest) is before in
     let all : lines_of lines ≡ so.answered = cut ∙ ap (λ r. so.answered ++ r) none ∙ append-nil so.answered in
-    let runs = subst (λ ls. AnswersLines AnswersAlone (opening_state s) ls output t) (sym all) so.runs in
+    let runs = subst (λ ls. AnswersLines answers (opening_state s) ls output t) (sym all) so.runs in
     (output, (t, runs), subst (λ x. Wrote x old now output) is wrote, read lines refl is)
 
 -- and no line closes it
-pub ended_well : (s : ScenarioData) (script left old now new : Option (List ℕ)) (e : SessionEnd) (output : List ℕ) (t : Analysts) → e ≡ end.Ended
-    → IsSession AnswersAlone s script e output t → Wrote e old now output → ((lines : List ℕ) → script ≡ Some lines → e ≡ end.Ended → left ≡ Some [])
-    → new ≡ appended (closing_of e) now → ServesWhole IsOutputAlone s script left old new
-ended_well s script left old now new e output t is so wrote read closed =
-    subst (λ x. ServesWhole IsOutputAlone s script left old x) (sym (closed ∙ ap (λ k. appended (closing_of k) now) is ∙ sym (nothing_more now)))
+pub ended_well : {answers : Answering} (s : ScenarioData) (script left old now new : Option (List ℕ)) (e : SessionEnd) (output : List ℕ) (t : Analysts) → e ≡ end.Ended
+    → IsSession answers s script e output t → Wrote e old now output → ((lines : List ℕ) → script ≡ Some lines → e ≡ end.Ended → left ≡ Some [])
+    → new ≡ appended (closing_of e) now → ServesWhole (IsOutputBy answers) s script left old new
+ended_well {answers = answers} s script left old now new e output t is so wrote read closed =
+    subst (λ x. ServesWhole (IsOutputBy answers) s script left old x) (sym (closed ∙ ap (λ k. appended (closing_of k) now) is ∙ sym (nothing_more now)))
     (ended_whole s script left old now e output t is so wrote read)
 
 -- ---- fronts of a whole session
-pub served_front : (s : ScenarioData) (script old now new : Option (List ℕ)) (e : SessionEnd) (output : List ℕ) (t : Analysts)
-    → IsSession AnswersAlone s script e output t → Wrote e old now output → (new ≡ now) ⊎ AppendsFront now new (closing_of e)
-    → (new ≡ old) ⊎ ((end : SessionEnd) × (text : List ℕ) × IsServed AnswersAlone s script end text × AppendsFront old new text)
+pub served_front : {answers : Answering} (s : ScenarioData) (script old now new : Option (List ℕ)) (e : SessionEnd) (output : List ℕ) (t : Analysts)
+    → IsSession answers s script e output t → Wrote e old now output → (new ≡ now) ⊎ AppendsFront now new (closing_of e)
+    → (new ≡ old) ⊎ ((end : SessionEnd) × (text : List ℕ) × IsServed answers s script end text × AppendsFront old new text)
 served_front s script old now new e output t so wrote front = inr (e, output ++ closing_of e, (output, t, so, refl), closed_front e old now new output wrote front)
 
 -- ---- statuses

@@ -1,3 +1,4 @@
 mod Closings
 mod Cases
 mod Sorting
+mod Crews

@@ -27,7 +27,7 @@ alone_none words found asks is = (λ test. cc, λ alone. let same : None ≡ Som
 heads_apart : (words : List (List ℕ)) (n : List ℕ) → (first_byte (first_word words) ≡ 115 → ⊥) → words ≡ codes "session" ∷ n ∷ [] → ⊥
 heads_apart words n other is = other (ap (λ ws. first_byte (first_word ws)) is)
 
-pub apart : (words : List (List ℕ)) (c : Command) → Asks words c → AsksSession words 0 → ⊥
+pub apart : {workers : ℕ} (words : List (List ℕ)) (c : Command) → Asks words c → AsksSession words workers → ⊥
 apart words ask.Load asks (n, is, few, counts, within) =
     let h : first_byte (first_word words) ≡ 108 = ap (λ ws. first_byte (first_word ws)) asks in heads_apart words n (λ e. absurd (omega (h, e, arith))) is
 apart words ask.Routes asks (n, is, few, counts, within) =

@@ -1,4 +1,4 @@
-//! - **What it is**: the program `ltm`. `main` only makes the real folder, input and output and calls `run_alone`, whose
+//! - **What it is**: the program `ltm`. `main` only makes the real folder, input and output and calls `run`, whose
 //!   contract is that of the whole program.
 //! - **On what it stands**: `ltm_texts` for the commands whose text is made whole before it is written, `ltm_session` for the
 //!   session, which answers a script line by line, and `ltm_casefile`, which reads the case.
@@ -8,13 +8,16 @@
 //!   another way. A command with a text of its own stands in `ltm_texts`.
 #![tactic(auto)]
 
+mod program;
 mod run;
 mod serve;
+mod serve_beside;
 
 use ltm_io::{RealFolder, RealOutput};
 use ltm_lines::RealInput;
 use ltm_texts::Status;
-use run::run_alone;
+use ltm_workers::PlainGate;
+use program::run;
 use std::process::ExitCode;
 use std::{env, io};
 
@@ -42,12 +45,14 @@ fn main(rt: HostRuntime) -> ExitCode {
     let mut folder = RealFolder::new(&rt);
     let mut output = RealOutput::new(io::writer(&rt));
     let mut input = RealInput::new(rt.reader());
-    let status = run_alone(
+    let status = run(
+        &rt,
         alloc,
         words.as_slice(),
         &mut folder,
         &mut input,
         &mut output,
+        &PlainGate,
     );
     ExitCode::from(status.number())
 }

@@ -160,7 +160,7 @@ pub fn run_alone<F: Folder, S: Source, W: Sink>(
 }
 
 #[cfg(test)]
-mod cases;
+pub(crate) mod cases;
 #[cfg(test)]
 mod networks;
 #[cfg(test)]

@@ -61,7 +61,7 @@ fn close_many<W: Sink>(alloc: Global, output: &mut W) -> Status
 }
 
 /// Writes the line that closes a session, where there is one, and says how the program ends.
-fn close<W: Sink>(alloc: Global, end: SessionEnd, output: &mut W) -> Status
+pub(crate) fn close<W: Sink>(alloc: Global, end: SessionEnd, output: &mut W) -> Status
     ensures answers { (result ≡ status_of_end end) ⊎ ((result ≡ Status.WriteFault) ⊎ (result ≡ Status.NoMemory)) }
     ensures wrote { IsWhole result → W.written output.new ≡ appended (closing_of end) (W.written output.old) }
     ensures front { (W.written output.new ≡ W.written output.old)
@@ -82,7 +82,7 @@ fn close<W: Sink>(alloc: Global, end: SessionEnd, output: &mut W) -> Status
 }
 
 /// Lets a core go.
-fn let_go(_core: Core) {}
+pub(crate) fn let_go(_core: Core) {}
 
 /// Serves the script of the input over a core.
 fn serve_core<S: Source, W: Sink>(

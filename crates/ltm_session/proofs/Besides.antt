@@ -66,7 +66,7 @@ line_beside laws s line text t is a = (
   finished laws s (reading line) text t is a,
 )
 
-lines_beside : (laws : LogLaws) (s : Analysts) (lines : List (List ℕ)) (output : List ℕ) (t : Analysts) → IsFinished s → AnswersLines AnswersAlone s lines output t → AnswersLines AnswersBeside s lines output t
+pub lines_beside : (laws : LogLaws) (s : Analysts) (lines : List (List ℕ)) (output : List ℕ) (t : Analysts) → IsFinished s → AnswersLines AnswersAlone s lines output t → AnswersLines AnswersBeside s lines output t
 lines_beside laws s [] output t is a = a
 lines_beside laws s (line ∷ lines) output t is (u, text, rest, first, others, whole) =
     let (beside, after) = line_beside laws s line text u is first in

@@ -1,9 +1,9 @@
 mod Reported
 mod Settled
-mod Opening
+pub mod Opening
 pub mod Progress
-mod Ending
-mod Besides
+pub mod Ending
+pub mod Besides
 mod SameReports
 mod OneOutput
-mod Looking
+pub mod Looking

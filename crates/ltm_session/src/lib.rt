@@ -21,4 +21,6 @@ mod settling;
 pub use answering::answer;
 pub use ends::SessionEnd;
 pub use laws::{alone_is_a_session, one_output};
-pub use serving::{Served, serve_alone};
+pub use replies::{reply, reply_fault};
+pub use script::{LONGEST_LINE, MOST_LINES, end_of_lines, next_line};
+pub use serving::{Served, serve_alone, write_answer};

@@ -93,11 +93,7 @@ fn reply_time(
 }
 
 /// Appends why a line is no command.
-pub(crate) fn reply_fault(
-    alloc: Global,
-    fault: CommandFault,
-    into: &mut Vec<u8>,
-) -> Result<(), NoMemory>
+pub fn reply_fault(alloc: Global, fault: CommandFault, into: &mut Vec<u8>) -> Result<(), NoMemory>
     requires { fault ≢ CommandFault.NoMemory }
     ensures ok { OnOk result ((text : List ℕ) × ((s : Analysts) → Replies s (Err fault) text s) × (into.new.items ≡ into.old.items ++ text)) }
     ensures err { OnErr result (into.new.items ≡ into.old.items) }
@@ -107,7 +103,7 @@ pub(crate) fn reply_fault(
 
 /// Answers a command that is no settle, and makes its event. It asks nothing of what is claimed or was counted.
 #[tactic(auto, using(crate::proofs::Looking::looks_refl))]
-pub(crate) fn reply(
+pub fn reply(
     alloc: Global,
     core: &mut Core,
     command: Command,

@@ -9,13 +9,13 @@ use crate::ends::SessionEnd;
 use ltm_lines::{Line, Lines, Source};
 
 /// The most bytes of a line.
-pub(crate) const LONGEST_LINE: u32 = 65_536;
+pub const LONGEST_LINE: u32 = 65_536;
 
 /// The most lines of a script.
-pub(crate) const MOST_LINES: u32 = 100_000;
+pub const MOST_LINES: u32 = 100_000;
 
 /// Reads the next line after so many, or says how the session ends.
-pub(crate) fn next_line<S: Source>(
+pub fn next_line<S: Source>(
     lines: &mut Lines,
     source: &mut S,
     answered: u32,
@@ -41,7 +41,7 @@ pub(crate) fn next_line<S: Source>(
 }
 
 /// How the session ends that has answered as many lines as a script may have.
-pub(crate) fn end_of_lines<S: Source>(lines: &mut Lines, source: &mut S) -> SessionEnd
+pub fn end_of_lines<S: Source>(lines: &mut Lines, source: &mut S) -> SessionEnd
     requires unkept { kept_by lines.old ≡ None }
     requires max { max_of lines.old ≡ 65536 }
     ensures end { EndsIfTold result 100000 (coming lines.old (S.left source.old)) (S.left source.new) }

@@ -51,7 +51,7 @@ fn take_seat(alloc: Global, core: &Core) -> Result<Seat, NoMemory>
 }
 
 /// Writes an answer.
-fn write_answer<W: Sink>(text: &[u8], sink: &mut W) -> Result<(), SessionEnd>
+pub fn write_answer<W: Sink>(text: &[u8], sink: &mut W) -> Result<(), SessionEnd>
     ensures ok { OnOk result (W.written sink.new ≡ appended text.now (W.written sink.old)) }
     ensures err { OnErr result (AppendsFront (W.written sink.old) (W.written sink.new) text.now) }
     ensures end { IfErr result (λ end. (end ≡ SessionEnd.WriteFault) ⊎ (end ≡ SessionEnd.NoMemory)) }

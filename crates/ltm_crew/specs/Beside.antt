@@ -1,0 +1,51 @@
+-- A session whose core is behind a turn: what was answered, between what its editor knew of the machine before and knows after.
+use Rattle.std.specs.Prelude.{◌≡◌, ℕ, ◌≤◌, List, [], Option, Some, None, Result}
+use Rattle.ltm_scenario.specs.Data.{ScenarioData}
+use Rattle.ltm_script.specs.declared.command.Command.{Command}
+use Rattle.ltm_script.specs.declared.command.CommandFault.{CommandFault}
+use Rattle.ltm_core.specs.declared.entry.LogEntry.{LogEntry}
+use Rattle.ltm_core.specs.Log.{entries_of, version_now}
+use Rattle.ltm_session.specs.declared.ends.SessionEnd.{SessionEnd}
+use Rattle.ltm_session.specs.declared.ends.SessionEnd.TheVariants.{Ended}
+use Rattle.ltm_session.specs.Analysts.{Analysts, opening_state}
+use Rattle.ltm_session.specs.Answers.{AnswersBeside}
+use Rattle.ltm_session.specs.Session.{AnswersLine, IsSession, Wrote}
+use Rattle.ltm_session.specs.Serving.{StopsAt, IsServing}
+
+-- the machine as an editor knows it, by the list that it last left and the greatest number that it has seen
+pub record IsKnown (s : Analysts) (list : List LogEntry) (seen : ℕ) : Type 0 where
+  pub list_is : list ≡ entries_of s.log
+  pub seen_is : s.shown ≤ seen
+  pub finished : s.shown ≤ version_now s.log
+
+-- what a line was read as was answered: from any machine that was known to one that is known now
+unfoldable pub SaidBeside : Result Command CommandFault → List ℕ → List LogEntry → ℕ → List LogEntry → ℕ → Type 0
+SaidBeside said text list seen list' seen' = (s : Analysts) → IsKnown s list seen → (t : Analysts) × AnswersBeside s said text t × IsKnown t list' seen'
+
+-- a line was answered
+unfoldable pub LineBeside : List ℕ → List ℕ → List LogEntry → ℕ → List LogEntry → ℕ → Type 0
+LineBeside line text list seen list' seen' = (s : Analysts) → IsKnown s list seen → (t : Analysts) × AnswersLine AnswersBeside s line text t × IsKnown t list' seen'
+
+-- a session stopped at a line
+unfoldable pub StopsBeside : List ℕ → SessionEnd → Option (List ℕ) → Option (List ℕ) → List LogEntry → ℕ → List LogEntry → ℕ → Type 0
+StopsBeside line end old new list seen list' seen' = (s : Analysts) → IsKnown s list seen →
+    (t : Analysts) × StopsAt AnswersBeside s line t end old new × IsKnown t list' seen'
+
+-- so many lines were read and answered, from an opening scenario that was known
+unfoldable pub ServingBeside : Option (List ℕ) → Option (List ℕ) → Option (List ℕ) → Option (List ℕ) → ℕ → List LogEntry → ℕ → List LogEntry → ℕ → Type 0
+ServingBeside told coming old new count list seen list' seen' = (o : ScenarioData) → IsKnown (opening_state o) list seen →
+    (t : Analysts) × IsServing AnswersBeside o told coming old new count t × IsKnown t list' seen'
+
+-- a session was served, from an opening scenario that was known
+unfoldable pub SessionBeside : Option (List ℕ) → SessionEnd → Option (List ℕ) → Option (List ℕ) → List LogEntry → ℕ → List LogEntry → ℕ → Type 0
+SessionBeside told end old new list seen list' seen' = (o : ScenarioData) → IsKnown (opening_state o) list seen →
+    (output : List ℕ) × (t : Analysts) × IsSession AnswersBeside o told end output t × Wrote end old new output × IsKnown t list' seen'
+
+-- what was told of a script is told of what is coming
+abbrev pub StaysTold : Option (List ℕ) → Option (List ℕ) → Type 0
+StaysTold None coming = Unit {0}
+StaysTold (Some script) coming = (rest : List ℕ) × (coming ≡ Some rest)
+
+-- with Ended a script that is told was read to its end
+unfoldable pub ReadsAll : Option (List ℕ) → SessionEnd → Option (List ℕ) → Type 0
+ReadsAll told end left = (script : List ℕ) → told ≡ Some script → end ≡ Ended → left ≡ Some []

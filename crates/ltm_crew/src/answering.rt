@@ -1,0 +1,165 @@
+//! A line beside workers.
+ghost use Rattle.std.specs.Prelude.{◌≡◌, ◌≢◌, ◌⊎◌, ◌++◌, ◌≤◌, ℕ, List, Ok, Err, OnOk, OnErr, IfErr};
+ghost use Rattle.ltm_io.specs.Faults.{Rose};
+ghost use Rattle.ltm_io.specs.Sink.{appended};
+ghost use Rattle.ltm_flows.specs.Shown.{version_of};
+ghost use Rattle.ltm_script.specs.Commands.{HasAmounts};
+ghost use Rattle.ltm_core.specs.declared.entry.LogEntry.{LogEntry};
+ghost use Rattle.ltm_core.specs.Log.{entries_of, version_now};
+ghost use Rattle.ltm_turn.specs.Passes.{turn_id, editor_turn, editor_list, editor_seen, editor_workers};
+ghost use Rattle.ltm_session.specs.Analysts.{state_of};
+ghost use Rattle.ltm_session.specs.Answers.{Replies};
+ghost use Rattle.ltm_crew.specs.Beside.{SaidBeside, LineBeside, StopsBeside};
+
+use ltm_core::{Core, Scratch, logs_tell_all};
+use ltm_io::Sink;
+use ltm_report::{ANSWER_ROOM, settled_text};
+use ltm_script::{Command, CommandFault, read_command};
+use ltm_session::{SessionEnd, reply, reply_fault, write_answer};
+use ltm_turn::{EditorPass, Turn};
+use ltm_units::NoMemory;
+use ltm_workers::settle_beside;
+use std::alloc::Global;
+use std::sync::Wait;
+
+/// Answers a command that is no settle, in a held turn.
+fn reply_held(
+    alloc: Global,
+    core: &mut Core,
+    command: Command,
+    text: &mut Vec<u8>,
+) -> Result<(), NoMemory>
+    requires amounts { HasAmounts command }
+    requires other { command ≢ Command.Settle }
+    ensures ok { OnOk result ((words : List ℕ) × Replies (state_of core.old) (Ok command) words (state_of core.new)
+        × (text.new.items ≡ text.old.items ++ words)) }
+    ensures err { OnErr result ((text.new.items ≡ text.old.items) × (core.new.log ≡ core.old.log)) }
+    ensures grows { (rest : List LogEntry) × (entries_of core.old.log ++ rest ≡ entries_of core.new.log) }
+    ensures shown { version_of core.new.shown ≡ version_of core.old.shown }
+    ensures finished { (version_of core.old.shown ≤ version_now core.old.log) × (version_of core.new.shown ≤ version_now core.new.log) }
+{
+    logs_tell_all();
+    let _before = core.shown();
+    let done = reply(alloc, core, command, text);
+    let _after = core.shown();
+    done
+}
+
+/// Whether batches are accepted whose loading is not shown yet.
+fn is_behind(core: &Core) -> bool {
+    core.shown().version() != core.version()
+}
+
+/// Answers a command that is no settle, in one turn. Where there is work to do then, a worker that sleeps is told.
+fn reply_beside<R: Wait>(
+    rt: &R,
+    alloc: Global,
+    turn: &Turn<Core>,
+    editor: EditorPass<Core>,
+    command: Command,
+    text: &mut Vec<u8>,
+) -> (EditorPass<Core>, Result<(), NoMemory>)
+    requires turn { editor_turn editor ≡ turn_id turn.now }
+    requires amounts { HasAmounts command }
+    requires other { command ≢ Command.Settle }
+    ensures turn { (editor_turn result.0 ≡ turn_id turn.now) × (editor_workers result.0 ≡ editor_workers editor) }
+    ensures ok { OnOk result.1 ((words : List ℕ) × SaidBeside (Ok command) words (editor_list editor) (editor_seen editor) (editor_list result.0) (editor_seen result.0)
+        × (text.new.items ≡ text.old.items ++ words)) }
+    ensures err { OnErr result.1 ((text.new.items ≡ text.old.items) × (editor_list result.0 ≡ editor_list editor) × (editor_seen editor ≤ editor_seen result.0)) }
+{
+    logs_tell_all();
+    let mut held = turn.take_editor(rt, editor);
+    let done = reply_held(alloc, held.get_mut(), command, text);
+    let behind = is_behind(held.get());
+    let editor = turn.give_editor(held);
+    if behind {
+        turn.tell_one();
+    }
+    (editor, done)
+}
+
+/// Settles, and appends the count. Its room is taken before.
+fn settle_line<R: Wait>(
+    rt: &R,
+    turn: &Turn<Core>,
+    editor: EditorPass<Core>,
+    scratch: Scratch,
+    text: &mut Vec<u8>,
+) -> (EditorPass<Core>, Scratch, Result<(), NoMemory>)
+    requires { editor_turn editor ≡ turn_id turn.now }
+    ensures turn { (editor_turn result.0 ≡ turn_id turn.now) × (editor_workers result.0 ≡ editor_workers editor) }
+    ensures ok { OnOk result.2 ((words : List ℕ) × SaidBeside (Ok Command.Settle) words (editor_list editor) (editor_seen editor) (editor_list result.0) (editor_seen result.0)
+        × (text.new.items ≡ text.old.items ++ words)) }
+    ensures err { OnErr result.2 ((text.new.items ≡ text.old.items) × (editor_list result.0 ≡ editor_list editor) × (editor_seen editor ≤ editor_seen result.0)) }
+{
+    logs_tell_all();
+    let Ok(()) = text.reserve(ANSWER_ROOM) else {
+        return (editor, scratch, Err(NoMemory));
+    };
+    let (editor, scratch, settled) = settle_beside(rt, turn, editor, scratch);
+    match settled_text(settled.version, settled.count, text) {
+        Ok(()) => return (editor, scratch, Ok(())),
+        Err(_) => unreachable!(),
+    }
+}
+
+/// Appends the answer to a line.
+fn answer_beside<R: Wait>(
+    rt: &R,
+    alloc: Global,
+    turn: &Turn<Core>,
+    editor: EditorPass<Core>,
+    scratch: Scratch,
+    line: &[u8],
+    text: &mut Vec<u8>,
+) -> (EditorPass<Core>, Scratch, Result<(), NoMemory>)
+    requires { editor_turn editor ≡ turn_id turn.now }
+    ensures turn { (editor_turn result.0 ≡ turn_id turn.now) × (editor_workers result.0 ≡ editor_workers editor) }
+    ensures ok { OnOk result.2 ((words : List ℕ) × LineBeside line.now words (editor_list editor) (editor_seen editor) (editor_list result.0) (editor_seen result.0)
+        × (text.new.items ≡ text.old.items ++ words)) }
+    ensures err { OnErr result.2 ((text.new.items ≡ text.old.items) × (editor_list result.0 ≡ editor_list editor) × (editor_seen editor ≤ editor_seen result.0)) }
+{
+    match read_command(alloc, line) {
+        Ok(Command::Settle) => return settle_line(rt, turn, editor, scratch, text),
+        Ok(command) => {
+            let (editor, done) = reply_beside(rt, alloc, turn, editor, command, text);
+            return (editor, scratch, done);
+        }
+        Err(CommandFault::NoMemory) => return (editor, scratch, Err(NoMemory)),
+        Err(fault) => {
+            let done = reply_fault(alloc, fault, text);
+            return (editor, scratch, done);
+        }
+    }
+}
+
+/// Answers one line beside workers, and writes the answer whole. No turn is held while it is written.
+pub(crate) fn line_beside<R: Wait, W: Sink>(
+    rt: &R,
+    alloc: Global,
+    turn: &Turn<Core>,
+    editor: EditorPass<Core>,
+    scratch: Scratch,
+    line: &[u8],
+    text: &mut Vec<u8>,
+    sink: &mut W,
+) -> (EditorPass<Core>, Scratch, Result<(), SessionEnd>)
+    requires { editor_turn editor ≡ turn_id turn.now }
+    ensures turn { (editor_turn result.0 ≡ turn_id turn.now) × (editor_workers result.0 ≡ editor_workers editor) }
+    ensures ok { OnOk result.2 ((words : List ℕ) × LineBeside line.now words (editor_list editor) (editor_seen editor) (editor_list result.0) (editor_seen result.0)
+        × (W.written sink.new ≡ appended words (W.written sink.old))) }
+    ensures err { IfErr result.2 (λ end. StopsBeside line.now end (W.written sink.old) (W.written sink.new) (editor_list editor) (editor_seen editor) (editor_list result.0) (editor_seen result.0)) }
+    ensures which { IfErr result.2 (λ end. (end ≡ SessionEnd.WriteFault) ⊎ (end ≡ SessionEnd.NoMemory)) }
+    ensures later { W.faults sink.old ≤ W.faults sink.new }
+    ensures fault { result.2 ≡ Err SessionEnd.WriteFault → Rose (W.faults sink.old) (W.faults sink.new) }
+{
+    text.clear();
+    let (editor, scratch, done) = answer_beside(rt, alloc, turn, editor, scratch, line, text);
+    let Ok(()) = done else {
+        return (editor, scratch, Err(SessionEnd::NoMemory));
+    };
+    match write_answer(text.as_slice(), sink) {
+        Ok(()) => return (editor, scratch, Ok(())),
+        Err(end) => return (editor, scratch, Err(end)),
+    }
+}

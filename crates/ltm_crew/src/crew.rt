@@ -1,0 +1,176 @@
+//! An editor and its workers.
+ghost use Rattle.std.specs.Prelude.{◌≡◌, ◌+◌, ◌≤◌, ℕ, List, [], Some, None, IfSome, IsSomeAnd};
+ghost use Rattle.std.specs.Thread.{IsSync};
+ghost use Rattle.ltm_io.specs.Faults.{Rose};
+ghost use Rattle.ltm_lines.specs.Lines.{max_of, taken_by, kept_by};
+ghost use Rattle.ltm_turn.specs.Passes.{turn_id, editor_turn, worker_turn, editor_list, editor_seen, editor_workers};
+ghost use Rattle.ltm_crew.specs.Beside.{SessionBeside, ReadsAll};
+
+use crate::answering::line_beside;
+use ltm_core::{Core, Scratch};
+use ltm_io::Sink;
+use ltm_lines::{Lines, Source};
+use ltm_session::{MOST_LINES, SessionEnd, end_of_lines, next_line};
+use ltm_turn::{EditorPass, Turn, WorkerPass};
+use ltm_workers::{Gate, stop_beside, work};
+use std::alloc::Global;
+use std::sync::Wait;
+use std::thread::{Threads, join_mut};
+
+/// What an editor and its workers work with: all memory but that of answers is taken before.
+#[derive(Drop)]
+pub(crate) struct Gear {
+    pub(crate) alloc: Global,
+    pub(crate) lines: Lines,
+    pub(crate) text: Vec<u8>,
+    pub(crate) scratch: Scratch,
+    pub(crate) scratches: Vec<Scratch>,
+}
+
+/// Answers all lines of a script beside workers.
+fn edit<R: Wait, S: Source, W: Sink>(
+    rt: &R,
+    turn: &Turn<Core>,
+    editor: EditorPass<Core>,
+    gear: Gear,
+    source: &mut S,
+    sink: &mut W,
+) -> (EditorPass<Core>, SessionEnd)
+    requires turn { editor_turn editor ≡ turn_id turn.now }
+    requires max { max_of gear.lines ≡ 65536 }
+    requires taken { taken_by gear.lines ≡ [] }
+    requires kept { kept_by gear.lines ≡ None }
+    ensures turn { (editor_turn result.0 ≡ turn_id turn.now) × (editor_workers result.0 ≡ editor_workers editor) }
+    ensures session { SessionBeside (S.left source.old) result.1 (W.written sink.old) (W.written sink.new) (editor_list editor) (editor_seen editor) (editor_list result.0) (editor_seen result.0) }
+    ensures read_fault { result.1 ≡ SessionEnd.ReadFault → Rose (S.faults source.old) (S.faults source.new) }
+    ensures write_fault { result.1 ≡ SessionEnd.WriteFault → Rose (W.faults sink.old) (W.faults sink.new) }
+    ensures read { ReadsAll (S.left source.old) result.1 (S.left source.new) }
+    ensures later { W.faults sink.old ≤ W.faults sink.new }
+{
+    let Gear {
+        alloc,
+        mut lines,
+        mut text,
+        scratch,
+        scratches: _,
+    } = gear;
+    let mut editor = editor;
+    let mut scratch = scratch;
+    for answered in 0..MOST_LINES {
+        if let Err(end) = next_line(&mut lines, source, answered) {
+            return (editor, end);
+        }
+        let (after, idle, done) = line_beside(
+            rt,
+            alloc,
+            turn,
+            editor,
+            scratch,
+            lines.text(),
+            &mut text,
+            sink,
+        );
+        editor = after;
+        scratch = idle;
+        if let Err(end) = done {
+            return (editor, end);
+        }
+    }
+    let end = end_of_lines(&mut lines, source);
+    (editor, end)
+}
+
+/// Answers all lines of a script beside workers, and then stops the core, so that they end.
+fn edit_and_stop<R: Wait, S: Source, W: Sink>(
+    rt: &R,
+    turn: &Turn<Core>,
+    editor: EditorPass<Core>,
+    gear: Gear,
+    source: &mut S,
+    sink: &mut W,
+) -> (EditorPass<Core>, SessionEnd)
+    requires turn { editor_turn editor ≡ turn_id turn.now }
+    requires max { max_of gear.lines ≡ 65536 }
+    requires taken { taken_by gear.lines ≡ [] }
+    requires kept { kept_by gear.lines ≡ None }
+    ensures turn { (editor_turn result.0 ≡ turn_id turn.now) × (editor_workers result.0 ≡ editor_workers editor) }
+    ensures session { SessionBeside (S.left source.old) result.1 (W.written sink.old) (W.written sink.new) (editor_list editor) (editor_seen editor) (editor_list result.0) (editor_seen result.0) }
+    ensures read_fault { result.1 ≡ SessionEnd.ReadFault → Rose (S.faults source.old) (S.faults source.new) }
+    ensures write_fault { result.1 ≡ SessionEnd.WriteFault → Rose (W.faults sink.old) (W.faults sink.new) }
+    ensures read { ReadsAll (S.left source.old) result.1 (S.left source.new) }
+    ensures later { W.faults sink.old ≤ W.faults sink.new }
+{
+    let (editor, end) = edit(rt, turn, editor, gear, source, sink);
+    (stop_beside(rt, turn, editor), end)
+}
+
+/// Starts the workers one after another, and is the editor beside them; at the end it stops the core. A worker for which no
+/// thread can be made runs last, in this one, and ends at once.
+pub(crate) fn crew<R: Threads + Wait + Sync, S: Source, W: Sink, G: Gate>(
+    rt: &R,
+    turn: &Turn<Core>,
+    workers: u32,
+    editor: EditorPass<Core>,
+    gear: Gear,
+    source: &mut S,
+    sink: &mut W,
+    gate: &G,
+) -> (EditorPass<Core>, SessionEnd)
+    requires turn { editor_turn editor ≡ turn_id turn.now }
+    requires room { editor_workers editor + workers ≤ 64 }
+    requires max { max_of gear.lines ≡ 65536 }
+    requires taken { taken_by gear.lines ≡ [] }
+    requires kept { kept_by gear.lines ≡ None }
+    ensures turn { (editor_turn result.0 ≡ turn_id turn.now) × (editor_workers result.0 ≡ editor_workers editor) }
+    ensures session { SessionBeside (S.left source.old) result.1 (W.written sink.old) (W.written sink.new) (editor_list editor) (editor_seen editor) (editor_list result.0) (editor_seen result.0) }
+    ensures read_fault { result.1 ≡ SessionEnd.ReadFault → Rose (S.faults source.old) (S.faults source.new) }
+    ensures write_fault { result.1 ≡ SessionEnd.WriteFault → Rose (W.faults sink.old) (W.faults sink.new) }
+    ensures read { ReadsAll (S.left source.old) result.1 (S.left source.new) }
+    ensures later { W.faults sink.old ≤ W.faults sink.new }
+{
+    let mut gear = gear;
+    if workers == 0 {
+        return edit_and_stop(rt, turn, editor, gear, source, sink);
+    }
+    let Some(idle) = gear.scratches.pop() else {
+        return edit_and_stop(rt, turn, editor, gear, source, sink);
+    };
+    let mut editor = editor;
+    let pass = turn.split(&mut editor);
+    let rest = workers - 1;
+    let mut hand = Some((pass, idle));
+    let mut desk = Some((editor, gear));
+    let ((worker, _idle), (mut editor, end)) = join_mut(
+        rt,
+        &mut || -> (WorkerPass<Core>, Scratch)
+            requires { IsSync R.row × IsSync G.row × IsSomeAnd hand (λ p. worker_turn p.0 ≡ turn_id turn.now) }
+            ensures { (worker_turn result.0 ≡ turn_id turn.entry.now) × (hand.exit ≡ None) }
+        {
+            let Some((pass, idle)) = hand.take() else {
+                unreachable!()
+            };
+            work(rt, turn, pass, gate, idle)
+        },
+        &mut || -> (EditorPass<Core>, SessionEnd)
+            requires { IsSync R.row × IsSync G.row × IsSomeAnd desk (λ e. (editor_turn e.0 ≡ turn_id turn.now) × (editor_workers e.0 + rest ≤ 64)
+                × (max_of e.1.lines ≡ 65536) × (taken_by e.1.lines ≡ []) × (kept_by e.1.lines ≡ None)) }
+            ensures none { desk.exit ≡ None }
+            ensures turn { IfSome desk.entry (λ e. (editor_turn result.0 ≡ turn_id turn.entry.now) × (editor_workers result.0 ≡ editor_workers e.0)) }
+            ensures session { IfSome desk.entry (λ e. SessionBeside (S.left source.entry.now) result.1 (W.written sink.entry.now) (W.written sink.exit.now)
+                (editor_list e.0) (editor_seen e.0) (editor_list result.0) (editor_seen result.0)) }
+            ensures read_fault { result.1 ≡ SessionEnd.ReadFault → Rose (S.faults source.entry.now) (S.faults source.exit.now) }
+            ensures write_fault { result.1 ≡ SessionEnd.WriteFault → Rose (W.faults sink.entry.now) (W.faults sink.exit.now) }
+            ensures read { ReadsAll (S.left source.entry.now) result.1 (S.left source.exit.now) }
+            ensures later { W.faults sink.entry.now ≤ W.faults sink.exit.now }
+        {
+            let Some((editor, gear)) = desk.take() else {
+                unreachable!()
+            };
+            crew(rt, turn, rest, editor, gear, source, sink, gate)
+        },
+    );
+    let None = hand else { unreachable!() };
+    let None = desk else { unreachable!() };
+    turn.join(&mut editor, worker);
+    (editor, end)
+}

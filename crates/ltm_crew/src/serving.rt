@@ -1,0 +1,105 @@
+//! A session beside workers.
+ghost use Rattle.std.specs.Prelude.{◌≡◌, ◌≢◌, ◌≤◌, ℕ, List, [], Some, None, IfOk, vec_len};
+ghost use Rattle.ltm_io.specs.Faults.{Rose};
+ghost use Rattle.ltm_lines.specs.Lines.{max_of, taken_by, kept_by};
+ghost use Rattle.ltm_core.specs.Log.{version_now};
+ghost use Rattle.ltm_session.specs.Analysts.{Analysts, state_of};
+ghost use Rattle.ltm_session.specs.Answers.{AnswersAlone, AnswersBeside};
+ghost use Rattle.ltm_session.specs.Session.{IsSession, Wrote, end_of};
+
+use crate::crew::{Gear, crew};
+use ltm_core::{Core, Scratch, logs_tell_all};
+use ltm_io::Sink;
+use ltm_lines::{Lines, Source};
+use ltm_session::{LONGEST_LINE, Served, SessionEnd, serve_alone};
+use ltm_turn::Turn;
+use ltm_units::NoMemory;
+use ltm_workers::Gate;
+use std::alloc::Global;
+use std::sync::Wait;
+use std::thread::Threads;
+
+/// The buffers of so many workers.
+fn scratches_of(alloc: Global, core: &Core, workers: u32) -> Result<Vec<Scratch>, NoMemory> {
+    let mut scratches = Vec::new(alloc);
+    for _worker in 0..workers {
+        scratches.push(core.scratch()?)?;
+    }
+    Ok(scratches)
+}
+
+/// Takes the memory that an editor and so many workers need beside the answers.
+fn take_gear(alloc: Global, core: &Core, workers: u32) -> Result<Gear, NoMemory>
+    ensures max { IfOk result (λ gear. max_of gear.lines ≡ 65536) }
+    ensures taken { IfOk result (λ gear. taken_by gear.lines ≡ []) }
+    ensures kept { IfOk result (λ gear. kept_by gear.lines ≡ None) }
+{
+    let lines = Lines::create(alloc, LONGEST_LINE)?;
+    let scratch = core.scratch()?;
+    let scratches = scratches_of(alloc, core, workers)?;
+    Ok(Gear {
+        alloc,
+        lines,
+        text: Vec::new(alloc),
+        scratch,
+        scratches,
+    })
+}
+
+/// Serves a script with up to 64 workers beside the caller's thread, which is the editor: each line is answered in order, and
+/// its answer is written whole before the next line is read. Without workers it is `serve_alone`.
+///
+/// The core has accepted nothing, as `Core::create` gives it. A worker for which no thread can be made is left out. The core
+/// that is handed back has the log of the lines that were answered; with workers it is stopped.
+pub fn serve<R: Threads + Wait + Sync, S: Source, W: Sink, G: Gate>(
+    rt: &R,
+    alloc: Global,
+    core: Core,
+    workers: u32,
+    source: &mut S,
+    sink: &mut W,
+    gate: &G,
+) -> Served
+    requires workers { workers ≤ 64 }
+    requires fresh { version_now core.log ≡ 0 }
+    // What was answered, what was written of it, how that ended, and the log then.
+    ensures session { (output : List ℕ) × (t : Analysts) × IsSession AnswersBeside core.log.opening (S.left source.old) result.end output t
+        × Wrote result.end (W.written sink.old) (W.written sink.new) output × (result.core.log ≡ t.log) }
+    ensures alone { workers ≡ 0 → (output : List ℕ) × IsSession AnswersAlone core.log.opening (S.left source.old) result.end output (state_of result.core)
+        × Wrote result.end (W.written sink.old) (W.written sink.new) output }
+    // Where nothing failed, the session ended as its script says.
+    ensures end { (script : List ℕ) → S.left source.old ≡ Some script → result.end ≢ SessionEnd.ReadFault → result.end ≢ SessionEnd.WriteFault
+        → result.end ≢ SessionEnd.NoMemory → result.end ≡ end_of script }
+    ensures read { (script : List ℕ) → S.left source.old ≡ Some script → result.end ≡ SessionEnd.Ended → S.left source.new ≡ Some [] }
+    // A fault of the outside is told only where a count of faults rose.
+    ensures read_fault { result.end ≡ SessionEnd.ReadFault → Rose (S.faults source.old) (S.faults source.new) }
+    ensures write_fault { result.end ≡ SessionEnd.WriteFault → Rose (W.faults sink.old) (W.faults sink.new) }
+    ensures later { W.faults sink.old ≤ W.faults sink.new }
+{
+    logs_tell_all();
+    if workers == 0 {
+        return serve_alone(alloc, core, source, sink);
+    }
+    core.holds();
+    let Ok(gear) = take_gear(alloc, &core, workers) else {
+        return Served {
+            end: SessionEnd::NoMemory,
+            core,
+        };
+    };
+    match Turn::create(alloc, core) {
+        Ok((turn, editor)) => {
+            let (editor, end) = crew(rt, &turn, workers, editor, gear, source, sink, gate);
+            return Served {
+                end,
+                core: turn.close(editor),
+            };
+        }
+        Err((core, _)) => {
+            return Served {
+                end: SessionEnd::NoMemory,
+                core,
+            };
+        }
+    }
+}
