@@ -6,7 +6,7 @@ use Rattle.ltm_scenario.specs.declared.edit.Edit.{Edit}
 use Rattle.ltm_scenario.specs.declared.edit.EditFault.{EditFault}
 use Rattle.ltm_scenario.specs.declared.edit.EditCause.TheVariants.{NoMemory}
 use Rattle.ltm_scenario.specs.Data.{ScenarioData}
-use Rattle.ltm_scenario.specs.Edits.{edited_all}
+use Rattle.ltm_scenario.specs.Edits.{edited_all, horizon_after}
 use Rattle.ltm_scenario.specs.Valid.{IsValid}
 use Rattle.ltm_scenario.specs.IsScenario.{IsScenario}
 use Rattle.ltm_scenario.specs.Shape.{SameShape}
@@ -30,6 +30,7 @@ use Rattle.ltm_core.specs.Laws.{RepairLaws}
 use Rattle.ltm_core.specs.Cores.{CoreData, desk_in, repair_of, IsNoneOut, IsAlike, IsLog, IsCore}
 use Rattle.ltm_core.specs.CoreAnswers.{AcceptsBatch, LooksAs, TellsAccept}
 use Rattle.ltm_core.specs.Taking.{TakesBatch}
+use Rattle.ltm_core.specs.Reaching.{MayReach}
 use Rattle.ltm_core.proofs.Logs.{version_batch, settled_batch, earlier_scenario, last_scenario, accepted_now, holds_more, opening_batch}
 use Rattle.ltm_core.proofs.Cores.{core_now, after_event, none_there}
 use Rattle.ltm_core.proofs.Showings.{shown_low}
@@ -193,6 +194,10 @@ core_refuses d v batch u l log f same is table shown e back cause = (
   λ other. absurd (other cause),
 )
 
+-- ---- a batch that is refused before any room is made
+pub core_stays : (d : CoreData) (next : ScenarioData) → IsCore d → next ≡ d.scenario → IsCore (record d { scenario = next })
+core_stays d next is same = subst (λ (z : ScenarioData). IsCore (record d { scenario = z })) (sym same) is
+
 -- the core with more room, where no memory is left for the rest
 pub core_roomy : (d : CoreData) (u : Table) (l : Loading) (log : Log) → IsCore d → TableSeenAs d.table u → SeenAs d.shown l → log ≡ d.log → IsCore (record d { log = log; table = u; shown = l })
 core_roomy d u l log is table shown same = subst (λ (z : Log). IsCore (record d { log = z; table = u; shown = l })) (sym same) (core_looks d u l is table shown)
@@ -205,6 +210,10 @@ no_memory_tells d v batch u l log r same is table shown e told =
 
 pub kept_log : (o : ScenarioData) (b c : List (List Edit)) (m n : List Bool) → c ≡ b → n ≡ m → log_of o c n ≡ log_of o b m
 kept_log o b c m n batches marks = ap (λ (z : List (List Edit)). log_of o z n) batches ∙ ap (λ (z : List Bool). log_of o b z) marks
+
+pub reach_there : (d v : CoreData) (batch : List Edit) (slots : ℕ) → d ≡ v → slots ≡ horizon_after d.scenario.setup.slots batch → MayReach d.scenario slots → MayReach v.scenario (horizon_after v.scenario.setup.slots batch)
+reach_there d v batch slots same asked may =
+    subst (λ (z : CoreData). MayReach z.scenario (horizon_after z.scenario.setup.slots batch)) same (subst (λ (n : ℕ). MayReach d.scenario n) asked may)
 
 -- ---- how scenario and table take a batch in
 pub have_slots : (s : ScenarioData) → IsScenario s → HaveSlots s

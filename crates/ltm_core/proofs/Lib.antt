@@ -1,5 +1,6 @@
 pub mod Logs
 pub mod Widths
+pub mod Reaching
 pub mod Cores
 pub mod Claimings
 pub mod Committings
@@ -9,3 +10,4 @@ pub mod Looking
 pub mod Batches
 pub mod Beginnings
 pub mod Running
+pub mod Production

@@ -9,8 +9,10 @@
 mod answers;
 mod claim;
 mod entry;
+mod horizons;
 mod kept_core;
 mod laws;
+mod producing;
 mod scratch;
 
 pub use answers::{Claimed, Committed, Published};

@@ -11,6 +11,8 @@ mod claims;
 #[cfg(test)]
 mod drives;
 #[cfg(test)]
+mod horizons;
+#[cfg(test)]
 mod rig;
 #[cfg(test)]
 mod roads;

@@ -82,8 +82,7 @@ pub fn rig_of(alloc: Global, case: Case) -> Option<Rig> {
 
 /// Has a batch accepted.
 fn accept(core: &mut Core, batch: Batch) -> Told {
-    let slots = core.scenario().setup().slots;
-    if !batch.has_amounts() || batch.horizon(slots) != slots {
+    if !batch.has_amounts() {
         return Told::Nothing;
     }
     match core.accept(batch) {

@@ -15,6 +15,8 @@ pub enum Case {
     /// Link `a` from `n1` to `n2` of 20 m, 36 and 18 km/h and 150 vehicles per km, over four slots of a second: capacity
     /// 500, free-flow time 2 slots, wave time 4 slots. A vehicle of 1000 units starts in the first two slots.
     OneRoad,
+    /// The first three slots of it.
+    ShortRoad,
     /// Two such links in a row, `a` and `b`, over twelve slots; five vehicles start in the first five.
     TwoRoads,
 }
@@ -32,10 +34,14 @@ pub enum Change {
     FasterWave,
     /// The demand of the one road, set again.
     SameDemand,
+    /// So many slots.
+    Slots(u32),
+    /// Five slots, and then the entry of `z`, which is no link, is closed in slot 0.
+    FiveSlotsThenZ,
 }
 
-fn one_road(folder: &mut MemFolder) -> Result<(), NoMemory> {
-    folder.put(Doc::Setup, b"step_ms,slots,origin_capacity\n1000,4,1\n")?;
+fn one_road(folder: &mut MemFolder, setup: &[u8]) -> Result<(), NoMemory> {
+    folder.put(Doc::Setup, setup)?;
     folder.put(
         Doc::Links,
         b"link,from,to,length_m,free_kmh,wave_kmh,jam_per_km\na,n1,n2,20,36,18,150\n",
@@ -70,7 +76,8 @@ fn two_roads(folder: &mut MemFolder) -> Result<(), NoMemory> {
 fn files(alloc: Global, case: Case) -> Result<MemFolder, NoMemory> {
     let mut folder = MemFolder::create(alloc, &[])?;
     match case {
-        Case::OneRoad => one_road(&mut folder)?,
+        Case::OneRoad => one_road(&mut folder, b"step_ms,slots,origin_capacity\n1000,4,1\n")?,
+        Case::ShortRoad => one_road(&mut folder, b"step_ms,slots,origin_capacity\n1000,3,1\n")?,
         Case::TwoRoads => two_roads(&mut folder)?,
     }
     Ok(folder)
@@ -132,5 +139,10 @@ pub fn batch_of(alloc: Global, change: Change) -> Option<Batch> {
         Change::CloseAThenZ => Batch::of(alloc, &[closure("a", 1)?, closure("z", 1)?]).ok(),
         Change::FasterWave => Batch::of(alloc, &[faster_wave()?]).ok(),
         Change::SameDemand => Batch::of(alloc, &[same_demand()?]).ok(),
+        Change::Slots(slots) => Batch::of(alloc, &[Edit::Horizon { slots }]).ok(),
+        Change::FiveSlotsThenZ => Batch::of(
+            alloc,
+            &[Edit::Horizon { slots: 5 }, closure("z", 1)?],
+        ).ok(),
     }
 }

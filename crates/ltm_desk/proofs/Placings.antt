@@ -8,13 +8,13 @@ use Rattle.ltm_loading.specs.Flows.{position}
 use Rattle.ltm_index.specs.declared.read_index.ReadIndex.{ReadIndex}
 use Rattle.ltm_index.specs.Lists.{links_of as links_in, entry_of, Places}
 use Rattle.ltm_desk.specs.Ready.{HasLists}
-use Rattle.ltm_desk.specs.Placing.{PlacesPair}
+use Rattle.ltm_desk.specs.Placing.{PlacesAt, PlacesPair}
 
 pub places_none : (s : Setting) (c : Counts) (x : ReadIndex) (u t : ℕ) → HasLists s x → PlacesPair s c x x u t 0
 places_none s c x u t lists = record { lists = lists; placed = λ i l. absurd (omega arith); others = λ l v m h. refl }
 
 pub places_next : (s : Setting) (c : Counts) (old mid new : ReadIndex) (u t n l k : ℕ) → IsSetting s → u < s.nodes → n < s.ins u → PlacesPair s c old mid u t n →
-    Places mid new l t k → s.in_link u n ≡ l → k ≡ position s c l t → PlacesPair s c old new u t (n + 1)
+    PlacesAt mid new l t k → s.in_link u n ≡ l → k ≡ position s c l t → PlacesPair s c old new u t (n + 1)
 places_next s c old mid new u t n l k is x below first next here at =
     let there : (i : ℕ) → i < s.ins u → s.in_link u i < s.links = λ i m. is.network.in_link_is_link u i x m in
     let placed_here : (i : ℕ) → s.in_link u i ≡ l → entry_of new (s.in_link u i) t ≡ Some (position s c (s.in_link u i) t) = λ i same.
@@ -37,3 +37,10 @@ places_next s c old mid new u t n l k is x below first next here at =
           next.other_entries m v in_mid (λ same slot. apart n (omega arith) (here ∙ sym same) slot)
           ∙ first.others m v within (λ i low same slot. apart i (omega arith) same slot);
     }
+
+-- a slot that is placed stands there, and so does one that is left there
+pub stands_placed : (old new : ReadIndex) (l v k : ℕ) → Places old new l v k → PlacesAt old new l v k
+stands_placed old new l v k placed = record { size = placed.size; entry = placed.entry; other_entries = placed.other_entries }
+
+pub stands_left : (x : ReadIndex) (l v k : ℕ) → entry_of x l v ≡ Some k → PlacesAt x x l v k
+stands_left x l v k at = record { size = record { links = refl; slots = refl; room = refl }; entry = at; other_entries = λ m w within apart. refl }

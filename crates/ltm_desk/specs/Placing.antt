@@ -5,7 +5,7 @@ use Rattle.ltm_loading.specs.Setting.{Setting}
 use Rattle.ltm_loading.specs.Flows.{position}
 use Rattle.ltm_loading.specs.Pairs.{pair_row}
 use Rattle.ltm_index.specs.declared.read_index.ReadIndex.{ReadIndex}
-use Rattle.ltm_index.specs.Lists.{entry_of}
+use Rattle.ltm_index.specs.Lists.{links_of, entry_of, SameSize}
 use Rattle.ltm_desk.specs.declared.rows.KeptRows.{KeptRows}
 use Rattle.ltm_desk.specs.Rows.{kept_row}
 use Rattle.ltm_desk.specs.Ready.{HasRows, HasLists}
@@ -13,6 +13,12 @@ use Rattle.ltm_desk.specs.Ready.{HasRows, HasLists}
 -- the slot stands in the list of its position of each of the first in-links of a node
 abbrev pub StandsAt : Setting → Counts → ReadIndex → ℕ → ℕ → ℕ → Type 0
 StandsAt s c x u t places = (i : ℕ) → i < places → entry_of x (s.in_link u i) t ≡ Some (position s c (s.in_link u i) t)
+
+-- a slot stands in the list of a boundary, and no other entry changes
+pub record PlacesAt (old new : ReadIndex) (l v k : ℕ) : Type 0 where
+  pub size : SameSize old new
+  pub entry : entry_of new l v ≡ Some k
+  pub other_entries : (m w : ℕ) → m < links_of old → (m ≡ l → w ≡ v → ⊥) → entry_of new m w ≡ entry_of old m w
 
 -- the positions of a pair are placed for the first in-links of its node, and no other entry changes
 pub record PlacesPair (s : Setting) (c : Counts) (old new : ReadIndex) (u t places : ℕ) : Type 0 where

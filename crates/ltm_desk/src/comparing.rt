@@ -2,8 +2,23 @@
 ghost use Rattle.std.specs.Prelude.{◌≡◌, ◌==◌, ◌↔◌, ◌^◌, ◌<◌, ℕ, length, slice_index, not, IsTrue};
 ghost use Rattle.ltm_pairs.specs.Changes.{some_below};
 
-/// Whether some number of a row is another one than stands beside it.
+/// Whether some number of a row is another one than stands beside it: of two numbers, as with two destinations, without a
+/// loop.
+#[inline]
 pub(crate) fn differs(numbers: &[u32], others: &[u64]) -> bool
+    requires { length numbers.now ≡ length others.now }
+    ensures { result ≡ some_below (length numbers.now) (λ d. not (slice_index numbers.now d == slice_index others.now d)) }
+{
+    if numbers.len() == 2 {
+        let first = u64::from(numbers[0]) != others[0];
+        let second = u64::from(numbers[1]) != others[1];
+        return first | second;
+    }
+    many_differ(numbers, others)
+}
+
+/// The same for any count of numbers.
+fn many_differ(numbers: &[u32], others: &[u64]) -> bool
     requires { length numbers.now ≡ length others.now }
     ensures { result ≡ some_below (length numbers.now) (λ d. not (slice_index numbers.now d == slice_index others.now d)) }
 {
@@ -15,7 +30,19 @@ pub(crate) fn differs(numbers: &[u32], others: &[u64]) -> bool
     false
 }
 
-/// Whether two rows are equal.
+/// The same, where all are likely to be equal: several numbers are looked at at a time, and none is left out.
+fn differs_in_all(numbers: &[u32], others: &[u64]) -> bool
+    requires { length numbers.now ≡ length others.now }
+    ensures { result ≡ some_below (length numbers.now) (λ d. not (slice_index numbers.now d == slice_index others.now d)) }
+{
+    let mut any = false;
+    for place in 0..numbers.len() {
+        any |= u64::from(numbers[place]) != others[place];
+    }
+    any
+}
+
+/// Whether two rows are equal. That they differ is told at the first number that does.
 pub(crate) fn same_row(numbers: &[u32], others: &[u64]) -> bool
     ensures { IsTrue result ↔ numbers.now ≡ others.now }
 {
@@ -23,6 +50,19 @@ pub(crate) fn same_row(numbers: &[u32], others: &[u64]) -> bool
         return false;
     }
     if differs(numbers, others) {
+        return false;
+    }
+    true
+}
+
+/// Whether two rows are equal, where they are likely to be.
+pub(crate) fn still_same_row(numbers: &[u32], others: &[u64]) -> bool
+    ensures { IsTrue result ↔ numbers.now ≡ others.now }
+{
+    if numbers.len() != others.len() {
+        return false;
+    }
+    if differs_in_all(numbers, others) {
         return false;
     }
     true

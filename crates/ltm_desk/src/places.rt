@@ -1,17 +1,31 @@
 //! Where the pairs of a node stand in the index.
-ghost use Rattle.std.specs.Prelude.{◌≡◌, ◌<◌};
+ghost use Rattle.std.specs.Prelude.{◌≡◌, ◌<◌, ◌≤◌};
 ghost use Rattle.ltm_curve.specs.Table.{counts_of};
 ghost use Rattle.ltm_setting.specs.Setting.{setting_of};
 ghost use Rattle.ltm_sending.specs.Front.{IsAtFront};
 ghost use Rattle.ltm_desk.specs.Ready.{HasLists};
-ghost use Rattle.ltm_desk.specs.Placing.{PlacesPair};
+ghost use Rattle.ltm_index.specs.Lists.{links_of, slots_of};
+ghost use Rattle.ltm_desk.specs.Placing.{PlacesAt, PlacesPair};
 
 use ltm_curve::Curves;
 use ltm_pairs::ReadIndex;
 use ltm_scenario::Scenario;
 use ltm_sending::position_of;
 use ltm_setting::{in_links, is_setting};
-use ltm_units::Pair;
+use ltm_units::{LinkId, Pair};
+
+/// Puts a slot into the list of a boundary, unless it stands there.
+#[inline]
+fn place_at(index: &mut ReadIndex, link: LinkId, slot: u32, boundary: u32)
+    requires link { link.0 < links_of index.old }
+    requires slot { slot < slots_of index.old }
+    requires boundary { boundary ≤ slots_of index.old }
+    ensures { PlacesAt index.old index.new link.0 slot boundary }
+{
+    if !index.stands_at(link, slot, boundary) {
+        index.place(link, slot, boundary);
+    }
+}
 
 /// Puts the slot of a pair into the list of its position of each in-link.
 pub(crate) fn place_pair(scenario: &Scenario, curves: &Curves, pair: Pair, index: &mut ReadIndex)
@@ -24,6 +38,6 @@ pub(crate) fn place_pair(scenario: &Scenario, curves: &Curves, pair: Pair, index
     is_setting(scenario);
     for link in in_links(scenario, pair.node) {
         let position = position_of(scenario, curves, *link, pair.slot);
-        index.place(*link, pair.slot, position);
+        place_at(index, *link, pair.slot, position);
     }
 }

@@ -7,7 +7,7 @@ ghost use Rattle.ltm_loading.specs.Pairs.{shape_at};
 ghost use Rattle.ltm_setting.specs.Setting.{setting_of};
 ghost use Rattle.ltm_desk.specs.Starts.{AreStarts};
 
-use crate::comparing::{same_row, write_row};
+use crate::comparing::{same_row, still_same_row, write_row};
 use ltm_inputs::shape_of;
 use ltm_marks::Marks;
 use ltm_scenario::Scenario;
@@ -157,6 +157,15 @@ impl KeptRows {
         ensures { IsTrue result ↔ row_of self.now node slot ≡ row.now }
     {
         same_row(self.row(node, slot), row)
+    }
+
+    /// The same, where it is likely to be: all numbers are looked at, several at a time.
+    pub fn is_still_row(&self, node: usize, slot: usize, row: &[u64]) -> bool
+        requires node { node < nodes_of self.now }
+        requires slot { slot < slots_of self.now }
+        ensures { IsTrue result ↔ row_of self.now node slot ≡ row.now }
+    {
+        still_same_row(self.row(node, slot), row)
     }
 
     /// Whether this row of a pair is there.

@@ -160,7 +160,7 @@ impl Table {
         if !self.frontier.is_claimed(pair) {
             return false;
         }
-        self.claims.is_row(pair.node.0 as usize, 0, row)
+        self.claims.is_still_row(pair.node.0 as usize, 0, row)
     }
 
     /// Makes a claimed pair active again.

@@ -1,17 +1,17 @@
 //! A finished loading, as others read it.
-ghost use Rattle.std.specs.Prelude.{◌≡◌, ◌≤◌, ◌<◌, ◌+◌, ◌*◌, ◌-◌, ℕ, length, IfOk, OnOk};
+ghost use Rattle.std.specs.Prelude.{◌≡◌, ◌≤◌, ◌<◌, ◌+◌, ◌*◌, ◌-◌, ℕ, length, IfOk, IsFalse, OnOk};
 ghost use Rattle.ltm_units.specs.Sums.{sum_below};
 ghost use Rattle.ltm_curve.specs.Cells.{HasCells};
 ghost use Rattle.ltm_curve.specs.Table.{groups_of, destinations_of, slots_of, counts_of, total_of};
 ghost use Rattle.ltm_loading.specs.Setting.{Setting, IsSetting};
 ghost use Rattle.ltm_loading.specs.Groups.{up_of, down_of, groups};
 ghost use Rattle.ltm_loading.specs.Loading.{IsLoading};
-ghost use Rattle.ltm_loading.specs.Totals.{arrived, entered_link, left_link};
+ghost use Rattle.ltm_loading.specs.Totals.{generated, arrived, entered_link, left_link};
 ghost use Rattle.ltm_setting.specs.Setting.{setting_of};
 ghost use Rattle.ltm_flows.specs.Shaped.{IsShaped};
 
 use crate::in_all::Totals;
-use crate::tables::{free_times, generated_by_boundary, write_free_times, write_generated};
+use crate::tables::{free_times, generated_by_boundary, renew_generated, write_free_times};
 use ltm_curve::{Changed, Curves};
 use ltm_loading::{counts_small, never_fall};
 use ltm_scenario::Scenario;
@@ -143,13 +143,22 @@ impl Loading {
 
     /// Becomes the loading of another scenario with as many links, nodes and destinations and no fewer slots, for which
     /// there is room, from its finished curves, of which the changed cells alone are copied: outside them the counts are
-    /// the same, and at later boundaries 0. Takes no memory.
-    pub fn refresh(&mut self, scenario: &Scenario, curves: &Curves, changed: &Changed, version: u64)
+    /// the same, and at later boundaries 0. What its origins produce is added up where that is to be done anew; else it is
+    /// what they produced before. Takes no memory.
+    pub fn refresh(
+        &mut self,
+        scenario: &Scenario,
+        curves: &Curves,
+        changed: &Changed,
+        version: u64,
+        anew: bool,
+    )
         requires fits { Fits (setting_of scenario.now) self.old }
         requires shape { IsShaped (setting_of scenario.now) curves.now }
         requires loading { IsLoading (setting_of scenario.now) (counts_of curves.now) }
         requires cells { HasCells changed.now (groups (setting_of scenario.now)) (setting_of scenario.now).slots }
         requires outside { AgreesOutside self.old curves.now changed.now }
+        requires produced { IsFalse anew → (k : ℕ) → k ≤ (setting_of scenario.now).slots → generated_of self.old k ≡ generated (setting_of scenario.now) k }
         ensures shows { Shows (setting_of scenario.now) version self.new }
         ensures counts { counts_of (curves_of self.new) ≡ counts_of curves.now }
     {
@@ -157,7 +166,7 @@ impl Loading {
         never_fall();
         is_setting(scenario);
         write_free_times(scenario, &mut self.free);
-        write_generated(scenario, &mut self.generated);
+        renew_generated(scenario, anew, &mut self.generated);
         self.curves.lengthen(curves.slots());
         self.curves.copy_changed(curves, changed);
         self.step = step(scenario);

@@ -1,5 +1,5 @@
 //! What a loading keeps of a scenario: the free-flow times of its links, and what its origins produce.
-ghost use Rattle.std.specs.Prelude.{◌≡◌, ◌≤◌, ◌<◌, ◌+◌, ◌*◌, ℕ, length, map, slice_index, IfOk};
+ghost use Rattle.std.specs.Prelude.{◌≡◌, ◌≤◌, ◌<◌, ◌+◌, ◌*◌, ℕ, length, map, slice_index, IfOk, IsFalse};
 ghost use Rattle.ltm_units.specs.Sums.{sum_below};
 ghost use Rattle.ltm_curve.specs.Counts.{total};
 ghost use Rattle.ltm_loading.specs.Totals.{generated};
@@ -63,6 +63,17 @@ pub(crate) fn write_generated(scenario: &Scenario, into: &mut [Units])
         if produced_total(scenario, node, slot_count(scenario)) > 0 {
             add_produced(scenario, node, into);
         }
+    }
+}
+
+/// Writes the same, unless it stands there already: where nothing has to be written anew.
+pub(crate) fn renew_generated(scenario: &Scenario, anew: bool, into: &mut [Units])
+    requires room { (setting_of scenario.now).slots + 1 ≤ length into.old }
+    requires stands { IsFalse anew → (k : ℕ) → k ≤ (setting_of scenario.now).slots → units_at into.old k ≡ generated (setting_of scenario.now) k }
+    ensures { (k : ℕ) → k ≤ (setting_of scenario.now).slots → units_at into.new k ≡ generated (setting_of scenario.now) k }
+{
+    if anew {
+        write_generated(scenario, into);
     }
 }
 

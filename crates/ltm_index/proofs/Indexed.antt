@@ -1,6 +1,6 @@
 -- What the index tells of its cells.
-use Rattle.std.proofs.Common.{◌≡◌, ℕ, zero, suc, ◌<◌, ◌≤◌, ◌==◌, cond, List, [], ◌∷◌, Option, Some, None, refl, sym, ap, subst, ◌∙◌, inl, inr, arith, IfSome, Contains}
-use Rattle.std.proofs.lemmas.Bool.{cases_lt, ne_eqb}
+use Rattle.std.proofs.Common.{◌≡◌, ℕ, zero, suc, ◌+◌, ◌<◌, ◌≤◌, ◌==◌, ◌↔◌, false, IsTrue, cond, List, [], ◌∷◌, Option, Some, None, refl, sym, ap, subst, ◌∙◌, inl, inr, arith, eq-eqb, IfSome, Contains}
+use Rattle.std.proofs.lemmas.Bool.{cases_lt, cases_eq, ne_eqb}
 use Rattle.ltm_index.specs.declared.cells.Cells.{Cells}
 use Rattle.ltm_index.specs.declared.read_index.ReadIndex.{ReadIndex}
 use Rattle.ltm_index.specs.Chains.{times, left_after, list_from, first_in, named, IsChain}
@@ -8,7 +8,7 @@ use Rattle.ltm_index.specs.Cells.{cell_at, empty_cell, first_at, next_at, previo
 use Rattle.ltm_index.specs.Lists.{links_of, slots_of, list_of, entry_of, Lifts, Places, SameLists, IsEmpty, IsEmptyFrom, StandsByEntry, StandsOnce, StaysWithout, WithinHorizon}
 use Rattle.ltm_index.proofs.Chaining.{chain_same, without_none}
 use Rattle.ltm_index.proofs.Linked.{stands_once, stands_nowhere, entry_of_one, at_most_once, list_is, list_short, nothing_met}
-use Rattle.ltm_index.proofs.Reading.{times_from_place, place_from_times, left_is, next_stands, named_first, named_next, none_is_empty}
+use Rattle.ltm_index.proofs.Reading.{times_from_place, place_from_times, left_is, next_stands, named_at, named_first, named_next, none_is_empty}
 
 pub lists_of_index : (x : ReadIndex) → AreLists x.cells
 lists_of_index x =
@@ -178,3 +178,15 @@ some_within x l k (Some w) link some = reader_within x l k w link some
 
 pub within_told : (x : ReadIndex) (l k : ℕ) (after result : Option ℕ) → l < links_of x → result ≡ first_in (left_after (list_of x l k) after) → IfSome result (λ w. w < slots_of x)
 within_told x l k after result link is = some_within x l k result link (stands_told x l k after result is)
+
+-- a slot stands in the list of a boundary where the number of its entry is one more
+pub stands_there : (x : ReadIndex) (l v k number : ℕ) → number ≡ entry_at x.cells l v → IsTrue (number == k + 1) ↔ (entry_of x l v ≡ Some k)
+unfolding entry_of
+stands_there x l v k number is =
+    elim (cases_eq number (k + 1)) [
+      | inl same ↦ (λ yes. (named_at (entry_at x.cells l v) k).0 (omega (is, same, arith)), λ at. eq-eqb number (k + 1) same)
+      | inr other ↦ (
+        λ yes. let no : (number == k + 1) ≡ false = ne_eqb number (k + 1) other in absurd (cc),
+        λ at. absurd (other (omega (is, (named_at (entry_at x.cells l v) k).1 at, arith))),
+      )
+    ]

@@ -1,5 +1,5 @@
 -- Reading a list slot after slot.
-use Rattle.std.proofs.Common.{◌≡◌, ◌≢◌, ℕ, zero, suc, ◌-◌, ◌<◌, ◌≤◌, List, [], ◌∷◌, length, get_or, Option, Some, None, refl, sym, ap, subst, ◌∙◌, inl, inr, eq-eqb, arith, IfSome, Contains}
+use Rattle.std.proofs.Common.{◌≡◌, ◌≢◌, ℕ, zero, suc, ◌+◌, ◌-◌, ◌<◌, ◌≤◌, List, [], ◌∷◌, length, get_or, Option, Some, None, refl, sym, ap, subst, ◌∙◌, inl, inr, eq-eqb, arith, IfSome, Contains}
 use Rattle.std.proofs.lemmas.Bool.{cases_eq, ne_eqb}
 use Rattle.ltm_index.specs.Chains.{times, behind, left_after, list_from, first_in, named, IsChain}
 use Rattle.ltm_index.proofs.Chaining.{times_here, times_past, in_head, in_tail, fewer_left}
@@ -82,6 +82,11 @@ next_stands xs after = met xs (left_after xs after) (fewer_after xs after)
 pub named_some : (n : ℕ) → n ≢ 0 → named n ≡ Some (n - 1)
 named_some zero some = absurd (some refl)
 named_some (suc n) some = let e : suc n - 1 ≡ n = omega arith in ap Some (sym e)
+
+-- a pointer that is one more than a number names it, and no other does
+pub named_at : (n k : ℕ) → (n ≡ k + 1 → named n ≡ Some k) × (named n ≡ Some k → n ≡ k + 1)
+named_at zero k = (λ is. absurd (omega arith), λ is. cc)
+named_at (suc n) k = (λ is. let e : n ≡ k = omega arith in ap Some e, λ is. let e : n ≡ k = cc in omega arith)
 
 pub named_first : (a b : ℕ → ℕ) (p : ℕ) (xs : List ℕ) → IsChain a b p xs → named (a p) ≡ first_in xs
 named_first a b p [] c = ap named c

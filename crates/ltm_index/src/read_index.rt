@@ -1,5 +1,5 @@
 //! The index of reads.
-ghost use Rattle.std.specs.Prelude.{◌≡◌, ℕ, ◌+◌, ◌*◌, ◌<◌, ◌≤◌, IfOk, OnOk, OnErr, IfSome, Contains};
+ghost use Rattle.std.specs.Prelude.{◌≡◌, ℕ, ◌+◌, ◌*◌, ◌<◌, ◌≤◌, ◌↔◌, IfOk, OnOk, OnErr, IfSome, IsTrue, Some, Contains};
 ghost use Rattle.ltm_index.specs.Chains.{named, first_in, left_after, list_from};
 ghost use Rattle.ltm_index.specs.Cells.{IsChained, IsChained-prop, IsEntered, IsUpTo};
 
@@ -34,7 +34,7 @@ fn slot_named(pointer: u32) -> Option<u32>
 }
 
 impl ReadIndex {
-    ghost use Rattle.ltm_index.specs.Lists.{links_of, slots_of, room_of, list_of, Lifts, Places, SameLists, IsEmpty, IsEmptyFrom};
+    ghost use Rattle.ltm_index.specs.Lists.{links_of, slots_of, room_of, list_of, entry_of, Lifts, Places, SameLists, IsEmpty, IsEmptyFrom};
 
     /// An index of so many links and slots, at most 4,000 and 10,000, in which every list is empty. There is one boundary
     /// more than slots.
@@ -59,6 +59,17 @@ impl ReadIndex {
     {
         take_out(&mut self.cells, link.0, slot);
         put_first(&mut self.cells, link.0, slot, boundary);
+    }
+
+    /// Whether a slot stands in the list of a boundary.
+    #[inline]
+    pub fn stands_at(&self, link: LinkId, slot: u32, boundary: u32) -> bool
+        requires link { link.0 < links_of self.now }
+        requires slot { slot < slots_of self.now }
+        requires boundary { boundary ≤ slots_of self.now }
+        ensures { IsTrue result ↔ entry_of self.now link.0 slot ≡ Some boundary }
+    {
+        self.cells.get(link.0, slot).entry == boundary + 1
     }
 
     /// Takes a slot out of the list of the link in which it stands, if any.

@@ -4,3 +4,4 @@ pub mod Potentials
 pub mod Search
 pub mod Split
 pub mod Setting
+pub mod Texts

@@ -12,12 +12,16 @@ pub enum RoutesFault {
 }
 
 impl fmt::Display for RoutesFault {
+    ghost use Rattle.std.specs.Prelude.{Some};
+    ghost use Rattle.ltm_routes.specs.Texts.{fault_text};
+
+    ghost output = { λ fault. Some (fault_text fault) };
+
     fn fmt<W: fmt::Write>(&self, f: &mut fmt::Formatter<W>) -> fmt::Result {
-        let text = match self {
-            RoutesFault::TooManyRows => "more than 50000 split rows",
-            RoutesFault::NoMemory => "out of memory",
-        };
-        write!(f, "{text}")
+        match self {
+            RoutesFault::TooManyRows => write!(f, "more than 50000 split rows"),
+            RoutesFault::NoMemory => write!(f, "out of memory"),
+        }
     }
 }
 

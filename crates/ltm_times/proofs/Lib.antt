@@ -1,3 +1,4 @@
 pub mod Least
 pub mod Moments
 pub mod Shown
+pub mod Alike

@@ -4,6 +4,7 @@ use Rattle.std.specs.Prelude.{Ok, IsOk}
 use Rattle.ltm_curve.specs.Counts.{Counts}
 use Rattle.ltm_scenario.specs.declared.edit.Edit.{Edit}
 use Rattle.ltm_scenario.specs.Data.{ScenarioData}
+use Rattle.ltm_scenario.specs.IsScenario.{IsScenario}
 use Rattle.ltm_scenario.specs.Edits.{edited_all}
 use Rattle.ltm_loading.specs.Setting.{Setting}
 use Rattle.ltm_loading.specs.Loading.{IsLoading}
@@ -140,9 +141,15 @@ repairs laws exact a b c e f batch solved version recomputed pairs is opening ac
     let ticks = works.solved (commits_none s a b batch opening accepts) in
     let U : ScenarioData → Type 0 = λ z. edited_all z batch ≡ Ok edited in
     let V : ScenarioData → Type 0 = λ z. (before after : Counts) → IsLoading (setting_of s) before → IsLoading (setting_of z) after → recomputed ≡ differing (setting_of s) (setting_of z) before after in
+    let v = at_c.version in
+    let there : 1 ≤ version_now c.log = omega (v, arith) in
+    let now : scenario_at c.log 1 ≡ edited = at_c.last ∙ ap (λ (z : Log). scenario_now z) to_c in
+    let begun : c.log.opening ≡ s = sym (scenario_first c.log) ∙ at_c.first in
     record {
       edited = edited;
       edits = subst U is.scenario accepts.edited;
+      scenario = subst (λ (z : ScenarioData). IsScenario z) now (is_c.log.scenarios 1 there);
+      network = ap (λ (z : ScenarioData). z.network) (sym now) ∙ ((is_c.log.alike 1 there).network ∙ ap (λ (z : ScenarioData). z.network) begun);
       shows = subst T (sym shown_last) shown_now;
       counts = subst V same (counts_differing exact s e.log recomputed at_e settles.counts);
       same = omega (told, same_commits, fits, is_pairs, small, ticks, arith);
@@ -154,6 +161,11 @@ version_shown c e version shows =
     shows.shown ∙ (shows.all ∙ ap (λ (z : Log). version_now z) (sym log))
 
 -- ---- at the start
+pub opens_scenario : (d : CoreData) → IsOpeningCore d.scenario d → IsCore d → IsScenario d.scenario
+opens_scenario d opening is =
+    let same : scenario_at d.log 0 ≡ d.scenario = scenario_first d.log ∙ ap (λ (z : Log). z.opening) opening.log in
+    subst (λ (z : ScenarioData). IsScenario z) same (is.log.scenarios 0 (omega arith))
+
 pub opens_shown : (d : CoreData) → IsOpeningCore d.scenario d → IsShownOf d.log d.shown → Shows (setting_of d.scenario) 0 d.shown
 opens_shown d opening is_shown =
     let P : ℕ → Type 0 = λ k. Shows (setting_at d.log k) k d.shown in

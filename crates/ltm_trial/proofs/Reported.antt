@@ -1,5 +1,5 @@
 -- What a trial's text is.
-use Rattle.std.proofs.Common.{◌≡◌, ℕ, ◌+◌, ◌*◌, ◌<◌, ◌≤◌, zero, suc, List, [], ◌++◌, refl, sym, subst, inl, inr, add-zero, arith}
+use Rattle.std.proofs.Common.{◌≡◌, ℕ, ◌+◌, ◌*◌, ◌<◌, ◌≤◌, zero, suc, List, [], ◌++◌, refl, subst, inl, inr, add-zero, arith}
 use Rattle.std.proofs.lemmas.Bool.{cases_eq, cases_lt}
 use Rattle.ltm_curve.specs.Counts.{Counts}
 use Rattle.ltm_scenario.specs.declared.edit.Edit.{Edit}
@@ -13,7 +13,7 @@ use Rattle.ltm_report.specs.Totals.{totals_line}
 use Rattle.ltm_report.specs.Made.{work_line}
 use Rattle.ltm_make.specs.declared.made.Made.{Made}
 use Rattle.ltm_make.specs.Grid.{IsWidth}
-use Rattle.ltm_make.specs.MadeCase.{made_from, two_edits, IsMade}
+use Rattle.ltm_make.specs.MadeCase.{made_from, IsMade}
 use Rattle.ltm_trial.specs.Trial.{size_of, totals_of, work_of, trial_lines, TellsTrial, IsTrial}
 
 -- ---- the width of a grid

@@ -1,3 +1,4 @@
 pub mod Trial
 pub mod Repairs
 pub mod Words
+pub mod Laws

@@ -3,6 +3,7 @@ use Rattle.std.specs.Prelude.{ℕ, ◌≡◌, ◌-◌, ◌^◌, min, List, Ok}
 use Rattle.ltm_curve.specs.Counts.{Counts}
 use Rattle.ltm_scenario.specs.declared.edit.Edit.{Edit}
 use Rattle.ltm_scenario.specs.Data.{ScenarioData}
+use Rattle.ltm_scenario.specs.IsScenario.{IsScenario}
 use Rattle.ltm_scenario.specs.Edits.{edited_all}
 use Rattle.ltm_loading.specs.Loading.{IsLoading}
 use Rattle.ltm_loading.specs.Differing.{differing}
@@ -20,6 +21,8 @@ pub record WorksToRest (old new : CoreData) (count : ℕ) : Type 0 where
 pub record Repairs (s : ScenarioData) (batch : List Edit) (recomputed solved : ℕ) (new : CoreData) : Type 0 where
   pub edited : ScenarioData
   pub edits : edited_all s batch ≡ Ok edited
+  pub scenario : IsScenario edited
+  pub network : edited.network ≡ s.network
   pub shows : Shows (setting_of edited) 1 new.shown
   pub counts : (before after : Counts) → IsLoading (setting_of s) before → IsLoading (setting_of edited) after → recomputed ≡ differing (setting_of s) (setting_of edited) before after
   pub same : solved ≡ recomputed

@@ -3,6 +3,7 @@ use Rattle.std.specs.Prelude.{ℕ, ◌≡◌, ◌*◌, List, ◌++◌, Ok}
 use Rattle.ltm_curve.specs.Counts.{Counts}
 use Rattle.ltm_scenario.specs.declared.edit.Edit.{Edit}
 use Rattle.ltm_scenario.specs.Data.{ScenarioData}
+use Rattle.ltm_scenario.specs.IsScenario.{IsScenario}
 use Rattle.ltm_scenario.specs.Edits.{edited_all}
 use Rattle.ltm_loading.specs.Setting.{Setting}
 use Rattle.ltm_loading.specs.Loading.{IsLoading}
@@ -33,6 +34,9 @@ trial_lines s e before after = size_of s ++ totals_of 0 s before ++ totals_of 1 
 
 -- the text reports the loading of a scenario, and that of the one that a batch makes of it
 pub record IsTrialOf (s e : ScenarioData) (text : List ℕ) : Type 0 where
+  pub scenario : IsScenario s
+  pub edited : IsScenario e
+  pub network : e.network ≡ s.network
   pub before : Counts
   pub after : Counts
   pub loads : IsLoading (setting_of s) before

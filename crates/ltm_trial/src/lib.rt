@@ -7,10 +7,12 @@
 //! - **When to change it here**: when a trial is to do or to tell something else.
 #![tactic(auto)]
 
+mod laws;
 mod lines;
 mod repairing;
 mod trial;
 mod words;
 
+pub use laws::one_trial;
 pub use trial::try_report;
 pub use words::{read_nodes, read_start};

@@ -1,32 +1,11 @@
 //! Loadings of cases before and after edits.
-use ltm_casefile::read_case;
-use ltm_flows::{Loading, cold};
-use ltm_io::{Doc, MemFolder};
+use crate::cases::{folder_of, loading_of, scenario_of};
+use ltm_flows::Loading;
+use ltm_io::MemFolder;
 use ltm_scenario::{Batch, Edit, EditFault, Scenario};
 use ltm_units::{Name, NoMemory, Units};
 use std::alloc::Global;
 use std::process::Abort;
-
-/// The four files of a case.
-fn folder_of(
-    alloc: Global,
-    setup: &str,
-    links: &str,
-    demand: &str,
-    splits: &str,
-) -> Result<MemFolder, NoMemory> {
-    let mut folder = MemFolder::create(alloc, &[])?;
-    folder.put(Doc::Setup, setup.as_bytes())?;
-    folder.put(Doc::Links, links.as_bytes())?;
-    folder.put(Doc::Demand, demand.as_bytes())?;
-    folder.put(Doc::Splits, splits.as_bytes())?;
-    Ok(folder)
-}
-
-/// The scenario of a folder.
-fn scenario_of(alloc: Global, folder: &mut MemFolder) -> Option<Scenario> {
-    read_case(alloc, folder).ok()
-}
 
 /// Gives a valid scenario the edits.
 fn accept(
@@ -39,17 +18,6 @@ fn accept(
     assert!(rt; batch.has_amounts());
     assert!(rt; scenario.check().is_ok());
     scenario.accept(&batch)
-}
-
-/// The loading of a scenario, under version 1.
-fn loading_of<R: Abort + AllocGlobal>(rt: &R, scenario: &Scenario) -> Loading {
-    let Ok(curves) = cold(rt.alloc(), scenario) else {
-        panic!(rt; "no memory");
-    };
-    match Loading::create(rt.alloc(), scenario, &curves, 1) {
-        Ok(loading) => loading,
-        Err(_) => panic!(rt; "no memory"),
-    }
 }
 
 /// Generated, arrived, on links and waiting are these, in units.

@@ -73,7 +73,7 @@ fn go_round<R: Wait, G: Gate>(
 /// stopped. In each held turn it makes one call of the core; each node step is made with no turn held.
 ///
 /// Where it finds nothing to do it steps back, and at last sleeps until the turn's listeners are told of news: so whoever
-/// accepts a batch tells one of them, and whoever stops the core tells all. Takes no memory.
+/// accepts a batch tells one of them, and whoever stops the core tells all; so does each worker as it ends. Takes no memory.
 pub fn work<R: Wait, G: Gate>(
     rt: &R,
     turn: &Turn<Core>,
@@ -93,7 +93,11 @@ pub fn work<R: Wait, G: Gate>(
         let (after, round) = go_round(rt, turn, pass, gate, scratch);
         pass = after;
         match round {
-            Round::Ended(last) => return (pass, last),
+            Round::Ended(last) => {
+                // One that found the turn busy has not seen that the core is stopped, and may have gone to sleep since.
+                turn.tell_all();
+                return (pass, last);
+            }
             Round::Worked(next) => {
                 scratch = next;
                 idling.after_work(turn);

@@ -1,5 +1,5 @@
 //! What an editor does: it has a batch accepted.
-ghost use Rattle.std.specs.Prelude.{◌≡◌, ◌≢◌, ℕ, ◌<◌, ◌≤◌, min, ◌++◌, ◌∷◌, [], ◌^◌, false, length, IfErr, OnOk, OnErr, Err, vec_len, vec_capacity};
+ghost use Rattle.std.specs.Prelude.{◌≡◌, ◌≢◌, ℕ, ◌<◌, ◌≤◌, ◌++◌, ◌∷◌, [], ◌^◌, false, length, IfErr, OnOk, OnErr, Err, vec_len, vec_capacity};
 ghost use Rattle.ltm_scenario.specs.Edits.{edited_all, horizon_after, HaveAmounts};
 ghost use Rattle.ltm_scenario.specs.Valid.{IsValid};
 ghost use Rattle.ltm_setting.specs.Setting.{setting_of};
@@ -7,9 +7,11 @@ ghost use Rattle.ltm_desk.specs.Ready.{IsReady};
 ghost use Rattle.ltm_loading.specs.Setting.{Setting};
 ghost use Rattle.ltm_flows.specs.Shown.{Shows, SameLoading, loading_room};
 ghost use Rattle.ltm_desk.specs.Growing.{SeenAs as TableSeenAs, HasRoom as TableHasRoom};
+ghost use Rattle.ltm_core.specs.Reaching.{MayReach};
 ghost use Rattle.ltm_core.specs.Taking.{TakesBatch};
 
 use super::Core;
+use crate::horizons::may_reach;
 use crate::laws::repair_laws;
 use ltm_desk::{Table, tables_fit, wide_room};
 use ltm_flows::Loading;
@@ -103,10 +105,10 @@ fn take_batch(
     requires mark_room { vec_len marks.old < vec_capacity marks.old }
     requires valid { IsValid scenario.old }
     requires amounts { HaveAmounts batch }
-    requires room { TableHasRoom table.old (min (horizon_after scenario.old.setup.slots batch) 10000) }
+    requires room { TableHasRoom table.old (horizon_after scenario.old.setup.slots batch) }
     requires ready { IsReady (setting_of scenario.old) table.old }
     ensures ok { OnOk result (TakesBatch scenario.old scenario.new table.old table.new batch) }
-    ensures slots { OnOk result ((setting_of scenario.new).slots ≡ min (horizon_after scenario.old.setup.slots batch) 10000) }
+    ensures slots { OnOk result ((setting_of scenario.new).slots ≡ horizon_after scenario.old.setup.slots batch) }
     ensures batches { OnOk result (batches.new.items ≡ batches.old.items ++ batch ∷ []) }
     ensures marks { OnOk result (marks.new.items ≡ marks.old.items ++ false ∷ []) }
     ensures few { OnOk result (length batches.new.items < 2 ^ 63) }
@@ -133,6 +135,24 @@ fn take_batch(
     }
 }
 
+/// The first fault of a batch that asks for a horizon which its scenario may not reach.
+fn refuse(scenario: &mut Scenario, batch: Batch) -> (Batch, EditFault)
+    requires valid { IsValid scenario.old }
+    requires amounts { HaveAmounts batch }
+    requires beyond { MayReach scenario.old (horizon_after scenario.old.setup.slots batch) → ⊥ }
+    ensures same { scenario.new ≡ scenario.old }
+    ensures back { result.0 ≡ batch }
+    ensures cause { result.1.cause ≢ EditCause.NoMemory → edited_all scenario.old batch ≡ Err result.1 }
+{
+    match scenario.accept(&batch) {
+        Ok(()) => {
+            let _after = scenario.setup();
+            unreachable!()
+        }
+        Err(fault) => (batch, fault),
+    }
+}
+
 /// A batch that is given back for want of memory.
 fn no_memory(batch: Batch) -> Result<(), (Batch, EditFault)>
     ensures { result ≡ Err (batch, record { place = 0; cause = EditCause.NoMemory }) }
@@ -148,20 +168,25 @@ fn no_memory(batch: Batch) -> Result<(), (Batch, EditFault)>
 
 impl Core {
     ghost use Rattle.ltm_core.specs.CoreAnswers.{TellsAccept};
+    ghost use Rattle.ltm_core.specs.Reaching.{MayReach};
 
     /// Makes all edits of a batch in order, or changes nothing but room and gives the batch back with the first edit that is
     /// refused and its cause. Claims are void; a pair is then active exactly where it was active or claimed, is touched, or
     /// is new: of a slot by which the horizon is longer. What is shown stays.
     ///
     /// Each amount is at most 1,000,000,000 units. All memory is taken first: where there is no room for a longer horizon,
-    /// room for at least half more slots.
+    /// room for at least half more slots. Where the horizon may not be reached, which no memory could change, none is taken.
     pub fn accept(&mut self, batch: Batch) -> Result<(), (Batch, EditFault)>
         requires amounts { HaveAmounts batch }
         ensures answer { TellsAccept self.old batch result self.new }
         ensures shown { SameLoading self.old.shown self.new.shown }
+        ensures beyond { (MayReach self.old.scenario (horizon_after self.old.scenario.setup.slots batch) → ⊥) → self.new ≡ self.old }
     {
         repair_laws();
-        let slots = batch.horizon(self.scenario.setup().slots).min(10_000);
+        let slots = batch.horizon(self.scenario.setup().slots);
+        if !may_reach(&self.scenario, slots) {
+            return Err(refuse(&mut self.scenario, batch));
+        }
         match reserve_all(
             &mut self.batches,
             &mut self.marks,

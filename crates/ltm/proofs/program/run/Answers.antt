@@ -130,6 +130,18 @@ pub returns-clause-trial : goal.returns-clause-trial
 returns-clause-trial g c =
     λ start nodes asks. absurd (apart _ (ask.Try start nodes) asks (c.workers_of-workers.ensures.asked (some_crew c.workers_of-workers.result c.if-workers-eq0.false)))
 
+pub returns-clause-curves : goal.returns-clause-curves
+returns-clause-curves g c =
+    λ asks. absurd (apart _ ask.Curves asks (c.workers_of-workers.ensures.asked (some_crew c.workers_of-workers.result c.if-workers-eq0.false)))
+
+pub returns-clause-check : goal.returns-clause-check
+returns-clause-check g c =
+    λ asks. absurd (apart _ ask.Check asks (c.workers_of-workers.ensures.asked (some_crew c.workers_of-workers.result c.if-workers-eq0.false)))
+
+pub returns-clause-check_complete : goal.returns-clause-check_complete
+returns-clause-check_complete g c =
+    λ files s bytes told asks. absurd (apart _ ask.Check asks (c.workers_of-workers.ensures.asked (some_crew c.workers_of-workers.result c.if-workers-eq0.false)))
+
 pub returns-clause-bad_case : goal.returns-clause-bad_case
 returns-clause-bad_case g c =
     λ none. absurd (none c.workers_of-workers.result (c.workers_of-workers.ensures.asked (some_crew c.workers_of-workers.result c.if-workers-eq0.false)))
@@ -156,7 +168,7 @@ returns-clause-session_complete g c =
 
 pub returns-clause-missing : goal.returns-clause-missing
 returns-clause-missing g c =
-    λ files command file told asks. absurd (apart _ command asks (c.workers_of-workers.ensures.asked (some_crew c.workers_of-workers.result c.if-workers-eq0.false)))
+    λ files command refusal told asks. absurd (apart _ command asks (c.workers_of-workers.ensures.asked (some_crew c.workers_of-workers.result c.if-workers-eq0.false)))
 
 pub returns-clause-session_missing : goal.returns-clause-session_missing
 returns-clause-session_missing g c =

@@ -2,7 +2,7 @@ use Rattle.ltm_curve.specs.Table.{counts_of}
 use Rattle.ltm_setting.specs.Setting.{setting_of}
 use Rattle.ltm_flows.specs.Shown.{curves_of, Shows}
 use Rattle.ltm_trial.specs.Repairs.{Repairs}
-use Rattle.ltm_trial.proofs.Repaired.{opens_shown}
+use Rattle.ltm_trial.proofs.Repaired.{opens_shown, opens_scenario}
 use Rattle.ltm_trial.proofs.Reported.{trial_text}
 use Rattle.ltm_trial.proofs.trial.report.Goals as goal
 
@@ -13,6 +13,9 @@ returns c =
       done.edited,
       done.edits,
       record {
+        scenario = opens_scenario c.args.core.now c.requires.opening c.holds.ensures.core;
+        edited = done.scenario;
+        network = done.network;
         before = counts_of (curves_of c.args.core.now.shown);
         after = counts_of (curves_of c.repair.new.core.shown);
         loads = shows.loading;

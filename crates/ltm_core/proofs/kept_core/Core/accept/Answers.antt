@@ -1,10 +1,10 @@
-use Rattle.std.proofs.Common.{rules, ◌≡◌, ℕ, min, length, ap, sym, ◌∙◌}
+use Rattle.std.proofs.Common.{rules, ◌≡◌, length, refl, ap, sym, ◌∙◌}
 use Rattle.ltm_scenario.specs.Edits.{horizon_after}
 use Rattle.ltm_setting.specs.Setting.{setting_of}
 use Rattle.ltm_flows.specs.Shown.{loading_room}
 use Rattle.ltm_core.proofs.Logs.{put_log, same_log, same_length, few_more}
 use Rattle.ltm_core.proofs.Cores.{core_setting}
-use Rattle.ltm_core.proofs.Batches.{core_after_batch, core_tells_accept, core_roomy, no_memory_tells, kept_log, ok_room}
+use Rattle.ltm_core.proofs.Batches.{core_after_batch, core_tells_accept, core_roomy, core_stays, reach_there, no_memory_tells, kept_log, ok_room}
 use Rattle.ltm_core.proofs.kept_core.Core.accept.Goals as goal
 
 pub take_batch-requires-clause-ready : goal.take_batch-requires-clause-ready
@@ -25,11 +25,14 @@ returns-in-Err-clause-answer c =
     (kept_log c.self.inside.opening c.self.inside.batches.items c.reserve_all.new.batches.items c.self.inside.marks.items c.reserve_all.new.marks.items c.reserve_all.ensures.batches c.reserve_all.ensures.marks) c.no_memory.ensures
 
 pub invariant_of-self : goal.invariant_of-self
-invariant_of-self c =
-    let asked : c.horizon.result ≡ horizon_after c.self.inside.scenario.setup.slots c.args.batch = search rules in (
+invariant_of-self c = (core_stays _ c.refuse.new.scenario c.self.invariant.0 c.refuse.ensures.same, c.self.invariant.1)
+
+pub invariant_of-self-in-Ok : goal.invariant_of-self-in-Ok
+invariant_of-self-in-Ok c =
+    let asked : c.horizon-slots.result ≡ horizon_after c.self.inside.scenario.setup.slots c.args.batch = search rules in (
       core_after_batch c.repair_laws.ensures _ c.args.batch c.take_batch.new.scenario c.reserve_all.new.table c.take_batch.new.table c.reserve_all.new.shown _ c.take_batch.result c.self.invariant.0
           c.reserve_all.ensures.table (record { same = c.reserve_all.ensures.shown; shows = c.reserve_all.ensures.shows; room = c.reserve_all.ensures.no_less }) c.take_batch.ensures.ok
-          (ok_room c.take_batch.result (loading_room c.reserve_all.new.shown) c.min-slots.result _ (setting_of c.take_batch.new.scenario).slots c.in-Ok.ensures.shown_room (c.min-slots.ensures ∙ ap (λ (n : ℕ). min n 10000) asked) c.take_batch.ensures.slots)
+          (ok_room c.take_batch.result (loading_room c.reserve_all.new.shown) c.horizon-slots.result _ (setting_of c.take_batch.new.scenario).slots c.in-Ok.ensures.shown_room asked c.take_batch.ensures.slots)
           (put_log c.self.inside.opening c.self.inside.batches.items c.reserve_all.new.batches.items c.take_batch.new.batches.items c.self.inside.marks.items c.reserve_all.new.marks.items c.take_batch.new.marks.items c.args.batch c.take_batch.result
           c.self.invariant.1 c.reserve_all.ensures.batches c.reserve_all.ensures.marks c.take_batch.ensures.batches c.take_batch.ensures.marks)
           (few_more c.self.inside.opening c.self.inside.batches.items c.reserve_all.new.batches.items c.take_batch.new.batches.items c.self.inside.marks.items c.args.batch c.take_batch.result
@@ -43,10 +46,10 @@ invariant_of-self c =
 
 pub returns-in-Ok-clause-answer : goal.returns-in-Ok-clause-answer
 returns-in-Ok-clause-answer c =
-    let asked : c.horizon.result ≡ horizon_after c.self.inside.scenario.setup.slots c.args.batch = search rules in
+    let asked : c.horizon-slots.result ≡ horizon_after c.self.inside.scenario.setup.slots c.args.batch = search rules in
     core_tells_accept c.repair_laws.ensures _ _ c.args.batch c.take_batch.new.scenario c.reserve_all.new.table c.take_batch.new.table c.reserve_all.new.shown _ c.take_batch.result c.self.view_is c.self.invariant.0
     c.reserve_all.ensures.table (record { same = c.reserve_all.ensures.shown; shows = c.reserve_all.ensures.shows; room = c.reserve_all.ensures.no_less }) c.take_batch.ensures.ok
-    (ok_room c.take_batch.result (loading_room c.reserve_all.new.shown) c.min-slots.result _ (setting_of c.take_batch.new.scenario).slots c.in-Ok.ensures.shown_room (c.min-slots.ensures ∙ ap (λ (n : ℕ). min n 10000) asked) c.take_batch.ensures.slots)
+    (ok_room c.take_batch.result (loading_room c.reserve_all.new.shown) c.horizon-slots.result _ (setting_of c.take_batch.new.scenario).slots c.in-Ok.ensures.shown_room asked c.take_batch.ensures.slots)
     (put_log c.self.inside.opening c.self.inside.batches.items c.reserve_all.new.batches.items c.take_batch.new.batches.items c.self.inside.marks.items c.reserve_all.new.marks.items c.take_batch.new.marks.items c.args.batch c.take_batch.result
     c.self.invariant.1 c.reserve_all.ensures.batches c.reserve_all.ensures.marks c.take_batch.ensures.batches c.take_batch.ensures.marks)
     (few_more c.self.inside.opening c.self.inside.batches.items c.reserve_all.new.batches.items c.take_batch.new.batches.items c.self.inside.marks.items c.args.batch c.take_batch.result
@@ -55,3 +58,13 @@ returns-in-Ok-clause-answer c =
     (same_log c.self.inside.opening c.self.inside.batches.items c.reserve_all.new.batches.items c.take_batch.new.batches.items c.self.inside.marks.items c.reserve_all.new.marks.items c.take_batch.new.marks.items c.take_batch.result
     c.reserve_all.ensures.batches c.reserve_all.ensures.marks c.take_batch.ensures.same_batches c.take_batch.ensures.same_marks)
     c.take_batch.ensures.back c.take_batch.ensures.cause
+
+pub returns-in-Ok-clause-beyond : goal.returns-in-Ok-clause-beyond
+returns-in-Ok-clause-beyond c =
+    let asked : c.horizon-slots.result ≡ horizon_after c.self.inside.scenario.setup.slots c.args.batch = search rules in
+    λ no. absurd (no (reach_there _ _ c.args.batch c.horizon-slots.result c.self.view_is asked (c.if-not-may_reach.ensures.0 refl)))
+
+pub returns-in-Err-clause-beyond : goal.returns-in-Err-clause-beyond
+returns-in-Err-clause-beyond c =
+    let asked : c.horizon-slots.result ≡ horizon_after c.self.inside.scenario.setup.slots c.args.batch = search rules in
+    λ no. absurd (no (reach_there _ _ c.args.batch c.horizon-slots.result c.self.view_is asked (c.if-not-may_reach.ensures.0 refl)))

@@ -1,4 +1,4 @@
-use Rattle.std.proofs.Common.{◌≡◌, ℕ, ◌∙◌, arith, ap, sym, subst, refl}
+use Rattle.std.proofs.Common.{◌≡◌, ℕ, ◌∙◌, arith, length, ap, sym, subst, refl}
 use Rattle.ltm_curve.specs.Counts.{Counts}
 use Rattle.ltm_loading.specs.Loading.{IsLoading}
 use Rattle.ltm_setting.specs.Setting.{setting_of}
@@ -6,7 +6,8 @@ use Rattle.ltm_flows.specs.Shown.{Shows}
 use Rattle.ltm_core.specs.Log.{log_of, version_now}
 use Rattle.ltm_core.proofs.Logs.{kept_version}
 use Rattle.ltm_core.proofs.Cores.{rest_here, not_resting_at}
-use Rattle.ltm_core.proofs.Showings.{ShowsTable, core_fits, core_agrees, core_after_publish, core_publishes_at}
+use Rattle.ltm_core.proofs.Showings.{shown_low, ShowsTable, core_fits, core_agrees, core_after_publish, core_publishes_at}
+use Rattle.ltm_core.proofs.Production.{shown_production}
 use Rattle.ltm_core.proofs.kept_core.Core.publish.Goals as goal
 
 pub is_at_rest-requires : goal.is_at_rest-requires
@@ -27,6 +28,21 @@ pub refresh-requires-clause-outside : goal.refresh-requires-clause-outside
 refresh-requires-clause-outside c =
     core_agrees _ c.curves.result.now c.cells.result.now c.self.invariant.0 (c.curves.ensures.shape (setting_of c.self.inside.scenario) c.self.invariant.0.ready) (c.curves.ensures.counts (setting_of c.self.inside.scenario))
     (λ g k x l. c.cells.ensures.changed (setting_of c.self.inside.scenario) g k x l)
+
+pub leave_production-left-requires : goal.leave_production-left-requires
+leave_production-left-requires c =
+    omega (
+      c.version.ensures,
+      ap length c.deref.ensures.value,
+      shown_low _ c.self.invariant.0,
+      kept_version c.self.inside.opening c.self.inside.batches.items c.self.inside.marks.items c.self.invariant.1,
+      arith,
+    )
+
+pub refresh-requires-clause-produced : goal.refresh-requires-clause-produced
+refresh-requires-clause-produced c =
+    shown_production c.edits_make.ensures c.self.inside.opening c.self.inside.batches.items c.deref.result.now c.self.inside.marks.items c.self.inside.scenario c.self.inside.table c.self.inside.shown
+    c.self.inside.commits c.self.inside.stopped c.version.result c.leave_production-left.result c.self.invariant.0 c.self.invariant.1 c.deref.ensures.value c.version.ensures c.leave_production-left.ensures
 
 version_is : (c : goal.After-clear_changed) → c.len-version.result ≡ version_now (log_of c.self.inside.opening c.self.inside.batches.items c.self.inside.marks.items)
 version_is c = omega (c.len-version.ensures, c.self.inside.batches.ok.0, kept_version c.self.inside.opening c.self.inside.batches.items c.self.inside.marks.items c.self.invariant.1, arith)

@@ -1,4 +1,4 @@
-use Rattle.std.proofs.Common.{◌≡◌, ℕ, min, subst, sym, arith}
+use Rattle.std.proofs.Common.{◌≡◌, ℕ, subst, sym, ◌∙◌}
 use Rattle.ltm_scenario.specs.Edits.{horizon_after}
 use Rattle.ltm_setting.specs.Setting.{setting_of}
 use Rattle.ltm_desk.specs.Growing.{HasRoom}
@@ -14,12 +14,11 @@ take_in-requires-clause-longer c = (c.tables_fit.ensures c.args.scenario.now c.a
 
 pub take_in-requires-clause-room : goal.take_in-requires-clause-room
 take_in-requires-clause-room c =
-    let slots : (setting_of c.accept.new.self).slots ≡ min (horizon_after c.args.scenario.now.setup.slots c.args.batch) 10000 =
-    omega (arith, horizon_is c.accept.new.self, c.in-Ok.ensures.horizon, c.slot_count-slots.ensures.few, c.slot_count-slots.ensures.value) in
+    let slots : (setting_of c.accept.new.self).slots ≡ horizon_after c.args.scenario.now.setup.slots c.args.batch = horizon_is c.accept.new.self ∙ c.in-Ok.ensures.horizon in
     subst (λ (n : ℕ). HasRoom c.args.table.now n) (sym slots) c.requires.room
 
 pub returns-in-Ok-clause-slots : goal.returns-in-Ok-clause-slots
-returns-in-Ok-clause-slots c = omega (arith, horizon_is c.accept.new.self, c.in-Ok.ensures.horizon, c.slot_count-slots.ensures.few, c.slot_count-slots.ensures.value)
+returns-in-Ok-clause-slots c = horizon_is c.accept.new.self ∙ c.in-Ok.ensures.horizon
 
 pub returns-in-Ok-clause-ok : goal.returns-in-Ok-clause-ok
 returns-in-Ok-clause-ok c =

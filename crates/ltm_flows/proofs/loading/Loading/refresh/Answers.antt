@@ -15,8 +15,8 @@ pub invariant_of-self-clause-amounts : goal.invariant_of-self-clause-amounts
 invariant_of-self-clause-amounts c =
     omega (
       arith,
-      ap length (with_items_is c.args.self.now.generated c.write_generated.new.into (c.write_generated.auto.into ∙ c.deref_mut-2.ensures.len)),
-      c.write_generated.auto.into ∙ ap length c.deref_mut-2.ensures.value,
+      ap length (with_items_is c.args.self.now.generated c.renew_generated.new.into (c.renew_generated.auto.into ∙ c.deref_mut-2.ensures.len)),
+      c.renew_generated.auto.into ∙ ap length c.deref_mut-2.ensures.value,
       c.args.self.now.amounts,
       c.copy_changed.ensures.same.shape.slots,
       c.requires.shape.same_slots,

@@ -1,7 +1,7 @@
 use Rattle.std.proofs.Common.{◌==◌, ◌≢◌, ◌<◌, not, ℕ, length, slice_index, arith, sym}
 use Rattle.std.proofs.lemmas.Grind.{common_steps}
 use Rattle.ltm_desk.proofs.Bools.{one_below, differ}
-use Rattle.ltm_desk.proofs.comparing.differs.Goals as goal
+use Rattle.ltm_desk.proofs.comparing.many_differ.Goals as goal
 
 pub returns-then-from-others : goal.returns-then-from-others
 returns-then-from-others c =
