@@ -173,15 +173,3 @@ returns-clause-missing g c =
 pub returns-clause-session_missing : goal.returns-clause-session_missing
 returns-clause-session_missing g c =
     λ files file workers told asks. c.serve_beside.ensures.missing files file told
-
-pub returns-clause-curves : goal.returns-clause-curves
-returns-clause-curves g c =
-    λ asks. absurd (apart _ ask.Curves asks (c.workers_of-workers.ensures.asked (some_crew c.workers_of-workers.result c.if-workers-eq0.false)))
-
-pub returns-clause-check : goal.returns-clause-check
-returns-clause-check g c =
-    λ asks. absurd (apart _ ask.Check asks (c.workers_of-workers.ensures.asked (some_crew c.workers_of-workers.result c.if-workers-eq0.false)))
-
-pub returns-clause-check_complete : goal.returns-clause-check_complete
-returns-clause-check_complete g c =
-    λ files s bytes told asks. absurd (apart _ ask.Check asks (c.workers_of-workers.ensures.asked (some_crew c.workers_of-workers.result c.if-workers-eq0.false)))
