@@ -1,14 +1,11 @@
 -- What a run alone and a session beside workers leave, as the program says it.
-use Rattle.std.proofs.Common.{ℕ, zero, suc, ◌≡◌, ◌<◌, ◌⊎◌, inl, inr, refl, sym, subst, arith, List, Option, None, Some}
+use Rattle.std.proofs.Common.{ℕ, zero, suc, ◌≡◌, ◌<◌, inl, inr, refl, subst, arith, List, Option, None, Some}
 use Rattle.ltm_io.specs.declared.doc.Doc.{Doc}
 use Rattle.ltm_io.specs.Folder.{Files}
 use Rattle.ltm_io.specs.Sink.{appended}
 use Rattle.ltm_scenario.specs.Data.{ScenarioData}
 use Rattle.ltm_texts.specs.declared.status.Status.{Status}
-use Rattle.ltm_texts.specs.declared.words.Command.{Command}
-use Rattle.ltm_texts.specs.declared.words.Command.TheVariants as command
-use Rattle.ltm_texts.specs.Words.{Asks, AsksSession}
-use Rattle.ltm_texts.specs.Program.{FileFailed}
+use Rattle.ltm_texts.specs.Words.{AsksSession}
 use Rattle.ltm_session.specs.Answers.{AnswersBeside}
 use Rattle.ltm_session.specs.Session.{IsOutputAlone, IsSessionOutput}
 use Rattle.ltm_session.specs.Laws.{AloneIsASession}
