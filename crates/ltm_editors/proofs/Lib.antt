@@ -1,0 +1,9 @@
+pub mod Prefixes
+pub mod Members
+pub mod Changes
+pub mod Takes
+pub mod Splitting
+pub mod Joining
+pub mod Ends
+pub mod Between
+pub mod Legal

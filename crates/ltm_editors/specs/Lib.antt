@@ -1,0 +1,9 @@
+pub mod Boxes
+pub mod Lists
+pub mod Views
+pub mod Rule
+pub mod Steps
+pub mod Seats
+pub mod Facts
+pub mod History
+pub mod Offices
