@@ -69,13 +69,14 @@ impl<'a> Source for EditThenWait<'a> {
     ghost faults = { λ _. 0 };
 
     fn read(&mut self, into: &mut [u8]) -> Result<usize, ReadFault> {
-        if self.given || into.len() < EDIT.len() {
+        let line = EDIT.as_bytes();
+        if self.given || into.len() < line.len() {
             let _met = self.gate.wait();
             return Ok(0);
         }
         self.given = true;
-        into[..EDIT.len()].copy_from_slice(EDIT.as_bytes());
-        Ok(EDIT.len())
+        into[..line.len()].copy_from_slice(line);
+        Ok(line.len())
     }
 }
 
