@@ -3,18 +3,32 @@ use crossbeam_utils::Backoff;
 use crossbeam_utils::sync::Key;
 use ltm_core::Core;
 use ltm_turn::Turn;
+use std::hint;
 use std::sync::Wait;
+use std::thread::Parker;
+use std::time::Duration;
 
 /// After so many looks in a row that found no pair a worker sleeps.
 const PATIENCE: u32 = 64;
 
+/// How often at most the pause of a worker that finds the turn held is doubled.
+const FARTHEST: u32 = 13;
+
+/// After so many doublings the pause is a sleep, of 32 microseconds at first; before, the worker spins.
+const LAST_SPIN: u32 = 8;
+
 /// What a worker keeps while it finds nothing to do: at first it looks again, after ever longer pauses; then it sleeps until
 /// it is told of news. Whoever was woken and finds a pair wakes one more.
+///
+/// A pause doubles where another held the turn, and is quartered where a pair was committed: so all workers together find the
+/// turn held in about two of three looks, and whoever holds it most is hardly ever held up.
 #[derive(Drop)]
 pub(crate) struct Idling {
     looks: u32,
     woken: bool,
     backoff: Backoff,
+    distance: u32,
+    parker: Parker,
 }
 
 impl Idling {
@@ -24,6 +38,8 @@ impl Idling {
             looks: 0,
             woken: false,
             backoff: Backoff::new(),
+            distance: 0,
+            parker: Parker::new(),
         }
     }
 
@@ -38,6 +54,7 @@ impl Idling {
     /// After a pair was committed.
     pub(crate) fn after_work(&mut self, turn: &Turn<Core>) {
         self.looks = 0;
+        self.distance = self.distance.saturating_sub(2);
         self.backoff.reset();
         if self.woken {
             self.woken = false;
@@ -53,6 +70,33 @@ impl Idling {
                 self.looks = self.looks.saturating_add(1);
                 self.backoff.snooze();
             }
+        }
+    }
+
+    /// After a look at which another held the turn: steps back, twice as far as the last time.
+    pub(crate) fn after_busy_look<R: Wait>(&mut self, rt: &R, news: Option<Key<'_>>) {
+        match news {
+            Some(news) => self.sleep(rt, news),
+            None => {
+                self.looks = self.looks.saturating_add(1);
+                if self.distance < FARTHEST {
+                    self.distance += 1;
+                }
+                self.step_back(rt);
+            }
+        }
+    }
+
+    /// Pauses as long as the worker has stepped back.
+    fn step_back<R: Wait>(&self, rt: &R) {
+        if self.distance > LAST_SPIN {
+            let doublings = (self.distance - LAST_SPIN).min(FARTHEST);
+            self.parker
+                .park_timeout(rt, Duration::from_micros(16 << doublings));
+            return;
+        }
+        for _ in 0..1u32 << self.distance.min(LAST_SPIN) {
+            hint::spin_loop();
         }
     }
 

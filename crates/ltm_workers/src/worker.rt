@@ -34,7 +34,9 @@ enum Round {
     Ended(Scratch),
     /// A pair was committed.
     Worked(Scratch),
-    /// Another held the turn, or claims are out and no other pair of their slot has to be worked on.
+    /// Another held the turn.
+    Busy(Scratch),
+    /// Claims are out, and no other pair of their slot has to be worked on.
     Vain(Scratch),
     /// No pair is active or claimed, and the working counts are shown.
     Rested(Scratch),
@@ -54,7 +56,7 @@ fn go_round<R: Wait, G: Gate>(
 {
     let (pass, sight) = look_in_turn(turn, pass, scratch);
     match sight {
-        Sight::Busy(scratch) => return (pass, Round::Vain(scratch)),
+        Sight::Busy(scratch) => return (pass, Round::Busy(scratch)),
         Sight::Seen(Look::Stopped(scratch)) => return (pass, Round::Ended(scratch)),
         Sight::Seen(Look::Found(Claimed::Got(claim))) => {
             let (pass, scratch) = finish(rt, turn, pass, gate, claim);
@@ -101,6 +103,10 @@ pub fn work<R: Wait, G: Gate>(
             Round::Worked(next) => {
                 scratch = next;
                 idling.after_work(turn);
+            }
+            Round::Busy(next) => {
+                scratch = next;
+                idling.after_busy_look(rt, news);
             }
             Round::Vain(next) => {
                 scratch = next;
