@@ -1,16 +1,15 @@
 -- Counts with one space between two are told one by one.
-use Rattle.std.proofs.Common.{◌≡◌, ℕ, zero, suc, ◌+◌, ◌-◌, ◌<◌, ◌≤◌, ◌^◌, ◌&&◌, Bool, true, false, List, [], ◌∷◌, ◌++◌, length, map, Option, Some, None, decimal, inl, inr, refl, sym, ap, ◌∙◌, arith, append_assoc, slice_index_or}
-use Rattle.std.specs.List.{list_all, slice_split, onto_first, All}
+use Rattle.std.proofs.Common.{◌≡◌, ℕ, zero, suc, ◌+◌, ◌<◌, ◌≤◌, ◌^◌, Bool, true, false, List, [], ◌∷◌, ◌++◌, length, map, Some, decimal, inl, inr, refl, sym, ap, ◌∙◌, arith, append_assoc, slice_index_or}
+use Rattle.std.specs.List.{slice_split, onto_first, All}
 use Rattle.std.proofs.lemmas.Bool.{cases_Bool}
 use Rattle.std.proofs.lemmas.Bool.Decides.{nat_tests}
 use Rattle.std.proofs.lemmas.Grind.{common_steps}
 use Rattle.std.proofs.lemmas.List.{append-nil}
 use Rattle.std.proofs.lemmas.List.Splits.{slice_split-cons_yes, slice_split-cons_no, slice_split_none, length-slice_split}
-use Rattle.ltm_units.specs.Numbers.{is_digit}
 use Rattle.ltm_units.proofs.Digits.{digit_bounds}
 use Rattle.ltm_curve.specs.First.{list_below}
 use Rattle.ltm_curve.proofs.Lists.{length-list_below, index-list_below}
-use Rattle.ltm_check.specs.CountsTold.{is_space, onto, count_told, each_told, if_many, counts_told}
+use Rattle.ltm_check.specs.CountsTold.{is_space, count_told, each_told, counts_told}
 use Rattle.ltm_check.specs.Text.{texts_below, further_count, counts_text}
 use Rattle.ltm_check.proofs.DigitsBack.{decimal_digits, decimal_told}
 

@@ -1,16 +1,15 @@
 -- A written curve file is one, and tells the counts that were written.
-use Rattle.std.proofs.Common.{◌≡◌, ℕ, zero, suc, ◌+◌, ◌-◌, ◌*◌, ◌/◌, ◌%◌, ◌<◌, ◌≤◌, ◌^◌, ◌==◌, ◌&&◌, ◌||◌, Bool, true, false, nat_lt, nat_le, cond, if◌then◌else◌, decimal, List, [], ◌∷◌, ◌++◌, length, drop, slice_index, slice_index_or, Option, Some, None, codes, inl, inr, refl, sym, ap, subst, ◌∙◌, arith, append_assoc, length-append}
+use Rattle.std.proofs.Common.{◌≡◌, ℕ, zero, suc, ◌+◌, ◌-◌, ◌*◌, ◌/◌, ◌%◌, ◌<◌, ◌≤◌, ◌^◌, ◌==◌, ◌&&◌, ◌||◌, Bool, true, false, nat_lt, nat_le, if◌then◌else◌, decimal, List, [], ◌∷◌, ◌++◌, length, slice_index, slice_index_or, Some, None, codes, inl, inr, refl, sym, ap, subst, ◌∙◌, arith, append_assoc, length-append}
 use Rattle.std.specs.Prelude.{slice_get}
-use Rattle.std.specs.List.{list_any, list_all}
+use Rattle.std.specs.List.{list_all}
 use Rattle.std.proofs.Math.Nat.{mul-le-mul_left}
 use Rattle.std.proofs.Math.Dec.{eqb}
 use Rattle.std.proofs.lemmas.Bool.{cases_Bool, cases_lt, eq-eqb}
 use Rattle.std.proofs.lemmas.Bool.Decides.{nat_tests}
-use Rattle.std.proofs.lemmas.Grind.{common_steps}
 use Rattle.std.proofs.lemmas.List.Folds.{list_all-append}
 use Rattle.std.proofs.lemmas.Nat.{mul-add-lt, div-mul-add, mod-mul-add, div_below, mod_below}
 use Rattle.std.proofs.lemmas.Option.{slice_get_past, slice_get-get_or}
-use Rattle.csv.specs.Reading.{default_config, records, records_from, strip_bom}
+use Rattle.csv.specs.Reading.{default_config, records, strip_bom}
 use Rattle.csv.specs.Writing.{default_writer, needs_byte, fields_text, is_blank, row_body, row_text}
 use Rattle.csv.proofs.RoundTrip.{rows_text}
 use Rattle.ltm_units.specs.Words.{is_name, is_name_byte}
@@ -30,7 +29,7 @@ use Rattle.ltm_check.specs.Due.{record_count, record_place, group_at, destinatio
 use Rattle.ltm_check.specs.CountsTold.{counts_told}
 use Rattle.ltm_check.specs.File.{counts_in, or_no_counts, counts_at, fault_of, told, told_by, AreRightBelow, IsCurveFile}
 use Rattle.ltm_check.specs.Text.{texts_below, further_count, counts_text, due_text, record_text, header_text, group_text, curves_file}
-use Rattle.ltm_check.specs.ReadBack.{AreNamed, CanBeTold, ReadsBack, WrittenIsRead}
+use Rattle.ltm_check.specs.ReadBack.{AreNamed, CanBeTold, WrittenIsRead}
 use Rattle.ltm_check.proofs.DigitsBack.{decimal_digits}
 use Rattle.ltm_check.proofs.Joined.{text_told}
 use Rattle.ltm_check.proofs.Placing.{fault_here, no_fault}

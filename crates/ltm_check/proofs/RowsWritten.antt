@@ -1,27 +1,17 @@
 -- The records of a written curve file are those that are due.
-use Rattle.std.proofs.Common.{◌≡◌, ℕ, zero, suc, ◌+◌, ◌-◌, ◌*◌, ◌/◌, ◌%◌, ◌<◌, ◌≤◌, ◌^◌, ◌==◌, ◌&&◌, ◌||◌, Bool, true, false, List, [], ◌∷◌, ◌++◌, length, Option, Some, None, codes, inl, inr, refl, sym, ap, subst, ◌∙◌, arith, append_assoc, length-append, slice_index_or}
-use Rattle.std.specs.Prelude.{slice_get}
-use Rattle.std.specs.List.{list_any, list_all}
-use Rattle.std.proofs.lemmas.Bool.{cases_Bool, cases_lt}
-use Rattle.std.proofs.lemmas.Bool.Decides.{nat_tests}
-use Rattle.std.proofs.lemmas.Grind.{common_steps}
+use Rattle.std.proofs.Common.{◌≡◌, ℕ, zero, suc, ◌+◌, ◌*◌, ◌/◌, ◌%◌, ◌<◌, ◌≤◌, false, List, [], ◌∷◌, ◌++◌, length, inl, inr, refl, sym, ap, ◌∙◌, arith, append_assoc, length-append, slice_index_or}
+use Rattle.std.specs.List.{list_any}
+use Rattle.std.proofs.lemmas.Bool.{cases_lt}
 use Rattle.std.proofs.lemmas.List.{append-nil, get_or_append_left, get_or_push}
 use Rattle.std.proofs.Math.Nat.{suc-mul}
 use Rattle.std.proofs.lemmas.Nat.{div-mul-add, mod-mul-add}
 use Rattle.csv.specs.Machine.{next_record}
-use Rattle.csv.specs.Reading.{default_config, records_from, strip_bom}
-use Rattle.csv.specs.Writing.{default_writer, needs_byte, field_text, fields_text, is_blank, row_text, read_back}
+use Rattle.csv.specs.Reading.{default_config, records_from}
+use Rattle.csv.specs.Writing.{default_writer, needs_byte, field_text, fields_text, is_blank, row_text}
 use Rattle.csv.specs.declared.parser.State.TheVariants as st
 use Rattle.csv.proofs.RoundTrip.{rows_text, read-write}
-use Rattle.ltm_curve.specs.Counts.{Counts}
-use Rattle.ltm_scenario.specs.Data.{ScenarioData}
-use Rattle.ltm_scenario.specs.Reads.{destination_name}
 use Rattle.ltm_records.specs.Fields.{Fields}
-use Rattle.ltm_records.specs.Left.{records_of}
-use Rattle.ltm_loading.specs.Groups.{groups}
-use Rattle.ltm_setting.specs.Setting.{setting_of}
-use Rattle.ltm_check.specs.Due.{record_count, group_at, destination_at, kind_of, name_of}
-use Rattle.ltm_check.specs.Text.{texts_below, counts_text, due_text, record_text, header_text, group_text, curves_file}
+use Rattle.ltm_check.specs.Text.{texts_below}
 
 -- a field that calls for no quotes
 abbrev pub IsPlain : List ℕ → Type 0

@@ -1,13 +1,12 @@
 -- The counts of a loading are small enough to be told and to be kept, so its text tells it.
-use Rattle.std.proofs.Common.{◌≡◌, ℕ, ◌+◌, ◌*◌, ◌<◌, ◌≤◌, ◌^◌, inl, inr, arith, subst}
+use Rattle.std.proofs.Common.{◌≡◌, ℕ, ◌<◌, ◌≤◌, inl, inr, arith, subst}
 use Rattle.std.specs.Prelude.{min}
 use Rattle.std.proofs.lemmas.Bool.Decides.{nat_tests}
 use Rattle.std.proofs.lemmas.Grind.{common_steps}
 use Rattle.ltm_curve.specs.Counts.{Counts}
-use Rattle.ltm_scenario.specs.Data.{ScenarioData}
 use Rattle.ltm_records.specs.Left.{records_of}
 use Rattle.ltm_loading.specs.Setting.{Setting, IsSetting}
-use Rattle.ltm_loading.specs.Groups.{up_of, down_of, dep_of, arr_of, groups}
+use Rattle.ltm_loading.specs.Groups.{down_of, groups}
 use Rattle.ltm_loading.specs.Pairs.{arm_group}
 use Rattle.ltm_loading.specs.Loading.{IsFront, IsLoading}
 use Rattle.ltm_loading.specs.NextPair.{IsOf}
@@ -17,7 +16,7 @@ use Rattle.ltm_setting.specs.Setting.{setting_of}
 use Rattle.ltm_check.specs.declared.faults.Checked.TheVariants.{Yes}
 use Rattle.ltm_check.specs.File.{told}
 use Rattle.ltm_check.specs.Text.{curves_file}
-use Rattle.ltm_check.specs.ReadBack.{AreNamed, WrittenIsRead, LoadingIsTold}
+use Rattle.ltm_check.specs.ReadBack.{WrittenIsRead, LoadingIsTold}
 use Rattle.ltm_check.specs.Verdict.{KeptAnswersAlike}
 use Rattle.ltm_check.proofs.Alike.{shorter}
 use Rattle.ltm_check.proofs.Arms.{all_arms}

@@ -3,6 +3,7 @@ pub mod Due
 pub mod File
 pub mod Faults
 pub mod Kept
+pub mod Moves
 pub mod Verdict
 pub mod Text
 pub mod ReadBack

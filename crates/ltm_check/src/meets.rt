@@ -1,18 +1,21 @@
 //! Whether the counts of a node at the end of a slot are its node step.
 ghost use Rattle.std.specs.Prelude.{◌≡◌, ◌<◌, ◌≤◌, ◌+◌, ◌↔◌, IsTrue, IfOk};
 ghost use Rattle.ltm_curve.specs.Table.{counts_of};
+ghost use Rattle.ltm_node.specs.Solvable.{IsSolvable};
 ghost use Rattle.ltm_loading.specs.Pairs.{MeetsStep};
+ghost use Rattle.ltm_loading.specs.Uncounted.{IsUncountedPair};
 ghost use Rattle.ltm_setting.specs.Setting.{setting_of};
 ghost use Rattle.ltm_sending.specs.Front.{IsAtFront};
+ghost use Rattle.ltm_inputs.specs.Idle.{IsIdle};
 ghost use Rattle.ltm_flows.specs.Working.{HasRoom};
 
-use crate::rows::hold_counts;
+use crate::rows::node_grows;
 use ltm_curve::Curves;
-use ltm_flows::{inputs_of, widest};
-use ltm_loading::{counts_by_place, in_range};
-use ltm_node::{NodeInputs, NodeOutputs, one_step, same_shape, write_step};
+use ltm_inputs::{uncounted_if_sent, widest};
+use ltm_loading::{counts_by_place, in_range, inputs_by_place, step_by_moves};
+use ltm_node::{NodeInputs, NodeOutputs, nothing_moves, one_step, same_shape, write_step};
 use ltm_scenario::Scenario;
-use ltm_setting::{is_setting, slot_count};
+use ltm_setting::is_setting;
 use ltm_units::{NoMemory, Pair};
 use std::alloc::Global;
 
@@ -34,10 +37,13 @@ pub(crate) fn make_room(alloc: Global, scenario: &Scenario) -> Result<Room, NoMe
     Ok(Room { inputs, outputs })
 }
 
-/// Whether the counts of a node at the end of a slot are its node step. Takes no memory.
-pub(crate) fn meets_step(scenario: &Scenario, curves: &Curves, pair: Pair, room: &mut Room) -> bool
+/// Whether the counts of a node whose arms send something grow in a slot by what moves: by the node step of inputs with 0 for
+/// each count.
+fn meets_moves(scenario: &Scenario, curves: &Curves, pair: Pair, room: &mut Room) -> bool
     requires node { pair.node.0 < (setting_of scenario.now).nodes }
     requires front { IsAtFront (setting_of scenario.now) curves.now pair.slot }
+    requires reads { IsUncountedPair (setting_of scenario.now) (counts_of curves.now) pair.node.0 pair.slot room.old.inputs }
+    requires solvable { IsSolvable room.old.inputs }
     requires inputs { HasRoom (setting_of scenario.now) room.old.inputs.room }
     requires outputs { HasRoom (setting_of scenario.now) room.old.outputs.room }
     ensures meets { IsTrue result ↔ MeetsStep (setting_of scenario.now) (counts_of curves.now) pair.node.0 pair.slot }
@@ -48,9 +54,42 @@ pub(crate) fn meets_step(scenario: &Scenario, curves: &Curves, pair: Pair, room:
     same_shape();
     one_step();
     in_range();
+    step_by_moves();
     is_setting(scenario);
-    let _slots = slot_count(scenario);
-    inputs_of(scenario, curves, pair, &mut room.inputs);
     write_step(&room.inputs, &mut room.outputs);
-    hold_counts(scenario, curves, pair.node, pair.slot + 1, &room.outputs)
+    node_grows(scenario, curves, pair, Some(&room.outputs))
+}
+
+/// Whether the counts of a node whose arms send nothing stay in a slot.
+fn meets_nothing(scenario: &Scenario, curves: &Curves, pair: Pair) -> bool
+    requires node { pair.node.0 < (setting_of scenario.now).nodes }
+    requires front { IsAtFront (setting_of scenario.now) curves.now pair.slot }
+    requires idle { IsIdle (setting_of scenario.now) (counts_of curves.now) pair.node.0 pair.slot }
+    ensures { IsTrue result ↔ MeetsStep (setting_of scenario.now) (counts_of curves.now) pair.node.0 pair.slot }
+{
+    inputs_by_place();
+    counts_by_place();
+    same_shape();
+    one_step();
+    in_range();
+    nothing_moves();
+    is_setting(scenario);
+    node_grows(scenario, curves, pair, None)
+}
+
+/// Whether the counts of a node at the end of a slot are its node step. Takes no memory.
+pub(crate) fn meets_step(scenario: &Scenario, curves: &Curves, pair: Pair, room: &mut Room) -> bool
+    requires node { pair.node.0 < (setting_of scenario.now).nodes }
+    requires front { IsAtFront (setting_of scenario.now) curves.now pair.slot }
+    requires inputs { HasRoom (setting_of scenario.now) room.old.inputs.room }
+    requires outputs { HasRoom (setting_of scenario.now) room.old.outputs.room }
+    ensures meets { IsTrue result ↔ MeetsStep (setting_of scenario.now) (counts_of curves.now) pair.node.0 pair.slot }
+    ensures inputs { HasRoom (setting_of scenario.now) room.new.inputs.room }
+    ensures outputs { HasRoom (setting_of scenario.now) room.new.outputs.room }
+{
+    if uncounted_if_sent(scenario, curves, pair, &mut room.inputs) {
+        meets_moves(scenario, curves, pair, room)
+    } else {
+        meets_nothing(scenario, curves, pair)
+    }
 }

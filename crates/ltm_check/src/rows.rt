@@ -1,187 +1,264 @@
-//! Whether curves hold at a boundary the counts that a node step gave.
-ghost use Rattle.std.specs.Prelude.{◌≡◌, ◌<◌, ◌≤◌, ◌↔◌, ℕ, IsTrue, length, slice_index};
+//! Whether the counts of a node grow in a slot by what moves.
+ghost use Rattle.std.specs.Prelude.{◌≡◌, ◌<◌, ◌≤◌, ◌+◌, ◌↔◌, ℕ, IsTrue, IfSome, length, option_map, slice_index};
 ghost use Rattle.ltm_curve.specs.Table.{counts_of, groups_of, destinations_of, slots_of};
-ghost use Rattle.ltm_node.specs.Outputs.{left_after, entered_after, arrived_after};
 ghost use Rattle.ltm_loading.specs.Groups.{up_of, dep_of};
 ghost use Rattle.ltm_loading.specs.Pairs.{arms_of, arm_group, arrived_by, shape_at};
-ghost use Rattle.ltm_loading.specs.ByPlace.{HoldsCounts};
 ghost use Rattle.ltm_setting.specs.Setting.{setting_of};
 ghost use Rattle.ltm_flows.specs.Shaped.{IsShaped};
+ghost use Rattle.ltm_check.specs.Moves.{leaves, enters, arrives, GrowBy};
 
 use ltm_curve::Curves;
 use ltm_node::NodeOutputs;
 use ltm_scenario::Scenario;
 use ltm_setting::{in_links, is_setting, link_count, node_count, out_links, own};
-use ltm_units::NodeId;
+use ltm_units::{NodeId, Pair};
 
-/// Whether two rows of counts are the same.
-fn same_counts(kept: &[u32], made: &[u64]) -> bool
-    requires { length made.now ≡ length kept.now }
-    ensures { IsTrue result ↔ ((d : ℕ) → d < length kept.now → slice_index made.now d ≡ slice_index kept.now d) }
+/// Whether a count has grown by as much as moves.
+#[inline]
+fn grows_by(before: u64, after: u64, moves: u64) -> bool
+    ensures { IsTrue result ↔ after ≡ before + moves }
 {
-    for destination in 0..kept.len() {
-        if u64::from(kept[destination]) != made[destination] {
+    after >= before && after - before == moves
+}
+
+/// Whether all counts of a row have grown by as much as moves.
+fn grow_by(before: &[u32], after: &[u32], moves: &[u64]) -> bool
+    requires after { length after.now ≡ length before.now }
+    requires moves { length moves.now ≡ length before.now }
+    ensures { IsTrue result ↔ ((d : ℕ) → d < length before.now
+        → slice_index after.now d ≡ slice_index before.now d + slice_index moves.now d) }
+{
+    for destination in 0..before.len() {
+        let (from, to) = (before[destination], after[destination]);
+        if !grows_by(u64::from(from), u64::from(to), moves[destination]) {
             return false;
         }
     }
     true
 }
 
-/// Whether a group counts at a boundary what has left an arm.
-fn has_left(curves: &Curves, group: u32, boundary: u32, outputs: &NodeOutputs, arm: u32) -> bool
-    requires group { group < groups_of curves.now }
-    requires boundary { boundary ≤ slots_of curves.now }
-    requires arm { arm < outputs.now.shape.arms }
-    requires destinations { outputs.now.shape.destinations ≡ destinations_of curves.now }
-    ensures { IsTrue result ↔ ((d : ℕ) → d < destinations_of curves.now → left_after outputs.now arm d ≡ counts_of curves.now group d boundary) }
+/// Whether all counts of a row have stayed.
+fn stay(before: &[u32], after: &[u32]) -> bool
+    requires { length after.now ≡ length before.now }
+    ensures { IsTrue result ↔ ((d : ℕ) → d < length before.now → slice_index after.now d ≡ slice_index before.now d) }
 {
-    same_counts(curves.row(group, boundary), outputs.left_row(arm))
+    for destination in 0..before.len() {
+        if before[destination] != after[destination] {
+            return false;
+        }
+    }
+    true
 }
 
-/// Whether a group counts at a boundary what has entered an out-link.
-fn has_entered(curves: &Curves, group: u32, boundary: u32, outputs: &NodeOutputs, out: u32) -> bool
+/// Whether the counts of a group grow in a slot by what moves.
+fn group_grows(curves: &Curves, group: u32, slot: u32, moves: &[u64]) -> bool
     requires group { group < groups_of curves.now }
-    requires boundary { boundary ≤ slots_of curves.now }
-    requires out { out < outputs.now.shape.outs }
-    requires destinations { outputs.now.shape.destinations ≡ destinations_of curves.now }
-    ensures { IsTrue result ↔ ((d : ℕ) → d < destinations_of curves.now → entered_after outputs.now out d ≡ counts_of curves.now group d boundary) }
+    requires slot { slot < slots_of curves.now }
+    requires moves { length moves.now ≡ destinations_of curves.now }
+    ensures { IsTrue result ↔ ((d : ℕ) → d < destinations_of curves.now
+        → counts_of curves.now group d (slot + 1) ≡ counts_of curves.now group d slot + slice_index moves.now d) }
 {
-    same_counts(curves.row(group, boundary), outputs.entered_row(out))
+    let _slots = curves.slots();
+    let before = curves.row(group, slot);
+    grow_by(before, curves.row(group, slot + 1), moves)
 }
 
-/// Whether the first in-links of a node count at a boundary what has left them.
+/// Whether the counts of a group stay in a slot.
+fn group_stays(curves: &Curves, group: u32, slot: u32) -> bool
+    requires group { group < groups_of curves.now }
+    requires slot { slot < slots_of curves.now }
+    ensures { IsTrue result ↔ ((d : ℕ) → d < destinations_of curves.now
+        → counts_of curves.now group d (slot + 1) ≡ counts_of curves.now group d slot) }
+{
+    let _slots = curves.slots();
+    let before = curves.row(group, slot);
+    stay(before, curves.row(group, slot + 1))
+}
+
+/// Whether a group counts in a slot what leaves an arm.
+fn has_left(curves: &Curves, group: u32, slot: u32, moves: Option<&NodeOutputs>, arm: u32) -> bool
+    requires group { group < groups_of curves.now }
+    requires slot { slot < slots_of curves.now }
+    requires arm { IfSome moves (λ m. arm < m.now.shape.arms) }
+    requires destinations { IfSome moves (λ m. m.now.shape.destinations ≡ destinations_of curves.now) }
+    ensures { IsTrue result ↔ ((d : ℕ) → d < destinations_of curves.now
+        → counts_of curves.now group d (slot + 1) ≡ counts_of curves.now group d slot + leaves (option_map (λ m. m.now) moves.entry) arm d) }
+{
+    match moves {
+        Some(moves) => group_grows(curves, group, slot, moves.left_row(arm)),
+        None => group_stays(curves, group, slot),
+    }
+}
+
+/// Whether a group counts in a slot what enters an out-link.
+fn has_entered(
+    curves: &Curves,
+    group: u32,
+    slot: u32,
+    moves: Option<&NodeOutputs>,
+    out: u32,
+) -> bool
+    requires group { group < groups_of curves.now }
+    requires slot { slot < slots_of curves.now }
+    requires out { IfSome moves (λ m. out < m.now.shape.outs) }
+    requires destinations { IfSome moves (λ m. m.now.shape.destinations ≡ destinations_of curves.now) }
+    ensures { IsTrue result ↔ ((d : ℕ) → d < destinations_of curves.now
+        → counts_of curves.now group d (slot + 1) ≡ counts_of curves.now group d slot + enters (option_map (λ m. m.now) moves.entry) out d) }
+{
+    match moves {
+        Some(moves) => group_grows(curves, group, slot, moves.entered_row(out)),
+        None => group_stays(curves, group, slot),
+    }
+}
+
+/// Whether the in-links of a node count in a slot what leaves them.
 fn links_have_left(
     scenario: &Scenario,
     curves: &Curves,
-    node: NodeId,
-    boundary: u32,
-    outputs: &NodeOutputs,
+    pair: Pair,
+    moves: Option<&NodeOutputs>,
 ) -> bool
-    requires node { node.0 < (setting_of scenario.now).nodes }
-    requires boundary { boundary ≤ (setting_of scenario.now).slots }
+    requires node { pair.node.0 < (setting_of scenario.now).nodes }
+    requires slot { pair.slot < (setting_of scenario.now).slots }
     requires shape { IsShaped (setting_of scenario.now) curves.now }
-    requires outputs { outputs.now.shape ≡ shape_at (setting_of scenario.now) node.0 }
-    ensures { IsTrue result ↔ ((i d : ℕ) → i < (setting_of scenario.now).ins node.0 → d < (setting_of scenario.now).destinations
-        → left_after outputs.now i d ≡ counts_of curves.now (arm_group (setting_of scenario.now) node.0 i) d boundary) }
+    requires moves { IfSome moves (λ m. m.now.shape ≡ shape_at (setting_of scenario.now) pair.node.0) }
+    ensures { IsTrue result ↔ ((i d : ℕ) → i < (setting_of scenario.now).ins pair.node.0 → d < (setting_of scenario.now).destinations
+        → counts_of curves.now (arm_group (setting_of scenario.now) pair.node.0 i) d (pair.slot + 1)
+        ≡ counts_of curves.now (arm_group (setting_of scenario.now) pair.node.0 i) d pair.slot + leaves (option_map (λ m. m.now) moves.entry) i d) }
 {
     let _links = link_count(scenario);
-    let links = in_links(scenario, node);
+    let links = in_links(scenario, pair.node);
     for (arm, link) in links.iter().enumerate() {
-        if !has_left(curves, 2 * link.0 + 1, boundary, outputs, arm as u32) {
+        if !has_left(curves, 2 * link.0 + 1, pair.slot, moves, arm as u32) {
             return false;
         }
     }
     true
 }
 
-/// Whether the origin of a node that has out-links counts at a boundary what has left it.
+/// Whether the origin of a node that has out-links counts in a slot what leaves it.
 fn origin_has_left(
     scenario: &Scenario,
     curves: &Curves,
-    node: NodeId,
-    boundary: u32,
-    outputs: &NodeOutputs,
+    pair: Pair,
+    moves: Option<&NodeOutputs>,
 ) -> bool
-    requires node { node.0 < (setting_of scenario.now).nodes }
-    requires boundary { boundary ≤ (setting_of scenario.now).slots }
+    requires node { pair.node.0 < (setting_of scenario.now).nodes }
+    requires slot { pair.slot < (setting_of scenario.now).slots }
     requires shape { IsShaped (setting_of scenario.now) curves.now }
-    requires outputs { outputs.now.shape ≡ shape_at (setting_of scenario.now) node.0 }
-    requires origin { 0 < (setting_of scenario.now).outs node.0 }
+    requires moves { IfSome moves (λ m. m.now.shape ≡ shape_at (setting_of scenario.now) pair.node.0) }
+    requires origin { 0 < (setting_of scenario.now).outs pair.node.0 }
     ensures { IsTrue result ↔ ((d : ℕ) → d < (setting_of scenario.now).destinations
-        → left_after outputs.now ((setting_of scenario.now).ins node.0) d ≡ counts_of curves.now (dep_of (setting_of scenario.now) node.0) d boundary) }
+        → counts_of curves.now (dep_of (setting_of scenario.now) pair.node.0) d (pair.slot + 1)
+        ≡ counts_of curves.now (dep_of (setting_of scenario.now) pair.node.0) d pair.slot
+        + leaves (option_map (λ m. m.now) moves.entry) ((setting_of scenario.now).ins pair.node.0) d) }
 {
     let _nodes = node_count(scenario);
-    let group = 2 * link_count(scenario) + node.0;
-    let origin = in_links(scenario, node).len() as u32;
-    has_left(curves, group, boundary, outputs, origin)
+    let group = 2 * link_count(scenario) + pair.node.0;
+    let origin = in_links(scenario, pair.node).len() as u32;
+    has_left(curves, group, pair.slot, moves, origin)
 }
 
-/// Whether all arms of a node count at a boundary what has left them.
+/// Whether the arms of a node count in a slot what leaves them.
 fn arms_have_left(
     scenario: &Scenario,
     curves: &Curves,
-    node: NodeId,
-    boundary: u32,
-    outputs: &NodeOutputs,
+    pair: Pair,
+    moves: Option<&NodeOutputs>,
 ) -> bool
-    requires node { node.0 < (setting_of scenario.now).nodes }
-    requires boundary { boundary ≤ (setting_of scenario.now).slots }
+    requires node { pair.node.0 < (setting_of scenario.now).nodes }
+    requires slot { pair.slot < (setting_of scenario.now).slots }
     requires shape { IsShaped (setting_of scenario.now) curves.now }
-    requires outputs { outputs.now.shape ≡ shape_at (setting_of scenario.now) node.0 }
-    ensures { IsTrue result ↔ ((i d : ℕ) → i < arms_of (setting_of scenario.now) node.0 → d < (setting_of scenario.now).destinations
-        → left_after outputs.now i d ≡ counts_of curves.now (arm_group (setting_of scenario.now) node.0 i) d boundary) }
+    requires moves { IfSome moves (λ m. m.now.shape ≡ shape_at (setting_of scenario.now) pair.node.0) }
+    ensures { IsTrue result ↔ ((i d : ℕ) → i < arms_of (setting_of scenario.now) pair.node.0 → d < (setting_of scenario.now).destinations
+        → counts_of curves.now (arm_group (setting_of scenario.now) pair.node.0 i) d (pair.slot + 1)
+        ≡ counts_of curves.now (arm_group (setting_of scenario.now) pair.node.0 i) d pair.slot + leaves (option_map (λ m. m.now) moves.entry) i d) }
 {
-    let has_origin = !out_links(scenario, node).is_empty();
-    if !links_have_left(scenario, curves, node, boundary, outputs) {
+    let has_origin = !out_links(scenario, pair.node).is_empty();
+    if !links_have_left(scenario, curves, pair, moves) {
         return false;
     }
     if !has_origin {
         return true;
     }
-    origin_has_left(scenario, curves, node, boundary, outputs)
+    origin_has_left(scenario, curves, pair, moves)
 }
 
-/// Whether the out-links of a node count at a boundary what has entered them.
+/// Whether the out-links of a node count in a slot what enters them.
 fn links_have_entered(
     scenario: &Scenario,
     curves: &Curves,
-    node: NodeId,
-    boundary: u32,
-    outputs: &NodeOutputs,
+    pair: Pair,
+    moves: Option<&NodeOutputs>,
 ) -> bool
-    requires node { node.0 < (setting_of scenario.now).nodes }
-    requires boundary { boundary ≤ (setting_of scenario.now).slots }
+    requires node { pair.node.0 < (setting_of scenario.now).nodes }
+    requires slot { pair.slot < (setting_of scenario.now).slots }
     requires shape { IsShaped (setting_of scenario.now) curves.now }
-    requires outputs { outputs.now.shape ≡ shape_at (setting_of scenario.now) node.0 }
-    ensures { IsTrue result ↔ ((j d : ℕ) → j < (setting_of scenario.now).outs node.0 → d < (setting_of scenario.now).destinations
-        → entered_after outputs.now j d ≡ counts_of curves.now (up_of ((setting_of scenario.now).out_link node.0 j)) d boundary) }
+    requires moves { IfSome moves (λ m. m.now.shape ≡ shape_at (setting_of scenario.now) pair.node.0) }
+    ensures { IsTrue result ↔ ((j d : ℕ) → j < (setting_of scenario.now).outs pair.node.0 → d < (setting_of scenario.now).destinations
+        → counts_of curves.now (up_of ((setting_of scenario.now).out_link pair.node.0 j)) d (pair.slot + 1)
+        ≡ counts_of curves.now (up_of ((setting_of scenario.now).out_link pair.node.0 j)) d pair.slot + enters (option_map (λ m. m.now) moves.entry) j d) }
 {
     let _links = link_count(scenario);
-    for (out, link) in out_links(scenario, node).iter().enumerate() {
-        if !has_entered(curves, 2 * link.0, boundary, outputs, out as u32) {
+    for (out, link) in out_links(scenario, pair.node).iter().enumerate() {
+        if !has_entered(curves, 2 * link.0, pair.slot, moves, out as u32) {
             return false;
         }
     }
     true
 }
 
-/// Whether the sinks count at a boundary what has arrived at a node; at one that is no destination nothing arrives.
+/// How much arrives.
+fn arriving(moves: Option<&NodeOutputs>) -> u64
+    ensures { result ≡ arrives (option_map (λ m. m.now) moves.entry) }
+{
+    match moves {
+        Some(moves) => moves.arrived(),
+        None => 0,
+    }
+}
+
+/// Whether the sinks count in a slot what arrives at a node; at one that is no destination nothing arrives.
 fn has_arrived(
     scenario: &Scenario,
     curves: &Curves,
-    node: NodeId,
-    boundary: u32,
-    outputs: &NodeOutputs,
+    pair: Pair,
+    moves: Option<&NodeOutputs>,
 ) -> bool
-    requires node { node.0 < (setting_of scenario.now).nodes }
-    requires boundary { boundary ≤ (setting_of scenario.now).slots }
+    requires slot { pair.slot < (setting_of scenario.now).slots }
     requires shape { IsShaped (setting_of scenario.now) curves.now }
-    ensures { IsTrue result ↔ (arrived_after outputs.now ≡ arrived_by (setting_of scenario.now) (counts_of curves.now) ((setting_of scenario.now).own node.0) boundary) }
+    ensures { IsTrue result
+        ↔ (arrived_by (setting_of scenario.now) (counts_of curves.now) ((setting_of scenario.now).own pair.node.0) (pair.slot + 1)
+        ≡ arrived_by (setting_of scenario.now) (counts_of curves.now) ((setting_of scenario.now).own pair.node.0) pair.slot
+        + arrives (option_map (λ m. m.now) moves.entry)) }
 {
-    match own(scenario, node) {
-        None => outputs.arrived() == 0,
+    match own(scenario, pair.node) {
+        None => arriving(moves) == 0,
         Some(destination) => {
+            let _slots = curves.slots();
             let group = 2 * link_count(scenario) + node_count(scenario);
-            outputs.arrived() == curves.get(group, destination, boundary)
+            let before = curves.get(group, destination, pair.slot);
+            let after = curves.get(group, destination, pair.slot + 1);
+            grows_by(before, after, arriving(moves))
         }
     }
 }
 
-/// Whether curves hold at a boundary all counts that a node step gave.
-pub(crate) fn hold_counts(
+/// Whether the counts of a node grow in a slot by what moves; where no moves are handed in, nothing does.
+pub(crate) fn node_grows(
     scenario: &Scenario,
     curves: &Curves,
-    node: NodeId,
-    boundary: u32,
-    outputs: &NodeOutputs,
+    pair: Pair,
+    moves: Option<&NodeOutputs>,
 ) -> bool
-    requires node { node.0 < (setting_of scenario.now).nodes }
-    requires boundary { boundary ≤ (setting_of scenario.now).slots }
+    requires node { pair.node.0 < (setting_of scenario.now).nodes }
+    requires slot { pair.slot < (setting_of scenario.now).slots }
     requires shape { IsShaped (setting_of scenario.now) curves.now }
-    requires outputs { outputs.now.shape ≡ shape_at (setting_of scenario.now) node.0 }
-    ensures { IsTrue result ↔ HoldsCounts (setting_of scenario.now) (counts_of curves.now) node.0 boundary outputs.now }
+    requires moves { IfSome moves (λ m. m.now.shape ≡ shape_at (setting_of scenario.now) pair.node.0) }
+    ensures { IsTrue result
+        ↔ GrowBy (setting_of scenario.now) (counts_of curves.now) pair.node.0 pair.slot (option_map (λ m. m.now) moves.entry) }
 {
-    arms_have_left(scenario, curves, node, boundary, outputs)
-        && links_have_entered(scenario, curves, node, boundary, outputs)
-        && has_arrived(scenario, curves, node, boundary, outputs)
+    arms_have_left(scenario, curves, pair, moves)
+        && links_have_entered(scenario, curves, pair, moves)
+        && has_arrived(scenario, curves, pair, moves)
 }

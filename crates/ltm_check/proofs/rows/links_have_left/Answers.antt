@@ -1,19 +1,22 @@
-use Rattle.std.proofs.Common.{◌≡◌, ◌<◌, ◌+◌, ◌*◌, ℕ, get_or, inl, inr, arith, ap, sym, ◌∙◌}
+use Rattle.std.proofs.Common.{◌≡◌, ◌<◌, ◌+◌, ◌*◌, ℕ, get_or, inl, inr, arith, option_map, subst}
 use Rattle.std.proofs.lemmas.Bool.{cases_lt}
 use Rattle.ltm_curve.specs.Table.{counts_of}
-use Rattle.ltm_node.specs.Outputs.{left_after}
 use Rattle.ltm_loading.specs.Groups.{down_of, dep_of}
 use Rattle.ltm_loading.specs.Pairs.{arm_group}
 use Rattle.ltm_setting.specs.Setting.{setting_of}
 use Rattle.ltm_inputs.proofs.Arms.{link_item}
 use Rattle.ltm_flows.proofs.Writing.{pick_first}
+use Rattle.ltm_check.specs.Moves.{leaves}
 use Rattle.ltm_check.proofs.rows.links_have_left.Goals as goal
 
 pub loop-arm-preserved : goal.loop-arm-preserved
 loop-arm-preserved c i d l m =
     let s = setting_of c.args.scenario.now in
-    let u : ℕ = c.args.node.0 in
+    let u : ℕ = c.args.pair.node.0 in
+    let t : ℕ = c.args.pair.slot in
     let a : ℕ = c.loop-arm.arm in
+    let counts = counts_of c.args.curves.now in
+    let moves = option_map (λ m. m.now) c.args.moves in
     let links = c.in_links-links.result.now in
     let link : a < s.ins u = omega (arith, c.loop-arm-test.true, c.in_links-links.ensures.count) in
     let group : 2 * (get_or links a (record { 0 = 0 })).0 + 1 ≡ arm_group s u a =
@@ -21,8 +24,8 @@ loop-arm-preserved c i d l m =
     elim (cases_lt i a) [
       | inl less ↦ c.loop-arm.invariant i d less m
       | inr last ↦
-          let at : i ≡ a = omega arith in
-          ap (λ (z : ℕ). left_after c.args.outputs.now z d) at
-          ∙ (c.has_left.ensures.0 c.if-not-has_left.false d (omega (arith, m, c.requires.shape.same_destinations))
-          ∙ ap (λ (z : ℕ). counts_of c.args.curves.now z d c.args.boundary) (group ∙ ap (arm_group s u) (sym at)))
+          let at : a ≡ i = omega arith in
+          subst (λ (z : ℕ). counts (arm_group s u z) d (t + 1) ≡ counts (arm_group s u z) d t + leaves moves z d) at
+          (subst (λ (g : ℕ). counts g d (t + 1) ≡ counts g d t + leaves moves a d) group
+          (c.has_left.ensures.0 c.if-not-has_left.false d (omega (arith, m, c.requires.shape.same_destinations))))
     ]
