@@ -1,0 +1,88 @@
+-- The sheet of a list, and how many links it has.
+use Rattle.std.proofs.Common.{◌≡◌, ℕ, true, List, [], ◌∷◌, ◌++◌, length, refl, sym, ap, ◌∙◌}
+use mathlib.Core.List.{IsPrefix}
+use Rattle.ltm_curve.specs.Table.{counts_of}
+use Rattle.ltm_loading.specs.Setting.{Setting}
+use Rattle.ltm_scenario.specs.Data.{ScenarioData}
+use Rattle.ltm_scenario.specs.Makes.{EditsMake}
+use Rattle.ltm_setting.specs.Setting.{setting_of}
+use Rattle.ltm_flows.specs.declared.loading.Loading.{Loading}
+use Rattle.ltm_flows.specs.Shown.{Shows, curves_of}
+use Rattle.ltm_core.specs.declared.entry.LogEntry.{LogEntry}
+use Rattle.ltm_core.specs.declared.entry.LogEntry.TheVariants.{Opening, Accepted, Mark}
+use Rattle.ltm_board.specs.Sheets.{SheetData, IsSheet, links_on}
+use Rattle.ltm_board.specs.Lists.{PostData, joined, list_of, opening_posts, links_told, is_opened, LeadsTo, IsLoadingOf, IsSheetAfter}
+use Rattle.ltm_board.specs.Begins.{BeginsWith}
+use Rattle.ltm_board.specs.Views.{oldest}
+use Rattle.ltm_board.proofs.Lists.{joined_begins}
+use Rattle.ltm_board.proofs.Networks.{by_batches}
+
+pub opens_itself : (s : ScenarioData) → LeadsTo (list_of s []) s
+opens_itself s = record { opening = s; batches = []; is_list = refl; accepted = tt; leaves = refl }
+
+pub sheet_after : (list : List LogEntry) (s : ScenarioData) (l : Loading) (sheet : SheetData) → LeadsTo list s → IsLoadingOf s l
+    → ((r : Setting) (version : ℕ) → Shows r version l → IsSheet r (counts_of (curves_of l)) sheet) → IsSheetAfter list sheet
+sheet_after list s l sheet leads loading is = record {
+  scenario = s;
+  counts = counts_of (curves_of l);
+  leads = leads;
+  loading = loading.1.loading;
+  is_sheet = is (setting_of s) loading.0 loading.1;
+}
+
+links_in : (s : ScenarioData) → (setting_of s).links ≡ length s.network.links
+unfolding setting_of
+links_in s = refl
+
+-- a sheet has the links of the opening scenario
+pub links_after : EditsMake → (list : List LogEntry) (sheet : SheetData) → IsSheetAfter list sheet → links_on sheet ≡ links_told list
+links_after make list sheet is =
+    let o = is.leads in
+    is.is_sheet.links ∙ (links_in is.scenario
+    ∙ (ap (λ (s : ScenarioData). length s.network.links) (sym o.leaves)
+    ∙ ((λ i. length (by_batches make o.opening o.batches o.accepted i).links) ∙ sym (ap links_told o.is_list))))
+
+told_same : (first list : List LogEntry) → is_opened first ≡ true → IsPrefix first list → links_told list ≡ links_told first
+told_same (Opening s ∷ rest) list opened (more, e) = ap links_told (sym e)
+told_same (Accepted batch ∷ rest) list opened begins = absurd (cc)
+told_same (Mark ∷ rest) list opened begins = absurd (cc)
+told_same [] list opened begins = absurd (cc)
+
+oldest_begins : (list : List PostData) (known : List (List PostData)) → is_opened (joined (oldest known)) ≡ true → BeginsWith list known → IsPrefix (oldest known) list
+oldest_begins list [] opened h = absurd (cc)
+oldest_begins list (l ∷ []) opened h = h.0
+oldest_begins list (l ∷ m ∷ ms) opened h = oldest_begins list (m ∷ ms) opened h.1
+
+-- what hangs has as many links as a viewer knows
+pub links_known : EditsMake → (list : List LogEntry) (posts : List PostData) (sheet : SheetData) (known : List (List PostData)) → list ≡ joined posts → IsSheetAfter list sheet → BeginsWith posts known
+    → is_opened (joined (oldest known)) ≡ true → links_on sheet ≡ links_told (joined (oldest known))
+links_known make list posts sheet known same is begins opened =
+    links_after make list sheet is ∙ (ap links_told same ∙ told_same (joined (oldest known)) (joined posts) opened (joined_begins (oldest known) posts (oldest_begins posts known opened begins)))
+
+-- the oldest list stays when others are put before it
+pub oldest_stays : (list : List PostData) (known : List (List PostData)) → is_opened (joined (oldest known)) ≡ true → oldest (list ∷ known) ≡ oldest known
+oldest_stays list [] opened = absurd (cc)
+oldest_stays list (m ∷ ms) opened = refl
+
+pub same_opened : (a b : List LogEntry) → a ≡ b → is_opened b ≡ true → is_opened a ≡ true
+same_opened a b e opened = ap is_opened e ∙ opened
+
+opened_list : (list : List LogEntry) (s : ScenarioData) → LeadsTo list s → is_opened list ≡ true
+opened_list list s leads = same_opened list (list_of leads.opening leads.batches) leads.is_list refl
+
+-- a longer list has a sheet of as many links
+pub links_stay : EditsMake → (list more : List LogEntry) (sheet next : SheetData) → IsSheetAfter list sheet → IsSheetAfter (list ++ more) next → links_on next ≡ links_on sheet
+links_stay make list more sheet next is now =
+    links_after make (list ++ more) next now
+    ∙ (told_same list (list ++ more) (opened_list list is.scenario is.leads) (more, refl)
+    ∙ sym (links_after make list sheet is))
+
+-- a sheet of the opening loading has the links of the opening scenario
+pub links_opening : EditsMake → (s : ScenarioData) (sheet : SheetData) → IsSheetAfter (list_of s []) sheet → links_on sheet ≡ (setting_of s).links
+links_opening make s sheet is = links_after make (list_of s []) sheet is ∙ sym (links_in s)
+
+pub told_opening : (s : ScenarioData) (known : List (List PostData)) → known ≡ opening_posts s ∷ [] → links_told (joined (oldest known)) ≡ (setting_of s).links
+told_opening s known is = ap (λ (l : List (List PostData)). links_told (joined (oldest l))) is ∙ sym (links_in s)
+
+pub opened_opening : (s : ScenarioData) (known : List (List PostData)) → known ≡ opening_posts s ∷ [] → is_opened (joined (oldest known)) ≡ true
+opened_opening s known is = ap (λ (l : List (List PostData)). is_opened (joined (oldest l))) is

@@ -1,0 +1,11 @@
+pub mod Sheets
+pub mod Making
+pub mod Lists
+pub mod Panels
+pub mod Begins
+pub mod Views
+pub mod Rule
+pub mod Steps
+pub mod Boxes
+pub mod Boards
+pub mod Leads
