@@ -1,5 +1,5 @@
 -- The words ask for editors, or for something else; and what editors leave, as the program says it.
-use Rattle.std.proofs.Common.{ℕ, zero, suc, ◌≡◌, ◌⊎◌, ◌<◌, ◌≤◌, inl, inr, refl, ap, sym, subst, ◌∙◌, arith, List, [], ◌∷◌, Option, Ok, Err}
+use Rattle.std.proofs.Common.{ℕ, ◌≡◌, ◌≤◌, inl, inr, ap, sym, subst, ◌∙◌, arith, List, [], ◌∷◌, Option, Ok, Err}
 use Rattle.std.specs.Prelude.{codes}
 use Rattle.ltm_io.specs.Folder.{Files}
 use Rattle.ltm_io.specs.Sink.{appended}

@@ -1,6 +1,5 @@
 -- What editors write of a folder's files.
-use Rattle.std.proofs.Common.{ℕ, ◌≡◌, ◌⊎◌, ◌<◌, inl, inr, refl, ap, sym, subst, ◌∙◌, arith, List, [], ◌∷◌, Option, Some, Ok, Err}
-use Rattle.std.specs.Prelude.{IfSome, Result}
+use Rattle.std.proofs.Common.{ℕ, ◌≡◌, ◌⊎◌, inl, inr, refl, sym, subst, ◌∙◌, List, Option, Some, Ok, Err}
 use Rattle.ltm_io.specs.declared.doc.Doc.{Doc}
 use Rattle.ltm_io.specs.Folder.{Files}
 use Rattle.ltm_io.specs.Faults.{Rose}
@@ -9,12 +8,10 @@ use Rattle.ltm_scenario.specs.declared.edit.Edit.{Edit}
 use Rattle.ltm_scenario.specs.Data.{ScenarioData}
 use Rattle.ltm_casefile.specs.declared.faults.CaseFault.{CaseFault}
 use Rattle.ltm_casefile.specs.declared.faults.CaseFault.TheVariants as fault
-use Rattle.ltm_casefile.specs.Case.{case_of}
 use Rattle.ltm_checking.specs.declared.refusal.Refusal.TheVariants as checked
 use Rattle.ltm_edits.specs.declared.fault.EditsFault.{EditsFault}
 use Rattle.ltm_edits.specs.declared.fault.EditsFault.TheVariants as edits
 use Rattle.ltm_edits.specs.declared.fault.LineCause.{LineCause}
-use Rattle.ltm_edits.specs.Scripts.{scripts_of}
 use Rattle.ltm_editing.specs.declared.refusal.Refusal.{Refusal}
 use Rattle.ltm_editing.specs.declared.refusal.Refusal.TheVariants as refusal
 use Rattle.ltm_editing.specs.Lines.{bad_script_line}
@@ -24,7 +21,7 @@ use Rattle.ltm_texts.specs.declared.status.Status.{Status}
 use Rattle.ltm_texts.specs.declared.status.Status.TheVariants as ending
 use Rattle.ltm_texts.specs.Program as texts
 use Rattle.ltm_texts.specs.Program.{IsWhole, case_status, refusal_of}
-use Rattle.ltm.specs.Editors.{edits_refusal, edits_status, editing_words, editing_status, IsEditingUnder, WritesEditingFront, HasScripts, IsCalmFor}
+use Rattle.ltm.specs.Editors.{editing_words, editing_status, IsEditingUnder, WritesEditingFront, HasScripts, IsCalmFor}
 
 -- ---- a fault of the case is told as other commands tell it
 told_case : (f : CaseFault) → texts.IsTold (checked.Case f) → IsTold (refusal.Case f)

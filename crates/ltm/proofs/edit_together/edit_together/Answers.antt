@@ -1,4 +1,3 @@
-use Rattle.std.proofs.Common.{inr, Ok}
 use Rattle.ltm.proofs.Editing.{whole_text, whole_refused, front_text, front_refused, refused_usage, refused_read, missing_no_text, missing_refused}
 use Rattle.ltm.proofs.edit_together.edit_together.Goals as goal
 
