@@ -8,6 +8,7 @@
 //!   another way. A command with a text of its own stands in `ltm_texts`.
 #![tactic(auto)]
 
+mod edit_together;
 mod program;
 mod run;
 mod serve;

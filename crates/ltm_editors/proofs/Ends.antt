@@ -1,5 +1,5 @@
 -- The table at the start has the rule, and at the end it has the value.
-use Rattle.std.proofs.Common.{◌≡◌, ◌≢◌, ℕ, zero, suc, ◌==◌, Bool, true, false, cond, List, [], ◌∷◌, ◌++◌, refl, sym, ap, ◌∙◌, inl, ⊎_elim, subst, arith, Option, Some}
+use Rattle.std.proofs.Common.{◌≡◌, ◌≢◌, ◌≤◌, ℕ, zero, suc, ◌==◌, Bool, true, false, cond, List, [], ◌∷◌, ◌++◌, refl, sym, ap, ◌∙◌, inl, ⊎_elim, subst, arith, Option, Some}
 use Rattle.std.specs.List.{Contains, filter}
 use Rattle.std.proofs.lemmas.Bool.{eq-eqb}
 use Rattle.std.proofs.lemmas.List.{append-nil}
@@ -99,3 +99,10 @@ module _ {T O E : Type 0} (opening : T → O) (history : T → List E) (author :
       (not_false h.holder.live (λ d. clash (sym h.holds ∙ (k.fits h.place h.holder h.at_place).spent d)))
       (λ e. clash (sym h.holds ∙ (ap (λ (z : View O E). z.holds) (one_view s.views h.place id h.holder v h.at_place at e) ∙ quiet))))
       k.stands
+
+  -- and has seen no entry of a number that was not given out
+  pub closes_made : (id : ℕ) (v : View O E) (ws : List ℕ) (xs : List (Option T)) → v.chair ≡ true → Final (Seen (IsDesk opening history author) id v) ws xs → (n : ℕ) → v.made ≤ n → entries_of author n v.seen ≡ []
+  closes_made id v ws xs is (s, seen, words, deep, slots) n least =
+      let k = seen.0 in let at = seen.1 in
+      let same : k.head.made ≡ v.made = ap (λ (z : View O E). z.made) (one_view s.views k.chair id k.head v k.at_chair at (sym (k.one_chair id v at is))) in
+      none_before author n v.seen k.log (k.fits id v at).begins (k.not_made n (omega (arith, same, least)))

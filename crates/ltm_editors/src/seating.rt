@@ -1,6 +1,6 @@
 //! How a desk is made and ended, and how seats are split from the first and joined with it.
-ghost use Rattle.std.specs.Prelude.{◌≡◌, ◌≤◌, [], Some, IfOk, IfErr};
-ghost use Rattle.ltm_editors.specs.Lists.{SeesBoth};
+ghost use Rattle.std.specs.Prelude.{◌≡◌, ◌≤◌, ℕ, [], Some, IfOk, IfErr};
+ghost use Rattle.ltm_editors.specs.Lists.{entries_of, SeesBoth};
 ghost use Rattle.ltm_editors.specs.Seats.{first_place, place_after_split, next_place, place_after_join, desk_id, seat_place, seat_seen};
 
 use crate::desk::{Desk, Seat};
@@ -119,13 +119,14 @@ impl<T: Kept> Desk<T> {
     }
 
     /// Ends the desk, once every other seat was joined: the value has the opening of the desk, and exactly the history that the
-    /// first seat has seen.
+    /// first seat has seen; and no entry has a number that was not given out.
     pub fn close(self, first: Seat<T>) -> T
         requires desk { (seat_place first).desk ≡ desk_id self }
         requires first { (seat_place first).number ≡ 0 }
         requires alone { (seat_place first).others ≡ 0 }
         ensures opening { (seat_place first).opening ≡ Some (T.opening result) }
         ensures history { T.history result ≡ seat_seen first }
+        ensures made { (n : ℕ) → (seat_place first).made ≤ n → entries_of T.author n (T.history result) ≡ [] }
     {
         let Desk { table } = self;
         let (token, _, _, _) = first.open();

@@ -1,8 +1,9 @@
-use Rattle.std.proofs.Common.{◌≡◌, Option, Some, ap, subst, ◌∙◌, sym}
+use Rattle.std.proofs.Common.{◌≡◌, [], Option, Some, ap, subst, ◌∙◌, sym, arith}
 use Rattle.std.specs.Slots.{slots_items}
 use Rattle.ltm_editors.specs.Boxes.{boxed}
 use Rattle.ltm_editors.specs.declared.view.View.{View}
-use Rattle.ltm_editors.proofs.Ends.{closes, same_value}
+use Rattle.ltm_editors.specs.Lists.{entries_of}
+use Rattle.ltm_editors.proofs.Ends.{closes, closes_made, same_value}
 use Rattle.ltm_editors.proofs.desk.Desk.close.Goals as goal
 use Rattle.ltm_editors.proofs.desk.Desk.close.Goals.{After-free}
 
@@ -30,3 +31,13 @@ returns-clause-opening g c = let k = found g (goal.at.returns-clause-opening g c
 
 pub returns-clause-history : goal.returns-clause-history
 returns-clause-history g c = let k = found g (goal.at.returns-clause-history g c).After-free in ap g.T.Kept.history c.into_inner.ensures ∙ ap (boxed g.T.Kept.history) (same c.take-value.result c.in-Some.boxed k.0 c.in-Some.is k.1) ∙ k.3
+
+pub returns-clause-made : goal.returns-clause-made
+returns-clause-made g c = λ n least.
+    let k = found g (goal.at.returns-clause-made g c).After-free in
+    let history = ap g.T.Kept.history c.into_inner.ensures ∙ ap (boxed g.T.Kept.history) (same c.take-value.result c.in-Some.boxed k.0 c.in-Some.is k.1) ∙ k.3 in
+    let seat = c.open-token.result.0 in let is_seat = c.open-token.ensures.0 in let first = c.args.first in
+    let made : seat.me.0.made ≡ first.made = ap (λ s. s.me.0.made) is_seat ∙ first.counted.1 in
+    let none = closes_made (boxed g.T.Kept.opening) (boxed g.T.Kept.history) g.T.Kept.author _ seat.me.0 _ (slots_items c.close_with-closed.result.slots) (ap (λ s. s.me.0.chair) is_seat ∙ (first.first c.requires.first).0)
+    c.close_with-closed.ensures.values.2 n (omega (arith, made, least)) in
+    ap (λ h. entries_of g.T.Kept.author n h) history ∙ subst (λ s. entries_of g.T.Kept.author n s.me.0.seen ≡ []) is_seat none

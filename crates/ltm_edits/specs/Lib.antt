@@ -1,0 +1,4 @@
+pub mod Each
+pub mod Faults
+pub mod Files
+pub mod Scripts
