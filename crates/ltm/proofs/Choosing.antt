@@ -26,6 +26,7 @@ use Rattle.ltm_texts.proofs.Choice.{first_byte, first_word}
 use Rattle.ltm_session.specs.Session.{Answering}
 use Rattle.ltm.specs.Sessions.{IsSessionUnder, status_of_end}
 use Rattle.ltm.specs.Editors.{IsEditingUnder, WritesEditingFront, HasScripts, editing_words, editing_status}
+use Rattle.ltm.specs.Views.{IsViewUnder}
 use Rattle.ltm.specs.Run.{AsksNoEditors, IsTextFor, WritesFrontFor}
 use Rattle.ltm.proofs.Editing.{bad_line_told, edited}
 
@@ -57,11 +58,11 @@ no_session words (m, asks, digits, number, most) (n, is, short, counts, some, fe
 -- ---- what editors leave
 pub whole_editing : (words : List (List ℕ)) (editors : ℕ) (told : Option Files) (script old new : Option (List ℕ)) (status : Status) → AsksEditors words editors
     → ((text : List ℕ) × IsEditingUnder editors told status text × (new ≡ appended text old)) → (text : List ℕ) × IsTextFor words told script status text × (new ≡ appended text old)
-whole_editing words editors told script old new status asks (text, under, wrote) = (text, inr (inr (inr (editors, asks, under))), wrote)
+whole_editing words editors told script old new status asks (text, under, wrote) = (text, inr (inr (inr (inl (editors, asks, under)))), wrote)
 
 pub front_editing : (words : List (List ℕ)) (editors : ℕ) (told : Option Files) (script old new : Option (List ℕ)) → AsksEditors words editors → WritesEditingFront editors told old new → WritesFrontFor words told script old new
 front_editing words editors told script old new asks (inl same) = inl same
-front_editing words editors told script old new asks (inr (status, text, under, front)) = inr (status, text, inr (inr (inr (editors, asks, under))), front)
+front_editing words editors told script old new asks (inr (status, text, under, front)) = inr (status, text, inr (inr (inr (inl (editors, asks, under)))), front)
 
 pub editors_wrote : (editors : ℕ) (told : Option Files) (old new : Option (List ℕ)) (status : Status) → (IsWhole status → (text : List ℕ) × IsEditingUnder editors told status text × (new ≡ appended text old)) → status ≡ ending.Ok
     → (s : ScenarioData) × (scripts : List (List (List Edit))) × (text : List ℕ) × HasScripts told editors s scripts × IsEditingText s scripts text × (new ≡ appended text old)
@@ -102,6 +103,10 @@ no_session_script : (answers : Answering) (told : Option Files) (script : Option
 no_session_script answers told script text (inl (f, describes, is, at)) = no_case_script f (sym is)
 no_session_script answers told script text (inr (s, e, describes, is, served)) = no_end_script e (sym is)
 
+no_view_script : (viewers : ℕ) (told : Option Files) (script : Option (List ℕ)) (text : List ℕ) → IsViewUnder viewers told script ending.BadScript text → ⊥
+no_view_script viewers told script text (inl (f, describes, is, at)) = no_case_script f (sym is)
+no_view_script viewers told script text (inr (s, e, describes, is, served)) = no_end_script e (sym is)
+
 abbrev pub BadLine : List (List ℕ) → Option Files → Option (List ℕ) → Option (List ℕ) → Type 0
 BadLine words told old new = (editors : ℕ) × AsksEditors words editors × (editor : ℕ) × (line : ℕ) × (cause : LineCause)
     × AnswersEditing told editors (Err (refusal.Edits (edits.BadLine editor line cause))) × (new ≡ appended (bad_script_line editor line cause) old)
@@ -114,5 +119,6 @@ bad_line words told script old new status is whole = let h = whole (subst IsWhol
     of_text text (inl (none, status_is, at)) wrote = absurd (cc)
     of_text text (inr (inl (command, asks, under))) wrote = absurd (no_answer_script command told text under)
     of_text text (inr (inr (inl (workers, asks, under)))) wrote = absurd (no_session_script _ told script text under)
-    of_text text (inr (inr (inr (editors, asks, under)))) wrote =
+    of_text text (inr (inr (inr (inr (viewers, asks, under))))) wrote = absurd (no_view_script viewers told script text under)
+    of_text text (inr (inr (inr (inl (editors, asks, under))))) wrote =
         let b = bad_line_told told editors text under in (editors, asks, b.0, b.1, b.2, b.3, wrote ∙ ap (λ (t : List ℕ). appended t old) b.4)

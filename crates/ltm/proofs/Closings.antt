@@ -45,7 +45,7 @@ closed_front end.NoMemory old now new output wrote more = closed_early old now n
 
 -- ---- whole texts
 -- under a status of a whole text all of the output was written
-wrote_whole : (e : SessionEnd) (old now : Option (List ℕ)) (output : List ℕ) → IsWhole (status_of_end e) → Wrote e old now output → now ≡ appended output old
+pub wrote_whole : (e : SessionEnd) (old now : Option (List ℕ)) (output : List ℕ) → IsWhole (status_of_end e) → Wrote e old now output → now ≡ appended output old
 wrote_whole end.Ended old now output whole wrote = wrote
 wrote_whole (end.LineTooLong n) old now output whole wrote = wrote
 wrote_whole end.TooManyCommands old now output whole wrote = wrote

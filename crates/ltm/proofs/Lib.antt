@@ -4,3 +4,5 @@ mod Sorting
 mod Crews
 mod Editing
 mod Choosing
+mod Viewings
+mod Viewers

@@ -13,6 +13,7 @@ mod program;
 mod run;
 mod serve;
 mod serve_beside;
+mod view;
 
 use ltm_io::{RealFolder, RealOutput};
 use ltm_lines::RealInput;

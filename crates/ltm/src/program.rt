@@ -1,4 +1,4 @@
-//! The top call of the program: every command, sessions beside workers, and several editors.
+//! The top call of the program: every command, sessions beside workers, sessions with viewers, and several editors.
 ghost use Rattle.std.specs.Prelude.{◌≡◌, ◌⊎◌, ℕ, ◌<◌, ◌≤◌, List, length, map, string_bytes, IfSome, Some, Ok, Err, true, false};
 ghost use Rattle.std.specs.List.{Contains};
 ghost use Rattle.ltm_io.specs.Faults.{Rose};
@@ -15,7 +15,7 @@ ghost use Rattle.ltm_report.specs.CaseFaults.{bad_case_line};
 ghost use Rattle.ltm_routing.specs.File.{IsSplitsFile, IsTimesFile};
 ghost use Rattle.ltm_trial.specs.Trial.{IsTrial};
 ghost use Rattle.ltm_texts.specs.declared.words.Command.{Command};
-ghost use Rattle.ltm_texts.specs.Words.{Asks, AsksSession, AsksEditors, usage_line};
+ghost use Rattle.ltm_texts.specs.Words.{Asks, AsksSession, AsksEditors, AsksView, usage_line};
 ghost use Rattle.ltm_texts.specs.Report.{IsReport};
 ghost use Rattle.ltm_texts.specs.Answers.{Answer, Answers, Describes, may_fetch, fetches};
 ghost use Rattle.ltm_texts.specs.Program.{IsWhole, FileFailed, IsCalm, IsMissing, IsLong, status_of, words_of};
@@ -26,6 +26,7 @@ ghost use Rattle.ltm_checking.specs.Lines.{yes_line};
 ghost use Rattle.ltm_checking.specs.Loaded.{IsLoadingText};
 ghost use Rattle.ltm_checking.specs.Checks.{HasCurves, most_bytes};
 ghost use Rattle.ltm_session.specs.Session.{IsOutputAlone, IsSessionOutput};
+ghost use Rattle.ltm_viewing.specs.View.{IsViewOutput};
 ghost use Rattle.ltm_edits.specs.declared.fault.EditsFault.{EditsFault};
 ghost use Rattle.ltm_edits.specs.declared.fault.LineCause.{LineCause};
 ghost use Rattle.ltm_edits.specs.Files.{docs_of};
@@ -35,11 +36,12 @@ ghost use Rattle.ltm_editing.specs.Editing.{IsEditingText};
 ghost use Rattle.ltm_editing.specs.Answers.{Answer as Editing, AnswersEditing, IsMissing as IsUngiven};
 ghost use Rattle.ltm.specs.Sessions.{ServesWhole, session_status};
 ghost use Rattle.ltm.specs.Editors.{HasScripts, IsCalmFor, editing_words, editing_status};
-ghost use Rattle.ltm.specs.Run.{AsksNone, AsksNoSession, AsksNoEditors, IsTextFor, WritesFrontFor, FolderFailedFor};
+ghost use Rattle.ltm.specs.Run.{AsksNone, AsksNoSession, AsksNoEditors, AsksNoView, AsksScript, IsTextFor, WritesFrontFor, FolderFailedFor};
 
 use crate::edit_together::{edit_together, editors_in};
 use crate::run::run_alone;
 use crate::serve_beside::serve_beside;
+use crate::view::{serve_viewed, viewers_in};
 use ltm_io::{Folder, Sink};
 use ltm_lines::Source;
 use ltm_session::alone_is_a_session;
@@ -65,6 +67,9 @@ fn workers_of(words: &[String]) -> u32
 /// `session N`, N from 1 to 64, a session beside so many workers, which run in threads of their own and have ended when it
 /// returns. Each worker calls the gate for each pair that it claimed.
 ///
+/// `view V`, V of 1 or 2, serves the script as `session 0` does; what each settle shows is posted on a board for each of V
+/// viewers, which they read in threads of their own. At the end each viewer tells the totals of the loading that was shown last.
+///
 /// `editors K`, K from 1 to 8, fetches and reads the case, fetches `edits1.jsonl` to `editsK.jsonl`, reads all their lines, and
 /// then lets K editors make them, each in a thread of its own; it writes each call with its verdict, in the order of their one
 /// history, and the totals of the loading that they leave.
@@ -80,7 +85,7 @@ pub fn run<R: Threads + Wait + Sync, F: Folder, S: Source, W: Sink, G: Gate>(
     ensures keeps { F.told folder.new ≡ F.told folder.old }
 
     // No other file of the folder is touched than those of the command that the words ask for, and the input by a session
-    // alone.
+    // and by viewers alone.
     ensures untouched { AsksNone (map string_bytes words.now) → (d : Doc) → F.faults folder.new d ≡ F.faults folder.old d }
     ensures others { (command : Command) → Asks (map string_bytes words.now) command
         → (d : Doc) → may_fetch command d ≡ false → F.faults folder.new d ≡ F.faults folder.old d }
@@ -94,10 +99,14 @@ pub fn run<R: Threads + Wait + Sync, F: Folder, S: Source, W: Sink, G: Gate>(
         → (d : Doc) → is_case_file d ≡ false → (Contains (docs_of editors) d → ⊥) → F.faults folder.new d ≡ F.faults folder.old d }
     ensures editors_unasked { (editors : ℕ) → AsksEditors (map string_bytes words.now) editors
         → IfSome (F.told folder.old) (λ files. (d : Doc) → asks_for files d ≡ false → (Contains (docs_of editors) d → ⊥) → F.faults folder.new d ≡ F.faults folder.old d) }
-    ensures unread { AsksNoSession (map string_bytes words.now)
+    ensures view_others { (viewers : ℕ) → AsksView (map string_bytes words.now) viewers
+        → (d : Doc) → is_case_file d ≡ false → F.faults folder.new d ≡ F.faults folder.old d }
+    ensures view_unasked { (viewers : ℕ) → AsksView (map string_bytes words.now) viewers
+        → IfSome (F.told folder.old) (λ files. (d : Doc) → asks_for files d ≡ false → F.faults folder.new d ≡ F.faults folder.old d) }
+    ensures unread { AsksNoSession (map string_bytes words.now) → AsksNoView (map string_bytes words.now)
         → (S.left input.new ≡ S.left input.old) × (S.faults input.new ≡ S.faults input.old) }
 
-    // The words decide between the usage line, a command, a session and editors.
+    // The words decide between the usage line, a command, a session, editors and viewers.
     ensures usage { result ≡ Status.Usage → AsksNone (map string_bytes words.now)
         × (W.written output.new ≡ appended usage_line (W.written output.old)) }
     ensures asked { AsksNone (map string_bytes words.now)
@@ -108,7 +117,7 @@ pub fn run<R: Threads + Wait + Sync, F: Folder, S: Source, W: Sink, G: Gate>(
         → FolderFailedFor (map string_bytes words.now) (F.told folder.old) (F.faults folder.old) (F.faults folder.new)
         × (W.written output.new ≡ W.written output.old) }
     ensures read_fault { result ≡ Status.ReadFault
-        → ((workers : ℕ) × AsksSession (map string_bytes words.now) workers) × Rose (S.faults input.old) (S.faults input.new) }
+        → AsksScript (map string_bytes words.now) × Rose (S.faults input.old) (S.faults input.new) }
     ensures write_fault { result ≡ Status.WriteFault → Rose (W.faults output.old) (W.faults output.new) }
 
     // With any other status than a folder's fault, a failed writing and want of memory, the whole text that belongs to it is
@@ -133,11 +142,11 @@ pub fn run<R: Threads + Wait + Sync, F: Folder, S: Source, W: Sink, G: Gate>(
     ensures curves { Asks (map string_bytes words.now) Command.Curves → result ≡ Status.Ok → (s : ScenarioData) × (text : List ℕ)
         × Describes (F.told folder.old) (Ok s) × IsLoadingText s text
         × (W.written output.new ≡ appended text (W.written output.old)) }
-    ensures bad_case { AsksNoSession (map string_bytes words.now) → AsksNoEditors (map string_bytes words.now) → result ≡ Status.BadCase → (command : Command)
+    ensures bad_case { AsksNoSession (map string_bytes words.now) → AsksNoEditors (map string_bytes words.now) → AsksNoView (map string_bytes words.now) → result ≡ Status.BadCase → (command : Command)
         × Asks (map string_bytes words.now) command × (file : File) × (row : ℕ) × (cause : CaseCause)
         × Answers command (F.told folder.old) (Err (Refusal.Case (CaseFault.Bad file row cause)))
         × (W.written output.new ≡ appended (bad_case_line file row cause) (W.written output.old)) }
-    ensures too_long { AsksNoSession (map string_bytes words.now) → AsksNoEditors (map string_bytes words.now) → result ≡ Status.TooLong → (command : Command)
+    ensures too_long { AsksNoSession (map string_bytes words.now) → AsksNoEditors (map string_bytes words.now) → AsksNoView (map string_bytes words.now) → result ≡ Status.TooLong → (command : Command)
         × Asks (map string_bytes words.now) command × (refusal : Refusal) × IsLong refusal × Answers command (F.told folder.old) (Err refusal)
         × (W.written output.new ≡ appended (words_of refusal) (W.written output.old)) }
 
@@ -175,6 +184,12 @@ pub fn run<R: Threads + Wait + Sync, F: Folder, S: Source, W: Sink, G: Gate>(
         × AnswersEditing (F.told folder.old) editors (Err (Unedited.Edits (EditsFault.BadLine editor line cause)))
         × (W.written output.new ≡ appended (bad_script_line editor line cause) (W.written output.old)) }
 
+    // Viewers that end well have looked on at a session without workers of the whole input, whose answers were written; then a line
+    // of each was written, with the totals of the one loading that the last settle has shown, or of the opening scenario.
+    ensures view { (viewers : ℕ) → AsksView (map string_bytes words.now) viewers → result ≡ Status.Ok → (s : ScenarioData)
+        × Describes (F.told folder.old) (Ok s)
+        × ServesWhole (IsViewOutput viewers) s (S.left input.old) (S.left input.new) (W.written output.old) (W.written output.new) }
+
     // With no fault of the outside, the status is that of what the command answers to the files, or of a session of the case
     // and the script; a missing file is a fault of the outside.
     ensures complete { (files : Files) (command : Command) → F.told folder.old ≡ Some files → Asks (map string_bytes words.now) command
@@ -188,6 +203,12 @@ pub fn run<R: Threads + Wait + Sync, F: Folder, S: Source, W: Sink, G: Gate>(
         → IsMissing refusal → Answers command (Some files) (Err refusal) → (result ≡ Status.FolderFault) ⊎ (result ≡ Status.NoMemory) }
     ensures session_missing { (files : Files) (file : File) (workers : ℕ) → F.told folder.old ≡ Some files → AsksSession (map string_bytes words.now) workers
         → case_of files ≡ Err (CaseFault.Folder file) → (result ≡ Status.FolderFault) ⊎ (result ≡ Status.NoMemory) }
+    ensures view_complete { (files : Files) (script : List ℕ) (viewers : ℕ) → F.told folder.old ≡ Some files → S.left input.old ≡ Some script
+        → AsksView (map string_bytes words.now) viewers → IsCalm Command.Load files (F.faults folder.old) (F.faults folder.new)
+        → (Rose (S.faults input.old) (S.faults input.new) → ⊥) → (Rose (W.faults output.old) (W.faults output.new) → ⊥)
+        → (result ≡ session_status (case_of files) script) ⊎ (result ≡ Status.NoMemory) }
+    ensures view_missing { (files : Files) (file : File) (viewers : ℕ) → F.told folder.old ≡ Some files → AsksView (map string_bytes words.now) viewers
+        → case_of files ≡ Err (CaseFault.Folder file) → (result ≡ Status.FolderFault) ⊎ (result ≡ Status.NoMemory) }
     ensures editors_complete { (files : Files) (editors : ℕ) → F.told folder.old ≡ Some files → AsksEditors (map string_bytes words.now) editors
         → IsCalmFor editors files (F.faults folder.old) (F.faults folder.new) → (Rose (W.faults output.old) (W.faults output.new) → ⊥)
         → ((answer : Editing) × AnswersEditing (Some files) editors answer × (result ≡ editing_status answer)) ⊎ (result ≡ Status.NoMemory) }
@@ -195,6 +216,10 @@ pub fn run<R: Threads + Wait + Sync, F: Folder, S: Source, W: Sink, G: Gate>(
         → IsUngiven refusal → AnswersEditing (Some files) editors (Err refusal) → (result ≡ Status.FolderFault) ⊎ (result ≡ Status.NoMemory) }
 {
     alone_is_a_session();
+    let viewers = viewers_in(words);
+    if viewers > 0 {
+        return serve_viewed(rt, alloc, viewers, folder, input, output);
+    }
     let editors = editors_in(words);
     if editors > 0 {
         return edit_together(rt, alloc, editors, folder, output);

@@ -7,3 +7,4 @@ mod Networks
 mod Right
 mod Rows
 mod Leading
+pub mod Crosses

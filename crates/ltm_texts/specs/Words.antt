@@ -26,6 +26,10 @@ AsksSession words workers = (number : List ℕ) × (words ≡ codes "session" �
 abbrev pub AsksEditors : List (List ℕ) → ℕ → Type 0
 AsksEditors words editors = (number : List ℕ) × (words ≡ codes "editors" ∷ number ∷ []) × (length number ≤ 1) × (whole_number number ≡ Some editors) × (1 ≤ editors) × (editors ≤ 8)
 
+-- the words ask for a session at which so many viewers look on: one digit, 1 or 2
+abbrev pub AsksView : List (List ℕ) → ℕ → Type 0
+AsksView words viewers = (number : List ℕ) × (words ≡ codes "view" ∷ number ∷ []) × (length number ≤ 1) × (whole_number number ≡ Some viewers) × (1 ≤ viewers) × (viewers ≤ 2)
+
 -- all commands
 unfoldable pub usage_line : List ℕ
-usage_line = codes "usage: ltm load | ltm session N | ltm try START NODES | ltm routes [times] | ltm curves | ltm check | ltm editors K\n"
+usage_line = codes "usage: ltm load | ltm session N | ltm try START NODES | ltm routes [times] | ltm curves | ltm check | ltm view V | ltm editors K\n"

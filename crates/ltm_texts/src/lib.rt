@@ -19,6 +19,7 @@ mod refusing;
 mod report;
 mod status;
 mod texts;
+mod view_words;
 mod words;
 
 pub use closing::{refuse_case, refuse_length, write_text};
@@ -26,4 +27,5 @@ pub use crew_words::editors_of;
 pub use refusing::refuse_fault;
 pub use status::Status;
 pub use texts::run_texts;
+pub use view_words::viewers_of;
 pub use words::{Command, session_of};

@@ -1,0 +1,6 @@
+mod Growing
+mod Posts
+mod Told
+mod Closing
+mod Scripted
+mod Sent

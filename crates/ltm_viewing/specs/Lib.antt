@@ -1,0 +1,4 @@
+pub mod Lines
+pub mod Hung
+pub mod View
+pub mod Serving

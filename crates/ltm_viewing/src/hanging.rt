@@ -1,0 +1,116 @@
+//! How the boards of a view are hung.
+ghost use Rattle.std.specs.Prelude.{◌≡◌, ◌≤◌, ◌<◌, [], ◌∷◌, IfOk, None};
+ghost use Rattle.ltm_lines.specs.Lines.{max_of, taken_by, kept_by};
+ghost use Rattle.ltm_core.specs.Log.{version_now};
+ghost use Rattle.ltm_board.specs.Boards.{board_list};
+ghost use Rattle.ltm_board.specs.Lists.{joined};
+ghost use Rattle.ltm_viewing.specs.Hung.{AllHave, board_hook, board_hooks, watch_hook, watch_hooks, how_many, shown_list};
+
+use crate::boards::Boards;
+use crate::serving::Seat;
+use crate::watch::Watch;
+use crate::watches::Watches;
+use ltm_board::{Board, Sheet};
+use ltm_core::{Core, logs_tell_all};
+use ltm_lines::Lines;
+use ltm_session::LONGEST_LINE;
+use ltm_setting::link_count;
+use ltm_units::NoMemory;
+use ltm_workers::Bench;
+use std::alloc::Global;
+
+/// What a view works with.
+#[derive(Drop)]
+pub(crate) struct Stage {
+    pub(crate) seat: Seat,
+    pub(crate) boards: Boards,
+    pub(crate) watches: Watches,
+}
+
+/// A board with the loading that a core shows, which has accepted nothing, and its viewer.
+fn hang_one(alloc: Global, core: &Core) -> Result<(Board, Watch), NoMemory>
+    requires { version_now core.now.log ≡ 0 }
+    ensures list { IfOk result (λ r. joined (board_list r.0) ≡ shown_list core.now) }
+    ensures hook { IfOk result (λ r. watch_hook r.1 ≡ board_hook r.0) }
+{
+    logs_tell_all();
+    core.holds();
+    let links = link_count(core.scenario());
+    let sheet = Sheet::create(alloc, links)?;
+    let spare = Sheet::create(alloc, links)?;
+    let (board, viewer) = Board::create(alloc, core.scenario(), core.shown())?;
+    Ok((
+        board,
+        Watch {
+            viewer,
+            sheet,
+            spare,
+        },
+    ))
+}
+
+/// A board for each of so many viewers, one or two, and the viewers.
+fn hang(alloc: Global, core: &Core, viewers: u32) -> Result<(Boards, Watches), NoMemory>
+    requires few { (0 < viewers) × (viewers ≤ 2) }
+    requires fresh { version_now core.now.log ≡ 0 }
+    ensures lists { IfOk result (λ r. AllHave r.0 (shown_list core.now)) }
+    ensures hooks { IfOk result (λ r. (watch_hooks r.1 ≡ board_hooks r.0) × (how_many (board_hooks r.0) ≡ viewers)) }
+{
+    let (board, watch) = hang_one(alloc, core)?;
+    if viewers == 1 {
+        let boards = Boards {
+            first: board,
+            second: None,
+        };
+        let watches = Watches {
+            first: watch,
+            second: None,
+        };
+        return Ok((boards, watches));
+    }
+    let (next_board, next_watch) = hang_one(alloc, core)?;
+    let boards = Boards {
+        first: board,
+        second: Some(next_board),
+    };
+    let watches = Watches {
+        first: watch,
+        second: Some(next_watch),
+    };
+    Ok((boards, watches))
+}
+
+/// Takes the memory that a script needs beside its answers.
+fn take_seat(alloc: Global, core: &Core) -> Result<Seat, NoMemory>
+    ensures max { IfOk result (λ seat. max_of seat.lines ≡ 65536) }
+    ensures taken { IfOk result (λ seat. taken_by seat.lines ≡ []) }
+    ensures kept { IfOk result (λ seat. kept_by seat.lines ≡ None) }
+{
+    let lines = Lines::create(alloc, LONGEST_LINE)?;
+    let bench = Bench::create(core)?;
+    Ok(Seat {
+        alloc,
+        lines,
+        bench,
+        text: Vec::new(alloc),
+    })
+}
+
+/// Takes all memory that a view needs beside its answers and its posts.
+pub(crate) fn take_stage(alloc: Global, core: &Core, viewers: u32) -> Result<Stage, NoMemory>
+    requires few { (0 < viewers) × (viewers ≤ 2) }
+    requires fresh { version_now core.now.log ≡ 0 }
+    ensures max { IfOk result (λ s. max_of s.seat.lines ≡ 65536) }
+    ensures taken { IfOk result (λ s. taken_by s.seat.lines ≡ []) }
+    ensures kept { IfOk result (λ s. kept_by s.seat.lines ≡ None) }
+    ensures lists { IfOk result (λ s. AllHave s.boards (shown_list core.now)) }
+    ensures hooks { IfOk result (λ s. (watch_hooks s.watches ≡ board_hooks s.boards) × (how_many (board_hooks s.boards) ≡ viewers)) }
+{
+    let seat = take_seat(alloc, core)?;
+    let (boards, watches) = hang(alloc, core, viewers)?;
+    Ok(Stage {
+        seat,
+        boards,
+        watches,
+    })
+}
