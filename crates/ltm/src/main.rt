@@ -15,7 +15,8 @@ mod serve;
 mod serve_beside;
 mod view;
 
-use ltm_io::{RealFolder, RealOutput};
+use ltm_files::DiskFolder;
+use ltm_io::RealOutput;
 use ltm_lines::RealInput;
 use ltm_texts::Status;
 use ltm_workers::PlainGate;
@@ -44,7 +45,7 @@ fn main(rt: HostRuntime) -> ExitCode {
             return ExitCode::from(Status::NoMemory.number());
         }
     }
-    let mut folder = RealFolder::new(&rt);
+    let mut folder = DiskFolder::new(&rt);
     let mut output = RealOutput::new(io::writer(&rt));
     let mut input = RealInput::new(rt.reader());
     let status = run(

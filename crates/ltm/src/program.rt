@@ -42,7 +42,8 @@ use crate::edit_together::{edit_together, editors_in};
 use crate::run::run_alone;
 use crate::serve_beside::serve_beside;
 use crate::view::{serve_viewed, viewers_in};
-use ltm_io::{Folder, Sink};
+use ltm_files::OpenFolder;
+use ltm_io::Sink;
 use ltm_lines::Source;
 use ltm_session::alone_is_a_session;
 use ltm_texts::{Status, session_of};
@@ -73,7 +74,7 @@ fn workers_of(words: &[String]) -> u32
 /// `editors K`, K from 1 to 8, fetches and reads the case, fetches `edits1.jsonl` to `editsK.jsonl`, reads all their lines, and
 /// then lets K editors make them, each in a thread of its own; it writes each call with its verdict, in the order of their one
 /// history, and the totals of the loading that they leave.
-pub fn run<R: Threads + Wait + Sync, F: Folder, S: Source, W: Sink, G: Gate>(
+pub fn run<R: Threads + Wait + Sync, F: OpenFolder, S: Source, W: Sink, G: Gate>(
     rt: &R,
     alloc: Global,
     words: &[String],

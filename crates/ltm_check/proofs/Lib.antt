@@ -9,3 +9,7 @@ mod Joined
 mod RowsWritten
 mod ReadBack
 mod Telling
+mod Fuel
+mod Cutting
+mod Reaching
+mod Rest

@@ -4,6 +4,7 @@ pub mod File
 pub mod Faults
 pub mod Kept
 pub mod Moves
+pub mod Pieces
 pub mod Verdict
 pub mod Text
 pub mod ReadBack

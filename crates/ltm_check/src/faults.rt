@@ -34,6 +34,30 @@ impl From<NoMemory> for CurvesFault {
     }
 }
 
+/// Why a file that is read piece by piece is no curve file of a scenario.
+#[derive(Clone, Copy, Debug, PartialEq, Eq)]
+pub enum FileFault {
+    /// What is wrong first with its bytes.
+    Curves(CurvesFault),
+    /// It has more bytes than were allowed.
+    TooLong,
+    /// A read failed, and the file's count of faults rose.
+    ReadFault,
+    /// Memory was not found.
+    NoMemory,
+}
+
+impl From<NoMemory> for FileFault {
+    ghost use Rattle.std.specs.Prelude.{◌≡◌};
+    ghost use Rattle.ltm_check.specs.declared.faults.FileFault.TheVariants as fault;
+
+    ghost from_gives = { λ _ e. e ≡ fault.NoMemory };
+
+    fn from(_e: NoMemory) -> FileFault {
+        FileFault::NoMemory
+    }
+}
+
 /// What is said of curves.
 #[derive(Clone, Copy, Debug, PartialEq, Eq)]
 pub enum Checked {

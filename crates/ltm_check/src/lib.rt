@@ -9,11 +9,14 @@
 
 mod check;
 mod counts;
+mod cut;
 mod due;
 mod faults;
+mod file;
 mod kept;
 mod meets;
 mod numerals;
+mod piece;
 mod read;
 mod record;
 mod rows;
@@ -22,7 +25,8 @@ mod text;
 mod written;
 
 pub use check::check_curves;
-pub use faults::{Checked, CurvesCause, CurvesFault};
+pub use faults::{Checked, CurvesCause, CurvesFault, FileFault};
+pub use file::read_curves_from;
 pub use kept::kept_answers_alike;
 pub use read::read_curves;
 pub use text::curves_text;

@@ -50,7 +50,7 @@ fn read_rows(
 }
 
 /// Something is wrong at a place below the header.
-fn bad_at(place: u32, cause: CurvesCause) -> CurvesFault
+pub(crate) fn bad_at(place: u32, cause: CurvesCause) -> CurvesFault
     requires { place < 2 ^ 31 }
     ensures { result ≡ CurvesFault.Bad (place + 2) cause }
 {

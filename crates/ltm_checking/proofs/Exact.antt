@@ -65,7 +65,7 @@ sized_yes : (b : Bool) (s : ScenarioData) (bytes : List ℕ) (answer : Answer) �
 sized_yes true s bytes answer is tells says = cc
 sized_yes false s bytes answer is tells says = answers_yes s (records_of bytes) answer tells says
 
-not_long : (n : ℕ) → n ≤ most_bytes → nat_lt most_bytes n ≡ false
+pub not_long : (n : ℕ) → n ≤ most_bytes → nat_lt most_bytes n ≡ false
 not_long n l = grind (arith, nat_tests)
 
 pub only_yes : (files : Files) (s : ScenarioData) (bytes : List ℕ) (answer : Answer) → HasCurves (Some files) s bytes → length bytes ≤ most_bytes → TellsLoading s (records_of bytes) → AnswersCheck (Some files) answer → answer ≡ Ok yes_line
@@ -86,11 +86,11 @@ yes_told told text (Ok s, None, has, says) = absurd (cc)
 yes_told told text (Err f, file, has, says) = absurd (cc)
 
 -- ---- a file is missing
-sized_case : (b : Bool) (s : ScenarioData) (bytes : List ℕ) (f : CaseFault) → SizedAnswer b s bytes (Err (refusal.Case f)) → ⊥
+pub sized_case : (b : Bool) (s : ScenarioData) (bytes : List ℕ) (f : CaseFault) → SizedAnswer b s bytes (Err (refusal.Case f)) → ⊥
 sized_case true s bytes f says = cc
 sized_case false s bytes f says = says
 
-sized_none : (b : Bool) (s : ScenarioData) (bytes : List ℕ) → SizedAnswer b s bytes (Err refusal.NoCurves) → ⊥
+pub sized_none : (b : Bool) (s : ScenarioData) (bytes : List ℕ) → SizedAnswer b s bytes (Err refusal.NoCurves) → ⊥
 sized_none true s bytes says = cc
 sized_none false s bytes says = says
 

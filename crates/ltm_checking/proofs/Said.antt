@@ -1,25 +1,32 @@
 -- What was found of the files of a folder is what is answered to them.
-use Rattle.std.proofs.Common.{ℕ, ◌≡◌, ◌⊎◌, ◌+◌, ◌<◌, ◌≤◌, inl, inr, refl, sym, subst, arith, Bool, true, false, List, length, Option, Some, None, Ok, Err}
-use Rattle.std.specs.Prelude.{nat_lt, replicate, IfSome, IfOk, IfErr, IsSomeAnd, Result}
-use Rattle.std.proofs.lemmas.Bool.Decides.{nat_tests}
-use Rattle.std.proofs.lemmas.List.{length-replicate}
+use Rattle.std.proofs.Common.{ℕ, ◌≡◌, ◌⊎◌, inl, inr, refl, sym, subst, Bool, true, false, List, length, Option, Some, None, Ok, Err}
+use Rattle.std.specs.Prelude.{nat_lt, IfSome, IfOk, IfErr, Result}
+use Rattle.ltm_io.specs.declared.doc.Doc.{Doc}
 use Rattle.ltm_io.specs.declared.doc.Doc.TheVariants as doc
 use Rattle.ltm_io.specs.Folder.{Files}
+use Rattle.ltm_network.specs.Network.{node_name}
 use Rattle.ltm_scenario.specs.Data.{ScenarioData}
+use Rattle.ltm_records.specs.Fields.{Fields}
 use Rattle.ltm_records.specs.Left.{records_of}
 use Rattle.ltm_casefile.specs.declared.faults.CaseFault.{CaseFault}
 use Rattle.ltm_casefile.specs.declared.faults.CaseFault.TheVariants as fault
 use Rattle.ltm_casefile.specs.Case.{case_of}
 use Rattle.ltm_casefile.specs.Faults.{Agrees}
 use Rattle.ltm_curve.specs.Counts.{Counts}
-use Rattle.ltm_loading.specs.Setting.{Setting}
+use Rattle.ltm_curve.specs.declared.curves.Curves.{Curves}
+use Rattle.ltm_setting.specs.Setting.{setting_of}
 use Rattle.ltm_units.specs.declared.places.Pair.{Pair}
+use Rattle.ltm_check.specs.File.{told}
+use Rattle.ltm_check.specs.Kept.{Keeps}
+use Rattle.ltm_check.specs.ReadBack.{TellsLoading}
 use Rattle.ltm_check.specs.declared.faults.Checked.{Checked}
-use Rattle.ltm_check.specs.declared.faults.Checked.TheVariants.{No}
+use Rattle.ltm_check.specs.declared.faults.Checked.TheVariants.{No, Yes}
 use Rattle.ltm_check.specs.Verdict.{IsVerdict}
 use Rattle.ltm_checking.specs.declared.refusal.Refusal.{Refusal}
 use Rattle.ltm_checking.specs.declared.refusal.Refusal.TheVariants as refusal
-use Rattle.ltm_checking.specs.Checks.{Answer, Refuses, RecordsAnswer, SizedAnswer, AnswersCheck, AnswersRefusal, most_bytes}
+use Rattle.ltm_checking.specs.Checks.{Answer, Refuses, RecordsAnswer, SizedAnswer, AnswersCheck, AnswersRefusal, HasMissed, most_bytes}
+use Rattle.ltm_checking.specs.Curves.{AreBytes, KeepsFile, KeepsRecords, RefusesFile}
+use Rattle.ltm_checking.proofs.Exact.{sized_case, not_long}
 
 -- ---- a fault of the case
 case_answer : (told : Option Files) (f : CaseFault) → IfSome told (λ files. case_of files ≡ Err f) → AnswersCheck told (Err (refusal.Case f))
@@ -32,68 +39,70 @@ case_refused told (fault.TooLong x) says = case_answer told (fault.TooLong x) sa
 case_refused told (fault.Bad x row cause) says = case_answer told (fault.Bad x row cause) says
 case_refused told fault.NoMemory says = tt
 
--- ---- a curve file of too many bytes
-long_size : (b : Bool) (s : ScenarioData) (bytes : List ℕ) → b ≡ true → SizedAnswer b s bytes (Err refusal.LongCurves)
-long_size true s bytes is = refl
-long_size false s bytes is = cc
-
-is_long : (n : ℕ) → most_bytes < n → nat_lt most_bytes n ≡ true
-is_long n l = grind (arith, nat_tests)
-
-some_long : (file : Option (List ℕ)) → IsSomeAnd file (λ bytes. most_bytes < length bytes) → (bytes : List ℕ) × (file ≡ Some bytes) × (most_bytes < length bytes)
-some_long None more = absurd more
-some_long (Some bytes) more = (bytes, refl, more)
-
--- there are so many bytes
-many : (n : ℕ) → (bytes : List ℕ) × (n < length bytes)
-many n = (replicate (n + 1) 0, omega (arith, length-replicate {A = ℕ} (n + 1) 0))
-
-untold_long : (s : ScenarioData) (bytes : List ℕ) → most_bytes < length bytes → AnswersCheck None (Err refusal.LongCurves)
-untold_long s bytes more = (Ok s, Some bytes, tt, long_size (nat_lt most_bytes (length bytes)) s bytes (is_long (length bytes) more))
-
-long_answer : (told : Option Files) (s : ScenarioData) → IfSome told (λ files. case_of files ≡ Ok s) → IfSome told (λ files. IsSomeAnd (files doc.Curves) (λ bytes. most_bytes < length bytes)) → AnswersCheck told (Err refusal.LongCurves)
-long_answer None s says more = let h = many most_bytes in untold_long s h.0 h.1
-long_answer (Some files) s says more =
-    let h = some_long (files doc.Curves) more in
-    (Ok s, Some h.0, (says, h.1), long_size (nat_lt most_bytes (length h.0)) s h.0 (is_long (length h.0) h.2))
-
-pub fetch_refused : (told now : Option Files) (s : ScenarioData) (e : Refusal) → now ≡ told → IfSome told (λ files. case_of files ≡ Ok s) → (e ≡ refusal.NoCurves) ⊎ ((e ≡ refusal.LongCurves) ⊎ (e ≡ refusal.Case fault.NoMemory))
-    → (e ≡ refusal.LongCurves → IfSome now (λ files. IsSomeAnd (files doc.Curves) (λ bytes. most_bytes < length bytes))) → AnswersRefusal told e
-fetch_refused told now s e keeps says (inl none) more = subst (AnswersRefusal told) (sym none) tt
-fetch_refused told now s e keeps says (inr (inl long)) more =
-    subst (AnswersRefusal told) (sym long) (long_answer told s says (subst (λ o. IfSome o (λ files. IsSomeAnd (files doc.Curves) (λ bytes. most_bytes < length bytes))) keeps (more long)))
-fetch_refused told now s e keeps says (inr (inr memory)) more = subst (AnswersRefusal told) (sym memory) tt
-
 -- ---- the bytes of a curve file
+sized_answer : (told now : Option Files) (s : ScenarioData) (bytes : List ℕ) (answer : Answer) → now ≡ told → IfSome told (λ files. case_of files ≡ Ok s) → AreBytes now bytes → SizedAnswer (nat_lt most_bytes (length bytes)) s bytes answer → AnswersCheck told answer
+sized_answer None now s bytes answer keeps says has answers = (Ok s, Some bytes, tt, answers)
+sized_answer (Some files) now s bytes answer keeps says has answers = (Ok s, Some bytes, (says, subst (λ o. AreBytes o bytes) keeps has), answers)
+
 short_size : (b : Bool) (s : ScenarioData) (bytes : List ℕ) (answer : Answer) → b ≡ false → RecordsAnswer s (records_of bytes) answer → SizedAnswer b s bytes answer
 short_size true s bytes answer is says = cc
 short_size false s bytes answer is says = says
 
-not_long : (n : ℕ) → n ≤ most_bytes → nat_lt most_bytes n ≡ false
-not_long n l = grind (arith, nat_tests)
+-- what is answered to its records is answered to the file
+pub file_answer : (told now : Option Files) (s : ScenarioData) (c : Curves) (answer : Answer) → now ≡ told → IfSome told (λ files. case_of files ≡ Ok s) → KeepsFile s now c → ((records : List Fields) → KeepsRecords s records c → RecordsAnswer s records answer) → AnswersCheck told answer
+file_answer told now s c answer keeps says (bytes, has, few, kept) answers =
+    sized_answer told now s bytes answer keeps says has (short_size (nat_lt most_bytes (length bytes)) s bytes answer (not_long (length bytes) few) (answers (records_of bytes) kept))
 
-pub bytes_told : (told now : Option Files) (s : ScenarioData) (bytes : List ℕ) (answer : Answer) → now ≡ told → IfSome told (λ files. case_of files ≡ Ok s) → IfSome now (λ files. files doc.Curves ≡ Some bytes) → length bytes ≤ most_bytes
-    → RecordsAnswer s (records_of bytes) answer → AnswersCheck told answer
-bytes_told None now s bytes answer keeps says has few answers = (Ok s, Some bytes, tt, short_size (nat_lt most_bytes (length bytes)) s bytes answer (not_long (length bytes) few) answers)
-bytes_told (Some files) now s bytes answer keeps says has few answers =
-    (Ok s, Some bytes, (says, subst (λ o. IfSome o (λ fs. fs doc.Curves ≡ Some bytes)) keeps has), short_size (nat_lt most_bytes (length bytes)) s bytes answer (not_long (length bytes) few) answers)
+told_refusal : (told : Option Files) (s : ScenarioData) (records : List Fields) (e : Refusal) → AnswersCheck told (Err e) → Refuses s records e → AnswersRefusal told e
+told_refusal told s records (refusal.Case f) tells refuses = absurd refuses
+told_refusal told s records refusal.NoCurves tells refuses = absurd refuses
+told_refusal told s records refusal.LongCurves tells refuses = absurd refuses
+told_refusal told s records (refusal.BadCurves row cause) tells refuses = tells
+told_refusal told s records refusal.NoStart tells refuses = tells
+told_refusal told s records (refusal.NoStep node slot) tells refuses = tells
 
-told_refusal : (told : Option Files) (s : ScenarioData) (bytes : List ℕ) (e : Refusal) → (RecordsAnswer s (records_of bytes) (Err e) → AnswersCheck told (Err e)) → Refuses s (records_of bytes) e → AnswersRefusal told e
-told_refusal told s bytes (refusal.Case f) tell refuses = absurd refuses
-told_refusal told s bytes refusal.NoCurves tell refuses = absurd refuses
-told_refusal told s bytes refusal.LongCurves tell refuses = absurd refuses
-told_refusal told s bytes (refusal.BadCurves row cause) tell refuses = tell refuses
-told_refusal told s bytes refusal.NoStart tell refuses = tell refuses
-told_refusal told s bytes (refusal.NoStep node slot) tell refuses = tell refuses
+pub answer_refused : (told now : Option Files) (s : ScenarioData) (c : Curves) (e : Refusal) → now ≡ told → IfSome told (λ files. case_of files ≡ Ok s) → KeepsFile s now c
+    → (e ≡ refusal.Case fault.NoMemory) ⊎ ((records : List Fields) → KeepsRecords s records c → Refuses s records e) → AnswersRefusal told e
+answer_refused told now s c e keeps says file (inl memory) = subst (AnswersRefusal told) (sym memory) tt
+answer_refused told now s c e keeps says file (inr refuses) =
+    told_refusal told s (records_of file.0) e (file_answer told now s c (Err e) keeps says file refuses) (refuses (records_of file.0) file.3)
 
-pub bytes_refused : (told now : Option Files) (s : ScenarioData) (bytes : List ℕ) (e : Refusal) → now ≡ told → IfSome told (λ files. case_of files ≡ Ok s) → IfSome now (λ files. files doc.Curves ≡ Some bytes) → length bytes ≤ most_bytes
-    → (e ≡ refusal.Case fault.NoMemory) ⊎ Refuses s (records_of bytes) e → AnswersRefusal told e
-bytes_refused told now s bytes e keeps says has few (inl memory) = subst (AnswersRefusal told) (sym memory) tt
-bytes_refused told now s bytes e keeps says has few (inr refuses) = told_refusal told s bytes e (bytes_told told now s bytes (Err e) keeps says has few) refuses
+sized_refusal : (told : Option Files) (b : Bool) (s : ScenarioData) (bytes : List ℕ) (e : Refusal) → AnswersCheck told (Err e) → SizedAnswer b s bytes (Err e) → AnswersRefusal told e
+sized_refusal told b s bytes (refusal.Case f) tells sized = absurd (sized_case b s bytes f sized)
+sized_refusal told b s bytes refusal.NoCurves tells sized = tt
+sized_refusal told b s bytes refusal.LongCurves tells sized = tells
+sized_refusal told b s bytes (refusal.BadCurves row cause) tells sized = tells
+sized_refusal told b s bytes refusal.NoStart tells sized = tells
+sized_refusal told b s bytes (refusal.NoStep node slot) tells sized = tells
 
--- the node of a pair that is named is there
-pub wrong_there : (s : Setting) (c : Counts) (said : Checked) (pair : Pair) → said ≡ No pair → IsVerdict s c said → pair.node.0 < s.nodes
-wrong_there s c said pair is verdict = (subst (IsVerdict s c) is verdict).node.node_there
+pub file_refused : (told now : Option Files) (s : ScenarioData) (e : Refusal) → now ≡ told → IfSome told (λ files. case_of files ≡ Ok s) → RefusesFile s now e → AnswersRefusal told e
+file_refused told now s e keeps says (inl none) = subst (AnswersRefusal told) (sym none) tt
+file_refused told now s e keeps says (inr (inl memory)) = subst (AnswersRefusal told) (sym memory) tt
+file_refused told now s e keeps says (inr (inr (bytes, has, sized))) =
+    sized_refusal told (nat_lt most_bytes (length bytes)) s bytes e (sized_answer told now s bytes (Err e) keeps says has sized) sized
+
+-- ---- what curves keep
+pub yes_loaded : (s : ScenarioData) (records : List Fields) (c : Curves) (said : Checked) → said ≡ Yes → ((counts : Counts) → Keeps (setting_of s) counts c → IsVerdict (setting_of s) counts said) → KeepsRecords s records c → TellsLoading s records
+yes_loaded s records c said is verdict kept = record { file = kept.file; loading = subst (IsVerdict (setting_of s) (told s records)) is (verdict (told s records) kept.keeps) }
+
+pub step_refused : (s : ScenarioData) (records : List Fields) (c : Curves) (said : Checked) (pair : Pair) (e : Refusal) → said ≡ No pair → ((counts : Counts) → Keeps (setting_of s) counts c → IsVerdict (setting_of s) counts said)
+    → e ≡ refusal.NoStep (node_name s.network pair.node.0) pair.slot → KeepsRecords s records c → Refuses s records e
+step_refused s records c said pair e is verdict named kept =
+    subst (Refuses s records) (sym named) (kept.file, (pair.node.0, refl, subst (IsVerdict (setting_of s) (told s records)) is (verdict (told s records) kept.keeps)))
+
+-- no file is missing where records are refused
+none_missed : (told : Option Files) (before now : Doc → ℕ) (s : ScenarioData) (records : List Fields) (e : Refusal) → Refuses s records e → HasMissed told before now e
+none_missed told before now s records (refusal.Case f) refuses = absurd refuses
+none_missed told before now s records refusal.NoCurves refuses = absurd refuses
+none_missed told before now s records refusal.LongCurves refuses = tt
+none_missed told before now s records (refusal.BadCurves row cause) refuses = tt
+none_missed told before now s records refusal.NoStart refuses = tt
+none_missed told before now s records (refusal.NoStep node slot) refuses = tt
+
+pub answer_missed : (told files : Option Files) (before now : Doc → ℕ) (s : ScenarioData) (c : Curves) (e : Refusal) → KeepsFile s files c
+    → (e ≡ refusal.Case fault.NoMemory) ⊎ ((records : List Fields) → KeepsRecords s records c → Refuses s records e) → HasMissed told before now e
+answer_missed told files before now s c e file (inl memory) = subst (HasMissed told before now) (sym memory) tt
+answer_missed told files before now s c e file (inr refuses) = none_missed told before now s (records_of file.0) e (refuses (records_of file.0) file.3)
 
 -- ---- what holds of a result
 pub on_ok : {A E : Type 0} (r : Result A E) (P Q : A → Type 0) → ((a : A) → P a → Q a) → IfOk r P → IfOk r Q

@@ -1,3 +1,4 @@
 pub mod Lines
 pub mod Loaded
 pub mod Checks
+pub mod Curves

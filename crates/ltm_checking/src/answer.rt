@@ -1,60 +1,42 @@
 //! Whether the curve file beside a case is its loading.
-ghost use Rattle.std.specs.Prelude.{◌≡◌, ◌≢◌, ◌≤◌, ◌<◌, ◌⊎◌, ℕ, length, true, false, Ok, Err, Some, IfOk, IfErr, OnOk, IfSome};
-ghost use Rattle.ltm_io.specs.Faults.{Rose};
+ghost use Rattle.std.specs.Prelude.{◌≡◌, ◌≤◌, ◌<◌, ◌⊎◌, List, true, false, Ok, Err, IfOk, IfErr, IfSome};
 ghost use Rattle.ltm_io.specs.declared.doc.Doc.{Doc};
+ghost use Rattle.ltm_curve.specs.Counts.{Counts};
+ghost use Rattle.ltm_curve.specs.Table.{counts_of};
 ghost use Rattle.ltm_network.specs.Network.{node_name};
-ghost use Rattle.ltm_records.specs.Left.{records_of};
+ghost use Rattle.ltm_records.specs.Fields.{Fields};
 ghost use Rattle.ltm_setting.specs.Setting.{setting_of};
-ghost use Rattle.ltm_check.specs.File.{IsCurveFile, told};
-ghost use Rattle.ltm_check.specs.Faults.{IsFault};
+ghost use Rattle.ltm_flows.specs.Shaped.{IsShaped};
+ghost use Rattle.ltm_check.specs.Kept.{Keeps};
 ghost use Rattle.ltm_check.specs.Verdict.{IsVerdict};
-ghost use Rattle.ltm_check.specs.declared.faults.Checked.{Checked};
-ghost use Rattle.ltm_check.specs.declared.faults.CurvesCause.{CurvesCause};
-ghost use Rattle.ltm_check.specs.declared.faults.CurvesFault.{CurvesFault};
 ghost use Rattle.ltm_casefile.specs.declared.faults.CaseFault.{CaseFault};
 ghost use Rattle.ltm_checking.specs.declared.refusal.Refusal.{Refusal};
 ghost use Rattle.ltm_checking.specs.Lines.{yes_line};
 ghost use Rattle.ltm_checking.specs.Checks.{Refuses, RecordsAnswer, AnswersCheck, AnswersRefusal, HasMissed, is_check_file, check_asks_for};
+ghost use Rattle.ltm_checking.specs.Curves.{KeepsRecords};
 
-use crate::fetch::fetch_curves;
+use crate::curves::read_file;
 use crate::lines::yes_text;
 use crate::refusal::Refusal;
 use ltm_casefile::{CaseFault, read_case};
-use ltm_check::{Checked, CurvesFault, check_curves, kept_answers_alike, read_curves};
-use ltm_io::Folder;
+use ltm_check::{Checked, check_curves, kept_answers_alike};
+use ltm_curve::Curves;
+use ltm_files::OpenFolder;
 use ltm_scenario::Scenario;
 use ltm_setting::is_setting;
 use ltm_units::{NoMemory, Pair};
 use std::alloc::Global;
 
-/// What is said of the counts that a curve file tells. The text is let go before they are checked.
-fn said_of(alloc: Global, scenario: &Scenario, bytes: Vec<u8>) -> Result<Checked, CurvesFault>
-    ensures file { OnOk result (IsCurveFile scenario.now (records_of bytes.items)) }
-    ensures said { IfOk result (IsVerdict (setting_of scenario.now) (told scenario.now (records_of bytes.items))) }
-    ensures fault { IfErr result (IsFault scenario.now (records_of bytes.items)) }
+/// What is said of the counts that curves keep.
+fn said_of(alloc: Global, scenario: &Scenario, curves: &Curves) -> Result<Checked, NoMemory>
+    requires { IsShaped (setting_of scenario.now) curves.now }
+    ensures kept { IfOk result (IsVerdict (setting_of scenario.now) (counts_of curves.now)) }
+    ensures told { IfOk result (λ said. (counts : Counts) → Keeps (setting_of scenario.now) counts curves.now → IsVerdict (setting_of scenario.now) counts said) }
 {
     is_setting(scenario);
     kept_answers_alike();
-    let curves = match read_curves(alloc, scenario, bytes.as_slice()) {
-        Ok(curves) => curves,
-        Err(fault) => return Err(fault),
-    };
-    drop(bytes);
-    match check_curves(alloc, scenario, &curves) {
-        Ok(said) => Ok(said),
-        Err(NoMemory) => Err(CurvesFault::NoMemory),
-    }
-}
-
-/// Why a file is refused.
-fn refused(fault: CurvesFault) -> Refusal
-    ensures memory { fault ≡ CurvesFault.NoMemory → result ≡ Refusal.Case CaseFault.NoMemory }
-    ensures bad { (row : ℕ) (cause : CurvesCause) → fault ≡ CurvesFault.Bad row cause → result ≡ Refusal.BadCurves row cause }
-{
-    match fault {
-        CurvesFault::Bad { row, cause } => Refusal::BadCurves { row, cause },
-        CurvesFault::NoMemory => Refusal::Case(CaseFault::NoMemory),
-    }
+    let said = check_curves(alloc, scenario, curves)?;
+    Ok(said)
 }
 
 /// That the counts of a pair are not its node step.
@@ -80,23 +62,25 @@ fn say_yes(alloc: Global) -> Result<Vec<u8>, Refusal>
     }
 }
 
-/// What is answered to the bytes of a curve file.
-fn answer_bytes(alloc: Global, scenario: &Scenario, bytes: Vec<u8>) -> Result<Vec<u8>, Refusal>
-    ensures text { IfOk result (λ text. RecordsAnswer scenario.now (records_of bytes.items) (Ok text.items)) }
-    ensures fault { IfErr result (λ e. (e ≡ Refusal.Case CaseFault.NoMemory) ⊎ Refuses scenario.now (records_of bytes.items) e) }
+/// What is answered to a curve file whose counts curves keep.
+fn answer_curves(alloc: Global, scenario: &Scenario, curves: &Curves) -> Result<Vec<u8>, Refusal>
+    requires { IsShaped (setting_of scenario.now) curves.now }
+    ensures text { IfOk result (λ text. (records : List Fields) → KeepsRecords scenario.now records curves.now → RecordsAnswer scenario.now records (Ok text.items)) }
+    ensures fault { IfErr result (λ e. (e ≡ Refusal.Case CaseFault.NoMemory)
+        ⊎ ((records : List Fields) → KeepsRecords scenario.now records curves.now → Refuses scenario.now records e)) }
 {
-    match said_of(alloc, scenario, bytes) {
+    match said_of(alloc, scenario, curves) {
         Ok(Checked::Yes) => say_yes(alloc),
         Ok(Checked::Start) => Err(Refusal::NoStart),
         Ok(Checked::No(pair)) => Err(no_step(scenario, pair)),
-        Err(fault) => Err(refused(fault)),
+        Err(NoMemory) => Err(Refusal::Case(CaseFault::NoMemory)),
     }
 }
 
 /// Says yes where the `curves.csv` of a folder tells the loading of its case, and else why not: the first fault of the case, as
 /// `read_case` has it; then that the file was not given, or has more than 268,435,456 bytes; then its first fault; then that
 /// what it counts does not start as a loading does; then the first pair, by slot and then by node, that is not its node step.
-pub fn check_text<F: Folder>(alloc: Global, folder: &mut F) -> Result<Vec<u8>, Refusal>
+pub fn check_text<F: OpenFolder>(alloc: Global, folder: &mut F) -> Result<Vec<u8>, Refusal>
     ensures text { IfOk result (λ text. AnswersCheck (F.told folder.old) (Ok text.items)) }
     ensures fault { IfErr result (AnswersRefusal (F.told folder.old)) }
 
@@ -112,9 +96,9 @@ pub fn check_text<F: Folder>(alloc: Global, folder: &mut F) -> Result<Vec<u8>, R
         Ok(scenario) => scenario,
         Err(fault) => return Err(Refusal::Case(fault)),
     };
-    let bytes = match fetch_curves(alloc, folder) {
-        Ok(bytes) => bytes,
+    let curves = match read_file(alloc, &scenario, folder) {
+        Ok(curves) => curves,
         Err(refusal) => return Err(refusal),
     };
-    answer_bytes(alloc, &scenario, bytes)
+    answer_curves(alloc, &scenario, &curves)
 }

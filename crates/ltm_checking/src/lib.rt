@@ -1,15 +1,14 @@
 //! - **What it is**: the loading of a case as a curve file, and whether the `curves.csv` beside a case is its loading, as the
 //!   texts that are written.
-//! - **On what it stands**: `ltm_casefile`, which reads the case, `ltm_flows`, which loads it, and `ltm_check`, which writes,
-//!   reads and checks curves.
+//! - **On what it stands**: `ltm_casefile`, which reads the case, `ltm_flows`, which loads it, `ltm_files`, which opens the
+//!   curve file, and `ltm_check`, which writes, reads and checks curves.
 //! - **What a call costs**: the text of a loading costs a cold loading and a pass over its counts; a check costs a pass over
-//!   the file and the step of each pair of node and slot, and no loading is made. The bytes of the file are let go before its
-//!   counts are checked.
+//!   the file, which is read piece by piece and never held, and the step of each pair of node and slot, and no loading is made.
 //! - **When to change it here**: when a line of a check changes, or how large a curve file may be.
 #![tactic(auto)]
 
 mod answer;
-mod fetch;
+mod curves;
 mod lines;
 mod loaded;
 mod refusal;

@@ -1,0 +1,2 @@
+pub mod RealFile
+pub mod DiskFolder
