@@ -11,7 +11,7 @@ use Rattle.ltm_session.specs.Session.{IsOutputAlone, IsSessionOutput}
 use Rattle.ltm_session.specs.Laws.{AloneIsASession}
 use Rattle.ltm.specs.Sessions.{IsSessionUnder, WritesSessionFront, ServesWhole}
 use Rattle.ltm.specs.Whole.{AsksNothing, IsTextOf, WritesFrontOf, FolderFailed}
-use Rattle.ltm.specs.Run.{rule_of, AsksNone, IsTextFor, WritesFrontFor, FolderFailedFor}
+use Rattle.ltm.specs.Run.{rule_of, AsksNone, AsksNoEditors, IsTextFor, WritesFrontFor, FolderFailedFor}
 
 -- ---- the words
 -- they ask for no session but one without workers
@@ -28,31 +28,31 @@ some_crew (suc n) other = omega arith
 pub asks_alone : (words : List (List ℕ)) (n : ℕ) → AsksNoCrew words → AsksSession words n → AsksSession words 0
 asks_alone words n alone asks = subst (λ k. AsksSession words k) (alone n asks) asks
 
-pub none_asked : (words : List (List ℕ)) → AsksNoCrew words → AsksNothing words → AsksNone words
-none_asked words alone (no_text, no_session) = (no_text, λ n asks. no_session (asks_alone words n alone asks))
+pub none_asked : (words : List (List ℕ)) → AsksNoCrew words → AsksNoEditors words → AsksNothing words → AsksNone words
+none_asked words alone nobody (no_text, no_session) = (no_text, (λ n asks. no_session (asks_alone words n alone asks)), nobody)
 
 pub nothing_asked : (words : List (List ℕ)) → AsksNone words → AsksNothing words
-nothing_asked words (no_text, no_session) = (no_text, no_session 0)
+nothing_asked words (no_text, no_session, nobody) = (no_text, no_session 0)
 
 -- ---- a run alone
-text_alone : (words : List (List ℕ)) (told : Option Files) (script : Option (List ℕ)) (status : Status) (text : List ℕ) → AsksNoCrew words
+text_alone : (words : List (List ℕ)) (told : Option Files) (script : Option (List ℕ)) (status : Status) (text : List ℕ) → AsksNoCrew words → AsksNoEditors words
     → IsTextOf words told script status text → IsTextFor words told script status text
-text_alone words told script status text alone (inl (nothing, is, at)) = inl (none_asked words alone nothing, is, at)
-text_alone words told script status text alone (inr (inl answered)) = inr (inl answered)
-text_alone words told script status text alone (inr (inr (asks, under))) = inr (inr (0, asks, under))
+text_alone words told script status text alone nobody (inl (nothing, is, at)) = inl (none_asked words alone nobody nothing, is, at)
+text_alone words told script status text alone nobody (inr (inl answered)) = inr (inl answered)
+text_alone words told script status text alone nobody (inr (inr (asks, under))) = inr (inr (inl (0, asks, under)))
 
-pub whole_alone : (words : List (List ℕ)) (told : Option Files) (script old new : Option (List ℕ)) (status : Status) → AsksNoCrew words
+pub whole_alone : (words : List (List ℕ)) (told : Option Files) (script old new : Option (List ℕ)) (status : Status) → AsksNoCrew words → AsksNoEditors words
     → ((text : List ℕ) × IsTextOf words told script status text × (new ≡ appended text old)) → (text : List ℕ) × IsTextFor words told script status text × (new ≡ appended text old)
-whole_alone words told script old new status alone (text, is, wrote) = (text, text_alone words told script status text alone is, wrote)
+whole_alone words told script old new status alone nobody (text, is, wrote) = (text, text_alone words told script status text alone nobody is, wrote)
 
-pub front_alone : (words : List (List ℕ)) (told : Option Files) (script old new : Option (List ℕ)) → AsksNoCrew words
+pub front_alone : (words : List (List ℕ)) (told : Option Files) (script old new : Option (List ℕ)) → AsksNoCrew words → AsksNoEditors words
     → WritesFrontOf words told script old new → WritesFrontFor words told script old new
-front_alone words told script old new alone (inl same) = inl same
-front_alone words told script old new alone (inr (status, text, is, front)) = inr (status, text, text_alone words told script status text alone is, front)
+front_alone words told script old new alone nobody (inl same) = inl same
+front_alone words told script old new alone nobody (inr (status, text, is, front)) = inr (status, text, text_alone words told script status text alone nobody is, front)
 
 pub folder_alone : (words : List (List ℕ)) (told : Option Files) (before now : Doc → ℕ) → FolderFailed words told before now → FolderFailedFor words told before now
 folder_alone words told before now (inl failed) = inl failed
-folder_alone words told before now (inr both) = inr ((0, both.0), both.1)
+folder_alone words told before now (inr both) = inr (inl ((0, both.0), both.1))
 
 -- an output without workers is one of a session
 pub serves_alone : (s : ScenarioData) (script left old new : Option (List ℕ)) → AloneIsASession → ServesWhole IsOutputAlone s script left old new → ServesWhole IsSessionOutput s script left old new
@@ -67,10 +67,10 @@ under_rule (suc n) told script status text some under = under
 
 pub whole_beside : (words : List (List ℕ)) (workers : ℕ) (told : Option Files) (script old new : Option (List ℕ)) (status : Status) → 0 < workers → AsksSession words workers
     → ((text : List ℕ) × IsSessionUnder AnswersBeside told script status text × (new ≡ appended text old)) → (text : List ℕ) × IsTextFor words told script status text × (new ≡ appended text old)
-whole_beside words workers told script old new status some asks (text, under, wrote) = (text, inr (inr (workers, asks, under_rule workers told script status text some under)), wrote)
+whole_beside words workers told script old new status some asks (text, under, wrote) = (text, inr (inr (inl (workers, asks, under_rule workers told script status text some under))), wrote)
 
 pub front_beside : (words : List (List ℕ)) (workers : ℕ) (told : Option Files) (script old new : Option (List ℕ)) → 0 < workers → AsksSession words workers
     → WritesSessionFront AnswersBeside told script old new → WritesFrontFor words told script old new
 front_beside words workers told script old new some asks (inl same) = inl same
 front_beside words workers told script old new some asks (inr (status, text, under, front)) =
-    inr (status, text, inr (inr (workers, asks, under_rule workers told script status text some under)), front)
+    inr (status, text, inr (inr (inl (workers, asks, under_rule workers told script status text some under))), front)

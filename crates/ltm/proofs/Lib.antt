@@ -2,3 +2,5 @@ mod Closings
 mod Cases
 mod Sorting
 mod Crews
+mod Editing
+mod Choosing

@@ -1,3 +1,4 @@
 pub mod Sessions
 pub mod Whole
+pub mod Editors
 pub mod Run

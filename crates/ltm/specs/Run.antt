@@ -1,4 +1,4 @@
--- What the program writes, whatever the words ask for, sessions beside workers among it.
+-- What the program writes, whatever the words ask for, sessions beside workers and editors among it.
 use Rattle.std.specs.Prelude.{ℕ, zero, suc, ◌≡◌, ◌⊎◌, List, Option}
 use Rattle.ltm_io.specs.declared.doc.Doc.{Doc}
 use Rattle.ltm_io.specs.Folder.{Files}
@@ -7,35 +7,47 @@ use Rattle.ltm_texts.specs.declared.status.Status.{Status}
 use Rattle.ltm_texts.specs.declared.status.Status.TheVariants as ending
 use Rattle.ltm_texts.specs.declared.words.Command.{Command}
 use Rattle.ltm_texts.specs.declared.words.Command.TheVariants as command
-use Rattle.ltm_texts.specs.Words.{Asks, AsksNoText, AsksSession, usage_line}
+use Rattle.ltm_texts.specs.Words.{Asks, AsksNoText, AsksSession, AsksEditors, usage_line}
 use Rattle.ltm_texts.specs.Program.{IsAnswerUnder, FileFailed}
 use Rattle.ltm_session.specs.Answers.{AnswersAlone, AnswersBeside}
 use Rattle.ltm_session.specs.Session.{Answering}
+use Rattle.ltm_editing.specs.Answers.{Missed}
 use Rattle.ltm.specs.Sessions.{IsSessionUnder}
+use Rattle.ltm.specs.Editors.{IsEditingUnder}
 
 -- the rule of answers of a session with so many workers
 abbrev pub rule_of : ℕ → Answering
 rule_of zero = AnswersAlone
 rule_of (suc workers) = AnswersBeside
 
--- the words ask for no command and no session
-abbrev pub AsksNone : List (List ℕ) → Type 0
-AsksNone words = AsksNoText words × ((workers : ℕ) → AsksSession words workers → ⊥)
+-- the words ask for no session, and for no editors
+abbrev pub AsksNoSession : List (List ℕ) → Type 0
+AsksNoSession words = (workers : ℕ) → AsksSession words workers → ⊥
 
--- the whole text that belongs to words and a status: the usage line, what a command answers, or what a session writes
+abbrev pub AsksNoEditors : List (List ℕ) → Type 0
+AsksNoEditors words = (editors : ℕ) → AsksEditors words editors → ⊥
+
+-- the words ask for no command, no session and no editors
+abbrev pub AsksNone : List (List ℕ) → Type 0
+AsksNone words = AsksNoText words × AsksNoSession words × AsksNoEditors words
+
+-- the whole text that belongs to words and a status: the usage line, what a command answers, or what a session or editors write
 abbrev pub IsTextFor : List (List ℕ) → Option Files → Option (List ℕ) → Status → List ℕ → Type 0
 IsTextFor words told script status text =
     (AsksNone words × (status ≡ ending.Usage) × (text ≡ usage_line))
     ⊎ (((command : Command) × Asks words command × IsAnswerUnder command told status text)
-    ⊎ ((workers : ℕ) × AsksSession words workers × IsSessionUnder (rule_of workers) told script status text))
+    ⊎ (((workers : ℕ) × AsksSession words workers × IsSessionUnder (rule_of workers) told script status text)
+    ⊎ ((editors : ℕ) × AsksEditors words editors × IsEditingUnder editors told status text)))
 
 -- nothing was written, or a front of a text that belongs to the words
 abbrev pub WritesFrontFor : List (List ℕ) → Option Files → Option (List ℕ) → Option (List ℕ) → Option (List ℕ) → Type 0
 WritesFrontFor words told script old new =
     (new ≡ old) ⊎ ((status : Status) × (text : List ℕ) × IsTextFor words told script status text × AppendsFront old new text)
 
--- a file of the command that the words ask for, or of the case of a session, was not given, and its count of faults rose
+-- a file of the command that the words ask for, or of the case of a session, or one that editors may ask for, was not given, and its
+-- count of faults rose
 abbrev pub FolderFailedFor : List (List ℕ) → Option Files → (Doc → ℕ) → (Doc → ℕ) → Type 0
 FolderFailedFor words told before now =
     ((command : Command) × Asks words command × FileFailed command told before now)
-    ⊎ (((workers : ℕ) × AsksSession words workers) × FileFailed command.Load told before now)
+    ⊎ ((((workers : ℕ) × AsksSession words workers) × FileFailed command.Load told before now)
+    ⊎ ((editors : ℕ) × AsksEditors words editors × Missed told editors before now))

@@ -8,12 +8,14 @@
 //!   another way. A command with a text of its own stands in `ltm_texts`.
 #![tactic(auto)]
 
+mod edit_together;
 mod program;
 mod run;
 mod serve;
 mod serve_beside;
 
-use ltm_io::{RealFolder, RealOutput};
+use ltm_files::DiskFolder;
+use ltm_io::RealOutput;
 use ltm_lines::RealInput;
 use ltm_texts::Status;
 use ltm_workers::PlainGate;
@@ -42,7 +44,7 @@ fn main(rt: HostRuntime) -> ExitCode {
             return ExitCode::from(Status::NoMemory.number());
         }
     }
-    let mut folder = RealFolder::new(&rt);
+    let mut folder = DiskFolder::new(&rt);
     let mut output = RealOutput::new(io::writer(&rt));
     let mut input = RealInput::new(rt.reader());
     let status = run(

@@ -1,9 +1,11 @@
-//! The top call of the program: every command, and sessions beside workers.
+//! The top call of the program: every command, sessions beside workers, and several editors.
 ghost use Rattle.std.specs.Prelude.{◌≡◌, ◌⊎◌, ℕ, ◌<◌, ◌≤◌, List, length, map, string_bytes, IfSome, Some, Ok, Err, true, false};
+ghost use Rattle.std.specs.List.{Contains};
 ghost use Rattle.ltm_io.specs.Faults.{Rose};
 ghost use Rattle.ltm_io.specs.Sink.{appended};
 ghost use Rattle.ltm_io.specs.Folder.{Files};
 ghost use Rattle.ltm_io.specs.declared.doc.Doc.{Doc};
+ghost use Rattle.ltm_scenario.specs.declared.edit.Edit.{Edit};
 ghost use Rattle.ltm_scenario.specs.Data.{ScenarioData};
 ghost use Rattle.ltm_casefile.specs.declared.faults.File.{File};
 ghost use Rattle.ltm_casefile.specs.declared.faults.CaseCause.{CaseCause};
@@ -13,7 +15,7 @@ ghost use Rattle.ltm_report.specs.CaseFaults.{bad_case_line};
 ghost use Rattle.ltm_routing.specs.File.{IsSplitsFile, IsTimesFile};
 ghost use Rattle.ltm_trial.specs.Trial.{IsTrial};
 ghost use Rattle.ltm_texts.specs.declared.words.Command.{Command};
-ghost use Rattle.ltm_texts.specs.Words.{Asks, AsksSession, usage_line};
+ghost use Rattle.ltm_texts.specs.Words.{Asks, AsksSession, AsksEditors, usage_line};
 ghost use Rattle.ltm_texts.specs.Report.{IsReport};
 ghost use Rattle.ltm_texts.specs.Answers.{Answer, Answers, Describes, may_fetch, fetches};
 ghost use Rattle.ltm_texts.specs.Program.{IsWhole, FileFailed, IsCalm, IsMissing, IsLong, status_of, words_of};
@@ -24,12 +26,22 @@ ghost use Rattle.ltm_checking.specs.Lines.{yes_line};
 ghost use Rattle.ltm_checking.specs.Loaded.{IsLoadingText};
 ghost use Rattle.ltm_checking.specs.Checks.{HasCurves, most_bytes};
 ghost use Rattle.ltm_session.specs.Session.{IsOutputAlone, IsSessionOutput};
+ghost use Rattle.ltm_edits.specs.declared.fault.EditsFault.{EditsFault};
+ghost use Rattle.ltm_edits.specs.declared.fault.LineCause.{LineCause};
+ghost use Rattle.ltm_edits.specs.Files.{docs_of};
+ghost use Rattle.ltm_editing.specs.declared.refusal.Refusal.{Refusal as Unedited};
+ghost use Rattle.ltm_editing.specs.Lines.{bad_script_line};
+ghost use Rattle.ltm_editing.specs.Editing.{IsEditingText};
+ghost use Rattle.ltm_editing.specs.Answers.{Answer as Editing, AnswersEditing, IsMissing as IsUngiven};
 ghost use Rattle.ltm.specs.Sessions.{ServesWhole, session_status};
-ghost use Rattle.ltm.specs.Run.{AsksNone, IsTextFor, WritesFrontFor, FolderFailedFor};
+ghost use Rattle.ltm.specs.Editors.{HasScripts, IsCalmFor, editing_words, editing_status};
+ghost use Rattle.ltm.specs.Run.{AsksNone, AsksNoSession, AsksNoEditors, IsTextFor, WritesFrontFor, FolderFailedFor};
 
+use crate::edit_together::{edit_together, editors_in};
 use crate::run::run_alone;
 use crate::serve_beside::serve_beside;
-use ltm_io::{Folder, Sink};
+use ltm_files::OpenFolder;
+use ltm_io::Sink;
 use ltm_lines::Source;
 use ltm_session::alone_is_a_session;
 use ltm_texts::{Status, session_of};
@@ -53,7 +65,11 @@ fn workers_of(words: &[String]) -> u32
 /// Does what the words ask for, over this folder, this input and this output: all that `run_alone` does, and with the words
 /// `session N`, N from 1 to 64, a session beside so many workers, which run in threads of their own and have ended when it
 /// returns. Each worker calls the gate for each pair that it claimed.
-pub fn run<R: Threads + Wait + Sync, F: Folder, S: Source, W: Sink, G: Gate>(
+///
+/// `editors K`, K from 1 to 8, fetches and reads the case, fetches `edits1.jsonl` to `editsK.jsonl`, reads all their lines, and
+/// then lets K editors make them, each in a thread of its own; it writes each call with its verdict, in the order of their one
+/// history, and the totals of the loading that they leave.
+pub fn run<R: Threads + Wait + Sync, F: OpenFolder, S: Source, W: Sink, G: Gate>(
     rt: &R,
     alloc: Global,
     words: &[String],
@@ -75,10 +91,14 @@ pub fn run<R: Threads + Wait + Sync, F: Folder, S: Source, W: Sink, G: Gate>(
         → (d : Doc) → is_case_file d ≡ false → F.faults folder.new d ≡ F.faults folder.old d }
     ensures session_unasked { (workers : ℕ) → AsksSession (map string_bytes words.now) workers
         → IfSome (F.told folder.old) (λ files. (d : Doc) → asks_for files d ≡ false → F.faults folder.new d ≡ F.faults folder.old d) }
-    ensures unread { ((workers : ℕ) → AsksSession (map string_bytes words.now) workers → ⊥)
+    ensures editors_others { (editors : ℕ) → AsksEditors (map string_bytes words.now) editors
+        → (d : Doc) → is_case_file d ≡ false → (Contains (docs_of editors) d → ⊥) → F.faults folder.new d ≡ F.faults folder.old d }
+    ensures editors_unasked { (editors : ℕ) → AsksEditors (map string_bytes words.now) editors
+        → IfSome (F.told folder.old) (λ files. (d : Doc) → asks_for files d ≡ false → (Contains (docs_of editors) d → ⊥) → F.faults folder.new d ≡ F.faults folder.old d) }
+    ensures unread { AsksNoSession (map string_bytes words.now)
         → (S.left input.new ≡ S.left input.old) × (S.faults input.new ≡ S.faults input.old) }
 
-    // The words decide between the usage line, a command and a session.
+    // The words decide between the usage line, a command, a session and editors.
     ensures usage { result ≡ Status.Usage → AsksNone (map string_bytes words.now)
         × (W.written output.new ≡ appended usage_line (W.written output.old)) }
     ensures asked { AsksNone (map string_bytes words.now)
@@ -114,11 +134,11 @@ pub fn run<R: Threads + Wait + Sync, F: Folder, S: Source, W: Sink, G: Gate>(
     ensures curves { Asks (map string_bytes words.now) Command.Curves → result ≡ Status.Ok → (s : ScenarioData) × (text : List ℕ)
         × Describes (F.told folder.old) (Ok s) × IsLoadingText s text
         × (W.written output.new ≡ appended text (W.written output.old)) }
-    ensures bad_case { ((workers : ℕ) → AsksSession (map string_bytes words.now) workers → ⊥) → result ≡ Status.BadCase → (command : Command)
+    ensures bad_case { AsksNoSession (map string_bytes words.now) → AsksNoEditors (map string_bytes words.now) → result ≡ Status.BadCase → (command : Command)
         × Asks (map string_bytes words.now) command × (file : File) × (row : ℕ) × (cause : CaseCause)
         × Answers command (F.told folder.old) (Err (Refusal.Case (CaseFault.Bad file row cause)))
         × (W.written output.new ≡ appended (bad_case_line file row cause) (W.written output.old)) }
-    ensures too_long { ((workers : ℕ) → AsksSession (map string_bytes words.now) workers → ⊥) → result ≡ Status.TooLong → (command : Command)
+    ensures too_long { AsksNoSession (map string_bytes words.now) → AsksNoEditors (map string_bytes words.now) → result ≡ Status.TooLong → (command : Command)
         × Asks (map string_bytes words.now) command × (refusal : Refusal) × IsLong refusal × Answers command (F.told folder.old) (Err refusal)
         × (W.written output.new ≡ appended (words_of refusal) (W.written output.old)) }
 
@@ -141,6 +161,21 @@ pub fn run<R: Threads + Wait + Sync, F: Folder, S: Source, W: Sink, G: Gate>(
         × Describes (F.told folder.old) (Ok s)
         × ServesWhole IsOutputAlone s (S.left input.old) (S.left input.new) (W.written output.old) (W.written output.new) }
 
+    // Editors that end well have written one legal history of the case that the files describe, in which the calls of each are
+    // the lines of its file, each once and in order, and nobody else's; and the totals of the one loading of the scenario that
+    // it leaves. With another status the line is written of the first fault: of the case; a file of edits that is too long; one
+    // with too many lines; a line that is no edit.
+    ensures editors { (editors : ℕ) → AsksEditors (map string_bytes words.now) editors → result ≡ Status.Ok → (s : ScenarioData) × (scripts : List (List (List Edit)))
+        × (text : List ℕ) × HasScripts (F.told folder.old) editors s scripts × IsEditingText s scripts text
+        × (W.written output.new ≡ appended text (W.written output.old)) }
+    ensures editors_answer { (editors : ℕ) → AsksEditors (map string_bytes words.now) editors → IsWhole result → (answer : Editing)
+        × AnswersEditing (F.told folder.old) editors answer × (result ≡ editing_status answer)
+        × (W.written output.new ≡ appended (editing_words answer) (W.written output.old)) }
+    ensures bad_script { result ≡ Status.BadScript → (editors : ℕ) × AsksEditors (map string_bytes words.now) editors
+        × (editor : ℕ) × (line : ℕ) × (cause : LineCause)
+        × AnswersEditing (F.told folder.old) editors (Err (Unedited.Edits (EditsFault.BadLine editor line cause)))
+        × (W.written output.new ≡ appended (bad_script_line editor line cause) (W.written output.old)) }
+
     // With no fault of the outside, the status is that of what the command answers to the files, or of a session of the case
     // and the script; a missing file is a fault of the outside.
     ensures complete { (files : Files) (command : Command) → F.told folder.old ≡ Some files → Asks (map string_bytes words.now) command
@@ -154,8 +189,17 @@ pub fn run<R: Threads + Wait + Sync, F: Folder, S: Source, W: Sink, G: Gate>(
         → IsMissing refusal → Answers command (Some files) (Err refusal) → (result ≡ Status.FolderFault) ⊎ (result ≡ Status.NoMemory) }
     ensures session_missing { (files : Files) (file : File) (workers : ℕ) → F.told folder.old ≡ Some files → AsksSession (map string_bytes words.now) workers
         → case_of files ≡ Err (CaseFault.Folder file) → (result ≡ Status.FolderFault) ⊎ (result ≡ Status.NoMemory) }
+    ensures editors_complete { (files : Files) (editors : ℕ) → F.told folder.old ≡ Some files → AsksEditors (map string_bytes words.now) editors
+        → IsCalmFor editors files (F.faults folder.old) (F.faults folder.new) → (Rose (W.faults output.old) (W.faults output.new) → ⊥)
+        → ((answer : Editing) × AnswersEditing (Some files) editors answer × (result ≡ editing_status answer)) ⊎ (result ≡ Status.NoMemory) }
+    ensures editors_missing { (files : Files) (editors : ℕ) (refusal : Unedited) → F.told folder.old ≡ Some files → AsksEditors (map string_bytes words.now) editors
+        → IsUngiven refusal → AnswersEditing (Some files) editors (Err refusal) → (result ≡ Status.FolderFault) ⊎ (result ≡ Status.NoMemory) }
 {
     alone_is_a_session();
+    let editors = editors_in(words);
+    if editors > 0 {
+        return edit_together(rt, alloc, editors, folder, output);
+    }
     let workers = workers_of(words);
     if workers == 0 {
         return run_alone(alloc, words, folder, input, output);
@@ -163,6 +207,8 @@ pub fn run<R: Threads + Wait + Sync, F: Folder, S: Source, W: Sink, G: Gate>(
     serve_beside(rt, alloc, workers, folder, input, output, gate)
 }
 
+#[cfg(test)]
+mod editing;
 #[cfg(test)]
 mod meeting;
 #[cfg(test)]

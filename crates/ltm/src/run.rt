@@ -28,7 +28,8 @@ ghost use Rattle.ltm.specs.Sessions.{ServesWhole, session_status};
 ghost use Rattle.ltm.specs.Whole.{AsksNothing, IsTextOf, WritesFrontOf, FolderFailed};
 
 use crate::serve::serve;
-use ltm_io::{Folder, Sink};
+use ltm_files::OpenFolder;
+use ltm_io::Sink;
 use ltm_lines::Source;
 use ltm_texts::{Status, run_texts, session_of};
 use std::alloc::Global;
@@ -55,10 +56,10 @@ fn asks_alone(words: &[String]) -> bool
 ///   writes the `splits.csv` that sends traffic along them, in equal parts where several are least.
 /// - `routes times` writes the times that these routes take.
 /// - `curves` fetches, reads and loads the case as `load` does, and writes the loading as a curve file.
-/// - `check` reads the case, then fetches `curves.csv`, and says whether it is the loading of the case, or why not.
+/// - `check` reads the case, then opens `curves.csv`, reads it piece by piece, and says whether it is the loading of the case, or why not.
 ///
 /// Everything is decided in this order: the words, the fetches, what the files say, the script line by line, the writing.
-pub fn run_alone<F: Folder, S: Source, W: Sink>(
+pub fn run_alone<F: OpenFolder, S: Source, W: Sink>(
     alloc: Global,
     words: &[String],
     folder: &mut F,

@@ -45,7 +45,7 @@ fn close_long<W: Sink>(alloc: Global, number: u32, output: &mut W) -> Status
 }
 
 /// Says that the script has more lines than are answered.
-fn close_many<W: Sink>(alloc: Global, output: &mut W) -> Status
+pub(crate) fn close_many<W: Sink>(alloc: Global, output: &mut W) -> Status
     ensures answers { (result ≡ Status.TooManyCommands) ⊎ ((result ≡ Status.WriteFault) ⊎ (result ≡ Status.NoMemory)) }
     ensures wrote { result ≡ Status.TooManyCommands → W.written output.new ≡ appended (closing_of SessionEnd.TooManyCommands) (W.written output.old) }
     ensures front { (W.written output.new ≡ W.written output.old)

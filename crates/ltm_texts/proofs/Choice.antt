@@ -8,7 +8,7 @@ use Rattle.ltm_trial.specs.Words.{start_of, nodes_of}
 use Rattle.ltm_texts.specs.Answers.{IsSized}
 use Rattle.ltm_texts.specs.declared.words.Command.{Command}
 use Rattle.ltm_texts.specs.declared.words.Command.TheVariants as command
-use Rattle.ltm_texts.specs.Words.{Asks, AsksSession}
+use Rattle.ltm_texts.specs.Words.{Asks, AsksSession, AsksEditors}
 
 abbrev pub first_byte : List ℕ → ℕ
 first_byte [] = 0
@@ -184,4 +184,14 @@ session_asked a b found is counts n = (
   λ asks.
       let same : b ≡ asks.0 = ap second_word asks.1 in
       (counts n).1 (subst (λ w. (length w ≤ 2) × (whole_number w ≡ Some n) × (n ≤ 64)) (sym same) (asks.2, asks.3, asks.4)),
+)
+
+-- ---- how many editors there are
+pub editors_asked : (a b : List ℕ) (found : Option ℕ) → a ≡ codes "editors" → ((n : ℕ) → (found ≡ Some n) ↔ ((length b ≤ 1) × (whole_number b ≡ Some n) × (1 ≤ n) × (n ≤ 8)))
+    → (n : ℕ) → (found ≡ Some n) ↔ AsksEditors (a ∷ b ∷ []) n
+editors_asked a b found is counts n = (
+  λ some. let h = (counts n).0 some in (b, ap (λ w. w ∷ b ∷ []) is, h.0, h.1, h.2, h.3),
+  λ asks.
+      let same : b ≡ asks.0 = ap second_word asks.1 in
+      (counts n).1 (subst (λ w. (length w ≤ 1) × (whole_number w ≡ Some n) × (1 ≤ n) × (n ≤ 8)) (sym same) (asks.2, asks.3, asks.4, asks.5)),
 )

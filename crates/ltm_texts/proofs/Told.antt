@@ -205,6 +205,7 @@ completes command told files before now wrote writes ending.TooManyCommands fail
 completes command told files before now wrote writes ending.NoMemory failed faulted whole is calm quiet = inr refl
 completes command told files before now wrote writes ending.BadCurves failed faulted whole is calm quiet = inl (told_answer command told files ending.BadCurves is (whole tt))
 completes command told files before now wrote writes ending.NotLoading failed faulted whole is calm quiet = inl (told_answer command told files ending.NotLoading is (whole tt))
+completes command told files before now wrote writes ending.BadScript failed faulted whole is calm quiet = inl (told_answer command told files ending.BadScript is (whole tt))
 
 -- the same of another name of the command
 pub completes_asked : (command other : Command) (told : Option Files) (files : Files) (before now : Doc → ℕ) (wrote writes : ℕ) (result : Status) → command ≡ other

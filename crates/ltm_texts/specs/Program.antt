@@ -127,6 +127,7 @@ IsWhole ending.TooManyCommands = Unit {0}
 IsWhole ending.NoMemory = ⊥
 IsWhole ending.BadCurves = Unit {0}
 IsWhole ending.NotLoading = Unit {0}
+IsWhole ending.BadScript = Unit {0}
 
 -- ---- faults of the folder
 -- the count of faults rose of a file that the command may fetch and that it fetches from this folder, where that is told

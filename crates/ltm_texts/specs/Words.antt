@@ -22,5 +22,10 @@ AsksNoText words = (command : Command) → Asks words command → ⊥
 abbrev pub AsksSession : List (List ℕ) → ℕ → Type 0
 AsksSession words workers = (number : List ℕ) × (words ≡ codes "session" ∷ number ∷ []) × (length number ≤ 2) × (whole_number number ≡ Some workers) × (workers ≤ 64)
 
+-- the words ask for so many editors: one digit, from 1 to 8
+abbrev pub AsksEditors : List (List ℕ) → ℕ → Type 0
+AsksEditors words editors = (number : List ℕ) × (words ≡ codes "editors" ∷ number ∷ []) × (length number ≤ 1) × (whole_number number ≡ Some editors) × (1 ≤ editors) × (editors ≤ 8)
+
+-- all commands
 unfoldable pub usage_line : List ℕ
-usage_line = codes "usage: ltm load | ltm session N | ltm try START NODES | ltm routes [times] | ltm curves | ltm check\n"
+usage_line = codes "usage: ltm load | ltm session N | ltm try START NODES | ltm routes [times] | ltm curves | ltm check | ltm editors K\n"

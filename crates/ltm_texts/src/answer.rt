@@ -17,6 +17,7 @@ use crate::load::report_case;
 use crate::words::Command;
 use ltm_casefile::CaseFault;
 use ltm_checking::{Refusal, case_curves, check_text};
+use ltm_files::OpenFolder;
 use ltm_io::Folder;
 use ltm_make::MakeFault;
 use ltm_routing::{RouteLines, route_text};
@@ -81,7 +82,7 @@ fn curves<F: Folder>(alloc: Global, folder: &mut F) -> Result<Vec<u8>, CaseFault
 
 /// That the curve file beside the folder's case is its loading, or why it is not.
 #[tactic(auto, using(crate::proofs::MissingFile::check_failed, crate::proofs::Answering::check_fault))]
-fn check<F: Folder>(alloc: Global, folder: &mut F) -> Result<Vec<u8>, Refusal>
+fn check<F: OpenFolder>(alloc: Global, folder: &mut F) -> Result<Vec<u8>, Refusal>
     ensures keeps { F.told folder.new ≡ F.told folder.old }
     ensures others { (d : Doc) → is_check_file d ≡ false → F.faults folder.new d ≡ F.faults folder.old d }
     ensures unasked { IfSome (F.told folder.old) (λ files. (d : Doc) → check_asks_for files d ≡ false → F.faults folder.new d ≡ F.faults folder.old d) }
@@ -142,7 +143,7 @@ fn told<F: Folder>(alloc: Global, command: Command, folder: &mut F) -> Result<Ve
 }
 
 /// The whole text that a command answers to a folder, or why there is none.
-pub fn answer<F: Folder>(
+pub fn answer<F: OpenFolder>(
     alloc: Global,
     command: Command,
     folder: &mut F,

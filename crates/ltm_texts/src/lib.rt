@@ -13,6 +13,7 @@
 
 mod answer;
 mod closing;
+mod crew_words;
 mod load;
 mod refusing;
 mod report;
@@ -21,6 +22,7 @@ mod texts;
 mod words;
 
 pub use closing::{refuse_case, refuse_length, write_text};
+pub use crew_words::editors_of;
 pub use refusing::refuse_fault;
 pub use status::Status;
 pub use texts::run_texts;

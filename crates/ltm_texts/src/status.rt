@@ -17,10 +17,11 @@ pub enum Status {
     WriteFault,
     /// 6: the files are no valid case, and the line of the first fault is written.
     BadCase,
-    /// 7: a file of the case or a line of the script has more bytes than are read; the answers to the lines before it are
-    /// written, and a line that says so.
+    /// 7: a file of the case, of edits or of curves, or a line of the script has more bytes than are read; the answers to the
+    /// lines before it are written, and a line that says so.
     TooLong,
-    /// 8: the script has more lines than are answered; the answers to those are written, and a line that says so.
+    /// 8: the script has more lines than are answered, or a file of edits more than are read; the answers to those are written,
+    /// and a line that says so.
     TooManyCommands,
     /// 9: memory was not found, and a front of what was to be written, or nothing, is there.
     NoMemory,
@@ -28,6 +29,8 @@ pub enum Status {
     BadCurves,
     /// 12: the curves of `curves.csv` are not the loading of the case, and a line that says where is written.
     NotLoading,
+    /// 13: a line of a file of edits is no edit, and a line that says which is written.
+    BadScript,
 }
 
 impl Status {
@@ -47,6 +50,7 @@ impl Status {
             Status::NoMemory => 9,
             Status::BadCurves => 11,
             Status::NotLoading => 12,
+            Status::BadScript => 13,
         }
     }
 }

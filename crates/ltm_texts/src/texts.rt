@@ -28,11 +28,12 @@ use crate::closing::write_text;
 use crate::refusing::refuse;
 use crate::status::Status;
 use crate::words::{Command, command_of, usage_text};
-use ltm_io::{Folder, Sink};
+use ltm_files::OpenFolder;
+use ltm_io::Sink;
 use std::alloc::Global;
 
 /// Writes what a command answers to a folder, or says why there is no answer.
-fn run_command<F: Folder, W: Sink>(
+fn run_command<F: OpenFolder, W: Sink>(
     alloc: Global,
     command: Command,
     folder: &mut F,
@@ -62,7 +63,7 @@ fn run_command<F: Folder, W: Sink>(
 }
 
 /// Writes the whole text that the words ask for, or the usage line where they ask for none.
-pub fn run_texts<F: Folder, W: Sink>(
+pub fn run_texts<F: OpenFolder, W: Sink>(
     alloc: Global,
     words: &[String],
     folder: &mut F,

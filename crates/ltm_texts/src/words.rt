@@ -161,5 +161,5 @@ pub fn session_of(words: &[String]) -> Option<u32>
 pub fn usage_text() -> &'static [u8]
     ensures { result.now ≡ usage_line }
 {
-    b"usage: ltm load | ltm session N | ltm try START NODES | ltm routes [times] | ltm curves | ltm check\n"
+    b"usage: ltm load | ltm session N | ltm try START NODES | ltm routes [times] | ltm curves | ltm check | ltm editors K\n"
 }

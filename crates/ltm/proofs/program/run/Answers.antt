@@ -1,8 +1,110 @@
-use Rattle.std.proofs.Common.{inr, sym}
+use Rattle.std.proofs.Common.{inl, inr, sym}
 use Rattle.ltm_texts.specs.declared.words.Command.TheVariants as ask
 use Rattle.ltm.proofs.Sorting.{apart}
 use Rattle.ltm.proofs.Crews.{no_crew, some_crew, asks_alone, none_asked, nothing_asked, whole_alone, front_alone, folder_alone, serves_alone, whole_beside, front_beside}
+use Rattle.ltm.proofs.Choosing.{no_editors, no_command, no_session, whole_editing, front_editing, bad_line, editors_wrote, editors_answered}
+use Rattle.ltm.proofs.Editing.{completes}
 use Rattle.ltm.proofs.program.run.Goals as goal
+
+-- ---- editors
+pub returns-then-editors-gt0-clause-untouched : goal.returns-then-editors-gt0-clause-untouched
+returns-then-editors-gt0-clause-untouched g c = λ none. absurd (none.2 _ (c.editors_in-editors.ensures.asked c.if-editors-gt0.true))
+
+pub returns-then-editors-gt0-clause-others : goal.returns-then-editors-gt0-clause-others
+returns-then-editors-gt0-clause-others g c = λ command also. absurd (no_command _ command also (c.editors_in-editors.ensures.asked c.if-editors-gt0.true))
+
+pub returns-then-editors-gt0-clause-unasked : goal.returns-then-editors-gt0-clause-unasked
+returns-then-editors-gt0-clause-unasked g c = λ command also. absurd (no_command _ command also (c.editors_in-editors.ensures.asked c.if-editors-gt0.true))
+
+pub returns-then-editors-gt0-clause-session_others : goal.returns-then-editors-gt0-clause-session_others
+returns-then-editors-gt0-clause-session_others g c = λ workers also. absurd (no_session _ also (c.editors_in-editors.ensures.asked c.if-editors-gt0.true))
+
+pub returns-then-editors-gt0-clause-session_unasked : goal.returns-then-editors-gt0-clause-session_unasked
+returns-then-editors-gt0-clause-session_unasked g c = λ workers also. absurd (no_session _ also (c.editors_in-editors.ensures.asked c.if-editors-gt0.true))
+
+pub returns-then-editors-gt0-clause-editors_others : goal.returns-then-editors-gt0-clause-editors_others
+returns-then-editors-gt0-clause-editors_others g c = λ n also. rw (c.editors_in-editors.ensures.crews n also) c.edit_together.ensures.others
+
+pub returns-then-editors-gt0-clause-editors_unasked : goal.returns-then-editors-gt0-clause-editors_unasked
+returns-then-editors-gt0-clause-editors_unasked g c = λ n also. rw (c.editors_in-editors.ensures.crews n also) c.edit_together.ensures.unasked
+
+pub returns-then-editors-gt0-clause-usage : goal.returns-then-editors-gt0-clause-usage
+returns-then-editors-gt0-clause-usage g c = λ is. absurd (c.edit_together.ensures.usage is)
+
+pub returns-then-editors-gt0-clause-asked : goal.returns-then-editors-gt0-clause-asked
+returns-then-editors-gt0-clause-asked g c = λ none. absurd (none.2 _ (c.editors_in-editors.ensures.asked c.if-editors-gt0.true))
+
+pub returns-then-editors-gt0-clause-folder_fault : goal.returns-then-editors-gt0-clause-folder_fault
+returns-then-editors-gt0-clause-folder_fault g c = λ is. let h = c.edit_together.ensures.folder_fault is in (inr (inr (c.editors_in-editors.result, (c.editors_in-editors.ensures.asked c.if-editors-gt0.true), h.0)), h.1)
+
+pub returns-then-editors-gt0-clause-read_fault : goal.returns-then-editors-gt0-clause-read_fault
+returns-then-editors-gt0-clause-read_fault g c = λ is. absurd (c.edit_together.ensures.read_fault is)
+
+pub returns-then-editors-gt0-clause-whole : goal.returns-then-editors-gt0-clause-whole
+returns-then-editors-gt0-clause-whole g c = λ is. whole_editing _ c.editors_in-editors.result _ _ _ _ _ (c.editors_in-editors.ensures.asked c.if-editors-gt0.true) (c.edit_together.ensures.whole is)
+
+pub returns-then-editors-gt0-clause-front : goal.returns-then-editors-gt0-clause-front
+returns-then-editors-gt0-clause-front g c = front_editing _ c.editors_in-editors.result _ _ _ _ (c.editors_in-editors.ensures.asked c.if-editors-gt0.true) c.edit_together.ensures.front
+
+pub returns-then-editors-gt0-clause-load : goal.returns-then-editors-gt0-clause-load
+returns-then-editors-gt0-clause-load g c = λ also. absurd (no_command _ ask.Load also (c.editors_in-editors.ensures.asked c.if-editors-gt0.true))
+
+pub returns-then-editors-gt0-clause-routes : goal.returns-then-editors-gt0-clause-routes
+returns-then-editors-gt0-clause-routes g c = λ also. absurd (no_command _ ask.Routes also (c.editors_in-editors.ensures.asked c.if-editors-gt0.true))
+
+pub returns-then-editors-gt0-clause-times : goal.returns-then-editors-gt0-clause-times
+returns-then-editors-gt0-clause-times g c = λ also. absurd (no_command _ ask.RouteTimes also (c.editors_in-editors.ensures.asked c.if-editors-gt0.true))
+
+pub returns-then-editors-gt0-clause-trial : goal.returns-then-editors-gt0-clause-trial
+returns-then-editors-gt0-clause-trial g c = λ start nodes also. absurd (no_command _ (ask.Try start nodes) also (c.editors_in-editors.ensures.asked c.if-editors-gt0.true))
+
+pub returns-then-editors-gt0-clause-curves : goal.returns-then-editors-gt0-clause-curves
+returns-then-editors-gt0-clause-curves g c = λ also. absurd (no_command _ ask.Curves also (c.editors_in-editors.ensures.asked c.if-editors-gt0.true))
+
+pub returns-then-editors-gt0-clause-bad_case : goal.returns-then-editors-gt0-clause-bad_case
+returns-then-editors-gt0-clause-bad_case g c = λ none nobody. absurd (nobody _ (c.editors_in-editors.ensures.asked c.if-editors-gt0.true))
+
+pub returns-then-editors-gt0-clause-too_long : goal.returns-then-editors-gt0-clause-too_long
+returns-then-editors-gt0-clause-too_long g c = λ none nobody. absurd (nobody _ (c.editors_in-editors.ensures.asked c.if-editors-gt0.true))
+
+pub returns-then-editors-gt0-clause-check : goal.returns-then-editors-gt0-clause-check
+returns-then-editors-gt0-clause-check g c = λ also. absurd (no_command _ ask.Check also (c.editors_in-editors.ensures.asked c.if-editors-gt0.true))
+
+pub returns-then-editors-gt0-clause-check_complete : goal.returns-then-editors-gt0-clause-check_complete
+returns-then-editors-gt0-clause-check_complete g c = λ files s bytes told also. absurd (no_command _ ask.Check also (c.editors_in-editors.ensures.asked c.if-editors-gt0.true))
+
+pub returns-then-editors-gt0-clause-session : goal.returns-then-editors-gt0-clause-session
+returns-then-editors-gt0-clause-session g c = λ workers also. absurd (no_session _ also (c.editors_in-editors.ensures.asked c.if-editors-gt0.true))
+
+pub returns-then-editors-gt0-clause-session_alone : goal.returns-then-editors-gt0-clause-session_alone
+returns-then-editors-gt0-clause-session_alone g c = λ also. absurd (no_session _ also (c.editors_in-editors.ensures.asked c.if-editors-gt0.true))
+
+pub returns-then-editors-gt0-clause-editors : goal.returns-then-editors-gt0-clause-editors
+returns-then-editors-gt0-clause-editors g c = λ n also. rw (c.editors_in-editors.ensures.crews n also) (editors_wrote _ _ _ _ _ c.edit_together.ensures.whole)
+
+pub returns-then-editors-gt0-clause-editors_answer : goal.returns-then-editors-gt0-clause-editors_answer
+returns-then-editors-gt0-clause-editors_answer g c = λ n also. rw (c.editors_in-editors.ensures.crews n also) (editors_answered _ _ _ _ _ c.edit_together.ensures.whole)
+
+pub returns-then-editors-gt0-clause-bad_script : goal.returns-then-editors-gt0-clause-bad_script
+returns-then-editors-gt0-clause-bad_script g c = λ is. bad_line _ _ _ _ _ _ is (returns-then-editors-gt0-clause-whole g c)
+
+pub returns-then-editors-gt0-clause-complete : goal.returns-then-editors-gt0-clause-complete
+returns-then-editors-gt0-clause-complete g c = λ files command told also. absurd (no_command _ command also (c.editors_in-editors.ensures.asked c.if-editors-gt0.true))
+
+pub returns-then-editors-gt0-clause-session_complete : goal.returns-then-editors-gt0-clause-session_complete
+returns-then-editors-gt0-clause-session_complete g c = λ files script workers told left also. absurd (no_session _ also (c.editors_in-editors.ensures.asked c.if-editors-gt0.true))
+
+pub returns-then-editors-gt0-clause-missing : goal.returns-then-editors-gt0-clause-missing
+returns-then-editors-gt0-clause-missing g c = λ files command refusal told also. absurd (no_command _ command also (c.editors_in-editors.ensures.asked c.if-editors-gt0.true))
+
+pub returns-then-editors-gt0-clause-session_missing : goal.returns-then-editors-gt0-clause-session_missing
+returns-then-editors-gt0-clause-session_missing g c = λ files file workers told also. absurd (no_session _ also (c.editors_in-editors.ensures.asked c.if-editors-gt0.true))
+
+pub returns-then-editors-gt0-clause-editors_complete : goal.returns-then-editors-gt0-clause-editors_complete
+returns-then-editors-gt0-clause-editors_complete g c = λ files n told also. rw (c.editors_in-editors.ensures.crews n also) (λ calm quiet. completes _ _ files _ _ _ _ _ (λ is. (c.edit_together.ensures.folder_fault is).0) c.edit_together.ensures.write_fault (λ all. let h = c.edit_together.ensures.whole all in (h.0, h.1)) told calm quiet)
+
+pub returns-then-editors-gt0-clause-editors_missing : goal.returns-then-editors-gt0-clause-editors_missing
+returns-then-editors-gt0-clause-editors_missing g c = λ files n refusal told also. rw (c.editors_in-editors.ensures.crews n also) (c.edit_together.ensures.missing files refusal told)
 
 -- ---- what is run alone
 pub returns-then-workers-eq0-clause-untouched : goal.returns-then-workers-eq0-clause-untouched
@@ -23,7 +125,7 @@ returns-then-workers-eq0-clause-unread g c =
 
 pub returns-then-workers-eq0-clause-usage : goal.returns-then-workers-eq0-clause-usage
 returns-then-workers-eq0-clause-usage g c =
-    λ is. let (nothing, wrote) = c.run_alone.ensures.usage is in (none_asked _ (no_crew _ c.workers_of-workers.result c.if-workers-eq0.true c.workers_of-workers.ensures.sessions) nothing, wrote)
+    λ is. let (nothing, wrote) = c.run_alone.ensures.usage is in (none_asked _ (no_crew _ c.workers_of-workers.result c.if-workers-eq0.true c.workers_of-workers.ensures.sessions) (no_editors _ c.editors_in-editors.result c.if-editors-gt0.false c.editors_in-editors.ensures.crews) nothing, wrote)
 
 pub returns-then-workers-eq0-clause-asked : goal.returns-then-workers-eq0-clause-asked
 returns-then-workers-eq0-clause-asked g c =
@@ -39,19 +141,19 @@ returns-then-workers-eq0-clause-read_fault g c =
 
 pub returns-then-workers-eq0-clause-whole : goal.returns-then-workers-eq0-clause-whole
 returns-then-workers-eq0-clause-whole g c =
-    λ is. whole_alone _ _ _ _ _ _ (no_crew _ c.workers_of-workers.result c.if-workers-eq0.true c.workers_of-workers.ensures.sessions) (c.run_alone.ensures.whole is)
+    λ is. whole_alone _ _ _ _ _ _ (no_crew _ c.workers_of-workers.result c.if-workers-eq0.true c.workers_of-workers.ensures.sessions) (no_editors _ c.editors_in-editors.result c.if-editors-gt0.false c.editors_in-editors.ensures.crews) (c.run_alone.ensures.whole is)
 
 pub returns-then-workers-eq0-clause-front : goal.returns-then-workers-eq0-clause-front
 returns-then-workers-eq0-clause-front g c =
-    front_alone _ _ _ _ _ (no_crew _ c.workers_of-workers.result c.if-workers-eq0.true c.workers_of-workers.ensures.sessions) c.run_alone.ensures.front
+    front_alone _ _ _ _ _ (no_crew _ c.workers_of-workers.result c.if-workers-eq0.true c.workers_of-workers.ensures.sessions) (no_editors _ c.editors_in-editors.result c.if-editors-gt0.false c.editors_in-editors.ensures.crews) c.run_alone.ensures.front
 
 pub returns-then-workers-eq0-clause-bad_case : goal.returns-then-workers-eq0-clause-bad_case
 returns-then-workers-eq0-clause-bad_case g c =
-    λ none is. c.run_alone.ensures.bad_case (none 0) is
+    λ none nobody is. c.run_alone.ensures.bad_case (none 0) is
 
 pub returns-then-workers-eq0-clause-too_long : goal.returns-then-workers-eq0-clause-too_long
 returns-then-workers-eq0-clause-too_long g c =
-    λ none is. c.run_alone.ensures.too_long (none 0) is
+    λ none nobody is. c.run_alone.ensures.too_long (none 0) is
 
 pub returns-then-workers-eq0-clause-session : goal.returns-then-workers-eq0-clause-session
 returns-then-workers-eq0-clause-session g c =
@@ -64,6 +166,27 @@ returns-then-workers-eq0-clause-session_complete g c =
 pub returns-then-workers-eq0-clause-session_missing : goal.returns-then-workers-eq0-clause-session_missing
 returns-then-workers-eq0-clause-session_missing g c =
     λ files file workers told asks. c.run_alone.ensures.session_missing files file told (asks_alone _ workers (no_crew _ c.workers_of-workers.result c.if-workers-eq0.true c.workers_of-workers.ensures.sessions) asks)
+
+pub returns-then-workers-eq0-clause-editors_others : goal.returns-then-workers-eq0-clause-editors_others
+returns-then-workers-eq0-clause-editors_others g c = λ n asks. absurd ((no_editors _ c.editors_in-editors.result c.if-editors-gt0.false c.editors_in-editors.ensures.crews) n asks)
+
+pub returns-then-workers-eq0-clause-editors_unasked : goal.returns-then-workers-eq0-clause-editors_unasked
+returns-then-workers-eq0-clause-editors_unasked g c = λ n asks. absurd ((no_editors _ c.editors_in-editors.result c.if-editors-gt0.false c.editors_in-editors.ensures.crews) n asks)
+
+pub returns-then-workers-eq0-clause-editors : goal.returns-then-workers-eq0-clause-editors
+returns-then-workers-eq0-clause-editors g c = λ n asks. absurd ((no_editors _ c.editors_in-editors.result c.if-editors-gt0.false c.editors_in-editors.ensures.crews) n asks)
+
+pub returns-then-workers-eq0-clause-editors_answer : goal.returns-then-workers-eq0-clause-editors_answer
+returns-then-workers-eq0-clause-editors_answer g c = λ n asks. absurd ((no_editors _ c.editors_in-editors.result c.if-editors-gt0.false c.editors_in-editors.ensures.crews) n asks)
+
+pub returns-then-workers-eq0-clause-editors_complete : goal.returns-then-workers-eq0-clause-editors_complete
+returns-then-workers-eq0-clause-editors_complete g c = λ files n told asks. absurd ((no_editors _ c.editors_in-editors.result c.if-editors-gt0.false c.editors_in-editors.ensures.crews) n asks)
+
+pub returns-then-workers-eq0-clause-editors_missing : goal.returns-then-workers-eq0-clause-editors_missing
+returns-then-workers-eq0-clause-editors_missing g c = λ files n refusal told asks. absurd ((no_editors _ c.editors_in-editors.result c.if-editors-gt0.false c.editors_in-editors.ensures.crews) n asks)
+
+pub returns-then-workers-eq0-clause-bad_script : goal.returns-then-workers-eq0-clause-bad_script
+returns-then-workers-eq0-clause-bad_script g c = λ is. bad_line _ _ _ _ _ _ is (returns-then-workers-eq0-clause-whole g c)
 
 -- ---- a session beside workers
 pub returns-clause-untouched : goal.returns-clause-untouched
@@ -100,7 +223,7 @@ returns-clause-asked g c =
 
 pub returns-clause-folder_fault : goal.returns-clause-folder_fault
 returns-clause-folder_fault g c =
-    λ is. let (failed, wrote) = c.serve_beside.ensures.folder_fault is in (inr ((c.workers_of-workers.result, (c.workers_of-workers.ensures.asked (some_crew c.workers_of-workers.result c.if-workers-eq0.false))), failed), wrote)
+    λ is. let (failed, wrote) = c.serve_beside.ensures.folder_fault is in (inr (inl ((c.workers_of-workers.result, (c.workers_of-workers.ensures.asked (some_crew c.workers_of-workers.result c.if-workers-eq0.false))), failed)), wrote)
 
 pub returns-clause-read_fault : goal.returns-clause-read_fault
 returns-clause-read_fault g c =
@@ -173,3 +296,24 @@ returns-clause-missing g c =
 pub returns-clause-session_missing : goal.returns-clause-session_missing
 returns-clause-session_missing g c =
     λ files file workers told asks. c.serve_beside.ensures.missing files file told
+
+pub returns-clause-editors_others : goal.returns-clause-editors_others
+returns-clause-editors_others g c = λ n asks. absurd ((no_editors _ c.editors_in-editors.result c.if-editors-gt0.false c.editors_in-editors.ensures.crews) n asks)
+
+pub returns-clause-editors_unasked : goal.returns-clause-editors_unasked
+returns-clause-editors_unasked g c = λ n asks. absurd ((no_editors _ c.editors_in-editors.result c.if-editors-gt0.false c.editors_in-editors.ensures.crews) n asks)
+
+pub returns-clause-editors : goal.returns-clause-editors
+returns-clause-editors g c = λ n asks. absurd ((no_editors _ c.editors_in-editors.result c.if-editors-gt0.false c.editors_in-editors.ensures.crews) n asks)
+
+pub returns-clause-editors_answer : goal.returns-clause-editors_answer
+returns-clause-editors_answer g c = λ n asks. absurd ((no_editors _ c.editors_in-editors.result c.if-editors-gt0.false c.editors_in-editors.ensures.crews) n asks)
+
+pub returns-clause-editors_complete : goal.returns-clause-editors_complete
+returns-clause-editors_complete g c = λ files n told asks. absurd ((no_editors _ c.editors_in-editors.result c.if-editors-gt0.false c.editors_in-editors.ensures.crews) n asks)
+
+pub returns-clause-editors_missing : goal.returns-clause-editors_missing
+returns-clause-editors_missing g c = λ files n refusal told asks. absurd ((no_editors _ c.editors_in-editors.result c.if-editors-gt0.false c.editors_in-editors.ensures.crews) n asks)
+
+pub returns-clause-bad_script : goal.returns-clause-bad_script
+returns-clause-bad_script g c = λ is. bad_line _ _ _ _ _ _ is (returns-clause-whole g c)

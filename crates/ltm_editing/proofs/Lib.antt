@@ -1,0 +1,5 @@
+pub mod Calls
+pub mod Crews
+pub mod Told
+pub mod Answered
+pub mod Sent

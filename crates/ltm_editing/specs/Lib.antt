@@ -1,0 +1,5 @@
+pub mod Histories
+pub mod Crews
+pub mod Lines
+pub mod Editing
+pub mod Answers
