@@ -7,7 +7,7 @@ use std::alloc::Global;
 use std::test::Fail;
 
 /// The loading of one road of capacity 500 over four slots; a vehicle starts in the first two.
-const FILE: &str =
+pub(crate) const FILE: &str =
     "kind,name,destination,counts\nup,a,n2,0 500 1000 1000 1000\ndown,a,n2,0 0 0 500 1000\ndep,n1,n2,0 500 1000 1000 1000\ndep,n2,n2,0 0 0 0 0\narr,n2,n2,0 0 0 500 1000\n";
 
 const HEADER: &str = "kind,name,destination,counts\n";
@@ -28,7 +28,7 @@ fn folder_of(alloc: Global, demand: &str, splits: &str) -> Result<MemFolder, NoM
     Ok(folder)
 }
 
-fn one_road(alloc: Global) -> Result<MemFolder, NoMemory> {
+pub(crate) fn one_road(alloc: Global) -> Result<MemFolder, NoMemory> {
     folder_of(
         alloc,
         "origin,destination,from_slot,to_slot,vehicles\nn1,n2,0,2,1\n",

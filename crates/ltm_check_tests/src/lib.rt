@@ -9,3 +9,5 @@
 mod files;
 #[cfg(test)]
 mod made;
+#[cfg(test)]
+mod pieces;
