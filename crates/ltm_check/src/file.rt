@@ -51,13 +51,14 @@ fn take_some<S: Source>(
 }
 
 /// Reads the records of a text up to its last line's end before its first quote, and keeps the text from there on. How many
-/// records were read then.
+/// records were read then. Nothing is read of a text that is shorter than is worth a look.
 fn read_front(
     alloc: Global,
     scenario: &Scenario,
     curves: &mut Curves,
     next: u32,
     text: &mut Vec<u8>,
+    worth: usize,
 ) -> Result<u32, CurvesFault>
     requires shape { IsShaped (setting_of scenario.now) curves.old }
     requires next { next ≤ record_count scenario.now + 1 }
@@ -69,6 +70,9 @@ fn read_front(
         → IsFault scenario.now (records_of (bytes ++ more)) e) }
 {
     cut_at_line_end();
+    if text.len() < worth {
+        return Ok(next);
+    }
     let cut = cut_of(text.as_slice());
     if cut == 0 {
         return Ok(next);
@@ -198,6 +202,8 @@ pub fn read_curves_from<S: Source>(
     let mut text = Vec::new(alloc);
     let mut next: u32 = 0;
     let mut taken: u64 = 0;
+    // A text that was looked at in vain is looked at again when it is twice as long, so that a long record costs its length.
+    let mut worth = 0usize;
     for _ in 0..most + 1 {
         let count = match take_some(source, piece, &mut text) {
             Ok(count) => count,
@@ -213,11 +219,14 @@ pub fn read_curves_from<S: Source>(
                 Err(fault) => Err(FileFault::Curves(fault)),
             };
         }
-        match read_front(alloc, scenario, &mut curves, next, &mut text) {
+        match read_front(alloc, scenario, &mut curves, next, &mut text, worth) {
             Ok(read) => next = read,
             Err(fault) => {
                 return Err(count_rest(source, piece, taken, most, fault));
             }
+        }
+        if text.len() >= worth {
+            worth = text.len().saturating_mul(2);
         }
     }
     Err(FileFault::TooLong)

@@ -12,7 +12,7 @@ fn whole(alloc: Global, scenario: &Scenario, text: &[u8]) -> Option<CurvesFault>
     read_curves(alloc, scenario, text).err()
 }
 
-/// Whether a text of at most `most` bytes that is read in pieces of this size has this fault, or tells the loading.
+/// Whether a text of at most `most` bytes, and of 2^20, that is read in pieces of this size has this fault, or tells the loading.
 fn pieces_give(
     alloc: Global,
     scenario: &Scenario,
