@@ -238,3 +238,5 @@ mod editing;
 mod meeting;
 #[cfg(test)]
 mod tests;
+#[cfg(test)]
+mod viewing;
