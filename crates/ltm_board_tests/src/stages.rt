@@ -33,10 +33,14 @@ fn with_sheet<R: Threads + Wait + Sync>(
     requires links { links_on sheet.old ≡ (setting_of opening.now).links }
 {
     lists_lead();
-    let (mut board, mut viewer) = Board::create(alloc, opening, first).ok()?;
-    let played = play(rt, &mut board, &mut viewer, sheet, batch, next, second);
-    board.close(viewer);
-    Some(played)
+    match Board::create(alloc, opening, first) {
+        Ok((mut board, mut viewer)) => {
+            let played = play(rt, &mut board, &mut viewer, sheet, batch, next, second);
+            board.close(viewer);
+            Some(played)
+        }
+        Err(_) => None,
+    }
 }
 
 fn with_second<R: Threads + Wait + Sync>(

@@ -88,6 +88,7 @@ pub fn play<R: Threads + Wait + Sync>(
     requires links { (links_on sheet.old ≡ viewer_links viewer.old) × (viewer_links viewer.old ≡ board_links board.old) }
     requires leads { LeadsTo (joined (board_list board.old) ++ entries_of_batches (batch.now ∷ [])) scenario.now }
     requires loading { IsLoadingOf scenario.now loading.now }
+    ensures { viewer_id viewer.new ≡ board_id board.new }
 {
     let barrier = Barrier::new(2);
     let ([older, newer], at_once) = join_mut(
