@@ -1,7 +1,8 @@
 //! - **What it is**: the program `ltm`. `main` only makes the real folder, input and output and calls `run`, whose
 //!   contract is that of the whole program.
 //! - **On what it stands**: `ltm_texts` for the commands whose text is made whole before it is written, `ltm_session` for the
-//!   session, which answers a script line by line, and `ltm_casefile`, which reads the case.
+//!   session, which answers a script line by line, `ltm_crew` for workers beside it, `ltm_viewing` for viewers at it,
+//!   `ltm_editing` for several editors, and `ltm_casefile`, which reads the case.
 //! - **What a call costs**: a cold loading, the routes to each destination or a trial; a session a cold loading, and then what
 //!   its lines cost.
 //! - **When to change it here**: when there is another command that reads the input, or when a session ends or is closed in
