@@ -3,18 +3,15 @@ use Rattle.std.proofs.Common.{◌≡◌, ℕ, ◌*◌, ◌/◌, ◌≤◌, ◌==
 use Rattle.std.proofs.lemmas.Nat.{mul-le}
 use Rattle.std.proofs.lemmas.Bool.Decides.{nat_tests}
 use Rattle.std.specs.Int.{div_ceil}
+use Rattle.ltm_units.specs.Results.{refuse, ◌>>>◌}
+use Rattle.ltm_units.proofs.Results.{passed}
 use Rattle.ltm_diagram.specs.declared.diagram.Diagram.{Diagram}
 use Rattle.ltm_diagram.specs.declared.diagram.Limits.{Limits}
 use Rattle.ltm_diagram.specs.declared.diagram.Field.{Field}
 use Rattle.ltm_diagram.specs.declared.diagram.DiagramFault.{DiagramFault}
 use Rattle.ltm_diagram.specs.declared.diagram.DiagramFault.TheVariants.{Zero, Over}
-use Rattle.ltm_diagram.specs.Limits.{limits_of, refuse, sized, ◌>>>◌, free_flow_time, wave_time, capacity_of, storage_of}
+use Rattle.ltm_diagram.specs.Limits.{limits_of, sized, free_flow_time, wave_time, capacity_of, storage_of}
 use Rattle.ltm_diagram.specs.InRange.{AreInRange}
-
--- what is not refused fails the test, and the rest gives the answer
-passed : {A : Type 0} (test : Bool) (fault : DiagramFault) (next : Result A DiagramFault) (x : A) → (refuse test fault >>> next) ≡ Ok x → (test ≡ false) × (next ≡ Ok x)
-passed true fault next x is = cc
-passed false fault next x is = (refl, is)
 
 two_passed : {A : Type 0} (a b : Bool) (f g : DiagramFault) (next : Result A DiagramFault) (x : A) → ((refuse a f >>> refuse b g) >>> next) ≡ Ok x → (a ≡ false) × (b ≡ false) × (next ≡ Ok x)
 two_passed true b f g next x is = cc

@@ -1,6 +1,7 @@
 -- The limits of a link in slots of a step, or the first fault of its diagram.
-use Rattle.std.specs.Prelude.{ℕ, ◌+◌, ◌*◌, ◌/◌, ◌==◌, ◌||◌, Bool, nat_lt, Result, Ok, Err, if◌then◌else◌}
+use Rattle.std.specs.Prelude.{ℕ, ◌+◌, ◌*◌, ◌/◌, ◌==◌, ◌||◌, Bool, nat_lt, Result, Ok}
 use Rattle.std.specs.Int.{div_ceil}
+use Rattle.ltm_units.specs.Results.{refuse, ◌>>>◌}
 use Rattle.ltm_diagram.specs.declared.diagram.Diagram.{Diagram}
 use Rattle.ltm_diagram.specs.declared.diagram.Limits.{Limits}
 use Rattle.ltm_diagram.specs.declared.diagram.Field.{Field}
@@ -23,16 +24,6 @@ capacity_of d step = d.jam_per_km * d.free_kmh * d.wave_kmh * step / ((d.free_km
 -- the thousandths of a vehicle that stand on it at jam density
 abbrev pub storage_of : Diagram → ℕ
 storage_of d = d.jam_per_km * d.length_m
-
--- the fault, where the test holds
-abbrev pub refuse : Bool → DiagramFault → Result (Unit {0}) DiagramFault
-refuse test fault = if test then Err fault else Ok tt
-
--- the first fault of two steps, or what the second gives
-infixr 10 ◌>>>◌
-abbrev pub ◌>>>◌ : {A : Type 0} → Result (Unit {0}) DiagramFault → Result A DiagramFault → Result A DiagramFault
-(Ok x) >>> next = next
-(Err fault) >>> next = Err fault
 
 -- a field is at least 1 and at most its limit
 abbrev pub sized : Field → ℕ → ℕ → Result (Unit {0}) DiagramFault

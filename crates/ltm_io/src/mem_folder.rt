@@ -1,5 +1,6 @@
 //! A folder in memory.
 ghost use Rattle.std.specs.Prelude.{◌≡◌, ◌≢◌, ℕ, ◌<◌, ◌≤◌, [], length, None, Some, IfOk, OnOk, OnErr, IsSomeAnd, option_map, if◌then◌else◌};
+ghost use Rattle.ltm_io.specs.Doc.{place_of};
 ghost use Rattle.ltm_io.specs.Fetched.{answer_of};
 ghost use Rattle.ltm_io.specs.Faults.{Rose, raised};
 ghost use Rattle.ltm_io.specs.declared.doc.Doc.{Doc};
@@ -33,6 +34,52 @@ impl MemFolder {
         Ok(MemFolder {
             files: [
                 None, None, None, None, None, None, None, None, None, None, None, None, None, None,
+            ],
+            faults: [0; DOC_COUNT],
+            calls: 0,
+            failing,
+        })
+    }
+
+    /// A folder with the four files that each case has, and no fault. The fetches whose numbers are in `failing` are to fail.
+    pub fn of_case(
+        alloc: Global,
+        failing: &[u64],
+        setup: &str,
+        links: &str,
+        demand: &str,
+        splits: &str,
+    ) -> Result<MemFolder, NoMemory>
+        ensures setup { IfOk result (λ folder. file_of folder Doc.Setup ≡ Some setup.now) }
+        ensures links { IfOk result (λ folder. file_of folder Doc.Links ≡ Some links.now) }
+        ensures demand { IfOk result (λ folder. file_of folder Doc.Demand ≡ Some demand.now) }
+        ensures splits { IfOk result (λ folder. file_of folder Doc.Splits ≡ Some splits.now) }
+        ensures others { IfOk result (λ folder. (d : Doc) → 4 ≤ place_of d → file_of folder d ≡ None) }
+        ensures faultless { IfOk result (λ folder. (d : Doc) → faults_of folder d ≡ 0) }
+        ensures calls { IfOk result (λ folder. calls_of folder ≡ 0) }
+        ensures failing { IfOk result (λ folder. failing_of folder ≡ failing.now) }
+    {
+        let setup = Vec::from_slice(alloc, setup.as_bytes())?;
+        let links = Vec::from_slice(alloc, links.as_bytes())?;
+        let demand = Vec::from_slice(alloc, demand.as_bytes())?;
+        let splits = Vec::from_slice(alloc, splits.as_bytes())?;
+        let failing = Vec::from_slice(alloc, failing)?;
+        Ok(MemFolder {
+            files: [
+                Some(setup),
+                Some(links),
+                Some(demand),
+                Some(splits),
+                None,
+                None,
+                None,
+                None,
+                None,
+                None,
+                None,
+                None,
+                None,
+                None,
             ],
             faults: [0; DOC_COUNT],
             calls: 0,

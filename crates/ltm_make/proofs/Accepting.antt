@@ -12,7 +12,8 @@ use Rattle.ltm_scenario.specs.Data.{ScenarioData}
 use Rattle.ltm_scenario.specs.Reads.{destination_of, has_no_out_link, has_split}
 use Rattle.ltm_scenario.specs.IsScenario.{IsScenario}
 use Rattle.ltm_scenario.specs.Build.{with_demand, with_entry_limit, are_slots, ◌>>=◌}
-use Rattle.ltm_scenario.specs.Edits.{refuse, found, cause_of_demand, caused, demand_row, demand_edited, limited_link, limit_edited, at_place, edited_all}
+use Rattle.ltm_units.specs.Results.{refuse, found}
+use Rattle.ltm_scenario.specs.Edits.{cause_of_demand, caused, demand_row, demand_edited, limited_link, limit_edited, at_place, edited_all}
 use Rattle.ltm_make.specs.Names.{name_of_node, name_of_link}
 use Rattle.ltm_make.specs.Branches.{number}
 use Rattle.ltm_make.specs.Splits.{IsGrid, IsLaid}

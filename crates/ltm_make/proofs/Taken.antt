@@ -2,9 +2,10 @@
 use Rattle.std.proofs.Common.{◌≡◌, ◌≢◌, ℕ, suc, ◌+◌, ◌^◌, ◌<◌, ◌≤◌, ◌==◌, Bool, true, false, cond, List, [], ◌∷◌, length, get_or, is_some, nat_le, Option, Some, None, Ok, refl, sym, ap, ◌∙◌, arith, count_by}
 use Rattle.std.specs.Option.{option_map_or}
 use Rattle.std.proofs.lemmas.Bool.Decides.{nat_tests}
+use Rattle.ltm_units.specs.Results.{refuse, ◌>>>◌}
 use Rattle.ltm_network.specs.Names.{same}
 use Rattle.ltm_network.specs.Numbers.{numbers_of}
-use Rattle.ltm_network.specs.Network.{NetworkData, no_link, link_names, find_link, find_node, tail_of, head_of, leaves, enters, out_links, in_links, out_degree, in_degree, refuse, ◌>>>◌, checked}
+use Rattle.ltm_network.specs.Network.{NetworkData, no_link, link_names, find_link, find_node, tail_of, head_of, leaves, enters, out_links, in_links, out_degree, in_degree, checked}
 use Rattle.ltm_network.proofs.Apart.{named_there, link_at, length-link_names}
 use Rattle.ltm_network.proofs.Finding.{same_exact, position_none}
 use Rattle.ltm_make.specs.declared.grid.Road.{Road}

@@ -6,23 +6,16 @@ use Rattle.std.proofs.Math.Seq.{get_or-append_seam}
 use Rattle.std.proofs.lemmas.List.{map-append}
 use Rattle.std.proofs.lemmas.Bool.{cases_lt, cases_eq}
 use Rattle.std.proofs.lemmas.Bool.Decides.{nat_tests}
+use Rattle.ltm_units.specs.Results.{◌>>>◌}
+use Rattle.ltm_units.proofs.Results.{passed, not_refused}
 use Rattle.ltm_network.specs.declared.network.NetworkFault.{NetworkFault}
 use Rattle.ltm_network.specs.Names.{same, named, number_of, AreApart}
 use Rattle.ltm_network.specs.Numbers.{numbers_of}
-use Rattle.ltm_network.specs.Network.{Link, NetworkData, no_link, link_names, find_link, find_node, out_links, in_links, out_degree, in_degree, refuse, ◌>>>◌, checked, linked, with_link}
+use Rattle.ltm_network.specs.Network.{Link, NetworkData, no_link, link_names, find_link, find_node, out_links, in_links, out_degree, in_degree, checked, linked, with_link}
 use Rattle.ltm_network.specs.IsNetwork.{IsNetwork, NetworksStay}
 use Rattle.ltm_network.proofs.Finding.{same_exact, same_itself}
 use Rattle.ltm_network.proofs.Apart.{apart_named, apart_pushed, number_inside, named_at, named_kept, length-named, found_still, none_still}
 use Rattle.ltm_network.proofs.Counted.{passes, fails, none_leaves, none_enters}
-
--- what is not refused fails the test, and the rest gives the answer
-passed : {A : Type 0} (test : Bool) (fault : NetworkFault) (next : Result A NetworkFault) (x : A) → (refuse test fault >>> next) ≡ Ok x → (test ≡ false) × (next ≡ Ok x)
-passed true fault next x is = cc
-passed false fault next x is = (refl, is)
-
-last_passed : (test : Bool) (fault : NetworkFault) → refuse test fault ≡ Ok tt → test ≡ false
-last_passed true fault is = cc
-last_passed false fault is = refl
 
 none_from : (o : Option ℕ) → is_some o ≡ false → o ≡ None
 none_from (Some n) is = cc
@@ -46,7 +39,7 @@ taken d name tail head is =
     let apart = passed _ _ _ tt new.1 in
     let few = passed _ _ _ tt apart.1 in
     let out_room = passed _ _ _ tt few.1 in
-    let in_room = last_passed _ _ out_room.1 in
+    let in_room = not_refused _ _ out_room.1 in
     record {
       new = none_from _ new.0;
       apart = apart.0;

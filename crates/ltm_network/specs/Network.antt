@@ -1,6 +1,7 @@
 -- A network as contracts see it: its nodes by name, and its links with their names and the numbers of their ends.
-use Rattle.std.specs.Prelude.{ℕ, ◌==◌, Bool, nat_le, is_some, if◌then◌else◌, List, [], ◌∷◌, ◌++◌, length, map, take, slice_index, slice_index_or, Option, Result, Ok, Err}
+use Rattle.std.specs.Prelude.{ℕ, ◌==◌, Bool, nat_le, is_some, List, [], ◌∷◌, ◌++◌, length, map, take, slice_index, slice_index_or, Option, Result, Ok}
 use Rattle.std.specs.Option.{option_map_or}
+use Rattle.ltm_units.specs.Results.{refuse, ◌>>>◌}
 use Rattle.ltm_network.specs.declared.network.NetworkFault.{NetworkFault}
 use Rattle.ltm_network.specs.declared.network.NetworkFault.TheVariants.{TwiceNamed, SelfLoop, TooManyLinks, TooManyOut, TooManyIn}
 use Rattle.ltm_network.specs.Names.{same, place_of, named, number_of}
@@ -77,16 +78,6 @@ out_degree d name = option_map_or (λ node. length (out_links d node)) (find_nod
 
 abbrev pub in_degree : NetworkData → List ℕ → ℕ
 in_degree d name = option_map_or (λ node. length (in_links d node)) (find_node d name) 0
-
--- the fault, where the test holds
-abbrev pub refuse : Bool → NetworkFault → Result (Unit {0}) NetworkFault
-refuse test fault = if test then Err fault else Ok tt
-
--- the first fault of two steps, or what the second gives
-infixr 10 ◌>>>◌
-abbrev pub ◌>>>◌ : {A : Type 0} → Result (Unit {0}) NetworkFault → Result A NetworkFault → Result A NetworkFault
-(Ok x) >>> next = next
-(Err fault) >>> next = Err fault
 
 -- whether the network takes a link of that name between these nodes
 unfoldable pub checked : NetworkData → List ℕ → List ℕ → List ℕ → Result (Unit {0}) NetworkFault

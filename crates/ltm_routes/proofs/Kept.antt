@@ -2,13 +2,14 @@
 use Rattle.std.proofs.Common.{◌≡◌, ℕ, ◌<◌, ◌≤◌, ◌*◌, length, List, All, Some, None, Option, Ok, Err, Result, slice_get, slice_index_or, IsOk, ap, sym, refl, subst, arith, ◌∙◌}
 use Rattle.std.specs.Option.{option_map_or}
 use Rattle.std.proofs.lemmas.Option.{slice_get-get_or}
+use Rattle.ltm_units.specs.Results.{refuse, ◌>>>◌}
 use Rattle.ltm_diagram.specs.declared.diagram.Diagram.{Diagram}
 use Rattle.ltm_diagram.specs.declared.diagram.Limits.{Limits}
 use Rattle.ltm_diagram.specs.declared.diagram.DiagramFault.{DiagramFault}
 use Rattle.ltm_diagram.specs.declared.diagram.DiagramFault.TheVariants.{StepTooLong, NoCapacity, CapacityOver}
 use Rattle.ltm_diagram.specs.declared.diagram.Field.TheVariants.{Length, Free, Wave, Jam}
 use Rattle.std.specs.Prelude.{nat_lt, ◌||◌, ◌==◌}
-use Rattle.ltm_diagram.specs.Limits.{limits_of, refuse, sized, ◌>>>◌, free_flow_time, wave_time, capacity_of}
+use Rattle.ltm_diagram.specs.Limits.{limits_of, sized, free_flow_time, wave_time, capacity_of}
 use Rattle.ltm_diagram.specs.InRange.{LimitsInRange, AreInRange}
 use Rattle.ltm_scenario.specs.Data.{ScenarioData}
 use Rattle.ltm_scenario.specs.IsScenario.{IsScenario}

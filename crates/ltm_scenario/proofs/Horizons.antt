@@ -8,7 +8,7 @@ use Rattle.ltm_demand.specs.Kept.{AreDemandRows}
 use Rattle.ltm_splits.specs.Rows as splits
 use Rattle.ltm_splits.specs.Rows.{SplitsData}
 use Rattle.ltm_scenario.specs.declared.tables.Tables.TheInside.{Inside}
-use Rattle.ltm_scenario.specs.declared.undo.Undo.TheVariants.{Horizon}
+use Rattle.ltm_scenario.specs.declared.tables.undo.Undo.TheVariants.{Horizon}
 use Rattle.ltm_scenario.specs.Data.{ScenarioData}
 use Rattle.ltm_scenario.specs.Cells.{widths, cells, cells_over}
 use Rattle.ltm_scenario.specs.Horizon.{setup_over, with_slots, with_fewer_slots}

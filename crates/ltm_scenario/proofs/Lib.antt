@@ -14,7 +14,6 @@ pub mod Places
 pub mod Ranges
 pub mod Rooms
 pub mod Shapes
-pub mod Sums
 pub mod Undoing
 pub mod Validity
 pub mod Beside

@@ -3,6 +3,8 @@ use Rattle.std.proofs.Common.{◌≡◌, ℕ, ◌+◌, ◌<◌, ◌≤◌, ◌==
 use Rattle.std.proofs.lemmas.Bool.Decides.{nat_tests}
 use Rattle.std.proofs.lemmas.List.Elements.{All-push}
 use Rattle.ltm_units.specs.declared.places.LinkId.{LinkId}
+use Rattle.ltm_units.specs.Results.{◌>>>◌}
+use Rattle.ltm_units.proofs.Results.{both_ok, not_refused}
 use Rattle.ltm_limits.specs.Limits.{AreWhole, with_link as with_limits_of_link}
 use Rattle.ltm_limits.proofs.Stays.{limits_whole}
 use Rattle.ltm_diagram.specs.declared.diagram.Diagram.{Diagram}
@@ -26,11 +28,11 @@ use Rattle.ltm_scenario.specs.IsScenario.{IsScenario, IsDemandOf, IsSplitOf}
 -- what the network makes of a link that it takes
 pub network_linked : (d : NetworkData) (name tail head : List ℕ) → checked d name tail head ≡ Ok tt → network.with_link d name tail head ≡ Ok (network.linked d name tail head)
 unfolding network.with_link
-network_linked d name tail head is = ap (λ r. network.◌>>>◌ r (Ok (network.linked d name tail head))) is
+network_linked d name tail head is = ap (λ r. r >>> Ok (network.linked d name tail head)) is
 
 network_refused : (d : NetworkData) (name tail head : List ℕ) (fault : NetworkFault) → checked d name tail head ≡ Err fault → network.with_link d name tail head ≡ Err fault
 unfolding network.with_link
-network_refused d name tail head fault is = ap (λ r. network.◌>>>◌ r (Ok (network.linked d name tail head))) is
+network_refused d name tail head fault is = ap (λ r. r >>> Ok (network.linked d name tail head)) is
 
 pub refused_by_network : (s : ScenarioData) (name tail head : List ℕ) (diagram : Diagram) (fault : NetworkFault) → checked s.network name tail head ≡ Err fault → with_link s name tail head diagram ≡ Err (Network fault)
 unfolding with_link
@@ -114,21 +116,13 @@ linked_is_scenario s name tail head diagram stay is taken free sets =
     }
 
 -- ---- a link that is taken finds room
-passed : {A : Type 0} (r : Result (Unit {0}) NetworkFault) (next : Result A NetworkFault) (x : A) → network.◌>>>◌ r next ≡ Ok x → (r ≡ Ok tt) × (next ≡ Ok x)
-passed (Ok u) next x is = (refl, is)
-passed (Err fault) next x is = cc
-
-not_refused : (b : Bool) (fault : NetworkFault) → network.refuse b fault ≡ Ok tt → b ≡ false
-not_refused true fault is = cc
-not_refused false fault is = refl
-
 few_links : (n : ℕ) → nat_le 4000 n ≡ false → n < 4000
 few_links n few = grind (arith, nat_tests)
 
 pub room_for_link : (d : NetworkData) (name tail head : List ℕ) → checked d name tail head ≡ Ok tt → length d.links < 4000
 unfolding checked
 room_for_link d name tail head is =
-    let few : nat_le 4000 (length d.links) ≡ false = not_refused _ TooManyLinks (passed _ _ tt (passed _ _ tt (passed _ _ tt is).1).1).0 in
+    let few : nat_le 4000 (length d.links) ≡ false = not_refused _ TooManyLinks (both_ok _ _ tt (both_ok _ _ tt (both_ok _ _ tt is).1).1).0 in
     few_links (length d.links) few
 
 pub is_network_linked : (d next : NetworkData) (name tail head : List ℕ) → checked d name tail head ≡ Ok tt → network.with_link d name tail head ≡ Ok next → next ≡ network.linked d name tail head

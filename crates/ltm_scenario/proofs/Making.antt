@@ -3,6 +3,8 @@ use Rattle.std.proofs.Common.{◌≡◌, ℕ, ◌<◌, ◌≤◌, ◌==◌, not,
 use Rattle.std.specs.List.{list_all}
 use Rattle.std.specs.Result.{is_ok}
 use Rattle.std.proofs.lemmas.Bool.Decides.{nat_tests}
+use Rattle.ltm_units.specs.Results.{refuse, found}
+use Rattle.ltm_units.proofs.Results.{not_refused}
 use Rattle.ltm_diagram.specs.Limits.{limits_of}
 use Rattle.ltm_network.specs.Network.{find_node, find_link}
 use Rattle.ltm_demand.specs.declared.row.DemandRow.{DemandRow}
@@ -18,7 +20,7 @@ use Rattle.ltm_scenario.specs.Weights.{NamedWeight}
 use Rattle.ltm_scenario.specs.Data.{ScenarioData, demand_of, splits_of}
 use Rattle.ltm_scenario.specs.Reads.{destination_of, has_no_out_link, has_split}
 use Rattle.ltm_scenario.specs.Build.{with_demand, with_split, with_entry_limit, with_exit_limit, are_slots, ◌>>=◌}
-use Rattle.ltm_scenario.specs.Edits.{refuse, found, caused, cause_of_demand, cause_of_split, cause_of_horizon, demand_row, limited_link, split_key, split_row, weights_at, is_open, is_out_link, diagram_edited, with_diagram}
+use Rattle.ltm_scenario.specs.Edits.{caused, cause_of_demand, cause_of_split, cause_of_horizon, demand_row, limited_link, split_key, split_row, weights_at, is_open, is_out_link, diagram_edited, with_diagram}
 use Rattle.ltm_scenario.specs.declared.faults.HorizonFault.{HorizonFault}
 use Rattle.ltm_scenario.specs.declared.faults.HorizonFault.TheVariants.{BadSlots as HorizonSlots, CellsOver}
 use Rattle.ltm_scenario.specs.Cells.{cells_over, most_cells}
@@ -31,10 +33,6 @@ use Rattle.ltm_scenario.proofs.Horizons.{longer_cells}
 pub bound : {A B F : Type 0} (r : Result A F) (next : A → Result B F) (y : B) → (r >>= next) ≡ Ok y → (x : A) × (r ≡ Ok x) × (next x ≡ Ok y)
 bound (Ok x) next y is = (x, refl, is)
 bound (Err fault) next y is = cc
-
-not_refused : (b : Bool) (cause : EditCause) (u : Unit {0}) → refuse b cause ≡ Ok u → b ≡ false
-not_refused true cause u is = cc
-not_refused false cause u is = refl
 
 uncaused : {A F : Type 0} (cause : F → EditCause) (r : Result A F) (x : A) → caused cause r ≡ Ok x → r ≡ Ok x
 uncaused cause (Ok y) x is = cc
@@ -64,7 +62,7 @@ row_said s origin destination from to amount row is =
     let f = bound (refuse (not (has_split s.splits o.0 d.0)) OpenSplit) _ row c.2 in
     let made : DemandRow = record { origin = record { 0 = o.0 }; destination = d.0; from = from; to = to; amount = record { 0 = amount } } in
     let same : made ≡ row = cc (f.2) in
-    let slots = slots_are s from to (not_refused (not (are_slots s from to)) BadSlots c.0 c.1) in
+    let slots = slots_are s from to (not_refused (not (are_slots s from to)) BadSlots c.1) in
     let said : IsRowSaid s origin destination from to amount made = record {
       starts_at = was_found (find_node s.network origin) UnknownName o.0 o.1;
       leads_to = (e.0, was_found (find_node s.network destination) UnknownName e.0 e.1, was_found (destination_of s.destinations e.0) UnknownDestination d.0 d.1);
@@ -73,7 +71,7 @@ row_said s origin destination from to amount row is =
       units = refl;
       some_slots = slots.0;
       within = slots.1;
-      is_split = not_true (has_split s.splits o.0 d.0) (not_refused (not (has_split s.splits o.0 d.0)) OpenSplit f.0 f.1);
+      is_split = not_true (has_split s.splits o.0 d.0) (not_refused (not (has_split s.splits o.0 d.0)) OpenSplit f.1);
     } in
     subst (IsRowSaid s origin destination from to amount) same said
 
@@ -90,7 +88,7 @@ link_said s name from to link is =
     let l = bound (found (find_link s.network name) UnknownName) _ link is in
     let b = bound (refuse (not (are_slots s from to)) BadSlots) _ link l.2 in
     let same : l.0 ≡ link = cc (b.2) in
-    let slots = slots_are s from to (not_refused (not (are_slots s from to)) BadSlots b.0 b.1) in
+    let slots = slots_are s from to (not_refused (not (are_slots s from to)) BadSlots b.1) in
     record { named = was_found (find_link s.network name) UnknownName l.0 l.1 ∙ ap (λ z. Some z) same; some_slots = slots.0; within = slots.1 }
 
 -- ---- splits
@@ -103,7 +101,7 @@ row_is_closed s key weights row is =
     let a = bound (refuse (sum weights == 0) ZeroWeight) _ row is in
     let b = bound (refuse (is_open s key.node.0 key.destination key.from weights) OpenSplit) _ row a.2 in
     let made : SplitRow = (key, weights) in
-    (let same : row ≡ made = cc (b.2) in same, not_refused _ OpenSplit b.0 b.1)
+    (let same : row ≡ made = cc (b.2) in same, not_refused _ OpenSplit b.1)
 
 key_said : (s : ScenarioData) (node destination : List ℕ) (from : ℕ) (weights : List NamedWeight) (key : SplitKey) → split_key s node destination from weights ≡ Ok key → is_open s key.node.0 key.destination key.from (weights_at s key.node.0 weights) ≡ false → IsSplitSaid s node destination from weights key
 unfolding split_key
@@ -119,7 +117,7 @@ key_said s node destination from weights key is closed =
       stands_at = was_found (find_node s.network node) UnknownName n.0 n.1 ∙ ap (λ (k : SplitKey). Some k.node.0) same;
       leads_to = (e.0, was_found (find_node s.network destination) UnknownName e.0 e.1, was_found (destination_of s.destinations e.0) UnknownDestination d.0 d.1 ∙ ap (λ (k : SplitKey). Some k.destination) same);
       begins = sym (ap (λ (k : SplitKey). k.from) same);
-      within = key_within from s.setup.slots (not_refused (not (nat_lt from s.setup.slots)) BadSlots b.0 b.1);
+      within = key_within from s.setup.slots (not_refused (not (nat_lt from s.setup.slots)) BadSlots b.1);
       closed = closed;
     }
 

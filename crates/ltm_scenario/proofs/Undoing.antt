@@ -16,8 +16,8 @@ use Rattle.ltm_splits.specs.declared.keys.SplitKey.{SplitKey}
 use Rattle.ltm_splits.specs.Rows as splits
 use Rattle.ltm_splits.specs.Rows.{SplitRow, SplitsData, put_back, row_of}
 use Rattle.ltm_scenario.specs.declared.tables.Tables.TheInside.{Inside}
-use Rattle.ltm_scenario.specs.declared.undo.Undo.{Undo}
-use Rattle.ltm_scenario.specs.declared.undo.Undo.TheVariants.{Demand, Entry, Exit, NewSplit, OldSplit, Diagram, Horizon}
+use Rattle.ltm_scenario.specs.declared.tables.undo.Undo.{Undo}
+use Rattle.ltm_scenario.specs.declared.tables.undo.Undo.TheVariants.{Demand, Entry, Exit, NewSplit, OldSplit, Diagram, Horizon}
 use Rattle.ltm_scenario.specs.Data.{ScenarioData}
 use Rattle.ltm_scenario.specs.Diagrams.{DiagramsState}
 use Rattle.ltm_scenario.specs.State.{ScenarioState}

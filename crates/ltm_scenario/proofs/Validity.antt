@@ -6,7 +6,8 @@ use Rattle.ltm_network.specs.Network.{out_links}
 use Rattle.ltm_scenario.specs.declared.faults.ScenarioFault.{ScenarioFault}
 use Rattle.ltm_scenario.specs.Data.{ScenarioData}
 use Rattle.ltm_scenario.specs.Valid.{IsValid, leads_on, is_demand_split, is_split_begun, is_split_led, is_small}
-use Rattle.ltm_scenario.specs.Check.{Checked, need, ◌>>>◌, first_over, no_split, demand_row_checked, weight_checked, weights_checked, split_row_checked, cells_checked, checked}
+use Rattle.ltm_units.specs.Results.{◌>>>◌}
+use Rattle.ltm_scenario.specs.Check.{Checked, need, first_over, no_split, demand_row_checked, weight_checked, weights_checked, split_row_checked, cells_checked, checked}
 
 needed : (b : Bool) (fault : ScenarioFault) → need b fault ≡ Ok tt → b ≡ true
 needed true fault is = refl

@@ -1,6 +1,7 @@
 -- The first broken rule of a case.
 use Rattle.std.specs.Prelude.{ℕ, Bool, if◌then◌else◌, List, [], ◌∷◌, Result, Ok, Err}
 use Rattle.std.specs.List.{zip}
+use Rattle.ltm_units.specs.Results.{◌>>>◌}
 use Rattle.ltm_network.specs.Network.{out_links, head_of, node_name}
 use Rattle.ltm_demand.specs.declared.row.DemandRow.{DemandRow}
 use Rattle.ltm_splits.specs.Rows.{SplitRow}
@@ -16,12 +17,6 @@ Checked = Result (Unit {0}) ScenarioFault
 
 abbrev pub need : Bool → ScenarioFault → Checked
 need test fault = if test then Ok tt else Err fault
-
--- the first fault of two checks
-infixr 10 ◌>>>◌
-abbrev pub ◌>>>◌ : Checked → Checked → Checked
-(Ok x) >>> next = next
-(Err fault) >>> next = Err fault
 
 -- the first fault over a list
 abbrev pub first_over : {A : Type 0} → (A → Checked) → List A → Checked

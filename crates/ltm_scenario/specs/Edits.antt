@@ -1,7 +1,8 @@
 -- What edits make of a scenario, or the first cause to refuse one.
-use Rattle.std.specs.Prelude.{ℕ, ◌+◌, ◌==◌, ◌≤◌, ◌&&◌, ◌||◌, not, Bool, false, nat_lt, if◌then◌else◌, List, [], ◌∷◌, All, map, sum, slice_set, Option, Some, None, Result, Ok, Err}
+use Rattle.std.specs.Prelude.{ℕ, ◌+◌, ◌==◌, ◌≤◌, ◌&&◌, ◌||◌, not, Bool, false, nat_lt, if◌then◌else◌, List, [], ◌∷◌, All, map, sum, slice_set, Result, Ok, Err}
 use Rattle.std.specs.List.{list_all}
 use Rattle.std.specs.Option.{option_map_or}
+use Rattle.ltm_units.specs.Results.{refuse, found}
 use Rattle.ltm_diagram.specs.declared.diagram.Diagram.{Diagram}
 use Rattle.ltm_diagram.specs.Limits.{limits_of}
 use Rattle.ltm_network.specs.Names.{same}
@@ -26,15 +27,6 @@ use Rattle.ltm_scenario.specs.Reads.{destination_of, has_no_out_link, has_split}
 use Rattle.ltm_scenario.specs.Valid.{all_lead_on}
 use Rattle.ltm_scenario.specs.Horizon.{with_horizon}
 use Rattle.ltm_scenario.specs.Build.{with_demand, with_split, with_entry_limit, with_exit_limit, are_slots, ◌>>=◌}
-
--- the fault, where the test holds
-abbrev pub refuse : Bool → EditCause → Result (Unit {0}) EditCause
-refuse test cause = if test then Err cause else Ok tt
-
--- what the option holds, or the cause
-abbrev pub found : {A : Type 0} → Option A → EditCause → Result A EditCause
-found None cause = Err cause
-found (Some x) cause = Ok x
 
 abbrev pub cause_of_demand : DemandFault → EditCause
 cause_of_demand DemandSlots = BadSlots

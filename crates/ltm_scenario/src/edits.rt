@@ -12,7 +12,7 @@ mod split;
 use crate::edit::{Edit, EditCause, EditFault};
 use crate::faults::HorizonFault;
 use crate::tables::Tables;
-use crate::undo::Undo;
+use crate::tables::undo::Undo;
 use ltm_demand::{DemandFault, DemandRow};
 use ltm_diagram::Diagram;
 use ltm_units::{Name, NodeId, Units};
@@ -175,14 +175,14 @@ impl Tables {
         })
     }
 
-    fn has_no_out_link(&self, node: NodeId) -> bool
+    pub fn has_no_out_link(&self, node: NodeId) -> bool
         requires { node.0 < length self.now.scenario.network.nodes }
         ensures { result ≡ has_no_out_link self.now.scenario node.0 }
     {
         self.network().out_links(node).is_empty()
     }
 
-    fn are_slots(&self, from: u32, to: u32) -> bool
+    pub fn are_slots(&self, from: u32, to: u32) -> bool
         ensures { result ≡ are_slots self.now.scenario from to }
     {
         from < to && to <= self.setup().slots

@@ -18,7 +18,6 @@ mod laws;
 mod scenario;
 mod setup;
 mod tables;
-mod undo;
 mod weights;
 
 pub use batch::{Batch, BatchFault};

@@ -17,6 +17,8 @@ ghost use Rattle.ltm_scenario.specs.Edits.{edited_all, horizon_after, HaveAmount
 ghost use Rattle.ltm_scenario.specs.Shape.{SameShape};
 ghost use Rattle.ltm_scenario.specs.IsScenario.{IsScenario, IsDemandOf, IsSplitOf};
 
+mod rows;
+
 use crate::batch::Batch;
 use crate::edit::{EditCause, EditFault};
 use crate::faults::{DestinationFault, HorizonFault, LinkFault, ScenarioFault};

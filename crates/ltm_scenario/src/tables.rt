@@ -12,6 +12,7 @@ ghost use Rattle.ltm_scenario.specs.IsScenario.{IsScenario, IsDemandOf, IsSplitO
 mod building;
 mod changes;
 mod horizon;
+pub mod undo;
 
 use crate::destinations::Destinations;
 use crate::diagrams::Diagrams;

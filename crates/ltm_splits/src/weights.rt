@@ -56,7 +56,7 @@ pub fn fit_32_bits(weights: &[u32])
     ensures { All (λ weight. weight < 2 ^ 32) weights.now }
 {}
 
-/// Whether the weights are without sum.
+/// Whether the weights are all 0: then they have no sum, and no row has them.
 pub fn are_zero(weights: &[u32]) -> bool
     ensures { result ≡ (sum weights.now == 0) }
 {

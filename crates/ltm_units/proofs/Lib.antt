@@ -3,3 +3,4 @@ pub mod BadBytes
 pub mod Padding
 pub mod Splits
 pub mod Sums
+pub mod Results

@@ -10,14 +10,18 @@ mod nested_split;
 mod numbers;
 mod places;
 mod quantities;
+mod share;
 mod steps;
+mod summing;
 
 pub use names::Name;
-pub use nested_split::{nested, shares_make_the_amount, shares_rise, whole_splits};
+pub use nested_split::{shares_make_the_amount, shares_rise, whole_splits};
 pub use numbers::{NumberFault, read_vehicles, read_whole, write_vehicles};
 pub use places::{LinkId, NodeId, Pair, Reach};
 pub use quantities::{Millis, NoMemory, Units};
+pub use share::share_of;
 pub use steps::Steps;
+pub use summing::sum_of;
 
 #[cfg(test)]
 mod tests;

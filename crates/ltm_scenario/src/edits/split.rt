@@ -1,5 +1,5 @@
 //! Edits of a split row.
-ghost use Rattle.std.specs.Prelude.{◌≡◌, ◌≢◌, ℕ, ◌<◌, ◌==◌, List, length, Ok, Err, OnOk, OnErr, IfOk, IfErr, sum, false};
+ghost use Rattle.std.specs.Prelude.{◌≡◌, ◌≢◌, ℕ, ◌<◌, ◌==◌, List, length, Ok, Err, OnOk, OnErr, IfOk, IfErr, false};
 ghost use Rattle.std.specs.List.{list_all};
 ghost use Rattle.ltm_network.specs.Network.{out_links};
 ghost use Rattle.ltm_scenario.specs.Reads.{destination_node};
@@ -9,9 +9,9 @@ ghost use Rattle.ltm_scenario.specs.Undo.{Undoes};
 
 use crate::edit::EditCause;
 use crate::tables::Tables;
-use crate::undo::Undo;
+use crate::tables::undo::Undo;
 use crate::weights::Weights;
-use ltm_splits::{SplitFault, SplitKey};
+use ltm_splits::{SplitFault, SplitKey, are_zero};
 use ltm_units::{Name, NoMemory, NodeId};
 
 fn cause_of_split(fault: SplitFault) -> EditCause
@@ -112,7 +112,7 @@ impl Tables {
     }
 
     /// Whether all weights are those of out-links of the node.
-    fn are_out_links(&self, node: NodeId, weights: &[(Name, u32)]) -> bool
+    pub fn are_out_links(&self, node: NodeId, weights: &[(Name, u32)]) -> bool
         ensures { result ≡ list_all (λ w. is_out_link self.now.scenario node.0 w.0) weights.now }
     {
         weights
@@ -130,8 +130,8 @@ impl Tables {
         }
     }
 
-    /// A weight for each out-link of the node.
-    fn weights_at(&self, node: NodeId, weights: &[(Name, u32)]) -> Result<Vec<u32>, NoMemory>
+    /// A weight for each out-link of the node, in order of link number.
+    pub fn weights_at(&self, node: NodeId, weights: &[(Name, u32)]) -> Result<Vec<u32>, NoMemory>
         requires { node.0 < length self.now.scenario.network.nodes }
         ensures weights { IfOk result (λ row. row.items ≡ weights_at self.now.scenario node.0 weights.now) }
         ensures each { IfOk result (λ row. length row.items ≡ length (out_links self.now.scenario.network node.0)) }
@@ -154,7 +154,7 @@ impl Tables {
         ensures ok { OnOk result (split_row self.now.scenario key weights.now ≡ Ok (key, weights.now)) }
         ensures cause { IfErr result (λ e. split_row self.now.scenario key weights.now ≡ Err e) }
     {
-        if has_no_weight(weights) {
+        if are_zero(weights) {
             return Err(EditCause::ZeroWeight);
         }
         if self.is_open(key, weights) {
@@ -172,18 +172,4 @@ impl Tables {
         (key.from != 0 && !self.has_split(key.node, key.destination))
             || !self.all_lead_on(key.destination, self.network().out_links(key.node), weights)
     }
-}
-
-/// Whether the weights are all 0.
-#[tactic(auto, using(crate::proofs::Sums::sum_is_zero))]
-fn has_no_weight(weights: &[u32]) -> bool
-    ensures { result ≡ (sum weights.now == 0) }
-{
-    are_zero(weights)
-}
-
-fn are_zero(weights: &[u32]) -> bool
-    ensures { result ≡ list_all (λ weight. weight == 0) weights.now }
-{
-    weights.iter().all(|weight| *weight == 0)
 }

@@ -1,15 +1,15 @@
-//! Changes of one table, and their undoing, which needs no memory.
+//! Changes of one table, each of which gives what undoes it.
 ghost use Rattle.std.specs.Prelude.{◌≡◌, ◌≢◌, ℕ, ◌<◌, ◌≤◌, length, true, Ok, Err, OnOk, OnErr, IfOk, IfErr};
 ghost use Rattle.ltm_diagram.specs.Limits.{limits_of};
 ghost use Rattle.ltm_scenario.specs.Build.{with_demand, with_split, with_entry_limit, with_exit_limit, are_slots};
 ghost use Rattle.ltm_scenario.specs.Edits.{with_diagram};
 ghost use Rattle.ltm_scenario.specs.State.{KeepsRoom};
 ghost use Rattle.ltm_scenario.specs.SplitNote.{IsSplitNote};
-ghost use Rattle.ltm_scenario.specs.Undo.{undone, CanUndo, Undoes};
+ghost use Rattle.ltm_scenario.specs.Undo.{Undoes};
 ghost use Rattle.ltm_scenario.specs.IsScenario.{IsDemandOf, IsSplitOf};
 
 use crate::tables::Tables;
-use crate::undo::Undo;
+use crate::tables::undo::Undo;
 use ltm_demand::{DemandFault, DemandRow};
 use ltm_diagram::{Diagram, Limits};
 use ltm_splits::{SplitFault, SplitKey};
@@ -125,82 +125,5 @@ impl Tables {
             diagram: old_diagram,
             limits: old_limits,
         }
-    }
-
-    /// Puts back what an edit took away.
-    pub fn undo(&mut self, undo: Undo)
-        requires { CanUndo self.old undo }
-        ensures scenario { self.new.scenario ≡ undone self.old.scenario undo }
-        ensures room { KeepsRoom self.old self.new }
-    {
-        match undo {
-            Undo::Demand(row) => self.restore_demand(row),
-            Undo::Entry { link, from, was } => self.restore_entry(link, from, was),
-            Undo::Exit { link, from, was } => self.restore_exit(link, from, was),
-            Undo::NewSplit(key) => self.take_out_split(key),
-            Undo::OldSplit(key, was) => self.restore_split(key, was),
-            Undo::Diagram {
-                link,
-                diagram,
-                limits,
-            } => self.restore_diagram(link, diagram, limits),
-            Undo::Horizon(slots) => self.shorten(slots),
-        }
-    }
-
-    fn restore_demand(&mut self, row: DemandRow)
-        requires { CanUndo self.old (Undo.Demand row) }
-        ensures scenario { self.new.scenario ≡ undone self.old.scenario (Undo.Demand row) }
-        ensures room { KeepsRoom self.old self.new }
-    {
-        self.demand.restore(row);
-    }
-
-    #[tactic(auto, using(crate::proofs::Undoing::entry_restored))]
-    fn restore_entry(&mut self, link: u32, from: u32, was: Vec<u16>)
-        requires { CanUndo self.old (Undo.Entry link from was) }
-        ensures scenario { self.new.scenario ≡ undone self.old.scenario (Undo.Entry link from was) }
-        ensures room { KeepsRoom self.old self.new }
-    {
-        let mut values = was;
-        self.entry.exchange(link, from, &mut values);
-    }
-
-    #[tactic(auto, using(crate::proofs::Undoing::exit_restored))]
-    fn restore_exit(&mut self, link: u32, from: u32, was: Vec<u16>)
-        requires { CanUndo self.old (Undo.Exit link from was) }
-        ensures scenario { self.new.scenario ≡ undone self.old.scenario (Undo.Exit link from was) }
-        ensures room { KeepsRoom self.old self.new }
-    {
-        let mut values = was;
-        self.exit.exchange(link, from, &mut values);
-    }
-
-    #[tactic(auto, using(crate::proofs::Undoing::splits_restored))]
-    fn take_out_split(&mut self, key: SplitKey)
-        requires { CanUndo self.old (Undo.NewSplit key) }
-        ensures scenario { self.new.scenario ≡ undone self.old.scenario (Undo.NewSplit key) }
-        ensures room { KeepsRoom self.old self.new }
-    {
-        self.splits.take_out(key.node, key.destination, key.from);
-    }
-
-    #[tactic(auto, using(crate::proofs::Undoing::splits_restored))]
-    fn restore_split(&mut self, key: SplitKey, was: Vec<u32>)
-        requires { CanUndo self.old (Undo.OldSplit key was) }
-        ensures scenario { self.new.scenario ≡ undone self.old.scenario (Undo.OldSplit key was) }
-        ensures room { KeepsRoom self.old self.new }
-    {
-        self.splits
-            .put_back(key.node, key.destination, key.from, &was);
-    }
-
-    #[tactic(auto, using(crate::proofs::Undoing::diagrams_restored))]
-    fn restore_diagram(&mut self, link: u32, diagram: Diagram, limits: Limits)
-        requires { CanUndo self.old (Undo.Diagram link diagram limits) }
-        ensures scenario { self.new.scenario ≡ undone self.old.scenario (Undo.Diagram link diagram limits) }
-        ensures room { KeepsRoom self.old self.new }
-    {
-        self.diagrams.replace(link, diagram, limits);
     }
 }

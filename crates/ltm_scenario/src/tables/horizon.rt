@@ -8,7 +8,7 @@ ghost use Rattle.ltm_scenario.specs.Undo.{undone, CanUndo, Undoes};
 use crate::check::MOST_CELLS;
 use crate::faults::HorizonFault;
 use crate::tables::Tables;
-use crate::undo::Undo;
+use crate::tables::undo::Undo;
 
 /// The most slots of a horizon.
 const MOST_SLOTS: u32 = 10_000;

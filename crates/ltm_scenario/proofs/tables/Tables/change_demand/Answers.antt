@@ -1,6 +1,6 @@
 use Rattle.std.proofs.Common.{sym, subst}
 use Rattle.ltm_demand.specs.Rows.{with_amount}
-use Rattle.ltm_scenario.specs.declared.undo.Undo.TheVariants.{Demand}
+use Rattle.ltm_scenario.specs.declared.tables.undo.Undo.TheVariants.{Demand}
 use Rattle.ltm_scenario.specs.State.{ScenarioState}
 use Rattle.ltm_scenario.specs.Tables.{state_in, AreTables}
 use Rattle.ltm_scenario.specs.Undo.{Undoes}

@@ -1,7 +1,7 @@
 use Rattle.std.proofs.Common.{◌≡◌, ◌<◌, length, Ok, sym, ap, subst, ◌∙◌, arith}
 use Rattle.std.proofs.lemmas.Option.{get_or_from_slice_get}
 use Rattle.ltm_diagram.specs.Limits.{limits_of}
-use Rattle.ltm_scenario.specs.declared.undo.Undo.TheVariants.{Diagram}
+use Rattle.ltm_scenario.specs.declared.tables.undo.Undo.TheVariants.{Diagram}
 use Rattle.ltm_scenario.specs.State.{ScenarioState}
 use Rattle.ltm_scenario.specs.Tables.{state_in}
 use Rattle.ltm_scenario.specs.Undo.{Undoes}

@@ -1,7 +1,8 @@
 use Rattle.std.proofs.Common.{sym, ap, ◌∙◌}
 use Rattle.std.proofs.lemmas.List.Elements.{All-rest}
 use Rattle.ltm_scenario.specs.Data.{ScenarioData}
-use Rattle.ltm_scenario.specs.Check.{first_over, split_row_checked, ◌>>>◌}
+use Rattle.ltm_units.specs.Results.{◌>>>◌}
+use Rattle.ltm_scenario.specs.Check.{first_over, split_row_checked}
 use Rattle.ltm_scenario.specs.IsScenario.{IsSplitOf}
 use Rattle.ltm_scenario.proofs.tables.Tables.check_splits.Goals as goal
 

@@ -1,5 +1,5 @@
 use Rattle.std.proofs.Common.{sym, ap, subst, ◌∙◌}
-use Rattle.ltm_scenario.specs.declared.undo.Undo.TheVariants.{Demand}
+use Rattle.ltm_scenario.specs.declared.tables.undo.Undo.TheVariants.{Demand}
 use Rattle.ltm_scenario.specs.State.{ScenarioState}
 use Rattle.ltm_scenario.specs.IsScenario.{IsScenario}
 use Rattle.ltm_scenario.specs.Undo.{undone}

@@ -2,7 +2,7 @@ use Rattle.std.proofs.Common.{◌≡◌, ◌++◌, ◌∷◌, [], arith, sym, ap
 use Rattle.std.specs.Prelude.{List, ◌≤◌}
 use Rattle.ltm_demand.specs.Origins.{OriginData, rows_of, origin_at, IsAlike}
 use Rattle.ltm_demand.proofs.KeptOrigins.{push_alike, push_places, push_rows, alike_through}
-use Rattle.ltm_demand.proofs.demand.make_origins.Goals as goal
+use Rattle.ltm_demand.proofs.demand.setting.make_origins.Goals as goal
 
 pub room-preserved : goal.room-preserved
 room-preserved c =

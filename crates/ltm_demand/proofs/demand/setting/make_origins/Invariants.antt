@@ -1,6 +1,6 @@
 use Rattle.std.proofs.Common.{◌≡◌, ℕ, ◌+◌, ◌-◌, ◌≤◌, vec_len}
 use Rattle.ltm_demand.specs.Origins.{rows_of, origin_at, IsAlike}
-use Rattle.ltm_demand.proofs.demand.make_origins.Given as goal
+use Rattle.ltm_demand.proofs.demand.setting.make_origins.Given as goal
 
 abbrev pub invariant-room : goal.invariant-room
 invariant-room l = record {

@@ -1,0 +1,125 @@
+//! What undoes an edit, and undoing, which needs no memory.
+//!
+//! Each change of a table notes what it takes away (`changes`, `horizon`), and where a later edit of the batch is refused
+//! the notes are used, the last first. Whoever changes this: a further kind of change is a variant of `Undo`, with what it
+//! makes of the data (`undone`) and what it needs of the tables (`Fits`). When a note is used the data are those that its
+//! edit left, and of the room in the tables only `KeepsRoom` is known: so each room that `Fits` asks for is a field of
+//! `ScenarioState`, and `KeepsRoom` says that it does not fall.
+ghost use Rattle.std.specs.Prelude.{◌≡◌};
+ghost use Rattle.ltm_scenario.specs.State.{KeepsRoom};
+ghost use Rattle.ltm_scenario.specs.Undo.{undone, CanUndo};
+
+use crate::tables::Tables;
+use ltm_demand::DemandRow;
+use ltm_diagram::{Diagram, Limits};
+use ltm_splits::SplitKey;
+
+/// What an edit took away, with its place, so that it can be put back without memory.
+#[derive(Drop)]
+pub enum Undo {
+    /// The row with the amount that stood at its key.
+    Demand(DemandRow),
+    /// The entry limits of a link from a slot on.
+    Entry {
+        link: u32,
+        from: u32,
+        was: Vec<u16>,
+    },
+    /// The exit limits of a link from a slot on.
+    Exit {
+        link: u32,
+        from: u32,
+        was: Vec<u16>,
+    },
+    /// No split row stood at the key.
+    NewSplit(SplitKey),
+    /// The weights of the split row at the key.
+    OldSplit(SplitKey, Vec<u32>),
+    /// The diagram of a link, and its limits.
+    Diagram {
+        link: u32,
+        diagram: Diagram,
+        limits: Limits,
+    },
+    /// The slots of the horizon.
+    Horizon(u32),
+}
+
+impl Tables {
+    /// Puts back what an edit took away.
+    pub fn undo(&mut self, undo: Undo)
+        requires { CanUndo self.old undo }
+        ensures scenario { self.new.scenario ≡ undone self.old.scenario undo }
+        ensures room { KeepsRoom self.old self.new }
+    {
+        match undo {
+            Undo::Demand(row) => self.restore_demand(row),
+            Undo::Entry { link, from, was } => self.restore_entry(link, from, was),
+            Undo::Exit { link, from, was } => self.restore_exit(link, from, was),
+            Undo::NewSplit(key) => self.take_out_split(key),
+            Undo::OldSplit(key, was) => self.restore_split(key, was),
+            Undo::Diagram {
+                link,
+                diagram,
+                limits,
+            } => self.restore_diagram(link, diagram, limits),
+            Undo::Horizon(slots) => self.shorten(slots),
+        }
+    }
+
+    fn restore_demand(&mut self, row: DemandRow)
+        requires { CanUndo self.old (Undo.Demand row) }
+        ensures scenario { self.new.scenario ≡ undone self.old.scenario (Undo.Demand row) }
+        ensures room { KeepsRoom self.old self.new }
+    {
+        self.demand.restore(row);
+    }
+
+    #[tactic(auto, using(crate::proofs::Undoing::entry_restored))]
+    fn restore_entry(&mut self, link: u32, from: u32, was: Vec<u16>)
+        requires { CanUndo self.old (Undo.Entry link from was) }
+        ensures scenario { self.new.scenario ≡ undone self.old.scenario (Undo.Entry link from was) }
+        ensures room { KeepsRoom self.old self.new }
+    {
+        let mut values = was;
+        self.entry.exchange(link, from, &mut values);
+    }
+
+    #[tactic(auto, using(crate::proofs::Undoing::exit_restored))]
+    fn restore_exit(&mut self, link: u32, from: u32, was: Vec<u16>)
+        requires { CanUndo self.old (Undo.Exit link from was) }
+        ensures scenario { self.new.scenario ≡ undone self.old.scenario (Undo.Exit link from was) }
+        ensures room { KeepsRoom self.old self.new }
+    {
+        let mut values = was;
+        self.exit.exchange(link, from, &mut values);
+    }
+
+    #[tactic(auto, using(crate::proofs::Undoing::splits_restored))]
+    fn take_out_split(&mut self, key: SplitKey)
+        requires { CanUndo self.old (Undo.NewSplit key) }
+        ensures scenario { self.new.scenario ≡ undone self.old.scenario (Undo.NewSplit key) }
+        ensures room { KeepsRoom self.old self.new }
+    {
+        self.splits.take_out(key.node, key.destination, key.from);
+    }
+
+    #[tactic(auto, using(crate::proofs::Undoing::splits_restored))]
+    fn restore_split(&mut self, key: SplitKey, was: Vec<u32>)
+        requires { CanUndo self.old (Undo.OldSplit key was) }
+        ensures scenario { self.new.scenario ≡ undone self.old.scenario (Undo.OldSplit key was) }
+        ensures room { KeepsRoom self.old self.new }
+    {
+        self.splits
+            .put_back(key.node, key.destination, key.from, &was);
+    }
+
+    #[tactic(auto, using(crate::proofs::Undoing::diagrams_restored))]
+    fn restore_diagram(&mut self, link: u32, diagram: Diagram, limits: Limits)
+        requires { CanUndo self.old (Undo.Diagram link diagram limits) }
+        ensures scenario { self.new.scenario ≡ undone self.old.scenario (Undo.Diagram link diagram limits) }
+        ensures room { KeepsRoom self.old self.new }
+    {
+        self.diagrams.replace(link, diagram, limits);
+    }
+}
