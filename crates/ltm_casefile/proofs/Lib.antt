@@ -1,5 +1,4 @@
 pub mod Fetching
-pub mod Numbers
+pub mod Memory
 pub mod Places
-pub mod Sums
 pub mod Unsplit

@@ -1,29 +1,21 @@
 -- Neither links nor demand set a split row.
-use Rattle.std.proofs.Common.{◌≡◌, ℕ, ◌+◌, List, [], ◌∷◌, Bool, true, false, Result, Ok, Err, Option, Some, None, refl, ap, sym, ◌∙◌}
+use Rattle.std.proofs.Common.{◌≡◌, ℕ, ◌+◌, List, [], ◌∷◌, Bool, Result, Ok, Err, refl, ap, ◌∙◌}
 use Rattle.ltm_network.specs.Network as network
 use Rattle.ltm_network.specs.Network.{NetworkData}
-use Rattle.ltm_network.specs.declared.network.NetworkFault.{NetworkFault}
 use Rattle.ltm_diagram.specs.declared.diagram.Diagram.{Diagram}
-use Rattle.ltm_diagram.specs.declared.diagram.DiagramFault.{DiagramFault}
-use Rattle.ltm_diagram.specs.declared.diagram.Limits.{Limits}
 use Rattle.ltm_diagram.specs.Limits.{limits_of}
 use Rattle.ltm_demand.specs.declared.row.DemandRow.{DemandRow}
-use Rattle.ltm_demand.specs.declared.row.DemandFault.{DemandFault}
 use Rattle.ltm_demand.specs.Rows as demand
 use Rattle.ltm_demand.specs.Rows.{DemandData}
 use Rattle.ltm_scenario.specs.Data.{ScenarioData, demand_of}
 use Rattle.ltm_scenario.specs.Reads.{destination_of}
-use Rattle.ltm_scenario.specs.Build.{◌>>=◌, with_link, of_network, of_diagram, linked, with_destination, added, with_demand}
+use Rattle.ltm_scenario.specs.Build.{◌>>=◌, with_link, of_network, of_diagram, with_destination, added, with_demand}
 use Rattle.ltm_scenario.specs.declared.faults.LinkFault.{LinkFault}
-use Rattle.ltm_scenario.specs.declared.faults.DestinationFault.{DestinationFault}
 use Rattle.ltm_records.specs.Fields.{Fields}
 use Rattle.ltm_records.specs.Left.{records_of}
 use Rattle.ltm_casefile.specs.declared.faults.CaseCause.{CaseCause}
 use Rattle.ltm_casefile.specs.declared.faults.CaseFault.{CaseFault}
 use Rattle.ltm_casefile.specs.declared.faults.File.{File}
-use Rattle.ltm_casefile.specs.declared.links.LinkRecord.{LinkRecord}
-use Rattle.ltm_casefile.specs.declared.demand.DemandRecord.{DemandRecord}
-use Rattle.ltm_casefile.specs.declared.tables.Table.{Table}
 use Rattle.ltm_casefile.specs.declared.tables.Table.TheVariants as table
 use Rattle.ltm_casefile.specs.Causes.{refuse, taken}
 use Rattle.ltm_casefile.specs.Rows.{at_row, rows_from, below_header}

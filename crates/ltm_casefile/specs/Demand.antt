@@ -1,16 +1,20 @@
 -- What a record of demand makes of a scenario.
-use Rattle.std.specs.Prelude.{ℕ, ◌==◌, not, Result, Ok, unwrap_or}
+use Rattle.std.specs.Prelude.{ℕ, ◌==◌, not, Result, Ok, unwrap_or, Bool, length, codes, ◌&&◌}
 use Rattle.ltm_network.specs.Network.{find_node}
 use Rattle.ltm_demand.specs.declared.row.DemandRow.{DemandRow}
 use Rattle.ltm_scenario.specs.Data.{ScenarioData}
 use Rattle.ltm_scenario.specs.Reads.{destination_of, has_no_out_link}
 use Rattle.ltm_scenario.specs.Build.{with_destination, with_demand, are_slots, ◌>>=◌}
-use Rattle.ltm_records.specs.Fields.{Fields}
+use Rattle.ltm_records.specs.Fields.{Fields, has}
 use Rattle.ltm_casefile.specs.declared.faults.CaseCause.{CaseCause}
 use Rattle.ltm_casefile.specs.declared.faults.CaseCause.TheVariants.{Unknown, NoOrigin, SameEnds, BadSlots, TooManyDestinations, TooManyRows}
 use Rattle.ltm_casefile.specs.declared.demand.DemandRecord.{DemandRecord}
 use Rattle.ltm_casefile.specs.Causes.{refuse, found, taken}
 use Rattle.ltm_casefile.specs.Fields.{has_width, name_in, number_in, amount_in}
+
+abbrev pub is_demand_header : Fields → Bool
+is_demand_header fields =
+    (length fields == 5) && has fields 0 (codes "origin") && has fields 1 (codes "destination") && has fields 2 (codes "from_slot") && has fields 3 (codes "to_slot") && has fields 4 (codes "vehicles")
 
 -- origin, destination, first slot, slot after the last, vehicles
 unfoldable pub demand_record : Fields → Result DemandRecord CaseCause

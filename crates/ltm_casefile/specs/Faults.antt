@@ -3,6 +3,9 @@ use Rattle.std.specs.Prelude.{◌≡◌, ℕ, Bool, true, Option, Some, None, Is
 use Rattle.ltm_io.specs.declared.doc.Doc.{Doc}
 use Rattle.ltm_io.specs.declared.doc.Doc.TheVariants as doc
 use Rattle.ltm_io.specs.Faults.{Rose}
+use Rattle.ltm_network.specs.declared.network.NetworkFault.TheVariants as network
+use Rattle.ltm_casefile.specs.declared.faults.CaseCause.{CaseCause}
+use Rattle.ltm_casefile.specs.declared.faults.CaseCause.TheVariants.{Network}
 use Rattle.ltm_casefile.specs.declared.faults.File.{File}
 use Rattle.ltm_casefile.specs.declared.faults.File.TheVariants as file
 use Rattle.ltm_casefile.specs.declared.faults.CaseFault.{CaseFault}
@@ -31,6 +34,16 @@ Says said (Folder f) = ⊥
 Says said (TooLong f) = ⊥
 Says said (Bad f row cause) = said ≡ Err (Bad f row cause)
 Says said NoMemory = Unit {0}
+
+-- a cause other than the network's want of memory
+abbrev pub IsNoWant : CaseCause → Type 0
+IsNoWant (Network network.NoMemory) = ⊥
+IsNoWant other = Unit {0}
+
+-- want of memory is told as itself, and never as a bad case
+abbrev pub HidesNoMemory : CaseFault → Type 0
+HidesNoMemory (Bad f row cause) = IsNoWant cause
+HidesNoMemory other = Unit {0}
 
 -- a file that the folder did not give is one of its own, of which this holds
 abbrev pub NotGiven : (Doc → Type 0) → CaseFault → Type 0

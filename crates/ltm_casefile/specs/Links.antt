@@ -1,15 +1,19 @@
 -- What a record of links makes of a scenario.
-use Rattle.std.specs.Prelude.{Result, Ok, Err}
+use Rattle.std.specs.Prelude.{Result, Ok, Err, Bool, length, codes, ◌==◌, ◌&&◌}
 use Rattle.ltm_network.specs.declared.network.NetworkFault.TheVariants as network
 use Rattle.ltm_scenario.specs.declared.faults.LinkFault.{LinkFault}
 use Rattle.ltm_scenario.specs.declared.faults.LinkFault.TheVariants.{Network as RefusedByNetwork, Diagram as BadDiagram, NoMemory}
 use Rattle.ltm_scenario.specs.Data.{ScenarioData}
 use Rattle.ltm_scenario.specs.Build.{with_link, ◌>>=◌}
-use Rattle.ltm_records.specs.Fields.{Fields}
+use Rattle.ltm_records.specs.Fields.{Fields, has}
 use Rattle.ltm_casefile.specs.declared.faults.CaseCause.{CaseCause}
 use Rattle.ltm_casefile.specs.declared.faults.CaseCause.TheVariants.{Network, Diagram}
 use Rattle.ltm_casefile.specs.declared.links.LinkRecord.{LinkRecord}
 use Rattle.ltm_casefile.specs.Fields.{has_width, name_in, number_in}
+
+abbrev pub is_links_header : Fields → Bool
+is_links_header fields =
+    (length fields == 7) && has fields 0 (codes "link") && has fields 1 (codes "from") && has fields 2 (codes "to") && has fields 3 (codes "length_m") && has fields 4 (codes "free_kmh") && has fields 5 (codes "wave_kmh") && has fields 6 (codes "jam_per_km")
 
 -- name, tail, head, length in metres, free speed and wave speed in km/h, jam density in vehicles per km
 unfoldable pub link_record : Fields → Result LinkRecord CaseCause

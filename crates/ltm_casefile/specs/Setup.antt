@@ -1,12 +1,11 @@
 -- What the setup says.
-use Rattle.std.specs.Prelude.{ℕ, ◌==◌, ◌||◌, not, nat_lt, Bool, if◌then◌else◌, List, [], ◌∷◌, length, Result, Ok, Err}
+use Rattle.std.specs.Prelude.{ℕ, ◌==◌, ◌||◌, ◌&&◌, codes, not, nat_lt, Bool, if◌then◌else◌, List, [], ◌∷◌, length, Result, Ok, Err}
 use Rattle.ltm_scenario.specs.declared.setup.SetupFault.{SetupFault}
 use Rattle.ltm_scenario.specs.declared.setup.SetupFault.TheVariants.{Range as OutOfRange}
 use Rattle.ltm_scenario.specs.Setup.{setup_checked}
 use Rattle.ltm_scenario.specs.Data.{empty_scenario}
 use Rattle.ltm_scenario.specs.Build.{◌>>=◌}
-use Rattle.ltm_records.specs.Fields.{Fields}
-use Rattle.ltm_records.specs.Headers.{is_setup_header, is_setup_header_with_signals}
+use Rattle.ltm_records.specs.Fields.{Fields, has}
 use Rattle.ltm_casefile.specs.declared.faults.CaseCause.{CaseCause}
 use Rattle.ltm_casefile.specs.declared.faults.CaseCause.TheVariants.{Range, Rows}
 use Rattle.ltm_casefile.specs.declared.faults.CaseFault.{CaseFault}
@@ -17,6 +16,17 @@ use Rattle.ltm_casefile.specs.declared.setup.Opened.{Opened}
 use Rattle.ltm_casefile.specs.Causes.{refuse}
 use Rattle.ltm_casefile.specs.Fields.{has_width, number_in, amount_in}
 use Rattle.ltm_casefile.specs.Rows.{at_row, below_header}
+
+abbrev pub is_setup_header : Fields → Bool
+is_setup_header fields = (length fields == 3) && has fields 0 (codes "step_ms") && has fields 1 (codes "slots") && has fields 2 (codes "origin_capacity")
+
+-- the header of a setup that also tells whether there is a file of signals
+abbrev pub is_setup_header_with_signals : Fields → Bool
+is_setup_header_with_signals fields =
+    (length fields == 4) && has fields 0 (codes "step_ms") && has fields 1 (codes "slots") && has fields 2 (codes "origin_capacity") && has fields 3 (codes "signals")
+
+abbrev pub heads_setup : Fields → Bool
+heads_setup fields = is_setup_header fields || is_setup_header_with_signals fields
 
 -- the fourth field, in a record that has one
 abbrev pub signals_in : ℕ → Fields → Result ℕ CaseCause
@@ -45,9 +55,6 @@ opened r =
 
 abbrev pub setup_read : ℕ → Fields → Result Opened CaseCause
 setup_read width fields = setup_record width fields >>= λ r. opened r
-
-abbrev pub heads_setup : Fields → Bool
-heads_setup fields = is_setup_header fields || is_setup_header_with_signals fields
 
 -- exactly one record, below a header of that width
 abbrev pub only_row : ℕ → List Fields → Result Opened CaseFault

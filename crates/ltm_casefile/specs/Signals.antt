@@ -1,14 +1,18 @@
 -- What a record of signals makes of a scenario.
-use Rattle.std.specs.Prelude.{Result, Ok}
+use Rattle.std.specs.Prelude.{Result, Ok, Bool, length, codes, ◌==◌, ◌&&◌}
 use Rattle.ltm_network.specs.Network.{find_link}
 use Rattle.ltm_scenario.specs.Data.{ScenarioData}
 use Rattle.ltm_scenario.specs.Build.{with_exit, ◌>>=◌}
-use Rattle.ltm_records.specs.Fields.{Fields}
+use Rattle.ltm_records.specs.Fields.{Fields, has}
 use Rattle.ltm_casefile.specs.declared.faults.CaseCause.{CaseCause}
 use Rattle.ltm_casefile.specs.declared.faults.CaseCause.TheVariants.{Unknown, BadSlots}
 use Rattle.ltm_casefile.specs.declared.signals.SignalRecord.{SignalRecord}
 use Rattle.ltm_casefile.specs.Causes.{found, taken}
 use Rattle.ltm_casefile.specs.Fields.{has_width, name_in, number_in, amount_in}
+
+abbrev pub is_signals_header : Fields → Bool
+is_signals_header fields =
+    (length fields == 4) && has fields 0 (codes "link") && has fields 1 (codes "from_slot") && has fields 2 (codes "to_slot") && has fields 3 (codes "vehicles")
 
 -- link, first slot, slot after the last, the most vehicles that leave in a slot
 unfoldable pub signal_record : Fields → Result SignalRecord CaseCause

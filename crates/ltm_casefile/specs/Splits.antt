@@ -1,18 +1,22 @@
 -- What a record of splits makes of a scenario.
-use Rattle.std.specs.Prelude.{ℕ, ◌==◌, not, nat_lt, sum, Result, Ok}
+use Rattle.std.specs.Prelude.{ℕ, ◌==◌, not, nat_lt, sum, Result, Ok, Bool, length, codes, ◌&&◌}
 use Rattle.std.specs.List.{list_all}
 use Rattle.ltm_network.specs.Network.{find_node}
 use Rattle.ltm_splits.specs.Rows.{key_of}
 use Rattle.ltm_scenario.specs.Data.{ScenarioData}
 use Rattle.ltm_scenario.specs.Build.{with_destination, with_split, ◌>>=◌}
 use Rattle.ltm_scenario.specs.Edits.{is_out_link, weights_at}
-use Rattle.ltm_records.specs.Fields.{Fields}
+use Rattle.ltm_records.specs.Fields.{Fields, has}
 use Rattle.ltm_casefile.specs.declared.faults.CaseCause.{CaseCause}
 use Rattle.ltm_casefile.specs.declared.faults.CaseCause.TheVariants.{Unknown, SameEnds, BadSlots, ZeroWeight, TooManyDestinations, TooManyRows}
 use Rattle.ltm_casefile.specs.declared.splits.SplitRecord.{SplitRecord}
 use Rattle.ltm_casefile.specs.Causes.{refuse, found, taken}
 use Rattle.ltm_casefile.specs.Fields.{has_width, name_in, number_in, weights_in}
 use Rattle.ltm_casefile.specs.Demand.{place_of}
+
+abbrev pub is_splits_header : Fields → Bool
+is_splits_header fields =
+    (length fields == 4) && has fields 0 (codes "node") && has fields 1 (codes "destination") && has fields 2 (codes "from_slot") && has fields 3 (codes "weights")
 
 -- node, destination, first slot, weights by out-link
 unfoldable pub split_record : Fields → Result SplitRecord CaseCause

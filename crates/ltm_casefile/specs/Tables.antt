@@ -2,7 +2,6 @@
 use Rattle.std.specs.Prelude.{ℕ, Bool, List, Result}
 use Rattle.ltm_scenario.specs.Data.{ScenarioData}
 use Rattle.ltm_records.specs.Fields.{Fields}
-use Rattle.ltm_records.specs.Headers.{is_links_header, is_demand_header, is_splits_header, is_signals_header}
 use Rattle.ltm_casefile.specs.declared.faults.CaseCause.{CaseCause}
 use Rattle.ltm_casefile.specs.declared.faults.CaseFault.{CaseFault}
 use Rattle.ltm_casefile.specs.declared.faults.File.{File}
@@ -10,10 +9,10 @@ use Rattle.ltm_casefile.specs.declared.faults.File.TheVariants as file
 use Rattle.ltm_casefile.specs.declared.tables.Table.{Table}
 use Rattle.ltm_casefile.specs.declared.tables.Table.TheVariants as table
 use Rattle.ltm_casefile.specs.Rows.{rows_from, below_header}
-use Rattle.ltm_casefile.specs.Links.{link_added}
-use Rattle.ltm_casefile.specs.Demand.{demand_added}
-use Rattle.ltm_casefile.specs.Splits.{split_added}
-use Rattle.ltm_casefile.specs.Signals.{signal_added}
+use Rattle.ltm_casefile.specs.Links.{is_links_header, link_added}
+use Rattle.ltm_casefile.specs.Demand.{is_demand_header, demand_added}
+use Rattle.ltm_casefile.specs.Splits.{is_splits_header, split_added}
+use Rattle.ltm_casefile.specs.Signals.{is_signals_header, signal_added}
 
 abbrev pub file_of : Table → File
 file_of table.Links = file.Links

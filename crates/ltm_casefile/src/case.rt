@@ -1,16 +1,16 @@
 //! The scenario of a case.
-ghost use Rattle.std.specs.Prelude.{◌≡◌, ◌≤◌, ◌⊎◌, ℕ, [], Ok, Err, IfOk, IfErr, OnOk, IfSome, Some, None, option_map, true, false};
+ghost use Rattle.std.specs.Prelude.{◌≡◌, ◌≤◌, ◌⊎◌, ℕ, [], Ok, Err, IfOk, IfErr, OnOk, IfSome, Some, None, true, false};
 ghost use Rattle.ltm_io.specs.Folder.{Files};
 ghost use Rattle.ltm_io.specs.Faults.{Rose};
 ghost use Rattle.ltm_io.specs.declared.doc.Doc.{Doc};
 ghost use Rattle.ltm_scenario.specs.Valid.{IsValid};
 ghost use Rattle.ltm_casefile.specs.Case.{case_of, built, filled, with_signals, whole, cause_of_whole, is_case_file, asks_for};
-ghost use Rattle.ltm_casefile.specs.Faults.{Agrees, Says, HasRisen, WasAsked};
+ghost use Rattle.ltm_casefile.specs.Faults.{Agrees, Says, HasRisen, WasAsked, HidesNoMemory};
 
 use crate::faults::{CaseCause, CaseFault, File};
-use crate::parts::{Parts, fetch_parts};
+use crate::fetch::{FileText, Texts};
+use crate::fetch_case::{Parts, fetch_parts};
 use crate::tables::Table;
-use crate::texts::Texts;
 use ltm_io::Folder;
 use ltm_scenario::{Scenario, ScenarioFault};
 use std::alloc::Global;
@@ -18,13 +18,13 @@ use std::alloc::Global;
 fn add_signals(
     alloc: Global,
     scenario: &mut Scenario,
-    signals: &Option<Vec<u8>>,
+    signals: &Option<FileText>,
 ) -> Result<(), CaseFault>
-    ensures ok { OnOk result (with_signals scenario.old (option_map (λ bytes. bytes.items) signals.now) ≡ Ok scenario.new) }
-    ensures fault { IfErr result (Says (with_signals scenario.old (option_map (λ bytes. bytes.items) signals.now))) }
+    ensures ok { OnOk result (with_signals scenario.old signals.now ≡ Ok scenario.new) }
+    ensures fault { IfErr result (Says (with_signals scenario.old signals.now)) }
 {
     match signals {
-        Some(bytes) => return Table::Signals.add_to(alloc, scenario, bytes),
+        Some(text) => return Table::Signals.add_to(alloc, scenario, text),
         None => return Ok(()),
     }
 }
@@ -35,11 +35,11 @@ fn fill(
     alloc: Global,
     scenario: &mut Scenario,
     texts: &Texts,
-    signals: &Option<Vec<u8>>,
+    signals: &Option<FileText>,
 ) -> Result<(), CaseFault>
     requires { scenario.old.splits ≡ [] }
-    ensures ok { OnOk result (filled scenario.old texts.now (option_map (λ bytes. bytes.items) signals.now) ≡ Ok scenario.new) }
-    ensures fault { IfErr result (Says (filled scenario.old texts.now (option_map (λ bytes. bytes.items) signals.now))) }
+    ensures ok { OnOk result (filled scenario.old texts.now signals.now ≡ Ok scenario.new) }
+    ensures fault { IfErr result (Says (filled scenario.old texts.now signals.now)) }
 {
     match Table::Links.add_to(alloc, scenario, &texts.links) {
         Ok(()) => {}
@@ -103,12 +103,16 @@ fn build(alloc: Global, parts: Parts) -> Result<Scenario, CaseFault>
 /// where the setup asks for it, likewise; then what links, demand, splits and signals say; then the whole case.
 ///
 /// Each file is fetched once, and its records are read up to its first fault.
+#[tactic(auto, using(crate::proofs::Memory::built_said))]
 pub fn read_case<F: Folder>(alloc: Global, folder: &mut F) -> Result<Scenario, CaseFault>
     ensures ok { IfOk result (λ scenario. IfSome (F.told folder.old) (λ files. case_of files ≡ Ok scenario)) }
     ensures valid { IfOk result IsValid }
 
     // Too long a file and a bad case are told as they are.
     ensures fault { IfErr result (λ e. IfSome (F.told folder.old) (λ files. Agrees (case_of files) e)) }
+
+    // Nor is want of memory ever told as a bad case.
+    ensures memory { IfErr result HidesNoMemory }
 
     // A file is not given only where its count of faults rose in this call, and the case has such a file.
     ensures risen { IfErr result (HasRisen (F.faults folder.old) (F.faults folder.new)) }

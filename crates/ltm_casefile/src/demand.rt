@@ -1,16 +1,17 @@
 //! Records of demand.
 ghost use Rattle.std.specs.Prelude.{◌≡◌, ◌<◌, ◌≤◌, ◌==◌, length, false, Some, Ok, OnOk, IfOk, IfErr};
 ghost use Rattle.ltm_scenario.specs.Reads.{has_no_out_link, destination_of, destination_node};
-ghost use Rattle.ltm_scenario.specs.Build.{with_destination, are_slots};
+ghost use Rattle.ltm_scenario.specs.Build.{with_destination};
 ghost use Rattle.ltm_casefile.specs.Causes.{taken, Tells};
 ghost use Rattle.csv.specs.Records.{fields_of};
-ghost use Rattle.ltm_casefile.specs.Demand.{demand_record, demand_ends, place_of, with_demand_record, demand_added};
+ghost use Rattle.ltm_casefile.specs.Demand.{is_demand_header, demand_record, demand_ends, place_of, with_demand_record, demand_added};
 ghost use Rattle.ltm_casefile.specs.declared.faults.CaseCause.TheVariants.{TooManyDestinations};
 
 use crate::faults::{CaseCause, StepFault};
 use crate::fields::{check_width, read_amount, read_name, read_number};
 use csv::ByteRecord;
 use ltm_demand::{DemandFault, DemandRow};
+use ltm_records::{has, width};
 use ltm_scenario::{DestinationFault, Scenario};
 use ltm_units::{Name, NodeId, Units};
 
@@ -27,12 +28,27 @@ pub struct DemandRecord {
     pub amount: Units,
 }
 
+/// How many fields a record has.
+const WIDTH: usize = 5;
+
+/// Whether the record is `origin,destination,from_slot,to_slot,vehicles`.
+pub fn is_demand_header(row: &ByteRecord) -> bool
+    ensures { result ≡ is_demand_header (fields_of row.now) }
+{
+    width(row) == WIDTH
+        && has(row, 0, b"origin")
+        && has(row, 1, b"destination")
+        && has(row, 2, b"from_slot")
+        && has(row, 3, b"to_slot")
+        && has(row, 4, b"vehicles")
+}
+
 #[tactic(auto, unfolding(crate::specs::Demand::demand_record))]
 fn read_demand(row: &ByteRecord) -> Result<DemandRecord, CaseCause>
     ensures record { result ≡ demand_record (fields_of row.now) }
     ensures small { IfOk result (λ r. r.amount.0 ≤ 1000000000) }
 {
-    check_width(row, 5)?;
+    check_width(row, WIDTH)?;
     let origin = read_name(row, 1)?;
     let destination = read_name(row, 2)?;
     let from = read_number(row, 3)?;
@@ -45,19 +61,6 @@ fn read_demand(row: &ByteRecord) -> Result<DemandRecord, CaseCause>
         to,
         amount,
     })
-}
-
-fn has_no_out_link(scenario: &Scenario, node: NodeId) -> bool
-    requires { node.0 < length scenario.now.network.nodes }
-    ensures { result ≡ has_no_out_link scenario.now node.0 }
-{
-    scenario.network().out_links(node).is_empty()
-}
-
-fn are_slots(scenario: &Scenario, from: u32, to: u32) -> bool
-    ensures { result ≡ are_slots scenario.now from to }
-{
-    from < to && to <= scenario.setup().slots
 }
 
 /// The origin and the destination, both nodes.
@@ -77,13 +80,13 @@ fn find_ends(scenario: &Scenario, row: &DemandRecord) -> Result<(NodeId, NodeId)
     let Some(end) = network.find_node(&row.destination) else {
         return Err(CaseCause::Unknown(2));
     };
-    if has_no_out_link(scenario, origin) {
+    if scenario.has_no_out_link(origin) {
         return Err(CaseCause::NoOrigin);
     }
     if origin.0 == end.0 {
         return Err(CaseCause::SameEnds);
     }
-    if !are_slots(scenario, row.from, row.to) {
+    if !scenario.are_slots(row.from, row.to) {
         return Err(CaseCause::BadSlots);
     }
     Ok((origin, end))

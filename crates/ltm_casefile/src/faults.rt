@@ -31,7 +31,7 @@ pub enum CaseCause {
     Field(u32),
     /// The field of the setup is out of its limits.
     Range(u32),
-    /// The network takes no such link. It is never `NetworkFault::NoMemory`.
+    /// The network takes no such link. No call of this crate tells `NetworkFault::NoMemory`: `memory_is_never_a_bad_case`.
     Network(NetworkFault),
     /// The link's diagram sets no limits at the step of the setup.
     Diagram(DiagramFault),

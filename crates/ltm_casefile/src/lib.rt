@@ -9,16 +9,18 @@
 mod case;
 mod demand;
 mod faults;
+mod fetch;
+mod fetch_case;
 mod fields;
+mod laws;
 mod links;
-mod parts;
 mod roads;
 mod setup;
 mod signals;
 mod splits;
 mod tables;
-mod texts;
 
 pub use case::{check_case, read_case};
 pub use faults::{CaseCause, CaseFault, File};
+pub use laws::memory_is_never_a_bad_case;
 pub use roads::read_roads;

@@ -2,13 +2,14 @@
 ghost use Rattle.std.specs.Prelude.{◌≡◌, [], Ok, OnOk, IfErr};
 ghost use Rattle.ltm_casefile.specs.Causes.{Tells};
 ghost use Rattle.csv.specs.Records.{fields_of};
-ghost use Rattle.ltm_casefile.specs.Links.{cause_of_link, with_link_record, link_record, link_added};
+ghost use Rattle.ltm_casefile.specs.Links.{is_links_header, cause_of_link, with_link_record, link_record, link_added};
 
 use crate::faults::{CaseCause, StepFault};
 use crate::fields::{check_width, read_name, read_number};
 use csv::ByteRecord;
 use ltm_diagram::Diagram;
 use ltm_network::NetworkFault;
+use ltm_records::{has, width};
 use ltm_scenario::{LinkFault, Scenario};
 use ltm_units::Name;
 
@@ -31,11 +32,28 @@ fn cause_of(fault: LinkFault) -> CaseCause
     }
 }
 
+/// How many fields a record has.
+const WIDTH: usize = 7;
+
+/// Whether the record is `link,from,to,length_m,free_kmh,wave_kmh,jam_per_km`.
+pub fn is_links_header(row: &ByteRecord) -> bool
+    ensures { result ≡ is_links_header (fields_of row.now) }
+{
+    width(row) == WIDTH
+        && has(row, 0, b"link")
+        && has(row, 1, b"from")
+        && has(row, 2, b"to")
+        && has(row, 3, b"length_m")
+        && has(row, 4, b"free_kmh")
+        && has(row, 5, b"wave_kmh")
+        && has(row, 6, b"jam_per_km")
+}
+
 #[tactic(auto, unfolding(crate::specs::Links::link_record))]
 fn read_link(row: &ByteRecord) -> Result<LinkRecord, CaseCause>
     ensures { result ≡ link_record (fields_of row.now) }
 {
-    check_width(row, 7)?;
+    check_width(row, WIDTH)?;
     let name = read_name(row, 1)?;
     let tail = read_name(row, 2)?;
     let head = read_name(row, 3)?;

@@ -4,13 +4,13 @@ ghost use Rattle.ltm_io.specs.Folder.{Files};
 ghost use Rattle.ltm_io.specs.Faults.{Rose};
 ghost use Rattle.ltm_io.specs.declared.doc.Doc.{Doc};
 ghost use Rattle.ltm_records.specs.Left.{records_of};
-ghost use Rattle.ltm_casefile.specs.Faults.{Agrees, Says, HasRisen, WasAsked};
+ghost use Rattle.ltm_casefile.specs.Faults.{Agrees, Says, HasRisen, WasAsked, HidesNoMemory};
 ghost use Rattle.ltm_casefile.specs.Roads.{road_texts_of, roads_filled, roads_in, unsplit_case_of, is_of_roads};
 
 use crate::faults::{CaseFault, File};
+use crate::fetch::{FileText, fetch};
 use crate::setup::open_setup;
 use crate::tables::Table;
-use crate::texts::fetch;
 use ltm_io::{Doc, Folder};
 use ltm_scenario::Scenario;
 use std::alloc::Global;
@@ -19,9 +19,9 @@ use std::marker::Model;
 /// The bytes of the files that say the roads and who travels on them.
 #[derive(Drop)]
 struct RoadTexts {
-    setup: Vec<u8>,
-    links: Vec<u8>,
-    demand: Vec<u8>,
+    setup: FileText,
+    links: FileText,
+    demand: FileText,
 }
 
 impl Model for RoadTexts {
@@ -29,7 +29,7 @@ impl Model for RoadTexts {
 
     ghost Value = { RoadTextsData };
 
-    ghost view = { λ t. record { setup = t.setup.items; links = t.links.items; demand = t.demand.items } };
+    ghost view = { λ t. record { setup = t.setup; links = t.links; demand = t.demand } };
 }
 
 /// The bytes of these files, fetched in order.
@@ -42,6 +42,7 @@ fn fetch_road_texts<F: Folder>(alloc: Global, folder: &mut F) -> Result<RoadText
     ensures fault { IfErr result (λ e. IfSome (F.told folder.old) (λ files. Agrees (road_texts_of files) e)) }
     ensures risen { IfErr result (HasRisen (F.faults folder.old) (F.faults folder.new)) }
     ensures asked { IfErr result (WasAsked is_of_roads) }
+    ensures memory { IfErr result HidesNoMemory }
 {
     let setup = fetch(alloc, folder, Doc::Setup, File::Setup)?;
     let links = fetch(alloc, folder, Doc::Links, File::Links)?;
@@ -77,7 +78,7 @@ fn build_roads(alloc: Global, texts: &RoadTexts) -> Result<Scenario, CaseFault>
     ensures unsplit { IfOk result (λ scenario. scenario.splits ≡ []) }
     ensures fault { IfErr result (Says (roads_in texts.now)) }
 {
-    let opened = open_setup(alloc, &texts.setup)?;
+    let opened = open_setup(alloc, texts.setup.bytes())?;
     let mut scenario = opened.scenario;
     fill_roads(alloc, &mut scenario, texts)?;
     Ok(scenario)
@@ -88,12 +89,16 @@ fn build_roads(alloc: Global, texts: &RoadTexts) -> Result<Scenario, CaseFault>
 /// the case is whole is not asked.
 ///
 /// The setup may ask for signals; they are not fetched.
+#[tactic(auto, using(crate::proofs::Memory::roads_said))]
 pub fn read_roads<F: Folder>(alloc: Global, folder: &mut F) -> Result<Scenario, CaseFault>
     ensures ok { IfOk result (λ scenario. IfSome (F.told folder.old) (λ files. unsplit_case_of files ≡ Ok scenario)) }
     ensures unsplit { IfOk result (λ scenario. scenario.splits ≡ []) }
 
     // Too long a file and bad records are told as they are.
     ensures fault { IfErr result (λ e. IfSome (F.told folder.old) (λ files. Agrees (unsplit_case_of files) e)) }
+
+    // Nor is want of memory ever told as bad records.
+    ensures memory { IfErr result HidesNoMemory }
 
     // A file is not given only where its count of faults rose in this call, and it is one of these three.
     ensures risen { IfErr result (HasRisen (F.faults folder.old) (F.faults folder.new)) }

@@ -3,12 +3,12 @@ ghost use Rattle.std.specs.Prelude.{◌≡◌, [], Ok, Err, IfOk, IfErr};
 ghost use Rattle.csv.specs.Records.{fields_of};
 ghost use Rattle.ltm_records.specs.Left.{records_of};
 ghost use Rattle.ltm_casefile.specs.Faults.{Says};
-ghost use Rattle.ltm_casefile.specs.Setup.{signals_in, setup_record, opened, setup_read, heads_setup, only_row, setup_of};
+ghost use Rattle.ltm_casefile.specs.Setup.{is_setup_header, is_setup_header_with_signals, signals_in, setup_record, opened, setup_read, heads_setup, only_row, setup_of};
 
 use crate::faults::{CaseCause, CaseFault, File};
 use crate::fields::{check_width, read_amount, read_number};
 use csv::ByteRecord;
-use ltm_records::{Records, is_setup_header, is_setup_header_with_signals, width};
+use ltm_records::{Records, has, width};
 use ltm_scenario::{Scenario, Setup, SetupFault};
 use ltm_units::Millis;
 use std::alloc::Global;
@@ -26,6 +26,33 @@ pub struct SetupRecord {
 pub struct Opened {
     pub scenario: Scenario,
     pub has_signals: bool,
+}
+
+/// Whether the record is `step_ms,slots,origin_capacity`.
+fn is_setup_header(row: &ByteRecord) -> bool
+    ensures { result ≡ is_setup_header (fields_of row.now) }
+{
+    width(row) == 3
+        && has(row, 0, b"step_ms")
+        && has(row, 1, b"slots")
+        && has(row, 2, b"origin_capacity")
+}
+
+/// Whether the record is `step_ms,slots,origin_capacity,signals`.
+fn is_setup_header_with_signals(row: &ByteRecord) -> bool
+    ensures { result ≡ is_setup_header_with_signals (fields_of row.now) }
+{
+    width(row) == 4
+        && has(row, 0, b"step_ms")
+        && has(row, 1, b"slots")
+        && has(row, 2, b"origin_capacity")
+        && has(row, 3, b"signals")
+}
+
+fn heads_setup(row: &ByteRecord) -> bool
+    ensures { result ≡ heads_setup (fields_of row.now) }
+{
+    is_setup_header(row) || is_setup_header_with_signals(row)
 }
 
 fn read_signals(width: usize, row: &ByteRecord) -> Result<u32, CaseCause>
@@ -82,12 +109,6 @@ fn open_row(alloc: Global, width: usize, row: &ByteRecord) -> Result<Opened, Cas
 {
     let said = read_record(width, row)?;
     open(alloc, &said)
-}
-
-fn heads_setup(row: &ByteRecord) -> bool
-    ensures { result ≡ heads_setup (fields_of row.now) }
-{
-    is_setup_header(row) || is_setup_header_with_signals(row)
 }
 
 fn bad(row: u32, cause: CaseCause) -> CaseFault

@@ -2,12 +2,13 @@
 ghost use Rattle.std.specs.Prelude.{◌≡◌, Ok, OnOk, IfErr};
 ghost use Rattle.ltm_casefile.specs.Causes.{Tells};
 ghost use Rattle.csv.specs.Records.{fields_of};
-ghost use Rattle.ltm_casefile.specs.Signals.{signal_record, with_signal_record, signal_added};
+ghost use Rattle.ltm_casefile.specs.Signals.{is_signals_header, signal_record, with_signal_record, signal_added};
 
 use crate::faults::{CaseCause, StepFault};
 use crate::fields::{check_width, read_amount, read_name, read_number};
 use csv::ByteRecord;
 use ltm_demand::DemandFault;
+use ltm_records::{has, width};
 use ltm_scenario::Scenario;
 use ltm_units::{Name, Units};
 
@@ -23,11 +24,25 @@ pub struct SignalRecord {
     pub amount: Units,
 }
 
+/// How many fields a record has.
+const WIDTH: usize = 4;
+
+/// Whether the record is `link,from_slot,to_slot,vehicles`.
+pub fn is_signals_header(row: &ByteRecord) -> bool
+    ensures { result ≡ is_signals_header (fields_of row.now) }
+{
+    width(row) == WIDTH
+        && has(row, 0, b"link")
+        && has(row, 1, b"from_slot")
+        && has(row, 2, b"to_slot")
+        && has(row, 3, b"vehicles")
+}
+
 #[tactic(auto, unfolding(crate::specs::Signals::signal_record))]
 fn read_signal(row: &ByteRecord) -> Result<SignalRecord, CaseCause>
     ensures { result ≡ signal_record (fields_of row.now) }
 {
-    check_width(row, 4)?;
+    check_width(row, WIDTH)?;
     let link = read_name(row, 1)?;
     let from = read_number(row, 2)?;
     let to = read_number(row, 3)?;

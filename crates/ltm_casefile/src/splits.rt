@@ -5,16 +5,16 @@ ghost use Rattle.ltm_network.specs.Network.{out_links};
 ghost use Rattle.ltm_scenario.specs.Edits.{is_out_link, weight_of, weights_at};
 ghost use Rattle.ltm_casefile.specs.Causes.{Tells};
 ghost use Rattle.csv.specs.Records.{fields_of};
-ghost use Rattle.ltm_casefile.specs.Splits.{split_record, split_ends, with_split_record, split_added};
+ghost use Rattle.ltm_casefile.specs.Splits.{is_splits_header, split_record, split_ends, with_split_record, split_added};
 
 use crate::demand::add_destination;
 use crate::faults::{CaseCause, StepFault};
 use crate::fields::{check_width, read_name, read_number, read_split_weights};
 use csv::ByteRecord;
+use ltm_records::{has, width};
 use ltm_scenario::{Scenario, Weights};
-use ltm_splits::SplitFault;
+use ltm_splits::{SplitFault, are_zero};
 use ltm_units::{Name, NoMemory, NodeId};
-use std::alloc::Global;
 
 /// What a record of splits says.
 #[derive(Clone, Copy)]
@@ -26,11 +26,25 @@ pub struct SplitRecord {
     pub weights: Weights,
 }
 
+/// How many fields a record has.
+const WIDTH: usize = 4;
+
+/// Whether the record is `node,destination,from_slot,weights`.
+pub fn is_splits_header(row: &ByteRecord) -> bool
+    ensures { result ≡ is_splits_header (fields_of row.now) }
+{
+    width(row) == WIDTH
+        && has(row, 0, b"node")
+        && has(row, 1, b"destination")
+        && has(row, 2, b"from_slot")
+        && has(row, 3, b"weights")
+}
+
 #[tactic(auto, unfolding(crate::specs::Splits::split_record))]
 fn read_split(row: &ByteRecord) -> Result<SplitRecord, CaseCause>
     ensures { result ≡ split_record (fields_of row.now) }
 {
-    check_width(row, 4)?;
+    check_width(row, WIDTH)?;
     let node = read_name(row, 1)?;
     let destination = read_name(row, 2)?;
     let from = read_number(row, 3)?;
@@ -47,20 +61,7 @@ fn read_split(row: &ByteRecord) -> Result<SplitRecord, CaseCause>
 fn are_out_links(scenario: &Scenario, node: NodeId, weights: &Weights) -> bool
     ensures { result ≡ list_all (λ w. is_out_link scenario.now node.0 w.0) weights.now }
 {
-    weights
-        .pairs()
-        .iter()
-        .all(|weight| is_out_link(scenario, node, &weight.0))
-}
-
-fn is_out_link(scenario: &Scenario, node: NodeId, name: &Name) -> bool
-    ensures { result ≡ is_out_link scenario.now node.0 name.now }
-{
-    let network = scenario.network();
-    match network.find_link(name) {
-        Some(link) => network.tail(link).0 == node.0,
-        None => false,
-    }
+    scenario.are_out_links(node, weights.pairs())
 }
 
 /// The node and the destination, both nodes.
@@ -91,61 +92,13 @@ fn find_ends(scenario: &Scenario, row: &SplitRecord) -> Result<(NodeId, NodeId),
     Ok((node, end))
 }
 
-/// The weight of the link of that name, 0 where it is not named.
-fn weight_of(weights: &[(Name, u32)], name: &Name) -> u32
-    ensures { result ≡ weight_of weights.now name.now }
-{
-    let Some((weight, others)) = weights.split_first() else {
-        return 0;
-    };
-    if weight.0 == *name {
-        return weight.1;
-    }
-    weight_of(others, name)
-}
-
-/// A weight for each out-link of the node, in order of link number.
-fn weights_at(
-    alloc: Global,
-    scenario: &Scenario,
-    node: NodeId,
-    weights: &[(Name, u32)],
-) -> Result<Vec<u32>, NoMemory>
-    requires { node.0 < length scenario.now.network.nodes }
-    ensures weights { IfOk result (λ row. row.items ≡ weights_at scenario.now node.0 weights.now) }
-    ensures each { IfOk result (λ row. length row.items ≡ length (out_links scenario.now.network node.0)) }
-{
-    let network = scenario.network();
-    let links = network.out_links(node);
-    let mut row = Vec::new(alloc);
-    'each: for link in links {
-        let name = network.link_name(*link);
-        row.push(weight_of(weights, &name))?;
-    }
-    Ok(row)
-}
-
-/// Whether the weights sum to 0.
-#[tactic(auto, using(crate::proofs::Sums::sum_is_zero))]
-fn have_no_sum(weights: &[u32]) -> bool
-    ensures { result ≡ (sum weights.now == 0) }
-{
-    are_zero(weights)
-}
-
-fn are_zero(weights: &[u32]) -> bool
-    ensures { result ≡ list_all (λ weight. weight == 0) weights.now }
-{
-    weights.iter().all(|weight| *weight == 0)
-}
-
-fn set_split(alloc: Global, scenario: &mut Scenario, row: &SplitRecord) -> Result<(), StepFault>
+fn set_split(scenario: &mut Scenario, row: &SplitRecord) -> Result<(), StepFault>
     ensures ok { OnOk result (with_split_record scenario.old row.now ≡ Ok scenario.new) }
     ensures cause { IfErr result (Tells (with_split_record scenario.old row.now)) }
 {
     let (node, end) = find_ends(scenario, row)?;
-    let weights = weights_at(alloc, scenario, node, row.weights.pairs())?;
-    if have_no_sum(&weights) {
+    let weights = scenario.weights_at(node, row.weights.pairs())?;
+    if are_zero(&weights) {
         return Err(StepFault::Cause(CaseCause::ZeroWeight));
     }
     let destination = add_destination(scenario, end)?;
@@ -157,10 +110,10 @@ fn set_split(alloc: Global, scenario: &mut Scenario, row: &SplitRecord) -> Resul
 }
 
 /// Sets the split row of a record, and makes its destination one.
-pub fn add_split(alloc: Global, scenario: &mut Scenario, row: &ByteRecord) -> Result<(), StepFault>
+pub fn add_split(scenario: &mut Scenario, row: &ByteRecord) -> Result<(), StepFault>
     ensures ok { OnOk result (split_added scenario.old (fields_of row.now) ≡ Ok scenario.new) }
     ensures cause { IfErr result (Tells (split_added scenario.old (fields_of row.now))) }
 {
     let split = read_split(row)?;
-    set_split(alloc, scenario, &split)
+    set_split(scenario, &split)
 }

@@ -1,20 +1,19 @@
 //! The files with any number of records: each adds to the scenario, up to the first that is not taken.
-ghost use Rattle.std.specs.Prelude.{◌≡◌, [], Ok, Err, OnOk, IfErr};
+ghost use Rattle.std.specs.Prelude.{◌≡◌, ◌≤◌, [], length, Ok, Err, OnOk, IfErr};
 ghost use Rattle.csv.specs.Records.{fields_of};
 ghost use Rattle.ltm_records.specs.Left.{records_of};
 ghost use Rattle.ltm_casefile.specs.Causes.{Tells};
 ghost use Rattle.ltm_casefile.specs.Faults.{Says};
 ghost use Rattle.ltm_casefile.specs.Tables.{file_of, heads, row_added, rows_added, table_added};
 
-use crate::demand::add_demand;
+use crate::demand::{add_demand, is_demand_header};
 use crate::faults::{CaseCause, CaseFault, File, StepFault};
-use crate::links::add_link;
-use crate::signals::add_signal;
-use crate::splits::add_split;
+use crate::fetch::FileText;
+use crate::links::{add_link, is_links_header};
+use crate::signals::{add_signal, is_signals_header};
+use crate::splits::{add_split, is_splits_header};
 use csv::ByteRecord;
-use ltm_records::{
-    Records, is_demand_header, is_links_header, is_signals_header, is_splits_header,
-};
+use ltm_records::Records;
 use ltm_scenario::Scenario;
 use std::alloc::Global;
 
@@ -50,12 +49,7 @@ impl Table {
         }
     }
 
-    fn add_row(
-        self,
-        alloc: Global,
-        scenario: &mut Scenario,
-        row: &ByteRecord,
-    ) -> Result<(), StepFault>
+    fn add_row(self, scenario: &mut Scenario, row: &ByteRecord) -> Result<(), StepFault>
         requires { self ≡ Table.Links → scenario.old.splits ≡ [] }
         ensures ok { OnOk result (row_added self scenario.old (fields_of row.now) ≡ Ok scenario.new) }
         ensures cause { IfErr result (Tells (row_added self scenario.old (fields_of row.now))) }
@@ -64,28 +58,26 @@ impl Table {
         match self {
             Table::Links => return add_link(scenario, row),
             Table::Demand => return add_demand(scenario, row),
-            Table::Splits => return add_split(alloc, scenario, row),
+            Table::Splits => return add_split(scenario, row),
             Table::Signals => return add_signal(scenario, row),
         }
     }
 
-    /// Adds the records that are left, the first of which is in row 2. No file has as many records as a `u32` counts.
+    /// Adds the records that are left, the first of which is in row 2.
     fn add_rows(
         self,
-        alloc: Global,
         scenario: &mut Scenario,
         records: &mut Records,
         row: &mut ByteRecord,
     ) -> Result<(), CaseFault>
-        requires { self ≡ Table.Links → scenario.old.splits ≡ [] }
+        requires unsplit { self ≡ Table.Links → scenario.old.splits ≡ [] }
+        requires few { length records.old ≤ 16777216 }
         ensures ok { OnOk result (rows_added self 2 scenario.old records.old ≡ Ok scenario.new) }
         ensures fault { IfErr result (Says (rows_added self 2 scenario.old records.old)) }
     {
-        for number in 2..u32::MAX {
-            if !records.next(row)? {
-                return Ok(());
-            }
-            match self.add_row(alloc, scenario, row) {
+        let mut number = 2;
+        'rows: while records.next(row)? {
+            match self.add_row(scenario, row) {
                 Ok(()) => {}
                 Err(StepFault::NoMemory) => return Err(CaseFault::NoMemory),
                 Err(StepFault::Cause(cause)) => return Err(CaseFault::Bad {
@@ -94,8 +86,9 @@ impl Table {
                     cause,
                 }),
             }
+            number += 1;
         }
-        Err(CaseFault::NoMemory)
+        Ok(())
     }
 
     /// Adds the records of a file to the scenario, which has no split rows before the links are added.
@@ -104,13 +97,13 @@ impl Table {
         self,
         alloc: Global,
         scenario: &mut Scenario,
-        text: &[u8],
+        text: &FileText,
     ) -> Result<(), CaseFault>
         requires { self ≡ Table.Links → scenario.old.splits ≡ [] }
         ensures ok { OnOk result (table_added self scenario.old (records_of text.now) ≡ Ok scenario.new) }
         ensures fault { IfErr result (Says (table_added self scenario.old (records_of text.now))) }
     {
-        let mut records = Records::of(alloc, text);
+        let mut records = Records::of(alloc, text.bytes());
         let mut row = ByteRecord::new(alloc);
         if !records.next(&mut row)? || !self.heads(&row) {
             return Err(CaseFault::Bad {
@@ -119,6 +112,6 @@ impl Table {
                 cause: CaseCause::Header,
             });
         }
-        self.add_rows(alloc, scenario, &mut records, &mut row)
+        self.add_rows(scenario, &mut records, &mut row)
     }
 }

@@ -106,6 +106,11 @@ fn headers_name_all_fields(rt: HostRuntime) -> Result<(), Fail> {
             "step_ms,slots,origin_capacity,signal\n1000,4,1,0\n",
             "Setup 1 Header",
         ),
+        (
+            Doc::Setup,
+            "step_ms,slots,origin_capacity \n1000,4,1\n",
+            "Setup 1 Header",
+        ),
         (Doc::Links, "", "Links 1 Header"),
         (
             Doc::Demand,

@@ -11,4 +11,6 @@ mod cases;
 #[cfg(test)]
 mod faults;
 #[cfg(test)]
+mod long;
+#[cfg(test)]
 mod reads;

@@ -1,3 +1,4 @@
+mod Few
 mod Fuel
 mod Padding
 mod Pieces

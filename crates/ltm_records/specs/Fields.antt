@@ -19,6 +19,10 @@ field fields k = slice_index_or fields k []
 abbrev pub same : List ℕ → List ℕ → Bool
 same a b = pointwise ◌==◌ a b
 
+-- the field at a place is this text
+abbrev pub has : Fields → ℕ → List ℕ → Bool
+has fields k text = same (field fields k) text
+
 abbrev pub name_of : List ℕ → Option Name
 name_of text = if is_name text then Some text else None
 

@@ -1,5 +1,4 @@
 pub mod Fields
-pub mod Headers
 pub mod Left
 pub mod Weights
 pub mod WeightsBack

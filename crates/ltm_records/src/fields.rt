@@ -1,7 +1,7 @@
 //! The fields of a record, each of its kind. Places are counted from 0.
 ghost use Rattle.std.specs.Prelude.{◌≡◌, ◌≤◌, IfSome, length};
 ghost use Rattle.csv.specs.Records.{fields_of};
-ghost use Rattle.ltm_records.specs.Fields.{field, name_at as the_name, whole_at as the_whole, vehicles_at as the_vehicles};
+ghost use Rattle.ltm_records.specs.Fields.{field, has, name_at as the_name, whole_at as the_whole, vehicles_at as the_vehicles};
 
 use csv::ByteRecord;
 use ltm_units::{Name, Units, read_vehicles, read_whole};
@@ -21,6 +21,13 @@ pub fn text_at(row: &ByteRecord, place: usize) -> &[u8]
         Some(text) => text,
         None => &[],
     }
+}
+
+/// Whether the field at a place is this text.
+pub fn has(row: &ByteRecord, place: usize, text: &[u8]) -> bool
+    ensures { result ≡ has (fields_of row.now) place text.now }
+{
+    text_at(row, place) == text
 }
 
 /// The field at a place, where it is a name.

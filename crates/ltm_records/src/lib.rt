@@ -3,19 +3,14 @@
 //!   may stand in double quotes, and the header is a record like the others.
 //! - **On what it stands**: `csv`, with its defaults but that a record may have any number of fields, and `ltm_units`.
 //! - **What a call costs**: one pass over the record; memory follows the longest record and not the file.
-//! - **When to change it here**: when a header or the text of a kind of field changes.
+//! - **When to change it here**: when the text of a kind of field changes.
 #![tactic(auto)]
 
 mod fields;
-mod headers;
 mod records;
 mod weights;
 
-pub use fields::{name_at, text_at, vehicles_at, whole_at, width};
-pub use headers::{
-    is_demand_header, is_links_header, is_setup_header, is_setup_header_with_signals,
-    is_signals_header, is_splits_header,
-};
+pub use fields::{has, name_at, text_at, vehicles_at, whole_at, width};
 pub use records::Records;
 pub use weights::{Entries, read_weights};
 

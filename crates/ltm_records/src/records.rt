@@ -3,7 +3,7 @@
 //! Contracts see a `Records` as the list of the records that are left. What the reader of `csv` has to keep for that is
 //! the invariant of the model, `IsReading`; once a read found no record or failed, none is left and the reader is not
 //! asked again.
-ghost use Rattle.std.specs.Prelude.{◌≡◌, [], ◌∷◌, Some, true, false, IfOk, OnErr};
+ghost use Rattle.std.specs.Prelude.{◌≡◌, ◌≤◌, ◌+◌, [], ◌∷◌, length, Some, true, false, IfOk, OnErr};
 ghost use Rattle.csv.specs.Reading.{error_kind, stops_reader};
 ghost use Rattle.csv.specs.Records.{fields_of};
 ghost use Rattle.ltm_records.specs.Left.{records_of};
@@ -41,9 +41,11 @@ fn stopped(error: Error) -> NoMemory
 }
 
 impl<'a> Records<'a> {
-    /// The records of a text.
+    /// The records of a text. There are at most as many as it has bytes, and one more.
+    #[tactic(auto, using(crate::proofs::Few::few))]
     pub fn of(alloc: Global, text: &'a [u8]) -> Records<'a>
-        ensures { result ≡ records_of text.now }
+        ensures records { result ≡ records_of text.now }
+        ensures few { length result ≤ length text.now + 1 }
     {
         Records {
             reader: ReaderBuilder::new()

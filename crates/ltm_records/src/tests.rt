@@ -1,8 +1,4 @@
-use crate::{
-    Entries, Records, is_demand_header, is_links_header, is_setup_header,
-    is_setup_header_with_signals, is_signals_header, is_splits_header, name_at, read_weights,
-    text_at, vehicles_at, whole_at, width,
-};
+use crate::{Entries, Records, has, name_at, read_weights, text_at, vehicles_at, whole_at, width};
 use csv::ByteRecord;
 use ltm_units::{Name, NoMemory, Units};
 use std::alloc::Global;
@@ -65,7 +61,9 @@ fn reads_records(rt: HostRuntime) -> Result<(), Fail> {
     let mut records = Records::of(rt.alloc(), text);
     let mut row = ByteRecord::new(rt.alloc());
     assert!(rt; records.next(&mut row)?);
-    assert!(rt; is_setup_header(&row));
+    assert!(rt; has(&row, 0, b"step_ms"));
+    assert!(rt; !has(&row, 0, b"step_m"));
+    assert!(rt; has(&row, 3, b""));
     assert!(rt; records.next(&mut row)?);
     assert!(rt; width(&row) == 3);
     assert!(rt; whole_at(&row, 1) == Some(10));
@@ -89,38 +87,5 @@ fn reads_fields(rt: HostRuntime) -> Result<(), Fail> {
     assert!(rt; whole_at(&row, 2).is_none());
     assert!(rt; vehicles_at(&row, 2) == Some(Units(7250)));
     assert!(rt; vehicles_at(&row, 0).is_none());
-    Ok(())
-}
-
-/// Which of the headers the record is.
-fn headers_of(row: &ByteRecord) -> [bool; 6] {
-    [
-        is_setup_header(row),
-        is_setup_header_with_signals(row),
-        is_links_header(row),
-        is_demand_header(row),
-        is_splits_header(row),
-        is_signals_header(row),
-    ]
-}
-
-#[test]
-fn knows_headers(rt: HostRuntime) -> Result<(), Fail> {
-    let headers: [&str; 6] = [
-        "step_ms,slots,origin_capacity",
-        "step_ms,slots,origin_capacity,signals",
-        "link,from,to,length_m,free_kmh,wave_kmh,jam_per_km",
-        "origin,destination,from_slot,to_slot,vehicles",
-        "node,destination,from_slot,weights",
-        "link,from_slot,to_slot,vehicles",
-    ];
-    for (place, text) in headers.iter().enumerate() {
-        let row = row_of(rt.alloc(), text)?;
-        for (k, is) in headers_of(&row).iter().enumerate() {
-            assert!(rt; *is == (k == place), "at {text}");
-        }
-    }
-    let row = row_of(rt.alloc(), "step_ms,slots,origin_capacity ")?;
-    assert!(rt; headers_of(&row) == [false; 6]);
     Ok(())
 }

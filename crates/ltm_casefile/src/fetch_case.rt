@@ -1,13 +1,13 @@
-//! What comes from the folder.
+//! Fetches a case from its folder: the files that each case has, and the signals where the setup asks for them.
 ghost use Rattle.std.specs.Prelude.{◌≡◌, ◌≤◌, ℕ, [], Ok, Err, IfOk, IfErr, IfSome, Some, None, true, false};
 ghost use Rattle.ltm_io.specs.Folder.{Files};
 ghost use Rattle.ltm_io.specs.declared.doc.Doc.{Doc};
 ghost use Rattle.ltm_casefile.specs.Case.{parts_of, is_case_file, asks_for};
-ghost use Rattle.ltm_casefile.specs.Faults.{Agrees, HasRisen, WasAsked};
+ghost use Rattle.ltm_casefile.specs.Faults.{Agrees, HasRisen, WasAsked, HidesNoMemory};
 
 use crate::faults::CaseFault;
+use crate::fetch::{FileText, Texts, fetch_signals, fetch_texts};
 use crate::setup::open_setup;
-use crate::texts::{Texts, fetch_signals, fetch_texts};
 use ltm_io::Folder;
 use ltm_scenario::Scenario;
 use std::alloc::Global;
@@ -19,26 +19,26 @@ pub struct Parts {
     pub scenario: Scenario,
     pub texts: Texts,
     /// The signals, where the setup asks for them.
-    pub signals: Option<Vec<u8>>,
+    pub signals: Option<FileText>,
 }
 
 impl Model for Parts {
-    ghost use Rattle.std.specs.Prelude.{option_map};
     ghost use Rattle.ltm_casefile.specs.Case.{CaseParts};
 
     ghost Value = { CaseParts };
 
-    ghost view = { λ p. record { scenario = p.scenario; texts = p.texts; signals = option_map (λ bytes. bytes.items) p.signals } };
+    ghost view = { λ p. record { scenario = p.scenario; texts = p.texts; signals = p.signals } };
 }
 
 /// Fetches the files that each case has, then reads the setup, and then fetches the signals where it asks for them.
-#[tactic(auto, unfolding(crate::specs::Case::parts_of))]
+#[tactic(auto, unfolding(crate::specs::Case::parts_of), using(crate::proofs::Memory::setup_said))]
 pub fn fetch_parts<F: Folder>(alloc: Global, folder: &mut F) -> Result<Parts, CaseFault>
     ensures ok { IfOk result (λ parts. IfSome (F.told folder.old) (λ files. parts_of files ≡ Ok parts)) }
     ensures empty { IfOk result (λ parts. parts.scenario.splits ≡ []) }
     ensures fault { IfErr result (λ e. IfSome (F.told folder.old) (λ files. Agrees (parts_of files) e)) }
     ensures risen { IfErr result (HasRisen (F.faults folder.old) (F.faults folder.new)) }
     ensures asked { IfErr result (λ e. IfSome (F.told folder.old) (λ files. WasAsked (asks_for files) e)) }
+    ensures memory { IfErr result HidesNoMemory }
     ensures keeps { F.told folder.new ≡ F.told folder.old }
     ensures later { (d : Doc) → F.faults folder.old d ≤ F.faults folder.new d }
     ensures others { (d : Doc) → is_case_file d ≡ false → F.faults folder.new d ≡ F.faults folder.old d }

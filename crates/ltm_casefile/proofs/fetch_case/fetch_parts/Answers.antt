@@ -1,5 +1,5 @@
 use Rattle.ltm_casefile.proofs.Fetching.{risen_since, told_fault, told_asked, told_others}
-use Rattle.ltm_casefile.proofs.parts.fetch_parts.Goals as goal
+use Rattle.ltm_casefile.proofs.fetch_case.fetch_parts.Goals as goal
 
 pub returns-in-Err-clause-risen : goal.returns-in-Err-clause-risen
 returns-in-Err-clause-risen g c = risen_since (g.F.Folder.faults c.args.folder.now) (g.F.Folder.faults c.fetch_texts.new.folder) (g.F.Folder.faults c.fetch_signals.new.folder) _ c.fetch_texts.ensures.later c.in-Err.ensures.risen

@@ -1,0 +1,380 @@
+-- What the definitions of a case tell is never the network's want of memory.
+use Rattle.std.proofs.Common.{◌≡◌, ℕ, ◌+◌, ◌==◌, List, [], ◌∷◌, Bool, true, false, Result, Ok, Err, Option, Some, None, refl, subst}
+use Rattle.std.specs.Prelude.{IfErr, if◌then◌else◌, is_some, not, nat_le, nat_lt, length, sum}
+use Rattle.std.specs.List.{list_all}
+use Rattle.ltm_io.specs.Folder.{Files}
+use Rattle.ltm_io.specs.declared.doc.Doc.TheVariants as doc
+use Rattle.ltm_network.specs.Network as network
+use Rattle.ltm_network.specs.Network.{NetworkData, find_node, find_link}
+use Rattle.ltm_network.specs.Names.{same}
+use Rattle.ltm_network.specs.declared.network.NetworkFault.{NetworkFault}
+use Rattle.ltm_network.specs.declared.network.NetworkFault.TheVariants as refusal
+use Rattle.ltm_diagram.specs.declared.diagram.Diagram.{Diagram}
+use Rattle.ltm_diagram.specs.declared.diagram.DiagramFault.{DiagramFault}
+use Rattle.ltm_diagram.specs.Limits.{limits_of}
+use Rattle.ltm_scenario.specs.Data.{ScenarioData}
+use Rattle.ltm_scenario.specs.Build.{◌>>=◌, with_link, of_network, of_diagram, are_slots, with_destination, with_demand, with_split, with_exit}
+use Rattle.ltm_scenario.specs.Reads.{has_no_out_link}
+use Rattle.ltm_scenario.specs.Edits.{is_out_link, weights_at}
+use Rattle.ltm_splits.specs.Rows.{key_of}
+use Rattle.ltm_scenario.specs.Check.{Checked, checked}
+use Rattle.ltm_scenario.specs.Setup.{setup_checked}
+use Rattle.ltm_scenario.specs.declared.faults.LinkFault.{LinkFault}
+use Rattle.ltm_scenario.specs.declared.setup.SetupFault.{SetupFault}
+use Rattle.ltm_scenario.specs.declared.setup.SetupFault.TheVariants as setup_fault
+use Rattle.ltm_scenario.specs.declared.faults.ScenarioFault.TheVariants as broken
+use Rattle.ltm_records.specs.Fields.{Fields}
+use Rattle.ltm_records.specs.Left.{records_of}
+use Rattle.ltm_casefile.specs.declared.faults.CaseCause.{CaseCause}
+use Rattle.ltm_casefile.specs.declared.faults.CaseCause.TheVariants as cause
+use Rattle.ltm_casefile.specs.declared.faults.CaseFault.{CaseFault}
+use Rattle.ltm_casefile.specs.declared.faults.CaseFault.TheVariants.{Folder, TooLong, Bad, NoMemory}
+use Rattle.ltm_casefile.specs.declared.faults.File.{File}
+use Rattle.ltm_casefile.specs.declared.faults.File.TheVariants as file
+use Rattle.ltm_casefile.specs.declared.tables.Table.{Table}
+use Rattle.ltm_casefile.specs.declared.tables.Table.TheVariants as table
+use Rattle.ltm_casefile.specs.declared.setup.SetupRecord.{SetupRecord}
+use Rattle.ltm_casefile.specs.declared.demand.DemandRecord.{DemandRecord}
+use Rattle.ltm_casefile.specs.declared.splits.SplitRecord.{SplitRecord}
+use Rattle.ltm_casefile.specs.Causes.{refuse, found, taken}
+use Rattle.ltm_casefile.specs.Rows.{at_row, rows_from, below_header}
+use Rattle.ltm_casefile.specs.Fields.{has_width, name_in, number_in, amount_in, weights_in}
+use Rattle.ltm_casefile.specs.Setup.{signals_in, setup_record, in_range, opened, setup_read, only_row, setup_of, heads_setup}
+use Rattle.ltm_casefile.specs.Links.{link_record, cause_of_link, link_added}
+use Rattle.ltm_casefile.specs.Links as links
+use Rattle.ltm_casefile.specs.Demand.{demand_record, demand_ends, demand_row, place_of, with_demand_record, demand_added}
+use Rattle.ltm_casefile.specs.Splits.{split_record, split_ends, with_split_record, split_added}
+use Rattle.ltm_casefile.specs.Signals.{signal_record, with_signal_record, signal_added}
+use Rattle.ltm_casefile.specs.Tables.{table_added, rows_added, row_added, heads, file_of}
+use Rattle.ltm_casefile.specs.Case.{sized, texts_of, signals_of, with_file, with_signals, filled, sound, whole, CaseTexts, CaseParts, parts_of, built, case_of}
+use Rattle.ltm_casefile.specs.Roads.{RoadTexts, road_texts_of, roads_filled, roads_in, unsplit_case_of}
+use Rattle.ltm_casefile.specs.Faults.{Says, IsNoWant, HidesNoMemory}
+
+-- each fault that may be told is one of these
+abbrev Told : {A E : Type 0} → (E → Type 0) → Result A E → Type 0
+Told {E = E} P r = (e : E) → r ≡ Err e → P e
+
+fine : {A E : Type 0} (P : E → Type 0) (x : A) → Told P (Ok x)
+fine P x e is = cc
+
+wrong : {A E : Type 0} (P : E → Type 0) (fault : E) → P fault → Told {A = A} P (Err fault)
+wrong P fault holds e is = subst P (let same : fault ≡ e = cc in same) holds
+
+then_told : {A B E : Type 0} (P : E → Type 0) (r : Result A E) (next : A → Result B E) → Told P r → ((x : A) → Told P (next x)) → Told P (r >>= next)
+then_told P (Ok x) next first second = second x
+then_told P (Err fault) next first second = wrong P fault (first fault refl)
+
+told : {A E : Type 0} (P : E → Type 0) (r : Result A E) → Told P r → IfErr r P
+told P (Ok x) is = tt
+told P (Err fault) is = is fault refl
+
+-- ---- causes
+abbrev Clean : {A : Type 0} → Result A CaseCause → Type 0
+Clean r = Told IsNoWant r
+
+refused : (test : Bool) (c : CaseCause) → IsNoWant c → Clean (refuse test c)
+refused true c is = wrong IsNoWant c is
+refused false c is = fine IsNoWant tt
+
+looked : {A : Type 0} (o : Option A) (c : CaseCause) → IsNoWant c → Clean (found o c)
+looked None c is = wrong IsNoWant c is
+looked (Some x) c is = fine IsNoWant x
+
+kept : {A F : Type 0} (r : Result A F) (c : CaseCause) → IsNoWant c → Clean (taken r c)
+kept (Ok x) c is = fine IsNoWant x
+kept (Err fault) c is = wrong IsNoWant c is
+
+then_clean : {A B : Type 0} (r : Result A CaseCause) (next : A → Result B CaseCause) → Clean r → ((x : A) → Clean (next x)) → Clean (r >>= next)
+then_clean r next first second = then_told IsNoWant r next first second
+
+-- ---- links
+abbrev OfNetwork : NetworkFault → Type 0
+OfNetwork fault = IsNoWant (cause.Network fault)
+
+abbrev OfLink : LinkFault → Type 0
+OfLink fault = IsNoWant (cause_of_link fault)
+
+-- a fault where the test holds, and else what is next
+abbrev tested : {A : Type 0} → Result (Unit {0}) NetworkFault → Result A NetworkFault → Result A NetworkFault
+tested (Ok x) next = next
+tested (Err fault) next = Err fault
+
+abbrev stop : Bool → NetworkFault → Result (Unit {0}) NetworkFault
+stop test fault = if test then Err fault else Ok tt
+
+stop_told : (test : Bool) (fault : NetworkFault) → OfNetwork fault → Told OfNetwork (stop test fault)
+stop_told true fault is = wrong OfNetwork fault is
+stop_told false fault is = fine OfNetwork tt
+
+tested_told : {A : Type 0} (r : Result (Unit {0}) NetworkFault) (next : Result A NetworkFault) → Told OfNetwork r → Told OfNetwork next → Told OfNetwork (tested r next)
+tested_told (Ok x) next first second = second
+tested_told (Err fault) next first second = wrong OfNetwork fault (first fault refl)
+
+checked_told : (d : NetworkData) (name tail head : List ℕ) → Told OfNetwork (network.checked d name tail head)
+unfolding network.checked
+checked_told d name tail head =
+    tested_told (stop (is_some (network.find_link d name)) refusal.TwiceNamed) _ (stop_told (is_some (network.find_link d name)) refusal.TwiceNamed tt)
+    (tested_told (stop (same tail head) refusal.SelfLoop) _ (stop_told (same tail head) refusal.SelfLoop tt)
+    (tested_told (stop (nat_le 4000 (length d.links)) refusal.TooManyLinks) _ (stop_told (nat_le 4000 (length d.links)) refusal.TooManyLinks tt)
+    (tested_told (stop (nat_le 4 (network.out_degree d tail)) refusal.TooManyOut) _ (stop_told (nat_le 4 (network.out_degree d tail)) refusal.TooManyOut tt)
+    (stop_told (nat_le 4 (network.in_degree d head)) refusal.TooManyIn tt))))
+
+network_told : (d : NetworkData) (name tail head : List ℕ) → Told OfNetwork (network.with_link d name tail head)
+unfolding network.with_link
+network_told d name tail head = tested_told (network.checked d name tail head) (Ok (network.linked d name tail head)) (checked_told d name tail head) (fine OfNetwork (network.linked d name tail head))
+
+of_network_told : {A : Type 0} (r : Result A NetworkFault) → Told OfNetwork r → Told OfLink (of_network r)
+of_network_told (Ok x) is = fine OfLink x
+of_network_told (Err fault) is = wrong OfLink _ (is fault refl)
+
+of_diagram_told : {A : Type 0} (r : Result A DiagramFault) → Told OfLink (of_diagram r)
+of_diagram_told (Ok x) = fine OfLink x
+of_diagram_told (Err fault) = wrong OfLink _ tt
+
+with_link_told : (s : ScenarioData) (name tail head : List ℕ) (d : Diagram) → Told OfLink (with_link s name tail head d)
+unfolding with_link
+with_link_told s name tail head d =
+    then_told OfLink (of_network (network.with_link s.network name tail head)) _ (of_network_told _ (network_told s.network name tail head))
+    (λ next. then_told OfLink (of_diagram (limits_of d s.setup.step.0)) _ (of_diagram_told (limits_of d s.setup.step.0)) (λ limits. fine _ _))
+
+linked_clean : (r : Result ScenarioData LinkFault) → Told OfLink r → Clean (links.linked r)
+linked_clean (Ok next) is = fine IsNoWant next
+linked_clean (Err fault) is = wrong IsNoWant _ (is fault refl)
+
+link_record_clean : (fields : Fields) → Clean (link_record fields)
+unfolding link_record
+link_record_clean fields =
+    then_clean (has_width fields 7) _ (refused _ cause.Width tt) (λ _.
+    then_clean (name_in fields 1) _ (looked _ (cause.Field 1) tt) (λ name.
+    then_clean (name_in fields 2) _ (looked _ (cause.Field 2) tt) (λ tail.
+    then_clean (name_in fields 3) _ (looked _ (cause.Field 3) tt) (λ head.
+    then_clean (number_in fields 4) _ (looked _ (cause.Field 4) tt) (λ length_m.
+    then_clean (number_in fields 5) _ (looked _ (cause.Field 5) tt) (λ free_kmh.
+    then_clean (number_in fields 6) _ (looked _ (cause.Field 6) tt) (λ wave_kmh.
+    then_clean (number_in fields 7) _ (looked _ (cause.Field 7) tt) (λ jam_per_km. fine _ _))))))))
+
+link_clean : (s : ScenarioData) (fields : Fields) → Clean (link_added s fields)
+link_clean s fields = then_clean (link_record fields) _ (link_record_clean fields) (λ r. linked_clean _ (with_link_told s r.name r.tail r.head r.diagram))
+
+-- ---- demand
+demand_record_clean : (fields : Fields) → Clean (demand_record fields)
+unfolding demand_record
+demand_record_clean fields =
+    then_clean (has_width fields 5) _ (refused _ cause.Width tt) (λ _.
+    then_clean (name_in fields 1) _ (looked _ (cause.Field 1) tt) (λ origin.
+    then_clean (name_in fields 2) _ (looked _ (cause.Field 2) tt) (λ destination.
+    then_clean (number_in fields 3) _ (looked _ (cause.Field 3) tt) (λ from.
+    then_clean (number_in fields 4) _ (looked _ (cause.Field 4) tt) (λ to.
+    then_clean (amount_in fields 5) _ (looked _ (cause.Field 5) tt) (λ amount. fine _ _))))))
+
+demand_ends_clean : (s : ScenarioData) (r : DemandRecord) → Clean (demand_ends s r)
+unfolding demand_ends
+demand_ends_clean s r =
+    then_clean (found (find_node s.network r.origin) (cause.Unknown 1)) _ (looked (find_node s.network r.origin) (cause.Unknown 1) tt) (λ origin.
+    then_clean (found (find_node s.network r.destination) (cause.Unknown 2)) _ (looked (find_node s.network r.destination) (cause.Unknown 2) tt) (λ end.
+    then_clean (refuse (has_no_out_link s origin) cause.NoOrigin) _ (refused (has_no_out_link s origin) cause.NoOrigin tt) (λ _.
+    then_clean (refuse (origin == end) cause.SameEnds) _ (refused (origin == end) cause.SameEnds tt) (λ _.
+    then_clean (refuse (not (are_slots s r.from r.to)) cause.BadSlots) _ (refused (not (are_slots s r.from r.to)) cause.BadSlots tt) (λ _. fine IsNoWant (origin, end))))))
+
+demand_clean : (s : ScenarioData) (fields : Fields) → Clean (demand_added s fields)
+demand_clean s fields =
+    then_clean (demand_record fields) (λ r. with_demand_record s r) (demand_record_clean fields) (λ r.
+    then_clean (demand_ends s r) _ (demand_ends_clean s r) (λ ends.
+    then_clean (taken (with_destination s ends.1) cause.TooManyDestinations) _ (kept (with_destination s ends.1) cause.TooManyDestinations tt) (λ next.
+    kept (with_demand next (demand_row next r ends)) cause.TooManyRows tt)))
+
+-- ---- splits
+split_record_clean : (fields : Fields) → Clean (split_record fields)
+unfolding split_record
+split_record_clean fields =
+    then_clean (has_width fields 4) _ (refused _ cause.Width tt) (λ _.
+    then_clean (name_in fields 1) _ (looked _ (cause.Field 1) tt) (λ node.
+    then_clean (name_in fields 2) _ (looked _ (cause.Field 2) tt) (λ destination.
+    then_clean (number_in fields 3) _ (looked _ (cause.Field 3) tt) (λ from.
+    then_clean (weights_in fields 4) _ (looked _ (cause.Field 4) tt) (λ weights. fine _ _)))))
+
+split_ends_clean : (s : ScenarioData) (r : SplitRecord) → Clean (split_ends s r)
+unfolding split_ends
+split_ends_clean s r =
+    then_clean (found (find_node s.network r.node) (cause.Unknown 1)) _ (looked (find_node s.network r.node) (cause.Unknown 1) tt) (λ node.
+    then_clean (found (find_node s.network r.destination) (cause.Unknown 2)) _ (looked (find_node s.network r.destination) (cause.Unknown 2) tt) (λ end.
+    then_clean (refuse (node == end) cause.SameEnds) _ (refused (node == end) cause.SameEnds tt) (λ _.
+    then_clean (refuse (not (nat_lt r.from s.setup.slots)) cause.BadSlots) _ (refused (not (nat_lt r.from s.setup.slots)) cause.BadSlots tt) (λ _.
+    then_clean (refuse (not (list_all (λ w. is_out_link s node w.0) r.weights)) (cause.Unknown 4)) _ (refused (not (list_all (λ w. is_out_link s node w.0) r.weights)) (cause.Unknown 4) tt) (λ _. fine IsNoWant (node, end))))))
+
+split_clean : (s : ScenarioData) (fields : Fields) → Clean (split_added s fields)
+split_clean s fields =
+    then_clean (split_record fields) (λ r. with_split_record s r) (split_record_clean fields) (λ r.
+    then_clean (split_ends s r) _ (split_ends_clean s r) (λ ends.
+    then_clean (refuse (sum (weights_at s ends.0 r.weights) == 0) cause.ZeroWeight) _ (refused (sum (weights_at s ends.0 r.weights) == 0) cause.ZeroWeight tt) (λ _.
+    then_clean (taken (with_destination s ends.1) cause.TooManyDestinations) _ (kept (with_destination s ends.1) cause.TooManyDestinations tt) (λ next.
+    kept (with_split next (key_of ends.0 (place_of next ends.1) r.from) (weights_at s ends.0 r.weights)) cause.TooManyRows tt))))
+
+-- ---- signals
+signal_record_clean : (fields : Fields) → Clean (signal_record fields)
+unfolding signal_record
+signal_record_clean fields =
+    then_clean (has_width fields 4) _ (refused _ cause.Width tt) (λ _.
+    then_clean (name_in fields 1) _ (looked _ (cause.Field 1) tt) (λ link.
+    then_clean (number_in fields 2) _ (looked _ (cause.Field 2) tt) (λ from.
+    then_clean (number_in fields 3) _ (looked _ (cause.Field 3) tt) (λ to.
+    then_clean (amount_in fields 4) _ (looked _ (cause.Field 4) tt) (λ amount. fine _ _)))))
+
+signal_clean : (s : ScenarioData) (fields : Fields) → Clean (signal_added s fields)
+signal_clean s fields =
+    then_clean (signal_record fields) (λ r. with_signal_record s r) (signal_record_clean fields) (λ r.
+    then_clean (found (find_link s.network r.link) (cause.Unknown 1)) _ (looked (find_link s.network r.link) (cause.Unknown 1) tt) (λ link.
+    kept (with_exit s link r.from r.to r.amount.0) cause.BadSlots tt))
+
+-- ---- the setup
+signals_in_clean : (width : ℕ) (fields : Fields) → Clean (signals_in width fields)
+signals_in_clean width fields = chosen (width == 4)
+  where
+    chosen : (b : Bool) → Clean (if b then number_in fields 4 else Ok 0)
+    chosen true = looked _ (cause.Field 4) tt
+    chosen false = fine IsNoWant 0
+
+setup_record_clean : (width : ℕ) (fields : Fields) → Clean (setup_record width fields)
+unfolding setup_record
+setup_record_clean width fields =
+    then_clean (has_width fields width) _ (refused _ cause.Width tt) (λ _.
+    then_clean (number_in fields 1) _ (looked _ (cause.Field 1) tt) (λ step.
+    then_clean (number_in fields 2) _ (looked _ (cause.Field 2) tt) (λ slots.
+    then_clean (amount_in fields 3) _ (looked _ (cause.Field 3) tt) (λ capacity.
+    then_clean (signals_in width fields) _ (signals_in_clean width fields) (λ signals. fine _ _)))))
+
+in_range_clean : (r : Result (Unit {0}) SetupFault) → Clean (in_range r)
+in_range_clean (Ok x) = fine IsNoWant tt
+in_range_clean (Err (setup_fault.Range field)) = wrong IsNoWant _ tt
+
+opened_clean : (r : SetupRecord) → Clean (opened r)
+opened_clean r =
+    then_clean (in_range (setup_checked r.setup)) _ (in_range_clean (setup_checked r.setup)) (λ _.
+    then_clean (refuse (nat_lt 1 r.signals) (cause.Range 4)) _ (refused (nat_lt 1 r.signals) (cause.Range 4) tt) (λ _. fine _ _))
+
+-- ---- faults
+abbrev Hides : {A : Type 0} → Result A CaseFault → Type 0
+Hides r = Told HidesNoMemory r
+
+then_hides : {A B : Type 0} (r : Result A CaseFault) (next : A → Result B CaseFault) → Hides r → ((x : A) → Hides (next x)) → Hides (r >>= next)
+then_hides r next first second = then_told HidesNoMemory r next first second
+
+at_hides : {A : Type 0} (f : File) (row : ℕ) (r : Result A CaseCause) → Clean r → Hides (at_row f row r)
+at_hides f row (Ok x) is = fine HidesNoMemory x
+at_hides f row (Err c) is = wrong HidesNoMemory _ (is c refl)
+
+rows_hide : (f : File) (step : ScenarioData → Fields → Result ScenarioData CaseCause) → ((s : ScenarioData) (fields : Fields) → Clean (step s fields)) → (row : ℕ) (s : ScenarioData) (rows : List Fields) → Hides (rows_from f step row s rows)
+rows_hide f step clean row s [] = fine HidesNoMemory s
+rows_hide f step clean row s (fields ∷ rest) = then_hides (at_row f row (step s fields)) _ (at_hides f row (step s fields) (clean s fields)) (λ next. rows_hide f step clean (row + 1) next rest)
+
+header_hides : {A : Type 0} (f : File) (is_header : Fields → Bool) (more : Fields → List Fields → Result A CaseFault) → ((header : Fields) (rows : List Fields) → Hides (more header rows)) → (rows : List Fields) → Hides (below_header f is_header more rows)
+header_hides f is_header more hides [] = wrong HidesNoMemory _ tt
+header_hides f is_header more hides (header ∷ rows) = then_hides (at_row f 1 (refuse _ cause.Header)) _ (at_hides f 1 (refuse _ cause.Header) (refused _ cause.Header tt)) (λ _. hides header rows)
+
+row_clean : (t : Table) (s : ScenarioData) (fields : Fields) → Clean (row_added t s fields)
+row_clean table.Links s fields = link_clean s fields
+row_clean table.Demand s fields = demand_clean s fields
+row_clean table.Splits s fields = split_clean s fields
+row_clean table.Signals s fields = signal_clean s fields
+
+table_hides : (t : Table) (s : ScenarioData) (rows : List Fields) → Hides (table_added t s rows)
+unfolding table_added
+table_hides t s rows = header_hides (file_of t) (heads t) (λ _. rows_added t 2 s) (λ header rest. rows_hide (file_of t) (row_added t) (row_clean t) 2 s rest) rows
+
+only_row_hides : (width : ℕ) (rows : List Fields) → Hides (only_row width rows)
+only_row_hides width [] = wrong HidesNoMemory _ tt
+only_row_hides width (row ∷ rows) =
+    then_hides (at_row file.Setup 2 (setup_read width row)) _ (at_hides file.Setup 2 (setup_read width row) (then_clean (setup_record width row) _ (setup_record_clean width row) opened_clean)) (λ o.
+    then_hides (at_row file.Setup 3 (refuse _ cause.Rows)) _ (at_hides file.Setup 3 (refuse _ cause.Rows) (refused _ cause.Rows tt)) (λ _. fine _ _))
+
+setup_hides : (rows : List Fields) → Hides (setup_of rows)
+unfolding setup_of
+setup_hides rows = header_hides file.Setup heads_setup _ (λ header rest. only_row_hides _ rest) rows
+
+-- ---- the files
+sized_hides : (f : File) (o : Option (List ℕ)) → Hides (sized f o)
+sized_hides f None = wrong HidesNoMemory _ tt
+sized_hides f (Some bytes) = chosen _
+  where
+    chosen : (b : Bool) → Told {A = List ℕ} HidesNoMemory (if b then Ok bytes else Err (TooLong f))
+    chosen true = fine HidesNoMemory bytes
+    chosen false = wrong HidesNoMemory _ tt
+
+texts_hide : (files : Files) → Hides (texts_of files)
+unfolding texts_of
+texts_hide files =
+    then_hides (sized file.Setup (files doc.Setup)) _ (sized_hides file.Setup (files doc.Setup)) (λ setup.
+    then_hides (sized file.Links (files doc.Links)) _ (sized_hides file.Links (files doc.Links)) (λ links.
+    then_hides (sized file.Demand (files doc.Demand)) _ (sized_hides file.Demand (files doc.Demand)) (λ demand.
+    then_hides (sized file.Splits (files doc.Splits)) _ (sized_hides file.Splits (files doc.Splits)) (λ splits. fine HidesNoMemory (record { setup = setup; links = links; demand = demand; splits = splits })))))
+
+signals_hide : (files : Files) (asked : Bool) → Hides (signals_of files asked)
+signals_hide files true = then_hides (sized file.Signals (files doc.Signals)) _ (sized_hides file.Signals (files doc.Signals)) (λ bytes. fine _ _)
+signals_hide files false = fine HidesNoMemory None
+
+parts_hide : (files : Files) → Hides (parts_of files)
+unfolding parts_of
+parts_hide files =
+    then_hides (texts_of files) _ (texts_hide files) (λ texts.
+    then_hides (setup_of (records_of texts.setup)) _ (setup_hides (records_of texts.setup)) (λ opened.
+    then_hides (signals_of files opened.has_signals) _ (signals_hide files opened.has_signals) (λ signals. fine _ _)))
+
+with_signals_hides : (s : ScenarioData) (signals : Option (List ℕ)) → Hides (with_signals s signals)
+with_signals_hides s None = fine HidesNoMemory s
+with_signals_hides s (Some bytes) = table_hides table.Signals s (records_of bytes)
+
+filled_hides : (s : ScenarioData) (texts : CaseTexts) (signals : Option (List ℕ)) → Hides (filled s texts signals)
+unfolding filled
+filled_hides s texts signals =
+    then_hides (with_file table.Links s texts.links) _ (table_hides table.Links s (records_of texts.links)) (λ linked.
+    then_hides (with_file table.Demand linked texts.demand) _ (table_hides table.Demand linked (records_of texts.demand)) (λ demanded.
+    then_hides (with_file table.Splits demanded texts.splits) _ (table_hides table.Splits demanded (records_of texts.splits)) (λ split.
+    with_signals_hides split signals)))
+
+sound_hides : (s : ScenarioData) (c : Checked) → Hides (sound s c)
+sound_hides s (Ok x) = fine HidesNoMemory s
+sound_hides s (Err (broken.NoSplit node destination)) = wrong HidesNoMemory _ tt
+sound_hides s (Err (broken.CellsOver cells)) = wrong HidesNoMemory _ tt
+
+built_hides : (parts : CaseParts) → Hides (built parts)
+built_hides parts = then_hides (filled parts.scenario parts.texts parts.signals) (λ s. whole s) (filled_hides parts.scenario parts.texts parts.signals) (λ s. sound_hides s (checked s))
+
+pub case_hides : (files : Files) → IfErr (case_of files) HidesNoMemory
+case_hides files = told HidesNoMemory (case_of files) (then_hides (parts_of files) (λ parts. built parts) (parts_hide files) built_hides)
+
+-- ---- the roads
+road_texts_hide : (files : Files) → Hides (road_texts_of files)
+unfolding road_texts_of
+road_texts_hide files =
+    then_hides (sized file.Setup (files doc.Setup)) _ (sized_hides file.Setup (files doc.Setup)) (λ setup.
+    then_hides (sized file.Links (files doc.Links)) _ (sized_hides file.Links (files doc.Links)) (λ links.
+    then_hides (sized file.Demand (files doc.Demand)) _ (sized_hides file.Demand (files doc.Demand)) (λ demand. fine HidesNoMemory (record { setup = setup; links = links; demand = demand }))))
+
+roads_filled_hides : (s : ScenarioData) (texts : RoadTexts) → Hides (roads_filled s texts)
+unfolding roads_filled
+roads_filled_hides s texts =
+    then_hides (with_file table.Links s texts.links) _ (table_hides table.Links s (records_of texts.links)) (λ linked.
+    table_hides table.Demand linked (records_of texts.demand))
+
+roads_in_hides : (texts : RoadTexts) → Hides (roads_in texts)
+unfolding roads_in
+roads_in_hides texts = then_hides (setup_of (records_of texts.setup)) _ (setup_hides (records_of texts.setup)) (λ opened. roads_filled_hides opened.scenario texts)
+
+pub roads_hide : (files : Files) → IfErr (unsplit_case_of files) HidesNoMemory
+roads_hide files = told HidesNoMemory (unsplit_case_of files) (then_hides (road_texts_of files) (λ texts. roads_in texts) (road_texts_hide files) roads_in_hides)
+
+-- ---- what a call says
+said : {A : Type 0} (r : Result A CaseFault) (e : CaseFault) → Hides r → Says r e → HidesNoMemory e
+said r (Folder f) hides says = absurd says
+said r (TooLong f) hides says = absurd says
+said r (Bad f row c) hides says = hides (Bad f row c) says
+said r NoMemory hides says = tt
+
+pub setup_said : (rows : List Fields) (e : CaseFault) → Says (setup_of rows) e → HidesNoMemory e
+setup_said rows e says = said (setup_of rows) e (setup_hides rows) says
+
+pub built_said : (parts : CaseParts) (e : CaseFault) → Says (built parts) e → HidesNoMemory e
+built_said parts e says = said (built parts) e (built_hides parts) says
+
+pub roads_said : (texts : RoadTexts) (e : CaseFault) → Says (roads_in texts) e → HidesNoMemory e
+roads_said texts e says = said (roads_in texts) e (roads_in_hides texts) says

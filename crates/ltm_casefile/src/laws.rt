@@ -1,0 +1,13 @@
+//! What holds of all cases. A call runs nothing.
+ghost use Rattle.std.specs.Prelude.{IfErr};
+ghost use Rattle.ltm_io.specs.Folder.{Files};
+ghost use Rattle.ltm_casefile.specs.Case.{case_of};
+ghost use Rattle.ltm_casefile.specs.Faults.{HidesNoMemory};
+ghost use Rattle.ltm_casefile.specs.Roads.{unsplit_case_of};
+
+/// No files make a bad case whose cause is the network's want of memory.
+#[tactic(auto, using(crate::proofs::Memory::case_hides, crate::proofs::Memory::roads_hide))]
+pub fn memory_is_never_a_bad_case()
+    ensures case { (files : Files) → IfErr (case_of files) HidesNoMemory }
+    ensures roads { (files : Files) → IfErr (unsplit_case_of files) HidesNoMemory }
+{}
