@@ -9,7 +9,7 @@ ghost use Rattle.std.specs.Prelude.{◌≡◌, ℕ, ◌+◌, ◌*◌, ◌^◌, �
 ghost use Rattle.std.specs.Vec.{vec_capacity};
 ghost use Rattle.ltm_curve.specs.Totals.{AreTotals};
 
-use ltm_units::NoMemory;
+use ltm_units::{NoMemory, sum_of};
 use std::alloc::Global;
 
 mod adding;
@@ -34,18 +34,6 @@ pub struct Curves {
     ghost within: { slots ≤ room },
     ghost counts_room: { (room + 1) * groups * destinations ≤ vec_capacity counts },
     ghost totals_room: { 2 ≤ destinations → (room + 1) * groups ≤ vec_capacity totals },
-}
-
-/// The sum of the counts of a row: of two counts, as with two destinations, without a loop.
-#[inline]
-fn sum_of(counts: &[u64]) -> u64
-    requires fits { sum counts.now < 2 ^ 64 }
-    ensures { result ≡ sum counts.now }
-{
-    match counts {
-        [one, other] => *one + *other,
-        _ => counts.iter().sum(),
-    }
 }
 
 /// Writes a row of counts in 32 bits: of two counts, as with two destinations, without a loop.

@@ -4,7 +4,7 @@ ghost use Rattle.ltm_curve.specs.First.{entries, mixed, RowsRise};
 
 use crate::curves::Curves;
 use crate::rows::Rows;
-use crate::share::share_of;
+use ltm_units::share_of;
 
 #[derive(Drop)]
 pub(crate) struct Group<'a> {

@@ -18,7 +18,6 @@ mod curves;
 mod group;
 mod laws;
 mod rows;
-mod share;
 mod times;
 
 pub use changed::Changed;

@@ -3,7 +3,7 @@ ghost use Rattle.std.specs.Prelude.{◌≡◌, ℕ, ◌+◌, ◌-◌, ◌^◌, �
 ghost use Rattle.ltm_curve.specs.Counts.{total};
 ghost use Rattle.ltm_curve.specs.First.{entries, mixed, RowsRise};
 
-use crate::share::share_of;
+use ltm_units::share_of;
 
 /// Rows of cumulative counts, one for each destination, by boundary: a group of curves, or what an origin has produced.
 pub trait Rows {

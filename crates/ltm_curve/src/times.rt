@@ -3,8 +3,7 @@ ghost use Rattle.std.specs.Prelude.{◌≡◌, ◌+◌, ◌*◌, ◌<◌, ◌≤
 ghost use Rattle.ltm_curve.specs.Counts.{interpolated, at_time, RisesAt};
 
 use crate::curves::Curves;
-use crate::share::share_of;
-use ltm_units::Millis;
+use ltm_units::{Millis, share_of};
 
 impl Curves {
     ghost use Rattle.ltm_curve.specs.Table.{groups_of, slots_of, total_of};

@@ -16,7 +16,7 @@ use Rattle.ltm_loading.specs.ByPlace.{CountsByPlace}
 use Rattle.ltm_loading.specs.Uncounted.{moved_on, outputs_at}
 use Rattle.ltm_loading.proofs.Uncounted.{moved_counts}
 use Rattle.ltm_flows.specs.Applying.{out_group, with_moves, SetsGroups, SetsSink}
-use Rattle.ltm_flows.specs.Shaped.{IsShaped}
+use Rattle.ltm_loading.specs.Shaped.{IsShaped}
 use Rattle.ltm_flows.proofs.Writing.{sets_next, out_there, arm_not_out, arm_not_come, applies_holds}
 
 pub shaped_by : (s : Setting) (now new : Curves) → IsShaped s now → SameShape new now → IsShaped s new

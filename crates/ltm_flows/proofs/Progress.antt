@@ -13,7 +13,7 @@ use Rattle.ltm_loading.specs.Pairs.{arm_group, shape_at, pair_row, count_row, Me
 use Rattle.ltm_loading.specs.Loading.{IsFront, IsLoading}
 use Rattle.ltm_loading.specs.Reads.{Reads, in_link_entered, in_link_left, out_link_entered, out_link_left, origin_left, here_arrived, InputsReadOnly, CountsSetOnly, SetByOnePair}
 use Rattle.ltm_loading.specs.NextPair.{IsOf, IsFrontTo, IsPairInputs, Applies, NextPair, NextSlot}
-use Rattle.ltm_flows.specs.Shaped.{IsShaped}
+use Rattle.ltm_loading.specs.Shaped.{IsShaped}
 use Rattle.ltm_flows.specs.Working.{IsWorking, IsWorkingAt}
 use Rattle.ltm_flows.proofs.Writing.{pick_first, pick_second}
 

@@ -14,7 +14,7 @@ use Rattle.ltm_loading.specs.Ranges.{CountsSmall}
 use Rattle.ltm_loading.specs.LoadingLaws.{NeverFall}
 use Rattle.ltm_loading.specs.Totals.{departed, arrived, entered_link, left_link, on_links}
 use Rattle.ltm_flows.specs.declared.loading.Loading.{Loading}
-use Rattle.ltm_flows.specs.Shaped.{IsShaped}
+use Rattle.ltm_loading.specs.Shaped.{IsShaped}
 use Rattle.ltm_flows.specs.Shown.{links_of, nodes_of, curves_of, last_of, Shows}
 
 -- a loading is a front up to each of its boundaries

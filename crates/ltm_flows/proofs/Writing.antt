@@ -13,7 +13,7 @@ use Rattle.ltm_loading.specs.Pairs.{arms_of, arm_group, shape_at}
 use Rattle.ltm_loading.specs.NextPair.{Applies}
 use Rattle.ltm_loading.specs.ByPlace.{CountsByPlace}
 use Rattle.ltm_flows.specs.Applying.{out_group, SetsGroups, SetsSink}
-use Rattle.ltm_flows.specs.Shaped.{IsShaped}
+use Rattle.ltm_loading.specs.Shaped.{IsShaped}
 
 pub sets_none : (s : Setting) (k : ℕ) (group : ℕ → ℕ) (value : ℕ → ℕ → ℕ) (old : Counts) → SetsGroups s k 0 group value old old
 sets_none s k group value old = record { here = λ i d l m. absurd (omega arith); later = λ g d j x y z ne. refl; others = λ g d x y ne. refl }

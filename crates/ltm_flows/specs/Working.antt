@@ -9,7 +9,7 @@ use Rattle.ltm_loading.specs.Groups.{dep_of}
 use Rattle.ltm_loading.specs.Pairs.{shape_at}
 use Rattle.ltm_loading.specs.Loading.{IsFront}
 use Rattle.ltm_loading.specs.NextPair.{IsOf, IsFrontTo}
-use Rattle.ltm_flows.specs.Shaped.{IsShaped}
+use Rattle.ltm_loading.specs.Shaped.{IsShaped}
 
 -- nothing leaves the origin of a node without out-links
 abbrev pub NoOrigins : Setting → Counts → Type 0

@@ -8,7 +8,7 @@ ghost use Rattle.ltm_loading.specs.Loading.{IsFront, IsLoading};
 ghost use Rattle.ltm_loading.specs.Uncounted.{IsUncountedPair};
 ghost use Rattle.ltm_loading.specs.Pairs.{shape_at};
 ghost use Rattle.ltm_setting.specs.Setting.{setting_of};
-ghost use Rattle.ltm_flows.specs.Shaped.{IsShaped};
+ghost use Rattle.ltm_loading.specs.Shaped.{IsShaped};
 ghost use Rattle.ltm_flows.specs.Working.{IsWorking, IsWorkingAt, HasRoom};
 
 use crate::moves::add_moves;
@@ -20,7 +20,7 @@ use ltm_loading::{
 };
 use ltm_node::{NodeInputs, NodeOutputs, no_arrivals, nothing_moves, same_shape, write_step};
 use ltm_scenario::Scenario;
-use ltm_setting::{destination_count, is_setting, link_count, node_count, slot_count};
+use ltm_setting::{destination_count, group_count, is_setting, node_count, slot_count};
 use ltm_units::{NoMemory, NodeId, Pair};
 use std::alloc::Global;
 
@@ -36,10 +36,9 @@ pub fn fresh(alloc: Global, scenario: &Scenario) -> Result<Curves, NoMemory>
     ensures shape { IfOk result (λ c. IsShaped (setting_of scenario.now) c) }
     ensures empty { IfOk result IsEmpty }
 {
-    let groups = 2 * link_count(scenario) + node_count(scenario) + 1;
     Curves::create(
         alloc,
-        groups,
+        group_count(scenario),
         destination_count(scenario),
         slot_count(scenario),
     )

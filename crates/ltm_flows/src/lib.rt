@@ -6,17 +6,17 @@
 //! slot takes none. Change it here when the order of work changes, or what a loading is summed up to.
 #![tactic(auto)]
 
+mod applying;
 mod cold_loading;
 mod in_all;
 mod loading;
 mod moves;
-mod node_counts;
 mod summing;
 mod tables;
 
+pub use applying::apply;
 pub use cold_loading::{cold, fresh};
 pub use in_all::Totals;
 pub use loading::Loading;
 pub use ltm_inputs::{inputs_of, shape_of, widest};
-pub use node_counts::apply;
 pub use summing::totals;

@@ -1,19 +1,18 @@
 //! A finished loading, as others read it.
-ghost use Rattle.std.specs.Prelude.{◌≡◌, ◌≤◌, ◌<◌, ◌+◌, ◌*◌, ◌-◌, ℕ, length, IfOk, IsFalse, OnOk};
-ghost use Rattle.ltm_units.specs.Sums.{sum_below};
+ghost use Rattle.std.specs.Prelude.{◌≡◌, ◌≤◌, ◌<◌, ◌+◌, ◌*◌, ℕ, length, IfOk, IsFalse, OnOk};
 ghost use Rattle.ltm_curve.specs.Cells.{HasCells};
-ghost use Rattle.ltm_curve.specs.Table.{groups_of, destinations_of, slots_of, counts_of, total_of};
+ghost use Rattle.ltm_curve.specs.Table.{groups_of, destinations_of, slots_of, counts_of};
 ghost use Rattle.ltm_loading.specs.Setting.{Setting, IsSetting};
-ghost use Rattle.ltm_loading.specs.Groups.{up_of, down_of, groups};
+ghost use Rattle.ltm_loading.specs.Groups.{groups};
 ghost use Rattle.ltm_loading.specs.Loading.{IsLoading};
 ghost use Rattle.ltm_loading.specs.Totals.{generated, arrived, entered_link, left_link};
 ghost use Rattle.ltm_setting.specs.Setting.{setting_of};
-ghost use Rattle.ltm_flows.specs.Shaped.{IsShaped};
+ghost use Rattle.ltm_loading.specs.Shaped.{IsShaped};
 
 use crate::in_all::Totals;
 use crate::tables::{free_times, generated_by_boundary, renew_generated, write_free_times};
 use ltm_curve::{Changed, Curves};
-use ltm_loading::{counts_small, never_fall};
+use ltm_loading::{counts_small, down_of, never_fall, up_of};
 use ltm_scenario::Scenario;
 use ltm_setting::{is_setting, link_count, node_count, step};
 use ltm_units::{LinkId, Millis, NoMemory, Units};
@@ -62,6 +61,7 @@ impl Loading {
       SameLoading,
     };
     ghost use Rattle.ltm_flows.specs.InAll.{AreTotals};
+    ghost use Rattle.ltm_flows.specs.Counted.{arrived_of, entered_of, left_of, on_links_of, departed_of, SumsUp};
 
     /// The loading of a scenario, from its finished curves, which are kept.
     pub fn of(
@@ -240,7 +240,8 @@ impl Loading {
     /// What has arrived at its destination by a boundary.
     pub fn arrived(&self, boundary: u32) -> Units
         requires { boundary ≤ last_of self.now }
-        ensures { (s : Setting) (version : ℕ) → Shows s version self.now
+        ensures counted { result.0 ≡ arrived_of self.now boundary }
+        ensures shown { (s : Setting) (version : ℕ) → Shows s version self.now
             → result.0 ≡ arrived s (counts_of (curves_of self.now)) boundary }
     {
         Units(self.curves.total(2 * self.links + self.nodes, boundary))
@@ -249,7 +250,8 @@ impl Loading {
     /// What has entered a link by the last boundary.
     pub fn entered(&self, link: LinkId) -> Units
         requires { link.0 < links_of self.now }
-        ensures { (s : Setting) (version : ℕ) → Shows s version self.now
+        ensures counted { result.0 ≡ entered_of self.now link.0 }
+        ensures shown { (s : Setting) (version : ℕ) → Shows s version self.now
             → result.0 ≡ entered_link s (counts_of (curves_of self.now)) link.0 s.slots }
     {
         Units(self.curves.total(2 * link.0, self.curves.slots()))
@@ -258,7 +260,8 @@ impl Loading {
     /// What has left a link by the last boundary.
     pub fn left(&self, link: LinkId) -> Units
         requires { link.0 < links_of self.now }
-        ensures { (s : Setting) (version : ℕ) → Shows s version self.now
+        ensures counted { result.0 ≡ left_of self.now link.0 }
+        ensures shown { (s : Setting) (version : ℕ) → Shows s version self.now
             → result.0 ≡ left_link s (counts_of (curves_of self.now)) link.0 s.slots }
     {
         Units(self.curves.total(2 * link.0 + 1, self.curves.slots()))
@@ -266,14 +269,13 @@ impl Loading {
 
     /// What is on the links at the last boundary.
     fn on_links(&self) -> u64
-        ensures { result ≡ sum_below (links_of self.now) (λ l. total_of (curves_of self.now) (up_of l) (last_of self.now)
-            - total_of (curves_of self.now) (down_of l) (last_of self.now)) }
+        ensures { result ≡ on_links_of self.now }
     {
         let last = self.curves.slots();
         let mut sum = 0;
         for link in 0..self.links {
-            let entered = self.curves.total(2 * link, last);
-            let left = self.curves.total(2 * link + 1, last);
+            let entered = self.curves.total(up_of(LinkId(link)), last);
+            let left = self.curves.total(down_of(LinkId(link)), last);
             sum += entered.saturating_sub(left);
         }
         sum
@@ -281,7 +283,7 @@ impl Loading {
 
     /// What has left the origins by the last boundary.
     fn departed(&self) -> u64
-        ensures { result ≡ sum_below (nodes_of self.now) (λ u. total_of (curves_of self.now) (2 * links_of self.now + u) (last_of self.now)) }
+        ensures { result ≡ departed_of self.now }
     {
         let last = self.curves.slots();
         let mut sum = 0;
@@ -293,7 +295,8 @@ impl Loading {
 
     /// What the loading comes to in all at the last boundary.
     pub fn totals(&self) -> Totals
-        ensures { (s : Setting) (version : ℕ) → Shows s version self.now
+        ensures counted { SumsUp self.now result }
+        ensures shown { (s : Setting) (version : ℕ) → Shows s version self.now
             → AreTotals s (counts_of (curves_of self.now)) s.slots result }
     {
         let last = self.slots();

@@ -8,13 +8,13 @@ ghost use Rattle.ltm_loading.specs.NextPair.{Applies};
 ghost use Rattle.ltm_loading.specs.Uncounted.{moved_on};
 ghost use Rattle.ltm_setting.specs.Setting.{setting_of};
 ghost use Rattle.ltm_flows.specs.Applying.{out_group, with_moves, SetsGroups, SetsSink};
-ghost use Rattle.ltm_flows.specs.Shaped.{IsShaped};
+ghost use Rattle.ltm_loading.specs.Shaped.{IsShaped};
 
 use ltm_curve::Curves;
-use ltm_loading::counts_by_place;
+use ltm_loading::{counts_by_place, down_of, up_of};
 use ltm_node::NodeOutputs;
 use ltm_scenario::Scenario;
-use ltm_setting::{in_links, is_setting, link_count, node_count, out_links, own, slot_count};
+use ltm_setting::{arr_of, dep_of, in_links, is_setting, link_count, out_links, own, slot_count};
 use ltm_units::{NodeId, Pair};
 
 /// Adds what leaves each arm: each in-link, then the origin.
@@ -38,15 +38,14 @@ fn add_arms(
         (with_moves (counts_of curves.old) boundary (arm_group (setting_of scenario.now) node.0) (left_after moves.now))
         (counts_of curves.old) (counts_of curves.new) }
 {
+    let _links = link_count(scenario);
     let links = in_links(scenario, node);
-    let groups = 2 * link_count(scenario);
-    let _nodes = node_count(scenario);
     for (arm, link) in links.iter().enumerate() {
-        curves.add_row(2 * link.0 + 1, boundary, moves.left_row(arm as u32));
+        curves.add_row(down_of(*link), boundary, moves.left_row(arm as u32));
     }
     if !out_links(scenario, node).is_empty() {
         let origin = moves.left_row(links.len() as u32);
-        curves.add_row(groups + node.0, boundary, origin);
+        curves.add_row(dep_of(scenario, node), boundary, origin);
     }
 }
 
@@ -73,7 +72,7 @@ fn add_outs(
 {
     let _links = link_count(scenario);
     for (out, link) in out_links(scenario, node).iter().enumerate() {
-        curves.add_row(2 * link.0, boundary, moves.entered_row(out as u32));
+        curves.add_row(up_of(*link), boundary, moves.entered_row(out as u32));
     }
 }
 
@@ -89,7 +88,7 @@ fn add_sink(scenario: &Scenario, curves: &mut Curves, node: NodeId, boundary: u3
         (counts_of curves.old) (counts_of curves.new) }
 {
     if let Some(destination) = own(scenario, node) {
-        let group = 2 * link_count(scenario) + node_count(scenario);
+        let group = arr_of(scenario);
         let count = curves.get(group, destination, boundary) + arrives;
         curves.set(group, destination, boundary, count);
     }

@@ -17,11 +17,8 @@ pub(crate) fn free_times(alloc: Global, scenario: &Scenario) -> Result<Vec<Milli
     ensures times { IfOk result (λ times. (l : ℕ) → l < (setting_of scenario.now).links
         → slice_index (map (λ time. time.0) times.items) l ≡ (setting_of scenario.now).free_time l) }
 {
-    let mut times = Vec::new(alloc);
-    for link in 0..link_count(scenario) {
-        let limits = limits(scenario, LinkId(link));
-        times.push(Millis(limits.free_ms))?;
-    }
+    let mut times = vec![in alloc; Millis(0); link_count(scenario) as usize]?;
+    write_free_times(scenario, &mut times);
     Ok(times)
 }
 

@@ -1,11 +1,11 @@
 -- The parts of a pair's row, in order.
-use Rattle.std.specs.Prelude.{ℕ, List, ◌++◌, map, slice_index}
+use Rattle.std.specs.Prelude.{◌≡◌, ◌<◌, ◌≤◌, ℕ, List, ◌++◌, map, slice_index}
 use Rattle.ltm_units.specs.declared.places.LinkId.{LinkId}
 use Rattle.ltm_curve.specs.Counts.{Counts}
 use Rattle.ltm_curve.specs.First.{list_below}
 use Rattle.ltm_loading.specs.Setting.{Setting}
 use Rattle.ltm_loading.specs.Groups.{up_of}
-use Rattle.ltm_loading.specs.Flows.{receiving}
+use Rattle.ltm_loading.specs.Flows.{receiving, position}
 use Rattle.ltm_loading.specs.Pairs.{arms_of, sending, arm_group, arm_capacity, arrived_by, grid}
 
 -- the number of the link at a place
@@ -53,3 +53,8 @@ abbrev pub uncounted_parts : Setting → Counts → ℕ → ℕ → List ℕ
 uncounted_parts s c u t =
     grid (arms_of s u) s.destinations (λ i d. 0)
     ++ (grid (s.outs u) s.destinations (λ j d. 0) ++ (list_below 1 (λ k. 0) ++ limit_parts s c u t))
+
+-- the position of a slot for each in-link of a node, none of them past the slot
+pub record ArePositions (s : Setting) (c : Counts) (u t : ℕ) (positions : List ℕ) : Type 0 where
+  pub each : (i : ℕ) → i < s.ins u → slice_index positions i ≡ position s c (s.in_link u i) t
+  pub below : (i : ℕ) → i < s.ins u → slice_index positions i ≤ t

@@ -1,16 +1,17 @@
 //! What has been counted at a node by the beginning of a slot.
 ghost use Rattle.std.specs.Prelude.{◌≡◌, ℕ, ◌+◌, ◌*◌, ◌<◌, ◌≤◌, All, length};
 ghost use Rattle.ltm_curve.specs.Table.{groups_of, destinations_of, slots_of, counts_of, HasShape};
-ghost use Rattle.ltm_loading.specs.Groups.{dep_of, arr_of, groups};
+ghost use Rattle.ltm_loading.specs.Groups.{up_of, groups};
 ghost use Rattle.ltm_loading.specs.Pairs.{arms_of, arrived_by, grid};
 ghost use Rattle.ltm_setting.specs.Setting.{setting_of};
 ghost use Rattle.ltm_inputs.specs.Parts.{link_at, left_part, entered_part};
 
 use crate::numbers::put_numbers;
 use ltm_curve::Curves;
+use ltm_loading::up_of;
 use ltm_scenario::Scenario;
-use ltm_setting::{in_links, link_count, node_count, out_links, own};
-use ltm_units::{LinkId, NodeId, Pair};
+use ltm_setting::{arr_of, dep_of, in_links, link_count, out_links, own};
+use ltm_units::{LinkId, Pair};
 
 /// The end of a link at which units enter it.
 const ENTERED: u32 = 0;
@@ -18,39 +19,21 @@ const ENTERED: u32 = 0;
 /// The end of a link at which units leave it.
 const LEFT: u32 = 1;
 
-/// The group of what has left the origin of a node.
-#[inline]
-fn origin_group(scenario: &Scenario, node: NodeId) -> u32
-    requires { node.0 < (setting_of scenario.now).nodes }
-    ensures { result ≡ dep_of (setting_of scenario.now) node.0 }
-{
-    let _nodes = node_count(scenario);
-    2 * link_count(scenario) + node.0
-}
-
-/// The group of what has arrived.
-#[inline]
-fn arrived_group(scenario: &Scenario) -> u32
-    ensures { result ≡ arr_of (setting_of scenario.now) }
-{
-    2 * link_count(scenario) + node_count(scenario)
-}
-
 /// Writes what has been counted at one end of some links.
 #[inline]
 fn put_links(curves: &Curves, links: &[LinkId], end: u32, boundary: u32, into: &mut [u64])
     requires links { All (λ link. link.0 ≤ 4000) links.now }
     requires end { end ≤ 1 }
-    requires groups { All (λ link. 2 * link.0 + end < groups_of curves.now) links.now }
+    requires groups { All (λ link. up_of link.0 + end < groups_of curves.now) links.now }
     requires boundary { boundary ≤ slots_of curves.now }
     requires room { length into.old ≡ length links.now * destinations_of curves.now }
     ensures { into.new ≡ grid (length links.now) (destinations_of curves.now)
-        (λ i d. counts_of curves.now (2 * link_at links.now i + end) d boundary) }
+        (λ i d. counts_of curves.now (up_of (link_at links.now i) + end) d boundary) }
 {
     let destinations = curves.destinations() as usize;
     let mut place = 0;
     for link in links {
-        let row = curves.row(2 * link.0 + end, boundary);
+        let row = curves.row(up_of(*link) + end, boundary);
         put_numbers(row, &mut into[place..place + destinations]);
         place += destinations;
     }
@@ -70,7 +53,7 @@ pub(crate) fn put_left(scenario: &Scenario, curves: &Curves, pair: Pair, into: &
     put_links(curves, links, LEFT, pair.slot, of_links);
     if !out_links(scenario, pair.node).is_empty() {
         put_numbers(
-            curves.row(origin_group(scenario, pair.node), pair.slot),
+            curves.row(dep_of(scenario, pair.node), pair.slot),
             of_origin,
         );
     }
@@ -102,7 +85,7 @@ pub(crate) fn arrived(scenario: &Scenario, curves: &Curves, pair: Pair) -> u64
     ensures { result ≡ arrived_by (setting_of scenario.now) (counts_of curves.now) ((setting_of scenario.now).own pair.node.0) pair.slot }
 {
     match own(scenario, pair.node) {
-        Some(destination) => curves.get(arrived_group(scenario), destination, pair.slot),
+        Some(destination) => curves.get(arr_of(scenario), destination, pair.slot),
         None => 0,
     }
 }

@@ -9,12 +9,12 @@ ghost use Rattle.ltm_loading.specs.Uncounted.{uncounted_row, IsUncountedPair};
 ghost use Rattle.ltm_setting.specs.Setting.{setting_of};
 ghost use Rattle.ltm_sending.specs.Front.{IsAtFront};
 ghost use Rattle.ltm_inputs.specs.Idle.{IsIdle};
-ghost use Rattle.ltm_inputs.specs.Parts.{limit_parts, other_parts, uncounted_parts};
+ghost use Rattle.ltm_inputs.specs.Parts.{limit_parts, other_parts, uncounted_parts, ArePositions};
 
+use crate::capacities::put_capacity;
 use crate::counts::{arrived, put_entered, put_left};
-use crate::flows::{put_sending, put_supply};
-use crate::limits::put_capacity;
 use crate::numbers::is_any_sent;
+use crate::sending::{put_sending, put_sending_at, put_supply};
 use crate::shapes::shape_of;
 use crate::weights::put_weights;
 use ltm_curve::Curves;
@@ -88,8 +88,15 @@ fn put_uncounted(
     put_limits(scenario, curves, pair, shape, limits);
 }
 
-/// Writes the row of a pair, from its first number to its last.
-fn put_row(scenario: &Scenario, curves: &Curves, pair: Pair, shape: NodeShape, row: &mut [u64])
+/// Writes the row of a pair, from its first number to its last, and its positions.
+fn put_row(
+    scenario: &Scenario,
+    curves: &Curves,
+    pair: Pair,
+    shape: NodeShape,
+    row: &mut [u64],
+    positions: &mut [u32],
+)
     requires node { pair.node.0 < (setting_of scenario.now).nodes }
     requires ready { IsAtFront (setting_of scenario.now) curves.now pair.slot }
     requires shape { shape ≡ shape_at (setting_of scenario.now) pair.node.0 }
@@ -97,11 +104,13 @@ fn put_row(scenario: &Scenario, curves: &Curves, pair: Pair, shape: NodeShape, r
     requires few_outs { shape.outs ≤ 4 }
     requires few_destinations { shape.destinations ≤ 64 }
     requires room { length row.old ≡ width shape }
-    ensures { row.new ≡ pair_row (setting_of scenario.now) (counts_of curves.now) pair.node.0 pair.slot }
+    requires places { (setting_of scenario.now).ins pair.node.0 ≤ length positions.old }
+    ensures row { row.new ≡ pair_row (setting_of scenario.now) (counts_of curves.now) pair.node.0 pair.slot }
+    ensures positions { ArePositions (setting_of scenario.now) (counts_of curves.now) pair.node.0 pair.slot positions.new }
 {
     let sends = shape.arms as usize * shape.destinations as usize;
     let (sending, others) = row.split_at_mut(sends);
-    put_sending(scenario, curves, pair, sending);
+    put_sending_at(scenario, curves, pair, sending, positions);
     put_others(scenario, curves, pair, shape, others);
 }
 
@@ -133,9 +142,16 @@ fn put_row_if_sent(
     sent
 }
 
-/// Writes the row of a pair at the front of a room.
+/// Writes the row of a pair at the front of a room, and its positions.
 #[inline]
-fn put_front(scenario: &Scenario, curves: &Curves, pair: Pair, shape: NodeShape, room: &mut [u64])
+fn put_front(
+    scenario: &Scenario,
+    curves: &Curves,
+    pair: Pair,
+    shape: NodeShape,
+    room: &mut [u64],
+    positions: &mut [u32],
+)
     requires node { pair.node.0 < (setting_of scenario.now).nodes }
     requires ready { IsAtFront (setting_of scenario.now) curves.now pair.slot }
     requires shape { shape ≡ shape_at (setting_of scenario.now) pair.node.0 }
@@ -143,20 +159,31 @@ fn put_front(scenario: &Scenario, curves: &Curves, pair: Pair, shape: NodeShape,
     requires few_outs { shape.outs ≤ 4 }
     requires few_destinations { shape.destinations ≤ 64 }
     requires room { width shape ≤ length room.old }
-    ensures { take (width shape) room.new ≡ pair_row (setting_of scenario.now) (counts_of curves.now) pair.node.0 pair.slot }
+    requires places { (setting_of scenario.now).ins pair.node.0 ≤ length positions.old }
+    ensures row { take (width shape) room.new ≡ pair_row (setting_of scenario.now) (counts_of curves.now) pair.node.0 pair.slot }
+    ensures positions { ArePositions (setting_of scenario.now) (counts_of curves.now) pair.node.0 pair.slot positions.new }
 {
     let row = &mut room[..shape.width()];
-    put_row(scenario, curves, pair, shape, row);
+    put_row(scenario, curves, pair, shape, row, positions);
 }
 
-/// Reads the inputs of a pair of node and slot at the front of a loading, ready for `solve`. Amounts are thousandths of a
-/// vehicle. Takes no memory.
+/// Reads the inputs of a pair of node and slot at the front of a loading, ready for `solve`, and for each in-link the
+/// position of the slot: the last boundary by which no more has entered the link than may have left it by the slot's end.
+/// Amounts are thousandths of a vehicle. Takes no memory.
 ///
-/// The room that the inputs of any pair need is told by `widest`.
-pub fn inputs_of(scenario: &Scenario, curves: &Curves, pair: Pair, into: &mut NodeInputs)
+/// The room that the inputs of any pair need is told by `widest`; a node has at most four in-links.
+pub fn inputs_of(
+    scenario: &Scenario,
+    curves: &Curves,
+    pair: Pair,
+    into: &mut NodeInputs,
+    positions: &mut [u32],
+)
     requires node { pair.node.0 < (setting_of scenario.now).nodes }
     requires ready { IsAtFront (setting_of scenario.now) curves.now pair.slot }
     requires room { width (shape_at (setting_of scenario.now) pair.node.0) ≤ into.old.room }
+    requires places { (setting_of scenario.now).ins pair.node.0 ≤ length positions.old }
+    ensures positions { ArePositions (setting_of scenario.now) (counts_of curves.now) pair.node.0 pair.slot positions.new }
     ensures inputs { IsPairInputs (setting_of scenario.now) (counts_of curves.now) pair.node.0 pair.slot into.new }
     ensures room { into.new.room ≡ into.old.room }
     ensures solvable { IsSolvable into.new }
@@ -165,7 +192,7 @@ pub fn inputs_of(scenario: &Scenario, curves: &Curves, pair: Pair, into: &mut No
     in_range();
     let shape = shape_of(scenario, pair.node);
     into.reshape(shape);
-    put_front(scenario, curves, pair, shape, into.numbers_mut());
+    put_front(scenario, curves, pair, shape, into.numbers_mut(), positions);
 }
 
 /// Writes the row of a pair with 0 for each count at the front of a room, if any of its arms sends something; whether one

@@ -7,11 +7,11 @@
 //! stands is the concern of `ltm_node`.
 #![tactic(auto)]
 
+mod capacities;
 mod counts;
-mod flows;
 mod inputs;
-mod limits;
 mod numbers;
+mod sending;
 mod shapes;
 mod weights;
 

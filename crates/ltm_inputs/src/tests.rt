@@ -7,7 +7,7 @@ use ltm_demand::DemandRow;
 use ltm_diagram::Diagram;
 use ltm_node::NodeInputs;
 use ltm_scenario::{Scenario, Setup};
-use ltm_setting::{destination_count, link_count, node_count, slot_count};
+use ltm_setting::{destination_count, group_count, in_links, node_count, slot_count};
 use ltm_units::{Millis, Name, NodeId, Pair, Units};
 use std::alloc::Global;
 use std::process::Abort;
@@ -101,11 +101,19 @@ fn read_first(
     ensures { into.new.room ≡ into.old.room }
 {
     assert!(rt; node.0 < node_count(scenario));
-    assert!(rt; curves.groups() == 2 * link_count(scenario) + node_count(scenario) + 1);
+    assert!(rt; curves.groups() == group_count(scenario));
     assert!(rt; curves.destinations() == destination_count(scenario));
     assert!(rt; curves.slots() == slot_count(scenario));
     assert!(rt; shape_of(scenario, node).width() <= 100);
-    inputs_of(scenario, curves, Pair { node, slot: 0 }, into);
+    assert!(rt; in_links(scenario, node).len() <= 4);
+    let mut positions = [0u32; 4];
+    inputs_of(
+        scenario,
+        curves,
+        Pair { node, slot: 0 },
+        into,
+        &mut positions,
+    );
 }
 
 #[test]

@@ -1,5 +1,6 @@
 pub mod Setting
 pub mod Groups
+pub mod Shaped
 pub mod Flows
 pub mod Pairs
 pub mod Loading

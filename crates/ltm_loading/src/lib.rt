@@ -5,13 +5,15 @@
 //! them; two loadings are compared pair by pair (`differing`). (Sending and receiving of a link: Yperman 2007, after
 //! Newell 1993. Composition by destination, origins and whole units are this engine's own.)
 //!
-//! It stands on `ltm_curve` and `ltm_node`. No code here runs: a law is the contract of a function with an empty body,
-//! which costs nothing to call. Change it where the meaning of a loading changes, or where a crate above wants a law of
-//! loadings that is not here.
+//! It stands on `ltm_curve` and `ltm_node`. A law is the contract of a function with an empty body, which costs nothing
+//! to call. What runs are two numbers alone: where the counts of a link stand (`up_of`, `down_of`). Change it where the
+//! meaning of a loading changes, or where a crate above wants a law of loadings that is not here.
 #![tactic(auto)]
 
+mod groups;
 mod laws;
 
+pub use groups::{down_of, up_of};
 pub use laws::{
     adds_up, conserved, counts_by_place, counts_set_only, counts_small, differences_add_up,
     differing_either_way, differing_is_within_pairs, first_in_first_out, in_range, inputs_by_parts,

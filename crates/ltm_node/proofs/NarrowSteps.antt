@@ -23,6 +23,9 @@ use Rattle.ltm_node.proofs.Ranges.{weight_of, part_is, moved_own, moved_out_smal
 pub narrow_width : (s : NodeShape) → s.destinations ≡ 1 → counts_width s ≡ s.arms + s.outs + 1
 narrow_width s one = omega (arith, ap (λ z. s.arms * z) one, ap (λ z. s.outs * z) one)
 
+arm_place : (s : NodeShape) (i : ℕ) → s.destinations ≡ 1 → left_after_place s i 0 ≡ i
+arm_place s i one = omega (arith, ap (λ z. i * z) one)
+
 -- ---- sums over one place
 
 sum_of_one : (k : ℕ) (f : ℕ → ℕ) → k ≡ 1 → sum_below k f ≡ f 0
@@ -93,17 +96,22 @@ left_small n k s narrow few = omega (arith, sum_below-most k (leaves n) 64000 (�
 
 -- ---- the counts of the arms
 
-pub left_more : (n : Inputs) (a v : ℕ) (o o' : Outputs) → IsNarrow n.shape → HaveLeft n a o → a < n.shape.arms → v ≡ left n a 0 + leaves n a → o'.shape ≡ o.shape → o'.row ≡ set o.row a v → HaveLeft n (a + 1) o'
-left_more n a v o o' s h al is es er = record {
-  shape = es ∙ h.shape;
-  width = ap length er ∙ (length-set o.row a v ∙ h.width);
-  left = λ i less. elim (cases_eq i a) [
-    | inl same ↦
-        let P : ℕ → Type 0 = λ z. slice_index o'.row z ≡ left n z 0 + leaves n z in
-        subst P (sym same) (ap (λ z. slice_index z a) er ∙ (get_or-set_same o.row a v 0 (omega (arith, h.width, narrow_width n.shape s.one_destination)) ∙ is))
-    | inr ne ↦ ap (λ z. slice_index z i) er ∙ (get_or-set_other o.row a i v 0 ne ∙ h.left i (omega arith))
-  ];
-}
+pub left_more : (n : Inputs) (a v : ℕ) (o o' : Outputs) → IsNarrow n.shape → HaveLeft n a o → a < n.shape.arms → v ≡ left n a 0 + leaves n a → o'.shape ≡ o.shape → o'.row ≡ set o.row (left_after_place n.shape a 0) v → HaveLeft n (a + 1) o'
+left_more n a v o o' s h al is es er =
+    let here : ℕ = left_after_place n.shape a 0 in
+    let first : here ≡ a = arm_place n.shape a s.one_destination in
+    record {
+      shape = es ∙ h.shape;
+      width = ap length er ∙ (length-set o.row here v ∙ h.width);
+      left = λ i less. elim (cases_eq i a) [
+        | inl same ↦
+            let P : ℕ → Type 0 = λ z. slice_index o'.row (left_after_place n.shape z 0) ≡ left n z 0 + leaves n z in
+            subst P (sym same) (ap (λ z. slice_index z here) er ∙ (get_or-set_same o.row here v 0 (omega (arith, first, h.width, narrow_width n.shape s.one_destination)) ∙ is))
+        | inr ne ↦
+            let other : left_after_place n.shape i 0 ≡ i = arm_place n.shape i s.one_destination in
+            ap (λ z. slice_index z (left_after_place n.shape i 0)) er ∙ (get_or-set_other o.row here (left_after_place n.shape i 0) v 0 (omega (arith, first, other, ne)) ∙ h.left i (omega arith))
+      ];
+    }
 
 -- ---- what all arms move
 
@@ -137,15 +145,6 @@ whole_shares_narrow n one fits = record {
   held_back = λ i l less. absurd (omega arith);
 }
 
-arm_place : (s : NodeShape) (i : ℕ) → s.destinations ≡ 1 → left_after_place s i 0 ≡ i
-arm_place s i one = omega (arith, ap (λ z. i * z) one)
-
-out_place : (s : NodeShape) → s.destinations ≡ 1 → entered_after_place s 0 0 ≡ s.arms
-out_place s one = omega (arith, ap (λ z. s.arms * z) one)
-
-last_place : (s : NodeShape) → s.destinations ≡ 1 → arrived_after_place s ≡ s.arms + s.outs
-last_place s one = omega (arith, ap (λ z. s.arms * z) one, ap (λ z. s.outs * z) one)
-
 moves_narrow : (n : Inputs) (o : Outputs) (entering arriving : ℕ) → IsNarrow n.shape → HaveMoved n entering arriving o → (0 < n.shape.outs → entering ≡ come n 1 whole 0 0) → arriving ≡ sunk_in_all n 1 whole → MovesAtShares n 1 whole o
 moves_narrow n o entering arriving s h into down = record {
   shape = h.arms.shape;
@@ -153,16 +152,16 @@ moves_narrow n o entering arriving s h into down = record {
   left = λ i d il dl.
       let P : ℕ → Type 0 = λ z. slice_index o.row (left_after_place o.shape i z) ≡ left n i z + gone n 1 whole i z in
       let first : d ≡ 0 = omega (arith, s.one_destination) in
-      subst P (sym first) (ap (λ z. slice_index o.row (left_after_place z i 0)) h.arms.shape ∙ (ap (slice_index o.row) (arm_place n.shape i s.one_destination) ∙ h.arms.left i il));
+      subst P (sym first) (ap (λ z. slice_index o.row (left_after_place z i 0)) h.arms.shape ∙ h.arms.left i il);
   entered = λ j d jl dl.
       let P : ℕ → Type 0 = λ z. slice_index o.row (entered_after_place o.shape j z) ≡ entered n j z + come n 1 whole j z in
       let Q : ℕ → Type 0 = λ z. slice_index o.row (entered_after_place o.shape z 0) ≡ entered n z 0 + come n 1 whole z 0 in
       let first : d ≡ 0 = omega (arith, s.one_destination) in
       let only : j ≡ 0 = omega (arith, s.few_outs) in
       let some : 0 < n.shape.outs = omega arith in
-      subst P (sym first) (subst Q (sym only) (ap (λ z. slice_index o.row (entered_after_place z 0 0)) h.arms.shape ∙ (ap (slice_index o.row) (out_place n.shape s.one_destination) ∙ (h.entered some ∙ ap (λ z. entered n 0 0 + z) (into some)))));
+      subst P (sym first) (subst Q (sym only) (ap (λ z. slice_index o.row (entered_after_place z 0 0)) h.arms.shape ∙ (h.entered some ∙ ap (λ z. entered n 0 0 + z) (into some))));
   arrived =
-      ap (λ z. slice_index o.row (arrived_after_place z)) h.arms.shape ∙ (ap (slice_index o.row) (last_place n.shape s.one_destination) ∙ (h.arrived ∙ ap (λ z. arrived n + z) down));
+      ap (λ z. slice_index o.row (arrived_after_place z)) h.arms.shape ∙ (h.arrived ∙ ap (λ z. arrived n + z) down);
 }
 
 pub step_to_sink : (n : Inputs) (o : Outputs) (total : ℕ) → IsNarrow n.shape → is_own n.shape 0 ≡ true → total ≡ sum_below n.shape.arms (leaves n) → HaveMoved n 0 total o → IsNodeStep n o
@@ -250,15 +249,14 @@ step_short n o total s one out elsewhere sum short h =
             let Q : ℕ → Type 0 = λ z. slice_index o.row (left_after_place o.shape z 0) ≡ left n z 0 + gone n total p z 0 in
             let first : d ≡ 0 = omega (arith, s.one_destination) in
             let only : i ≡ 0 = omega (arith, one) in
-            subst P (sym first) (subst Q (sym only) (ap (λ z. slice_index o.row (left_after_place z 0 0)) h.shape ∙ (ap (slice_index o.row) (arm_place n.shape 0 s.one_destination) ∙ (h.left ∙ ap (λ z. left n 0 0 + z) (sym gone_is)))));
+            subst P (sym first) (subst Q (sym only) (ap (λ z. slice_index o.row (left_after_place z 0 0)) h.shape ∙ (h.left ∙ ap (λ z. left n 0 0 + z) (sym gone_is))));
         entered = λ j d jl dl.
             let P : ℕ → Type 0 = λ z. slice_index o.row (entered_after_place o.shape j z) ≡ entered n j z + come n total p j z in
             let Q : ℕ → Type 0 = λ z. slice_index o.row (entered_after_place o.shape z 0) ≡ entered n z 0 + come n total p z 0 in
             let first : d ≡ 0 = omega (arith, s.one_destination) in
             let only : j ≡ 0 = omega (arith, out) in
-            subst P (sym first) (subst Q (sym only) (ap (λ z. slice_index o.row (entered_after_place z 0 0)) h.shape ∙ (ap (slice_index o.row) (out_place n.shape s.one_destination ∙ one) ∙ (h.entered ∙ ap (λ z. entered n 0 0 + z) (sym come_is)))));
+            subst P (sym first) (subst Q (sym only) (ap (λ z. slice_index o.row (entered_after_place z 0 0)) h.shape ∙ (h.entered ∙ ap (λ z. entered n 0 0 + z) (sym come_is))));
         arrived =
-            let last : arrived_after_place n.shape ≡ 2 = omega (arith, last_place n.shape s.one_destination, one, out) in
-            ap (λ z. slice_index o.row (arrived_after_place z)) h.shape ∙ (ap (slice_index o.row) last ∙ (h.arrived ∙ omega (arith, dry)));
+            ap (λ z. slice_index o.row (arrived_after_place z)) h.shape ∙ (h.arrived ∙ omega (arith, dry));
       };
     } ∣₁

@@ -1,6 +1,6 @@
 -- What a node step keeps: its shape, what has arrived where there is no sink, and all counts where nothing is sent.
-use Rattle.std.proofs.Common.{◌≡◌, ℕ, ◌*◌, ◌<◌, Option, None, arith, ap, sym, ◌∙◌}
-use Rattle.std.proofs.Math.Logic.{∥∥₁_elim}
+use Rattle.std.proofs.Common.{◌≡◌, ℕ, ◌*◌, ◌<◌, Option, None, arith, refl, ap, sym, subst, ◌∙◌}
+use Rattle.std.proofs.Math.Logic.{∥∥₁_elim, ∥∥₁_map}
 use Rattle.std.proofs.Math.Nat.{ℕ_set}
 use Rattle.std.proofs.Props.{props}
 use Rattle.ltm_units.specs.Sums.{sum_below}
@@ -9,9 +9,10 @@ use Rattle.ltm_shares.specs.Shares.{AreShares, inflow}
 use Rattle.ltm_node.specs.declared.shape.NodeShape.{NodeShape}
 use Rattle.ltm_node.specs.Shape.{counts_width, is_this}
 use Rattle.ltm_node.specs.Inputs.{Inputs}
+use Rattle.ltm_node.specs.Outputs.{Outputs}
 use Rattle.ltm_node.specs.Demands.{part, sent_into, demands}
-use Rattle.ltm_node.specs.Step.{moved, sunk, come, sunk_in_all, StepShares}
-use Rattle.ltm_node.specs.Laws.{SameShape, NoArrivals, NothingIsSent, NothingMoves}
+use Rattle.ltm_node.specs.Step.{moved, sunk, come, sunk_in_all, StepShares, IsNodeStep}
+use Rattle.ltm_node.specs.Laws.{SameShape, SameInputs, SameOutputs, SameStep, NoArrivals, NothingIsSent, NothingMoves}
 use Rattle.ltm_node.proofs.Ranges.{moved_nothing, sunk_nothing, sunk_elsewhere, part_le}
 
 NodeShape-set : IsSet NodeShape
@@ -21,6 +22,42 @@ pub same_shape_holds : SameShape
 same_shape_holds n o step = (
   ∥∥₁_elim step (NodeShape-set _ _) (λ (x : StepShares n o). x.moves.shape),
   ∥∥₁_elim step (ℕ_set _ _) (λ (x : StepShares n o). x.moves.width ∙ ap counts_width (sym x.moves.shape)),
+)
+
+-- the node step at another room
+step_in : (n : Inputs) (o : Outputs) (room other : ℕ) → IsNodeStep n o →
+    (let m : Inputs = record { shape = n.shape; row = n.row; room = room } in
+    let p : Outputs = record { shape = o.shape; row = o.row; room = other } in IsNodeStep m p)
+step_in n o room other step =
+    ∥∥₁_map step (λ (x : StepShares n o). record {
+      denominator = x.denominator;
+      numerators = x.numerators;
+      shares = x.shares;
+      moves = record {
+        shape = x.moves.shape;
+        width = x.moves.width;
+        left = x.moves.left;
+        entered = x.moves.entered;
+        arrived = x.moves.arrived;
+      };
+    })
+
+same_inputs : (n m : Inputs) → SameInputs n m → (let same : Inputs = record { shape = n.shape; row = n.row; room = m.room } in same ≡ m)
+same_inputs n m h = rw (h.shape, h.row) refl
+
+same_outputs : (o p : Outputs) → SameOutputs o p → (let same : Outputs = record { shape = o.shape; row = o.row; room = p.room } in same ≡ p)
+same_outputs o p h = rw (h.shape, h.row) refl
+
+step_over : (n m : Inputs) (o p : Outputs) → SameInputs n m → SameOutputs o p → IsNodeStep n o → IsNodeStep m p
+step_over n m o p h g step =
+    let other : Outputs = record { shape = o.shape; row = o.row; room = p.room } in
+    subst (λ (q : Outputs). IsNodeStep m q) (same_outputs o p g)
+    (subst (λ (k : Inputs). IsNodeStep k other) (same_inputs n m h) (step_in n o m.room p.room step))
+
+pub same_step_holds : SameStep
+same_step_holds n m o p h g = (
+  step_over n m o p h g,
+  step_over m n p o (record { shape = sym h.shape; row = sym h.row }) (record { shape = sym g.shape; row = sym g.row }),
 )
 
 -- nothing is sunk at a node that is no destination

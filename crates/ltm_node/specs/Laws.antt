@@ -1,4 +1,4 @@
-use Rattle.std.specs.Prelude.{◌≡◌, ℕ, ◌+◌, ◌*◌, ◌<◌, ◌≤◌, None, length, if◌then◌else◌}
+use Rattle.std.specs.Prelude.{◌≡◌, ℕ, ◌+◌, ◌*◌, ◌<◌, ◌≤◌, ◌↔◌, None, length, if◌then◌else◌}
 use Rattle.ltm_units.specs.Sums.{sum_below}
 use Rattle.ltm_shares.specs.Shares.{AreShares}
 use Rattle.ltm_node.specs.Shape.{counts_width, is_own}
@@ -59,6 +59,20 @@ NothingLostInAll =
 -- the counts of a step are of the node's shape, and as many as it has
 abbrev pub SameShape : Type 0
 SameShape = (n : Inputs) (o : Outputs) → IsNodeStep n o → (o.shape ≡ n.shape) × (length o.row ≡ counts_width o.shape)
+
+-- inputs that agree but for their room
+pub record SameInputs (n m : Inputs) : Type 0 where
+  pub shape : m.shape ≡ n.shape
+  pub row : m.row ≡ n.row
+
+-- counts that agree but for their room
+pub record SameOutputs (o p : Outputs) : Type 0 where
+  pub shape : p.shape ≡ o.shape
+  pub row : p.row ≡ o.row
+
+-- the node step does not depend on the room of its buffers
+abbrev pub SameStep : Type 0
+SameStep = (n m : Inputs) (o p : Outputs) → SameInputs n m → SameOutputs o p → IsNodeStep n o ↔ IsNodeStep m p
 
 -- nothing arrives at a node that is no destination
 abbrev pub NoArrivals : Type 0

@@ -1,7 +1,7 @@
 use Rattle.std.specs.Prelude.{◌≡◌, ℕ, ◌+◌, ◌<◌, ◌≤◌, length, slice_index}
 use Rattle.ltm_node.specs.Shape.{counts_width}
 use Rattle.ltm_node.specs.Inputs.{Inputs, left, entered, arrived}
-use Rattle.ltm_node.specs.Outputs.{Outputs}
+use Rattle.ltm_node.specs.Outputs.{Outputs, left_after_place, entered_after_place, arrived_after_place}
 use Rattle.ltm_node.specs.Step.{gone}
 use Rattle.ltm_node.specs.declared.shape.NodeShape.{NodeShape}
 
@@ -22,18 +22,18 @@ leaves n arm = gone n 1 whole arm 0
 pub record HaveLeft (n : Inputs) (first : ℕ) (o : Outputs) : Type 0 where
   pub shape : o.shape ≡ n.shape
   pub width : length o.row ≡ counts_width n.shape
-  pub left : (arm : ℕ) → arm < first → slice_index o.row arm ≡ left n arm 0 + leaves n arm
+  pub left : (arm : ℕ) → arm < first → slice_index o.row (left_after_place n.shape arm 0) ≡ left n arm 0 + leaves n arm
 
 -- the same of all arms, and what enters the out-link and what arrives are these amounts
 pub record HaveMoved (n : Inputs) (entering arriving : ℕ) (o : Outputs) : Type 0 where
   pub arms : HaveLeft n n.shape.arms o
-  pub entered : 0 < n.shape.outs → slice_index o.row n.shape.arms ≡ entered n 0 0 + entering
-  pub arrived : slice_index o.row (n.shape.arms + n.shape.outs) ≡ arrived n + arriving
+  pub entered : 0 < n.shape.outs → slice_index o.row (entered_after_place n.shape 0 0) ≡ entered n 0 0 + entering
+  pub arrived : slice_index o.row (arrived_after_place n.shape) ≡ arrived n + arriving
 
 -- the counts of a node with one arm and one out-link, where this amount moves
 pub record HaveShifted (n : Inputs) (amount : ℕ) (o : Outputs) : Type 0 where
   pub shape : o.shape ≡ n.shape
   pub width : length o.row ≡ counts_width n.shape
-  pub left : slice_index o.row 0 ≡ left n 0 0 + amount
-  pub entered : slice_index o.row 1 ≡ entered n 0 0 + amount
-  pub arrived : slice_index o.row 2 ≡ arrived n
+  pub left : slice_index o.row (left_after_place n.shape 0 0) ≡ left n 0 0 + amount
+  pub entered : slice_index o.row (entered_after_place n.shape 0 0) ≡ entered n 0 0 + amount
+  pub arrived : slice_index o.row (arrived_after_place n.shape) ≡ arrived n

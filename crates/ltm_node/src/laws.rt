@@ -7,6 +7,7 @@ ghost use Rattle.ltm_node.specs.Laws.{
   NothingLost,
   NothingLostInAll,
   SameShape,
+  SameStep,
   NoArrivals,
   NothingMoves,
   MovesAdd,
@@ -45,6 +46,12 @@ pub fn nothing_lost_in_all()
 /// The counts of a node step are of the shape of its inputs.
 pub fn same_shape()
     ensures { SameShape }
+{}
+
+/// The node step does not depend on the room of its buffers: for inputs that agree but for their room, and counts that agree
+/// but for theirs, the one are the node step of the one exactly where the other are that of the other.
+pub fn same_step()
+    ensures { SameStep }
 {}
 
 /// Nothing arrives at a node that is no destination.

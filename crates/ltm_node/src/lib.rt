@@ -21,7 +21,7 @@ mod split;
 pub use inputs::NodeInputs;
 pub use laws::{
     moves_add, no_arrivals, nothing_lost, nothing_lost_in_all, nothing_moves, one_solution,
-    one_step, same_shape, sending_kept, supply_kept,
+    one_step, same_shape, same_step, sending_kept, supply_kept,
 };
 pub use node_step::write_step;
 pub use outputs::NodeOutputs;

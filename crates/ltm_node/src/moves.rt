@@ -3,6 +3,22 @@
 //! All that goes to a destination is split over the same weights, so their sum is formed once for all arms. An amount is
 //! split out-link by out-link, what is not split yet staying in hand, and ends with the last weight above 0. An amount of
 //! 0 moves nothing and is passed over.
+//!
+//! Whoever changes this: the rule is `MovesAtShares` of `specs/Step.antt`, with `part` and `to_sink` of `specs/Demands.antt`
+//! for what is sent by each way. The pass here is its general form, for all shapes and shares; each fast form is proved
+//! against the same rule.
+//!
+//! - `Portion::Whole` comes before the shares in `write_step`: where no out-link is short, one pass is enough, and neither
+//!   shares nor a fraction are worked out. What it notes in `sent` is what the shares are made from where one is short.
+//! - The narrow step (`narrow.rt`), for at most one out-link and one destination, writes the counts straight to their places.
+//!   It saves the copy of the counts, the split and `sent`, and where one arm alone sends more than its out-link can take,
+//!   the shares too.
+//! - `part_of` divides in 64 bits, and only for a weight that is neither 0 nor all that is left; `sum_of` adds up to four
+//!   weights without a loop; `send_all` steps from load to load by the places in the row.
+//!
+//! A change of the rule is made in `specs/Step.antt`, here and in `narrow.rt` with `specs/Narrow.antt`. A change of the order
+//! of the loops is one of `IsMoving` in `specs/Moving.antt`, which says how far row and `sent` are. Where a number stands in a
+//! row is told by `shape.rt`, `specs/Shape.antt` and `specs/Outputs.antt`; `send_all` relies on the loads standing arm by arm.
 ghost use Rattle.std.specs.Prelude.{◌≡◌, ◌<◌, ◌+◌, false, true, sum, length};
 ghost use Rattle.ltm_units.specs.Sums.{sum_below};
 ghost use Rattle.ltm_node.specs.Shape.{is_own, sending_place, width};
@@ -14,8 +30,9 @@ use crate::inputs::NodeInputs;
 use crate::loads::{Load, Part};
 use crate::portion::Portion;
 use crate::shape::NodeShape;
-use crate::split::{part_of, sum_of};
+use crate::split::part_of;
 use ltm_shares::Sent;
+use ltm_units::sum_of;
 
 /// The arms of a node, each of which moves a portion of what it sends. The shape and the row of the inputs are at hand, so
 /// that they need not be read anew behind each write.

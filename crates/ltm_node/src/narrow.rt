@@ -1,7 +1,6 @@
 //! The step of a narrow node, which has at most one out-link, in a case with one destination.
 //!
-//! All that its arms send goes one way, so each count is written once: at the place `arm` what has left an arm, behind
-//! the arms what has entered the out-link, and last what has arrived.
+//! All that its arms send goes one way, so each count is written straight to its place in the row of the outputs.
 ghost use Rattle.std.specs.Prelude.{◌≡◌, ℕ, ◌<◌, ◌≤◌, false, IsTrue, IsFalse};
 ghost use Rattle.ltm_units.specs.Sums.{sum_below};
 ghost use Rattle.ltm_node.specs.Shape.{counts_width, is_own};
@@ -67,6 +66,7 @@ fn write_short(inputs: &NodeInputs, outputs: &mut NodeOutputs, total: u64) -> bo
 }
 
 /// Writes the counts where there are one arm and one out-link, and this amount moves.
+#[tactic(auto, using(crate::proofs::NarrowSteps::narrow_width))]
 fn shift(inputs: &NodeInputs, outputs: &mut NodeOutputs, amount: u64)
     requires solvable { IsSolvable inputs.now }
     requires narrow { IsNarrow inputs.now.shape }
@@ -77,9 +77,13 @@ fn shift(inputs: &NodeInputs, outputs: &mut NodeOutputs, amount: u64)
     ensures after { HaveShifted inputs.now amount outputs.new }
     ensures room { outputs.new.room ≡ outputs.old.room }
 {
-    outputs.put(0, inputs.left(0, 0) + amount);
-    outputs.put(1, inputs.entered(0, 0) + amount);
-    outputs.put(2, inputs.arrived());
+    let shape = inputs.shape();
+    outputs.put(shape.left_after_place(0, 0), inputs.left(0, 0) + amount);
+    outputs.put(
+        shape.entered_after_place(0, 0),
+        inputs.entered(0, 0) + amount,
+    );
+    outputs.put(shape.arrived_after_place(), inputs.arrived());
 }
 
 /// What the out-link can take, if there is one.
@@ -96,6 +100,7 @@ fn can_take(inputs: &NodeInputs) -> u64
 }
 
 /// Writes what has left each arm, and gives what leaves them all.
+#[tactic(auto, using(crate::proofs::NarrowSteps::narrow_width))]
 fn write_left(inputs: &NodeInputs, outputs: &mut NodeOutputs) -> u64
     requires solvable { IsSolvable inputs.now }
     requires narrow { IsNarrow inputs.now.shape }
@@ -104,11 +109,12 @@ fn write_left(inputs: &NodeInputs, outputs: &mut NodeOutputs) -> u64
     ensures total { result ≡ sum_below inputs.now.shape.arms (leaves inputs.now) }
     ensures room { outputs.new.room ≡ outputs.old.room }
 {
+    let shape = inputs.shape();
     let all = all_leaves(inputs);
     let mut total = 0u64;
     for arm in 0..inputs.arms() {
         let amount = leaving(inputs, arm, all);
-        outputs.put(arm as usize, inputs.left(arm, 0) + amount);
+        outputs.put(shape.left_after_place(arm, 0), inputs.left(arm, 0) + amount);
         total += amount;
     }
     total
@@ -142,6 +148,7 @@ fn leaving(inputs: &NodeInputs, arm: u32, all: bool) -> u64
 }
 
 /// Writes what has entered the out-link and what has arrived.
+#[tactic(auto, using(crate::proofs::NarrowSteps::narrow_width))]
 fn write_rest(inputs: &NodeInputs, outputs: &mut NodeOutputs, entering: u64, arriving: u64)
     requires solvable { IsSolvable inputs.now }
     requires narrow { IsNarrow inputs.now.shape }
@@ -151,11 +158,12 @@ fn write_rest(inputs: &NodeInputs, outputs: &mut NodeOutputs, entering: u64, arr
     ensures after { HaveMoved inputs.now entering arriving outputs.new }
     ensures room { outputs.new.room ≡ outputs.old.room }
 {
-    let arms = inputs.arms() as usize;
-    if inputs.outs() == 0 {
-        outputs.put(arms, inputs.arrived() + arriving);
-    } else {
-        outputs.put(arms, inputs.entered(0, 0) + entering);
-        outputs.put(arms + 1, inputs.arrived() + arriving);
+    let shape = inputs.shape();
+    if shape.outs > 0 {
+        outputs.put(
+            shape.entered_after_place(0, 0),
+            inputs.entered(0, 0) + entering,
+        );
     }
+    outputs.put(shape.arrived_after_place(), inputs.arrived() + arriving);
 }

@@ -117,9 +117,8 @@ impl NodeOutputs {
         ensures counts { (d : ℕ) → d < self.now.shape.destinations
             → slice_index result.now d ≡ left_after self.now arm d }
     {
-        let destinations = self.shape.destinations as usize;
-        let from = arm as usize * destinations;
-        &self.counts[from..from + destinations]
+        let from = self.shape.left_after_place(arm, 0);
+        &self.counts[from..from + self.shape.destinations as usize]
     }
 
     /// What has entered an out-link by the end of the slot, for each destination.
@@ -130,9 +129,8 @@ impl NodeOutputs {
         ensures counts { (d : ℕ) → d < self.now.shape.destinations
             → slice_index result.now d ≡ entered_after self.now out d }
     {
-        let destinations = self.shape.destinations as usize;
-        let from = self.shape.arms as usize * destinations + out as usize * destinations;
-        &self.counts[from..from + destinations]
+        let from = self.shape.entered_after_place(out, 0);
+        &self.counts[from..from + self.shape.destinations as usize]
     }
 
     /// What has arrived at the node by the end of the slot.
@@ -156,7 +154,7 @@ impl NodeOutputs {
     {
         let _room = self.counts.len();
         let shape = inputs.shape();
-        let from = shape.arms as usize * shape.destinations as usize;
+        let from = shape.counts_begin();
         let width = shape.counts_width();
         self.counts[0..width].copy_from_slice(&inputs.row()[from..from + width]);
         self.shape = shape;

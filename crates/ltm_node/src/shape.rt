@@ -1,5 +1,5 @@
 //! How many arms, out-links and destinations a node has, and where its numbers stand in a row.
-ghost use Rattle.std.specs.Prelude.{◌≡◌, ◌+◌, ◌<◌, ◌≤◌, ◌^◌};
+ghost use Rattle.std.specs.Prelude.{◌≡◌, ◌+◌, ◌*◌, ◌<◌, ◌≤◌, ◌^◌};
 
 /// The shape of a node.
 #[derive(Clone, Copy, Debug, PartialEq, Eq)]
@@ -20,6 +20,10 @@ impl NodeShape {
       counts_width,
       no_shape,
       is_own,
+      counts_begin,
+      supplies_begin,
+      capacities_begin,
+      weights_begin,
       sending_place,
       left_place,
       entered_place,
@@ -56,7 +60,7 @@ impl NodeShape {
 
     /// How many counts the row of outputs has.
     #[inline]
-    pub(crate) fn counts_width(self) -> usize
+    pub fn counts_width(self) -> usize
         requires { counts_width self < 2 ^ 63 }
         ensures { result ≡ counts_width self }
     {
@@ -77,8 +81,50 @@ impl NodeShape {
         }
     }
 
+    /// Where the counts begin in the row of the inputs, which is how many numbers tell what the arms send: first what has left
+    /// the arms, then what has entered the out-links, last what has arrived.
     #[inline]
-    pub(crate) fn sending_place(self, arm: u32, destination: u32) -> usize
+    pub fn counts_begin(self) -> usize
+        requires { width self < 2 ^ 63 }
+        ensures place { result ≡ counts_begin self }
+        ensures within { result + counts_width self ≤ width self }
+    {
+        self.arms as usize * self.destinations as usize
+    }
+
+    /// Where the supplies begin in the row of the inputs, behind the counts.
+    #[inline]
+    pub fn supplies_begin(self) -> usize
+        requires { width self < 2 ^ 63 }
+        ensures place { result ≡ supplies_begin self }
+        ensures within { result + self.outs ≤ width self }
+    {
+        self.arrived_place() + 1
+    }
+
+    /// Where the capacities begin in the row of the inputs, behind the supplies.
+    #[inline]
+    pub fn capacities_begin(self) -> usize
+        requires { width self < 2 ^ 63 }
+        ensures place { result ≡ capacities_begin self }
+        ensures within { result + self.arms ≤ width self }
+    {
+        self.arrived_place() + 1 + self.outs as usize
+    }
+
+    /// Where the weights begin in the row of the inputs, behind the capacities and up to its end.
+    #[inline]
+    pub fn weights_begin(self) -> usize
+        requires { width self < 2 ^ 63 }
+        ensures place { result ≡ weights_begin self }
+        ensures within { result + self.destinations * self.outs ≡ width self }
+    {
+        self.arrived_place() + 1 + self.outs as usize + self.arms as usize
+    }
+
+    /// Where what an arm sends to a destination stands in the row of the inputs.
+    #[inline]
+    pub fn sending_place(self, arm: u32, destination: u32) -> usize
         requires fits { width self < 2 ^ 63 }
         requires arm { arm < self.arms }
         requires destination { destination < self.destinations }
@@ -88,8 +134,9 @@ impl NodeShape {
         arm as usize * self.destinations as usize + destination as usize
     }
 
+    /// Where the count that has left an arm for a destination stands in the row of the inputs.
     #[inline]
-    pub(crate) fn left_place(self, arm: u32, destination: u32) -> usize
+    pub fn left_place(self, arm: u32, destination: u32) -> usize
         requires fits { width self < 2 ^ 63 }
         requires arm { arm < self.arms }
         requires destination { destination < self.destinations }
@@ -100,8 +147,9 @@ impl NodeShape {
         self.arms as usize * destinations + (arm as usize * destinations + destination as usize)
     }
 
+    /// Where the count that has entered an out-link for a destination stands in the row of the inputs.
     #[inline]
-    pub(crate) fn entered_place(self, out: u32, destination: u32) -> usize
+    pub fn entered_place(self, out: u32, destination: u32) -> usize
         requires fits { width self < 2 ^ 63 }
         requires out { out < self.outs }
         requires destination { destination < self.destinations }
@@ -113,8 +161,9 @@ impl NodeShape {
             + (out as usize * destinations + destination as usize)
     }
 
+    /// Where the count that has arrived stands in the row of the inputs.
     #[inline]
-    pub(crate) fn arrived_place(self) -> usize
+    pub fn arrived_place(self) -> usize
         requires { width self < 2 ^ 63 }
         ensures place { result ≡ arrived_place self }
         ensures within { result + self.outs + self.arms < width self }
@@ -123,56 +172,59 @@ impl NodeShape {
         2 * (self.arms as usize * destinations) + self.outs as usize * destinations
     }
 
+    /// Where the supply of an out-link stands in the row of the inputs.
     #[inline]
-    pub(crate) fn supply_place(self, out: u32) -> usize
+    pub fn supply_place(self, out: u32) -> usize
         requires fits { width self < 2 ^ 63 }
         requires out { out < self.outs }
         ensures place { result ≡ supply_place self out }
         ensures within { result < width self }
     {
-        self.arrived_place() + 1 + out as usize
+        self.supplies_begin() + out as usize
     }
 
+    /// Where the capacity of an arm stands in the row of the inputs.
     #[inline]
-    pub(crate) fn capacity_place(self, arm: u32) -> usize
+    pub fn capacity_place(self, arm: u32) -> usize
         requires fits { width self < 2 ^ 63 }
         requires arm { arm < self.arms }
         ensures place { result ≡ capacity_place self arm }
         ensures within { result < width self }
     {
-        self.arrived_place() + 1 + self.outs as usize + arm as usize
+        self.capacities_begin() + arm as usize
     }
 
+    /// Where the weights of a destination begin in the row of the inputs.
     #[inline]
-    pub(crate) fn weights_place(self, destination: u32) -> usize
+    pub fn weights_place(self, destination: u32) -> usize
         requires fits { width self < 2 ^ 63 }
         requires destination { destination < self.destinations }
         ensures place { result ≡ weights_place self destination }
         ensures within { result + self.outs ≤ width self }
     {
-        self.arrived_place()
-            + 1
-            + self.outs as usize
-            + self.arms as usize
-            + destination as usize * self.outs as usize
+        self.weights_begin() + destination as usize * self.outs as usize
     }
 
+    /// Where the count that has left an arm for a destination stands in the row of the outputs. The place behind an arm's last
+    /// destination, where its counts end, may be asked for too.
     #[inline]
-    pub(crate) fn left_after_place(self, arm: u32, destination: u32) -> usize
+    pub fn left_after_place(self, arm: u32, destination: u32) -> usize
         requires fits { counts_width self < 2 ^ 63 }
         requires arm { arm < self.arms }
-        requires destination { destination < self.destinations }
+        requires destination { destination ≤ self.destinations }
         ensures place { result ≡ left_after_place self arm destination }
         ensures within { result < counts_width self }
     {
         arm as usize * self.destinations as usize + destination as usize
     }
 
+    /// Where the count that has entered an out-link for a destination stands in the row of the outputs. The place behind an
+    /// out-link's last destination, where its counts end, may be asked for too.
     #[inline]
-    pub(crate) fn entered_after_place(self, out: u32, destination: u32) -> usize
+    pub fn entered_after_place(self, out: u32, destination: u32) -> usize
         requires fits { counts_width self < 2 ^ 63 }
         requires out { out < self.outs }
-        requires destination { destination < self.destinations }
+        requires destination { destination ≤ self.destinations }
         ensures place { result ≡ entered_after_place self out destination }
         ensures within { result < counts_width self }
     {
@@ -180,8 +232,9 @@ impl NodeShape {
         self.arms as usize * destinations + (out as usize * destinations + destination as usize)
     }
 
+    /// Where the count that has arrived stands in the row of the outputs: it is the last.
     #[inline]
-    pub(crate) fn arrived_after_place(self) -> usize
+    pub fn arrived_after_place(self) -> usize
         requires { counts_width self < 2 ^ 63 }
         ensures place { result ≡ arrived_after_place self }
         ensures within { result < counts_width self }

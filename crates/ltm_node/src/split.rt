@@ -1,7 +1,8 @@
 //! How an amount for a destination is split over the weights of the out-links.
-ghost use Rattle.std.specs.Prelude.{◌≡◌, ◌<◌, ◌≤◌, ◌*◌, ◌/◌, ◌^◌, length, sum};
+ghost use Rattle.std.specs.Prelude.{◌≡◌, ◌<◌, ◌≤◌, ◌*◌, ◌/◌, ◌^◌};
 
-/// The part of what is left of an amount that goes to one of the weights that are left.
+/// The part of what is left of an amount that goes to one of the weights that are left: the narrow form of
+/// `ltm_units::share_of` for amounts of at most 32,000 units, whose product with a weight always fits a u64.
 #[inline]
 pub fn part_of(left: u64, weight: u64, rest: u64) -> u64
     requires left { left ≤ 32000 }
@@ -16,21 +17,5 @@ pub fn part_of(left: u64, weight: u64, rest: u64) -> u64
         left
     } else {
         left * weight / rest
-    }
-}
-
-/// The sum of at most four weights.
-#[inline]
-pub fn sum_of(weights: &[u64]) -> u64
-    requires few { length weights.now ≤ 4 }
-    requires fits { sum weights.now < 2 ^ 64 }
-    ensures { result ≡ sum weights.now }
-{
-    match weights {
-        [] => 0,
-        [one] => *one,
-        [one, two] => *one + *two,
-        [one, two, three] => *one + *two + *three,
-        [one, two, three, four, ..] => *one + *two + *three + *four,
     }
 }

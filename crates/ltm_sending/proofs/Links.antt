@@ -18,23 +18,23 @@ entered_rises s c l t m up ready e is_up =
     subst (λ (g : ℕ). Rises (total m (c g)) t) (sym is_up)
     (subst (λ (n : ℕ). Rises (total n (c (up_of l))) t) (sym e) (total_rises s.destinations (c (up_of l)) t ready.entered_rises))
 
-pub left_rises : (s : Setting) (c : Counts) (l t m up : ℕ) → IsLinkReady s c l t → m ≡ s.destinations → up ≡ up_of l → Rises (total m (c (up + 1))) t
-left_rises s c l t m up ready e is_up =
-    subst (λ (g : ℕ). Rises (total m (c (g + 1))) t) (sym is_up)
+pub left_rises : (s : Setting) (c : Counts) (l t m down : ℕ) → IsLinkReady s c l t → m ≡ s.destinations → down ≡ down_of l → Rises (total m (c down)) t
+left_rises s c l t m down ready e is_down =
+    subst (λ (g : ℕ). Rises (total m (c g)) t) (sym is_down)
     (subst (λ (n : ℕ). Rises (total n (c (down_of l))) t) (sym e) (total_rises s.destinations (c (down_of l)) t ready.left_rises))
 
 -- the numbers that the code reads of a link, for m destinations
-pub record HasRead (s : Setting) (c : Counts) (l t m up : ℕ) (reached by step free left room goal : ℕ) : Type 0 where
+pub record HasRead (s : Setting) (c : Counts) (l t m up down : ℕ) (reached by step free left room goal : ℕ) : Type 0 where
   pub reach : reached ≡ earlier (total m (c up)) step t free
   pub entered : by ≤ t
   pub within : reached ≤ total m (c up) by
   pub same_step : step ≡ s.step
   pub same_free : free ≡ s.free_time l
-  pub gone : left ≡ total m (c (up + 1)) t
+  pub gone : left ≡ total m (c down) t
   pub same_room : room ≡ s.capacity l
   pub least : goal ≡ min reached (left + room)
 
-goal_is : (s : Setting) (c : Counts) (l t : ℕ) (reached by step free left room goal : ℕ) → HasRead s c l t s.destinations (up_of l) reached by step free left room goal → goal ≡ link_goal s c l t
+goal_is : (s : Setting) (c : Counts) (l t : ℕ) (reached by step free left room goal : ℕ) → HasRead s c l t s.destinations (up_of l) (down_of l) reached by step free left room goal → goal ≡ link_goal s c l t
 goal_is s c l t reached by step free left room goal read =
     let f : ℕ → ℕ = total s.destinations (c (up_of l)) in
     let e : earlier f step t free ≡ earlier f s.step t (s.free_time l) = ap (λ (z : ℕ). earlier f z t free) read.same_step ∙ ap (λ (z : ℕ). earlier f s.step t z) read.same_free in
@@ -60,15 +60,16 @@ found_at s c l t by left v x ready below within is_left =
       sends = λ d y. ap (λ (z : ℕ). limited (s.exit_limit l t) z (link_first s c l t d)) whole ∙ ap (limited (s.exit_limit l t) (goal - left)) (rest d y);
     }
 
-pub found : (s : Setting) (c : Counts) (l t m up : ℕ) (reached by step free left room goal : ℕ) → IsSetting s → l < s.links → IsLinkReady s c l t → m ≡ s.destinations → up ≡ up_of l →
-    HasRead s c l t m up reached by step free left room goal → WaitOnLink s c l t m goal by left
-found s c l t m up reached by step free left room goal v x ready e is_up has =
-    subst (λ (n : ℕ). HasRead s c l t n (up_of l) reached by step free left room goal → WaitOnLink s c l t n goal by left) (sym e)
+pub found : (s : Setting) (c : Counts) (l t m up down : ℕ) (reached by step free left room goal : ℕ) → IsSetting s → l < s.links → IsLinkReady s c l t → m ≡ s.destinations → up ≡ up_of l → down ≡ down_of l →
+    HasRead s c l t m up down reached by step free left room goal → WaitOnLink s c l t m goal by left
+found s c l t m up down reached by step free left room goal v x ready e is_up is_down has =
+    subst (λ (n : ℕ). HasRead s c l t n (up_of l) (down_of l) reached by step free left room goal → WaitOnLink s c l t n goal by left) (sym e)
     (λ read.
     let is : goal ≡ link_goal s c l t = goal_is s c l t reached by step free left room goal read in
     subst (λ (z : ℕ). WaitOnLink s c l t s.destinations z by left) (sym is)
     (found_at s c l t by left v x ready read.entered (omega (arith, read.least, read.within)) read.gone))
-    (subst (λ (g : ℕ). HasRead s c l t m g reached by step free left room goal) is_up has)
+    (subst (λ (g : ℕ). HasRead s c l t m (up_of l) g reached by step free left room goal) is_down
+    (subst (λ (g : ℕ). HasRead s c l t m g down reached by step free left room goal) is_up has))
 
 -- nothing is sent where all that may leave has left
 pub sends_nothing : (s : Setting) (c : Counts) (l t m goal by left d : ℕ) → WaitOnLink s c l t m goal by left → goal - left ≡ 0 → d < m → link_sending s c l t d ≡ 0
@@ -83,8 +84,9 @@ sends_one s c l t m goal by left limit d w one some e x =
     w.sends d x ∙ (whole_limited (s.exit_limit l t) (goal - left) (rest_of m (c (up_of l)) (λ k. c (down_of l) k t) goal by d) rest some ∙ ap (min (goal - left)) (sym e))
 
 -- what has not left of a destination, as the code finds it
-pub rest_is : (c : Counts) (l t m up goal by d off : ℕ) → up ≡ up_of l → off ≡ first_units m (c up) goal by d - c (up + 1) d t → off ≡ rest_of m (c (up_of l)) (λ k. c (down_of l) k t) goal by d
-rest_is c l t m up goal by d off is_up e = e ∙ ap (λ (g : ℕ). first_units m (c g) goal by d - c (g + 1) d t) is_up
+pub rest_is : (c : Counts) (l t m up down goal by d off : ℕ) → up ≡ up_of l → down ≡ down_of l → off ≡ first_units m (c up) goal by d - c down d t → off ≡ rest_of m (c (up_of l)) (λ k. c (down_of l) k t) goal by d
+rest_is c l t m up down goal by d off is_up is_down e =
+    e ∙ (ap (λ (g : ℕ). first_units m (c g) goal by d - c down d t) is_up ∙ ap (λ (g : ℕ). first_units m (c (up_of l)) goal by d - c g d t) is_down)
 
 pub rest_fits : (s : Setting) (c : Counts) (l t m goal by left d off : ℕ) → WaitOnLink s c l t m goal by left → off ≡ rest_of m (c (up_of l)) (λ k. c (down_of l) k t) goal by d → d < m → off ≤ goal - left
 rest_fits s c l t m goal by left d off w e x = omega (arith, rest_within m (c (up_of l)) (λ k. c (down_of l) k t) goal by d w.leave x, w.gone, w.over)
@@ -95,10 +97,10 @@ sends_rest s c l t m goal by left limit d off out w e f g x =
     g ∙ (ap (λ (z : ℕ). limited z (goal - left) off) e ∙ (ap (limited (s.exit_limit l t) (goal - left)) f ∙ sym (w.sends d x)))
 
 -- the numbers that the code reads of a link to know its room, for m destinations
-pub record HasReadBack (s : Setting) (c : Counts) (l t m up : ℕ) (ago by step wave entered storage : ℕ) : Type 0 where
-  pub reach : ago ≡ earlier (total m (c (up + 1))) step t wave
+pub record HasReadBack (s : Setting) (c : Counts) (l t m up down : ℕ) (ago by step wave entered storage : ℕ) : Type 0 where
+  pub reach : ago ≡ earlier (total m (c down)) step t wave
   pub before : by ≤ t
-  pub within : ago ≤ total m (c (up + 1)) by
+  pub within : ago ≤ total m (c down) by
   pub same_step : step ≡ s.step
   pub same_wave : wave ≡ s.wave_time l
   pub all : entered ≡ total m (c up) t
@@ -110,7 +112,7 @@ pub record HasRoom (s : Setting) (c : Counts) (l t : ℕ) (ago entered storage :
   pub room : entered ≤ ago + storage
   pub takes : ago + storage - entered ≡ earlier (total s.destinations (c (down_of l))) s.step t (s.wave_time l) + s.storage l - total s.destinations (c (up_of l)) t
 
-room_at : (s : Setting) (c : Counts) (l t : ℕ) (ago by step wave entered storage : ℕ) → IsLinkReady s c l t → HasReadBack s c l t s.destinations (up_of l) ago by step wave entered storage → HasRoom s c l t ago entered storage
+room_at : (s : Setting) (c : Counts) (l t : ℕ) (ago by step wave entered storage : ℕ) → IsLinkReady s c l t → HasReadBack s c l t s.destinations (up_of l) (down_of l) ago by step wave entered storage → HasRoom s c l t ago entered storage
 room_at s c l t ago by step wave entered storage ready read =
     let f : ℕ → ℕ = total s.destinations (c (down_of l)) in
     let e : earlier f step t wave ≡ earlier f s.step t (s.wave_time l) = ap (λ (z : ℕ). earlier f z t wave) read.same_step ∙ ap (λ (z : ℕ). earlier f s.step t z) read.same_wave in
@@ -121,12 +123,13 @@ room_at s c l t ago by step wave entered storage ready read =
       takes = omega (arith, is_ago, read.all, read.same_storage);
     }
 
-pub has_room : (s : Setting) (c : Counts) (l t m up : ℕ) (ago by step wave entered storage : ℕ) → IsLinkReady s c l t → m ≡ s.destinations → up ≡ up_of l →
-    HasReadBack s c l t m up ago by step wave entered storage → HasRoom s c l t ago entered storage
-has_room s c l t m up ago by step wave entered storage ready e is_up has =
+pub has_room : (s : Setting) (c : Counts) (l t m up down : ℕ) (ago by step wave entered storage : ℕ) → IsLinkReady s c l t → m ≡ s.destinations → up ≡ up_of l → down ≡ down_of l →
+    HasReadBack s c l t m up down ago by step wave entered storage → HasRoom s c l t ago entered storage
+has_room s c l t m up down ago by step wave entered storage ready e is_up is_down has =
     room_at s c l t ago by step wave entered storage ready
-    (subst (λ (n : ℕ). HasReadBack s c l t n (up_of l) ago by step wave entered storage) e
-    (subst (λ (g : ℕ). HasReadBack s c l t m g ago by step wave entered storage) is_up has))
+    (subst (λ (n : ℕ). HasReadBack s c l t n (up_of l) (down_of l) ago by step wave entered storage) e
+    (subst (λ (g : ℕ). HasReadBack s c l t m (up_of l) g ago by step wave entered storage) is_down
+    (subst (λ (g : ℕ). HasReadBack s c l t m g down ago by step wave entered storage) is_up has)))
 
 pub receives : (s : Setting) (c : Counts) (l t : ℕ) (ago entered storage capacity entry room least out : ℕ) → HasRoom s c l t ago entered storage → capacity ≡ s.capacity l → entry ≡ s.entry_limit l t →
     room ≡ ago + storage - entered → least ≡ min entry room → out ≡ min capacity least → out ≡ receiving s c l t

@@ -15,7 +15,7 @@ mod origin;
 mod parts;
 mod produced;
 
-pub use link::{position_of, receive, send_link};
+pub use link::{receive, send_link, send_link_at};
 pub use origin::send_origin;
 
 #[cfg(test)]

@@ -3,9 +3,8 @@ ghost use Rattle.std.specs.Prelude.{◌≡◌, ℕ, ◌+◌, ◌-◌, ◌^◌, �
 ghost use Rattle.ltm_curve.specs.Counts.{total};
 ghost use Rattle.ltm_curve.specs.First.{first_units};
 ghost use Rattle.ltm_curve.specs.FirstLaws.{IsPart};
-ghost use Rattle.ltm_curve.specs.Table.{groups_of, counts_of};
+ghost use Rattle.ltm_curve.specs.Table.{counts_of};
 ghost use Rattle.ltm_loading.specs.Setting.{IsSetting};
-ghost use Rattle.ltm_loading.specs.Groups.{dep_of};
 ghost use Rattle.ltm_loading.specs.Flows.{origin_sending};
 ghost use Rattle.ltm_setting.specs.Setting.{setting_of};
 ghost use Rattle.ltm_sending.specs.Front.{IsAtFront};
@@ -16,7 +15,7 @@ use crate::produced::Produced;
 use ltm_curve::{Curves, Rows, first_less_of};
 use ltm_loading::origins_are_ready;
 use ltm_scenario::Scenario;
-use ltm_setting::{is_setting, link_count, origin_capacity};
+use ltm_setting::{dep_of, is_setting, origin_capacity};
 use ltm_units::NodeId;
 
 /// Units that may leave in the order in which they were produced: how many there are, how many of them ever may leave,
@@ -26,16 +25,6 @@ struct Queue {
     all: u64,
     goal: u64,
     left: u64,
-}
-
-/// The group of what has left the origin of a node.
-#[inline]
-fn departed_group(scenario: &Scenario, curves: &Curves, node: NodeId) -> u32
-    requires { dep_of (setting_of scenario.now) node.0 < groups_of curves.now }
-    ensures { result ≡ dep_of (setting_of scenario.now) node.0 }
-{
-    let _groups = curves.groups();
-    2 * link_count(scenario) + node.0
 }
 
 /// The units that may leave an origin by the end of a slot.
@@ -50,8 +39,7 @@ fn queue_at(scenario: &Scenario, curves: &Curves, node: NodeId, slot: u32) -> Qu
     origins_are_ready();
     let rows = Produced { scenario, node };
     let all = rows.total(slot + 1);
-    let departed = departed_group(scenario, curves, node);
-    let left = curves.total(departed, slot);
+    let left = curves.total(dep_of(scenario, node), slot);
     let goal = all.min(left + origin_capacity(scenario));
     Queue { all, goal, left }
 }
@@ -98,6 +86,6 @@ pub fn send_origin(scenario: &Scenario, curves: &Curves, node: NodeId, slot: u32
         return;
     }
     let rows = Produced { scenario, node };
-    let gone = curves.row(departed_group(scenario, curves, node), slot);
+    let gone = curves.row(dep_of(scenario, node), slot);
     send_queue(&rows, queue, slot + 1, gone, into);
 }

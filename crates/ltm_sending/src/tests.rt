@@ -1,23 +1,8 @@
 use crate::ago::total_ago;
-use crate::parts::limit_all;
 use ltm_curve::Curves;
 use ltm_diagram::Delay;
 use ltm_units::Millis;
 use std::process::Abort;
-
-// What passes a limit of 3 units for one destination and 2 for another.
-fn passing(limit: u64) -> [u64; 2] {
-    let mut parts = [3, 2];
-    limit_all(limit, 5, &mut parts);
-    parts
-}
-
-#[test]
-fn limits_round_down(rt: HostRuntime) {
-    for (limit, parts) in [(6, [3, 2]), (5, [3, 2]), (4, [2, 1]), (1, [0, 0])] {
-        assert_eq!(rt; passing(limit), parts, "a limit of {limit}");
-    }
-}
 
 // The total some time before the end of a slot of a second, where it does not fall over two slots.
 fn total_before(rt: &impl Abort, curves: &Curves, slot: u32, delay: u64) -> u64 {

@@ -6,9 +6,11 @@
 //! (`is_setting`), so every law of loadings holds of it. Change it here where a loading is to read something more.
 #![tactic(auto)]
 
+mod groups;
 mod laws;
 mod readers;
 
+pub use groups::{arr_of, dep_of, group_count};
 pub use laws::{is_setting, loadings_of_scenarios, scenarios_are_settings};
 pub use readers::{
     delays, destination_count, entry_limit, exit_limit, head, in_links, limits, link_count,

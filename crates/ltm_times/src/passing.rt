@@ -8,6 +8,7 @@ ghost use Rattle.ltm_times.specs.Times.{exit_time, travel_time};
 
 use crate::boundaries::moment_of;
 use ltm_flows::Loading;
+use ltm_loading::{down_of, up_of};
 use ltm_units::{LinkId, Millis, Units};
 
 /// The first millisecond by which so many units have left a link; None where fewer have left it by the end.
@@ -19,7 +20,7 @@ pub fn exit_ms(loading: &Loading, link: LinkId, count: Units) -> Option<Millis>
         ↔ (left_link s (counts_of (curves_of loading.now)) link.0 s.slots < count.0) }
 {
     let _links = loading.links();
-    moment_of(loading.curves(), 2 * link.0 + 1, count.0, loading.step())
+    moment_of(loading.curves(), down_of(link), count.0, loading.step())
 }
 
 /// How many milliseconds a vehicle takes to pass a link that it enters at the beginning of a slot: no less than the
@@ -34,7 +35,7 @@ pub fn travel(loading: &Loading, link: LinkId, slot: u32) -> Option<Millis>
         < entered_link s (counts_of (curves_of loading.now)) link.0 slot) }
 {
     let _links = loading.links();
-    let entered = loading.curves().total(2 * link.0, slot);
+    let entered = loading.curves().total(up_of(link), slot);
     let exit = exit_ms(loading, link, Units(entered))?;
     let start = u64::from(slot) * loading.step().0;
     let passed = exit.0.saturating_sub(start);

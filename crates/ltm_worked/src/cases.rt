@@ -1,27 +1,10 @@
 //! Cases of four files, and their loadings.
 use ltm_casefile::read_case;
 use ltm_flows::{Loading, cold};
-use ltm_io::{Doc, MemFolder};
+use ltm_io::MemFolder;
 use ltm_scenario::Scenario;
-use ltm_units::NoMemory;
 use std::alloc::Global;
 use std::process::Abort;
-
-/// The four files of a case.
-pub fn folder_of(
-    alloc: Global,
-    setup: &str,
-    links: &str,
-    demand: &str,
-    splits: &str,
-) -> Result<MemFolder, NoMemory> {
-    let mut folder = MemFolder::create(alloc, &[])?;
-    folder.put(Doc::Setup, setup.as_bytes())?;
-    folder.put(Doc::Links, links.as_bytes())?;
-    folder.put(Doc::Demand, demand.as_bytes())?;
-    folder.put(Doc::Splits, splits.as_bytes())?;
-    Ok(folder)
-}
 
 /// The scenario of a folder.
 pub fn scenario_of(alloc: Global, folder: &mut MemFolder) -> Option<Scenario> {

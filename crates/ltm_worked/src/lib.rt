@@ -7,6 +7,8 @@
 #[cfg(test)]
 mod cases;
 #[cfg(test)]
+mod limit_tests;
+#[cfg(test)]
 mod route_tests;
 #[cfg(test)]
 mod tests;

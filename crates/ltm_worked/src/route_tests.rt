@@ -3,7 +3,6 @@
 ghost use Rattle.std.specs.Prelude.{◌<◌, ◌≡◌, length};
 ghost use Rattle.ltm_routes.specs.Potentials.{IsSmall};
 
-use crate::cases::folder_of;
 use ltm_casefile::read_roads;
 use ltm_io::MemFolder;
 use ltm_routes::{Routes, verify};
@@ -14,8 +13,9 @@ use std::process::Abort;
 use std::test::Fail;
 
 fn files(alloc: Global) -> Result<MemFolder, NoMemory> {
-    folder_of(
+    MemFolder::of_case(
         alloc,
+        &[],
         "step_ms,slots,origin_capacity\n1000,4,1\n",
         "link,from,to,length_m,free_kmh,wave_kmh,jam_per_km\na,n1,n2,20,36,18,150\nb,n2,n3,20,36,18,150\nc,n1,n3,40,36,18,150\n",
         "origin,destination,from_slot,to_slot,vehicles\nn1,n3,0,2,1\nn1,n2,0,2,1\n",

@@ -1,5 +1,5 @@
 //! Loadings of cases before and after edits.
-use crate::cases::{folder_of, loading_of, scenario_of};
+use crate::cases::{loading_of, scenario_of};
 use ltm_flows::Loading;
 use ltm_io::MemFolder;
 use ltm_scenario::{Batch, Edit, EditFault, Scenario};
@@ -8,7 +8,7 @@ use std::alloc::Global;
 use std::process::Abort;
 
 /// Gives a valid scenario the edits.
-fn accept(
+pub(crate) fn accept(
     rt: &impl Abort,
     alloc: Global,
     scenario: &mut Scenario,
@@ -57,8 +57,9 @@ fn name<R: Abort>(rt: &R, text: &str) -> Name {
 /// Two equal links of capacity 500, storage 3000, free-flow time 2 slots and wave time 4 slots; five vehicles start in the
 /// first five slots.
 fn corridor(alloc: Global) -> Result<MemFolder, NoMemory> {
-    folder_of(
+    MemFolder::of_case(
         alloc,
+        &[],
         "step_ms,slots,origin_capacity\n1000,12,1\n",
         "link,from,to,length_m,free_kmh,wave_kmh,jam_per_km\na,n1,n2,20,36,18,150\nb,n2,n3,20,36,18,150\n",
         "origin,destination,from_slot,to_slot,vehicles\nn1,n3,0,5,5\n",
@@ -103,24 +104,32 @@ fn queue_discharges_after_wave_time(rt: HostRuntime) {
     expect_counts(&rt, &loading, 12, [3000, 2000, 2000, 1000]);
 }
 
-/// Four links in a row, an hour of slots of 10 seconds, and 4320 vehicles in twelve rows of demand.
-fn hour(alloc: Global) -> Result<MemFolder, NoMemory> {
-    folder_of(
+/// Five hundred such links in a row, over 1,005 slots: the counts of their loading are more than 1,500,000.
+fn long_corridor(alloc: Global) -> Result<MemFolder, NoMemory> {
+    let mut links = String::from_str(
         alloc,
-        "step_ms,slots,origin_capacity\n10000,360,32\n",
-        "link,from,to,length_m,free_kmh,wave_kmh,jam_per_km\nf1,g0,g1,500,120,20,300\nf2,g1,g2,500,120,20,300\nf3,g2,g3,500,120,20,300\nf4,g3,g4,500,120,20,300\n",
-        "origin,destination,from_slot,to_slot,vehicles\ng0,g4,0,30,360\ng0,g4,30,60,360\ng0,g4,60,90,360\ng0,g4,90,120,360\ng0,g4,120,150,360\ng0,g4,150,180,360\ng0,g4,180,210,360\ng0,g4,210,240,360\ng0,g4,240,270,360\ng0,g4,270,300,360\ng0,g4,300,330,360\ng0,g4,330,360,360\n",
-        "node,destination,from_slot,weights\ng0,g4,0,f1=1\ng1,g4,0,f2=1\ng2,g4,0,f3=1\ng3,g4,0,f4=1\n",
+        "link,from,to,length_m,free_kmh,wave_kmh,jam_per_km\n",
+    )?;
+    let mut splits = String::from_str(alloc, "node,destination,from_slot,weights\n")?;
+    for tail in 0..500u32 {
+        let head = tail + 1;
+        write!(links, "l{tail},n{tail},n{head},20,36,18,150\n")?;
+        write!(splits, "n{tail},n500,0,l{tail}=1\n")?;
+    }
+    MemFolder::of_case(
+        alloc,
+        &[],
+        "step_ms,slots,origin_capacity\n1000,1005,1\n",
+        &links,
+        "origin,destination,from_slot,to_slot,vehicles\nn0,n500,0,5,5\n",
+        &splits,
     )
 }
 
+// 500 units set out in each of the first ten slots, and pass a link in two slots. So the first are there by boundary 1,001.
 #[test]
-fn an_hour_on_a_corridor(rt: HostRuntime) {
-    let mut folder = hour(rt.alloc()).expect(&rt, "memory");
+fn no_count_is_too_many(rt: HostRuntime) {
+    let mut folder = long_corridor(rt.alloc()).expect(&rt, "memory");
     let scenario = scenario_of(rt.alloc(), &mut folder).expect(&rt, "a case");
-    expect_totals(
-        &rt,
-        &loading_of(&rt, &scenario),
-        [4_320_000, 4_248_000, 72_000, 0],
-    );
+    expect_totals(&rt, &loading_of(&rt, &scenario), [5000, 2500, 2500, 0]);
 }

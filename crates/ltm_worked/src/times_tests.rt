@@ -2,7 +2,7 @@
 ghost use Rattle.std.specs.Prelude.{◌≡◌, ◌<◌};
 ghost use Rattle.ltm_flows.specs.Shown.{last_of, links_of};
 
-use crate::cases::{folder_of, loading_of, scenario_of};
+use crate::cases::{loading_of, scenario_of};
 use ltm_flows::Loading;
 use ltm_io::MemFolder;
 use ltm_times::{exit_ms, time_spent, travel};
@@ -12,8 +12,9 @@ use std::process::Abort;
 
 /// A road over which a vehicle sets out in the first two slots.
 fn road(alloc: Global, links: &str) -> Result<MemFolder, NoMemory> {
-    folder_of(
+    MemFolder::of_case(
         alloc,
+        &[],
         "step_ms,slots,origin_capacity\n1000,4,1\n",
         links,
         "origin,destination,from_slot,to_slot,vehicles\nn1,n2,0,2,1\n",

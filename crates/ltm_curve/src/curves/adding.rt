@@ -1,7 +1,8 @@
 //! Amounts that are added to counts in place.
 ghost use Rattle.std.specs.Prelude.{◌≡◌, ℕ, ◌+◌, ◌*◌, ◌^◌, ◌<◌, ◌≤◌, length, sum, slice_index};
 
-use super::{Curves, sum_of};
+use super::Curves;
+use ltm_units::sum_of;
 
 /// Adds amounts to a row of counts in 32 bits, and gives their sum.
 fn add_many(row: &mut [u32], amounts: &[u64]) -> u64

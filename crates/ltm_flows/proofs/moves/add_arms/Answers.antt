@@ -1,4 +1,4 @@
-use Rattle.std.proofs.Common.{◌≡◌, ◌<◌, ◌+◌, ◌*◌, ℕ, length, get_or, arith, ap, subst}
+use Rattle.std.proofs.Common.{◌≡◌, ◌<◌, ◌+◌, ℕ, length, arith, ap, subst}
 use Rattle.ltm_curve.specs.Table.{counts_of}
 use Rattle.ltm_node.specs.declared.shape.NodeShape.{NodeShape}
 use Rattle.ltm_node.specs.Outputs.{left_after}
@@ -23,8 +23,8 @@ add_row-requires-clause-small c = λ d l.
     let link : i < s.ins u = omega (arith, c.loop-arm-test.true, c.in_links-links.ensures.count) in
     let inside : i < arms_of s u = omega arith in
     let many : d < s.destinations = omega (arith, c.left_row.ensures.count, ap (λ (z : NodeShape). z.destinations) c.requires.moves) in
-    let group : 2 * (get_or links i (record { 0 = 0 })).0 + 1 ≡ arm_group s u i =
-    omega (arith, link_item links i c.loop-arm-test.true, c.in_links-links.ensures.links i c.loop-arm-test.true, pick_first i (s.ins u) (down_of (s.in_link u i)) (dep_of s u) link) in
+    let group : c.down_of.result ≡ arm_group s u i =
+    omega (arith, c.down_of.ensures, link_item links i c.loop-arm-test.true, c.in_links-links.ensures.links i c.loop-arm-test.true, pick_first i (s.ins u) (down_of (s.in_link u i)) (dep_of s u) link) in
     sum_small s c.args.boundary i (arm_group s u) (left_after c.args.moves.now) (counts_of c.args.curves.now) (counts_of c.loop-arm.curves) _ d _ (omega (arith, group, arm_there s u i c.requires.setting c.requires.node inside)) group
     (λ j m. arm_apart s u j i c.requires.setting c.requires.node m inside) many c.loop-arm.invariant.sets
     (c.left_row.ensures.counts d (omega (arith, ap (λ (z : NodeShape). z.destinations) c.requires.moves))) (c.requires.small i d inside many)
@@ -37,8 +37,8 @@ loop-arm-preserved c =
     let links = c.in_links-links.result.now in
     let link : i < s.ins u = omega (arith, c.loop-arm-test.true, c.in_links-links.ensures.count) in
     let inside : i < arms_of s u = omega arith in
-    let group : 2 * (get_or links i (record { 0 = 0 })).0 + 1 ≡ arm_group s u i =
-    omega (arith, link_item links i c.loop-arm-test.true, c.in_links-links.ensures.links i c.loop-arm-test.true, pick_first i (s.ins u) (down_of (s.in_link u i)) (dep_of s u) link) in
+    let group : c.down_of.result ≡ arm_group s u i =
+    omega (arith, c.down_of.ensures, link_item links i c.loop-arm-test.true, c.in_links-links.ensures.links i c.loop-arm-test.true, pick_first i (s.ins u) (down_of (s.in_link u i)) (dep_of s u) link) in
     record {
       shape = shaped_by s c.loop-arm.curves _ c.loop-arm.invariant.shape c.add_row.ensures.shape;
       sets = adds_next s _ i _ _ _ c.loop-arm.curves _ _ c.left_row.result.now c.requires.boundary (omega (arith, group, arm_there s u i c.requires.setting c.requires.node inside)) group
@@ -56,8 +56,8 @@ add_row-requires-then-not-is_empty-clause-small c = λ d l.
     let all : c.loop-arm.arm ≡ n = omega (arith, c.loop-arm-test.false, c.loop-arm.auto.arm-end) in
     let many : d < s.destinations = omega (arith, c.left_row-origin.ensures.count, ap (λ (z : NodeShape). z.destinations) c.requires.moves) in
     let done = subst (λ (z : ℕ). SetsGroups s c.args.boundary z (arm_group s u) (with_moves (counts_of c.args.curves.now) c.args.boundary (arm_group s u) (left_after c.args.moves.now)) (counts_of c.args.curves.now) (counts_of c.loop-arm.curves)) all c.loop-arm.invariant.sets in
-    let group : 2 * c.link_count-groups.result + u ≡ arm_group s u n =
-    omega (arith, c.link_count-groups.ensures.value, pick_second n (s.ins u) (down_of (s.in_link u n)) (dep_of s u) (omega (arith, c.in_links-links.ensures.count))) in
+    let group : c.dep_of.result ≡ arm_group s u n =
+    omega (arith, c.dep_of.ensures.group, pick_second n (s.ins u) (down_of (s.in_link u n)) (dep_of s u) (omega (arith, c.in_links-links.ensures.count))) in
     sum_small s c.args.boundary n (arm_group s u) (left_after c.args.moves.now) (counts_of c.args.curves.now) (counts_of c.loop-arm.curves) _ d _ (omega (arith, group, arm_there s u n c.requires.setting c.requires.node inside)) group
     (λ j m. arm_apart s u j n c.requires.setting c.requires.node m inside) many done
     (c.left_row-origin.ensures.counts d (omega (arith, ap (λ (z : NodeShape). z.destinations) c.requires.moves))) (c.requires.small n d inside many)
@@ -74,8 +74,8 @@ returns-then-not-is_empty-clause-sets c =
     let all : c.loop-arm.arm ≡ n = omega (arith, c.loop-arm-test.false, c.loop-arm.auto.arm-end) in
     let done : SetsGroups s k n (arm_group s u) value (counts_of c.args.curves.now) (counts_of c.loop-arm.curves) =
     subst (λ (z : ℕ). SetsGroups s k z (arm_group s u) value (counts_of c.args.curves.now) (counts_of c.loop-arm.curves)) all c.loop-arm.invariant.sets in
-    let group : 2 * c.link_count-groups.result + u ≡ arm_group s u n =
-    omega (arith, c.link_count-groups.ensures.value, pick_second n (s.ins u) (down_of (s.in_link u n)) (dep_of s u) (omega (arith, c.in_links-links.ensures.count))) in
+    let group : c.dep_of.result ≡ arm_group s u n =
+    omega (arith, c.dep_of.ensures.group, pick_second n (s.ins u) (down_of (s.in_link u n)) (dep_of s u) (omega (arith, c.in_links-links.ensures.count))) in
     let one_more : n + 1 ≡ arms_of s u = omega (arith, some, c.in_links-links.ensures.count) in
     subst (λ (z : ℕ). SetsGroups s k z (arm_group s u) value (counts_of c.args.curves.now) (counts_of c.add_row-then-not-is_empty.new.self)) one_more
     (adds_next s k n (arm_group s u) (left_after c.args.moves.now) (counts_of c.args.curves.now) c.loop-arm.curves c.add_row-then-not-is_empty.new.self _ c.left_row-origin.result.now c.requires.boundary (omega (arith, group, arm_there s u n c.requires.setting c.requires.node inside)) group

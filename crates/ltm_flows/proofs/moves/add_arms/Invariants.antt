@@ -3,7 +3,7 @@ use Rattle.ltm_node.specs.Outputs.{left_after}
 use Rattle.ltm_loading.specs.Pairs.{arm_group}
 use Rattle.ltm_setting.specs.Setting.{setting_of}
 use Rattle.ltm_flows.specs.Applying.{with_moves, SetsGroups}
-use Rattle.ltm_flows.specs.Shaped.{IsShaped}
+use Rattle.ltm_loading.specs.Shaped.{IsShaped}
 use Rattle.ltm_flows.proofs.moves.add_arms.Given as goal
 
 abbrev pub invariant-loop-arm : goal.invariant-loop-arm

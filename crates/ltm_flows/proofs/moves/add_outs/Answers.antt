@@ -1,4 +1,4 @@
-use Rattle.std.proofs.Common.{◌≡◌, ◌<◌, ◌*◌, ℕ, get_or, arith, ap}
+use Rattle.std.proofs.Common.{◌≡◌, ◌<◌, ℕ, arith, ap}
 use Rattle.ltm_curve.specs.Table.{counts_of}
 use Rattle.ltm_node.specs.declared.shape.NodeShape.{NodeShape}
 use Rattle.ltm_node.specs.Outputs.{entered_after}
@@ -20,7 +20,7 @@ add_row-requires-clause-small c = λ d l.
     let links = c.out_links-link-items.result.now in
     let inside : j < s.outs u = omega (arith, c.loop-out-test.true, c.out_links-link-items.ensures.count) in
     let many : d < s.destinations = omega (arith, c.entered_row.ensures.count, ap (λ (z : NodeShape). z.destinations) c.requires.moves) in
-    let group : 2 * (get_or links j (record { 0 = 0 })).0 ≡ out_group s u j = omega (arith, link_item links j c.loop-out-test.true, c.out_links-link-items.ensures.links j c.loop-out-test.true) in
+    let group : c.up_of.result ≡ out_group s u j = omega (arith, c.up_of.ensures, link_item links j c.loop-out-test.true, c.out_links-link-items.ensures.links j c.loop-out-test.true) in
     sum_small s c.args.boundary j (out_group s u) (entered_after c.args.moves.now) (counts_of c.args.curves.now) (counts_of c.loop-out.curves) _ d _ (omega (arith, group, out_there s u j c.requires.setting c.requires.node inside)) group
     (λ i m. out_apart s u i j c.requires.setting c.requires.node m inside) many c.loop-out.invariant.sets
     (c.entered_row.ensures.counts d (omega (arith, ap (λ (z : NodeShape). z.destinations) c.requires.moves))) (c.requires.small j d inside many)
@@ -32,7 +32,7 @@ loop-out-preserved c =
     let j : ℕ = c.loop-out.out in
     let links = c.out_links-link-items.result.now in
     let inside : j < s.outs u = omega (arith, c.loop-out-test.true, c.out_links-link-items.ensures.count) in
-    let group : 2 * (get_or links j (record { 0 = 0 })).0 ≡ out_group s u j = omega (arith, link_item links j c.loop-out-test.true, c.out_links-link-items.ensures.links j c.loop-out-test.true) in
+    let group : c.up_of.result ≡ out_group s u j = omega (arith, c.up_of.ensures, link_item links j c.loop-out-test.true, c.out_links-link-items.ensures.links j c.loop-out-test.true) in
     record {
       shape = shaped_by s c.loop-out.curves _ c.loop-out.invariant.shape c.add_row.ensures.shape;
       sets = adds_next s _ j _ _ _ c.loop-out.curves _ _ c.entered_row.result.now c.requires.boundary (omega (arith, group, out_there s u j c.requires.setting c.requires.node inside)) group

@@ -2,7 +2,7 @@ use Rattle.ltm_curve.specs.Table.{counts_of}
 use Rattle.ltm_node.specs.Outputs.{entered_after}
 use Rattle.ltm_setting.specs.Setting.{setting_of}
 use Rattle.ltm_flows.specs.Applying.{out_group, with_moves, SetsGroups}
-use Rattle.ltm_flows.specs.Shaped.{IsShaped}
+use Rattle.ltm_loading.specs.Shaped.{IsShaped}
 use Rattle.ltm_flows.proofs.moves.add_outs.Given as goal
 
 abbrev pub invariant-loop-out : goal.invariant-loop-out

@@ -21,14 +21,14 @@ returns-then-not-is_empty c =
     let w : ℕ = destinations_of c.args.curves.now in
     let f : ℕ → ℕ → ℕ = λ i d. counts (arm_group s u i) d t in
     let g : ℕ → ℕ → ℕ = λ i d. counts (2 * link_at links i + 1) d t in
-    let h : ℕ → ℕ = λ d. counts c.origin_group.result d t in
+    let h : ℕ → ℕ = λ d. counts c.dep_of.result d t in
     let some : 0 < s.outs u = some_out c.is_empty.result (length c.out_links.result.now) (s.outs u) c.if-not-is_empty.true c.is_empty.ensures c.out_links.ensures.count in
     let origin : c.put_numbers.new.into ≡ list_below w h = c.put_numbers.ensures ∙ list_from w h c.row.result.now c.row.ensures.count c.row.ensures.counts in
     ap (λ (z : List ℕ). z ++ c.put_numbers.new.into) c.put_links.ensures
     ∙ (ap (λ (z : List ℕ). grid (length links) w g ++ z) origin
     ∙ (arms_origin (length links) w s u f g h c.in_links-links.ensures.count some
     (λ i d l x. ap (λ (z : ℕ). counts z d t) (ap down_of (c.in_links-links.ensures.links i (omega (arith, c.in_links-links.ensures.count))) ∙ sym (pick_first i (s.ins u) (down_of (s.in_link u i)) (dep_of s u) l)))
-    (λ d l. ap (λ (z : ℕ). counts z d t) (c.origin_group.ensures ∙ sym (pick_second (s.ins u) (s.ins u) (down_of (s.in_link u (s.ins u))) (dep_of s u) (omega arith))))
+    (λ d l. ap (λ (z : ℕ). counts z d t) (c.dep_of.ensures.group ∙ sym (pick_second (s.ins u) (s.ins u) (down_of (s.in_link u (s.ins u))) (dep_of s u) (omega arith))))
     ∙ ap (λ (z : ℕ). grid (arms_of s u) z f) c.requires.curves.same_destinations))
 
 pub returns-else-not-is_empty : goal.returns-else-not-is_empty

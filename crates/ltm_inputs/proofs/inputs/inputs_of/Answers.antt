@@ -17,8 +17,9 @@ returns c =
     let room : List _ = c.put_front.new.room in
     let long : width c.reshape.new.self.shape ≤ length room = omega (arith, c.put_front.auto.room, c.numbers_mut.ensures.room, c.numbers_mut.ensures.fits) in
     let inputs : IsPairInputs s counts u t (with_numbers c.reshape.new.self room) =
-    written_row s counts u t c.reshape.new.self (with_numbers c.reshape.new.self room) room (c.reshape.ensures.shape ∙ c.shape_of-shape.ensures.shape) refl long (ap (λ (z : NodeShape). take (width z) room) c.reshape.ensures.shape ∙ c.put_front.ensures) in
+    written_row s counts u t c.reshape.new.self (with_numbers c.reshape.new.self room) room (c.reshape.ensures.shape ∙ c.shape_of-shape.ensures.shape) refl long (ap (λ (z : NodeShape). take (width z) room) c.reshape.ensures.shape ∙ c.put_front.ensures.row) in
     record {
+      positions = c.put_front.ensures.positions;
       inputs = inputs;
       room = c.reshape.ensures.room;
       solvable = solvable_inputs s counts u t (with_numbers c.reshape.new.self room) inputs (c.in_range.ensures s counts t u c.is_setting.ensures.setting c.requires.ready.front c.requires.ready.now c.requires.node);

@@ -7,13 +7,13 @@ use Rattle.ltm_sending.proofs.link.receive.Goals as goal
 
 pub total_ago-ago-requires-clause-rises : goal.total_ago-ago-requires-clause-rises
 total_ago-ago-requires-clause-rises c =
-    left_rises (setting_of c.args.scenario.now) (counts_of c.args.curves.now) c.args.link.0 c.args.slot _ c.entered_group-up.result (c.links_are_ready.ensures _ _ _ _ c.is_setting.ensures.setting c.requires.ready.front c.requires.link) c.requires.ready.shape.same_destinations c.entered_group-up.ensures.group
+    left_rises (setting_of c.args.scenario.now) (counts_of c.args.curves.now) c.args.link.0 c.args.slot _ c.down_of.result (c.links_are_ready.ensures _ _ _ _ c.is_setting.ensures.setting c.requires.ready.front c.requires.link) c.requires.ready.shape.same_destinations c.down_of.ensures
 
 pub overflow_add-room : goal.overflow_add-room
 overflow_add-room c =
     let has =
-    has_room (setting_of c.args.scenario.now) (counts_of c.args.curves.now) c.args.link.0 c.args.slot _ c.entered_group-up.result c.total_ago-ago.result.total _ c.step.result.0 ((setting_of c.args.scenario.now).wave_time c.args.link.0) c.total-entered.result c.limits-limits.result.storage
-    (c.links_are_ready.ensures _ _ _ _ c.is_setting.ensures.setting c.requires.ready.front c.requires.link) c.requires.ready.shape.same_destinations c.entered_group-up.ensures.group
+    has_room (setting_of c.args.scenario.now) (counts_of c.args.curves.now) c.args.link.0 c.args.slot _ c.up_of-up.result c.down_of.result c.total_ago-ago.result.total _ c.step.result.0 ((setting_of c.args.scenario.now).wave_time c.args.link.0) c.total-entered.result c.limits-limits.result.storage
+    (c.links_are_ready.ensures _ _ _ _ c.is_setting.ensures.setting c.requires.ready.front c.requires.link) c.requires.ready.shape.same_destinations c.up_of-up.ensures c.down_of.ensures
     (record {
       reach = c.total_ago-ago.ensures.total ((setting_of c.args.scenario.now).wave_time c.args.link.0) (subst (λ (h : ℕ). IsDelay h ((setting_of c.args.scenario.now).wave_time c.args.link.0) c.delays.result.wave) (sym c.step.ensures.value) c.delays.ensures.wave);
       before = c.total_ago-ago.ensures.by;
@@ -28,8 +28,8 @@ overflow_add-room c =
 pub overflow_sub-room : goal.overflow_sub-room
 overflow_sub-room c =
     let has =
-    has_room (setting_of c.args.scenario.now) (counts_of c.args.curves.now) c.args.link.0 c.args.slot _ c.entered_group-up.result c.total_ago-ago.result.total _ c.step.result.0 ((setting_of c.args.scenario.now).wave_time c.args.link.0) c.total-entered.result c.limits-limits.result.storage
-    (c.links_are_ready.ensures _ _ _ _ c.is_setting.ensures.setting c.requires.ready.front c.requires.link) c.requires.ready.shape.same_destinations c.entered_group-up.ensures.group
+    has_room (setting_of c.args.scenario.now) (counts_of c.args.curves.now) c.args.link.0 c.args.slot _ c.up_of-up.result c.down_of.result c.total_ago-ago.result.total _ c.step.result.0 ((setting_of c.args.scenario.now).wave_time c.args.link.0) c.total-entered.result c.limits-limits.result.storage
+    (c.links_are_ready.ensures _ _ _ _ c.is_setting.ensures.setting c.requires.ready.front c.requires.link) c.requires.ready.shape.same_destinations c.up_of-up.ensures c.down_of.ensures
     (record {
       reach = c.total_ago-ago.ensures.total ((setting_of c.args.scenario.now).wave_time c.args.link.0) (subst (λ (h : ℕ). IsDelay h ((setting_of c.args.scenario.now).wave_time c.args.link.0) c.delays.result.wave) (sym c.step.ensures.value) c.delays.ensures.wave);
       before = c.total_ago-ago.ensures.by;
@@ -44,8 +44,8 @@ overflow_sub-room c =
 pub returns-clause-value : goal.returns-clause-value
 returns-clause-value c =
     let has =
-    has_room (setting_of c.args.scenario.now) (counts_of c.args.curves.now) c.args.link.0 c.args.slot _ c.entered_group-up.result c.total_ago-ago.result.total _ c.step.result.0 ((setting_of c.args.scenario.now).wave_time c.args.link.0) c.total-entered.result c.limits-limits.result.storage
-    (c.links_are_ready.ensures _ _ _ _ c.is_setting.ensures.setting c.requires.ready.front c.requires.link) c.requires.ready.shape.same_destinations c.entered_group-up.ensures.group
+    has_room (setting_of c.args.scenario.now) (counts_of c.args.curves.now) c.args.link.0 c.args.slot _ c.up_of-up.result c.down_of.result c.total_ago-ago.result.total _ c.step.result.0 ((setting_of c.args.scenario.now).wave_time c.args.link.0) c.total-entered.result c.limits-limits.result.storage
+    (c.links_are_ready.ensures _ _ _ _ c.is_setting.ensures.setting c.requires.ready.front c.requires.link) c.requires.ready.shape.same_destinations c.up_of-up.ensures c.down_of.ensures
     (record {
       reach = c.total_ago-ago.ensures.total ((setting_of c.args.scenario.now).wave_time c.args.link.0) (subst (λ (h : ℕ). IsDelay h ((setting_of c.args.scenario.now).wave_time c.args.link.0) c.delays.result.wave) (sym c.step.ensures.value) c.delays.ensures.wave);
       before = c.total_ago-ago.ensures.by;

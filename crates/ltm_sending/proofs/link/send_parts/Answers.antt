@@ -8,12 +8,12 @@ pub limit_all-requires-clause-parts : goal.limit_all-requires-clause-parts
 limit_all-requires-clause-parts c d x =
     let inside : d < destinations_of c.args.curves.now = omega (arith, c.requires.ready.shape.same_destinations) in
     rest_fits (setting_of c.args.scenario.now) (counts_of c.args.curves.now) c.args.link.0 c.args.slot (destinations_of c.args.curves.now) _ _ _ d _ c.requires.waiting
-    (rest_is (counts_of c.args.curves.now) c.args.link.0 c.args.slot (destinations_of c.args.curves.now) c.entered_group-up.result _ _ d _ c.entered_group-up.ensures.group (c.first_less.ensures d inside))
+    (rest_is (counts_of c.args.curves.now) c.args.link.0 c.args.slot (destinations_of c.args.curves.now) c.up_of-up.result c.down_of.result _ _ d _ c.up_of-up.ensures c.down_of.ensures (c.first_less.ensures d inside))
     inside
 
 pub returns : goal.returns
 returns c d x =
     let inside : d < destinations_of c.args.curves.now = omega (arith, c.requires.ready.shape.same_destinations) in
     sends_rest (setting_of c.args.scenario.now) (counts_of c.args.curves.now) c.args.link.0 c.args.slot (destinations_of c.args.curves.now) _ _ _ c.exit_limit-limit.result d _ _ c.requires.waiting c.exit_limit-limit.ensures
-    (rest_is (counts_of c.args.curves.now) c.args.link.0 c.args.slot (destinations_of c.args.curves.now) c.entered_group-up.result _ _ d _ c.entered_group-up.ensures.group (c.first_less.ensures d inside))
+    (rest_is (counts_of c.args.curves.now) c.args.link.0 c.args.slot (destinations_of c.args.curves.now) c.up_of-up.result c.down_of.result _ _ d _ c.up_of-up.ensures c.down_of.ensures (c.first_less.ensures d inside))
     (c.limit_all.ensures d (omega arith)) inside

@@ -20,9 +20,9 @@ returns-then-into-eq1 c d x =
 pub send_queue-requires-clause-behind : goal.send_queue-requires-clause-behind
 send_queue-requires-clause-behind c d x =
     let inside : d < destinations_of c.args.curves.now = omega (arith, c.requires.ready.shape.same_destinations) in
-    behind (setting_of c.args.scenario.now) (counts_of c.args.curves.now) c.args.node.0 c.args.slot _ _ _ _ d _ c.queue_at-queue.ensures c.departed_group.ensures (c.row-gone.ensures.counts d inside) x
+    behind (setting_of c.args.scenario.now) (counts_of c.args.curves.now) c.args.node.0 c.args.slot _ _ _ _ d _ c.queue_at-queue.ensures c.dep_of.ensures.group (c.row-gone.ensures.counts d inside) x
 
 pub returns : goal.returns
 returns c d x =
     let inside : d < destinations_of c.args.curves.now = omega (arith, c.requires.ready.shape.same_destinations) in
-    sends_rest (setting_of c.args.scenario.now) (counts_of c.args.curves.now) c.args.node.0 c.args.slot _ _ _ _ d _ _ c.queue_at-queue.ensures c.departed_group.ensures (c.row-gone.ensures.counts d inside) (c.send_queue.ensures d x)
+    sends_rest (setting_of c.args.scenario.now) (counts_of c.args.curves.now) c.args.node.0 c.args.slot _ _ _ _ d _ _ c.queue_at-queue.ensures c.dep_of.ensures.group (c.row-gone.ensures.counts d inside) (c.send_queue.ensures d x)

@@ -19,7 +19,7 @@ loop-slot-preserved c = record {
         c.saturating_sub.ensures,
         c.generated-generated.ensures,
         shows.generated (c.loop-slot.slot + 1) (omega (arith, c.loop-slot-test.true, c.slots-slot-end.ensures, shows.shape.same_slots)),
-        c.arrived-arrived.ensures s version shows,
+        c.arrived-arrived.ensures.shown s version shows,
       );
 }
 

@@ -2,5 +2,5 @@ use Rattle.std.proofs.Common.{◌∙◌}
 use Rattle.ltm_flows.proofs.Showing.{shown_arrived}
 use Rattle.ltm_flows.proofs.loading.Loading.arrived.Goals as goal
 
-pub returns : goal.returns
-returns c s version shows = c.total.ensures.total ∙ shown_arrived s version c.args.self.now shows c.args.boundary
+pub returns-clause-shown : goal.returns-clause-shown
+returns-clause-shown c s version shows = c.total.ensures.total ∙ shown_arrived s version c.args.self.now shows c.args.boundary

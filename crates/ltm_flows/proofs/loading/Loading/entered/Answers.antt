@@ -3,6 +3,6 @@ use Rattle.ltm_curve.specs.Table.{total_of}
 use Rattle.ltm_flows.proofs.Showing.{shown_entered}
 use Rattle.ltm_flows.proofs.loading.Loading.entered.Goals as goal
 
-pub returns : goal.returns
-returns c s version shows =
+pub returns-clause-shown : goal.returns-clause-shown
+returns-clause-shown c s version shows =
     c.total.ensures.total ∙ (ap (λ (k : ℕ). total_of c.args.self.now.curves (2 * c.args.link.0) k) c.slots.ensures ∙ shown_entered s version c.args.self.now shows c.args.link.0)

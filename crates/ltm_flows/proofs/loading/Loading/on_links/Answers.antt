@@ -10,8 +10,10 @@ pub loop-link-preserved : goal.loop-link-preserved
 loop-link-preserved c =
     let curves : Curves = c.args.self.now.curves in
     let link : ℕ = c.loop-link.link in
-    let up : c.total-entered.result ≡ total_of curves (up_of link) (slots_of curves) = c.total-entered.ensures.total ∙ ap (λ (k : ℕ). total_of curves (up_of link) k) c.slots-last.ensures in
-    let down : c.total-left.result ≡ total_of curves (down_of link) (slots_of curves) = c.total-left.ensures.total ∙ ap (λ (k : ℕ). total_of curves (down_of link) k) c.slots-last.ensures in
+    let up : c.total-entered.result ≡ total_of curves (up_of link) (slots_of curves) =
+    c.total-entered.ensures.total ∙ (ap (λ (g : ℕ). total_of curves g c.slots-last.result) c.up_of.ensures ∙ ap (λ (k : ℕ). total_of curves (up_of link) k) c.slots-last.ensures) in
+    let down : c.total-left.result ≡ total_of curves (down_of link) (slots_of curves) =
+    c.total-left.ensures.total ∙ (ap (λ (g : ℕ). total_of curves g c.slots-last.result) c.down_of.ensures ∙ ap (λ (k : ℕ). total_of curves (down_of link) k) c.slots-last.ensures) in
     let few : total_of curves (up_of link) (slots_of curves) ≤ 102400000000 =
     total_few curves (up_of link) (slots_of curves) c.args.self.now.few_destinations (λ d x. c.args.self.now.small (up_of link) d (slots_of curves) (omega (arith, c.args.self.now.groups)) x (omega arith)) in
     record {

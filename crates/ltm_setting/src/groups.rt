@@ -1,0 +1,39 @@
+//! The groups of a scenario's nodes in the curves of its loadings, and how many groups there are. Those of a link are
+//! `up_of` and `down_of` of `ltm_loading`.
+ghost use Rattle.std.specs.Prelude.{◌≡◌, ◌≤◌};
+ghost use Rattle.ltm_loading.specs.Groups.{dep_of, arr_of, groups};
+ghost use Rattle.ltm_setting.specs.Setting.{setting_of};
+
+use crate::readers::{link_count, node_count};
+use ltm_scenario::Scenario;
+use ltm_units::NodeId;
+
+/// The group of what has left the origin of a node: that of the first node follows those of the links, and what has arrived
+/// follows that of the last.
+#[inline]
+pub fn dep_of(scenario: &Scenario, node: NodeId) -> u32
+    requires { node.0 ≤ (setting_of scenario.now).nodes }
+    ensures group { result ≡ dep_of (setting_of scenario.now) node.0 }
+    ensures small { result ≤ 16000 }
+{
+    let _nodes = node_count(scenario);
+    2 * link_count(scenario) + node.0
+}
+
+/// The group of what has arrived.
+#[inline]
+pub fn arr_of(scenario: &Scenario) -> u32
+    ensures group { result ≡ arr_of (setting_of scenario.now) }
+    ensures small { result ≤ 16000 }
+{
+    2 * link_count(scenario) + node_count(scenario)
+}
+
+/// How many groups there are.
+#[inline]
+pub fn group_count(scenario: &Scenario) -> u32
+    ensures count { result ≡ groups (setting_of scenario.now) }
+    ensures few { result ≤ 16001 }
+{
+    arr_of(scenario) + 1
+}
