@@ -1,5 +1,5 @@
 -- What a commit makes of a core.
-use Rattle.std.proofs.Common.{◌≡◌, ℕ, ◌+◌, ◌-◌, ◌*◌, ◌<◌, ◌≤◌, ◌^◌, List, Bool, false, cond, ◌||◌, refl, sym, subst, ◌∙◌, arith, lit<}
+use Rattle.std.proofs.Common.{◌≡◌, ℕ, ◌+◌, ◌-◌, ◌*◌, ◌<◌, ◌≤◌, ◌^◌, List, Bool, false, cond, refl, sym, subst, ◌∙◌, arith, lit<}
 use Rattle.std.specs.Prelude.{Some, is_some}
 use Rattle.std.proofs.lemmas.Bool.{lt-ltb, le-leb}
 use Rattle.ltm_units.specs.declared.places.Pair.{Pair}
@@ -23,7 +23,7 @@ use Rattle.ltm_pairs.proofs.Bools.{same_at}
 use Rattle.ltm_desk.specs.declared.table.Table.{Table}
 use Rattle.ltm_desk.specs.Desks.{desk_at, changed_at}
 use Rattle.ltm_desk.specs.Ready.{IsReady}
-use Rattle.ltm_desk.specs.Committing.{readers, rewritten}
+use Rattle.ltm_desk.specs.Committing.{readers, rewritten, CommitsPair}
 use Rattle.ltm_core.specs.Log.{version_now, settled_of}
 use Rattle.ltm_core.specs.Laws.{RepairLaws}
 use Rattle.ltm_core.specs.Cores.{CoreData, desk_in, repair_of, IsCore}
@@ -38,15 +38,10 @@ same_cells s old new g e k x y l off =
     let inside : differs_at s old.counts new.counts g k ≡ false = (rw (lt-ltb g (groups s) x, le-leb k s.slots l) at off) in
     sym (same_at s old.counts new.counts g k e inside y)
 
--- a table after the commit of a pair with this row
-pub record CommitsInTable (s : Setting) (old : Table) (u v : ℕ) (row : List ℕ) (new : Table) : Type 0 where
-  pub commits : Commits s (desk_at s old) u v row (readers s (desk_at s old) (desk_at s new) u v) (desk_at s new)
-  pub cells : (g k : ℕ) → changed_at s new g k ≡ (changed_at s old g k || rewritten s (desk_at s old) (desk_at s new) g k)
-
 abbrev pub after_commit : CoreData → Table → CoreData
 after_commit d t = record d { table = t; commits = d.commits + 1 }
 
-committed_of : (d : CoreData) (t : Table) (u v : ℕ) (row : List ℕ) → now (repair_of d) ≡ setting_of d.scenario → CommitsInTable (setting_of d.scenario) d.table u v row t →
+committed_of : (d : CoreData) (t : Table) (u v : ℕ) (row : List ℕ) → now (repair_of d) ≡ setting_of d.scenario → CommitsPair (setting_of d.scenario) d.table u v row t →
     Committed (repair_of d) u v row (readers (setting_of d.scenario) (desk_in d) (desk_at (setting_of d.scenario) t) u v) (repair_of (after_commit d t))
 unfolding repair_of
 committed_of d t u v row at step =
@@ -64,11 +59,11 @@ committed_of d t u v row at step =
       };
     }
 
-pub core_commits : (d : CoreData) (t : Table) (u v : ℕ) (row : List ℕ) → IsCore d → CommitsInTable (setting_of d.scenario) d.table u v row t →
+pub core_commits : (d : CoreData) (t : Table) (u v : ℕ) (row : List ℕ) → IsCore d → CommitsPair (setting_of d.scenario) d.table u v row t →
     Committed (repair_of d) u v row (readers (setting_of d.scenario) (desk_in d) (desk_at (setting_of d.scenario) t) u v) (repair_of (after_commit d t))
 core_commits d t u v row is step = committed_of d t u v row (core_now d is) step
 
-pub core_after_commit : RepairLaws → (d : CoreData) (t : Table) (u v : ℕ) (row : List ℕ) → IsCore d → IsReady (setting_of d.scenario) t → CommitsInTable (setting_of d.scenario) d.table u v row t →
+pub core_after_commit : RepairLaws → (d : CoreData) (t : Table) (u v : ℕ) (row : List ℕ) → IsCore d → IsReady (setting_of d.scenario) t → CommitsPair (setting_of d.scenario) d.table u v row t →
     IsCore (after_commit d t)
 core_after_commit laws d t u v row is ready step = record {
   log = is.log;
@@ -81,11 +76,11 @@ core_after_commit laws d t u v row is ready step = record {
   room = is.room;
 }
 
-commits_done : (d : CoreData) (t : Table) (pair : Pair) (row : List ℕ) → IsCore d → CommitsInTable (setting_of d.scenario) d.table pair.node.0 pair.slot row t → CommitsDone d pair row (after_commit d t)
+pub commits_done : (d : CoreData) (t : Table) (pair : Pair) (row : List ℕ) → IsCore d → CommitsPair (setting_of d.scenario) d.table pair.node.0 pair.slot row t → CommitsDone d pair row (after_commit d t)
 unfolding repair_of
 commits_done d t pair row is step = record { commits = core_commits d t pair.node.0 pair.slot row is step; cells = step.cells; keeps = refl }
 
-pub core_commits_at : (d v : CoreData) (t : Table) (pair : Pair) (row : List ℕ) → d ≡ v → IsCore d → CommitsInTable (setting_of d.scenario) d.table pair.node.0 pair.slot row t →
+pub core_commits_at : (d v : CoreData) (t : Table) (pair : Pair) (row : List ℕ) → d ≡ v → IsCore d → CommitsPair (setting_of d.scenario) d.table pair.node.0 pair.slot row t →
     CommitsDone v pair row (after_commit d t)
 core_commits_at d v t pair row same is step = subst (λ (z : CoreData). CommitsDone z pair row (after_commit d t)) same (commits_done d t pair row is step)
 
@@ -107,12 +102,11 @@ fits_of d at is =
     let P : Setting → Type 0 = λ z. d.commits + undone z.nodes z.slots (desk_in d) ≤ (version_now d.log - settled_of d.log) * (z.nodes * z.slots) in
     subst P at is.count.fits
 
-pub commits_fit : RepairLaws → (d v : CoreData) (pair : Pair) (ticket : ℕ) (n : Inputs) → d ≡ v → IsCore d → IsKeptClaim v pair ticket n → (setting_of d.scenario).nodes ≤ 8000 → d.commits + 1 < 2 ^ 128
-commits_fit laws d v pair ticket n same is kept few =
+pub commits_few : RepairLaws → (d : CoreData) (u t : ℕ) (row : List ℕ) → IsCore d → (desk_in d).claimed u t ≡ Some row → (setting_of d.scenario).nodes ≤ 8000 → d.commits + 1 < 2 ^ 128
+commits_few laws d u t row is claimed few =
     let s : Setting = setting_of d.scenario in
-    let here : IsKeptClaim d pair ticket n = kept_in d v pair ticket n same kept in
-    let claim : IsClaim s (desk_in d) pair.node.0 pair.slot n.row = is.ready.sound.claims pair.node.0 pair.slot n.row here.claimed in
-    let some : 1 ≤ undone s.nodes s.slots (desk_in d) = claim_undone laws.undone s (desk_in d) pair.node.0 pair.slot n.row claim.is_node claim.is_slot here.claimed in
+    let claim : IsClaim s (desk_in d) u t row = is.ready.sound.claims u t row claimed in
+    let some : 1 ≤ undone s.nodes s.slots (desk_in d) = claim_undone laws.undone s (desk_in d) u t row claim.is_node claim.is_slot claimed in
     let fits : d.commits + undone s.nodes s.slots (desk_in d) ≤ (version_now d.log - settled_of d.log) * (s.nodes * s.slots) = fits_of d (core_now d is) is.repair in
     let setting : IsSetting s = core_setting d is in
     let pairs : s.nodes * s.slots ≤ 8000 * 10000 = grown s.nodes 8000 s.slots 10000 few setting.small.few_slots in
@@ -120,3 +114,6 @@ commits_fit laws d v pair ticket n same is kept few =
     grown (version_now d.log - settled_of d.log) (2 ^ 63) (s.nodes * s.slots) (8000 * 10000) (omega (is.log.few, arith)) pairs in
     let most : 2 ^ 63 * (8000 * 10000) < 2 ^ 128 = lit< tt in
     omega arith
+
+pub commits_fit : RepairLaws → (d v : CoreData) (pair : Pair) (ticket : ℕ) (n : Inputs) → d ≡ v → IsCore d → IsKeptClaim v pair ticket n → (setting_of d.scenario).nodes ≤ 8000 → d.commits + 1 < 2 ^ 128
+commits_fit laws d v pair ticket n same is kept few = commits_few laws d pair.node.0 pair.slot n.row is (kept_in d v pair ticket n same kept).claimed few

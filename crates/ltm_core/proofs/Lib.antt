@@ -4,6 +4,7 @@ pub mod Reaching
 pub mod Cores
 pub mod Claimings
 pub mod Committings
+pub mod Anew
 pub mod Showings
 pub mod Shapes
 pub mod Looking

@@ -1,6 +1,7 @@
 -- What holds of every run of a core.
-use Rattle.std.proofs.Common.{◌≡◌, ℕ, ◌≤◌, List, [], ◌∷◌, inl, inr, ap, subst, arith}
-use Rattle.std.specs.Prelude.{Option, Some, None, Result, Ok, Err, ◌⊎◌}
+use Rattle.std.proofs.Common.{◌≡◌, ℕ, ◌<◌, ◌≤◌, ◌∙◌, List, [], ◌∷◌, inl, inr, ap, subst, sym, refl, arith}
+use Rattle.std.proofs.lemmas.Bool.{cases_lt}
+use Rattle.std.specs.Prelude.{◌≢◌, Option, Some, None, Result, Ok, Err, ◌⊎◌}
 use Rattle.ltm_curve.specs.Counts.{Counts}
 use Rattle.ltm_curve.specs.Table.{counts_of}
 use Rattle.ltm_scenario.specs.declared.edit.Edit.{Edit}
@@ -10,11 +11,13 @@ use Rattle.ltm_loading.specs.Pairs.{pair_row}
 use Rattle.ltm_loading.specs.Loading.{IsLoading}
 use Rattle.ltm_loading.specs.Differing.{sum_pairs, unlike, row_of, differing as how_many_differ}
 use Rattle.ltm_loading.proofs.PairSums.{le-sum_pairs, sum_pairs-same}
-use Rattle.ltm_loading.proofs.Unlike.{unlike_cases}
+use Rattle.ltm_loading.proofs.Unlike.{unlike_cases, row_of_new}
+use Rattle.ltm_repair.proofs.Cases.{cases_option}
 use Rattle.ltm_flows.specs.Shown.{version_of, curves_of}
 use Rattle.ltm_repair.specs.State.{now}
 use Rattle.ltm_repair.specs.Desk.{Desk, IsAtRest}
-use Rattle.ltm_repair.specs.Counting.{left_to_do, strayed}
+use Rattle.ltm_repair.specs.Counting.{left_to_do, astray, strayed}
+use Rattle.ltm_repair.specs.Answers.{NotYet, Rest}
 use Rattle.ltm_repair.specs.Events.{CoreEvent, GiveBack, Stay}
 use Rattle.ltm_repair.specs.Runs.{CoreRun}
 use Rattle.ltm_repair.specs.Kept.{RestIsLoading, ShownIsLoading}
@@ -22,6 +25,8 @@ use Rattle.ltm_repair.specs.Work.{RepairsOneBatch}
 use Rattle.ltm_repair.specs.Making.{AnswersAreEvents}
 use Rattle.ltm_core.specs.declared.answers.Committed.{Committed}
 use Rattle.ltm_core.specs.declared.answers.Committed.TheVariants.{Ok as Done, Stale}
+use Rattle.ltm_core.specs.declared.answers.Recomputed.{Recomputed}
+use Rattle.ltm_core.specs.declared.answers.Recomputed.TheVariants.{Done as DoneAnew, NotYet as ClaimsOut, Rest as NoneLeft}
 use Rattle.ltm_core.specs.declared.answers.Published.{Published}
 use Rattle.ltm_core.specs.declared.answers.Published.TheVariants.{Done as Shown, NotAtRest}
 use Rattle.ltm_core.specs.Claims.{ClaimData, DoneData}
@@ -29,8 +34,8 @@ use Rattle.ltm_core.specs.Log.{version_now, settled_of}
 use Rattle.ltm_core.specs.Settling.{setting_at}
 use Rattle.ltm_core.specs.Laws.{RunLaws}
 use Rattle.ltm_core.specs.Cores.{CoreData, desk_in, repair_of, IsResting, claims_of, left_of, undone_of, IsCore}
-use Rattle.ltm_core.specs.CoreAnswers.{TellsCommit, TellsGiveBack, TellsAccept, TellsPublish, TellsSettle}
-use Rattle.ltm_core.specs.Runs.{Does, IsRun, CallsAreEvents, commit_event, accept_event, publish_event, settle_event, setting_in, RepairsBatch, HoldsOfRuns, HoldsOfCore}
+use Rattle.ltm_core.specs.CoreAnswers.{TellsCommit, TellsRecompute, TellsGiveBack, TellsAccept, TellsPublish, TellsSettle}
+use Rattle.ltm_core.specs.Runs.{Does, IsRun, CallsAreEvents, commit_event, recompute_events, accept_event, publish_event, settle_event, setting_in, RepairsBatch, HoldsOfRuns, HoldsOfCore}
 use Rattle.ltm_core.proofs.Cores.{core_now}
 use Rattle.ltm_core.proofs.Claimings.{claim_kept_or_not}
 
@@ -38,6 +43,11 @@ use Rattle.ltm_core.proofs.Claimings.{claim_kept_or_not}
 commit_happens : (d e : CoreData) (done : DoneData) (answer : Committed) → TellsCommit d done answer e → Does d (commit_event done answer) e
 commit_happens d e done (Done scratch) h = (done.solved.inputs.row, _, h.1.commits)
 commit_happens d e done (Stale claimed_at now scratch) h = ap repair_of h.3
+
+recompute_happens : AnswersAreEvents → (d e : CoreData) (answer : Recomputed) → TellsRecompute d answer e → IsRun d (recompute_events answer) e
+recompute_happens law d e (DoneAnew pair) h = (h.between, law.claim (repair_of d) (repair_of h.between) _ h.claims, (e, (h.row, _, h.commits.commits), refl))
+recompute_happens law d e ClaimsOut h = (e, law.claim (repair_of d) (repair_of e) NotYet h.0, refl)
+recompute_happens law d e NoneLeft h = (e, law.claim (repair_of d) (repair_of e) Rest h.0, refl)
 
 give_back_happens : (d e : CoreData) (claim : ClaimData) → TellsGiveBack d claim e → Does d (GiveBack claim.pair.node.0 claim.pair.slot) e ⊎ Does d Stay e
 give_back_happens d e claim h = elim (claim_kept_or_not d claim.pair claim.ticket claim.inputs) [ inl kept ↦ inl (h.kept kept) | inr gone ↦ inr (ap repair_of (h.stale gone)) ]
@@ -58,6 +68,7 @@ pub calls_are_events : AnswersAreEvents → CallsAreEvents
 calls_are_events law = record {
   claim = λ d e answer h. law.claim (repair_of d) (repair_of e) _ h;
   commit = commit_happens;
+  recompute = recompute_happens law;
   give_back = give_back_happens;
   accept = accept_happens;
   publish = publish_happens;
@@ -123,19 +134,33 @@ shows_all : ShownIsLoading → (d : CoreData) → IsCore d → version_of d.show
 unfolding repair_of IsResting
 shows_all law d is at = let both = (law (repair_of d) is.repair).up_to_date at in (both.1, both.0)
 
--- where nothing has strayed from an earlier loading, what is left to do is what differs from it
-left_is_difference : (s q : Setting) (d : Desk) (before after : Counts) → q.nodes ≡ s.nodes → strayed s.slots q before d ≡ 0 → left_to_do s after d ≡ how_many_differ q s before after
+-- where all inputs of an earlier loading's pairs are kept, and what is kept has not strayed from it, what is kept is what it reads
+kept_is_earlier : (q : Setting) (d : Desk) (before : Counts) (u t : ℕ) → (t < q.slots → d.kept u t ≢ None) → astray (d.kept u t) (row_of q before u t) ≡ 0 → d.kept u t ≡ row_of q before u t
+kept_is_earlier q d before u t all home =
+    elim (cases_option (d.kept u t)) [
+      | inl none ↦ elim (cases_lt t q.slots) [
+        | inl old ↦ absurd (all old none)
+        | inr new ↦ none ∙ sym (row_of_new q before u t new)
+      ]
+      | inr some ↦ elim (unlike_cases (d.kept u t) (row_of q before u t)) [
+        | inl kept ↦ kept.0
+        | inr other ↦
+            let one : astray (d.kept u t) (row_of q before u t) ≡ unlike (d.kept u t) (row_of q before u t) = rw some.1 refl in
+            absurd (let apart : unlike (d.kept u t) (row_of q before u t) ≡ 1 = other.1 in omega (one, apart, home, arith))
+      ]
+    ]
+
+-- then what is left to do is what differs from it
+left_is_difference : (s q : Setting) (d : Desk) (before after : Counts) → q.nodes ≡ s.nodes → ((u t : ℕ) → u < s.nodes → t < q.slots → d.kept u t ≢ None) →
+    strayed s.slots q before d ≡ 0 → left_to_do s after d ≡ how_many_differ q s before after
 unfolding strayed left_to_do how_many_differ
-left_is_difference s q d before after same none =
-    let F : ℕ → ℕ → ℕ = λ u t. unlike (d.kept u t) (row_of q before u t) in
+left_is_difference s q d before after same all none =
+    let F : ℕ → ℕ → ℕ = λ u t. astray (d.kept u t) (row_of q before u t) in
     sum_pairs-same s.nodes s.slots (λ u t. unlike (d.kept u t) (Some (pair_row s after u t))) (λ u t. unlike (row_of q before u t) (Some (pair_row s after u t)))
     (λ u t x l.
     let low : F u t ≤ sum_pairs q.nodes s.slots F = le-sum_pairs q.nodes s.slots F u t (omega (same, x, arith)) l in
     let zero : F u t ≡ 0 = omega (none, low, arith) in
-    elim (unlike_cases (d.kept u t) (row_of q before u t)) [
-      | inl kept ↦ ap (λ o. unlike o (Some (pair_row s after u t))) kept.0
-      | inr other ↦ absurd (let one : F u t ≡ 1 = other.1 in omega arith)
-    ])
+    ap (λ o. unlike o (Some (pair_row s after u t))) (kept_is_earlier q d before u t (λ old. all u t x old) zero))
 
 left_since : (d : CoreData) → IsCore d → d.commits ≡ 0 → (before after : Counts) → IsLoading (setting_at d.log (settled_of d.log)) before → IsLoading (setting_in d) after →
     left_of d after ≡ how_many_differ (setting_at d.log (settled_of d.log)) (setting_in d) before after
@@ -143,7 +168,8 @@ unfolding left_of repair_of
 left_since d is none before after one two =
     let low : settled_of d.log ≤ version_now d.log = settled_low d is in
     let most : strayed (setting_in d).slots (setting_at d.log (settled_of d.log)) before (desk_in d) ≤ d.commits = is.repair.count.covers before one in
-    left_is_difference (setting_in d) (setting_at d.log (settled_of d.log)) (desk_in d) before after (is.repair.history.network (settled_of d.log) low).nodes (omega arith)
+    left_is_difference (setting_in d) (setting_at d.log (settled_of d.log)) (desk_in d) before after (is.repair.history.network (settled_of d.log) low).nodes
+    (is.repair.count.none_lost none) (omega arith)
 
 pub core_holds : RestIsLoading → ShownIsLoading → (d : CoreData) → IsCore d → HoldsOfCore d
 core_holds rest shown d is = record {

@@ -10,7 +10,7 @@ use Rattle.ltm_scenario.specs.Edits.{edited_all}
 use Rattle.ltm_loading.specs.Pairs.{shape_at}
 use Rattle.ltm_setting.specs.Setting.{setting_of}
 use Rattle.ltm_flows.specs.Shown.{version_of, SameLoading}
-use Rattle.ltm_repair.specs.Answers.{ClaimAnswer, Got, NotYet, Rest}
+use Rattle.ltm_repair.specs.Answers.{ClaimAnswer, Got, NotYet, Rest, AnswersClaim}
 use Rattle.ltm_repair.specs.Events.{Committed as CommitHappened, GaveBack, Accepted, Published as PublishHappened, Settled}
 use Rattle.ltm_desk.specs.Committing.{readers, rewritten}
 use Rattle.ltm_desk.specs.Batches.{touches}
@@ -19,6 +19,8 @@ use Rattle.ltm_core.specs.declared.answers.Claimed.{Claimed}
 use Rattle.ltm_core.specs.declared.answers.Claimed.TheVariants.{Got as GotClaim, NotYet as NoneYet, Rest as AtRest}
 use Rattle.ltm_core.specs.declared.answers.Committed.{Committed}
 use Rattle.ltm_core.specs.declared.answers.Committed.TheVariants.{Ok as Done, Stale}
+use Rattle.ltm_core.specs.declared.answers.Recomputed.{Recomputed}
+use Rattle.ltm_core.specs.declared.answers.Recomputed.TheVariants.{Done as DoneAnew, NotYet as ClaimsOut, Rest as NoneLeft}
 use Rattle.ltm_core.specs.declared.answers.Published.{Published}
 use Rattle.ltm_core.specs.declared.answers.Published.TheVariants.{Done as Shown, NotAtRest}
 use Rattle.ltm_core.specs.Claims.{ClaimData, DoneData}
@@ -77,6 +79,21 @@ abbrev pub TellsCommit : CoreData → DoneData → Committed → CoreData → Ty
 TellsCommit old done (Done scratch) new = IsKeptClaim old done.pair done.ticket done.solved.inputs × CommitsDone old done.pair done.solved.inputs.row new
 TellsCommit old done (Stale claimed_at now scratch) new =
     (IsKeptClaim old done.pair done.ticket done.solved.inputs → ⊥) × (claimed_at ≡ done.ticket) × (now ≡ version_now old.log) × (new ≡ old)
+
+-- ---- a pair is computed anew: a claim of it leads to a core between, which no call leaves, and its commit from there to
+-- the new one
+pub record RecomputesPair (old : CoreData) (pair : Pair) (new : CoreData) : Type 0 where
+  pub between : CoreData
+  pub row : List ℕ
+  pub claims : AnswersClaim (repair_of old) (Got pair.node.0 pair.slot (version_now old.log) row) (repair_of between)
+  pub keeps : KeepsAll old between
+  pub commits : CommitsDone between pair row new
+
+-- or there is no pair yet, or none is left
+abbrev pub TellsRecompute : CoreData → Recomputed → CoreData → Type 0
+TellsRecompute old (DoneAnew pair) new = RecomputesPair old pair new
+TellsRecompute old ClaimsOut new = AnswersClaim (repair_of old) NotYet (repair_of new) × KeepsAll old new
+TellsRecompute old NoneLeft new = AnswersClaim (repair_of old) Rest (repair_of new) × KeepsAll old new
 
 -- ---- give back: the pair is active again where its claim is kept; else nothing changes
 pub record TellsGiveBack (old : CoreData) (claim : ClaimData) (new : CoreData) : Type 0 where

@@ -12,18 +12,20 @@ use Rattle.ltm_setting.specs.Setting.{setting_of}
 use Rattle.ltm_flows.specs.Shown.{version_of, curves_of}
 use Rattle.ltm_repair.specs.Answers.{AnswersClaim}
 use Rattle.ltm_repair.specs.Making.{claim_event}
-use Rattle.ltm_repair.specs.Events.{CoreEvent, Accepted, Claim, GiveBack, Commit, Accept, Publish, Settle, Stay, Happens}
+use Rattle.ltm_repair.specs.Events.{CoreEvent, Accepted, Look, Claim, GiveBack, Commit, Accept, Publish, Settle, Stay, Happens}
 use Rattle.ltm_repair.specs.Runs.{in_all, look_in, claim_in, give_back_in, commit_in, batch_in, work_in, commits_of, commits_in, AcceptsNothing}
 use Rattle.ltm_core.specs.declared.answers.Claimed.{Claimed}
 use Rattle.ltm_core.specs.declared.answers.Committed.{Committed}
 use Rattle.ltm_core.specs.declared.answers.Committed.TheVariants.{Ok as Done, Stale}
+use Rattle.ltm_core.specs.declared.answers.Recomputed.{Recomputed}
+use Rattle.ltm_core.specs.declared.answers.Recomputed.TheVariants.{Done as DoneAnew, NotYet as ClaimsOut, Rest as NoneLeft}
 use Rattle.ltm_core.specs.declared.answers.Published.{Published}
 use Rattle.ltm_core.specs.declared.answers.Published.TheVariants.{Done as Shown, NotAtRest}
 use Rattle.ltm_core.specs.Claims.{ClaimData, DoneData}
 use Rattle.ltm_core.specs.Log.{version_now, settled_of}
 use Rattle.ltm_core.specs.Settling.{setting_at}
 use Rattle.ltm_core.specs.Cores.{CoreData, repair_of, IsResting, claims_of, left_of, undone_of, IsCore}
-use Rattle.ltm_core.specs.CoreAnswers.{answer_in, TellsCommit, TellsGiveBack, TellsAccept, TellsPublish, TellsSettle}
+use Rattle.ltm_core.specs.CoreAnswers.{answer_in, TellsCommit, TellsRecompute, TellsGiveBack, TellsAccept, TellsPublish, TellsSettle}
 
 -- the event leads from one core to another
 abbrev pub Does : CoreData → CoreEvent → CoreData → Type 0
@@ -34,10 +36,16 @@ abbrev pub IsRun : CoreData → List CoreEvent → CoreData → Type 0
 IsRun d [] e = e ≡ d
 IsRun d (x ∷ xs) e = (m : CoreData) × Does d x m × IsRun m xs e
 
--- ---- whatever a call answers, an event has happened
+-- ---- whatever a call answers, an event has happened, or two
 abbrev pub commit_event : DoneData → Committed → CoreEvent
 commit_event done (Done scratch) = Commit done.pair.node.0 done.pair.slot
 commit_event done (Stale claimed_at now scratch) = Stay
+
+-- a pair that is computed anew is claimed and committed; where there is none, it is looked for
+abbrev pub recompute_events : Recomputed → List CoreEvent
+recompute_events (DoneAnew pair) = Claim pair.node.0 pair.slot ∷ Commit pair.node.0 pair.slot ∷ []
+recompute_events ClaimsOut = Look ∷ []
+recompute_events NoneLeft = Look ∷ []
 
 abbrev pub accept_event : Result (Unit {0}) (List Edit × EditFault) → CoreEvent
 accept_event (Ok taken) = Accept
@@ -54,6 +62,7 @@ settle_event None = Stay
 pub record CallsAreEvents : Type 0 where
   pub claim : (d e : CoreData) (answer : Claimed) → AnswersClaim (repair_of d) (answer_in answer) (repair_of e) → Does d (claim_event (answer_in answer)) e
   pub commit : (d e : CoreData) (done : DoneData) (answer : Committed) → TellsCommit d done answer e → Does d (commit_event done answer) e
+  pub recompute : (d e : CoreData) (answer : Recomputed) → TellsRecompute d answer e → IsRun d (recompute_events answer) e
   pub give_back : (d e : CoreData) (claim : ClaimData) → TellsGiveBack d claim e → Does d (GiveBack claim.pair.node.0 claim.pair.slot) e ⊎ Does d Stay e
   pub accept : (d e : CoreData) (batch : List Edit) (answer : Result (Unit {0}) (List Edit × EditFault)) → TellsAccept d batch answer e → Does d (accept_event answer) e
   pub publish : (d e : CoreData) (answer : Published) → TellsPublish d answer e → Does d (publish_event answer) e

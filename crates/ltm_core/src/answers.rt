@@ -1,6 +1,7 @@
 //! What the calls of a core answer.
 use crate::claim::Claim;
 use crate::scratch::Scratch;
+use ltm_units::Pair;
 
 /// What a claim found.
 pub enum Claimed {
@@ -24,6 +25,17 @@ pub enum Committed {
         now: u64,
         scratch: Scratch,
     },
+}
+
+/// What came of a pair that was to be computed anew.
+#[derive(Clone, Copy, Debug, PartialEq, Eq)]
+pub enum Recomputed {
+    /// It was claimed and committed.
+    Done(Pair),
+    /// Claims are out, and no other pair of their slot has to be worked on.
+    NotYet,
+    /// No pair is active or claimed.
+    Rest,
 }
 
 /// What became of a publishing.

@@ -5,7 +5,7 @@ ghost use Rattle.ltm_scenario.specs.Valid.{IsValid};
 ghost use Rattle.ltm_core.specs.Reaching.{MayReach};
 
 use ltm_scenario::Scenario;
-use ltm_setting::{destination_count, link_count, node_count, slot_count};
+use ltm_setting::{destination_count, group_count, slot_count};
 
 /// The most cells of a case.
 const MOST_CELLS: u128 = 54_000_000;
@@ -17,8 +17,7 @@ fn cells_over(scenario: &Scenario, slots: u32) -> u128
     requires small { cells scenario.now ≤ most_cells }
     ensures { result ≡ cells_over scenario.now slots }
 {
-    let groups = 2 * link_count(scenario) + node_count(scenario) + 1;
-    let first = u128::from(2 * groups * destination_count(scenario));
+    let first = u128::from(2 * group_count(scenario) * destination_count(scenario));
     let each = (scenario.cells() - first) / u128::from(slot_count(scenario));
     u128::from(slots) * each + first
 }

@@ -11,6 +11,7 @@ ghost use Rattle.ltm_core.specs.Log.{batches_of, version_now, scenario_now};
 
 mod batches;
 mod claiming;
+mod recomputing;
 mod showing;
 
 use crate::laws::repair_laws;

@@ -43,7 +43,7 @@ fn run_laws()
     work_is_bounded();
 }
 
-/// Whatever a call of a core answers, an event has happened.
+/// Whatever a call of a core answers, an event has happened; where a pair is computed anew, two.
 pub fn calls_are_events()
     ensures { CallsAreEvents }
 {

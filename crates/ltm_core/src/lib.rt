@@ -15,7 +15,7 @@ mod laws;
 mod producing;
 mod scratch;
 
-pub use answers::{Claimed, Committed, Published};
+pub use answers::{Claimed, Committed, Published, Recomputed};
 pub use claim::{Claim, Done};
 pub use entry::LogEntry;
 pub use kept_core::Core;

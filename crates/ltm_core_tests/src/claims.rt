@@ -34,6 +34,32 @@ fn all_pairs_are_repaired_slot_by_slot(rt: HostRuntime) {
     );
 }
 
+// While one node of slot 0 is claimed, the other is computed anew beside it, and then nothing more is to be had until the claim
+// is committed. In all the same pairs are committed.
+#[test]
+fn pairs_are_computed_anew_beside_a_claim(rt: HostRuntime) {
+    tell(
+        &rt,
+        rt.alloc(),
+        Case::OneRoad,
+        &[
+            (Act::Accept(Change::FasterWave), Told::Yes),
+            (Act::Claim, Told::Pair(0, 0)),
+            (Act::Recompute, Told::Pair(1, 0)),
+            (Act::Recompute, Told::NotYet),
+            (Act::CommitLast, Told::Yes),
+            (Act::Recompute, Told::Pair(0, 1)),
+            (Act::Claim, Told::Pair(1, 1)),
+            (Act::CommitLast, Told::Yes),
+            (Act::Drain, Told::Steps(4)),
+            (Act::Recompute, Told::Rest),
+            (Act::Publish, Told::Version(1)),
+            (Act::Totals, Told::Numbers([1000, 1000, 0, 0])),
+            (Act::Count, Told::Commits(8)),
+        ],
+    );
+}
+
 // A batch voids the claim: its work is stale, and the same pair can be claimed again.
 #[test]
 fn work_of_an_older_batch_is_stale(rt: HostRuntime) {

@@ -1,6 +1,6 @@
 //! A core on which one thing at a time is done.
 use crate::roads::{Case, Change, batch_of, scenario_of};
-use ltm_core::{Claim, Claimed, Committed, Core, Published, Scratch};
+use ltm_core::{Claim, Claimed, Committed, Core, Published, Recomputed, Scratch};
 use ltm_scenario::{Batch, EditCause};
 use ltm_units::Steps;
 use ltm_workers::{Bench, Driven, drain, drive};
@@ -18,6 +18,8 @@ pub enum Act {
     CommitOther,
     /// The claim that was made last is given back.
     GiveBack,
+    /// A pair is claimed, worked on and committed in one call.
+    Recompute,
     /// Claims, works and commits until nothing is left to do.
     Work,
     /// The same by a drain.
@@ -39,7 +41,7 @@ pub enum Told {
     Yes,
     /// The batch came back with so many edits, and the edit of this place was refused.
     Refused(u64, u32),
-    /// The node and the slot that are claimed.
+    /// The node and the slot that are claimed, or computed anew.
     Pair(u32, u32),
     NotYet,
     Rest,
@@ -110,6 +112,18 @@ fn finish(core: &mut Core, claim: Claim, steps: &mut Steps) -> Told {
 fn give_back(core: &mut Core, claim: Claim) -> Told {
     let _ = core.give_back(claim);
     Told::Yes
+}
+
+/// Computes a pair anew in one call.
+fn recompute(core: &mut Core) -> Told {
+    let Ok(mut scratch) = core.scratch() else {
+        return Told::Nothing;
+    };
+    match core.recompute(&mut scratch) {
+        Recomputed::Done(pair) => Told::Pair(pair.node.0, pair.slot),
+        Recomputed::NotYet => Told::NotYet,
+        Recomputed::Rest => Told::Rest,
+    }
 }
 
 /// Claims a pair, works on it and commits it; none at rest or where claims are out.
@@ -275,6 +289,7 @@ impl Rig {
             Act::CommitLast => self.commit_last(),
             Act::CommitOther => self.commit_other(),
             Act::GiveBack => self.give_back(),
+            Act::Recompute => recompute(&mut self.core),
             Act::Work => work(&mut self.core),
             Act::Drain => drained(&mut self.core),
             Act::Drive(schedule) => driven(&mut self.core, schedule),

@@ -4,7 +4,7 @@ ghost use Rattle.ltm_scenario.specs.Valid.{IsValid};
 
 use ltm_casefile::read_case;
 use ltm_diagram::Diagram;
-use ltm_io::{Doc, MemFolder};
+use ltm_io::MemFolder;
 use ltm_scenario::{Batch, Edit, Scenario};
 use ltm_units::{Name, NoMemory, Units};
 use std::alloc::Global;
@@ -40,47 +40,35 @@ pub enum Change {
     FiveSlotsThenZ,
 }
 
-fn one_road(folder: &mut MemFolder, setup: &[u8]) -> Result<(), NoMemory> {
-    folder.put(Doc::Setup, setup)?;
-    folder.put(
-        Doc::Links,
-        b"link,from,to,length_m,free_kmh,wave_kmh,jam_per_km\na,n1,n2,20,36,18,150\n",
-    )?;
-    folder.put(
-        Doc::Demand,
-        b"origin,destination,from_slot,to_slot,vehicles\nn1,n2,0,2,1\n",
-    )?;
-    folder.put(
-        Doc::Splits,
-        b"node,destination,from_slot,weights\nn1,n2,0,a=1\n",
+fn one_road(alloc: Global, setup: &str) -> Result<MemFolder, NoMemory> {
+    MemFolder::of_case(
+        alloc,
+        &[],
+        setup,
+        "link,from,to,length_m,free_kmh,wave_kmh,jam_per_km\na,n1,n2,20,36,18,150\n",
+        "origin,destination,from_slot,to_slot,vehicles\nn1,n2,0,2,1\n",
+        "node,destination,from_slot,weights\nn1,n2,0,a=1\n",
     )
 }
 
-fn two_roads(folder: &mut MemFolder) -> Result<(), NoMemory> {
-    folder.put(Doc::Setup, b"step_ms,slots,origin_capacity\n1000,12,1\n")?;
-    folder.put(
-        Doc::Links,
-        b"link,from,to,length_m,free_kmh,wave_kmh,jam_per_km\na,n1,n2,20,36,18,150\nb,n2,n3,20,36,18,150\n",
-    )?;
-    folder.put(
-        Doc::Demand,
-        b"origin,destination,from_slot,to_slot,vehicles\nn1,n3,0,5,5\n",
-    )?;
-    folder.put(
-        Doc::Splits,
-        b"node,destination,from_slot,weights\nn1,n3,0,a=1\nn2,n3,0,b=1\n",
+fn two_roads(alloc: Global) -> Result<MemFolder, NoMemory> {
+    MemFolder::of_case(
+        alloc,
+        &[],
+        "step_ms,slots,origin_capacity\n1000,12,1\n",
+        "link,from,to,length_m,free_kmh,wave_kmh,jam_per_km\na,n1,n2,20,36,18,150\nb,n2,n3,20,36,18,150\n",
+        "origin,destination,from_slot,to_slot,vehicles\nn1,n3,0,5,5\n",
+        "node,destination,from_slot,weights\nn1,n3,0,a=1\nn2,n3,0,b=1\n",
     )
 }
 
 /// The files of a case.
 fn files(alloc: Global, case: Case) -> Result<MemFolder, NoMemory> {
-    let mut folder = MemFolder::create(alloc, &[])?;
     match case {
-        Case::OneRoad => one_road(&mut folder, b"step_ms,slots,origin_capacity\n1000,4,1\n")?,
-        Case::ShortRoad => one_road(&mut folder, b"step_ms,slots,origin_capacity\n1000,3,1\n")?,
-        Case::TwoRoads => two_roads(&mut folder)?,
+        Case::OneRoad => one_road(alloc, "step_ms,slots,origin_capacity\n1000,4,1\n"),
+        Case::ShortRoad => one_road(alloc, "step_ms,slots,origin_capacity\n1000,3,1\n"),
+        Case::TwoRoads => two_roads(alloc),
     }
-    Ok(folder)
 }
 
 /// The scenario of a case.

@@ -1,11 +1,13 @@
 -- A batch is taken in.
-use Rattle.std.proofs.Common.{◌≡◌, ℕ, ◌<◌, ◌≤◌, ◌&&◌, ◌||◌, not, nat_le, List, [], ◌∷◌, Bool, true, false, if◌then◌else◌, refl, ap, sym, ◌∙◌, subst, arith, inl, inr, ◌⊎◌}
+use Rattle.std.proofs.Common.{◌≡◌, ℕ, ◌<◌, ◌≤◌, ◌&&◌, ◌||◌, not, nat_le, ◌-◌, List, [], ◌∷◌, ◌++◌, take, drop, Bool, true, false, if◌then◌else◌, refl, ap, sym, ◌∙◌, subst, arith, inl, inr, ◌⊎◌}
 use Rattle.std.proofs.Math.Path.{fun_ext}
-use Rattle.std.specs.Prelude.{Some, None, is_some}
+use Rattle.std.specs.Prelude.{Some, None, option_map, is_some}
 use Rattle.std.proofs.lemmas.Bool.{cases_lt, le-leb, lt-leb}
-use Rattle.ltm_curve.specs.Table.{counts_of, groups_of, IsIn}
-use Rattle.ltm_curve.specs.Cells.{cell_groups, is_changed}
-use Rattle.ltm_node.specs.Shape.{width}
+use Rattle.ltm_curve.specs.Counts.{Counts}
+use Rattle.ltm_curve.specs.Table.{counts_of}
+use Rattle.ltm_curve.specs.Cells.{is_changed}
+use Rattle.ltm_node.specs.declared.shape.NodeShape.{NodeShape}
+use Rattle.ltm_node.specs.Shape.{width, counts_width, counts_begin}
 use Rattle.ltm_scenario.specs.declared.edit.Edit.{Edit}
 use Rattle.ltm_network.specs.Network.{NetworkData}
 use Rattle.ltm_scenario.specs.Data.{ScenarioData}
@@ -14,7 +16,8 @@ use Rattle.ltm_loading.specs.Setting.{Setting, IsSetting}
 use Rattle.ltm_loading.specs.Groups.{groups}
 use Rattle.ltm_loading.specs.Flows.{position}
 use Rattle.ltm_loading.specs.Networks.{SameNetwork}
-use Rattle.ltm_loading.specs.Pairs.{shape_at}
+use Rattle.ltm_loading.specs.Pairs.{shape_at, count_row}
+use Rattle.ltm_loading.proofs.Setters.{counts_set_only_holds, of_group}
 use Rattle.ltm_setting.specs.Setting.{setting_of}
 use Rattle.ltm_frontier.specs.declared.frontier.Frontier.{Frontier}
 use Rattle.ltm_frontier.specs.Frontier.{nodes_of as nodes_in, slots_of as slots_in, is_active, is_claimed, Voids, Activates}
@@ -27,16 +30,16 @@ use Rattle.ltm_pairs.specs.Reaches.{lies_in_one}
 use Rattle.ltm_desk.specs.declared.table.Table.{Table}
 use Rattle.ltm_desk.specs.declared.rows.KeptRows.{KeptRows}
 use Rattle.ltm_desk.specs.Rows.{row_of, kept_row}
-use Rattle.ltm_desk.specs.Pairs.{of_pairs, of_cells}
-use Rattle.ltm_desk.specs.Desks.{desk_at, place_of, changed_at}
+use Rattle.ltm_desk.specs.Pairs.{of_cells}
+use Rattle.ltm_desk.specs.Desks.{filled, kept_of, desk_at, place_of, changed_at}
 use Rattle.ltm_desk.specs.Ready.{FitsTable, IsReady, HasRows}
 use Rattle.ltm_desk.specs.Growing.{horizon_of, at_horizon, HasRoom, Lengthens}
-use Rattle.ltm_desk.specs.Batches.{LeadsTo, touches, TakesIn, FitsUnder, TablesFit}
+use Rattle.ltm_desk.specs.Batches.{LeadsTo, touches, TakesIn, TablesFit}
 use Rattle.ltm_desk.proofs.Bools.{or_false, or_right}
 use Rattle.ltm_desk.proofs.RowPlaces.{stays_kept, none_kept}
 use Rattle.ltm_desk.proofs.Desks.{of_pair, past_pair, cases_pairs, active_is, claimed_is, active_past, claimed_past, claim_off}
 use Rattle.ltm_desk.proofs.Standing.{same_place}
-use Rattle.ltm_desk.proofs.Committing.{cell_of, no_cell, cases_cells}
+use Rattle.ltm_desk.proofs.ChangedCells.{cell_of, no_cell, cases_cells}
 
 -- ---- one network, and horizons
 pub one_network : (a b : ScenarioData) → SameShape a b → SameNetwork (setting_of a) (setting_of b)
@@ -62,12 +65,15 @@ longer a b same = omega (arith, horizon_is a, horizon_is b, same.slots)
 shape_same : (r s : Setting) (u : ℕ) → SameNetwork r s → shape_at r u ≡ shape_at s u
 shape_same r s u same = rw (same.ins, same.outs, same.destinations, same.own) refl
 
-rows_same : (r s : Setting) (m n : ℕ) (k : KeptRows) → SameNetwork r s → m ≡ n → HasRows r m k → HasRows s n k
-rows_same r s m n k same slots has = record {
+rows_same : (r s : Setting) (counted : Bool) (m n : ℕ) (k : KeptRows) → SameNetwork r s → m ≡ n → HasRows r counted m k → HasRows s counted n k
+rows_same r s counted m n k same slots has = record {
   nodes = has.nodes ∙ same.nodes;
   same_slots = has.same_slots ∙ slots;
-  widths = λ u x. has.widths u (omega (arith, x, same.nodes)) ∙ ap width (shape_same r s u same);
+  widths = λ u x. has.widths u (omega (arith, x, same.nodes)) ∙ ap (λ (z : NodeShape). if counted then width z else width z - counts_width z) (shape_same r s u same);
 }
+
+filled_same : (r s : Setting) (c : Counts) (u v : ℕ) (row : List ℕ) → SameNetwork r s → filled r c u v row ≡ filled s c u v row
+filled_same r s c u v row same = rw (same.ins, same.in_link, same.outs, same.out_link, same.destinations, same.own, same.nodes, same.links) refl
 
 all_groups : (r s : Setting) → SameNetwork r s → groups r ≡ groups s
 all_groups r s same = omega (arith, same.nodes, same.links)
@@ -90,8 +96,8 @@ fits_same r s t same fits =
     } in
     record {
       curves = record { same_groups = fits.curves.same_groups ∙ all; same_destinations = fits.curves.same_destinations ∙ same.destinations; same_slots = refl };
-      kept = rows_same r n r.slots (horizon_of t) t.kept there slots fits.kept;
-      claims = rows_same r n 1 1 t.claims there refl fits.claims;
+      kept = rows_same r n false r.slots (horizon_of t) t.kept there slots fits.kept;
+      claims = rows_same r n true 1 1 t.claims there refl fits.claims;
       frontier = record { nodes = fits.frontier.nodes ∙ same.nodes; slots = fits.frontier.slots ∙ slots };
       index = record { links = fits.index.links ∙ same.links; slots = fits.index.slots ∙ slots };
       changed = record { same_groups = fits.changed.same_groups ∙ all; same_slots = fits.changed.same_slots ∙ slots };
@@ -164,6 +170,29 @@ free_then before after edits t g m f e u v is x =
     let network : SameNetwork (setting_of before) (setting_of after) = one_network before after is.leads.shape in
     is.news.claims.pairs u v ∙ (is.marks.claims.pairs u v ∙ is.voids.none u v (omega (arith, x, network.nodes, is.ready.fits.frontier.nodes, is.grows.pairs.nodes)))
 
+-- what is kept of the pairs that were there stays, and the counts of their nodes do
+kept_then : (before after : ScenarioData) (edits : List Edit) (t g : Table) (m f e : Frontier) (u v : ℕ) → TakesBatch before after edits t g m f e → u < (setting_of after).nodes → v < (setting_of before).slots →
+    kept_of (setting_of after) (record g { frontier = e }) u v ≡ kept_of (setting_of before) t u v
+kept_then before after edits t g m f e u v is x l =
+    let r : Setting = setting_of before in
+    let s : Setting = setting_of after in
+    let network : SameNetwork r s = one_network before after is.leads.shape in
+    let all : groups r ≡ groups s = all_groups r s network in
+    let nodes : r.nodes ≡ s.nodes = network.nodes in
+    let horizon : horizon_of t ≡ r.slots = is.ready.fits.curves.same_slots in
+    let row : kept_row g.kept u v ≡ kept_row t.kept u v =
+    stays_kept t.kept g.kept u v is.grows.kept (omega (arith, x, nodes, is.ready.fits.kept.nodes)) (omega (arith, l, is.ready.fits.kept.same_slots)) in
+    let counts : count_row s (counts_of g.curves) u v ≡ count_row s (counts_of t.curves) u v =
+    counts_set_only_holds s (counts_of g.curves) (counts_of t.curves) u v is.setting x
+    (λ a d of k. is.grows.counts a d v (record {
+      is_group = omega (arith, of_group s u a d is.setting x of, all, is.ready.fits.curves.same_groups);
+      is_destination = omega (arith, k, network.destinations, is.ready.fits.curves.same_destinations);
+      is_boundary = omega (arith, l, horizon);
+    })) in
+    ap (option_map (filled s (counts_of g.curves) u v)) row
+    ∙ (ap (λ (z : List ℕ). option_map (λ (y : List ℕ). take (counts_begin (shape_at s u)) y ++ (z ++ drop (counts_begin (shape_at s u)) y)) (kept_row t.kept u v)) counts
+    ∙ sym (ap (λ (f : List ℕ → List ℕ). option_map f (kept_row t.kept u v)) (fun_ext (λ y. filled_same r s (counts_of t.curves) u v y network))))
+
 accepts_desk : (before after : ScenarioData) (edits : List Edit) (t g : Table) (m f e : Frontier) → TakesBatch before after edits t g m f e →
     Accepts (setting_of before) (setting_of after) (desk_at (setting_of before) t) (touches before edits) (desk_at (setting_of after) (record g { frontier = e }))
 unfolding desk_at
@@ -191,16 +220,16 @@ accepts_desk before after edits t g m f e is =
         }) (omega (arith, late, horizon));
         old_kept = λ u v l. elim (cases_lt u s.nodes) [
           | inl x ↦
-              of_pair s None (kept_row g.kept) u v x (omega (arith, l, slots))
-              ∙ (stays_kept t.kept g.kept u v is.grows.kept (omega (arith, x, nodes, is.ready.fits.kept.nodes)) (omega (arith, l, is.ready.fits.kept.same_slots))
-              ∙ sym (of_pair r None (kept_row t.kept) u v (omega (arith, x, nodes)) l))
-          | inr past ↦ past_pair s None (kept_row g.kept) u v (inl past) ∙ sym (past_pair r None (kept_row t.kept) u v (inl (omega (arith, past, nodes))))
+              of_pair s None (kept_of s new) u v x (omega (arith, l, slots))
+              ∙ (kept_then before after edits t g m f e u v is x l
+              ∙ sym (of_pair r None (kept_of r t) u v (omega (arith, x, nodes)) l))
+          | inr past ↦ past_pair s None (kept_of s new) u v (inl past) ∙ sym (past_pair r None (kept_of r t) u v (inl (omega (arith, past, nodes))))
         ];
         new_kept = λ u v late most. elim (cases_lt u s.nodes) [
           | inl x ↦
-              of_pair s None (kept_row g.kept) u v x most
-              ∙ none_kept g.kept u v (is.grows.none_kept u v (omega (arith, x, nodes, is.ready.fits.kept.nodes)) (omega (arith, late, is.ready.fits.kept.same_slots)))
-          | inr past ↦ past_pair s None (kept_row g.kept) u v (inl past)
+              of_pair s None (kept_of s new) u v x most
+              ∙ ap (option_map (filled s (counts_of g.curves) u v)) (none_kept g.kept u v (is.grows.none_kept u v (omega (arith, x, nodes, is.ready.fits.kept.nodes)) (omega (arith, late, is.ready.fits.kept.same_slots))))
+          | inr past ↦ past_pair s None (kept_of s new) u v (inl past)
         ];
       };
       readers = λ u v x l off.
@@ -266,7 +295,7 @@ fits_then before after edits t g m f e is =
     let s : Setting = setting_of after in
     let network : SameNetwork r s = one_network before after is.leads.shape in
     let all : groups r ≡ groups s = all_groups r s network in
-    let rows : HasRows s r.slots t.kept = rows_same r s r.slots r.slots t.kept network refl is.ready.fits.kept in
+    let rows : HasRows s false r.slots t.kept = rows_same r s false r.slots r.slots t.kept network refl is.ready.fits.kept in
     record {
       curves = record {
         same_groups = is.grows.curves.same_groups ∙ (is.ready.fits.curves.same_groups ∙ all);
@@ -274,7 +303,7 @@ fits_then before after edits t g m f e is =
         same_slots = is.grows.curves.same_slots;
       };
       kept = record { nodes = rw is.grows.kept.starts rows.nodes; same_slots = is.grows.kept_slots; widths = λ u x. rw is.grows.kept.starts (rows.widths u x) };
-      claims = subst (λ (z : KeptRows). HasRows s 1 z) (sym is.grows.claims) (rows_same r s 1 1 t.claims network refl is.ready.fits.claims);
+      claims = subst (λ (z : KeptRows). HasRows s true 1 z) (sym is.grows.claims) (rows_same r s true 1 1 t.claims network refl is.ready.fits.claims);
       frontier = record {
         nodes = is.news.size.nodes ∙ (is.marks.size.nodes ∙ (is.voids.size.nodes ∙ (is.grows.pairs.nodes ∙ (is.ready.fits.frontier.nodes ∙ network.nodes))));
         slots = is.news.size.slots ∙ (is.marks.size.slots ∙ (is.voids.size.slots ∙ is.grows.pair_slots));
@@ -307,6 +336,7 @@ takes_batch before after edits t g m f e is =
                   (is.leads.reads.positions (counts_of t.curves) u v i (omega (arith, l, horizon_is before)) (sym (of_pair r false (is_touched before edits) u v node l) ∙ off) (omega (arith, n, ins)));
             })
             is.ready.index;
+        claims = λ u v x l some. absurd (some (accepts.void u v));
       };
       accepts = accepts;
       cells = cells_then before after edits t g m f e is;

@@ -1,6 +1,5 @@
 -- The table of a loading at rest.
-use Rattle.std.proofs.Common.{◌≡◌, ℕ, ◌+◌, ◌<◌, ◌&&◌, nat_lt, nat_le, List, false, refl, ap, sym, ◌∙◌, subst, arith, inl, inr}
-use Rattle.std.specs.Prelude.{Some}
+use Rattle.std.proofs.Common.{◌≡◌, ℕ, ◌+◌, ◌<◌, ◌&&◌, nat_lt, nat_le, true, false, refl, ap, sym, ◌∙◌, subst, arith, inl, inr}
 use Rattle.std.proofs.lemmas.Bool.{cases_lt, cases_eq}
 use Rattle.ltm_curve.specs.Counts.{Counts}
 use Rattle.ltm_curve.specs.Table.{counts_of}
@@ -11,7 +10,7 @@ use Rattle.ltm_loading.specs.Groups.{groups}
 use Rattle.ltm_loading.specs.Flows.{position}
 use Rattle.ltm_loading.specs.Pairs.{pair_row}
 use Rattle.ltm_loading.specs.Loading.{IsLoading}
-use Rattle.ltm_flows.specs.Shaped.{IsShaped}
+use Rattle.ltm_loading.specs.Shaped.{IsShaped}
 use Rattle.ltm_frontier.specs.Frontier.{nodes_of as nodes_in, slots_of as slots_in, AllIdle}
 use Rattle.ltm_index.specs.declared.read_index.ReadIndex.{ReadIndex}
 use Rattle.ltm_repair.specs.Desk.{IsOther, IsSettled, IsIdle}
@@ -22,12 +21,13 @@ use Rattle.ltm_desk.specs.declared.rows.KeptRows.{KeptRows}
 use Rattle.ltm_desk.specs.declared.table.Table.{Table}
 use Rattle.ltm_desk.specs.Rows.{PutsRow}
 use Rattle.ltm_desk.specs.Pairs.{of_cells}
-use Rattle.ltm_desk.specs.Desks.{desk_at, changed_at}
+use Rattle.ltm_desk.specs.Desks.{uncounted, desk_at, changed_at}
 use Rattle.ltm_desk.specs.Ready.{IsReady, IsOpened, HasRows, HasLists}
 use Rattle.ltm_desk.specs.Placing.{StandsAt, PlacesPair, KeepsPair, KeepsSlots}
 use Rattle.ltm_desk.proofs.Bools.{and_false}
 use Rattle.ltm_desk.proofs.RowPlaces.{put_kept, put_other}
 use Rattle.ltm_desk.proofs.Desks.{cases_pairs, kept_is, active_past, claimed_past, idle_here}
+use Rattle.ltm_desk.proofs.Keeping.{kept_whole}
 use Rattle.ltm_desk.proofs.Listing.{place_is}
 use Rattle.ltm_desk.proofs.Taking.{rows_stay}
 
@@ -38,24 +38,24 @@ stands_still s c x y u t w v is node here other places stands = λ i l.
     other (sym (is.network.in_link_ends u j node m) ∙ (ap s.head same ∙ is.network.in_link_ends w i here l)) (sym slot))
     ∙ stands i l
 
-pub keeps_next : (s : Setting) (c : Counts) (a b : KeptRows) (x y : ReadIndex) (slot u : ℕ) → IsSetting s → u < s.nodes → slot < s.slots → KeepsSlots s c a x slot u → PutsRow a b u slot (pair_row s c u slot) →
+pub keeps_next : (s : Setting) (c : Counts) (a b : KeptRows) (x y : ReadIndex) (slot u : ℕ) → IsSetting s → u < s.nodes → slot < s.slots → KeepsSlots s c a x slot u → PutsRow a b u slot (uncounted s u (pair_row s c u slot)) →
     PlacesPair s c x y u slot (s.ins u) → KeepsSlots s c b y slot (u + 1)
 keeps_next s c a b x y slot u is node low keeps puts places =
     let still : (w v : ℕ) → w < s.nodes → v < s.slots → IsOther u slot w v → KeepsPair s c a x w v → KeepsPair s c b y w v = λ w v p q other pair. record {
-      row = put_other a b u slot (pair_row s c u slot) w v puts (omega (arith, p, keeps.rows.nodes)) (omega (arith, q, keeps.rows.same_slots)) other ∙ pair.row;
+      row = put_other a b u slot (uncounted s u (pair_row s c u slot)) w v puts (omega (arith, p, keeps.rows.nodes)) (omega (arith, q, keeps.rows.same_slots)) other ∙ pair.row;
       placed = stands_still s c x y u slot w v is node p other places pair.placed;
     } in
     record {
-      rows = rows_stay s s.slots a b u slot (pair_row s c u slot) keeps.rows puts;
+      rows = rows_stay s false s.slots a b u slot (uncounted s u (pair_row s c u slot)) keeps.rows puts.writes;
       lists = places.lists;
       earlier = λ w v p q. still w v p (omega arith) (λ same at. omega arith) (keeps.earlier w v p q);
       here = λ w p. elim (cases_eq w u) [
         | inr apart ↦ still w slot (omega arith) low (λ same at. apart (sym same)) (keeps.here w (omega arith))
-        | inl same ↦ subst (λ (z : ℕ). KeepsPair s c b y z slot) (sym same) (record { row = put_kept a b u slot (pair_row s c u slot) puts; placed = places.placed })
+        | inl same ↦ subst (λ (z : ℕ). KeepsPair s c b y z slot) (sym same) (record { row = put_kept a b u slot (uncounted s u (pair_row s c u slot)) puts; placed = places.placed })
       ];
     }
 
-pub keeps_first : (s : Setting) (c : Counts) (a : KeptRows) (x : ReadIndex) → HasRows s s.slots a → HasLists s x → KeepsSlots s c a x 0 0
+pub keeps_first : (s : Setting) (c : Counts) (a : KeptRows) (x : ReadIndex) → HasRows s false s.slots a → HasLists s x → KeepsSlots s c a x 0 0
 keeps_first s c a x rows lists = record { rows = rows; lists = lists; earlier = λ w v p q. absurd (omega arith); here = λ w p. absurd (omega arith) }
 
 pub keeps_slot : (s : Setting) (c : Counts) (a : KeptRows) (x : ReadIndex) (slot nodes : ℕ) → nodes ≡ s.nodes → KeepsSlots s c a x slot nodes → KeepsSlots s c a x (slot + 1) 0
@@ -75,7 +75,7 @@ pub record Opens (s : Setting) (t : Table) : Type 0 where
   pub shape : IsShaped s t.curves
   pub loading : IsLoading s (counts_of t.curves)
   pub keeps : KeepsSlots s (counts_of t.curves) t.kept t.index s.slots 0
-  pub claims : HasRows s 1 t.claims
+  pub claims : HasRows s true 1 t.claims
   pub nodes : nodes_in t.frontier ≡ s.nodes
   pub slots : slots_in t.frontier ≡ s.slots
   pub idle : AllIdle t.frontier
@@ -92,7 +92,7 @@ opens_idle s t u v opens = elim (cases_pairs s u v) [
 
 opens_kept : (s : Setting) (t : Table) (u v : ℕ) → Opens s t → u < s.nodes → v < s.slots → IsSettled s (desk_at s t) u v
 unfolding desk_at
-opens_kept s t u v opens x l = kept_is s t u v x l ∙ (opens.keeps.earlier u v x l).row
+opens_kept s t u v opens x l = kept_is s t u v x l ∙ kept_whole s t u v (opens.keeps.earlier u v x l).row
 
 opens_sound : (s : Setting) (t : Table) → Opens s t → IsSound s (desk_at s t)
 unfolding desk_at
@@ -135,6 +135,7 @@ opened s t opens = record {
     };
     sound = opens_sound s t opens;
     index = λ u v x l idle i m. place_is t.index (s.in_link u i) v (position s (counts_of t.curves) (s.in_link u i) v) ((opens.keeps.earlier u v x l).placed i m);
+    claims = λ u v x l some. absurd (some (opens_idle s t u v opens).1);
   };
   loading = opens.loading;
   kept = λ u v x l. opens_kept s t u v opens x l;
@@ -156,6 +157,7 @@ cleared_ready s t c ready shape = record {
   };
   sound = ready.sound;
   index = ready.index;
+  claims = ready.claims;
 }
 
 pub cleared_none : (s : Setting) (t : Table) (g k : ℕ) → NoneChanged t.changed → changed_at s t g k ≡ false

@@ -9,9 +9,9 @@ use Rattle.ltm_loading.specs.Setting.{Setting}
 use Rattle.ltm_frontier.specs.Frontier.{is_active, is_claimed}
 use Rattle.ltm_repair.specs.Desk.{IsIdle}
 use Rattle.ltm_desk.specs.declared.table.Table.{Table}
-use Rattle.ltm_desk.specs.Rows.{row_of, kept_row}
+use Rattle.ltm_desk.specs.Rows.{row_of}
 use Rattle.ltm_desk.specs.Pairs.{of_pairs, of_cells}
-use Rattle.ltm_desk.specs.Desks.{claim_of, desk_at, changed_at}
+use Rattle.ltm_desk.specs.Desks.{kept_of, claim_of, desk_at, changed_at}
 use Rattle.ltm_desk.specs.Dropping.{SameWorkAs}
 
 pub of_pair : {A : Type 0} (s : Setting) (none : A) (f : ℕ → ℕ → A) (u t : ℕ) → u < s.nodes → t < s.slots → of_pairs s none f u t ≡ f u t
@@ -49,9 +49,9 @@ pub claimed_is : (s : Setting) (t : Table) (u v : ℕ) → u < s.nodes → v < s
 unfolding desk_at
 claimed_is s t u v x l = of_pair s None (claim_of t) u v x l
 
-pub kept_is : (s : Setting) (t : Table) (u v : ℕ) → u < s.nodes → v < s.slots → (desk_at s t).kept u v ≡ kept_row t.kept u v
+pub kept_is : (s : Setting) (t : Table) (u v : ℕ) → u < s.nodes → v < s.slots → (desk_at s t).kept u v ≡ kept_of s t u v
 unfolding desk_at
-kept_is s t u v x l = of_pair s None (kept_row t.kept) u v x l
+kept_is s t u v x l = of_pair s None (kept_of s t) u v x l
 
 pub active_past : (s : Setting) (t : Table) (u v : ℕ) → (s.nodes ≤ u) ⊎ (s.slots ≤ v) → (desk_at s t).active u v ≡ false
 unfolding desk_at

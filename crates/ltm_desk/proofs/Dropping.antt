@@ -1,6 +1,6 @@
 -- Settled pairs are dropped, and a pair is claimed.
 use Rattle.std.proofs.Common.{◌≡◌, ℕ, ◌+◌, ◌*◌, min, ◌<◌, ◌≤◌, ◌&&◌, ◌==◌, not, List, Bool, true, false, refl, ap, sym, ◌∙◌, subst, arith, inl, inr}
-use Rattle.std.specs.Prelude.{Some}
+use Rattle.std.specs.Prelude.{Option, Some, None}
 use Rattle.std.proofs.Math.Nat.{mul-le-mul_right}
 use Rattle.std.proofs.lemmas.Bool.{cases_lt, cases_eq, eq-eqb, ne_eqb}
 use Rattle.ltm_curve.specs.Table.{counts_of}
@@ -8,7 +8,7 @@ use Rattle.ltm_node.specs.Inputs.{Inputs}
 use Rattle.ltm_node.specs.Shape.{width}
 use Rattle.ltm_node.specs.Solvable.{IsSolvable}
 use Rattle.ltm_loading.specs.Setting.{Setting, IsSetting}
-use Rattle.ltm_loading.specs.Pairs.{shape_at, pair_row}
+use Rattle.ltm_loading.specs.Pairs.{shape_at}
 use Rattle.ltm_loading.specs.NextPair.{IsPairInputs}
 use Rattle.ltm_index.specs.declared.read_index.ReadIndex.{ReadIndex}
 use Rattle.ltm_frontier.specs.declared.frontier.Frontier.{Frontier}
@@ -23,11 +23,12 @@ use Rattle.ltm_repair.proofs.Index.{index_stays_current}
 use Rattle.ltm_sending.specs.Front.{IsAtFront}
 use Rattle.ltm_desk.specs.declared.table.Table.{Table}
 use Rattle.ltm_desk.specs.Rows.{kept_row}
-use Rattle.ltm_desk.specs.Desks.{desk_at, place_of}
-use Rattle.ltm_desk.specs.Ready.{IsReady}
+use Rattle.ltm_desk.specs.Desks.{uncounted, desk_at, place_of}
+use Rattle.ltm_desk.specs.Ready.{HasRows, IsReady}
 use Rattle.ltm_desk.specs.Placing.{PlacesPair}
 use Rattle.ltm_desk.specs.Dropping.{DropsOne, DropsAt, IsWork, NoneActive, SameWorkAs}
 use Rattle.ltm_desk.proofs.Desks.{active_is, kept_is, claim_same, same_active, same_claims}
+use Rattle.ltm_desk.proofs.Keeping.{kept_whole, whole_kept}
 use Rattle.ltm_desk.proofs.Standing.{placed_here, other_places}
 use Rattle.ltm_desk.proofs.Bools.{and_false}
 
@@ -53,11 +54,11 @@ and_not true = refl
 and_not false = refl
 
 -- ---- one pair is dropped
-pub drops_one : (s : Setting) (t : Table) (u v : ℕ) (f : Frontier) (x : ReadIndex) → IsReady s t → u < s.nodes → v < s.slots → IsSettled s (desk_at s t) u v → Deactivates t.frontier f u v →
-    DropsOne s (desk_at s t) u v (desk_at s (record t { frontier = f; index = x }))
+pub drops_one : (s : Setting) (t : Table) (u v : ℕ) (f : Frontier) → IsReady s t → u < s.nodes → v < s.slots → IsSettled s (desk_at s t) u v → Deactivates t.frontier f u v →
+    DropsOne s (desk_at s t) u v (desk_at s (record t { frontier = f }))
 unfolding desk_at
-drops_one s t u v f x ready node slot settled step =
-    let new : Table = record t { frontier = f; index = x } in
+drops_one s t u v f ready node slot settled step =
+    let new : Table = record t { frontier = f } in
     let off : (desk_at s new).active u v ≡ false =
     active_is s new u v node slot ∙ (step.active u v (omega (arith, node, ready.fits.frontier.nodes)) (omega (arith, slot, ready.fits.frontier.slots))
     ∙ (ap (λ z. is_active t.frontier u v && not z) (pair_test u v) ∙ and_false (is_active t.frontier u v))) in
@@ -80,11 +81,11 @@ drops_one s t u v f x ready node slot settled step =
       others = same;
     }
 
-pub drop_ready : (s : Setting) (t : Table) (u v : ℕ) (f : Frontier) (x : ReadIndex) → IsSetting s → IsReady s t → u < s.nodes → v < s.slots → is_active t.frontier u v ≡ true → Deactivates t.frontier f u v →
-    PlacesPair s (counts_of t.curves) t.index x u v (s.ins u) → DropsOne s (desk_at s t) u v (desk_at s (record t { frontier = f; index = x })) → IsReady s (record t { frontier = f; index = x })
+pub drop_ready : (s : Setting) (t : Table) (u v : ℕ) (f : Frontier) → IsReady s t → u < s.nodes → v < s.slots → is_active t.frontier u v ≡ true → Deactivates t.frontier f u v →
+    IsPlaced s (desk_at s t) (place_of t.index) u v → DropsOne s (desk_at s t) u v (desk_at s (record t { frontier = f })) → IsReady s (record t { frontier = f })
 unfolding desk_at
-drop_ready s t u v f x is ready node slot on step places drops =
-    let new : Table = record t { frontier = f; index = x } in
+drop_ready s t u v f ready node slot on step placed drops =
+    let new : Table = record t { frontier = f } in
     let was : (desk_at s t).active u v ≡ true = active_is s t u v node slot ∙ on in
     record {
       fits = record {
@@ -92,27 +93,57 @@ drop_ready s t u v f x is ready node slot on step places drops =
         kept = ready.fits.kept;
         claims = ready.fits.claims;
         frontier = record { nodes = step.size.nodes ∙ ready.fits.frontier.nodes; slots = step.size.slots ∙ ready.fits.frontier.slots };
-        index = places.lists;
+        index = ready.fits.index;
         changed = ready.fits.changed;
       };
       sound = drop_keeps s (desk_at s t) (desk_at s new) ready.sound drops.drops;
-      index = index_stays_current.drop s (desk_at s t) (desk_at s new) (place_of t.index) (place_of x) drops.drops
+      index = index_stays_current.drop s (desk_at s t) (desk_at s new) (place_of t.index) (place_of t.index) drops.drops
           (record {
             placed = λ w y p q before now. elim (cases_pair u v w y) [
-              | inl at ↦ subst (λ (z : ℕ). IsPlaced s (desk_at s new) (place_of x) z y) at.0 (subst (λ (z : ℕ). IsPlaced s (desk_at s new) (place_of x) u z) at.1
-                  (λ i l. placed_here s (counts_of t.curves) t.index x u v (s.ins u) i places l))
+              | inl at ↦ subst (λ (z : ℕ). IsPlaced s (desk_at s new) (place_of t.index) z y) at.0 (subst (λ (z : ℕ). IsPlaced s (desk_at s new) (place_of t.index) u z) at.1 placed)
               | inr other ↦ let same : (desk_at s new).active w y ≡ (desk_at s t).active w y = drops.others w y other in absurd (cc)
             ];
-            others = λ w y p q same. elim (cases_pair u v w y) [
-              | inl at ↦
-                  let off : (desk_at s new).active w y ≡ false = subst (λ (z : ℕ). (desk_at s new).active z y ≡ false) at.0 (subst (λ (z : ℕ). (desk_at s new).active u z ≡ false) at.1 drops.here) in
-                  let was_on : (desk_at s t).active w y ≡ true = subst (λ (z : ℕ). (desk_at s t).active z y ≡ true) at.0 (subst (λ (z : ℕ). (desk_at s t).active u z ≡ true) at.1 was) in
-                  absurd (cc)
-              | inr other ↦ other_places s (counts_of t.curves) t.index x u v w y is places node p other
-            ];
+            others = λ w y p q same i l. refl;
           })
           ready.index;
+      claims = λ w y p q some. ready.claims w y p q (λ none. some (ap (λ (z : ℕ → ℕ → Option (List ℕ)). z w y) drops.drops.claimed ∙ none));
     }
+
+-- ---- the positions of an active pair are placed
+pub placed_ready : (s : Setting) (t : Table) (u v : ℕ) (x : ReadIndex) → IsSetting s → IsReady s t → u < s.nodes → v < s.slots → is_active t.frontier u v ≡ true → PlacesPair s (counts_of t.curves) t.index x u v (s.ins u) →
+    IsReady s (record t { index = x })
+unfolding desk_at
+placed_ready s t u v x is ready node slot on places =
+    let was : (desk_at s t).active u v ≡ true = active_is s t u v node slot ∙ on in
+    let free : (desk_at s t).claimed u v ≡ None = ready.sound.active.apart u v was in
+    record {
+      fits = record {
+        curves = ready.fits.curves;
+        kept = ready.fits.kept;
+        claims = ready.fits.claims;
+        frontier = ready.fits.frontier;
+        index = places.lists;
+        changed = ready.fits.changed;
+      };
+      sound = ready.sound;
+      index = λ w y p q idle. elim (cases_pair u v w y) [
+        | inl at ↦ let off : (desk_at s t).active w y ≡ false = idle.0 in
+            let here : (desk_at s t).active w y ≡ true = subst (λ (z : ℕ). (desk_at s t).active z y ≡ true) at.0 (subst (λ (z : ℕ). (desk_at s t).active u z ≡ true) at.1 was) in absurd (cc)
+        | inr other ↦ λ i l. other_places s (counts_of t.curves) t.index x u v w y is places node p other i l ∙ ready.index w y p q idle i l
+      ];
+      claims = λ w y p q some. elim (cases_pair u v w y) [
+        | inl at ↦ absurd (some (subst (λ (z : ℕ). (desk_at s t).claimed z y ≡ None) at.0 (subst (λ (z : ℕ). (desk_at s t).claimed u z ≡ None) at.1 free)))
+        | inr other ↦ λ i l. other_places s (counts_of t.curves) t.index x u v w y is places node p other i l ∙ ready.claims w y p q some i l
+      ];
+    }
+
+pub placed_now : (s : Setting) (t : Table) (u v : ℕ) (x : ReadIndex) → PlacesPair s (counts_of t.curves) t.index x u v (s.ins u) → IsPlaced s (desk_at s (record t { index = x })) (place_of x) u v
+unfolding desk_at
+placed_now s t u v x places = λ i l. placed_here s (counts_of t.curves) t.index x u v (s.ins u) i places l
+
+pub indexed_desk : (s : Setting) (t : Table) (x : ReadIndex) → desk_at s (record t { index = x }) ≡ desk_at s t
+unfolding desk_at
+indexed_desk s t x = refl
 
 -- ---- several pairs are dropped
 drops_trans : (s : Setting) (d m e : Desk) → DropsSettled s d m → DropsSettled s m e → DropsSettled s d e
@@ -176,6 +207,12 @@ none_left s t slot from nodes l at none rest fits = λ w x. elim (cases_lt w fro
 pub same_trans : (a b c : Table) → SameWorkAs a b → SameWorkAs b c → SameWorkAs a c
 same_trans a b c first second = second ∙ ap (λ (z : Table). record z { frontier = c.frontier; index = c.index }) first
 
+-- the index alone may change
+pub seen_trans : (a b c : Table) → SameWorkAs a b → c ≡ record b { index = c.index } → SameWorkAs a c
+seen_trans a b c first next =
+    let front : c.frontier ≡ b.frontier = ap (λ (z : Table). z.frontier) next in
+    next ∙ (ap (λ (z : Table). record z { index = c.index }) first ∙ ap (λ (f : Frontier). record a { frontier = f; index = c.index }) (sym front))
+
 -- ---- what is found
 pub most_wide : (s : Setting) (u : ℕ) → IsSetting s → u < s.nodes → width (shape_at s u) ≤ 1162
 most_wide s u is x =
@@ -185,17 +222,17 @@ most_wide s u is x =
     omega (arith, arms, outs, is.small.few_destinations, is.small.few_ins u x, is.small.few_outs u x)
 
 -- kept inputs that are those that stand ready
-pub settled_here : (s : Setting) (t : Table) (u slot : ℕ) (n : Inputs) → u < s.nodes → slot < s.slots → IsPairInputs s (counts_of t.curves) u slot n → kept_row t.kept u slot ≡ Some n.row → IsSettled s (desk_at s t) u slot
+pub settled_here : (s : Setting) (t : Table) (u slot : ℕ) (n : Inputs) → u < s.nodes → slot < s.slots → IsPairInputs s (counts_of t.curves) u slot n → kept_row t.kept u slot ≡ Some (uncounted s u n.row) → IsSettled s (desk_at s t) u slot
 unfolding desk_at
-settled_here s t u slot n x l inputs same = kept_is s t u slot x l ∙ (same ∙ ap (λ (z : List ℕ). Some z) inputs.row)
+settled_here s t u slot n x l inputs same = kept_is s t u slot x l ∙ kept_whole s t u slot (same ∙ ap (λ (z : List ℕ). Some (uncounted s u z)) inputs.row)
 
-pub work_here : (s : Setting) (t : Table) (u slot : ℕ) (n : Inputs) → u < s.nodes → slot < s.slots → is_active t.frontier u slot ≡ true → IsPairInputs s (counts_of t.curves) u slot n → IsSolvable n →
-    (kept_row t.kept u slot ≡ Some n.row → ⊥) → IsWork s (desk_at s t) u slot n
+pub work_here : (s : Setting) (t : Table) (u slot : ℕ) (n : Inputs) → HasRows s false s.slots t.kept → u < s.nodes → slot < s.slots → is_active t.frontier u slot ≡ true → IsPairInputs s (counts_of t.curves) u slot n → IsSolvable n →
+    (kept_row t.kept u slot ≡ Some (uncounted s u n.row) → ⊥) → IsWork s (desk_at s t) u slot n
 unfolding desk_at
-work_here s t u slot n x l on inputs solvable differs = record {
+work_here s t u slot n has x l on inputs solvable differs = record {
   is_node = x;
   active = active_is s t u slot x l ∙ on;
   inputs = inputs;
   solvable = solvable;
-  changed = λ same. differs (sym (kept_is s t u slot x l) ∙ (same ∙ ap (λ (z : List ℕ). Some z) (sym inputs.row)));
+  changed = λ same. differs (whole_kept s t u slot has x l (sym (kept_is s t u slot x l) ∙ same) ∙ ap (λ (z : List ℕ). Some (uncounted s u z)) (sym inputs.row));
 }

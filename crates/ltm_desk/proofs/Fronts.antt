@@ -10,7 +10,7 @@ use Rattle.ltm_repair.specs.Index.{IndexIsCurrent}
 use Rattle.ltm_repair.specs.Answers.{HasClaimAt}
 use Rattle.ltm_desk.specs.declared.table.Table.{Table}
 use Rattle.ltm_desk.specs.Desks.{desk_at, place_of}
-use Rattle.ltm_desk.specs.Ready.{IsReady}
+use Rattle.ltm_desk.specs.Ready.{ClaimsArePlaced, IsReady}
 use Rattle.ltm_desk.proofs.Desks.{active_is, claimed_off, claim_same, same_desk, idle_here}
 use Rattle.ltm_desk.proofs.Taking.{front_of_claims}
 
@@ -32,6 +32,7 @@ front_ready s t f ready same size = record {
   };
   sound = subst (λ (d : Desk). IsSound s d) (sym (front_desk s t f ready same)) ready.sound;
   index = subst (λ (d : Desk). IndexIsCurrent s d (place_of t.index)) (sym (front_desk s t f ready same)) ready.index;
+  claims = subst (λ (d : Desk). ClaimsArePlaced s d (place_of t.index)) (sym (front_desk s t f ready same)) ready.claims;
 }
 
 -- all pairs before the front are idle, or all are

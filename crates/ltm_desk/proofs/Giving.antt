@@ -1,5 +1,5 @@
 -- A claimed pair is given back.
-use Rattle.std.proofs.Common.{◌≡◌, ◌≢◌, ℕ, ◌<◌, ◌&&◌, ◌||◌, not, List, Bool, true, false, IsTrue, ◌↔◌, refl, ap, sym, ◌∙◌, arith, inl, inr}
+use Rattle.std.proofs.Common.{◌≡◌, ◌≢◌, ℕ, ◌<◌, ◌&&◌, ◌||◌, not, List, Bool, true, false, IsTrue, ◌↔◌, refl, ap, sym, ◌∙◌, subst, arith, inl, inr}
 use Rattle.std.specs.Prelude.{Some, None}
 use Rattle.std.proofs.lemmas.Bool.{false≢true}
 use Rattle.ltm_loading.specs.Setting.{Setting}
@@ -7,6 +7,7 @@ use Rattle.ltm_frontier.specs.declared.frontier.Frontier.{Frontier}
 use Rattle.ltm_frontier.specs.Frontier.{nodes_of as nodes_in, slots_of as slots_in, is_active, is_claimed, is_pair, Releases, Activates}
 use Rattle.ltm_repair.specs.Desk.{IsOther}
 use Rattle.ltm_repair.specs.Moves.{GivesBack}
+use Rattle.ltm_repair.proofs.Cases.{cases_pair}
 use Rattle.ltm_repair.proofs.Keeps.{give_back_keeps}
 use Rattle.ltm_repair.proofs.Index.{index_stays_current}
 use Rattle.ltm_desk.specs.declared.table.Table.{Table}
@@ -56,6 +57,10 @@ gives_ready s t u v m f ready frees marks gives = record {
   };
   sound = give_back_keeps s (desk_at s t) u v (desk_at s (record t { frontier = f })) ready.sound gives;
   index = index_stays_current.give_back s (desk_at s t) (desk_at s (record t { frontier = f })) u v (place_of t.index) gives ready.index;
+  claims = λ w y p q some. elim (cases_pair u v w y) [
+    | inl at ↦ absurd (some (subst (λ (z : ℕ). (desk_at s (record t { frontier = f })).claimed z y ≡ None) at.0 (subst (λ (z : ℕ). (desk_at s (record t { frontier = f })).claimed u z ≡ None) at.1 gives.free)))
+    | inr other ↦ ready.claims w y p q (λ none. some (gives.others.claimed w y other ∙ none))
+  ];
 }
 
 -- ---- whether a pair is held

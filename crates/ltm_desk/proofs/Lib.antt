@@ -9,7 +9,9 @@ pub mod Placings
 pub mod Listing
 pub mod Windows
 pub mod Wakings
+pub mod Renewals
 pub mod Reading
+pub mod Keeping
 pub mod Desks
 pub mod Standing
 pub mod Dropping
@@ -18,7 +20,11 @@ pub mod Searches
 pub mod Fronts
 pub mod Counting
 pub mod Giving
+pub mod ChangedCells
+pub mod Committed
 pub mod Committing
+pub mod Anew
 pub mod Beginnings
+pub mod Openings
 pub mod Roomier
 pub mod Batching

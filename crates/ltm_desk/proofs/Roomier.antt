@@ -1,10 +1,12 @@
 -- A table with more room, and otherwise as before.
-use Rattle.std.proofs.Common.{◌≡◌, ℕ, ◌<◌, Bool, false, refl, ap, sym, ◌∙◌, subst, arith}
+use Rattle.std.proofs.Common.{◌≡◌, ℕ, Bool, true, false, refl, ap, sym, ◌∙◌, subst, arith}
 use Rattle.std.specs.Prelude.{None}
 use Rattle.std.proofs.Math.Path.{fun_ext}
+use Rattle.ltm_curve.specs.Counts.{Counts}
 use Rattle.ltm_curve.specs.Table.{counts_of, SameShape}
-use Rattle.ltm_curve.specs.Cells.{is_changed, SameCells}
+use Rattle.ltm_curve.specs.Cells.{SameCells}
 use Rattle.ltm_loading.specs.Setting.{Setting, IsSetting}
+use Rattle.ltm_loading.specs.Pairs.{count_row}
 use Rattle.ltm_frontier.specs.Frontier.{slots_of as slots_in, is_active, SamePairs}
 use Rattle.ltm_index.specs.Lists.{slots_of as slots_listed, SameLists}
 use Rattle.ltm_repair.specs.Desk.{Desk}
@@ -12,13 +14,14 @@ use Rattle.ltm_repair.specs.Facts.{IsSound}
 use Rattle.ltm_repair.specs.Index.{IndexIsCurrent}
 use Rattle.ltm_desk.specs.declared.rows.KeptRows.{KeptRows}
 use Rattle.ltm_desk.specs.declared.table.Table.{Table}
-use Rattle.ltm_desk.specs.Rows.{slots_of as slots_kept, row_of, kept_row, SameRows}
+use Rattle.ltm_desk.specs.Rows.{slots_of as slots_kept, row_of, SameRows}
 use Rattle.ltm_desk.specs.Pairs.{of_pairs, of_cells}
-use Rattle.ltm_desk.specs.Desks.{desk_at, place_of, changed_at, claim_of}
-use Rattle.ltm_desk.specs.Ready.{FitsTable, IsReady, HasRows}
+use Rattle.ltm_desk.specs.Desks.{kept_of, desk_at, place_of, changed_at, claim_of}
+use Rattle.ltm_desk.specs.Ready.{FitsTable, ClaimsArePlaced, IsReady, HasRows}
 use Rattle.ltm_desk.specs.Growing.{SeenAs}
 use Rattle.ltm_desk.proofs.RowPlaces.{stays_kept}
 use Rattle.ltm_desk.proofs.Desks.{same_pairs, claim_same}
+use Rattle.ltm_desk.proofs.Keeping.{same_kept_of}
 use Rattle.ltm_desk.proofs.Standing.{same_place}
 
 -- each part is as before
@@ -42,7 +45,7 @@ parts_fit s a b same fits = record {
     same_slots = same.shape.slots ∙ fits.curves.same_slots;
   };
   kept = record { nodes = rw same.kept.starts fits.kept.nodes; same_slots = same.kept_slots ∙ fits.kept.same_slots; widths = λ u x. rw same.kept.starts (fits.kept.widths u x) };
-  claims = subst (λ (z : KeptRows). HasRows s 1 z) (sym same.claims) fits.claims;
+  claims = subst (λ (z : KeptRows). HasRows s true 1 z) (sym same.claims) fits.claims;
   frontier = record { nodes = same.pairs.nodes ∙ fits.frontier.nodes; slots = same.pair_slots ∙ fits.frontier.slots };
   index = record { links = same.lists.links ∙ fits.index.links; slots = same.list_slots ∙ fits.index.slots };
   changed = record { same_groups = same.cells.shape.same_groups ∙ fits.changed.same_groups; same_slots = same.cells.shape.same_slots ∙ fits.changed.same_slots };
@@ -51,12 +54,13 @@ parts_fit s a b same fits = record {
 parts_desk : (s : Setting) (a b : Table) → SameParts a b → FitsTable s a → desk_at s b ≡ desk_at s a
 unfolding desk_at
 parts_desk s a b same fits =
-    let K : of_pairs s None (kept_row b.kept) ≡ of_pairs s None (kept_row a.kept) =
-    same_pairs s None (kept_row b.kept) (kept_row a.kept) (λ u v x l. stays_kept a.kept b.kept u v same.kept (omega (arith, x, fits.kept.nodes)) (omega (arith, l, fits.kept.same_slots))) in
+    let K : of_pairs s None (kept_of s b) ≡ of_pairs s None (kept_of s a) =
+    same_pairs s None (kept_of s b) (kept_of s a)
+    (λ u v x l. same_kept_of s a b u v (stays_kept a.kept b.kept u v same.kept (omega (arith, x, fits.kept.nodes)) (omega (arith, l, fits.kept.same_slots))) (ap (λ (c : Counts). count_row s c u v) same.counts)) in
     let A : of_pairs s false (is_active b.frontier) ≡ of_pairs s false (is_active a.frontier) = same_pairs s false (is_active b.frontier) (is_active a.frontier) (λ u v x l. same.pairs.active u v) in
     let C : of_pairs s None (claim_of b) ≡ of_pairs s None (claim_of a) =
     same_pairs s None (claim_of b) (claim_of a) (λ u v x l. claim_same a b u v (same.pairs.claims.pairs u v) (ap (λ (z : KeptRows). row_of z u 0) same.claims)) in
-    rw (same.counts, K, A, C) refl
+    rw (K, A, C, same.counts) refl
 
 parts_changed : (s : Setting) (a b : Table) → SameParts a b → changed_at s b ≡ changed_at s a
 unfolding changed_at
@@ -72,6 +76,10 @@ parts_ready s a b same is ready =
           (λ u v x l idle i m. same_place a.index b.index (s.in_link u i) v
           (same.lists.entries (s.in_link u i) v (omega (arith, is.network.in_link_is_link u i x m, ready.fits.index.links)))
           ∙ ready.index u v x l idle i m);
+      claims = subst (λ (d : Desk). ClaimsArePlaced s d (place_of b.index)) (sym desk)
+          (λ u v x l some i m. same_place a.index b.index (s.in_link u i) v
+          (same.lists.entries (s.in_link u i) v (omega (arith, is.network.in_link_is_link u i x m, ready.fits.index.links)))
+          ∙ ready.claims u v x l some i m);
     }
 
 pub parts_seen : (a b : Table) → SameParts a b → SeenAs a b

@@ -3,11 +3,12 @@ use Rattle.std.proofs.Common.{◌≡◌, ℕ, ◌+◌, ◌-◌, ◌*◌, ◌<◌
 use Rattle.std.specs.Prelude.{slice_range, take, replicate, Bool, Some, None, IsTrue, ◌↔◌, if◌then◌else◌}
 use Rattle.std.proofs.Math.Nat.{mul-le-mul_right}
 use Rattle.std.proofs.lemmas.Bool.{cases_lt}
-use Rattle.std.proofs.lemmas.List.{ext_get_or, length-take-le, length-drop, length-append, get_or-take, get_or-drop, get_or_append_left, take_all}
+use Rattle.std.specs.Vec.{with_items}
+use Rattle.std.proofs.lemmas.List.{ext_get_or, length-take-le, length-drop, length-append, get_or-take, get_or-drop, get_or_append_left, take_all, with_items_is}
 use Rattle.ltm_curve.proofs.PutOver.{put_over, length_over, before_over, in_over, after_over}
-use Rattle.ltm_marks.specs.Marks.{width_of as width_of_marks, rows_of as rows_in, is_marked, SetsMark}
+use Rattle.ltm_marks.specs.Marks.{is_marked, SetsMark}
 use Rattle.ltm_desk.specs.declared.rows.KeptRows.{KeptRows}
-use Rattle.ltm_desk.specs.Rows.{slot_width, nodes_of, slots_of, row_room, width_of, start_of, row_of, has_row, kept_row, SameRows, PutsRow}
+use Rattle.ltm_desk.specs.Rows.{slot_width, nodes_of, slots_of, width_of, start_of, row_of, has_row, kept_row, SameRows, WritesRow, PutsRow, ForgetsRow}
 
 -- a part of a list, number by number
 pub length_part : (xs : List ℕ) (a w : ℕ) → a + w ≤ length xs → length (slice_range xs a (a + w)) ≡ w
@@ -73,45 +74,63 @@ row_within k w v y m long room rising =
     let times : (v + 1) * W ≤ k.room * W = mul-le-mul_right W next in
     omega (times, long, w_in, w_up, arith)
 
-pub puts_row : (old new : KeptRows) (u t : ℕ) (row : List ℕ) → u < nodes_of old → t < slots_of old → length row ≡ width_of old u → length old.numbers.items ≡ old.room * slot_width old → old.slots ≤ old.room →
-    width_of_marks old.there ≡ nodes_of old → rows_in old.there ≡ old.slots →
-    ((a b : ℕ) → a ≤ b → b < length old.starts.items → slice_index old.starts.items a ≤ slice_index old.starts.items b) →
-    new.starts ≡ old.starts → new.slots ≡ old.slots → SetsMark old.there new.there u t true → new.numbers.items ≡ put_over (start_of old u t) (start_of old u t + width_of old u) old.numbers.items row → PutsRow old new u t row
+-- a row has the width of its node
+pub length_row : (k : KeptRows) (u t : ℕ) → u < nodes_of k → t < slots_of k → length (row_of k u t) ≡ width_of k u
 unfolding row_of
-puts_row old new u t row x l same long room wide many rising starts slots mark put =
+length_row k u t x l = length_part k.numbers.items (start_of k u t) (width_of k u) (row_within k u t x l k.long k.within k.rising)
+
+pub writes_row : (old new : KeptRows) (u t : ℕ) (row : List ℕ) → u < nodes_of old → t < slots_of old → length row ≡ width_of old u → new.starts ≡ old.starts → new.slots ≡ old.slots →
+    new.numbers.items ≡ put_over (start_of old u t) (start_of old u t + width_of old u) old.numbers.items row → WritesRow old new u t row
+unfolding row_of
+writes_row old new u t row x l same starts slots put =
     let a : ℕ = start_of old u t in
     let w0 : ℕ = width_of old u in
     let xs : List ℕ = old.numbers.items in
     let ys : List ℕ = put_over a (a + w0) xs row in
-    let within : a + w0 ≤ length xs = row_within old u t x l long room rising in
+    let within : a + w0 ≤ length xs = row_within old u t x l old.long old.within old.rising in
     let wide : length row ≡ a + w0 - a = omega (same, arith) in
     let kept_long : length ys ≡ length xs = length_over a (a + w0) xs row (omega arith) within wide in
     record {
       starts = starts;
       slots = slots;
-      there = mark.here;
-      others_there = λ w v y m other. mark.others w v (omega (arith, y, wide)) (omega (arith, m, many)) other;
       here = rw (starts, put) (part_is ys row a w0 (omega (kept_long, within, arith)) same (λ i below. in_over a (a + w0) xs row i (omega arith) within (omega (same, below, arith))));
       others = λ w v y m other.
           let b : ℕ = start_of old w v in
           let w1 : ℕ = width_of old w in
-          let there : b + w1 ≤ length xs = row_within old w v y m long room rising in
+          let there : b + w1 ≤ length xs = row_within old w v y m old.long old.within old.rising in
           rw (starts, put) (same_part ys xs b w1 (omega (kept_long, there, arith)) there (λ i below.
-          elim (apart old u t w v x l y m other rising) [
+          elim (apart old u t w v x l y m other old.rising) [
             | inl before ↦ before_over a (a + w0) xs row (b + i) (omega arith) within (omega (before, below, arith))
             | inr behind ↦ after_over a (a + w0) xs row (b + i) (omega arith) within wide (omega (behind, arith))
           ]));
     }
 
+pub puts_row : (old new : KeptRows) (u t : ℕ) (row : List ℕ) → WritesRow old new u t row → SetsMark old.there new.there u t true → PutsRow old new u t row
+puts_row old new u t row writes mark = record {
+  writes = writes;
+  there = mark.here;
+  others_there = λ w v y m other. mark.others w v (omega (arith, y, old.nodes)) (omega (arith, m, old.rows)) other;
+}
+
+-- rows in which one is written that no call has written
+pub with_row : (k : KeptRows) (u t : ℕ) (row : List ℕ) → u < nodes_of k → t < slots_of k → length row ≡ width_of k u → (m : KeptRows) × WritesRow k m u t row
+with_row k u t row x l same =
+    let a : ℕ = start_of k u t in
+    let ys : List ℕ = put_over a (a + width_of k u) k.numbers.items row in
+    let long : length ys ≡ length k.numbers.items = length_over a (a + width_of k u) k.numbers.items row (omega arith) (row_within k u t x l k.long k.within k.rising) (omega (same, arith)) in
+    let all : (with_items k.numbers ys).items ≡ ys = with_items_is k.numbers ys (long ∙ sym k.numbers.ok.0) in
+    let m : KeptRows = record k { numbers = with_items k.numbers ys; long = ap length all ∙ (long ∙ k.long) } in
+    (m, writes_row k m u t row x l same refl refl all)
+
 -- ---- rows that are there
 pub put_kept : (a b : KeptRows) (u t : ℕ) (row : List ℕ) → PutsRow a b u t row → kept_row b u t ≡ Some row
-put_kept a b u t row puts = ap (λ z. if z then Some (row_of b u t) else None) puts.there ∙ ap (λ (z : List ℕ). Some z) puts.here
+put_kept a b u t row puts = ap (λ z. if z then Some (row_of b u t) else None) puts.there ∙ ap (λ (z : List ℕ). Some z) puts.writes.here
 
 same_kept : (a b : KeptRows) (w v : ℕ) → has_row b w v ≡ has_row a w v → row_of b w v ≡ row_of a w v → kept_row b w v ≡ kept_row a w v
 same_kept a b w v there row = ap (λ z. if z then Some (row_of b w v) else None) there ∙ ap (λ (z : List ℕ). if has_row a w v then Some z else None) row
 
 pub put_other : (a b : KeptRows) (u t : ℕ) (row : List ℕ) (w v : ℕ) → PutsRow a b u t row → w < nodes_of a → v < slots_of a → (u ≡ w → t ≡ v → ⊥) → kept_row b w v ≡ kept_row a w v
-put_other a b u t row w v puts x l other = same_kept a b w v (puts.others_there w v x l other) (puts.others w v x l other)
+put_other a b u t row w v puts x l other = same_kept a b w v (puts.others_there w v x l other) (puts.writes.others w v x l other)
 
 pub stays_kept : (a b : KeptRows) (w v : ℕ) → SameRows a b → w < nodes_of a → v < slots_of a → kept_row b w v ≡ kept_row a w v
 stays_kept a b w v same x l = same_kept a b w v (same.there w v) (same.rows w v x l)
@@ -131,6 +150,20 @@ keeps_none k u t row off = (λ yes. cc, λ some. let none : kept_row k u t ≡ N
 pub keeps_this : (k : KeptRows) (u t : ℕ) (row : List ℕ) (r : Bool) → has_row k u t ≡ true → (IsTrue r ↔ (row_of k u t ≡ row)) → IsTrue r ↔ (kept_row k u t ≡ Some row)
 keeps_this k u t row r on told =
     (λ yes. some_kept k u t on ∙ ap (λ (z : List ℕ). Some z) (told.0 yes), λ some. told.1 (same_some (row_of k u t) row (sym (some_kept k u t on) ∙ some)))
+
+-- ---- a row that is there no more
+pub forgets_row : (old new : KeptRows) (u t : ℕ) → u < nodes_of old → t < slots_of old → new.starts ≡ old.starts → new.slots ≡ old.slots → new.numbers ≡ old.numbers → SetsMark old.there new.there u t false →
+    ForgetsRow old new u t
+unfolding row_of
+forgets_row old new u t x l starts slots numbers mark = record {
+  starts = starts;
+  slots = slots;
+  gone = λ y m. none_kept new u t mark.here;
+  others = λ w v y m other. same_kept old new w v (mark.others w v (omega (arith, y, old.nodes)) (omega (arith, m, old.rows)) other) (rw (starts, numbers) refl);
+}
+
+pub forgets_past : (k : KeptRows) (u t : ℕ) → slots_of k ≤ t → ForgetsRow k k u t
+forgets_past k u t past = record { starts = refl; slots = refl; gone = λ y m. absurd (omega (arith, m, past)); others = λ w v y m other. refl }
 
 -- ---- further slots
 -- numbers behind the table leave its rows

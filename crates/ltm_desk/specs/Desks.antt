@@ -1,10 +1,13 @@
 -- A table as the desk of a repair.
-use Rattle.std.specs.Prelude.{ℕ, ◌^◌, List, Option, Some, None, Bool, false, if◌then◌else◌, unwrap_or}
+use Rattle.std.specs.Prelude.{ℕ, ◌^◌, List, ◌++◌, take, drop, Option, Some, None, option_map, Bool, false, if◌then◌else◌, unwrap_or}
 use Rattle.ltm_curve.specs.declared.curves.Curves.{Curves}
 use Rattle.ltm_curve.specs.declared.changed.Changed.{Changed}
+use Rattle.ltm_curve.specs.Counts.{Counts}
 use Rattle.ltm_curve.specs.Table.{counts_of}
 use Rattle.ltm_curve.specs.Cells.{is_changed}
+use Rattle.ltm_node.specs.Shape.{counts_begin, supplies_begin}
 use Rattle.ltm_loading.specs.Setting.{Setting}
+use Rattle.ltm_loading.specs.Pairs.{shape_at, count_row}
 use Rattle.ltm_frontier.specs.Frontier.{is_active, is_claimed}
 use Rattle.ltm_index.specs.declared.read_index.ReadIndex.{ReadIndex}
 use Rattle.ltm_index.specs.Lists.{entry_of}
@@ -12,6 +15,18 @@ use Rattle.ltm_repair.specs.Desk.{Desk}
 use Rattle.ltm_desk.specs.declared.table.Table.{Table}
 use Rattle.ltm_desk.specs.Rows.{row_of, kept_row}
 use Rattle.ltm_desk.specs.Pairs.{of_pairs, of_cells}
+
+-- what a pair reads but for the counts of its node
+abbrev pub uncounted : Setting → ℕ → List ℕ → List ℕ
+uncounted s u row = take (counts_begin (shape_at s u)) row ++ drop (supplies_begin (shape_at s u)) row
+
+-- the counts of the node at the slot's beginning put in their place
+abbrev pub filled : Setting → Counts → ℕ → ℕ → List ℕ → List ℕ
+filled s c u t row = take (counts_begin (shape_at s u)) row ++ (count_row s c u t ++ drop (counts_begin (shape_at s u)) row)
+
+-- what is kept of a pair, with the counts of its node at the slot's beginning
+abbrev pub kept_of : Setting → Table → ℕ → ℕ → Option (List ℕ)
+kept_of s t u v = option_map (filled s (counts_of t.curves) u v) (kept_row t.kept u v)
 
 -- the inputs with which a pair is claimed, if it is. All claims are of one slot, so there is one row for each node
 abbrev pub claim_of : Table → ℕ → ℕ → Option (List ℕ)
@@ -21,7 +36,7 @@ claim_of t u v = if is_claimed t.frontier u v then Some (row_of t.claims u 0) el
 unfoldable pub desk_at : Setting → Table → Desk
 desk_at s t = record {
   counts = counts_of t.curves;
-  kept = of_pairs s None (kept_row t.kept);
+  kept = of_pairs s None (kept_of s t);
   active = of_pairs s false (is_active t.frontier);
   claimed = of_pairs s None (claim_of t);
 }

@@ -3,7 +3,7 @@ use Rattle.std.specs.Prelude.{◌≡◌, ℕ, ◌<◌, ◌≤◌, false}
 use Rattle.ltm_curve.specs.Table.{groups_of, destinations_of, slots_of, room_of, counts_of, HasShape, IsIn}
 use Rattle.ltm_curve.specs.Cells.{cell_groups, cell_slots, cell_room, is_changed, HasCells}
 use Rattle.ltm_loading.specs.Setting.{Setting, IsSetting}
-use Rattle.ltm_frontier.specs.Frontier.{nodes_of as nodes_in, slots_of as slots_in, slot_room, is_active, SamePairs}
+use Rattle.ltm_frontier.specs.Frontier.{slots_of as slots_in, slot_room, SamePairs}
 use Rattle.ltm_index.specs.Lists.{slots_of as slots_listed, room_of as index_room, SameLists}
 use Rattle.ltm_desk.specs.declared.table.Table.{Table}
 use Rattle.ltm_desk.specs.Rows.{nodes_of, slots_of as slots_kept, row_room, has_row, SameRows}

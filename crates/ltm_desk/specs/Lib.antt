@@ -8,6 +8,8 @@ pub mod Growing
 pub mod Dropping
 pub mod Searching
 pub mod Placing
+pub mod Openings
 pub mod Waking
 pub mod Committing
+pub mod Recomputing
 pub mod Batches

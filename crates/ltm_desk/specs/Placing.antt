@@ -1,5 +1,5 @@
 -- The positions of pairs are placed in the index, and their inputs are kept.
-use Rattle.std.specs.Prelude.{◌≡◌, ℕ, ◌<◌, Some}
+use Rattle.std.specs.Prelude.{◌≡◌, ℕ, ◌<◌, Some, false}
 use Rattle.ltm_curve.specs.Counts.{Counts}
 use Rattle.ltm_loading.specs.Setting.{Setting}
 use Rattle.ltm_loading.specs.Flows.{position}
@@ -8,6 +8,7 @@ use Rattle.ltm_index.specs.declared.read_index.ReadIndex.{ReadIndex}
 use Rattle.ltm_index.specs.Lists.{links_of, entry_of, SameSize}
 use Rattle.ltm_desk.specs.declared.rows.KeptRows.{KeptRows}
 use Rattle.ltm_desk.specs.Rows.{kept_row}
+use Rattle.ltm_desk.specs.Desks.{uncounted}
 use Rattle.ltm_desk.specs.Ready.{HasRows, HasLists}
 
 -- the slot stands in the list of its position of each of the first in-links of a node
@@ -26,14 +27,14 @@ pub record PlacesPair (s : Setting) (c : Counts) (old new : ReadIndex) (u t plac
   pub placed : StandsAt s c new u t places
   pub others : (l v : ℕ) → l < s.links → ((i : ℕ) → i < places → s.in_link u i ≡ l → v ≡ t → ⊥) → entry_of new l v ≡ entry_of old l v
 
--- the inputs of a pair are kept, and its positions are placed
+-- the inputs of a pair are kept but for its counts, and its positions are placed
 pub record KeepsPair (s : Setting) (c : Counts) (k : KeptRows) (x : ReadIndex) (u t : ℕ) : Type 0 where
-  pub row : kept_row k u t ≡ Some (pair_row s c u t)
+  pub row : kept_row k u t ≡ Some (uncounted s u (pair_row s c u t))
   pub placed : StandsAt s c x u t (s.ins u)
 
 -- so it is with all pairs of earlier slots, and with the first nodes of this one
 pub record KeepsSlots (s : Setting) (c : Counts) (k : KeptRows) (x : ReadIndex) (slot nodes : ℕ) : Type 0 where
-  pub rows : HasRows s s.slots k
+  pub rows : HasRows s false s.slots k
   pub lists : HasLists s x
   pub earlier : (w v : ℕ) → w < s.nodes → v < slot → KeepsPair s c k x w v
   pub here : (w : ℕ) → w < nodes → KeepsPair s c k x w slot

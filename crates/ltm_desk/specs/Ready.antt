@@ -1,29 +1,28 @@
 -- What holds of a table at any time.
-use Rattle.std.specs.Prelude.{◌≡◌, ℕ, ◌<◌, false}
+use Rattle.std.specs.Prelude.{◌≡◌, ◌≢◌, ℕ, ◌<◌, None, Bool, true, false}
 use Rattle.ltm_curve.specs.Cells.{HasCells}
-use Rattle.ltm_node.specs.Shape.{width}
 use Rattle.ltm_loading.specs.Setting.{Setting}
 use Rattle.ltm_loading.specs.Groups.{groups}
-use Rattle.ltm_loading.specs.Pairs.{shape_at}
 use Rattle.ltm_loading.specs.Loading.{IsLoading}
-use Rattle.ltm_flows.specs.Shaped.{IsShaped}
+use Rattle.ltm_loading.specs.Shaped.{IsShaped}
 use Rattle.ltm_frontier.specs.declared.frontier.Frontier.{Frontier}
 use Rattle.ltm_frontier.specs.Frontier.{nodes_of as nodes_in, slots_of as slots_in}
 use Rattle.ltm_index.specs.declared.read_index.ReadIndex.{ReadIndex}
 use Rattle.ltm_index.specs.Lists.{links_of, slots_of as slots_listed}
-use Rattle.ltm_repair.specs.Desk.{IsSettled, IsIdle}
+use Rattle.ltm_repair.specs.Desk.{Desk, IsSettled, IsIdle}
 use Rattle.ltm_repair.specs.Facts.{IsSound}
-use Rattle.ltm_repair.specs.Index.{IndexIsCurrent}
+use Rattle.ltm_repair.specs.Index.{IsPlaced, IndexIsCurrent}
 use Rattle.ltm_desk.specs.declared.rows.KeptRows.{KeptRows}
 use Rattle.ltm_desk.specs.declared.table.Table.{Table}
 use Rattle.ltm_desk.specs.Rows.{nodes_of, slots_of, width_of}
+use Rattle.ltm_desk.specs.Starts.{row_width}
 use Rattle.ltm_desk.specs.Desks.{desk_at, place_of, changed_at}
 
--- a row of each node for so many slots, as wide as its inputs
-pub record HasRows (s : Setting) (slots : ℕ) (k : KeptRows) : Type 0 where
+-- a row of each node for so many slots, as wide as its inputs, with or without the counts
+pub record HasRows (s : Setting) (counted : Bool) (slots : ℕ) (k : KeptRows) : Type 0 where
   pub nodes : nodes_of k ≡ s.nodes
   pub same_slots : slots_of k ≡ slots
-  pub widths : (u : ℕ) → u < s.nodes → width_of k u ≡ width (shape_at s u)
+  pub widths : (u : ℕ) → u < s.nodes → width_of k u ≡ row_width s counted u
 
 -- the pairs of the setting
 pub record HasPairs (s : Setting) (f : Frontier) : Type 0 where
@@ -38,17 +37,22 @@ pub record HasLists (s : Setting) (x : ReadIndex) : Type 0 where
 -- the parts have the sizes of the setting
 pub record FitsTable (s : Setting) (t : Table) : Type 0 where
   pub curves : IsShaped s t.curves
-  pub kept : HasRows s s.slots t.kept
-  pub claims : HasRows s 1 t.claims
+  pub kept : HasRows s false s.slots t.kept
+  pub claims : HasRows s true 1 t.claims
   pub frontier : HasPairs s t.frontier
   pub index : HasLists s t.index
   pub changed : HasCells t.changed (groups s) s.slots
 
--- a sound desk, and each pair that is neither active nor claimed stands in the index with its positions
+-- each claimed pair stands in the index with its positions
+abbrev pub ClaimsArePlaced : Setting → Desk → (ℕ → ℕ → ℕ) → Type 0
+ClaimsArePlaced s d places = (u t : ℕ) → u < s.nodes → t < s.slots → d.claimed u t ≢ None → IsPlaced s d places u t
+
+-- a sound desk, and each pair that is not active stands in the index with its positions
 pub record IsReady (s : Setting) (t : Table) : Type 0 where
   pub fits : FitsTable s t
   pub sound : IsSound s (desk_at s t)
   pub index : IndexIsCurrent s (desk_at s t) (place_of t.index)
+  pub claims : ClaimsArePlaced s (desk_at s t) (place_of t.index)
 
 -- the table of a loading at rest: all inputs are kept, no pair is active or claimed, and no cell is changed
 pub record IsOpened (s : Setting) (t : Table) : Type 0 where

@@ -1,5 +1,5 @@
 -- Rows of numbers, one for each pair of node and slot: those of one slot lie side by side, node after node.
-use Rattle.std.specs.Prelude.{◌≡◌, ℕ, ◌+◌, ◌-◌, ◌*◌, ◌<◌, List, length, slice_index, slice_range, Bool, true, Option, Some, None, if◌then◌else◌}
+use Rattle.std.specs.Prelude.{◌≡◌, ℕ, ◌+◌, ◌-◌, ◌*◌, ◌<◌, List, length, slice_index, slice_range, Bool, true, false, Option, Some, None, if◌then◌else◌}
 use Rattle.ltm_marks.specs.Marks.{is_marked}
 use Rattle.ltm_desk.specs.declared.rows.KeptRows.{KeptRows}
 
@@ -43,11 +43,27 @@ pub record SameRows (old new : KeptRows) : Type 0 where
   pub rows : (w v : ℕ) → w < nodes_of old → v < slots_of old → row_of new w v ≡ row_of old w v
   pub there : (w v : ℕ) → has_row new w v ≡ has_row old w v
 
--- one row is put in its place, and no other changes
-pub record PutsRow (old new : KeptRows) (u t : ℕ) (row : List ℕ) : Type 0 where
+-- one row is written in its place, and no other changes
+pub record WritesRow (old new : KeptRows) (u t : ℕ) (row : List ℕ) : Type 0 where
   pub starts : new.starts ≡ old.starts
   pub slots : new.slots ≡ old.slots
   pub here : row_of new u t ≡ row
-  pub there : has_row new u t ≡ true
   pub others : (w v : ℕ) → w < nodes_of old → v < slots_of old → (u ≡ w → t ≡ v → ⊥) → row_of new w v ≡ row_of old w v
+
+-- and is there then
+pub record PutsRow (old new : KeptRows) (u t : ℕ) (row : List ℕ) : Type 0 where
+  pub writes : WritesRow old new u t row
+  pub there : has_row new u t ≡ true
   pub others_there : (w v : ℕ) → w < nodes_of old → v < slots_of old → (u ≡ w → t ≡ v → ⊥) → has_row new w v ≡ has_row old w v
+
+-- the row of one pair is there no more, if there is such a pair, and no other changes
+pub record ForgetsRow (old new : KeptRows) (u t : ℕ) : Type 0 where
+  pub starts : new.starts ≡ old.starts
+  pub slots : new.slots ≡ old.slots
+  pub gone : u < nodes_of old → t < slots_of old → kept_row new u t ≡ None
+  pub others : (w v : ℕ) → w < nodes_of old → v < slots_of old → (u ≡ w → t ≡ v → ⊥) → kept_row new w v ≡ kept_row old w v
+
+-- so it is, or nothing changes
+abbrev pub ForgetsIf : Bool → KeptRows → KeptRows → ℕ → ℕ → Type 0
+ForgetsIf true old new u t = ForgetsRow old new u t
+ForgetsIf false old new u t = new ≡ old

@@ -1,13 +1,17 @@
--- What a claim answers, said of the desk alone.
+-- What a search finds, and what a claim answers.
 use Rattle.std.specs.Prelude.{◌≡◌, ◌↔◌, ℕ, ◌<◌, List}
 use Rattle.ltm_node.specs.Inputs.{Inputs}
 use Rattle.ltm_node.specs.Solvable.{IsSolvable}
 use Rattle.ltm_loading.specs.Setting.{Setting}
 use Rattle.ltm_loading.specs.Pairs.{shape_at}
 use Rattle.ltm_repair.specs.Desk.{Desk}
-use Rattle.ltm_repair.specs.Answers.{ClaimAnswer, Got, NotYet, Rest as NoneLeft, ClaimLeaves, HasClaimAt, IsSettledAt, IsNoneClaimed}
+use Rattle.ltm_repair.specs.Answers.{ClaimAnswer, Got, NotYet, Rest as NoneLeft, ClaimLeaves, DropsAtFront, HasClaimAt, IsSettledAt, IsNoneClaimed}
+use Rattle.ltm_repair.specs.Index.{IsPlaced}
 use Rattle.ltm_desk.specs.declared.found.Found.{Found}
 use Rattle.ltm_desk.specs.declared.found.Found.TheVariants.{Work, Wait, Rest}
+use Rattle.ltm_desk.specs.declared.table.Table.{Table}
+use Rattle.ltm_desk.specs.Desks.{desk_at, place_of}
+use Rattle.ltm_desk.specs.Dropping.{HasWork}
 
 -- a pair is taken, or none yet, or none is left; not yet exactly where claims are out and every active pair of their slot
 -- is settled; rest exactly where none is claimed and every active pair is settled
@@ -27,3 +31,16 @@ abbrev pub answer_of : ℕ → Found → List ℕ → ClaimAnswer
 answer_of ticket (Work pair) row = Got pair.node.0 pair.slot ticket row
 answer_of ticket Wait row = NotYet
 answer_of ticket Rest row = NoneLeft
+
+-- an active pair whose inputs, which stand ready, are not the kept ones, of the front slot and of the slot of all claims; it
+-- stands in the index with its positions
+pub record IsFound (s : Setting) (t : Table) (u v : ℕ) (n : Inputs) : Type 0 where
+  pub work : HasWork s (desk_at s t) u v n
+  pub one_slot : (w : ℕ) → HasClaimAt s (desk_at s t) w → w ≡ v
+  pub placed : IsPlaced s (desk_at s t) (place_of t.index) u v
+
+-- what a search finds, after settled pairs were dropped
+abbrev pub Finds : Setting → Desk → Found → Inputs → Table → Type 0
+Finds s old (Work pair) n new = DropsAtFront s old (desk_at s new) × IsFound s new pair.node.0 pair.slot n
+Finds s old Wait n new = AnswersSearch s old NotYet (desk_at s new)
+Finds s old Rest n new = AnswersSearch s old NoneLeft (desk_at s new)

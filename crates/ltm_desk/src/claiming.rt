@@ -2,15 +2,17 @@
 //!
 //! Pairs are claimed slot by slot, from the front on: what a pair of the front slot reads is final. A pair that is active
 //! and reads what is kept of it is dropped on the way.
-ghost use Rattle.std.specs.Prelude.{◌≡◌, ◌<◌, ◌≤◌, ℕ, MatchOption, true};
+ghost use Rattle.std.specs.Prelude.{◌≡◌, ◌<◌, ◌≤◌, ℕ, MatchOption, IfSome, IsTrue, IsFalse, true};
 ghost use Rattle.ltm_setting.specs.Setting.{setting_of};
 ghost use Rattle.ltm_frontier.specs.Frontier.{is_active};
 ghost use Rattle.ltm_repair.specs.Answers.{HasClaimAt, IsNoneClaimed};
 ghost use Rattle.ltm_repair.specs.Desk.{IsSettled, IsIdleBefore, IsAtRest};
 ghost use Rattle.ltm_repair.specs.Moves.{DropsSettled, TakesClaim};
-ghost use Rattle.ltm_desk.specs.Searching.{AnswersSearch, FitsFound, answer_of};
+ghost use Rattle.ltm_repair.specs.Index.{IsPlaced};
+ghost use Rattle.ltm_desk.specs.Searching.{AnswersSearch, FitsFound, IsFound, Finds, answer_of};
 
 use crate::found::Found;
+use crate::parts::around_counts;
 use crate::places::place_pair;
 use crate::table::Table;
 use ltm_inputs::inputs_of;
@@ -20,11 +22,36 @@ use ltm_setting::{is_setting, node_count, slot_count};
 use ltm_units::{NodeId, Pair};
 
 impl Table {
-    ghost use Rattle.ltm_desk.specs.Desks.{desk_at, changed_at};
+    ghost use Rattle.ltm_desk.specs.Desks.{desk_at, changed_at, place_of};
     ghost use Rattle.ltm_desk.specs.Ready.{IsReady};
     ghost use Rattle.ltm_desk.specs.Dropping.{DropsOne, DropsAt, IsWork, HasWork, NoneActive, SameWorkAs};
 
-    /// Drops an active pair that is settled: its positions are placed.
+    /// Reads the inputs of an active pair at the front, and places its positions; whether the inputs are the kept ones.
+    fn look_at(&mut self, scenario: &Scenario, pair: Pair, inputs: &mut NodeInputs) -> bool
+        requires ready { IsReady (setting_of scenario.now) self.old }
+        requires node { pair.node.0 < (setting_of scenario.now).nodes }
+        requires slot { pair.slot < (setting_of scenario.now).slots }
+        requires idle { IsIdleBefore (setting_of scenario.now) (desk_at (setting_of scenario.now) self.old) pair.slot }
+        requires active { is_active self.old.frontier pair.node.0 pair.slot ≡ true }
+        requires room { 1162 ≤ inputs.old.room }
+        ensures ready { IsReady (setting_of scenario.now) self.new }
+        ensures desk { desk_at (setting_of scenario.now) self.new ≡ desk_at (setting_of scenario.now) self.old }
+        ensures same { self.new ≡ record self.old { index = self.new.index } }
+        ensures placed { IsPlaced (setting_of scenario.now) (desk_at (setting_of scenario.now) self.new) (place_of self.new.index) pair.node.0 pair.slot }
+        ensures settled { IsTrue result → IsSettled (setting_of scenario.now) (desk_at (setting_of scenario.now) self.new) pair.node.0 pair.slot }
+        ensures work { IsFalse result → IsWork (setting_of scenario.now) (desk_at (setting_of scenario.now) self.new) pair.node.0 pair.slot inputs.new }
+        ensures room { inputs.new.room ≡ inputs.old.room }
+    {
+        is_setting(scenario);
+        let mut positions = [0u32; 4];
+        inputs_of(scenario, &self.curves, pair, inputs, &mut positions);
+        place_pair(scenario, &self.curves, pair, &positions, &mut self.index);
+        let (front, back) = around_counts(inputs);
+        self.kept
+            .keeps(pair.node.0 as usize, pair.slot as usize, front, back)
+    }
+
+    /// Drops an active pair that is settled and placed.
     fn drop_settled(&mut self, scenario: &Scenario, pair: Pair)
         requires ready { IsReady (setting_of scenario.now) self.old }
         requires node { pair.node.0 < (setting_of scenario.now).nodes }
@@ -32,12 +59,11 @@ impl Table {
         requires idle { IsIdleBefore (setting_of scenario.now) (desk_at (setting_of scenario.now) self.old) pair.slot }
         requires active { is_active self.old.frontier pair.node.0 pair.slot ≡ true }
         requires settled { IsSettled (setting_of scenario.now) (desk_at (setting_of scenario.now) self.old) pair.node.0 pair.slot }
+        requires placed { IsPlaced (setting_of scenario.now) (desk_at (setting_of scenario.now) self.old) (place_of self.old.index) pair.node.0 pair.slot }
         ensures ready { IsReady (setting_of scenario.now) self.new }
         ensures drops { DropsOne (setting_of scenario.now) (desk_at (setting_of scenario.now) self.old) pair.node.0 pair.slot (desk_at (setting_of scenario.now) self.new) }
         ensures same { SameWorkAs self.old self.new }
     {
-        is_setting(scenario);
-        place_pair(scenario, &self.curves, pair, &mut self.index);
         self.frontier.unmark(pair);
     }
 
@@ -52,6 +78,7 @@ impl Table {
         ensures drops { DropsAt (setting_of scenario.now) (desk_at (setting_of scenario.now) self.old) slot (desk_at (setting_of scenario.now) self.new) }
         ensures found { MatchOption result (NoneActive (desk_at (setting_of scenario.now) self.new) slot (setting_of scenario.now).nodes)
             (λ node. IsWork (setting_of scenario.now) (desk_at (setting_of scenario.now) self.new) node.0 slot inputs.new) }
+        ensures placed { IfSome result (λ node. IsPlaced (setting_of scenario.now) (desk_at (setting_of scenario.now) self.new) (place_of self.new.index) node.0 slot) }
         ensures same { SameWorkAs self.old self.new }
         ensures room { inputs.new.room ≡ inputs.old.room }
     {
@@ -63,11 +90,7 @@ impl Table {
                 return None;
             };
             let pair = Pair { node, slot };
-            inputs_of(scenario, &self.curves, pair, inputs);
-            if !self
-                .kept
-                .keeps(node.0 as usize, slot as usize, inputs.row())
-            {
+            if !self.look_at(scenario, pair, inputs) {
                 return Some(node);
             }
             self.drop_settled(scenario, pair);
@@ -79,38 +102,30 @@ impl Table {
     /// Claims a pair that was found.
     fn take(&mut self, scenario: &Scenario, pair: Pair, inputs: &NodeInputs)
         requires ready { IsReady (setting_of scenario.now) self.old }
-        requires slot { pair.slot < (setting_of scenario.now).slots }
-        requires idle { IsIdleBefore (setting_of scenario.now) (desk_at (setting_of scenario.now) self.old) pair.slot }
-        requires one_slot { (v : ℕ) → HasClaimAt (setting_of scenario.now) (desk_at (setting_of scenario.now) self.old) v → v ≡ pair.slot }
-        requires work { IsWork (setting_of scenario.now) (desk_at (setting_of scenario.now) self.old) pair.node.0 pair.slot inputs.now }
+        requires found { IsFound (setting_of scenario.now) self.old pair.node.0 pair.slot inputs.now }
         ensures ready { IsReady (setting_of scenario.now) self.new }
         ensures takes { TakesClaim (setting_of scenario.now) (desk_at (setting_of scenario.now) self.old) pair.node.0 pair.slot inputs.now.row
             (desk_at (setting_of scenario.now) self.new) }
         ensures changed { changed_at (setting_of scenario.now) self.new ≡ changed_at (setting_of scenario.now) self.old }
     {
         is_setting(scenario);
-        self.claims.put(pair.node.0 as usize, 0, inputs.row());
+        let (none, all) = inputs.row().split_at(0);
+        self.claims.put(pair.node.0 as usize, 0, none, all);
         self.frontier.claim_mark(pair);
     }
 
-    /// Claims the first pair to be worked on at the slot of the claims that are out.
-    fn claim_beside(&mut self, scenario: &Scenario, slot: u32, inputs: &mut NodeInputs) -> Found
+    /// The first pair to be worked on at the slot of the claims that are out, if there is one yet.
+    fn find_beside(&mut self, scenario: &Scenario, slot: u32, inputs: &mut NodeInputs) -> Found
         requires ready { IsReady (setting_of scenario.now) self.old }
         requires out { HasClaimAt (setting_of scenario.now) (desk_at (setting_of scenario.now) self.old) slot }
         requires room { 1162 ≤ inputs.old.room }
         ensures ready { IsReady (setting_of scenario.now) self.new }
-        ensures answer { (ticket : ℕ) → AnswersSearch (setting_of scenario.now) (desk_at (setting_of scenario.now) self.old)
-            (answer_of ticket result inputs.new.row) (desk_at (setting_of scenario.now) self.new) }
-        ensures fits { FitsFound (setting_of scenario.now) result inputs.new }
+        ensures finds { Finds (setting_of scenario.now) (desk_at (setting_of scenario.now) self.old) result inputs.new self.new }
+        ensures same { SameWorkAs self.old self.new }
         ensures room { inputs.new.room ≡ inputs.old.room }
-        ensures changed { changed_at (setting_of scenario.now) self.new ≡ changed_at (setting_of scenario.now) self.old }
     {
         match self.find_at(scenario, slot, inputs) {
-            Some(node) => {
-                let pair = Pair { node, slot };
-                self.take(scenario, pair, inputs);
-                return Found::Work(pair);
-            }
+            Some(node) => return Found::Work(Pair { node, slot }),
             None => return Found::Wait,
         }
     }
@@ -131,6 +146,8 @@ impl Table {
         ensures drops { DropsSettled (setting_of scenario.now) (desk_at (setting_of scenario.now) self.old) (desk_at (setting_of scenario.now) self.new) }
         ensures found { MatchOption result (IsAtRest (setting_of scenario.now) (desk_at (setting_of scenario.now) self.new))
             (λ pair. HasWork (setting_of scenario.now) (desk_at (setting_of scenario.now) self.new) pair.node.0 pair.slot inputs.new) }
+        ensures placed { IfSome result
+            (λ pair. IsPlaced (setting_of scenario.now) (desk_at (setting_of scenario.now) self.new) (place_of self.new.index) pair.node.0 pair.slot) }
         ensures same { SameWorkAs self.old self.new }
         ensures room { inputs.new.room ≡ inputs.old.room }
     {
@@ -142,25 +159,20 @@ impl Table {
         None
     }
 
-    /// Claims the first pair to be worked on, where none is claimed.
-    fn claim_first(&mut self, scenario: &Scenario, front: u32, inputs: &mut NodeInputs) -> Found
+    /// The first pair to be worked on, where none is claimed.
+    fn find_first(&mut self, scenario: &Scenario, front: u32, inputs: &mut NodeInputs) -> Found
         requires ready { IsReady (setting_of scenario.now) self.old }
         requires front { front ≤ (setting_of scenario.now).slots }
         requires idle { IsIdleBefore (setting_of scenario.now) (desk_at (setting_of scenario.now) self.old) front }
         requires none { IsNoneClaimed (setting_of scenario.now) (desk_at (setting_of scenario.now) self.old) }
         requires room { 1162 ≤ inputs.old.room }
         ensures ready { IsReady (setting_of scenario.now) self.new }
-        ensures answer { (ticket : ℕ) → AnswersSearch (setting_of scenario.now) (desk_at (setting_of scenario.now) self.old)
-            (answer_of ticket result inputs.new.row) (desk_at (setting_of scenario.now) self.new) }
-        ensures fits { FitsFound (setting_of scenario.now) result inputs.new }
+        ensures finds { Finds (setting_of scenario.now) (desk_at (setting_of scenario.now) self.old) result inputs.new self.new }
+        ensures same { SameWorkAs self.old self.new }
         ensures room { inputs.new.room ≡ inputs.old.room }
-        ensures changed { changed_at (setting_of scenario.now) self.new ≡ changed_at (setting_of scenario.now) self.old }
     {
         match self.first_work(scenario, front, inputs) {
-            Some(pair) => {
-                self.take(scenario, pair, inputs);
-                return Found::Work(pair);
-            }
+            Some(pair) => return Found::Work(pair),
             None => return Found::Rest,
         }
     }
@@ -182,6 +194,23 @@ impl Table {
         }
     }
 
+    /// A pair of the front slot whose inputs differ from the kept ones, with its inputs, for which there is room for 1,162
+    /// numbers. Settled pairs that it passes are dropped; while claims are out, at their slot alone.
+    pub(crate) fn find(&mut self, scenario: &Scenario, inputs: &mut NodeInputs) -> Found
+        requires ready { IsReady (setting_of scenario.now) self.old }
+        requires room { 1162 ≤ inputs.old.room }
+        ensures ready { IsReady (setting_of scenario.now) self.new }
+        ensures finds { Finds (setting_of scenario.now) (desk_at (setting_of scenario.now) self.old) result inputs.new self.new }
+        ensures changed { changed_at (setting_of scenario.now) self.new ≡ changed_at (setting_of scenario.now) self.old }
+        ensures room { inputs.new.room ≡ inputs.old.room }
+    {
+        let front = self.front(scenario);
+        if self.frontier.claimed() > 0 {
+            return self.find_beside(scenario, front, inputs);
+        }
+        self.find_first(scenario, front, inputs)
+    }
+
     /// Claims a pair of the front slot whose inputs differ from the kept ones, and writes its inputs, for which there is
     /// room for 1,162 numbers. Settled pairs that it passes are dropped; while claims are out, at their slot alone.
     pub fn claim(&mut self, scenario: &Scenario, inputs: &mut NodeInputs) -> Found
@@ -194,10 +223,13 @@ impl Table {
         ensures room { inputs.new.room ≡ inputs.old.room }
         ensures changed { changed_at (setting_of scenario.now) self.new ≡ changed_at (setting_of scenario.now) self.old }
     {
-        let front = self.front(scenario);
-        if self.frontier.claimed() > 0 {
-            return self.claim_beside(scenario, front, inputs);
+        match self.find(scenario, inputs) {
+            Found::Work(pair) => {
+                self.take(scenario, pair, inputs);
+                return Found::Work(pair);
+            }
+            Found::Wait => return Found::Wait,
+            Found::Rest => return Found::Rest,
         }
-        self.claim_first(scenario, front, inputs)
     }
 }

@@ -5,10 +5,9 @@ ghost use Rattle.ltm_setting.specs.Setting.{setting_of};
 ghost use Rattle.ltm_repair.specs.Moves.{Commits};
 ghost use Rattle.ltm_desk.specs.Committing.{readers, rewritten};
 
-use crate::places::place_pair;
+use crate::parts::kept_around_counts;
+use crate::renewing::renew_pair;
 use crate::table::Table;
-use crate::wake::wake;
-use ltm_flows::apply;
 use ltm_loading::{counts_by_place, inputs_by_place, outputs_small};
 use ltm_node::{Solved, no_arrivals, same_shape};
 use ltm_pairs::readers_wake;
@@ -43,20 +42,20 @@ impl Table {
         readers_wake();
         let _slots = slot_count(scenario);
         let outputs = solved.outputs();
-        place_pair(scenario, &self.curves, pair, &mut self.index);
-        wake(
+        renew_pair(
             scenario,
-            &self.curves,
+            &mut self.curves,
             &self.index,
             pair,
             outputs,
             &mut self.changed,
             &mut self.frontier,
+            &mut self.kept,
         );
-        apply(scenario, &mut self.curves, pair, outputs);
         let node = pair.node.0 as usize;
-        self.kept
-            .copy(node, pair.slot as usize, self.claims.row(node, 0));
+        let shape = solved.inputs().shape();
+        let (front, back) = kept_around_counts(shape, self.claims.row(node, 0));
+        self.kept.copy(node, pair.slot as usize, front, back);
         self.frontier.release(pair);
     }
 }

@@ -16,7 +16,7 @@
 ghost use Rattle.std.specs.Prelude.{◌≡◌, ◌==◌, ◌&&◌, ◌<◌, ◌≤◌, nat_le};
 ghost use Rattle.ltm_curve.specs.Table.{counts_of};
 ghost use Rattle.ltm_setting.specs.Setting.{setting_of};
-ghost use Rattle.ltm_flows.specs.Shaped.{IsShaped};
+ghost use Rattle.ltm_loading.specs.Shaped.{IsShaped};
 ghost use Rattle.ltm_frontier.specs.Frontier.{nodes_of, slots_of as slots_in, is_pair, Activates};
 ghost use Rattle.ltm_index.specs.Lists.{links_of, slots_of};
 ghost use Rattle.ltm_desk.specs.Desks.{place_of};
@@ -25,6 +25,7 @@ ghost use Rattle.ltm_desk.specs.Waking.{wakes_tail, wakes_later, wakes_listed, w
 
 use ltm_curve::Curves;
 use ltm_frontier::Frontier;
+use ltm_loading::up_of;
 use ltm_pairs::{ReadIndex, readers_ago, slots_stand_by_entry};
 use ltm_scenario::Scenario;
 use ltm_setting::{delays, head, is_setting, link_count, slot_count, tail};
@@ -129,7 +130,7 @@ pub(crate) fn mark_head(
         (wakes_head (setting_of scenario.now) (counts_of curves.now) (place_of index.now) link.0 boundary entered) }
 {
     let _links = link_count(scenario);
-    let low = curves.position(2 * link.0, entered, boundary.saturating_sub(1));
+    let low = curves.position(up_of(link), entered, boundary.saturating_sub(1));
     mark_later(scenario, frontier, link, boundary);
     mark_listed(scenario, index, frontier, link, low, boundary);
 }

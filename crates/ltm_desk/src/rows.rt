@@ -1,13 +1,11 @@
 //! Rows of numbers, one for each pair of node and slot.
-ghost use Rattle.std.specs.Prelude.{◌≡◌, ℕ, ◌+◌, ◌-◌, ◌*◌, ◌^◌, ◌<◌, ◌≤◌, ◌↔◌, length, slice_index, IfOk, OnOk, IsTrue, Some, false};
+ghost use Rattle.std.specs.Prelude.{◌≡◌, ℕ, ◌+◌, ◌-◌, ◌*◌, ◌^◌, ◌<◌, ◌≤◌, ◌↔◌, ◌++◌, length, slice_index, IfOk, OnOk, IsTrue, Some, false};
 ghost use Rattle.ltm_marks.specs.Marks.{width_of as places_of, rows_of, room_of};
-ghost use Rattle.ltm_node.specs.Shape.{width};
 ghost use Rattle.ltm_loading.specs.Setting.{IsSetting};
-ghost use Rattle.ltm_loading.specs.Pairs.{shape_at};
 ghost use Rattle.ltm_setting.specs.Setting.{setting_of};
-ghost use Rattle.ltm_desk.specs.Starts.{AreStarts};
+ghost use Rattle.ltm_desk.specs.Starts.{row_width, AreStarts};
 
-use crate::comparing::{same_row, still_same_row, write_row};
+use crate::comparing::{copy_parts, same_parts, still_same_row, write_parts};
 use ltm_inputs::shape_of;
 use ltm_marks::Marks;
 use ltm_scenario::Scenario;
@@ -35,28 +33,32 @@ pub struct KeptRows {
 }
 
 /// Where the rows of a node begin within a slot, for each node, and how many numbers the rows of a slot are.
-fn starts_of(alloc: Global, scenario: &Scenario) -> Result<Vec<usize>, NoMemory>
-    ensures { IfOk result (λ starts. AreStarts (setting_of scenario.now) (setting_of scenario.now).nodes starts.items) }
+fn starts_of(alloc: Global, scenario: &Scenario, counted: bool) -> Result<Vec<usize>, NoMemory>
+    ensures { IfOk result (λ starts. AreStarts (setting_of scenario.now) counted (setting_of scenario.now).nodes starts.items) }
 {
     is_setting(scenario);
     let mut starts = Vec::new(alloc);
     let mut total = 0usize;
     starts.push(total)?;
     for node in 0..node_count(scenario) {
-        total += width_of(scenario, NodeId(node));
+        total += width_of(scenario, NodeId(node), counted);
         starts.push(total)?;
     }
     Ok(starts)
 }
 
-/// How many numbers the inputs of a node are.
-fn width_of(scenario: &Scenario, node: NodeId) -> usize
+/// How many numbers the inputs of a node are, with or without its counts.
+fn width_of(scenario: &Scenario, node: NodeId, counted: bool) -> usize
     requires setting { IsSetting (setting_of scenario.now) }
     requires node { node.0 < (setting_of scenario.now).nodes }
-    ensures width { result ≡ width (shape_at (setting_of scenario.now) node.0) }
+    ensures width { result ≡ row_width (setting_of scenario.now) counted node.0 }
     ensures small { result ≤ 1162 }
 {
-    shape_of(scenario, node).width()
+    let shape = shape_of(scenario, node);
+    if counted {
+        return shape.width();
+    }
+    shape.width() - shape.counts_width()
 }
 
 /// So many zeros.
@@ -81,17 +83,23 @@ impl KeptRows {
       kept_row,
       SameRows,
       PutsRow,
+      ForgetsRow,
     };
     ghost use Rattle.ltm_desk.specs.Ready.{HasRows};
 
-    /// Room for the inputs of each node in so many slots; no row is there.
-    pub fn create(alloc: Global, scenario: &Scenario, slots: usize) -> Result<KeptRows, NoMemory>
+    /// Room for the inputs of each node in so many slots, with or without its counts; no row is there.
+    pub fn create(
+        alloc: Global,
+        scenario: &Scenario,
+        counted: bool,
+        slots: usize,
+    ) -> Result<KeptRows, NoMemory>
         requires { slots ≤ 10000 }
-        ensures rows { IfOk result (HasRows (setting_of scenario.now) slots) }
+        ensures rows { IfOk result (HasRows (setting_of scenario.now) counted slots) }
         ensures none { IfOk result (λ k. (u t : ℕ) → has_row k u t ≡ false) }
     {
         let nodes = node_count(scenario);
-        let starts = starts_of(alloc, scenario)?;
+        let starts = starts_of(alloc, scenario, counted)?;
         let width = starts[starts.len() - 1];
         let numbers = zeros(alloc, slots, width)?;
         let there = Marks::create(alloc, nodes as usize, slots)?;
@@ -150,16 +158,7 @@ impl KeptRows {
         self.there.is_marked(node, slot)
     }
 
-    /// Whether the row of a pair is this one.
-    pub fn is_row(&self, node: usize, slot: usize, row: &[u64]) -> bool
-        requires node { node < nodes_of self.now }
-        requires slot { slot < slots_of self.now }
-        ensures { IsTrue result ↔ row_of self.now node slot ≡ row.now }
-    {
-        same_row(self.row(node, slot), row)
-    }
-
-    /// The same, where it is likely to be: all numbers are looked at, several at a time.
+    /// Whether the row of a pair is this one, where it is likely to be: all numbers are looked at, several at a time.
     pub fn is_still_row(&self, node: usize, slot: usize, row: &[u64]) -> bool
         requires node { node < nodes_of self.now }
         requires slot { slot < slots_of self.now }
@@ -168,43 +167,55 @@ impl KeptRows {
         still_same_row(self.row(node, slot), row)
     }
 
-    /// Whether this row of a pair is there.
-    pub fn keeps(&self, node: usize, slot: usize, row: &[u64]) -> bool
+    /// Whether this row of a pair, which is given in two parts, is there.
+    pub fn keeps(&self, node: usize, slot: usize, front: &[u64], back: &[u64]) -> bool
         requires node { node < nodes_of self.now }
         requires slot { slot < slots_of self.now }
-        ensures { IsTrue result ↔ kept_row self.now node slot ≡ Some row.now }
+        requires width { length front.now + length back.now ≡ width_of self.now node }
+        ensures { IsTrue result ↔ kept_row self.now node slot ≡ Some (front.now ++ back.now) }
     {
         if !self.has(node, slot) {
             return false;
         }
-        self.is_row(node, slot, row)
+        same_parts(self.row(node, slot), front, back)
     }
 
-    /// Puts a row in the place of a pair's, and changes no other.
-    pub fn put(&mut self, node: usize, slot: usize, row: &[u64])
+    /// Puts a row, which is given in two parts, in the place of a pair's, and changes no other.
+    pub fn put(&mut self, node: usize, slot: usize, front: &[u64], back: &[u64])
         requires node { node < nodes_of self.old }
         requires slot { slot < slots_of self.old }
-        requires width { length row.now ≡ width_of self.old node }
-        requires small { (i : ℕ) → i < length row.now → slice_index row.now i < 2 ^ 32 }
-        ensures { PutsRow self.old self.new node slot row.now }
+        requires width { length front.now + length back.now ≡ width_of self.old node }
+        requires front { (i : ℕ) → i < length front.now → slice_index front.now i < 2 ^ 32 }
+        requires back { (i : ℕ) → i < length back.now → slice_index back.now i < 2 ^ 32 }
+        ensures { PutsRow self.old self.new node slot (front.now ++ back.now) }
     {
         let from = self.start(node, slot);
         let to = from + self.width(node);
-        write_row(&mut self.numbers[from..to], row);
+        write_parts(&mut self.numbers[from..to], front, back);
         self.there.mark(node, slot);
     }
 
-    /// Puts a row of another table in the place of a pair's, and changes no other.
-    pub fn copy(&mut self, node: usize, slot: usize, row: &[u32])
+    /// Puts a row, of which two parts are given that stand in another table, in the place of a pair's, and changes no other.
+    pub fn copy(&mut self, node: usize, slot: usize, front: &[u32], back: &[u32])
         requires node { node < nodes_of self.old }
         requires slot { slot < slots_of self.old }
-        requires width { length row.now ≡ width_of self.old node }
-        ensures { PutsRow self.old self.new node slot row.now }
+        requires width { length front.now + length back.now ≡ width_of self.old node }
+        ensures { PutsRow self.old self.new node slot (front.now ++ back.now) }
     {
         let from = self.start(node, slot);
         let to = from + self.width(node);
-        self.numbers[from..to].copy_from_slice(row);
+        copy_parts(&mut self.numbers[from..to], front, back);
         self.there.mark(node, slot);
+    }
+
+    /// The row of a pair is there no more, and no other changes.
+    #[inline]
+    pub fn forget(&mut self, node: usize, slot: usize)
+        requires node { node < nodes_of self.old }
+        requires slot { slot < slots_of self.old }
+        ensures { ForgetsRow self.old self.new node slot }
+    {
+        self.there.unmark(node, slot);
     }
 
     /// Makes room for so many slots. Nothing else that is seen changes, also with want of memory.

@@ -8,31 +8,30 @@ ghost use Rattle.ltm_loading.specs.Setting.{Setting};
 ghost use Rattle.ltm_loading.specs.Groups.{groups};
 ghost use Rattle.ltm_scenario.specs.Data.{ScenarioData};
 ghost use Rattle.ltm_setting.specs.Setting.{setting_of};
-ghost use Rattle.ltm_flows.specs.Shaped.{IsShaped};
+ghost use Rattle.ltm_loading.specs.Shaped.{IsShaped};
 ghost use Rattle.ltm_repair.specs.Counting.{claims_out};
 ghost use Rattle.ltm_repair.specs.Desk.{IsAtRest};
 ghost use Rattle.ltm_repair.specs.Moves.{GivesBack};
 ghost use Rattle.ltm_desk.specs.Cells.{count_cells};
 
 use crate::batches::{mark_from, mark_touched};
-use crate::opening::keep_all;
+use crate::opening::Opening;
 use crate::room::wide_room;
 use crate::rows::KeptRows;
 use ltm_curve::{Changed, Curves};
-use ltm_flows::cold;
 use ltm_frontier::Frontier;
-use ltm_node::NodeInputs;
 use ltm_pairs::ReadIndex;
 use ltm_scenario::{Edit, Scenario};
-use ltm_setting::{is_setting, link_count, node_count, slot_count};
+use ltm_setting::{group_count, is_setting, node_count, slot_count};
 use ltm_units::{NoMemory, Pair};
 use std::alloc::Global;
 
 /// The greatest count of numbers that the inputs of a pair are: room for them serves every claim.
 pub const WIDEST: u32 = 1162;
 
-/// What a repair works on: the counts, the inputs that are kept of each pair, the active and the claimed pairs with the
-/// inputs of the claims, for each link and boundary the slots that read there, and the cells that commits have changed.
+/// What a repair works on: the counts, the inputs that are kept of each pair without its counts, the active and the
+/// claimed pairs with the inputs of the claims, for each link and boundary the slots that read there, and the cells that
+/// commits have changed.
 #[derive(Drop)]
 pub struct Table {
     pub(crate) curves: Curves,
@@ -56,16 +55,16 @@ impl Table {
     {
         is_setting(scenario);
         let nodes = node_count(scenario);
-        let links = link_count(scenario);
         let slots = slot_count(scenario);
-        let curves = cold(alloc, scenario)?;
-        let mut kept = KeptRows::create(alloc, scenario, slots as usize)?;
-        let mut index = ReadIndex::create(alloc, links, slots)?;
-        let mut inputs = NodeInputs::create(alloc, WIDEST)?;
-        keep_all(scenario, &curves, &mut kept, &mut index, &mut inputs);
+        let Opening {
+            curves,
+            kept,
+            index,
+            ..
+        } = Opening::load(alloc, scenario)?;
         let frontier = Frontier::create(alloc, nodes, slots)?;
-        let claims = KeptRows::create(alloc, scenario, 1)?;
-        let changed = Changed::create(alloc, 2 * links + nodes + 1, slots)?;
+        let claims = KeptRows::create(alloc, scenario, true, 1)?;
+        let changed = Changed::create(alloc, group_count(scenario), slots)?;
         Ok(Table {
             curves,
             kept,

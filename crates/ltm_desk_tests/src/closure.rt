@@ -10,7 +10,7 @@ ghost use Rattle.ltm_desk.specs.Ready.{IsReady};
 
 use ltm_casefile::read_case;
 use ltm_desk::{Found, Table, WIDEST, tables_fit};
-use ltm_io::{Doc, MemFolder};
+use ltm_io::MemFolder;
 use ltm_node::{NodeInputs, NodeOutputs, solve};
 use ltm_pairs::batch_touches_readers;
 use ltm_scenario::{Batch, Edit, Scenario};
@@ -20,21 +20,14 @@ use std::process::Abort;
 
 /// The four files of the road.
 fn files(alloc: Global) -> Result<MemFolder, NoMemory> {
-    let mut folder = MemFolder::create(alloc, &[])?;
-    folder.put(Doc::Setup, b"step_ms,slots,origin_capacity\n1000,4,1\n")?;
-    folder.put(
-        Doc::Links,
-        b"link,from,to,length_m,free_kmh,wave_kmh,jam_per_km\na,n1,n2,20,36,18,150\n",
-    )?;
-    folder.put(
-        Doc::Demand,
-        b"origin,destination,from_slot,to_slot,vehicles\nn1,n2,0,2,1\n",
-    )?;
-    folder.put(
-        Doc::Splits,
-        b"node,destination,from_slot,weights\nn1,n2,0,a=1\n",
-    )?;
-    Ok(folder)
+    MemFolder::of_case(
+        alloc,
+        &[],
+        "step_ms,slots,origin_capacity\n1000,4,1\n",
+        "link,from,to,length_m,free_kmh,wave_kmh,jam_per_km\na,n1,n2,20,36,18,150\n",
+        "origin,destination,from_slot,to_slot,vehicles\nn1,n2,0,2,1\n",
+        "node,destination,from_slot,weights\nn1,n2,0,a=1\n",
+    )
 }
 
 /// The road, open.

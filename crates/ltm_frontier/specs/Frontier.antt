@@ -52,13 +52,18 @@ pub record IsFront (f : Frontier) (t : ℕ) : Type 0 where
 abbrev pub NoneBefore : Frontier → ℕ → Type 0
 NoneBefore f end = (u t : ℕ) → u < nodes_of f → t < end → is_active f u t ≡ false
 
--- the first slot before an end that has an active pair
-pub record IsFirst (f : Frontier) (end t : ℕ) : Type 0 where
+-- the first active pair before an end, slot after slot
+pub record IsFirst (f : Frontier) (end t u : ℕ) : Type 0 where
   pub inside : t < end
   pub before : NoneBefore f t
-  pub node : ℕ
-  pub is_node : node < nodes_of f
-  pub active : is_active f node t ≡ true
+  pub is_node : u < nodes_of f
+  pub active : is_active f u t ≡ true
+  pub least : (w : ℕ) → w < u → is_active f w t ≡ false
+
+-- the least slot of a pair that is not idle, and a node below which no pair of it is active
+pub record IsFrontFrom (f : Frontier) (t u : ℕ) : Type 0 where
+  pub front : IsFront f t
+  pub passed : (w : ℕ) → w < nodes_of f → w < u → is_active f w t ≡ false
 
 -- the least active node of a slot that is not below one
 pub record IsNextActive (f : Frontier) (t from u : ℕ) : Type 0 where

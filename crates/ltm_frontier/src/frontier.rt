@@ -1,5 +1,5 @@
 //! The frontier of a repair.
-ghost use Rattle.std.specs.Prelude.{◌≡◌, ℕ, ◌+◌, ◌<◌, ◌≤◌, true, false, IfOk, OnOk, OnErr, MatchOption, IsTrue};
+ghost use Rattle.std.specs.Prelude.{◌≡◌, ℕ, ◌+◌, ◌<◌, ◌≤◌, min, true, false, IfOk, OnOk, OnErr, MatchOption, IsTrue};
 ghost use Rattle.ltm_marks.specs.Marks.{width_of, rows_of, is_marked};
 ghost use Rattle.ltm_frontier.specs.Claims.{width, slot_in, count_in, has_node};
 
@@ -14,11 +14,30 @@ pub struct Frontier {
     active: Marks,
     claims: Claims,
     low: u32,
+    first: u32,
     ghost nodes: { width claims ≡ width_of active },
     ghost apart: { (u : ℕ) → u < width_of active → has_node claims u ≡ true → is_marked active u (slot_in claims) ≡ false },
     ghost there: { (u : ℕ) → u < width_of active → has_node claims u ≡ true → slot_in claims < rows_of active },
     ghost within: { low ≤ rows_of active },
     ghost idle: { (u t : ℕ) → u < width_of active → t < low → is_marked active u t ≡ false },
+    ghost passed: { (u : ℕ) → u < width_of active → u < first → low < rows_of active → is_marked active u low ≡ false },
+}
+
+/// The node below which no pair of the front slot is active, once a pair is made active: `low` is the slot from which the
+/// front is sought, and no pair of it is active below node `first`.
+#[inline]
+fn first_with(low: u32, first: u32, pair: Pair) -> u32
+    ensures earlier { pair.slot < low → result ≡ pair.node.0 }
+    ensures same { pair.slot ≡ low → result ≡ min first pair.node.0 }
+    ensures later { low < pair.slot → result ≡ first }
+{
+    if pair.slot > low {
+        first
+    } else if pair.slot == low {
+        first.min(pair.node.0)
+    } else {
+        pair.node.0
+    }
 }
 
 impl Frontier {
@@ -32,6 +51,7 @@ impl Frontier {
       ClaimsAreOf,
       AllIdle,
       IsFront,
+      IsFrontFrom,
       IsNextActive,
       NoneActive,
       SamePairs,
@@ -62,6 +82,7 @@ impl Frontier {
             active,
             claims,
             low: slots,
+            first: 0,
         })
     }
 
@@ -110,33 +131,60 @@ impl Frontier {
         self.claims.count()
     }
 
-    /// The first slot before an end that has an active pair.
-    fn first_active(&self, end: u32) -> Option<u32>
+    /// The first active pair before an end, slot after slot.
+    fn first_active(&self, end: u32) -> Option<Pair>
         requires { end ≤ slots_of self.now }
-        ensures { MatchOption result (NoneBefore self.now end) (IsFirst self.now end) }
+        ensures { MatchOption result (NoneBefore self.now end) (λ pair. IsFirst self.now end pair.slot pair.node.0) }
     {
+        let _width = self.active.width();
+        let mut from = self.first;
         for slot in self.low..end {
-            match self.active.next_marked(slot as usize, 0) {
-                Some(_) => return Some(slot),
-                None => {}
+            if let Some(node) = self.active.next_marked(slot as usize, from as usize) {
+                let node = NodeId(node as u32);
+                return Some(Pair { node, slot });
             }
+            from = 0;
         }
         None
+    }
+
+    /// A node below which no pair of a slot is active.
+    #[inline]
+    fn first_at(&self, slot: u32) -> u32
+        requires { slot < slots_of self.now }
+        ensures { (u : ℕ) → u < nodes_of self.now → u < result → is_active self.now u slot ≡ false }
+    {
+        if slot == self.low { self.first } else { 0 }
+    }
+
+    /// The least slot of a pair that is active or claimed, and a node below which no pair of it is active; none exactly where
+    /// every pair is idle.
+    fn search(&self) -> Option<Pair>
+        ensures { MatchOption result (AllIdle self.now) (λ pair. IsFrontFrom self.now pair.slot pair.node.0) }
+    {
+        let slot = self.claims.slot();
+        match self.claims.first() {
+            Some(_) => match self.first_active(slot) {
+                Some(pair) => Some(pair),
+                None => Some(Pair {
+                    node: NodeId(self.first_at(slot)),
+                    slot,
+                }),
+            },
+            None => match self.first_active(self.slots()) {
+                Some(pair) => Some(pair),
+                None => None,
+            },
+        }
     }
 
     /// The least slot of a pair that is active or claimed; none exactly where every pair is idle.
     pub fn front(&self) -> Option<u32>
         ensures { MatchOption result (AllIdle self.now) (IsFront self.now) }
     {
-        match self.claims.first() {
-            Some(_) => match self.first_active(self.claims.slot()) {
-                Some(slot) => Some(slot),
-                None => Some(self.claims.slot()),
-            },
-            None => match self.first_active(self.slots()) {
-                Some(slot) => Some(slot),
-                None => None,
-            },
+        match self.search() {
+            Some(pair) => Some(pair.slot),
+            None => None,
         }
     }
 
@@ -146,12 +194,18 @@ impl Frontier {
         ensures size { SameSize self.old self.new }
         ensures pairs { SamePairs self.old self.new }
     {
-        let front = self.front();
-        match front {
-            Some(slot) => self.low = slot,
-            None => self.low = self.active.rows() as u32,
+        match self.search() {
+            Some(pair) => {
+                self.low = pair.slot;
+                self.first = pair.node.0;
+                Some(pair.slot)
+            }
+            None => {
+                self.low = self.active.rows() as u32;
+                self.first = 0;
+                None
+            }
         }
-        front
     }
 
     /// Makes the pair active, unless it is claimed.
@@ -162,6 +216,7 @@ impl Frontier {
         ensures { Activates self.old self.new (is_pair pair.node.0 pair.slot) }
     {
         if !self.claims.has(pair.node.0, pair.slot) {
+            self.first = first_with(self.low, self.first, pair);
             self.low = self.low.min(pair.slot);
             self.active.mark(pair.node.0 as usize, pair.slot as usize);
         }
@@ -195,7 +250,8 @@ impl Frontier {
         requires { slot < slots_of self.now }
         ensures { MatchOption result (NoneActive self.now slot from.0) (λ node. IsNextActive self.now slot from.0 node.0) }
     {
-        match self.active.next_marked(slot as usize, from.0 as usize) {
+        let from = from.0.max(self.first_at(slot));
+        match self.active.next_marked(slot as usize, from as usize) {
             Some(node) => Some(NodeId(node as u32)),
             None => None,
         }
@@ -230,6 +286,7 @@ impl Frontier {
         ensures { Voids self.old self.new }
     {
         self.low = self.low.min(self.claims.slot());
+        self.first = 0;
         self.claims.mark_all(&mut self.active);
         self.claims.clear();
     }

@@ -122,6 +122,10 @@ accept_counts s touched e is step =
           differences_more s e touched loadings step first in
           let same : e.commits ≡ s.commits = step.commits in
           omega arith;
+      none_lost = rw (step.settled, step.commits) (rw at_settled (λ none u t x l lost.
+          let nodes : (now s).nodes ≡ (now e).nodes = step.network.nodes in
+          let within : (s.settings s.settled).slots ≤ (now s).slots = is.history.horizon s.settled first in
+          is.count.none_lost none u t (omega arith) l (sym (step.desk.grows.old_kept u t (omega (arith, within))) ∙ lost)));
       fits = accept_fits s touched e is step;
     }
 

@@ -2,6 +2,7 @@
 use Rattle.std.proofs.Common.{◌≡◌, ℕ, ◌+◌, ◌≤◌, arith, inl, inr, sym, ◌∙◌, Bool, true, false, List}
 use Rattle.std.specs.Prelude.{Some, None}
 use Rattle.ltm_loading.specs.Setting.{IsSetting}
+use Rattle.ltm_loading.specs.Pairs.{pair_row}
 use Rattle.ltm_repair.specs.Desk.{IsAtRest}
 use Rattle.ltm_repair.specs.Facts.{IsSound, IsClaim}
 use Rattle.ltm_repair.specs.Counting.{left_to_do, strayed, busy, undone}
@@ -46,6 +47,7 @@ count_same s e only kept calm is =
     record {
       covers = rw (books.settings, books.settled, books.accepted, only.commits, kept) is.covers;
       no_waste = rw (books.settings, books.settled, books.accepted, only.commits, kept) is.no_waste;
+      none_lost = rw (books.settings, books.settled, books.accepted, only.commits, kept) is.none_lost;
       fits = rw (books.settings, books.settled, books.accepted, only.commits)
           (let l : undone (now s).nodes (now s).slots e.desk ≤ undone (now s).nodes (now s).slots s.desk = calm_undone (now s).nodes (now s).slots s.desk e.desk calm in
           omega (arith, is.fits));
@@ -137,6 +139,7 @@ commit_counts s u t row wakes e is step =
           let fewer : left_to_do (now s) (loadings s.accepted) e.desk + 1 ≡ left_to_do (now s) (loadings s.accepted) s.desk =
           commit_done (now s) s.desk u t row wakes e.desk (loadings s.accepted) (now_is_setting s is) is.desk step.desk (are s.accepted first (omega arith)) in
           omega arith);
+      none_lost = rw step.commits (λ none. absurd (omega arith));
       fits = rw (books.settings, books.settled, books.accepted, step.commits)
           (let l : undone (now s).nodes (now s).slots e.desk + 1 ≤ undone (now s).nodes (now s).slots s.desk =
           commit_undone (now s) s.desk u t row wakes e.desk is.desk step.desk in omega (arith, is.count.fits));
@@ -174,6 +177,7 @@ publish_repair s e is step = record {
   count = record {
     covers = rw (step.settings, step.settled, step.accepted, step.commits, step.desk) is.count.covers;
     no_waste = rw (step.settings, step.settled, step.accepted, step.commits, step.desk) is.count.no_waste;
+    none_lost = rw (step.settings, step.settled, step.accepted, step.commits, step.desk) is.count.none_lost;
     fits = rw (step.settings, step.settled, step.accepted, step.commits, step.desk) is.count.fits;
   };
 }
@@ -188,6 +192,8 @@ settle_counts s n e is step =
           let home : strayed (now s).slots (now s) c s.desk ≡ 0 = rest_home (now s) s.desk c setting is.desk rest loading in omega arith);
       no_waste = rw (step.settings, step.settled, step.accepted, step.commits, step.desk) (λ loadings are.
           let done : left_to_do (now s) (loadings s.accepted) s.desk ≡ 0 = rest_done (now s) s.desk (loadings s.accepted) setting is.desk rest (are s.accepted (omega arith) (omega arith)) in omega arith);
+      none_lost = rw (step.settings, step.settled, step.accepted, step.commits, step.desk) (λ none u t x l lost.
+          let kept : s.desk.kept u t ≡ Some (pair_row (now s) s.desk.counts u t) = is.desk.active.idle_is_settled u t x l (rest u t x l) in absurd (cc));
       fits = rw (step.settings, step.settled, step.accepted, step.commits, step.desk)
           (let none : undone (now s).nodes (now s).slots s.desk ≡ 0 = rest_undone (now s) s.desk rest in omega arith);
     }

@@ -36,11 +36,18 @@ accept_steps r s d e is same h step =
             step_counts s d.counts e.counts u t row is y (λ g b of m. sym (step.old_counts g b (t + 1) (of_group s u g b is y of) m (omega arith))) (step_network r s d.counts u t row same was)
         | inr new ↦ let n : e.kept u t ≡ None = step.new_kept u t new l in absurd (cc)
       ];
-      unset = λ u t y l none g b of m. elim (cases_lt t r.slots) [
-        | inl old ↦
-            let of_r : IsOf r u g b = subst (λ (z : Type 0). z) (sym (of_same r s u g b same)) of in
-            step.old_counts g b (t + 1) (of_group s u g b is y of) m (omega arith) ∙ h.unset u t (omega arith) old (sym (step.old_kept u t old) ∙ none) g b of_r (omega arith)
-        | inr new ↦ step.new_counts g b (t + 1) (of_group s u g b is y of) m (omega arith) (omega arith)
+      unset = λ u t y l none. elim (cases_lt t r.slots) [
+        | inr new ↦ inl (λ g b of m. step.new_counts g b (t + 1) (of_group s u g b is y of) m (omega arith) (omega arith))
+        | inl old ↦ elim (h.unset u t (omega arith) old (sym (step.old_kept u t old) ∙ none)) [
+          | inl zero ↦ inl (λ g b of m.
+              let of_r : IsOf r u g b = subst (λ (z : Type 0). z) (sym (of_same r s u g b same)) of in
+              step.old_counts g b (t + 1) (of_group s u g b is y of) m (omega arith) ∙ zero g b of_r (omega arith))
+          | inr set ↦ inr (
+            set.0,
+            step_counts s d.counts e.counts u t set.0 is y (λ g b of m. sym (step.old_counts g b (t + 1) (of_group s u g b is y of) m (omega arith)))
+                (step_network r s d.counts u t set.0 same set.1),
+          )
+        ]
       ];
     }
 

@@ -1,7 +1,8 @@
 -- What holds of a desk is kept by a commit.
-use Rattle.std.proofs.Common.{◌≡◌, ℕ, ◌+◌, ◌<◌, ◌≤◌, arith, inl, inr, ap, subst, sym, ◌∙◌, Bool, false, ◌||◌}
+use Rattle.std.proofs.Common.{◌≡◌, ℕ, ◌+◌, ◌<◌, ◌≤◌, arith, inl, inr, ap, subst, sym, ◌∙◌, Bool, false, ◌||◌, refl, ◌⊎◌}
 use Rattle.std.specs.Prelude.{Some, None, List}
 use Rattle.std.proofs.lemmas.Bool.{cases_lt, cases_eq, cases_Bool}
+use Rattle.ltm_curve.specs.Counts.{Counts}
 use Rattle.ltm_loading.specs.Setting.{Setting, IsSetting}
 use Rattle.ltm_loading.specs.Groups.{up_of, down_of, dep_of, arr_of}
 use Rattle.ltm_loading.specs.Pairs.{pair_row, arms_of, arm_group}
@@ -11,8 +12,8 @@ use Rattle.ltm_loading.proofs.Picks.{pick_first, pick_second}
 use Rattle.ltm_loading.proofs.Setters.{of_group}
 use Rattle.ltm_loading.proofs.OneSetter.{set_by_one_pair_holds}
 use Rattle.ltm_repair.specs.Desk.{Desk, IsIdle, IsOther}
-use Rattle.ltm_repair.specs.Facts.{CountsAreSteps, IsClaim, IsSound}
-use Rattle.ltm_repair.specs.Moves.{Sets, Commits}
+use Rattle.ltm_repair.specs.Facts.{CountsAreSteps, IsUnset, IsStepOf, IsClaim, IsSound}
+use Rattle.ltm_repair.specs.Moves.{KeepsRow, Sets, Commits}
 use Rattle.ltm_repair.proofs.Cases.{cases_pair, or_none, or_one, cases_option}
 use Rattle.ltm_repair.proofs.Networks.{step_counts}
 
@@ -57,6 +58,29 @@ no_setter s u w d is x y none of =
       ]
     ]
 
+-- what is kept of another pair after a commit was kept before
+pub kept_before : (s : Setting) (d : Desk) (u t : ℕ) (row : List ℕ) (e : Desk) → KeepsRow s d u t row e → (w v : ℕ) → IsOther u t w v → (that : List ℕ) → e.kept w v ≡ Some that → d.kept w v ≡ Some that
+kept_before s d u t row e keeps w v other that kept =
+    elim (cases_pair u (t + 1) w v) [
+      | inr apart ↦ sym (keeps.others w v other apart) ∙ kept
+      | inl at ↦ elim keeps.next [
+        | inl same ↦ (let stays : e.kept w v ≡ d.kept w v = rw (← at.0, ← at.1) same in sym stays ∙ kept)
+        | inr lost ↦ (let gone : e.kept w v ≡ None = rw (← at.0, ← at.1) lost.gone in absurd (cc))
+      ]
+    ]
+
+-- the counts that a pair without kept inputs sets are a step or 0 where they were so before
+unset_steps : (s : Setting) (d : Desk) (c : Counts) (w v : ℕ) → IsSetting s → w < s.nodes → v < s.slots → CountsAreSteps s d →
+    ((g b : ℕ) → IsOf s w g b → b < s.destinations → d.counts g b (v + 1) ≡ c g b (v + 1)) → IsUnset s c w v ⊎ ((row : List ℕ) × IsStepOf s c w v row)
+unset_steps s d c w v is y l h stays =
+    elim (cases_option (d.kept w v)) [
+      | inr some ↦ inr (some.0, step_counts s d.counts c w v some.0 is y stays (h.steps w v y l some.0 some.1))
+      | inl none ↦ elim (h.unset w v y l none) [
+        | inl zero ↦ inl (λ g b of m. sym (stays g b of m) ∙ zero g b of m)
+        | inr set ↦ inr (set.0, step_counts s d.counts c w v set.0 is y stays set.1)
+      ]
+    ]
+
 commit_steps : (s : Setting) (d : Desk) (u t : ℕ) (row : List ℕ) (e : Desk) → IsSetting s → u < s.nodes → CountsAreSteps s d → Sets s d u t row e → CountsAreSteps s e
 commit_steps s d u t row e is x h step = record {
   empty = λ g b y m. step.later g b 0 y m (omega arith) (λ at. omega arith) ∙ h.empty g b y m;
@@ -70,15 +94,27 @@ commit_steps s d u t row e is x h step = record {
   steps = λ w v y l that kept. elim (cases_pair u t w v) [
     | inl at ↦
         let h2 : e.kept u t ≡ Some that = rw (at.0, at.1) kept in
-        let same : row ≡ that = let h1 : e.kept u t ≡ Some row = step.keeps in cc in
+        let same : row ≡ that = let h1 : e.kept u t ≡ Some row = step.keeps.this in cc in
         rw (← at.0, ← at.1, ← same) step.step
-    | inr other ↦ step_counts s d.counts e.counts w v that is y (others_stay s d u t row e is x step w v y l other) (h.steps w v y l that (sym (step.kept w v other) ∙ kept))
+    | inr other ↦ step_counts s d.counts e.counts w v that is y (others_stay s d u t row e is x step w v y l other) (h.steps w v y l that (kept_before s d u t row e step.keeps w v other that kept))
   ];
-  unset = λ w v y l none g b of m. elim (cases_pair u t w v) [
-    | inl at ↦ let k : e.kept w v ≡ Some row = rw (← at.0, ← at.1) step.keeps in absurd (cc)
-    | inr other ↦ sym (others_stay s d u t row e is x step w v y l other g b of m) ∙ h.unset w v y l (sym (step.kept w v other) ∙ none) g b of m
+  unset = λ w v y l none. elim (cases_pair u t w v) [
+    | inl at ↦ let k : e.kept w v ≡ Some row = rw (← at.0, ← at.1) step.keeps.this in absurd (cc)
+    | inr other ↦ unset_steps s d e.counts w v is y l h (others_stay s d u t row e is x step w v y l other)
   ];
 }
+
+-- no other pair is forgotten that is settled
+settled_stays : (s : Setting) (d : Desk) (u t : ℕ) (row : List ℕ) (e : Desk) → KeepsRow s d u t row e → (w v : ℕ) → IsOther u t w v →
+    d.kept w v ≡ Some (pair_row s e.counts w v) → e.kept w v ≡ Some (pair_row s e.counts w v)
+settled_stays s d u t row e keeps w v other settled =
+    elim (cases_pair u (t + 1) w v) [
+      | inr apart ↦ keeps.others w v other apart ∙ settled
+      | inl at ↦ elim keeps.next [
+        | inl same ↦ (let stays : e.kept w v ≡ d.kept w v = rw (← at.0, ← at.1) same in stays ∙ settled)
+        | inr lost ↦ (let there : d.kept u (t + 1) ≡ Some (pair_row s e.counts u (t + 1)) = rw (at.0, at.1) settled in absurd (lost.outdated e.counts refl there))
+      ]
+    ]
 
 pub commit_keeps : (s : Setting) (d : Desk) (u t : ℕ) (row : List ℕ) (wakes : ℕ → ℕ → Bool) (e : Desk) → IsSetting s → IsSound s d → Commits s d u t row wakes e → IsSound s e
 commit_keeps s d u t row wakes e is sound step =
@@ -96,9 +132,12 @@ commit_keeps s d u t row wakes e is sound step =
             elim (cases_pair u t w v) [
               | inl at ↦
                   let fresh : row ≡ pair_row s d.counts w v = rw (← at.0, ← at.1) mine.now in
-                  let keeps : e.kept w v ≡ Some row = rw (← at.0, ← at.1) step.sets.keeps in
+                  let keeps : e.kept w v ≡ Some row = rw (← at.0, ← at.1) step.sets.keeps.this in
                   keeps ∙ ap (λ z. Some z) (fresh ∙ sym quiet)
-              | inr other ↦ step.sets.kept w v other ∙ sound.active.idle_is_settled w v x l (both.0, sym (step.claimed w v other) ∙ idle.1) ∙ ap (λ z. Some z) (sym quiet)
+              | inr other ↦
+                  let settled : d.kept w v ≡ Some (pair_row s e.counts w v) =
+                  sound.active.idle_is_settled w v x l (both.0, sym (step.claimed w v other) ∙ idle.1) ∙ ap (λ z. Some z) (sym quiet) in
+                  settled_stays s d u t row e step.sets.keeps w v other settled
             ];
         apart = λ w v active. elim (cases_pair u t w v) [
           | inl at ↦ rw (← at.0, ← at.1) step.free
@@ -132,7 +171,7 @@ commit_keeps s d u t row wakes e is sound step =
               is_node = theirs.is_node;
               is_slot = theirs.is_slot;
               now = theirs.now ∙ sym (subst P at (slot_stays s d u t row e is mine.is_slot step.sets w theirs.is_node));
-              changed = λ kept. theirs.changed (sym (step.sets.kept w v other) ∙ kept);
+              changed = λ kept. theirs.changed (kept_before s d u t row e step.sets.keeps w v other that kept);
               front = λ a b x low.
                   let before : IsIdle d a b = theirs.front a b x low in
                   let earlier : b < v = low in

@@ -1,3 +1,4 @@
+pub mod ButOne
 pub mod Cases
 pub mod Networks
 pub mod Fronts

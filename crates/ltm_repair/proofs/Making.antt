@@ -1,10 +1,18 @@
 -- How what code does makes an event.
-use Rattle.std.proofs.Common.{◌≡◌, ℕ, ◌+◌, ◌<◌, arith, inl, inr, ap, refl, sym, subst, Bool, true, false, List}
-use Rattle.std.specs.Prelude.{◌⊎◌, Option, Some, None}
+use Rattle.std.proofs.Common.{◌≡◌, ℕ, ◌+◌, ◌<◌, arith, inl, inr, ap, refl, sym, ◌∙◌, ◌*◌, subst, Bool, true, false, List}
+use Rattle.std.specs.Prelude.{◌⊎◌, Option, Some, None, length, take, drop, ◌++◌}
+use Rattle.std.proofs.lemmas.List.{append_assoc, length-append}
+use Rattle.ltm_curve.proofs.Lists.{length-list_below}
+use Rattle.std.proofs.Math.Seq.{take-append_seam, drop-append_seam}
 use Rattle.std.proofs.lemmas.Bool.{cases_eq}
 use Rattle.ltm_node.specs.Solvable.{IsSolvable}
 use Rattle.ltm_loading.specs.Setting.{Setting}
-use Rattle.ltm_loading.specs.Pairs.{shape_at, count_row}
+use Rattle.ltm_curve.specs.Counts.{Counts}
+use Rattle.ltm_curve.specs.First.{list_below}
+use Rattle.ltm_loading.specs.Groups.{up_of}
+use Rattle.ltm_loading.specs.Flows.{receiving}
+use Rattle.ltm_loading.specs.Pairs.{arms_of, arm_group, arm_capacity, arrived_by, grid, sending, shape_at, pair_row, count_row}
+use Rattle.ltm_loading.proofs.Rows.{length-grid}
 use Rattle.ltm_loading.proofs.Bounds.{in_range_holds}
 use Rattle.ltm_loading.proofs.Setters.{same_step}
 use Rattle.ltm_loading.proofs.Unlike.{unlike_cases}
@@ -12,7 +20,7 @@ use Rattle.ltm_repair.specs.Facts.{IsClaim}
 use Rattle.ltm_repair.specs.State.{RepairState}
 use Rattle.ltm_repair.specs.Events.{GiveBack, Stay, Settled, Happens}
 use Rattle.ltm_repair.specs.Answers.{ClaimAnswer, Got, NotYet, Rest, CommitAnswer, Done, Stale, PublishAnswer, Shown, NotAtRest, IsKept, AnswersClaim, AnswersCommit, AnswersGiveBack, AnswersAccept, AnswersPublish, AnswersSettle}
-use Rattle.ltm_repair.specs.Making.{IdleIsFront, ClaimsAreSolvable, AppliedSets, claim_event, commit_event, accept_event, publish_event, settle_event, AnswersAreEvents}
+use Rattle.ltm_repair.specs.Making.{IdleIsFront, ClaimsAreSolvable, AppliedSets, ChangedAreForgotten, claim_event, commit_event, accept_event, publish_event, settle_event, AnswersAreEvents}
 use Rattle.ltm_repair.proofs.Fronts.{idle_front}
 
 pub idle_is_front : IdleIsFront
@@ -26,7 +34,7 @@ claims_are_solvable s d u t row is sound claimed =
     (in_range_holds s d.counts t u is (idle_front s d t sound (omega arith) mine.front) mine.is_slot mine.is_node)
 
 pub applied_sets : AppliedSets
-applied_sets s d e u t row n o is sound claimed shape at step applies keeps others = record {
+applied_sets s d e u t row n o is sound claimed shape at step applies keeps = record {
   step = record {
     in_range = claims_are_solvable s d u t row is sound claimed;
     step = same_step n o (shape_at s u) row (count_row s e.counts u (t + 1)) shape at (sym applies.given) step;
@@ -34,7 +42,52 @@ applied_sets s d e u t row n o is sound claimed shape at step applies keeps othe
   later = applies.later;
   others = applies.others;
   keeps = keeps;
-  kept = others;
+}
+
+-- the counts of a node stand in what it reads, after what its arms send
+counts_in_row : (s : Setting) (c : Counts) (u t : ℕ) → (sends : List ℕ) × (rest : List ℕ) × (length sends ≡ arms_of s u * s.destinations) × (pair_row s c u t ≡ sends ++ (count_row s c u t ++ rest))
+counts_in_row s c u t =
+    let left : List ℕ = grid (arms_of s u) s.destinations (λ i d. c (arm_group s u i) d t) in
+    let entered : List ℕ = grid (s.outs u) s.destinations (λ j d. c (up_of (s.out_link u j)) d t) in
+    let arrived : List ℕ = list_below 1 (λ k. arrived_by s c (s.own u) t) in
+    let rest : List ℕ =
+    list_below (s.outs u) (λ j. receiving s c (s.out_link u j) t) ++ (list_below (arms_of s u) (arm_capacity s u) ++ grid s.destinations (s.outs u) (λ d j. s.weight u d t j)) in
+    let sends : List ℕ = grid (arms_of s u) s.destinations (sending s c u t) in
+    let inner : (entered ++ arrived) ++ rest ≡ entered ++ (arrived ++ rest) = append_assoc entered arrived rest in
+    let outer : (left ++ (entered ++ arrived)) ++ rest ≡ left ++ ((entered ++ arrived) ++ rest) = append_assoc left (entered ++ arrived) rest in
+    (sends, rest, length-grid (arms_of s u) s.destinations (sending s c u t), sym (ap (λ z. sends ++ z) (outer ∙ ap (λ z. left ++ z) inner)))
+
+length-counts : (s : Setting) (c : Counts) (u t : ℕ) → length (count_row s c u t) ≡ arms_of s u * s.destinations + (s.outs u * s.destinations + 1)
+length-counts s c u t =
+    let left : List ℕ = grid (arms_of s u) s.destinations (λ i d. c (arm_group s u i) d t) in
+    let entered : List ℕ = grid (s.outs u) s.destinations (λ j d. c (up_of (s.out_link u j)) d t) in
+    let arrived : List ℕ = list_below 1 (λ k. arrived_by s c (s.own u) t) in
+    omega (
+      length-append left (entered ++ arrived),
+      length-append entered arrived,
+      length-grid (arms_of s u) s.destinations (λ i d. c (arm_group s u i) d t),
+      length-grid (s.outs u) s.destinations (λ j d. c (up_of (s.out_link u j)) d t),
+      length-list_below 1 (λ k. arrived_by s c (s.own u) t),
+      arith,
+    )
+
+pub changed_are_forgotten : ChangedAreForgotten
+changed_are_forgotten s d e u t sends rest long was other gone = record {
+  gone = gone;
+  outdated = λ c same kept.
+      let parts = counts_in_row s c u t in
+      let read : List ℕ = parts.0 in
+      let more : List ℕ = parts.1 in
+      let wide : length read ≡ arms_of s u * s.destinations = parts.2 in
+      let split : pair_row s c u t ≡ read ++ (count_row s c u t ++ more) = parts.3 in
+      let rows : sends ++ (count_row s d.counts u t ++ rest) ≡ read ++ (count_row s c u t ++ more) = (let one : Some (sends ++ (count_row s d.counts u t ++ rest)) ≡ Some (pair_row s c u t) = sym was ∙ kept in let two : sends ++ (count_row s d.counts u t ++ rest) ≡ pair_row s c u t = cc in two ∙ split) in
+      let tails : count_row s d.counts u t ++ rest ≡ count_row s c u t ++ more =
+      sym (drop-append_seam sends (count_row s d.counts u t ++ rest)) ∙ ap (λ z. drop (length sends) z) rows
+      ∙ ap (λ n. drop n (read ++ (count_row s c u t ++ more))) (long ∙ sym wide) ∙ drop-append_seam read (count_row s c u t ++ more) in
+      let counts : count_row s d.counts u t ≡ count_row s c u t =
+      sym (take-append_seam (count_row s d.counts u t) rest) ∙ ap (λ z. take (length (count_row s d.counts u t)) z) tails
+      ∙ ap (λ n. take n (count_row s c u t ++ more)) (length-counts s d.counts u t ∙ sym (length-counts s c u t)) ∙ take-append_seam (count_row s c u t) more in
+      other (sym (counts ∙ same));
 }
 
 -- ---- answers are events

@@ -28,7 +28,7 @@ opening_sound s o = record {
           step = o.loading.front.steps u t x l;
         } in
         subst (λ (z : List ℕ). IsStepOf (now s) s.desk.counts u t z) e step;
-    unset = λ u t x l none g b of m. let k : s.desk.kept u t ≡ Some (pair_row (now s) s.desk.counts u t) = o.kept u t x l in absurd (cc);
+    unset = λ u t x l none. let k : s.desk.kept u t ≡ Some (pair_row (now s) s.desk.counts u t) = o.kept u t x l in absurd (cc);
   };
   active = record {
     idle_is_settled = λ u t x l idle. o.kept u t x l;
@@ -68,6 +68,7 @@ opening_counts s o rest sound =
       no_waste = λ loadings are.
           let z : left_to_do (now s) (loadings s.accepted) s.desk ≡ 0 = rest_done (now s) s.desk (loadings s.accepted) o.rest.setting sound rest (are s.accepted (rw (o.settled, o.accepted) (omega arith)) (omega arith)) in
           omega (z, none, arith);
+      none_lost = rw at_settled (λ free u t x l lost. let kept : s.desk.kept u t ≡ Some (pair_row (now s) s.desk.counts u t) = o.rest.kept u t x l in absurd (cc));
       fits = let z : undone (now s).nodes (now s).slots s.desk ≡ 0 = rest_undone (now s) s.desk rest in omega (z, none, arith);
     }
 

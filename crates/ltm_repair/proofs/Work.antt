@@ -18,7 +18,7 @@ use Rattle.ltm_repair.specs.Runs.{CoreRun, in_all, commit_of, commits_of, commit
 use Rattle.ltm_repair.specs.Work.{NoneTwice, CommitsDifferences, CommitsAreDiffering, CommitsAreUseful, DrainsAreExact, CommitsAreBounded}
 use Rattle.ltm_repair.proofs.Cases.{cases_pair}
 use Rattle.ltm_repair.proofs.Waits.{CommitWaits, commit_waits, calm_waits, waiting_le, drop_calm, give_back_calm, commit_undone, calm_undone}
-use Rattle.ltm_repair.proofs.LeftToDo.{rest_final, rest_done, CommitsFinal, commit_final, commit_done}
+use Rattle.ltm_repair.proofs.LeftToDo.{rest_final, rest_done, CommitsFinal, commit_final, commit_others, commit_done}
 use Rattle.ltm_repair.proofs.Books.{now_is_setting, claim_calm, claim_kept}
 use Rattle.ltm_repair.proofs.Batches.{accept_repair}
 use Rattle.ltm_repair.proofs.Runs.{event_keeps}
@@ -196,8 +196,9 @@ exact_after s x e c (a_commit w v) is h plain loading u t node slot =
           let before : unlike (s.desk.kept u t) (Some (pair_row (now s) c u t)) ≡ 1 = rw (at.0, at.1) final.before in
           omega (this_pair u t w v at.0 at.1, after, before, arith)
       | inr other ↦
-          let same : e.desk.kept u t ≡ s.desk.kept u t = step.desk.sets.kept u t (λ p q. other (sym p) (sym q)) in
-          rw (other_pair u t w v other, same) (omega arith)
+          let same : unlike (e.desk.kept u t) (Some (pair_row (now s) c u t)) ≡ unlike (s.desk.kept u t) (Some (pair_row (now s) c u t)) =
+          commit_others (now s) s.desk w v h.0 h.1 e.desk c (now_is_setting s is) is.desk step.desk loading u t (λ p q. other (sym p) (sym q)) in
+          omega (other_pair u t w v other, same, arith)
     ]
 
 run_exact : (s e : RepairState) (events : List CoreEvent) (c : Counts) → IsRepair s → CoreRun s events e → AcceptsNothing events → IsAtRest (now e) e.desk → IsLoading (now s) c →

@@ -1,5 +1,5 @@
 -- What holds of a desk at any time.
-use Rattle.std.specs.Prelude.{◌≡◌, ◌≢◌, ℕ, ◌+◌, ◌<◌, List, Some, None, true}
+use Rattle.std.specs.Prelude.{◌≡◌, ◌≢◌, ℕ, ◌+◌, ◌<◌, ◌⊎◌, List, Some, None, true}
 use Rattle.ltm_curve.specs.Counts.{Counts}
 use Rattle.ltm_node.specs.Inputs.{Inputs}
 use Rattle.ltm_node.specs.Solvable.{IsSolvable}
@@ -20,12 +20,17 @@ pub record IsStepOf (s : Setting) (c : Counts) (u t : ℕ) (row : List ℕ) : Ty
   pub in_range : IsSolvable (inputs_from s u row)
   pub step : IsNodeStep (inputs_from s u row) (pair_outputs s c u (t + 1))
 
--- counts at the start are 0; where a pair has kept inputs, the counts that it sets are their step; all other counts are 0
+-- the counts of a node at the end of a slot are 0
+abbrev pub IsUnset : Setting → Counts → ℕ → ℕ → Type 0
+IsUnset s c u t = (g e : ℕ) → IsOf s u g e → e < s.destinations → c g e (t + 1) ≡ 0
+
+-- counts at the start are 0; where a pair has kept inputs, the counts that it sets are their step; where it has none, they are 0
+-- or the step of inputs that it had; all other counts are 0
 pub record CountsAreSteps (s : Setting) (d : Desk) : Type 0 where
   pub empty : (g e : ℕ) → g < groups s → e < s.destinations → d.counts g e 0 ≡ 0
   pub steps : (u t : ℕ) → u < s.nodes → t < s.slots → (row : List ℕ) → d.kept u t ≡ Some row → IsStepOf s d.counts u t row
   pub unset : (u t : ℕ) → u < s.nodes → t < s.slots → d.kept u t ≡ None →
-      (g e : ℕ) → IsOf s u g e → e < s.destinations → d.counts g e (t + 1) ≡ 0
+      IsUnset s d.counts u t ⊎ ((row : List ℕ) × IsStepOf s d.counts u t row)
   pub sinks : NothingLeavesSinks s d.counts
 
 -- each pair that is not settled is active or claimed, and none is both

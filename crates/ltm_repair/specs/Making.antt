@@ -1,16 +1,16 @@
 -- How what code does makes an event.
-use Rattle.std.specs.Prelude.{◌≡◌, ℕ, ◌+◌, ◌≤◌, ◌⊎◌, List, Option, Some, None, Bool, true, false}
+use Rattle.std.specs.Prelude.{◌≡◌, ◌≢◌, ℕ, ◌+◌, ◌*◌, ◌≤◌, ◌⊎◌, List, length, ◌++◌, Option, Some, None, Bool, true, false}
 use Rattle.ltm_node.specs.Inputs.{Inputs}
 use Rattle.ltm_node.specs.Outputs.{Outputs}
 use Rattle.ltm_node.specs.Solvable.{IsSolvable}
 use Rattle.ltm_node.specs.Step.{IsNodeStep}
 use Rattle.ltm_loading.specs.Setting.{Setting, IsSetting}
-use Rattle.ltm_loading.specs.Pairs.{shape_at}
+use Rattle.ltm_loading.specs.Pairs.{arms_of, shape_at, count_row}
 use Rattle.ltm_loading.specs.Loading.{IsFront}
 use Rattle.ltm_loading.specs.NextPair.{Applies}
-use Rattle.ltm_repair.specs.Desk.{Desk, IsIdleBefore, IsOther}
+use Rattle.ltm_repair.specs.Desk.{Desk, IsIdleBefore}
 use Rattle.ltm_repair.specs.Facts.{IsSound, inputs_from}
-use Rattle.ltm_repair.specs.Moves.{Sets}
+use Rattle.ltm_repair.specs.Moves.{Sets, KeepsRow, Forgets}
 use Rattle.ltm_repair.specs.State.{RepairState}
 use Rattle.ltm_repair.specs.Events.{CoreEvent, Look, Claim, GiveBack, Commit, Accept, Publish, Settle, Stay, Happens}
 use Rattle.ltm_repair.specs.Answers.{ClaimAnswer, Got, NotYet, Rest, CommitAnswer, Done, Stale, PublishAnswer, Shown, NotAtRest, AnswersClaim, AnswersCommit, AnswersGiveBack, AnswersAccept, AnswersPublish, AnswersSettle}
@@ -28,7 +28,14 @@ abbrev pub AppliedSets : Type 0
 AppliedSets =
     (s : Setting) (d e : Desk) (u t : ℕ) (row : List ℕ) (n : Inputs) (o : Outputs) → IsSetting s → IsSound s d → d.claimed u t ≡ Some row →
     n.shape ≡ shape_at s u → n.row ≡ row → IsNodeStep n o → Applies s u (t + 1) o.row d.counts e.counts →
-    e.kept u t ≡ Some row → ((w v : ℕ) → IsOther u t w v → e.kept w v ≡ d.kept w v) → Sets s d u t row e
+    KeepsRow s d u t row e → Sets s d u t row e
+
+-- inputs whose counts were those of the node at the slot's beginning may be forgotten once these are other ones
+abbrev pub ChangedAreForgotten : Type 0
+ChangedAreForgotten =
+    (s : Setting) (d e : Desk) (u t : ℕ) (sends rest : List ℕ) → length sends ≡ arms_of s u * s.destinations →
+    d.kept u t ≡ Some (sends ++ (count_row s d.counts u t ++ rest)) → count_row s e.counts u t ≢ count_row s d.counts u t →
+    e.kept u t ≡ None → Forgets s d u t e
 
 -- the event that an answer is
 abbrev pub claim_event : ClaimAnswer → CoreEvent

@@ -2,7 +2,8 @@
 use Rattle.std.specs.Prelude.{◌≡◌, ◌≢◌, ℕ, ◌+◌, ◌<◌, ◌≤◌, ◌⊎◌, List, Some, None, Bool, true, false, ◌||◌, is_some}
 use Rattle.ltm_loading.specs.Setting.{Setting}
 use Rattle.ltm_loading.specs.Groups.{groups}
-use Rattle.ltm_loading.specs.Pairs.{pair_row}
+use Rattle.ltm_curve.specs.Counts.{Counts}
+use Rattle.ltm_loading.specs.Pairs.{pair_row, count_row}
 use Rattle.ltm_loading.specs.NextPair.{IsOf}
 use Rattle.ltm_repair.specs.Desk.{Desk, IsSettled, IsOther}
 use Rattle.ltm_repair.specs.Facts.{IsClaim, IsStepOf}
@@ -40,13 +41,24 @@ pub record GivesBack (old : Desk) (u t : ℕ) (new : Desk) : Type 0 where
   pub others : OthersStand old u t new
   pub work : SameWork old new
 
--- the counts that a pair sets become the step of a row, and the row is kept; no other count and no other kept row changes
+-- no inputs are kept any more of a pair, where those that were kept are none that it reads while the counts of its node at the
+-- slot's beginning are what they are now
+pub record Forgets (s : Setting) (old : Desk) (u t : ℕ) (new : Desk) : Type 0 where
+  pub gone : new.kept u t ≡ None
+  pub outdated : (c : Counts) → count_row s c u t ≡ count_row s new.counts u t → old.kept u t ≢ Some (pair_row s c u t)
+
+-- a row is kept of a pair; those of its node's next slot may be forgotten, and no other kept row changes
+pub record KeepsRow (s : Setting) (old : Desk) (u t : ℕ) (row : List ℕ) (new : Desk) : Type 0 where
+  pub this : new.kept u t ≡ Some row
+  pub next : (new.kept u (t + 1) ≡ old.kept u (t + 1)) ⊎ Forgets s old u (t + 1) new
+  pub others : (w v : ℕ) → IsOther u t w v → IsOther u (t + 1) w v → new.kept w v ≡ old.kept w v
+
+-- the counts that a pair sets become the step of a row, and the row is kept; no other count changes
 pub record Sets (s : Setting) (old : Desk) (u t : ℕ) (row : List ℕ) (new : Desk) : Type 0 where
   pub step : IsStepOf s new.counts u t row
   pub later : (g e k : ℕ) → g < groups s → e < s.destinations → k ≤ s.slots → k ≢ t + 1 → new.counts g e k ≡ old.counts g e k
   pub others : (g e : ℕ) → g < groups s → e < s.destinations → (IsOf s u g e → ⊥) → new.counts g e (t + 1) ≡ old.counts g e (t + 1)
-  pub keeps : new.kept u t ≡ Some row
-  pub kept : (w v : ℕ) → IsOther u t w v → new.kept w v ≡ old.kept w v
+  pub keeps : KeepsRow s old u t row new
 
 -- the pairs that wake are of later slots, and among them is each pair that reads a changed count
 pub record WakesReaders (s : Setting) (old new : Desk) (t : ℕ) (wakes : ℕ → ℕ → Bool) : Type 0 where

@@ -1,5 +1,5 @@
 -- What holds of a repair at any time, and what one begins with.
-use Rattle.std.specs.Prelude.{◌≡◌, ℕ, ◌+◌, ◌-◌, ◌*◌, ◌<◌, ◌≤◌, Some, false}
+use Rattle.std.specs.Prelude.{◌≡◌, ◌≢◌, ℕ, ◌+◌, ◌-◌, ◌*◌, ◌<◌, ◌≤◌, Some, None, false}
 use Rattle.ltm_curve.specs.Counts.{Counts}
 use Rattle.ltm_loading.specs.Setting.{IsSetting}
 use Rattle.ltm_loading.specs.Groups.{groups}
@@ -29,11 +29,12 @@ pub record ShowsALoading (s : RepairState) : Type 0 where
       (s.settings s.shown_at).slots < k → k ≤ (now s).slots → s.desk.counts g e k ≡ 0
 
 -- the commits cover every difference from the loading of the last settle count, and none is wasted; with all that may
--- still come they are at most the pairs for each batch since
+-- still come they are at most the pairs for each batch since; and where none was made, all inputs of that loading's pairs are kept
 pub record CountsTheWork (s : RepairState) : Type 0 where
   pub covers : (c : Counts) → IsLoading (s.settings s.settled) c → strayed (now s).slots (s.settings s.settled) c s.desk ≤ s.commits
   pub no_waste : (loadings : ℕ → Counts) → AreLoadings s loadings →
       s.commits + left_to_do (now s) (loadings s.accepted) s.desk ≤ all_differences s loadings
+  pub none_lost : s.commits ≡ 0 → (u t : ℕ) → u < (now s).nodes → t < (s.settings s.settled).slots → s.desk.kept u t ≢ None
   pub fits : s.commits + undone (now s).nodes (now s).slots s.desk ≤ (s.accepted - s.settled) * ((now s).nodes * (now s).slots)
 
 -- a repair: its settings are of one network, its desk is sound, it shows a loading, where that is up to date nothing is

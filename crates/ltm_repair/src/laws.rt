@@ -31,6 +31,7 @@ ghost use Rattle.ltm_repair.specs.Making.{
   IdleIsFront,
   ClaimsAreSolvable,
   AppliedSets,
+  ChangedAreForgotten,
   AnswersAreEvents,
 };
 ghost use Rattle.ltm_repair.specs.OneRoad.{OneRoadIsRepaired};
@@ -158,6 +159,11 @@ pub fn claims_are_solvable()
 /// A claim's node step, applied and kept, sets the counts of its pair.
 pub fn applied_sets()
     ensures { AppliedSets }
+{}
+
+/// Inputs whose counts were those of the node may be forgotten once these are other ones.
+pub fn changed_are_forgotten()
+    ensures { ChangedAreForgotten }
 {}
 
 /// Whatever a call answers, an event has happened.

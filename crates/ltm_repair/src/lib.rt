@@ -15,10 +15,11 @@
 mod laws;
 
 pub use laws::{
-    answers_are_events, applied_sets, batches_wake_touched, claims_are_solvable, claims_are_undone,
-    claims_balance, claims_have_changed, commits_are_bounded, commits_are_differing,
-    commits_are_useful, commits_differences, count_is_bounded, drains_are_exact, idle_is_front,
-    index_stays_current, none_twice, one_road_is_repaired, opening_is_repair, others_wake_none,
-    publishing_shows_all, rest_is_loading, runs_keep_facts, runs_take_nothing_back, settle_tells,
-    settles_exactly, shown_is_loading, work_is_bounded,
+    answers_are_events, applied_sets, batches_wake_touched, changed_are_forgotten,
+    claims_are_solvable, claims_are_undone, claims_balance, claims_have_changed,
+    commits_are_bounded, commits_are_differing, commits_are_useful, commits_differences,
+    count_is_bounded, drains_are_exact, idle_is_front, index_stays_current, none_twice,
+    one_road_is_repaired, opening_is_repair, others_wake_none, publishing_shows_all,
+    rest_is_loading, runs_keep_facts, runs_take_nothing_back, settle_tells, settles_exactly,
+    shown_is_loading, work_is_bounded,
 };

@@ -1,19 +1,19 @@
--- What a claim and its commit do to a core, and what many of them do.
+-- What a pair that is computed anew does to a core, and what many of them do.
 use Rattle.std.proofs.Common.{◌≡◌, ℕ, ◌+◌, ◌-◌, ◌<◌, ◌^◌, min, Bool, List, [], ◌∷◌, ◌++◌, inl, inr, refl, ap, sym, subst, ◌∙◌, arith}
 use Rattle.std.specs.Prelude.{Option}
 use Rattle.ltm_loading.specs.Setting.{Setting}
 use Rattle.ltm_repair.specs.State.{RepairState, now}
-use Rattle.ltm_repair.specs.Events.{CoreEvent, Look, Claim, Commit, SameBooks, Committed}
+use Rattle.ltm_repair.specs.Events.{CoreEvent, SameBooks, Committed}
 use Rattle.ltm_repair.specs.Desk.{IsAtRest}
 use Rattle.ltm_repair.specs.Answers.{Got, NotYet, Rest, AnswersClaim, IsNoneClaimed}
 use Rattle.ltm_repair.specs.Runs.{in_all, batch_in, commit_in, commits_in}
 use Rattle.ltm_repair.proofs.Cases.{cases_pair}
 use Rattle.ltm_units.specs.declared.places.Pair.{Pair}
 use Rattle.ltm_core.specs.Cores.{CoreData, repair_of, IsResting, IsNoneOut, undone_of, IsCore}
-use Rattle.ltm_core.specs.declared.answers.Claimed.TheVariants.{Got as GotClaim, Rest as AtRest}
-use Rattle.ltm_core.specs.Claims.{ClaimData, ScratchData}
-use Rattle.ltm_core.specs.CoreAnswers.{answer_in, KeepsAll, CommitsDone}
-use Rattle.ltm_core.specs.Runs.{IsRun, CallsAreEvents, WorksOn, HoldsOfRuns, HoldsOfCore}
+use Rattle.ltm_core.specs.declared.answers.Recomputed.TheVariants.{Done, Rest as NoneLeft}
+use Rattle.ltm_core.specs.Log.{version_now}
+use Rattle.ltm_core.specs.CoreAnswers.{KeepsAll, CommitsDone, TellsRecompute}
+use Rattle.ltm_core.specs.Runs.{IsRun, CallsAreEvents, WorksOn, HoldsOfRuns, HoldsOfCore, recompute_events}
 use Rattle.ltm_workers.specs.Draining.{Works, CountsLeft, CountsDifferences}
 
 -- ---- runs one after another
@@ -75,29 +75,22 @@ keeps_one d m e pair row same done =
       done.keeps ∙ (ap (λ (n : ℕ). record m { table = e.table; commits = n }) (sym counted) ∙ ap (λ (z : CoreData). record z { table = e.table; commits = e.commits }) same),
     )
 
--- a pair was claimed and committed
-pub works_one : CallsAreEvents → HoldsOfRuns → (d m e : CoreData) (claim : ClaimData) (before after : ℕ) → IsCore d → IsNoneOut d →
-    AnswersClaim (repair_of d) (answer_in (GotClaim claim)) (repair_of m) → KeepsAll d m → CommitsDone m claim.pair claim.inputs.row e → after ≡ min (before + 1) (2 ^ 64 - 1) →
+-- a pair was computed anew
+pub works_one : CallsAreEvents → HoldsOfRuns → (d e : CoreData) (pair : Pair) (before after : ℕ) → IsCore d → IsNoneOut d → TellsRecompute d (Done pair) e → after ≡ min (before + 1) (2 ^ 64 - 1) →
     Works d before e after × (undone_of e < undone_of d)
 unfolding IsNoneOut
-works_one events runs d m e claim before after is none told same done ticks =
-    let u : ℕ = claim.pair.node.0 in
-    let t : ℕ = claim.pair.slot in
-    let kept = keeps_one d m e claim.pair claim.inputs.row same done in
-    let run : WorksOn d (Claim u t ∷ Commit u t ∷ []) e = record {
-      core = is;
-      run = (m, events.claim d m (GotClaim claim) told, (e, (claim.inputs.row, _, done.commits), refl));
-      no_batch = refl;
-    } in (
+works_one events runs d e pair before after is none told ticks =
+    let kept = keeps_one d told.between e pair told.row told.keeps told.commits in
+    let run : WorksOn d (recompute_events (Done pair)) e = record { core = is; run = events.recompute d e (Done pair) told; no_batch = refl } in (
       record {
-        events = Claim u t ∷ Commit u t ∷ [];
+        events = recompute_events (Done pair);
         run = run;
         commits = kept.0;
         steps = ticks;
         keeps = kept.1;
-        none_out = none_after (repair_of d) (repair_of m) (repair_of e) u t claim.ticket claim.inputs.row claim.inputs.row _ told done.commits none;
+        none_out = none_after (repair_of d) (repair_of told.between) (repair_of e) pair.node.0 pair.slot (version_now d.log) told.row told.row _ told.claims told.commits.commits none;
       },
-      let fewer = runs.bounded d e (Claim u t ∷ Commit u t ∷ []) run in omega (fewer, arith),
+      let fewer = runs.bounded d e (recompute_events (Done pair)) run in omega (fewer, arith),
     )
 
 pub rests_after : (s e : RepairState) → AnswersClaim s Rest e → IsAtRest (now e) e.desk × IsNoneClaimed (now e) e.desk
@@ -106,14 +99,14 @@ rests_after s e told =
     (rest, λ u t x l. (rest u t x l).1)
 
 -- no pair was left to be worked on
-pub works_rest : CallsAreEvents → (d e : CoreData) (scratch : ScratchData) (n : ℕ) → IsCore d → n < 2 ^ 64 → AnswersClaim (repair_of d) Rest (repair_of e) → KeepsAll d e → Works d n e n × IsResting e
+pub works_rest : CallsAreEvents → (d e : CoreData) (n : ℕ) → IsCore d → n < 2 ^ 64 → TellsRecompute d NoneLeft e → Works d n e n × IsResting e
 unfolding IsNoneOut IsResting
-works_rest events d e scratch n is small told same =
+works_rest events d e n is small (told, same) =
     let kept : e.commits ≡ d.commits = ap (λ (z : CoreData). z.commits) same in
     let rest = rests_after (repair_of d) (repair_of e) told in (
       record {
-        events = Look ∷ [];
-        run = record { core = is; run = (e, events.claim d e (AtRest scratch) told, refl); no_batch = refl };
+        events = recompute_events NoneLeft;
+        run = record { core = is; run = events.recompute d e NoneLeft (told, same); no_batch = refl };
         commits = omega (kept, arith);
         steps = omega (small, arith);
         keeps = same ∙ ap (λ (n : ℕ). record d { table = e.table; commits = n }) (sym kept);

@@ -1,5 +1,5 @@
 -- What work without other workers does to a core.
-use Rattle.std.specs.Prelude.{◌≡◌, ℕ, ◌+◌, ◌-◌, ◌<◌, ◌^◌, min, List}
+use Rattle.std.specs.Prelude.{◌≡◌, ℕ, ◌+◌, ◌-◌, ◌<◌, ◌^◌, min, Bool, true, false, List}
 use Rattle.ltm_curve.specs.Counts.{Counts}
 use Rattle.ltm_loading.specs.Loading.{IsLoading}
 use Rattle.ltm_loading.specs.Differing.{differing}
@@ -9,8 +9,6 @@ use Rattle.ltm_core.specs.Log.{settled_of}
 use Rattle.ltm_core.specs.Settling.{setting_at}
 use Rattle.ltm_core.specs.Cores.{CoreData, IsResting, IsNoneOut, left_of, undone_of}
 use Rattle.ltm_core.specs.Runs.{setting_in, WorksOn}
-use Rattle.ltm_workers.specs.declared.draining.Turn.{Turn}
-use Rattle.ltm_workers.specs.declared.draining.Turn.TheVariants.{Worked, Rested}
 
 -- only events without a batch happened; the count of commits rose by the commits among them, and the counter of steps too,
 -- up to the greatest number that it has; all but the table and that count stays, and no claim is out
@@ -33,7 +31,7 @@ CountsDifferences old new =
     old.commits ≡ 0 → (before after : Counts) → IsLoading (setting_at old.log (settled_of old.log)) before → IsLoading (setting_in old) after →
     new.commits ≡ differing (setting_at old.log (settled_of old.log)) (setting_in old) before after
 
--- a pair was claimed and committed, and fewer are left; or none was left
-abbrev pub TellsTurn : CoreData → ℕ → Turn → CoreData → ℕ → Type 0
-TellsTurn old before (Worked scratch) new after = Works old before new after × (undone_of new < undone_of old)
-TellsTurn old before (Rested scratch) new after = Works old before new after × IsResting new
+-- whether a pair was claimed and committed, so that fewer are left; else none was left
+abbrev pub TellsTurn : CoreData → ℕ → Bool → CoreData → ℕ → Type 0
+TellsTurn old before true new after = Works old before new after × (undone_of new < undone_of old)
+TellsTurn old before false new after = Works old before new after × IsResting new

@@ -5,16 +5,8 @@ ghost use Rattle.ltm_core.specs.CoreAnswers.{IsKeptClaim, CommitsDone};
 ghost use Rattle.ltm_workers.specs.Draining.{Works, TellsTurn, CountsLeft, CountsDifferences};
 
 use crate::bench::Bench;
-use ltm_core::{Claim, Claimed, Committed, Core, Scratch, calls_are_events, runs_of_cores};
+use ltm_core::{Claim, Committed, Core, Recomputed, Scratch, calls_are_events, runs_of_cores};
 use ltm_units::Steps;
-
-/// What became of a turn.
-pub(crate) enum Turn {
-    /// A pair was claimed and committed.
-    Worked(Scratch),
-    /// No pair is active or claimed.
-    Rested(Scratch),
-}
 
 /// Works on a claim that is kept, and commits it.
 pub(crate) fn finish(core: &mut Core, claim: Claim, steps: &mut Steps) -> Scratch
@@ -29,8 +21,8 @@ pub(crate) fn finish(core: &mut Core, claim: Claim, steps: &mut Steps) -> Scratc
     }
 }
 
-/// Claims a pair, works on it and commits it, where there is one.
-fn work_once(core: &mut Core, scratch: Scratch, steps: &mut Steps) -> Turn
+/// Computes a pair anew, where there is one; whether there was one.
+fn work_once(core: &mut Core, scratch: &mut Scratch, steps: &mut Steps) -> bool
     requires { IsNoneOut core.old }
     ensures { TellsTurn core.old steps.old result core.new steps.new }
 {
@@ -38,32 +30,29 @@ fn work_once(core: &mut Core, scratch: Scratch, steps: &mut Steps) -> Turn
     runs_of_cores();
     core.holds();
     let _taken = steps.count();
-    match core.claim(scratch) {
-        Claimed::Got(claim) => return Turn::Worked(finish(core, claim, steps)),
-        Claimed::NotYet(_scratch) => unreachable!(),
-        Claimed::Rest(scratch) => return Turn::Rested(scratch),
+    match core.recompute(scratch) {
+        Recomputed::Done(_pair) => {
+            steps.tick();
+            return true;
+        }
+        Recomputed::NotYet => unreachable!(),
+        Recomputed::Rest => return false,
     }
 }
 
 /// Works until no pair is active or claimed.
-fn work_to_rest(core: &mut Core, scratch: Scratch, steps: &mut Steps) -> Scratch
+fn work_to_rest(core: &mut Core, scratch: &mut Scratch, steps: &mut Steps)
     requires { IsNoneOut core.old }
     ensures works { Works core.old steps.old core.new steps.new }
     ensures rest { IsResting core.new }
 {
     core.holds();
     let _taken = steps.count();
-    let mut scratch = scratch;
-    loop {
-        match work_once(core, scratch, steps) {
-            Turn::Worked(next) => scratch = next,
-            Turn::Rested(last) => return last,
-        }
-    }
+    while work_once(core, scratch, steps) {}
 }
 
-/// Brings a core to rest, where no claim is out: claims a pair, works on it and commits it, until no pair is active or
-/// claimed. Each commit ticks the counter once. Takes no memory.
+/// Brings a core to rest, where no claim is out: claims a pair, works on it and commits it, in one call of the core, until no
+/// pair is active or claimed. Each commit ticks the counter once. Takes no memory.
 pub fn drain(core: &mut Core, bench: &mut Bench, steps: &mut Steps)
     requires { IsNoneOut core.old }
     ensures works { Works core.old steps.old core.new steps.new }
@@ -73,9 +62,9 @@ pub fn drain(core: &mut Core, bench: &mut Bench, steps: &mut Steps)
 {
     runs_of_cores();
     core.holds();
-    let Some(scratch) = bench.scratches[0].take() else {
+    let Some(mut scratch) = bench.scratches[0].take() else {
         unreachable!();
     };
-    let scratch = work_to_rest(core, scratch, steps);
+    work_to_rest(core, &mut scratch, steps);
     bench.scratches[0] = Some(scratch);
 }

@@ -3,9 +3,9 @@
 //!   own settle.
 //! - **On what it stands**: `ltm_core`, by whose public clauses alone it is proved; `ltm_turn`, in which the core lies beside
 //!   workers; the back-off of `crossbeam_utils`.
-//! - **What a call costs**: a claim, a node step and a commit for each pair whose inputs have changed, in a drive at most that
-//!   for each byte of its schedule, and beside workers two turns for each. `Bench::create` takes the memory of four workers,
-//!   no other call takes any; what takes turns may wait.
+//! - **What a call costs**: a claim, a node step and a commit for each pair whose inputs have changed, in a drain as one call
+//!   of the core, in a drive at most that for each byte of its schedule, and beside workers two turns for each.
+//!   `Bench::create` takes the memory of four workers, no other call takes any; what takes turns may wait.
 //! - **When to change it here**: where somebody works on a core in another order, or where workers wait in another way; what
 //!   becomes of a pair is `ltm_core`'s.
 #![tactic(auto)]

@@ -1,4 +1,4 @@
-use Rattle.std.proofs.Common.{◌∙◌, arith}
+use Rattle.std.proofs.Common.{arith}
 use Rattle.ltm_desk.proofs.Activating.{slots_none, slots_more, slots_all}
 use Rattle.ltm_desk.proofs.batches.mark_from.Goals as goal
 

@@ -5,6 +5,6 @@ use Rattle.ltm_desk.proofs.rows.starts_of.Given as goal
 
 abbrev pub invariant-loop-node : goal.invariant-loop-node
 invariant-loop-node l = record {
-  starts : AreStarts (setting_of l.fn.scenario) l.node l.starts.items;
+  starts : AreStarts (setting_of l.fn.scenario) l.fn.counted l.node l.starts.items;
   total : l.total ≡ slice_index l.starts.items l.node;
 }

@@ -2,8 +2,8 @@ use Rattle.ltm_core.specs.Cores.{undone_of}
 use Rattle.ltm_workers.specs.Draining.{Works}
 use Rattle.ltm_workers.proofs.draining.work_to_rest.Given as goal
 
-abbrev pub invariant-loop-next : goal.invariant-loop-next
-invariant-loop-next l = Works l.fn.core l.fn.steps l.core l.steps
+abbrev pub invariant-loop : goal.invariant-loop
+invariant-loop l = Works l.fn.core l.fn.steps l.core l.steps
 
-abbrev pub decreases-loop-next : goal.decreases-loop-next
-decreases-loop-next l = undone_of l.core
+abbrev pub decreases-loop : goal.decreases-loop
+decreases-loop l = undone_of l.core

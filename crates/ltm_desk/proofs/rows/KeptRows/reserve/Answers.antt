@@ -1,4 +1,4 @@
-use Rattle.std.proofs.Common.{rules, ◌≡◌, ℕ, ◌*◌, ◌≤◌, length, ap, refl, arith}
+use Rattle.std.proofs.Common.{rules, ◌≡◌, ℕ, ◌*◌, ◌≤◌, ap, refl, arith}
 use Rattle.ltm_desk.specs.Rows.{slot_width}
 use Rattle.ltm_desk.proofs.RowPlaces.{same_rows, more_rows, wider}
 use Rattle.ltm_desk.proofs.rows.KeptRows.reserve.Goals as goal

@@ -1,7 +1,7 @@
 use Rattle.std.proofs.Common.{sym}
 use Rattle.ltm_curve.specs.Cells.{is_changed}
 use Rattle.ltm_desk.specs.Desks.{changed_at}
-use Rattle.ltm_desk.proofs.Committing.{cell_of}
+use Rattle.ltm_desk.proofs.ChangedCells.{cell_of}
 use Rattle.ltm_desk.proofs.table.Table.cells.Goals as goal
 
 pub returns-clause-changed : goal.returns-clause-changed

@@ -1,28 +1,25 @@
-use Rattle.std.proofs.Common.{◌≡◌, ℕ, List, ap, sym, ◌∙◌, subst, arith}
+use Rattle.std.proofs.Common.{◌≡◌, ℕ, ◌+◌, ◌-◌, List, false, ap, refl, sym, ◌∙◌, subst, arith}
 use Rattle.std.specs.Prelude.{Some}
 use Rattle.ltm_curve.specs.Table.{counts_of}
-use Rattle.ltm_node.specs.Shape.{width}
-use Rattle.ltm_node.specs.Inputs.{Inputs}
 use Rattle.ltm_node.specs.Outputs.{Outputs}
+use Rattle.ltm_node.specs.declared.shape.NodeShape.{NodeShape}
+use Rattle.ltm_node.specs.Shape.{width, counts_width}
 use Rattle.ltm_node.specs.Step.{IsNodeStep}
 use Rattle.ltm_setting.specs.Setting.{setting_of}
 use Rattle.ltm_flows.proofs.Steps.{none_arrived}
 use Rattle.ltm_repair.specs.Facts.{IsClaim}
 use Rattle.ltm_desk.specs.Rows.{PutsRow}
-use Rattle.ltm_desk.specs.Desks.{desk_at}
+use Rattle.ltm_desk.specs.Ready.{HasRows}
+use Rattle.ltm_desk.specs.Desks.{uncounted, desk_at}
+use Rattle.ltm_desk.proofs.Keeping.{is_shape, row_parts, rows_left}
 use Rattle.ltm_desk.proofs.Desks.{claimed_on}
 use Rattle.ltm_desk.proofs.Dropping.{at_front}
-use Rattle.ltm_desk.proofs.Committing.{CommitsTable, commits_desk, commits_ready, commits_cells, claim_inputs, row_is_claimed}
+use Rattle.ltm_desk.proofs.Committed.{CommitsTable}
+use Rattle.ltm_desk.proofs.Committing.{commits_desk, commits_ready, commits_cells, claim_inputs, row_is_claimed}
 use Rattle.ltm_desk.proofs.table.Table.commit.Goals as goal
 
-pub place_pair-requires-clause-ready : goal.place_pair-requires-clause-ready
-place_pair-requires-clause-ready c =
-    let s = setting_of c.args.scenario.now in
-    let claim : IsClaim s (desk_at s c.args.self.now) c.args.pair.node.0 c.args.pair.slot c.args.solved.now.inputs.row = c.requires.ready.sound.claims c.args.pair.node.0 c.args.pair.slot c.args.solved.now.inputs.row c.requires.claimed in
-    at_front s c.args.self.now c.args.pair.slot c.requires.ready claim.is_slot claim.front
-
-pub wake-requires-clause-small : goal.wake-requires-clause-small
-wake-requires-clause-small c = λ i.
+pub renew_pair-requires-clause-small : goal.renew_pair-requires-clause-small
+renew_pair-requires-clause-small c = λ i.
     let s = setting_of c.args.scenario.now in
     let claim : IsClaim s (desk_at s c.args.self.now) c.args.pair.node.0 c.args.pair.slot c.args.solved.now.inputs.row = c.requires.ready.sound.claims c.args.pair.node.0 c.args.pair.slot c.args.solved.now.inputs.row c.requires.claimed in
     let front = at_front s c.args.self.now c.args.pair.slot c.requires.ready claim.is_slot claim.front in
@@ -36,28 +33,8 @@ wake-requires-clause-small c = λ i.
       claim.is_slot,
     )
 
-pub apply-requires-clause-node : goal.apply-requires-clause-node
-apply-requires-clause-node c =
-    let s = setting_of c.args.scenario.now in
-    (c.requires.ready.sound.claims c.args.pair.node.0 c.args.pair.slot c.args.solved.now.inputs.row c.requires.claimed).is_node
-
-pub apply-requires-clause-small : goal.apply-requires-clause-small
-apply-requires-clause-small c = λ i.
-    let s = setting_of c.args.scenario.now in
-    let claim : IsClaim s (desk_at s c.args.self.now) c.args.pair.node.0 c.args.pair.slot c.args.solved.now.inputs.row = c.requires.ready.sound.claims c.args.pair.node.0 c.args.pair.slot c.args.solved.now.inputs.row c.requires.claimed in
-    let front = at_front s c.args.self.now c.args.pair.slot c.requires.ready claim.is_slot claim.front in
-    let step : IsNodeStep c.args.solved.now.inputs c.outputs-outputs.result.now = subst (λ (o : Outputs). IsNodeStep c.args.solved.now.inputs o) (sym c.outputs-outputs.ensures.outputs) c.outputs-outputs.ensures.step in
-    omega (
-      arith,
-      c.outputs_small.ensures s (counts_of c.args.self.now.curves) c.args.pair.slot c.args.pair.node.0 c.args.solved.now.inputs c.outputs-outputs.result.now c.is_setting.ensures.setting claim.is_slot claim.is_node front.front
-          (claim_inputs s c.args.self.now c.args.pair.node.0 c.args.pair.slot c.args.solved.now.inputs c.requires.ready c.requires.claimed c.requires.shape) step i,
-      c.slot_count-slots.ensures.few,
-      c.slot_count-slots.ensures.value,
-      claim.is_slot,
-    )
-
-pub apply-requires-clause-no_sink : goal.apply-requires-clause-no_sink
-apply-requires-clause-no_sink c own =
+pub renew_pair-requires-clause-no_sink : goal.renew_pair-requires-clause-no_sink
+renew_pair-requires-clause-no_sink c own =
     let s = setting_of c.args.scenario.now in
     let step : IsNodeStep c.args.solved.now.inputs c.outputs-outputs.result.now = subst (λ (o : Outputs). IsNodeStep c.args.solved.now.inputs o) (sym c.outputs-outputs.ensures.outputs) c.outputs-outputs.ensures.step in
     none_arrived s (counts_of c.args.self.now.curves) c.args.pair.node.0 c.args.pair.slot c.args.solved.now.inputs c.outputs-outputs.result.now c.inputs_by_place.ensures c.no_arrivals.ensures
@@ -70,27 +47,48 @@ row-requires-clause-node c =
 pub row-requires-clause-slot : goal.row-requires-clause-slot
 row-requires-clause-slot c = omega (arith, c.requires.ready.fits.claims.same_slots)
 
+pub renew_pair-requires-clause-kept : goal.renew_pair-requires-clause-kept
+renew_pair-requires-clause-kept c = c.requires.ready.fits.kept
+
+pub kept_around_counts-requires : goal.kept_around_counts-requires
+kept_around_counts-requires c =
+    let node = (c.requires.ready.sound.claims c.args.pair.node.0 c.args.pair.slot c.args.solved.now.inputs.row c.requires.claimed).is_node in
+    c.row.ensures.width ∙ (c.requires.ready.fits.claims.widths c.args.pair.node.0 node ∙ ap width (sym (is_shape c.args.solved.now.inputs _ _ _ c.shape-shape.ensures c.inputs.ensures.inputs c.requires.shape)))
+
+-- the rows that are left have the sizes of the setting
+left : (c : goal.After-struct_known-2-1) → HasRows (setting_of c.args.scenario.now) false (setting_of c.args.scenario.now).slots c.renew_pair.new.kept
+left c = rows_left (setting_of c.args.scenario.now) false (setting_of c.args.scenario.now).slots _ c.args.self.now.kept c.renew_pair.new.kept c.args.pair.node.0 (c.args.pair.slot + 1) c.requires.ready.fits.kept c.renew_pair.ensures.kept
+
 pub copy-requires-clause-node : goal.copy-requires-clause-node
 copy-requires-clause-node c =
-    omega (arith, (c.requires.ready.sound.claims c.args.pair.node.0 c.args.pair.slot c.args.solved.now.inputs.row c.requires.claimed).is_node, c.requires.ready.fits.kept.nodes)
+    omega (arith, (c.requires.ready.sound.claims c.args.pair.node.0 c.args.pair.slot c.args.solved.now.inputs.row c.requires.claimed).is_node, (left c).nodes)
+
+pub copy-requires-clause-slot : goal.copy-requires-clause-slot
+copy-requires-clause-slot c =
+    omega (arith, (c.requires.ready.sound.claims c.args.pair.node.0 c.args.pair.slot c.args.solved.now.inputs.row c.requires.claimed).is_slot, (left c).same_slots)
 
 pub copy-requires-clause-width : goal.copy-requires-clause-width
 copy-requires-clause-width c =
     let node = (c.requires.ready.sound.claims c.args.pair.node.0 c.args.pair.slot c.args.solved.now.inputs.row c.requires.claimed).is_node in
-    c.row.ensures.width ∙ (c.requires.ready.fits.claims.widths c.args.pair.node.0 node ∙ sym (c.requires.ready.fits.kept.widths c.args.pair.node.0 node))
+    c.kept_around_counts.ensures.width
+    ∙ (ap (λ (z : NodeShape). width z - counts_width z) (is_shape c.args.solved.now.inputs _ _ _ c.shape-shape.ensures c.inputs.ensures.inputs c.requires.shape) ∙ sym ((left c).widths c.args.pair.node.0 node))
 
 pub release-requires-clause-node : goal.release-requires-clause-node
 release-requires-clause-node c =
-    omega (arith, (c.requires.ready.sound.claims c.args.pair.node.0 c.args.pair.slot c.args.solved.now.inputs.row c.requires.claimed).is_node, c.requires.ready.fits.frontier.nodes, c.wake.ensures.wakes.size.nodes)
+    omega (arith, (c.requires.ready.sound.claims c.args.pair.node.0 c.args.pair.slot c.args.solved.now.inputs.row c.requires.claimed).is_node, c.requires.ready.fits.frontier.nodes, c.renew_pair.ensures.wakes.size.nodes)
 
 pub release-requires-clause-claimed : goal.release-requires-clause-claimed
 release-requires-clause-claimed c =
     let s = setting_of c.args.scenario.now in
     let claim : IsClaim s (desk_at s c.args.self.now) c.args.pair.node.0 c.args.pair.slot c.args.solved.now.inputs.row = c.requires.ready.sound.claims c.args.pair.node.0 c.args.pair.slot c.args.solved.now.inputs.row c.requires.claimed in
-    c.wake.ensures.wakes.claims.pairs c.args.pair.node.0 c.args.pair.slot
+    c.renew_pair.ensures.wakes.claims.pairs c.args.pair.node.0 c.args.pair.slot
     ∙ claimed_on s c.args.self.now c.args.pair.node.0 c.args.pair.slot claim.is_node claim.is_slot (λ none. let some : (desk_at s c.args.self.now).claimed c.args.pair.node.0 c.args.pair.slot ≡ Some c.args.solved.now.inputs.row = c.requires.claimed in cc)
 
-all_set : (c : goal.After-release) → CommitsTable (setting_of c.args.scenario.now) c.args.self.now c.args.pair.node.0 c.args.pair.slot c.args.solved.now.inputs c.outputs-outputs.result.now c.place_pair.new.index c.wake.new.changed c.wake.new.frontier c.release.new.self c.apply.new.curves c.copy.new.self
+-- the claim that is committed
+claim_of : (c : goal.After-release) → IsClaim (setting_of c.args.scenario.now) (desk_at (setting_of c.args.scenario.now) c.args.self.now) c.args.pair.node.0 c.args.pair.slot c.args.solved.now.inputs.row
+claim_of c = c.requires.ready.sound.claims c.args.pair.node.0 c.args.pair.slot c.args.solved.now.inputs.row c.requires.claimed
+
+all_set : (c : goal.After-release) → CommitsTable (setting_of c.args.scenario.now) c.args.self.now c.args.pair.node.0 c.args.pair.slot c.args.solved.now.inputs c.outputs-outputs.result.now c.args.self.now.index c.renew_pair.new.changed c.renew_pair.new.frontier c.release.new.self c.renew_pair.new.curves c.copy.new.self
 all_set c =
     let s = setting_of c.args.scenario.now in
     let step : IsNodeStep c.args.solved.now.inputs c.outputs-outputs.result.now = subst (λ (o : Outputs). IsNodeStep c.args.solved.now.inputs o) (sym c.outputs-outputs.ensures.outputs) c.outputs-outputs.ensures.step in
@@ -101,12 +99,17 @@ all_set c =
       shape = c.requires.shape;
       step = step;
       same_shape = (c.same_shape.ensures _ _ step).0 ∙ c.requires.shape;
-      places = c.place_pair.ensures;
-      cells = c.wake.ensures.cells;
-      wakes = c.wake.ensures.wakes;
-      shaped = c.apply.ensures.shape;
-      applies = c.apply.ensures.applies;
-      puts = subst (λ (z : List ℕ). PutsRow c.args.self.now.kept c.copy.new.self c.args.pair.node.0 c.args.pair.slot z) (c.row.ensures.row ∙ row_is_claimed (setting_of c.args.scenario.now) c.args.self.now c.args.pair.node.0 c.args.pair.slot c.args.solved.now.inputs.row c.requires.ready c.requires.claimed) c.copy.ensures;
+      lists = c.requires.ready.fits.index;
+      placed = c.requires.ready.claims c.args.pair.node.0 c.args.pair.slot (claim_of c).is_node (claim_of c).is_slot (λ none. let some : (desk_at (setting_of c.args.scenario.now) c.args.self.now).claimed c.args.pair.node.0 c.args.pair.slot ≡ Some c.args.solved.now.inputs.row = c.requires.claimed in cc);
+      stays = λ w y p other i l. refl;
+      cells = c.renew_pair.ensures.cells;
+      wakes = c.renew_pair.ensures.wakes;
+      shaped = c.renew_pair.ensures.shape;
+      applies = c.renew_pair.ensures.applies;
+      between = c.renew_pair.new.kept;
+      forgets = c.renew_pair.ensures.kept;
+      puts = subst (λ (z : List ℕ). PutsRow c.renew_pair.new.kept c.copy.new.self c.args.pair.node.0 c.args.pair.slot z) (row_parts s c.args.pair.node.0 _ _ _ _ (is_shape c.args.solved.now.inputs _ _ _ c.shape-shape.ensures c.inputs.ensures.inputs c.requires.shape) c.kept_around_counts.ensures.front c.kept_around_counts.ensures.back
+          ∙ ap (uncounted s c.args.pair.node.0) (c.row.ensures.row ∙ row_is_claimed (setting_of c.args.scenario.now) c.args.self.now c.args.pair.node.0 c.args.pair.slot c.args.solved.now.inputs.row c.requires.ready c.requires.claimed)) c.copy.ensures;
       frees = c.release.ensures;
       by_place = c.counts_by_place.ensures;
       wake = c.readers_wake.ensures.wake;

@@ -43,3 +43,6 @@ returns-in-Some-clause-found c =
       idle = drop_idle_before s (desk_at s c.loop-slot.self) (desk_at s c.find_at.new.self) c.loop-slot.slot c.find_at.ensures.drops.drops c.loop-slot.invariant.idle;
       work = c.in-Some.ensures.found;
     }
+
+pub returns-in-Some-clause-placed : goal.returns-in-Some-clause-placed
+returns-in-Some-clause-placed c = c.in-Some.ensures.placed

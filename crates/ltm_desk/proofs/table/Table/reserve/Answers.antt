@@ -1,5 +1,5 @@
 use Rattle.std.proofs.Common.{refl}
-use Rattle.ltm_desk.proofs.Roomier.{SameParts, parts_seen}
+use Rattle.ltm_desk.proofs.Roomier.{parts_seen}
 use Rattle.ltm_desk.proofs.table.Table.reserve.Goals as goal
 
 pub returns-in-Ok-Ok-Ok-Ok-Ok-clause-seen : goal.returns-in-Ok-Ok-Ok-Ok-Ok-clause-seen

@@ -1,4 +1,4 @@
-use Rattle.std.proofs.Common.{◌∙◌, sym, arith}
+use Rattle.std.proofs.Common.{arith}
 use Rattle.ltm_frontier.proofs.Counting.{none_counted}
 use Rattle.ltm_frontier.proofs.claims.Claims.first.Goals as goal
 

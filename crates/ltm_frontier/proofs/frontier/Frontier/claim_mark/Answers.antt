@@ -1,6 +1,6 @@
 use Rattle.std.proofs.Common.{◌≡◌, ℕ, ◌<◌, true, false, sym, subst, ◌∙◌, arith, inl, inr}
 use Rattle.std.proofs.lemmas.Bool.{cases_eq, true≢false, false_from_ne_true}
-use Rattle.ltm_marks.specs.Marks.{is_marked, width_of}
+use Rattle.ltm_marks.specs.Marks.{is_marked, width_of, rows_of}
 use Rattle.ltm_frontier.specs.Claims.{width, slot_in, has_node}
 use Rattle.ltm_frontier.specs.declared.frontier.Frontier.{Frontier}
 use Rattle.ltm_frontier.specs.Frontier.{nodes_of, is_active, ClaimsAreOf}
@@ -42,6 +42,10 @@ invariant_of-self c =
       idle = λ w v x y.
           let in_old : w < width_of f.active = omega (arith, x, c.unmark.ensures.size.width) in
           stays_off f.active _ u t w v c.unmark.ensures in_old (omega (arith, y, f.within)) (f.idle w v in_old y);
+      passed = λ w x y z.
+          let in_old : w < width_of f.active = omega (arith, x, c.unmark.ensures.size.width) in
+          let row : f.low < rows_of f.active = omega (arith, z, c.unmark.ensures.size.rows) in
+          stays_off f.active _ u t w f.low c.unmark.ensures in_old row (f.passed w in_old y row);
     }
 
 pub returns : goal.returns
