@@ -16,7 +16,7 @@ ghost use Rattle.ltm_routing.specs.File.{IsSplitsFile, IsTimesFile};
 ghost use Rattle.ltm_trial.specs.Trial.{IsTrial};
 ghost use Rattle.ltm_texts.specs.declared.words.Command.{Command};
 ghost use Rattle.ltm_texts.specs.Words.{Asks, AsksSession, AsksEditors, AsksView, usage_line};
-ghost use Rattle.ltm_texts.specs.Report.{IsReport};
+ghost use Rattle.ltm_report.specs.Reports.{IsReport};
 ghost use Rattle.ltm_texts.specs.Answers.{Answer, Answers, Describes, may_fetch, fetches};
 ghost use Rattle.ltm_texts.specs.Program.{IsWhole, FileFailed, IsCalm, IsMissing, IsLong, status_of, words_of};
 ghost use Rattle.ltm_records.specs.Left.{records_of};

@@ -14,7 +14,7 @@ ghost use Rattle.ltm_routing.specs.File.{IsSplitsFile, IsTimesFile};
 ghost use Rattle.ltm_trial.specs.Trial.{IsTrial};
 ghost use Rattle.ltm_texts.specs.declared.words.Command.{Command};
 ghost use Rattle.ltm_texts.specs.Words.{Asks, AsksSession, usage_line};
-ghost use Rattle.ltm_texts.specs.Report.{IsReport};
+ghost use Rattle.ltm_report.specs.Reports.{IsReport};
 ghost use Rattle.ltm_texts.specs.Answers.{Answer, Answers, Describes, may_fetch, fetches};
 ghost use Rattle.ltm_texts.specs.Program.{IsWhole, FileFailed, IsCalm, IsMissing, IsLong, status_of, words_of};
 ghost use Rattle.ltm_records.specs.Left.{records_of};
@@ -46,7 +46,7 @@ fn asks_alone(words: &[String]) -> bool
 
 /// Does what the words ask for, over this folder, this input and this output.
 ///
-/// - `load` fetches the files of the case in order and reads them, loads the network (Yperman 2007; Himpe et al. 2016) and
+/// - `load` fetches the files of the case in order and reads them, loads the network (Yperman 2007) and
 ///   writes the totals line and a line for each link.
 /// - `session 0` fetches and reads the case likewise, and answers the script of edits and questions on the input line by
 ///   line; each answer is written whole before the next line is read.
@@ -60,6 +60,7 @@ fn asks_alone(words: &[String]) -> bool
 ///   or why not.
 ///
 /// Everything is decided in this order: the words, the fetches, what the files say, the script line by line, the writing.
+/// `signals.csv` alone is fetched once the setup was read, and only where the setup asks for it.
 pub fn run_alone<F: OpenFolder, S: Source, W: Sink>(
     alloc: Global,
     words: &[String],

@@ -8,7 +8,7 @@ use Rattle.ltm_scenario.specs.Data.{ScenarioData}
 use Rattle.ltm_records.specs.Fields.{Fields}
 use Rattle.ltm_records.specs.Left.{records_of}
 use Rattle.ltm_setting.specs.Setting.{setting_of}
-use Rattle.ltm_flows.specs.Shaped.{IsShaped}
+use Rattle.ltm_loading.specs.Shaped.{IsShaped}
 use Rattle.ltm_check.specs.declared.faults.CurvesCause.{CurvesCause}
 use Rattle.ltm_check.specs.declared.faults.CurvesCause.TheVariants.{Header, Rows}
 use Rattle.ltm_check.specs.declared.faults.CurvesFault.{CurvesFault}

@@ -6,7 +6,7 @@ use Rattle.ltm_curve.specs.Table.{counts_of, slots_of, SameShape, IsIn}
 use Rattle.ltm_curve.specs.declared.curves.Curves.{Curves}
 use Rattle.ltm_loading.specs.Setting.{Setting}
 use Rattle.ltm_loading.specs.Groups.{groups}
-use Rattle.ltm_flows.specs.Shaped.{IsShaped}
+use Rattle.ltm_loading.specs.Shaped.{IsShaped}
 
 -- 2^31 - 1
 abbrev pub greatest_kept : ℕ

@@ -6,7 +6,7 @@ ghost use Rattle.ltm_loading.specs.NextPair.{IsFrontTo};
 ghost use Rattle.ltm_loading.specs.Pairs.{MeetsStep};
 ghost use Rattle.ltm_setting.specs.Setting.{setting_of};
 ghost use Rattle.ltm_sending.specs.Front.{IsAtFront};
-ghost use Rattle.ltm_flows.specs.Shaped.{IsShaped};
+ghost use Rattle.ltm_loading.specs.Shaped.{IsShaped};
 ghost use Rattle.ltm_flows.specs.Working.{HasRoom};
 ghost use Rattle.ltm_check.specs.Verdict.{IsVerdict, IsFirstWrongNode};
 

@@ -6,7 +6,7 @@ ghost use Rattle.ltm_scenario.specs.Reads.{destination_name};
 ghost use Rattle.ltm_check.specs.Due.{record_count, kind_of, name_of};
 
 use ltm_scenario::Scenario;
-use ltm_setting::{destination_count, link_count, node_count};
+use ltm_setting::{arr_of, dep_of, destination_count, group_count};
 use ltm_units::{LinkId, Name, NodeId};
 
 /// How many records stand below the header.
@@ -14,17 +14,17 @@ pub(crate) fn record_count(scenario: &Scenario) -> u32
     ensures count { result ≡ record_count scenario.now }
     ensures few { result < 2 ^ 31 }
 {
-    (2 * link_count(scenario) + node_count(scenario) + 1) * destination_count(scenario)
+    group_count(scenario) * destination_count(scenario)
 }
 
 /// What a group counts: what has entered a link, has left it, has left an origin, or has arrived.
+#[tactic(auto, unfolding(ltm_setting::specs::Setting::setting_of))]
 pub(crate) fn kind_of(scenario: &Scenario, group: u32) -> &'static [u8]
     ensures { result.now ≡ kind_of scenario.now group }
 {
-    let links = scenario.network().links();
-    if u64::from(group) < 2 * u64::from(links) {
+    if group < dep_of(scenario, NodeId(0)) {
         if group % 2 == 0 { b"up" } else { b"down" }
-    } else if u64::from(group) < 2 * u64::from(links) + u64::from(scenario.network().nodes()) {
+    } else if group < arr_of(scenario) {
         b"dep"
     } else {
         b"arr"
@@ -49,10 +49,10 @@ pub(crate) fn name_of(scenario: &Scenario, group: u32, destination: u32) -> Name
     ensures { result ≡ name_of scenario.now group destination }
 {
     let network = scenario.network();
-    let links = 2 * network.links();
+    let links = dep_of(scenario, NodeId(0));
     if group < links {
         network.link_name(LinkId(group / 2))
-    } else if group - links < network.nodes() {
+    } else if group < arr_of(scenario) {
         network.node_name(NodeId(group - links))
     } else {
         name_of_destination(scenario, destination)

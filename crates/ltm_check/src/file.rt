@@ -5,7 +5,7 @@ ghost use Rattle.ltm_lines.specs.Source.{prepended};
 ghost use Rattle.ltm_records.specs.Fields.{Fields};
 ghost use Rattle.ltm_records.specs.Left.{records_of};
 ghost use Rattle.ltm_setting.specs.Setting.{setting_of};
-ghost use Rattle.ltm_flows.specs.Shaped.{IsShaped};
+ghost use Rattle.ltm_loading.specs.Shaped.{IsShaped};
 ghost use Rattle.ltm_check.specs.Due.{record_count};
 ghost use Rattle.ltm_check.specs.File.{IsCurveFile, told};
 ghost use Rattle.ltm_check.specs.Faults.{IsFault};

@@ -5,7 +5,7 @@ ghost use Rattle.csv.specs.Records.{fields_of};
 ghost use Rattle.ltm_records.specs.Fields.{Fields};
 ghost use Rattle.ltm_records.specs.Left.{records_of};
 ghost use Rattle.ltm_setting.specs.Setting.{setting_of};
-ghost use Rattle.ltm_flows.specs.Shaped.{IsShaped};
+ghost use Rattle.ltm_loading.specs.Shaped.{IsShaped};
 ghost use Rattle.ltm_check.specs.Due.{record_count};
 ghost use Rattle.ltm_check.specs.Faults.{IsFault};
 ghost use Rattle.ltm_check.specs.File.{is_curves_header};

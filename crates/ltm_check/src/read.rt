@@ -3,7 +3,7 @@ ghost use Rattle.std.specs.Prelude.{◌≡◌, ◌<◌, ◌^◌, ◌+◌, OnOk, 
 ghost use Rattle.ltm_records.specs.Left.{records_of};
 ghost use Rattle.ltm_curve.specs.Table.{SameShape};
 ghost use Rattle.ltm_setting.specs.Setting.{setting_of};
-ghost use Rattle.ltm_flows.specs.Shaped.{IsShaped};
+ghost use Rattle.ltm_loading.specs.Shaped.{IsShaped};
 ghost use Rattle.ltm_check.specs.Due.{record_count};
 ghost use Rattle.ltm_check.specs.File.{AreRightBelow, IsCurveFile, told, told_by};
 ghost use Rattle.ltm_check.specs.Faults.{IsFaultBelow, IsFault};

@@ -5,7 +5,7 @@ ghost use Rattle.ltm_records.specs.Fields.{same, field};
 ghost use Rattle.ltm_curve.specs.Table.{SameShape};
 ghost use Rattle.ltm_loading.specs.Groups.{groups};
 ghost use Rattle.ltm_setting.specs.Setting.{setting_of};
-ghost use Rattle.ltm_flows.specs.Shaped.{IsShaped};
+ghost use Rattle.ltm_loading.specs.Shaped.{IsShaped};
 ghost use Rattle.ltm_check.specs.File.{is_curves_header, has, counts_in, fault_of, or_no_counts};
 ghost use Rattle.ltm_check.specs.Kept.{PutsCounts};
 

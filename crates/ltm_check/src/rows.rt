@@ -4,13 +4,14 @@ ghost use Rattle.ltm_curve.specs.Table.{counts_of, groups_of, destinations_of, s
 ghost use Rattle.ltm_loading.specs.Groups.{up_of, dep_of};
 ghost use Rattle.ltm_loading.specs.Pairs.{arms_of, arm_group, arrived_by, shape_at};
 ghost use Rattle.ltm_setting.specs.Setting.{setting_of};
-ghost use Rattle.ltm_flows.specs.Shaped.{IsShaped};
+ghost use Rattle.ltm_loading.specs.Shaped.{IsShaped};
 ghost use Rattle.ltm_check.specs.Moves.{leaves, enters, arrives, GrowBy};
 
 use ltm_curve::Curves;
+use ltm_loading::{down_of, up_of};
 use ltm_node::NodeOutputs;
 use ltm_scenario::Scenario;
-use ltm_setting::{in_links, is_setting, link_count, node_count, out_links, own};
+use ltm_setting::{arr_of, dep_of, in_links, is_setting, link_count, out_links, own};
 use ltm_units::{NodeId, Pair};
 
 /// Whether a count has grown by as much as moves.
@@ -129,7 +130,7 @@ fn links_have_left(
     let _links = link_count(scenario);
     let links = in_links(scenario, pair.node);
     for (arm, link) in links.iter().enumerate() {
-        if !has_left(curves, 2 * link.0 + 1, pair.slot, moves, arm as u32) {
+        if !has_left(curves, down_of(*link), pair.slot, moves, arm as u32) {
             return false;
         }
     }
@@ -153,8 +154,7 @@ fn origin_has_left(
         ≡ counts_of curves.now (dep_of (setting_of scenario.now) pair.node.0) d pair.slot
         + leaves (option_map (λ m. m.now) moves.entry) ((setting_of scenario.now).ins pair.node.0) d) }
 {
-    let _nodes = node_count(scenario);
-    let group = 2 * link_count(scenario) + pair.node.0;
+    let group = dep_of(scenario, pair.node);
     let origin = in_links(scenario, pair.node).len() as u32;
     has_left(curves, group, pair.slot, moves, origin)
 }
@@ -201,7 +201,7 @@ fn links_have_entered(
 {
     let _links = link_count(scenario);
     for (out, link) in out_links(scenario, pair.node).iter().enumerate() {
-        if !has_entered(curves, 2 * link.0, pair.slot, moves, out as u32) {
+        if !has_entered(curves, up_of(*link), pair.slot, moves, out as u32) {
             return false;
         }
     }
@@ -236,7 +236,7 @@ fn has_arrived(
         None => arriving(moves) == 0,
         Some(destination) => {
             let _slots = curves.slots();
-            let group = 2 * link_count(scenario) + node_count(scenario);
+            let group = arr_of(scenario);
             let before = curves.get(group, destination, pair.slot);
             let after = curves.get(group, destination, pair.slot + 1);
             grows_by(before, after, arriving(moves))

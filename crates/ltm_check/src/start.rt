@@ -3,12 +3,12 @@ ghost use Rattle.std.specs.Prelude.{◌≡◌, ◌<◌, ◌≤◌, ◌↔◌, �
 ghost use Rattle.ltm_curve.specs.Table.{counts_of, groups_of, destinations_of, slots_of};
 ghost use Rattle.ltm_loading.specs.Loading.{NothingLeavesSinks};
 ghost use Rattle.ltm_setting.specs.Setting.{setting_of};
-ghost use Rattle.ltm_flows.specs.Shaped.{IsShaped};
+ghost use Rattle.ltm_loading.specs.Shaped.{IsShaped};
 ghost use Rattle.ltm_check.specs.Verdict.{StartsRight};
 
 use ltm_curve::Curves;
 use ltm_scenario::Scenario;
-use ltm_setting::{link_count, node_count, out_links};
+use ltm_setting::{dep_of, node_count, out_links};
 use ltm_units::NodeId;
 
 /// Whether a group has counted nothing by a boundary.
@@ -57,10 +57,9 @@ fn sinks_send_nothing(scenario: &Scenario, curves: &Curves) -> bool
     requires { IsShaped (setting_of scenario.now) curves.now }
     ensures { IsTrue result ↔ NothingLeavesSinks (setting_of scenario.now) (counts_of curves.now) }
 {
-    let links = 2 * link_count(scenario);
     for node in 0..node_count(scenario) {
         let sends = !out_links(scenario, NodeId(node)).is_empty();
-        if !sends && !stays_empty(curves, links + node) {
+        if !sends && !stays_empty(curves, dep_of(scenario, NodeId(node))) {
             return false;
         }
     }

@@ -4,7 +4,7 @@ ghost use Rattle.std.specs.Fmt.{decimal};
 ghost use Rattle.ltm_curve.specs.Table.{counts_of, groups_of, destinations_of, slots_of};
 ghost use Rattle.ltm_loading.specs.Groups.{groups};
 ghost use Rattle.ltm_setting.specs.Setting.{setting_of};
-ghost use Rattle.ltm_flows.specs.Shaped.{IsShaped};
+ghost use Rattle.ltm_loading.specs.Shaped.{IsShaped};
 ghost use Rattle.ltm_check.specs.Text.{texts_below, further_count, counts_text, due_text, record_text, header_text, group_text, curves_file};
 
 use crate::due::{kind_of, name_of, name_of_destination};

@@ -13,23 +13,19 @@ pub(crate) const FILE: &str =
 const HEADER: &str = "kind,name,destination,counts\n";
 
 /// One road with this demand and these split rows.
-fn folder_of(alloc: Global, demand: &str, splits: &str) -> Result<MemFolder, NoMemory> {
-    let mut folder = MemFolder::create(alloc, &[])?;
-    folder.put(
-        Doc::Setup,
-        b"step_ms,slots,origin_capacity\n1000,4,1\n".as_slice(),
-    )?;
-    folder.put(
-        Doc::Links,
-        b"link,from,to,length_m,free_kmh,wave_kmh,jam_per_km\na,n1,n2,20,36,18,150\n".as_slice(),
-    )?;
-    folder.put(Doc::Demand, demand.as_bytes())?;
-    folder.put(Doc::Splits, splits.as_bytes())?;
-    Ok(folder)
+fn one_road_with(alloc: Global, demand: &str, splits: &str) -> Result<MemFolder, NoMemory> {
+    MemFolder::of_case(
+        alloc,
+        &[],
+        "step_ms,slots,origin_capacity\n1000,4,1\n",
+        "link,from,to,length_m,free_kmh,wave_kmh,jam_per_km\na,n1,n2,20,36,18,150\n",
+        demand,
+        splits,
+    )
 }
 
 pub(crate) fn one_road(alloc: Global) -> Result<MemFolder, NoMemory> {
-    folder_of(
+    one_road_with(
         alloc,
         "origin,destination,from_slot,to_slot,vehicles\nn1,n2,0,2,1\n",
         "node,destination,from_slot,weights\nn1,n2,0,a=1\n",
@@ -38,7 +34,7 @@ pub(crate) fn one_road(alloc: Global) -> Result<MemFolder, NoMemory> {
 
 /// The same road, on which nobody is to go anywhere.
 fn empty_road(alloc: Global) -> Result<MemFolder, NoMemory> {
-    folder_of(
+    one_road_with(
         alloc,
         "origin,destination,from_slot,to_slot,vehicles\n",
         "node,destination,from_slot,weights\n",

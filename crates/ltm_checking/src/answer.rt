@@ -6,7 +6,7 @@ ghost use Rattle.ltm_curve.specs.Table.{counts_of};
 ghost use Rattle.ltm_network.specs.Network.{node_name};
 ghost use Rattle.ltm_records.specs.Fields.{Fields};
 ghost use Rattle.ltm_setting.specs.Setting.{setting_of};
-ghost use Rattle.ltm_flows.specs.Shaped.{IsShaped};
+ghost use Rattle.ltm_loading.specs.Shaped.{IsShaped};
 ghost use Rattle.ltm_check.specs.Kept.{Keeps};
 ghost use Rattle.ltm_check.specs.Verdict.{IsVerdict};
 ghost use Rattle.ltm_casefile.specs.declared.faults.CaseFault.{CaseFault};

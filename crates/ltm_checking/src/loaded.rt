@@ -28,7 +28,7 @@ fn loading_text(alloc: Global, scenario: &Scenario) -> Result<Vec<u8>, NoMemory>
     Ok(text)
 }
 
-/// The loading of the case in a folder (Yperman 2007; Himpe et al. 2016) as a curve file, or the first fault of the case, as
+/// The loading of the case in a folder (Yperman 2007) as a curve file, or the first fault of the case, as
 /// `read_case` has it.
 pub fn case_curves<F: Folder>(alloc: Global, folder: &mut F) -> Result<Vec<u8>, CaseFault>
     ensures text { IfOk result (λ text. AnswersCurves (F.told folder.old) (Ok text.items)) }

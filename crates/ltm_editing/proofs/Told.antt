@@ -2,7 +2,6 @@
 use Rattle.std.proofs.Common.{◌≡◌, ℕ, List, ◌++◌, length, refl, sym, ap, subst, ◌∙◌, Ok, Err}
 use Rattle.std.specs.Prelude.{Result, OnOk, IfOk}
 use Rattle.std.proofs.lemmas.List.{length-map}
-use Rattle.ltm_curve.specs.Counts.{Counts}
 use Rattle.ltm_curve.specs.Table.{counts_of}
 use Rattle.ltm_scenario.specs.declared.edit.Edit.{Edit}
 use Rattle.ltm_scenario.specs.Data.{ScenarioData}
@@ -10,28 +9,17 @@ use Rattle.ltm_scenario.specs.IsScenario.{IsScenario}
 use Rattle.ltm_loading.specs.Setting.{Setting}
 use Rattle.ltm_loading.specs.Loading.{IsLoading}
 use Rattle.ltm_setting.specs.Setting.{setting_of}
-use Rattle.ltm_flows.specs.declared.in_all.Totals.{Totals}
-use Rattle.ltm_flows.specs.InAll.{AreTotals}
 use Rattle.ltm_flows.specs.Shown.{Shows, version_of, curves_of}
-use Rattle.ltm_report.specs.Totals.{totals_line}
+use Rattle.ltm_report.specs.Reports.{totals_report}
 use Rattle.ltm_core.specs.Log.{Log, LogLaws, batches_of, version_now, scenario_at, scenario_now, after_batches}
 use Rattle.ltm_core.specs.Cores.{CoreData, IsShownOf}
 use Rattle.ltm_editors.specs.declared.call.Call.{Call}
 use Rattle.ltm_editors.specs.History.{accepted_in, IsLegalHistory}
 use Rattle.ltm_editors.specs.Offices.{IsOffice}
 use Rattle.ltm_editing.specs.Lines.{call_lines}
-use Rattle.ltm_editing.specs.Editing.{totals_of, TellsTotals, TellsHistory, IsEditingText}
+use Rattle.ltm_editing.specs.Editing.{TellsTotals, TellsHistory, IsEditingText}
 use Rattle.ltm_editing.specs.Histories.{batches_by, script_by}
 use Rattle.ltm_editing.proofs.Calls.{on_ok}
-
-pub totals_told : (s : Setting) (c : Counts) (version v : ℕ) (t : Totals) → v ≡ version → AreTotals s c s.slots t → totals_line v t.generated.0 t.arrived.0 t.on_links.0 t.waiting.0 ≡ totals_of version s c
-unfolding totals_of
-totals_told s c version v t number are =
-    let generated = are.generated in
-    let arrived = are.arrived in
-    let on_links = are.on_links in
-    let waiting = are.waiting in
-    cc
 
 -- what holds of a result follows from what else holds of it
 pub if_ok : {A E : Type 0} (r : Result A E) (P Q : A → Type 0) → ((a : A) → P a → Q a) → IfOk r P → IfOk r Q
@@ -49,11 +37,16 @@ module _ (laws : LogLaws) (log : Log) (d : CoreData) (same : d.log ≡ log) (all
       subst (λ (k : ℕ). Shows (setting_of (scenario_now log)) k d.shown) number (subst (λ (s : ScenarioData). Shows (setting_of s) (version_of d.shown) d.shown) last shown.shows)
 
   pub tells_totals : {A E : Type 0} (r : Result A E) (old new : List ℕ)
-      → ((s : Setting) (version : ℕ) → Shows s version d.shown → OnOk r (new ≡ old ++ totals_of version s (counts_of (curves_of d.shown)))) → OnOk r (TellsTotals log old new)
+      → OnOk r ((s : Setting) (version : ℕ) → Shows s version d.shown → new ≡ old ++ totals_report version s (counts_of (curves_of d.shown))) → OnOk r (TellsTotals log old new)
   tells_totals r old new wrote =
-      on_ok r (new ≡ old ++ totals_of (version_now log) (setting_of (scenario_now log)) (counts_of (curves_of d.shown))) (TellsTotals log old new)
-      (λ is. record { counts = counts_of (curves_of d.shown); scenario = subst (λ (s : ScenarioData). IsScenario s) last shown.scenario; loads = shows_last.loading; lines = is })
-      (wrote (setting_of (scenario_now log)) (version_now log) shows_last)
+      on_ok r ((s : Setting) (version : ℕ) → Shows s version d.shown → new ≡ old ++ totals_report version s (counts_of (curves_of d.shown))) (TellsTotals log old new)
+      (λ is. record {
+        counts = counts_of (curves_of d.shown);
+        scenario = subst (λ (s : ScenarioData). IsScenario s) last shown.scenario;
+        loads = shows_last.loading;
+        lines = is (setting_of (scenario_now log)) (version_now log) shows_last;
+      })
+      wrote
 
 -- ---- the history beside it
 scenario_is : (log : Log) → scenario_now log ≡ after_batches log.opening (batches_of log)
@@ -74,7 +67,7 @@ tells_history core log history calls lines text same office wrote are totals =
       counts = t.counts;
       scenario = subst (λ (s : ScenarioData). IsScenario s) left t.scenario;
       loads = subst (λ (s : ScenarioData). IsLoading (setting_of s) t.counts) left t.loads;
-      lines = t.lines ∙ (λ i. (wrote ∙ ap (λ (cs : List Call). call_lines 1 cs) are) i ++ totals_of (count i) (setting_of (left i)) t.counts);
+      lines = t.lines ∙ (λ i. (wrote ∙ ap (λ (cs : List Call). call_lines 1 cs) are) i ++ totals_report (count i) (setting_of (left i)) t.counts);
     }
 
 -- ---- all of it

@@ -1,18 +1,14 @@
 //! What is told of editors once all are done.
-ghost use Rattle.std.specs.Prelude.{◌≡◌, ◌++◌, ℕ, IfOk, OnOk};
-ghost use Rattle.ltm_curve.specs.Table.{counts_of};
-ghost use Rattle.ltm_loading.specs.Setting.{Setting};
-ghost use Rattle.ltm_flows.specs.Shown.{Shows, curves_of};
+ghost use Rattle.std.specs.Prelude.{◌≡◌, IfOk, OnOk};
 ghost use Rattle.ltm_core.specs.Log.{version_now, scenario_now};
 ghost use Rattle.ltm_core.specs.Cores.{IsNoneOut, IsResting};
 ghost use Rattle.ltm_core.specs.CoreAnswers.{PublishesAll};
 ghost use Rattle.ltm_editors.specs.Offices.{opening_of};
-ghost use Rattle.ltm_editing.specs.Editing.{totals_of, TellsTotals, TellsHistory};
+ghost use Rattle.ltm_editing.specs.Editing.{TellsTotals, TellsHistory};
 
 use crate::lines::calls_text;
 use ltm_core::{Core, Published, logs_tell_all};
 use ltm_editors::Office;
-use ltm_flows::Loading;
 use ltm_report::totals_text;
 use ltm_units::{NoMemory, Steps};
 use ltm_workers::{Bench, drain};
@@ -43,23 +39,6 @@ fn show(core: &mut Core)
     }
 }
 
-/// Appends the totals of a loading.
-fn push_totals(alloc: Global, loading: &Loading, into: &mut Vec<u8>) -> Result<(), NoMemory>
-    ensures { (s : Setting) (version : ℕ) → Shows s version loading.now
-        → OnOk result (into.new.items ≡ into.old.items ++ totals_of version s (counts_of (curves_of loading.now))) }
-{
-    let totals = loading.totals();
-    totals_text(
-        alloc,
-        loading.version(),
-        totals.generated,
-        totals.arrived,
-        totals.on_links,
-        totals.waiting,
-        into,
-    )
-}
-
 /// Brings a core to rest, shows its loading, and appends the totals.
 fn push_settled(alloc: Global, core: &mut Core, into: &mut Vec<u8>) -> Result<(), NoMemory>
     requires { IsNoneOut core.old }
@@ -70,7 +49,7 @@ fn push_settled(alloc: Global, core: &mut Core, into: &mut Vec<u8>) -> Result<()
     repair(core, &mut bench);
     show(core);
     let loading = core.shown();
-    push_totals(alloc, loading, into)
+    totals_text(alloc, loading, into)
 }
 
 /// Appends the totals to the lines of all calls.

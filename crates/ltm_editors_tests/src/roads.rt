@@ -5,7 +5,7 @@ ghost use Rattle.ltm_scenario.specs.Valid.{IsValid};
 use ltm_casefile::read_case;
 use ltm_core::Core;
 use ltm_editors::Office;
-use ltm_io::{Doc, MemFolder};
+use ltm_io::MemFolder;
 use ltm_scenario::{Batch, Edit, Scenario};
 use ltm_units::{Name, NoMemory, Units};
 use std::alloc::Global;
@@ -26,21 +26,14 @@ pub enum Change {
 /// Link `a` from `n1` to `n2` of 20 m, 36 and 18 km/h and 150 vehicles per km, over four slots of a second. A vehicle of 1000
 /// units starts in the first two slots.
 fn one_road(alloc: Global) -> Result<MemFolder, NoMemory> {
-    let mut folder = MemFolder::create(alloc, &[])?;
-    folder.put(Doc::Setup, b"step_ms,slots,origin_capacity\n1000,4,1\n")?;
-    folder.put(
-        Doc::Links,
-        b"link,from,to,length_m,free_kmh,wave_kmh,jam_per_km\na,n1,n2,20,36,18,150\n",
-    )?;
-    folder.put(
-        Doc::Demand,
-        b"origin,destination,from_slot,to_slot,vehicles\nn1,n2,0,2,1\n",
-    )?;
-    folder.put(
-        Doc::Splits,
-        b"node,destination,from_slot,weights\nn1,n2,0,a=1\n",
-    )?;
-    Ok(folder)
+    MemFolder::of_case(
+        alloc,
+        &[],
+        "step_ms,slots,origin_capacity\n1000,4,1\n",
+        "link,from,to,length_m,free_kmh,wave_kmh,jam_per_km\na,n1,n2,20,36,18,150\n",
+        "origin,destination,from_slot,to_slot,vehicles\nn1,n2,0,2,1\n",
+        "node,destination,from_slot,weights\nn1,n2,0,a=1\n",
+    )
 }
 
 /// The scenario of the road.

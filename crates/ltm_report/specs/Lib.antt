@@ -1,6 +1,7 @@
 pub mod Pieces
 pub mod Totals
 pub mod Links
+pub mod Reports
 pub mod Causes
 pub mod CaseFaults
 pub mod Answers

@@ -1,9 +1,15 @@
 //! The lines of one link: what entered and what left it up to the end of the horizon.
-ghost use Rattle.std.specs.Prelude.{◌≡◌, ◌++◌, OnOk, OnErr};
+ghost use Rattle.std.specs.Prelude.{◌≡◌, ◌++◌, ◌<◌, ℕ, OnOk, OnErr};
+ghost use Rattle.ltm_curve.specs.Table.{counts_of};
+ghost use Rattle.ltm_loading.specs.Setting.{Setting};
+ghost use Rattle.ltm_flows.specs.Shown.{Shows, curves_of, links_of, version_of};
+ghost use Rattle.ltm_flows.specs.Counted.{entered_of, left_of};
 ghost use Rattle.ltm_report.specs.Links.{name_piece, through_piece, load_link_line, link_line};
+ghost use Rattle.ltm_report.specs.Reports.{load_link_report, link_report};
 
 use crate::pieces::{push_amount, push_newline, push_text, push_version};
-use ltm_units::{Name, NoMemory, Units};
+use ltm_flows::Loading;
+use ltm_units::{LinkId, Name, NoMemory, Units};
 use std::alloc::Global;
 
 #[tactic(auto, unfolding(crate::specs::Links::name_piece))]
@@ -42,8 +48,7 @@ fn push_link(
     push_newline(into)
 }
 
-/// Appends what entered and what left a link of a loading, as `link a in 1.000 out 0.500`.
-pub fn load_link_text(
+fn load_link_line_text(
     alloc: Global,
     name: &Name,
     entered: Units,
@@ -58,9 +63,28 @@ pub fn load_link_text(
     push_text(into, line.as_slice())
 }
 
-/// Appends what entered and what left a link of a version, as `version 3 link a in 1.000 out 0.500`.
+/// Appends what has entered and left a link of a loading, as `link a in 1.000 out 0.500`.
+pub fn load_link_text(
+    alloc: Global,
+    loading: &Loading,
+    name: &Name,
+    link: LinkId,
+    into: &mut Vec<u8>,
+) -> Result<(), NoMemory>
+    requires { link.0 < links_of loading.now }
+    ensures ok { OnOk result ((s : Setting) (version : ℕ) → Shows s version loading.now
+        → into.new.items ≡ into.old.items ++ load_link_report name.now link.0 s (counts_of (curves_of loading.now))) }
+    ensures counted { OnOk result (into.new.items
+        ≡ into.old.items ++ load_link_line name.now (entered_of loading.now link.0) (left_of loading.now link.0)) }
+    ensures err { OnErr result (into.new.items ≡ into.old.items) }
+{
+    let entered = loading.entered(link);
+    let gone = loading.left(link);
+    load_link_line_text(alloc, name, entered, gone, into)
+}
+
 #[tactic(auto, unfolding(crate::specs::Links::link_line))]
-pub fn link_text(
+fn link_line_text(
     alloc: Global,
     version: u64,
     name: &Name,
@@ -76,4 +100,24 @@ pub fn link_text(
     push_text(&mut line, b" ")?;
     push_link(alloc, &mut line, name, entered, gone)?;
     push_text(into, line.as_slice())
+}
+
+/// Appends what has entered and left a link of a loading, under its version, as `version 3 link a in 1.000 out 0.500`.
+pub fn link_text(
+    alloc: Global,
+    loading: &Loading,
+    name: &Name,
+    link: LinkId,
+    into: &mut Vec<u8>,
+) -> Result<(), NoMemory>
+    requires { link.0 < links_of loading.now }
+    ensures ok { OnOk result ((s : Setting) (version : ℕ) → Shows s version loading.now
+        → into.new.items ≡ into.old.items ++ link_report version name.now link.0 s (counts_of (curves_of loading.now))) }
+    ensures counted { OnOk result (into.new.items ≡ into.old.items
+        ++ link_line (version_of loading.now) name.now (entered_of loading.now link.0) (left_of loading.now link.0)) }
+    ensures err { OnErr result (into.new.items ≡ into.old.items) }
+{
+    let entered = loading.entered(link);
+    let gone = loading.left(link);
+    link_line_text(alloc, loading.version(), name, entered, gone, into)
 }

@@ -1,40 +1,71 @@
+ghost use Rattle.std.specs.Prelude.{◌<◌};
+ghost use Rattle.ltm_flows.specs.Shown.{links_of};
+
 use crate::{
     accepted_text, case_fault_text, command_fault_text, edit_fault_text, link_text, load_link_text,
     long_script_text, route_row_text, route_time_text, settled_text, size_text, splits_header_text,
-    time_slots_text, time_text, too_long_text, too_many_text, totals_text, unknown_link_text,
-    unknown_time_text, work_text,
+    time_slots_text, time_text, too_long_text, too_many_text, totals_line_text, totals_text,
+    unknown_link_text, unknown_time_text, work_text,
 };
-use ltm_casefile::{CaseCause, CaseFault, File};
+use ltm_casefile::{CaseCause, CaseFault, File, read_case};
 use ltm_diagram::{DiagramFault, Field};
+use ltm_flows::{Loading, Totals, cold};
+use ltm_io::{Doc, MemFolder};
 use ltm_network::NetworkFault;
 use ltm_scenario::{EditCause, EditFault};
 use ltm_script::CommandFault;
-use ltm_units::{Millis, Name, NoMemory, Units};
+use ltm_units::{LinkId, Millis, Name, NoMemory, Units};
 use std::alloc::Global;
 use std::test::Fail;
 
-fn lines(alloc: Global, name: &Name) -> Result<Vec<u8>, NoMemory> {
-    let mut text: Vec<u8> = Vec::new(alloc);
-    totals_text(
-        alloc,
-        12,
-        Units(5_000),
-        Units(4_000),
-        Units(999),
-        Units(1),
-        &mut text,
+// One road of 20 m over three slots of a second, with half a vehicle in each of the first two: it takes two slots.
+fn one_road(alloc: Global) -> Result<Loading, CaseFault> {
+    let mut folder = MemFolder::create(alloc, &[])?;
+    folder.put(Doc::Setup, b"step_ms,slots,origin_capacity\n1000,3,1\n")?;
+    folder.put(
+        Doc::Links,
+        b"link,from,to,length_m,free_kmh,wave_kmh,jam_per_km\na-1,n1,n2,20,36,18,150\n",
     )?;
-    load_link_text(alloc, name, Units(1_000), Units(500), &mut text)?;
-    link_text(alloc, 3, name, Units(1_000_000), Units(0), &mut text)?;
+    folder.put(
+        Doc::Demand,
+        b"origin,destination,from_slot,to_slot,vehicles\nn1,n2,0,2,1\n",
+    )?;
+    folder.put(
+        Doc::Splits,
+        b"node,destination,from_slot,weights\nn1,n2,0,a-1=1\n",
+    )?;
+    let scenario = read_case(alloc, &mut folder)?;
+    let curves = cold(alloc, &scenario)?;
+    Ok(Loading::of(alloc, &scenario, curves, 3)?)
+}
+
+fn lines(alloc: Global, loading: &Loading, name: &Name) -> Result<Vec<u8>, NoMemory>
+    requires { 0 < links_of loading.now }
+{
+    let mut text: Vec<u8> = Vec::new(alloc);
+    let totals = Totals {
+        generated: Units(5_000),
+        arrived: Units(4_000),
+        on_links: Units(999),
+        waiting: Units(1),
+    };
+    totals_line_text(alloc, 12, totals, &mut text)?;
+    totals_text(alloc, loading, &mut text)?;
+    load_link_text(alloc, loading, name, LinkId(0), &mut text)?;
+    link_text(alloc, loading, name, LinkId(0), &mut text)?;
     Ok(text)
 }
 
 #[test]
 fn writes_lines_of_a_loading(rt: HostRuntime) -> Result<(), Fail> {
     let name = Name::read(b"a-1").ok_or("a name")?;
+    let Ok(loading) = one_road(rt.alloc()) else {
+        panic!(rt; "no loading");
+    };
+    assert!(rt; loading.links() == 1);
     let want =
-        "version 12 generated 5.000 arrived 4.000 on_links 0.999 waiting 0.001\nlink a-1 in 1.000 out 0.500\nversion 3 link a-1 in 1000.000 out 0.000\n";
-    assert!(rt; lines(rt.alloc(), &name)?.as_slice() == want.as_bytes());
+        "version 12 generated 5.000 arrived 4.000 on_links 0.999 waiting 0.001\nversion 3 generated 1.000 arrived 0.500 on_links 0.500 waiting 0.000\nlink a-1 in 1.000 out 0.500\nversion 3 link a-1 in 1.000 out 0.500\n";
+    assert!(rt; lines(rt.alloc(), &loading, &name)?.as_slice() == want.as_bytes());
     Ok(())
 }
 

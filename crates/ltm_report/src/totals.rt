@@ -1,8 +1,13 @@
 //! The line of a loading's totals.
-ghost use Rattle.std.specs.Prelude.{◌≡◌, ◌++◌, OnOk, OnErr, IfOk};
+ghost use Rattle.std.specs.Prelude.{◌≡◌, ◌++◌, ℕ, OnOk, OnErr};
+ghost use Rattle.ltm_curve.specs.Table.{counts_of};
+ghost use Rattle.ltm_loading.specs.Setting.{Setting};
+ghost use Rattle.ltm_flows.specs.Shown.{Shows, curves_of};
 ghost use Rattle.ltm_report.specs.Totals.{came_piece, stays_piece, totals_line};
+ghost use Rattle.ltm_report.specs.Reports.{totals_report, counted_totals};
 
 use crate::pieces::{push_amount, push_newline, push_text, push_version};
+use ltm_flows::{Loading, Totals};
 use ltm_units::{NoMemory, Units};
 use std::alloc::Global;
 
@@ -32,26 +37,32 @@ fn push_stays(
     push_amount(alloc, into, b" waiting ", waiting)
 }
 
-/// Appends the totals of a loading and the version of its scenario, as
-/// `version 0 generated 1.000 arrived 0.500 on_links 0.500 waiting 0.000`.
+/// Appends totals under a version, as `version 0 generated 1.000 arrived 0.500 on_links 0.500 waiting 0.000`.
 #[tactic(auto, unfolding(crate::specs::Totals::totals_line))]
-pub fn totals_text(
+pub fn totals_line_text(
     alloc: Global,
     version: u64,
-    generated: Units,
-    arrived: Units,
-    on_links: Units,
-    waiting: Units,
+    totals: Totals,
     into: &mut Vec<u8>,
 ) -> Result<(), NoMemory>
-    ensures ok { OnOk result (into.new.items
-        ≡ into.old.items ++ totals_line version generated.0 arrived.0 on_links.0 waiting.0) }
+    ensures ok { OnOk result (into.new.items ≡ into.old.items
+        ++ totals_line version totals.generated.0 totals.arrived.0 totals.on_links.0 totals.waiting.0) }
     ensures err { OnErr result (into.new.items ≡ into.old.items) }
 {
     let mut line = Vec::new(alloc);
     push_version(&mut line, version)?;
-    push_came(alloc, &mut line, generated, arrived)?;
-    push_stays(alloc, &mut line, on_links, waiting)?;
+    push_came(alloc, &mut line, totals.generated, totals.arrived)?;
+    push_stays(alloc, &mut line, totals.on_links, totals.waiting)?;
     push_newline(&mut line)?;
     push_text(into, line.as_slice())
+}
+
+/// Appends the totals of a loading at the end of its horizon, under its version.
+pub fn totals_text(alloc: Global, loading: &Loading, into: &mut Vec<u8>) -> Result<(), NoMemory>
+    ensures ok { OnOk result ((s : Setting) (version : ℕ) → Shows s version loading.now
+        → into.new.items ≡ into.old.items ++ totals_report version s (counts_of (curves_of loading.now))) }
+    ensures counted { OnOk result (into.new.items ≡ into.old.items ++ counted_totals loading.now) }
+    ensures err { OnErr result (into.new.items ≡ into.old.items) }
+{
+    totals_line_text(alloc, loading.version(), loading.totals(), into)
 }

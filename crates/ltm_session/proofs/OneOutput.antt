@@ -25,12 +25,14 @@ use Rattle.ltm_report.specs.Refusals.{unknown_link_line, unknown_time_line}
 use Rattle.ltm_lines.specs.Script.{lines_of}
 use Rattle.ltm_core.specs.Log.{Log, with_batch, version_now, settled_of, scenario_at, scenario_now}
 use Rattle.ltm_core.specs.Settling.{IsExactCount, setting_at}
-use Rattle.ltm_session.specs.Reports.{totals_report, link_report, time_report}
+use Rattle.ltm_report.specs.Reports.{totals_report, link_report}
+use Rattle.ltm_session.specs.Reports.{time_report}
 use Rattle.ltm_session.specs.Analysts.{Analysts, opening_state, shown_scenario, settled}
 use Rattle.ltm_session.specs.Answers.{ReportsShown, TellsTimeAt, IsScenarioOf, CountsAlone, AnswersAlone}
 use Rattle.ltm_session.specs.Session.{AnswersLine, AnswersLines}
 use Rattle.ltm_session.specs.Laws.{OneOutput}
-use Rattle.ltm_session.proofs.SameReports.{agree, totals_same, links_same, times_same, differing_same}
+use Rattle.ltm_times.proofs.Alike.{agree, differing_same}
+use Rattle.ltm_session.proofs.SameReports.{totals_same, links_same, times_same}
 
 -- there is one loading of a setting, and scenarios make settings
 pub record Known : Type 0 where

@@ -6,55 +6,25 @@ use Rattle.ltm_curve.specs.Table.{counts_of}
 use Rattle.ltm_network.specs.Network.{NetworkData}
 use Rattle.ltm_scenario.specs.Data.{ScenarioData}
 use Rattle.ltm_loading.specs.Setting.{Setting}
-use Rattle.ltm_loading.specs.Totals.{entered_link, left_link}
 use Rattle.ltm_setting.specs.Setting.{setting_of}
 use Rattle.ltm_flows.specs.declared.loading.Loading.{Loading}
-use Rattle.ltm_flows.specs.declared.in_all.Totals.{Totals}
-use Rattle.ltm_flows.specs.InAll.{AreTotals}
 use Rattle.ltm_flows.specs.Shown.{Shows, version_of, curves_of, links_of, last_of}
 use Rattle.ltm_script.specs.declared.command.Command.TheVariants as command
 use Rattle.ltm_times.specs.Times.{travel_time}
-use Rattle.ltm_report.specs.Totals.{totals_line}
-use Rattle.ltm_report.specs.Links.{link_line}
 use Rattle.ltm_report.specs.Times.{time_line}
 use Rattle.ltm_report.specs.Refusals.{time_slots_line}
 use Rattle.ltm_core.specs.Log.{Log, scenario_at}
 use Rattle.ltm_core.specs.Cores.{CoreData, IsShownOf}
 use Rattle.ltm_session.specs.Analysts.{state_of, shown_scenario}
-use Rattle.ltm_session.specs.Reports.{totals_report, link_report, time_report}
+use Rattle.ltm_report.specs.Reports.{totals_report, link_report}
+use Rattle.ltm_session.specs.Reports.{time_report}
 use Rattle.ltm_session.specs.Answers.{IsScenarioOf, ReportsShown, TellsTimeAt, Replies}
 
 pub on_ok_map : {A B : Type 0} (r : Result A B) (P Q : Type 0) → (P → Q) → OnOk r P → OnOk r Q
 on_ok_map (Ok x) P Q f p = f p
 on_ok_map (Err e) P Q f p = tt
 
--- ---- what is written of a loading
-pub totals_written : (l : Loading) (t : Totals) (v : ℕ) (old new : List ℕ) → v ≡ version_of l
-    → ((s : Setting) (version : ℕ) → Shows s version l → AreTotals s (counts_of (curves_of l)) s.slots t)
-    → new ≡ old ++ totals_line v t.generated.0 t.arrived.0 t.on_links.0 t.waiting.0
-    → (s : Setting) (version : ℕ) → Shows s version l → new ≡ old ++ totals_report version s (counts_of (curves_of l))
-unfolding totals_report
-totals_written l t v old new is are wrote s version shows =
-    let all = are s version shows in
-    let number : v ≡ version = is ∙ shows.version in
-    let came = all.generated in
-    let here = all.arrived in
-    let links = all.on_links in
-    let waits = all.waiting in
-    cc
-
-pub link_written : (l : Loading) (link : ℕ) (name : List ℕ) (v entered gone : ℕ) (old new : List ℕ) → v ≡ version_of l
-    → ((s : Setting) (version : ℕ) → Shows s version l → entered ≡ entered_link s (counts_of (curves_of l)) link s.slots)
-    → ((s : Setting) (version : ℕ) → Shows s version l → gone ≡ left_link s (counts_of (curves_of l)) link s.slots)
-    → new ≡ old ++ link_line v name entered gone
-    → (s : Setting) (version : ℕ) → Shows s version l → new ≡ old ++ link_report version name link s (counts_of (curves_of l))
-unfolding link_report
-link_written l link name v entered gone old new is came went wrote s version shows =
-    let number : v ≡ version = is ∙ shows.version in
-    let ins = came s version shows in
-    let outs = went s version shows in
-    cc
-
+-- ---- what is written of a travel time
 pub time_written : (l : Loading) (link slot : ℕ) (name : List ℕ) (v : ℕ) (time : Option ℕ) (old new : List ℕ) → v ≡ version_of l
     → ((s : Setting) (version : ℕ) → Shows s version l → time ≡ travel_time s (counts_of (curves_of l)) link slot)
     → new ≡ old ++ time_line v name slot time

@@ -17,7 +17,8 @@ use Rattle.ltm_report.specs.CommandFaults.{command_fault_line}
 use Rattle.ltm_report.specs.Refusals.{unknown_link_line, unknown_time_line, time_slots_line}
 use Rattle.ltm_core.specs.Log.{Log, with_batch, version_now, settled_of, scenario_at, scenario_now}
 use Rattle.ltm_core.specs.Settling.{setting_at, IsSettleCount, IsExactCount}
-use Rattle.ltm_session.specs.Reports.{totals_report, link_report, time_report}
+use Rattle.ltm_report.specs.Reports.{totals_report, link_report}
+use Rattle.ltm_session.specs.Reports.{time_report}
 use Rattle.ltm_session.specs.Analysts.{Analysts, shown_scenario, settled, IsShownLater}
 
 -- the scenario after so many batches is one, of the opening network

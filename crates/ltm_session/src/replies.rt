@@ -2,15 +2,18 @@
 ghost use Rattle.std.specs.Prelude.{◌≡◌, ◌≢◌, ◌++◌, ℕ, ◌<◌, List, length, Ok, Err, OnOk, OnErr};
 ghost use Rattle.ltm_script.specs.Commands.{HasAmounts};
 ghost use Rattle.ltm_core.specs.CoreAnswers.{LooksAs};
-ghost use Rattle.ltm_session.specs.Reports.{totals_report, link_report, time_report};
+ghost use Rattle.ltm_report.specs.Reports.{link_report};
 ghost use Rattle.ltm_session.specs.Analysts.{Analysts, state_of};
 ghost use Rattle.ltm_session.specs.Answers.{Replies, ReportsShown, TellsTimeAt};
 ghost use Rattle.ltm_session.specs.Ready.{AwaitsLine};
 
 use crate::edits::reply_edit;
-use crate::reports::{push_link, push_time, push_totals};
+use crate::reports::push_time;
 use ltm_core::Core;
-use ltm_report::{command_fault_text, time_slots_text, unknown_link_text, unknown_time_text};
+use ltm_report::{
+    command_fault_text, link_text, time_slots_text, totals_text, unknown_link_text,
+    unknown_time_text,
+};
 use ltm_script::{Command, CommandFault};
 use ltm_units::{LinkId, Name, NoMemory};
 use std::alloc::Global;
@@ -21,7 +24,7 @@ fn reply_totals(alloc: Global, core: &Core, into: &mut Vec<u8>) -> Result<(), No
         × (into.new.items ≡ into.old.items ++ text)) }
     ensures err { OnErr result (into.new.items ≡ into.old.items) }
 {
-    push_totals(alloc, core.shown(), into)
+    totals_text(alloc, core.shown(), into)
 }
 
 /// Appends what has entered and left a link of what is shown.
@@ -37,7 +40,7 @@ fn tell_link(
         × (into.new.items ≡ into.old.items ++ text)) }
     ensures err { OnErr result (into.new.items ≡ into.old.items) }
 {
-    push_link(alloc, core.shown(), name, link, into)
+    link_text(alloc, core.shown(), name, link, into)
 }
 
 /// Appends what has entered and left the link of a name, or that there is none.

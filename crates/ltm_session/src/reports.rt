@@ -1,55 +1,15 @@
-//! What is reported of the loading that a core shows.
-ghost use Rattle.std.specs.Prelude.{◌≡◌, ◌++◌, ℕ, ◌<◌, List, OnOk, OnErr};
+//! What is reported of a travel time.
+ghost use Rattle.std.specs.Prelude.{◌≡◌, ◌++◌, ℕ, ◌<◌, OnOk, OnErr};
 ghost use Rattle.ltm_curve.specs.Table.{counts_of};
 ghost use Rattle.ltm_loading.specs.Setting.{Setting};
 ghost use Rattle.ltm_flows.specs.Shown.{Shows, curves_of, last_of, links_of};
-ghost use Rattle.ltm_session.specs.Reports.{totals_report, link_report, time_report};
+ghost use Rattle.ltm_session.specs.Reports.{time_report};
 
 use ltm_flows::Loading;
-use ltm_report::{link_text, time_text, totals_text};
+use ltm_report::time_text;
 use ltm_times::travel;
 use ltm_units::{LinkId, Name, NoMemory};
 use std::alloc::Global;
-
-/// Appends the totals of a loading.
-pub(crate) fn push_totals(
-    alloc: Global,
-    loading: &Loading,
-    into: &mut Vec<u8>,
-) -> Result<(), NoMemory>
-    ensures ok { OnOk result ((s : Setting) (version : ℕ) → Shows s version loading.now
-        → into.new.items ≡ into.old.items ++ totals_report version s (counts_of (curves_of loading.now))) }
-    ensures err { OnErr result (into.new.items ≡ into.old.items) }
-{
-    let totals = loading.totals();
-    totals_text(
-        alloc,
-        loading.version(),
-        totals.generated,
-        totals.arrived,
-        totals.on_links,
-        totals.waiting,
-        into,
-    )
-}
-
-/// Appends what has entered and left a link of a loading.
-pub(crate) fn push_link(
-    alloc: Global,
-    loading: &Loading,
-    name: &Name,
-    link: LinkId,
-    into: &mut Vec<u8>,
-) -> Result<(), NoMemory>
-    requires { link.0 < links_of loading.now }
-    ensures ok { OnOk result ((s : Setting) (version : ℕ) → Shows s version loading.now
-        → into.new.items ≡ into.old.items ++ link_report version name.now link.0 s (counts_of (curves_of loading.now))) }
-    ensures err { OnErr result (into.new.items ≡ into.old.items) }
-{
-    let entered = loading.entered(link);
-    let gone = loading.left(link);
-    link_text(alloc, loading.version(), name, entered, gone, into)
-}
 
 /// Appends how long a vehicle takes to pass a link of a loading that it enters at the beginning of a slot.
 pub(crate) fn push_time(

@@ -2,7 +2,7 @@
 //! such place is dear to prove.
 use ltm_casefile::read_case;
 use ltm_core::Core;
-use ltm_io::{Doc, MemFolder, Sink, SureSink};
+use ltm_io::{MemFolder, Sink, SureSink};
 use ltm_lines::{Source, SureSource};
 use ltm_scenario::Scenario;
 use ltm_session::{Served, SessionEnd, serve_alone};
@@ -28,25 +28,10 @@ pub enum Case {
     Corridor,
 }
 
-/// The four files of a case.
-fn folder_of(
-    alloc: Global,
-    setup: &str,
-    links: &str,
-    demand: &str,
-    splits: &str,
-) -> Result<MemFolder, NoMemory> {
-    let mut folder = MemFolder::create(alloc, &[])?;
-    folder.put(Doc::Setup, setup.as_bytes())?;
-    folder.put(Doc::Links, links.as_bytes())?;
-    folder.put(Doc::Demand, demand.as_bytes())?;
-    folder.put(Doc::Splits, splits.as_bytes())?;
-    Ok(folder)
-}
-
 fn one_road(alloc: Global, setup: &str, links: &str) -> Result<MemFolder, NoMemory> {
-    folder_of(
+    MemFolder::of_case(
         alloc,
+        &[],
         setup,
         links,
         "origin,destination,from_slot,to_slot,vehicles\nn1,n2,0,2,1\n",
@@ -56,8 +41,9 @@ fn one_road(alloc: Global, setup: &str, links: &str) -> Result<MemFolder, NoMemo
 
 fn two_roads(alloc: Global, slots: u32) -> Result<MemFolder, NoMemory> {
     let setup = format!(in alloc; "step_ms,slots,origin_capacity\n1000,{slots},1\n")?;
-    folder_of(
+    MemFolder::of_case(
         alloc,
+        &[],
         &setup,
         "link,from,to,length_m,free_kmh,wave_kmh,jam_per_km\na,n1,n2,20,36,18,150\nb,n2,n3,20,36,18,150\n",
         "origin,destination,from_slot,to_slot,vehicles\nn1,n3,0,5,5\n",
@@ -76,8 +62,9 @@ fn corridor(alloc: Global) -> Result<MemFolder, NoMemory> {
         write!(links, "l{tail},n{tail},n{head},20,36,18,150\n")?;
         write!(splits, "n{tail},n1000,0,l{tail}=1\n")?;
     }
-    folder_of(
+    MemFolder::of_case(
         alloc,
+        &[],
         "step_ms,slots,origin_capacity\n1000,2,1\n",
         &links,
         "origin,destination,from_slot,to_slot,vehicles\nn0,n1000,0,2,1\n",

@@ -123,16 +123,7 @@ fn push_loaded(
     };
     let curves = cold(alloc, &scenario)?;
     let loading = Loading::of(alloc, &scenario, curves, version)?;
-    let totals = loading.totals();
-    totals_text(
-        alloc,
-        version,
-        totals.generated,
-        totals.arrived,
-        totals.on_links,
-        totals.waiting,
-        into,
-    )
+    totals_text(alloc, &loading, into)
 }
 
 /// Appends three lines that raise the horizon, settle and ask for the totals, and their answers: of three nodes there are

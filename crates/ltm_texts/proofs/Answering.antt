@@ -10,7 +10,7 @@ use Rattle.ltm_casefile.specs.Case.{case_of}
 use Rattle.ltm_routing.specs.declared.lines.RouteLines.TheVariants as lines
 use Rattle.ltm_routing.specs.Routing as routing
 use Rattle.ltm_texts.specs.declared.words.Command.TheVariants as command
-use Rattle.ltm_texts.specs.Report.{IsReport}
+use Rattle.ltm_report.specs.Reports.{IsReport}
 use Rattle.ltm_checking.specs.declared.refusal.Refusal.{Refusal}
 use Rattle.ltm_checking.specs.declared.refusal.Refusal.TheVariants as refusal
 use Rattle.ltm_checking.specs.Loaded.{AnswersCurves}

@@ -3,4 +3,3 @@ pub mod Choice
 mod Answering
 pub mod MissingFile
 pub mod Told
-mod Reported

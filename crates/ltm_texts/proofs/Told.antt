@@ -21,7 +21,7 @@ use Rattle.ltm_texts.specs.declared.words.Command.{Command}
 use Rattle.ltm_texts.specs.declared.words.Command.TheVariants as ask
 use Rattle.ltm_texts.specs.Words.{Asks, AsksNoText}
 use Rattle.ltm_trial.specs.Trial.{IsTrial}
-use Rattle.ltm_texts.specs.Report.{IsReport}
+use Rattle.ltm_report.specs.Reports.{IsReport}
 use Rattle.ltm_records.specs.Left.{records_of}
 use Rattle.ltm_check.specs.ReadBack.{TellsLoading}
 use Rattle.ltm_checking.specs.declared.refusal.Refusal.{Refusal}

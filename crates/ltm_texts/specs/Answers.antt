@@ -17,7 +17,7 @@ use Rattle.ltm_checking.specs.declared.refusal.Refusal.{Refusal}
 use Rattle.ltm_checking.specs.declared.refusal.Refusal.TheVariants as refusal
 use Rattle.ltm_checking.specs.Loaded.{AnswersCurves}
 use Rattle.ltm_checking.specs.Checks.{AnswersCheck, is_check_file, check_asks_for}
-use Rattle.ltm_texts.specs.Report.{IsReport}
+use Rattle.ltm_report.specs.Reports.{IsReport}
 
 -- a text, or the refusal in place of it
 abbrev pub Answer : Type 0

@@ -1,5 +1,4 @@
 pub mod Status
 pub mod Words
-pub mod Report
 pub mod Answers
 pub mod Program

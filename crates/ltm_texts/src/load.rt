@@ -9,10 +9,10 @@ ghost use Rattle.ltm_texts.specs.Answers.{Answers, AnswersFault};
 ghost use Rattle.ltm_texts.specs.Program.{FileFailed};
 ghost use Rattle.ltm_checking.specs.declared.refusal.Refusal.{Refusal};
 
-use crate::report::report_of;
 use crate::words::Command;
 use ltm_casefile::{CaseFault, read_case};
 use ltm_io::Folder;
+use ltm_report::report_of;
 use std::alloc::Global;
 
 /// The report of the folder's case, or why there is none.

@@ -12,7 +12,7 @@ ghost use Rattle.ltm_report.specs.CaseFaults.{bad_case_line};
 ghost use Rattle.ltm_routing.specs.File.{IsSplitsFile, IsTimesFile};
 ghost use Rattle.ltm_texts.specs.declared.words.Command.{Command};
 ghost use Rattle.ltm_texts.specs.Words.{Asks, AsksNoText, usage_line};
-ghost use Rattle.ltm_texts.specs.Report.{IsReport};
+ghost use Rattle.ltm_report.specs.Reports.{IsReport};
 ghost use Rattle.ltm_trial.specs.Trial.{IsTrial};
 ghost use Rattle.ltm_texts.specs.Answers.{IsSized, Answer, Answers, Describes, may_fetch, fetches};
 ghost use Rattle.ltm_texts.specs.Program.{IsAnswerUnder, IsTextUnder, IsWhole, FileFailed, IsCalm, IsMissing, IsLong, WritesAnswerFront, WritesFront, status_of, words_of};

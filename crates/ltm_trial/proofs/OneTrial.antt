@@ -16,15 +16,16 @@ use Rattle.ltm_times.specs.Times.{time_spent}
 use Rattle.ltm_times.proofs.Alike.{agree, arrived_same, on_links_same, waiting_same, spent_same, differing_same}
 use Rattle.ltm_report.specs.Totals.{totals_line}
 use Rattle.ltm_report.specs.Made.{work_line}
+use Rattle.ltm_report.specs.Reports.{totals_report}
 use Rattle.ltm_make.specs.Grid.{IsWidth}
 use Rattle.ltm_make.specs.MadeCase.{made_from, batch_of}
 use Rattle.ltm_core.specs.Log.{edited_or}
-use Rattle.ltm_trial.specs.Trial.{size_of, totals_of, work_of, trial_lines, IsTrialOf, TellsTrial}
+use Rattle.ltm_trial.specs.Trial.{size_of, work_of, trial_lines, IsTrialOf, TellsTrial}
 use Rattle.ltm_trial.specs.Laws.{OneTrial}
 
 -- ---- the lines
-totals_same : (s : Setting) (a b : Counts) (version : ℕ) → AgreeTo s a b s.slots → totals_of version s a ≡ totals_of version s b
-unfolding totals_of
+totals_same : (s : Setting) (a b : Counts) (version : ℕ) → AgreeTo s a b s.slots → totals_report version s a ≡ totals_report version s b
+unfolding totals_report
 totals_same s a b version same =
     ap (λ x. totals_line version (generated s s.slots) x (on_links s a s.slots) (waiting s a s.slots)) (arrived_same s a b s.slots same (omega arith))
     ∙ ap (λ x. totals_line version (generated s s.slots) (arrived s b s.slots) x (waiting s a s.slots)) (on_links_same s a b same)
@@ -38,9 +39,9 @@ work_same s e a b c d differ same =
 lines_same : (s e : Setting) (a b c d : Counts) → differing s e a c ≡ differing s e b d → AgreeTo s a b s.slots → AgreeTo e c d e.slots → trial_lines s e a c ≡ trial_lines s e b d
 unfolding trial_lines
 lines_same s e a b c d differ same_s same_e =
-    ap (λ x. size_of s ++ x ++ totals_of 1 e c ++ work_of s e a c) (totals_same s a b 0 same_s)
-    ∙ ap (λ x. size_of s ++ totals_of 0 s b ++ x ++ work_of s e a c) (totals_same e c d 1 same_e)
-    ∙ ap (λ x. size_of s ++ totals_of 0 s b ++ totals_of 1 e d ++ x) (work_same s e a b c d differ same_e)
+    ap (λ x. size_of s ++ x ++ totals_report 1 e c ++ work_of s e a c) (totals_same s a b 0 same_s)
+    ∙ ap (λ x. size_of s ++ totals_report 0 s b ++ x ++ work_of s e a c) (totals_same e c d 1 same_e)
+    ∙ ap (λ x. size_of s ++ totals_report 0 s b ++ totals_report 1 e d ++ x) (work_same s e a b c d differ same_e)
 
 -- ---- of a scenario and its batch
 nodes_in : (s : ScenarioData) → (setting_of s).nodes ≡ length s.network.nodes

@@ -7,14 +7,12 @@ use Rattle.ltm_scenario.specs.Data.{ScenarioData}
 use Rattle.ltm_loading.specs.Setting.{Setting}
 use Rattle.ltm_loading.specs.Differing.{differing}
 use Rattle.ltm_times.specs.Times.{time_spent}
-use Rattle.ltm_flows.specs.declared.in_all.Totals.{Totals}
-use Rattle.ltm_flows.specs.InAll.{AreTotals}
-use Rattle.ltm_report.specs.Totals.{totals_line}
 use Rattle.ltm_report.specs.Made.{work_line}
+use Rattle.ltm_report.specs.Reports.{totals_report}
 use Rattle.ltm_make.specs.declared.made.Made.{Made}
 use Rattle.ltm_make.specs.Grid.{IsWidth}
 use Rattle.ltm_make.specs.MadeCase.{made_from, IsMade}
-use Rattle.ltm_trial.specs.Trial.{size_of, totals_of, work_of, trial_lines, TellsTrial, IsTrial}
+use Rattle.ltm_trial.specs.Trial.{size_of, work_of, trial_lines, TellsTrial, IsTrial}
 
 -- ---- the width of a grid
 find_width : (n fuel k : ℕ) → ((j : ℕ) → j < k → j * j < n) → n ≤ (k + fuel) * (k + fuel) → (w : ℕ) × IsWidth n w
@@ -39,17 +37,8 @@ pub some_width : (n : ℕ) → (w : ℕ) × IsWidth n w
 some_width n = find_width n n 0 (λ j l. absurd (omega (l, arith))) (square n)
 
 -- ---- the text
-pub totals_told : (s : Setting) (c : Counts) (version v : ℕ) (t : Totals) → v ≡ version → AreTotals s c s.slots t → totals_line v t.generated.0 t.arrived.0 t.on_links.0 t.waiting.0 ≡ totals_of version s c
-unfolding totals_of
-totals_told s c version v t number are =
-    let generated = are.generated in
-    let arrived = are.arrived in
-    let on_links = are.on_links in
-    let waiting = are.waiting in
-    cc
-
-pub trial_text : (s e : Setting) (before after : Counts) (recomputed solved : ℕ) (none first text : List ℕ) → none ≡ [] → first ≡ none ++ size_of s ++ totals_of 0 s before →
-    text ≡ first ++ totals_of 1 e after ++ work_line recomputed solved (time_spent e after) → recomputed ≡ differing s e before after → solved ≡ recomputed → text ≡ trial_lines s e before after
+pub trial_text : (s e : Setting) (before after : Counts) (recomputed solved : ℕ) (none first text : List ℕ) → none ≡ [] → first ≡ none ++ size_of s ++ totals_report 0 s before →
+    text ≡ first ++ totals_report 1 e after ++ work_line recomputed solved (time_spent e after) → recomputed ≡ differing s e before after → solved ≡ recomputed → text ≡ trial_lines s e before after
 unfolding trial_lines work_of
 trial_text s e before after recomputed solved none first text empty two four counts same = rw (four, two, empty, same, counts) refl
 

@@ -7,11 +7,10 @@ use Rattle.ltm_scenario.specs.IsScenario.{IsScenario}
 use Rattle.ltm_scenario.specs.Edits.{edited_all}
 use Rattle.ltm_loading.specs.Setting.{Setting}
 use Rattle.ltm_loading.specs.Loading.{IsLoading}
-use Rattle.ltm_loading.specs.Totals.{generated, arrived, on_links, waiting}
 use Rattle.ltm_loading.specs.Differing.{differing}
 use Rattle.ltm_setting.specs.Setting.{setting_of}
 use Rattle.ltm_times.specs.Times.{time_spent}
-use Rattle.ltm_report.specs.Totals.{totals_line}
+use Rattle.ltm_report.specs.Reports.{totals_report}
 use Rattle.ltm_report.specs.Made.{size_line, work_line}
 use Rattle.ltm_make.specs.Grid.{IsWidth}
 use Rattle.ltm_make.specs.MadeCase.{made_from, batch_of}
@@ -20,17 +19,13 @@ use Rattle.ltm_make.specs.MadeCase.{made_from, batch_of}
 unfoldable pub size_of : Setting → List ℕ
 size_of s = size_line s.nodes s.links (s.nodes * s.slots)
 
--- the totals at the last boundary
-unfoldable pub totals_of : ℕ → Setting → Counts → List ℕ
-totals_of version s c = totals_line version (generated s s.slots) (arrived s c s.slots) (on_links s c s.slots) (waiting s c s.slots)
-
 -- how many pairs read other numbers after the batch than before, twice: so many are computed anew, by so many solves; and
 -- the time that all vehicles spend after it
 unfoldable pub work_of : Setting → Setting → Counts → Counts → List ℕ
 work_of s e before after = work_line (differing s e before after) (differing s e before after) (time_spent e after)
 
 unfoldable pub trial_lines : Setting → Setting → Counts → Counts → List ℕ
-trial_lines s e before after = size_of s ++ totals_of 0 s before ++ totals_of 1 e after ++ work_of s e before after
+trial_lines s e before after = size_of s ++ totals_report 0 s before ++ totals_report 1 e after ++ work_of s e before after
 
 -- the text reports the loading of a scenario, and that of the one that a batch makes of it
 pub record IsTrialOf (s e : ScenarioData) (text : List ℕ) : Type 0 where

@@ -6,11 +6,11 @@ ghost use Rattle.ltm_setting.specs.Setting.{setting_of};
 ghost use Rattle.ltm_flows.specs.Shown.{Shows, curves_of};
 ghost use Rattle.ltm_times.specs.Times.{time_spent};
 ghost use Rattle.ltm_report.specs.Made.{work_line};
-ghost use Rattle.ltm_trial.specs.Trial.{size_of, totals_of};
+ghost use Rattle.ltm_trial.specs.Trial.{size_of};
 
 use ltm_core::Core;
 use ltm_flows::Loading;
-use ltm_report::{size_text, totals_text, work_text};
+use ltm_report::{size_text, work_text};
 use ltm_setting::{link_count, node_count};
 use ltm_times::time_spent;
 use ltm_units::NoMemory;
@@ -25,28 +25,6 @@ pub(crate) fn push_size(alloc: Global, core: &Core, into: &mut Vec<u8>) -> Resul
     let nodes = node_count(core.scenario());
     let links = link_count(core.scenario());
     size_text(alloc, nodes, links, pairs, into)
-}
-
-/// Says what a loading comes to in all.
-#[tactic(auto, unfolding(crate::specs::Trial::totals_of))]
-pub(crate) fn push_totals(
-    alloc: Global,
-    loading: &Loading,
-    into: &mut Vec<u8>,
-) -> Result<(), NoMemory>
-    ensures { (s : Setting) (version : ℕ) → Shows s version loading.now
-        → OnOk result (into.new.items ≡ into.old.items ++ totals_of version s (counts_of (curves_of loading.now))) }
-{
-    let totals = loading.totals();
-    totals_text(
-        alloc,
-        loading.version(),
-        totals.generated,
-        totals.arrived,
-        totals.on_links,
-        totals.waiting,
-        into,
-    )
 }
 
 /// Says how much was worked, and what time all vehicles spend.

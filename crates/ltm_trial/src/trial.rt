@@ -9,13 +9,15 @@ ghost use Rattle.ltm_setting.specs.Setting.{setting_of};
 ghost use Rattle.ltm_flows.specs.Shown.{Shows, curves_of};
 ghost use Rattle.ltm_times.specs.Times.{time_spent};
 ghost use Rattle.ltm_report.specs.Made.{work_line};
+ghost use Rattle.ltm_report.specs.Reports.{totals_report};
 ghost use Rattle.ltm_core.specs.CoreAnswers.{IsOpeningCore};
-ghost use Rattle.ltm_trial.specs.Trial.{size_of, totals_of, IsTrial, TellsTrial};
+ghost use Rattle.ltm_trial.specs.Trial.{size_of, IsTrial, TellsTrial};
 
-use crate::lines::{push_size, push_totals, push_work};
+use crate::lines::{push_size, push_work};
 use crate::repairing::repair;
 use ltm_core::Core;
 use ltm_make::{Made, MakeFault, make_case};
+use ltm_report::totals_text;
 use ltm_scenario::Batch;
 use ltm_units::NoMemory;
 use std::alloc::Global;
@@ -23,10 +25,10 @@ use std::alloc::Global;
 /// The first two lines: of what is shown before the batch.
 fn push_before(alloc: Global, core: &Core, into: &mut Vec<u8>) -> Result<(), NoMemory>
     ensures { (s : Setting) → Shows s 0 core.now.shown → OnOk result (into.new.items ≡ into.old.items
-        ++ size_of (setting_of core.now.scenario) ++ totals_of 0 s (counts_of (curves_of core.now.shown))) }
+        ++ size_of (setting_of core.now.scenario) ++ totals_report 0 s (counts_of (curves_of core.now.shown))) }
 {
     push_size(alloc, core, into)?;
-    push_totals(alloc, core.shown(), into)?;
+    totals_text(alloc, core.shown(), into)?;
     Ok(())
 }
 
@@ -39,9 +41,9 @@ fn push_after(
     into: &mut Vec<u8>,
 ) -> Result<(), NoMemory>
     ensures { (s : Setting) → Shows s 1 core.now.shown → OnOk result (into.new.items ≡ into.old.items
-        ++ totals_of 1 s (counts_of (curves_of core.now.shown)) ++ work_line recomputed solved (time_spent s (counts_of (curves_of core.now.shown)))) }
+        ++ totals_report 1 s (counts_of (curves_of core.now.shown)) ++ work_line recomputed solved (time_spent s (counts_of (curves_of core.now.shown)))) }
 {
-    push_totals(alloc, core.shown(), into)?;
+    totals_text(alloc, core.shown(), into)?;
     push_work(alloc, core.shown(), recomputed, solved, into)?;
     Ok(())
 }

@@ -11,7 +11,7 @@ use Rattle.ltm_core.specs.Cores.{CoreData, IsShownOf}
 use Rattle.ltm_core.specs.Runs.{HoldsOfCore}
 use Rattle.ltm_core.specs.declared.entry.LogEntry.{LogEntry}
 use Rattle.ltm_session.specs.Analysts.{state_of}
-use Rattle.ltm_session.specs.Reports.{totals_report}
+use Rattle.ltm_report.specs.Reports.{totals_report}
 use Rattle.ltm_session.specs.Answers.{ReportsShown}
 use Rattle.ltm_board.specs.Sheets.{SheetData, IsSheet}
 use Rattle.ltm_board.specs.Lists.{LeadsTo, IsSheetAfter}

@@ -4,7 +4,7 @@ use Rattle.ltm_curve.specs.Counts.{Counts}
 use Rattle.ltm_loading.specs.Setting.{Setting}
 use Rattle.ltm_report.specs.Pieces.{number_piece}
 use Rattle.ltm_report.specs.Totals.{totals_line}
-use Rattle.ltm_session.specs.Reports.{totals_report}
+use Rattle.ltm_report.specs.Reports.{totals_report}
 use Rattle.ltm_session.specs.Analysts.{Analysts}
 use Rattle.ltm_session.specs.Answers.{ReportsShown}
 

@@ -4,7 +4,7 @@ ghost use Rattle.ltm_viewing.specs.Lines.{teller, viewer_line};
 
 use itoa::Buffer;
 use ltm_flows::Totals;
-use ltm_report::totals_text;
+use ltm_report::totals_line_text;
 use ltm_units::NoMemory;
 use std::alloc::Global;
 
@@ -32,13 +32,5 @@ pub(crate) fn viewer_text(
         ++ viewer_line viewer version totals.generated.0 totals.arrived.0 totals.on_links.0 totals.waiting.0) }
 {
     push_teller(into, viewer)?;
-    totals_text(
-        alloc,
-        version,
-        totals.generated,
-        totals.arrived,
-        totals.on_links,
-        totals.waiting,
-        into,
-    )
+    totals_line_text(alloc, version, totals, into)
 }

@@ -1,6 +1,6 @@
 //! Sessions beside workers whose output is one text, or one of two, whatever the order in which threads run.
 use super::run;
-use crate::run::cases::{USAGE, folder_of, one_road};
+use crate::run::cases::{USAGE, folder_of, hour, one_road};
 use ltm_io::{MemFolder, SureSink};
 use ltm_lines::SureSource;
 use ltm_texts::Status;
@@ -41,18 +41,6 @@ fn serve<R: Threads + Wait + Sync + AllocGlobal>(
     Ok((status, output))
 }
 
-/// Four links in a row, an hour in slots of ten seconds, and 4320 vehicles.
-fn hour(alloc: Global) -> Result<MemFolder, NoMemory> {
-    let setup = "step_ms,slots,origin_capacity\n10000,360,32\n";
-    let links =
-        "link,from,to,length_m,free_kmh,wave_kmh,jam_per_km\nf1,g0,g1,500,120,20,300\nf2,g1,g2,500,120,20,300\nf3,g2,g3,500,120,20,300\nf4,g3,g4,500,120,20,300\n";
-    let demand =
-        "origin,destination,from_slot,to_slot,vehicles\ng0,g4,0,30,360\ng0,g4,30,60,360\ng0,g4,60,90,360\ng0,g4,90,120,360\ng0,g4,120,150,360\ng0,g4,150,180,360\ng0,g4,180,210,360\ng0,g4,210,240,360\ng0,g4,240,270,360\ng0,g4,270,300,360\ng0,g4,300,330,360\ng0,g4,330,360,360\n";
-    let splits =
-        "node,destination,from_slot,weights\ng0,g4,0,f1=1\ng1,g4,0,f2=1\ng2,g4,0,f3=1\ng3,g4,0,f4=1\n";
-    folder_of(alloc, [setup, links, demand, splits], &[])
-}
-
 /// Five batches of one edit, each settled.
 const EDITS: &str =
     "{\"do\":\"edit\",\"edits\":[{\"kind\":\"limit\",\"link\":\"f1\",\"from\":98,\"to\":142,\"vehicles\":\"0\"}]}\n{\"do\":\"settle\"}\n{\"do\":\"totals\"}\n\
@@ -72,7 +60,7 @@ const ANSWERS: &str =
 // Each edit is settled before anything is asked, so that the text depends on no order.
 #[test]
 fn settled_edits_have_one_output(rt: HostRuntime) -> Result<(), Fail> {
-    let mut folder = hour(rt.alloc())?;
+    let mut folder = folder_of(rt.alloc(), hour(), &[])?;
     for workers in ["0", "2"] {
         let (status, output) = serve(&rt, workers, &mut folder, EDITS)?;
         assert!(rt; status == Status::Ok);

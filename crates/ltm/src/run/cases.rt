@@ -23,18 +23,23 @@ pub const USAGE: &str =
 
 /// The four files of a case, in a folder of which these fetches fail.
 pub fn folder_of(alloc: Global, files: [&str; 4], failing: &[u64]) -> Result<MemFolder, NoMemory> {
-    let mut folder = MemFolder::create(alloc, failing)?;
     let [setup, links, demand, splits] = files;
-    folder.put(Doc::Setup, setup.as_bytes())?;
-    folder.put(Doc::Links, links.as_bytes())?;
-    folder.put(Doc::Demand, demand.as_bytes())?;
-    folder.put(Doc::Splits, splits.as_bytes())?;
-    Ok(folder)
+    MemFolder::of_case(alloc, failing, setup, links, demand, splits)
 }
 
 /// The files of the one road.
 pub fn one_road(alloc: Global) -> Result<MemFolder, NoMemory> {
     folder_of(alloc, [SETUP, LINKS, DEMAND, SPLITS], &[])
+}
+
+/// The files of four links in a row, an hour in slots of ten seconds, and 4320 vehicles.
+pub fn hour() -> [&'static str; 4] {
+    [
+        "step_ms,slots,origin_capacity\n10000,360,32\n",
+        "link,from,to,length_m,free_kmh,wave_kmh,jam_per_km\nf1,g0,g1,500,120,20,300\nf2,g1,g2,500,120,20,300\nf3,g2,g3,500,120,20,300\nf4,g3,g4,500,120,20,300\n",
+        "origin,destination,from_slot,to_slot,vehicles\ng0,g4,0,30,360\ng0,g4,30,60,360\ng0,g4,60,90,360\ng0,g4,90,120,360\ng0,g4,120,150,360\ng0,g4,150,180,360\ng0,g4,180,210,360\ng0,g4,210,240,360\ng0,g4,240,270,360\ng0,g4,270,300,360\ng0,g4,300,330,360\ng0,g4,330,360,360\n",
+        "node,destination,from_slot,weights\ng0,g4,0,f1=1\ng1,g4,0,f2=1\ng2,g4,0,f3=1\ng3,g4,0,f4=1\n",
+    ]
 }
 
 fn words_of(alloc: Global, texts: &[&str]) -> Result<Vec<String>, AllocError> {

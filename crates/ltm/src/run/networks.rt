@@ -1,5 +1,5 @@
 //! Cases of whole networks, whose output was computed by another engine. The folder `examples` has more.
-use super::cases::expect;
+use super::cases::{expect, folder_of, hour};
 use ltm_io::{Doc, MemFolder};
 use ltm_texts::Status;
 use ltm_units::NoMemory;
@@ -42,31 +42,29 @@ fn later_signals() -> Network {
     }
 }
 
-/// Four links in a row, an hour in slots of ten seconds, and 4320 vehicles.
-fn hour() -> Network {
+/// The hour of four links in a row.
+fn an_hour() -> Network {
+    let [setup, links, demand, splits] = hour();
     Network {
-        setup: "step_ms,slots,origin_capacity\n10000,360,32.000\n",
-        links: "link,from,to,length_m,free_kmh,wave_kmh,jam_per_km\nf1,g0,g1,500,120,20,300\nf2,g1,g2,500,120,20,300\nf3,g2,g3,500,120,20,300\nf4,g3,g4,500,120,20,300\n",
-        demand: "origin,destination,from_slot,to_slot,vehicles\ng0,g4,0,30,360\ng0,g4,30,60,360\ng0,g4,60,90,360\ng0,g4,90,120,360\ng0,g4,120,150,360\ng0,g4,150,180,360\ng0,g4,180,210,360\ng0,g4,210,240,360\ng0,g4,240,270,360\ng0,g4,270,300,360\ng0,g4,300,330,360\ng0,g4,330,360,360\n",
-        splits: "node,destination,from_slot,weights\ng0,g4,0,f1=1\ng1,g4,0,f2=1\ng2,g4,0,f3=1\ng3,g4,0,f4=1\n",
+        setup,
+        links,
+        demand,
+        splits,
         signals: "link,from_slot,to_slot,vehicles\n",
         report: "version 0 generated 4320.000 arrived 4248.000 on_links 72.000 waiting 0.000\nlink f1 in 4320.000 out 4302.000\nlink f2 in 4302.000 out 4284.000\nlink f3 in 4284.000 out 4266.000\nlink f4 in 4266.000 out 4248.000\n",
     }
 }
 
-fn folder_of(alloc: Global, network: &Network) -> Result<MemFolder, NoMemory> {
-    let mut folder = MemFolder::create(alloc, &[])?;
-    folder.put(Doc::Setup, network.setup.as_bytes())?;
-    folder.put(Doc::Links, network.links.as_bytes())?;
-    folder.put(Doc::Demand, network.demand.as_bytes())?;
-    folder.put(Doc::Splits, network.splits.as_bytes())?;
+fn files_of(alloc: Global, network: &Network) -> Result<MemFolder, NoMemory> {
+    let files = [network.setup, network.links, network.demand, network.splits];
+    let mut folder = folder_of(alloc, files, &[])?;
     folder.put(Doc::Signals, network.signals.as_bytes())?;
     Ok(folder)
 }
 
 /// The case is loaded, and the report is written.
 fn expect_report<R: Abort + AllocGlobal>(rt: &R, network: &Network) -> Result<(), Fail> {
-    let mut folder = folder_of(rt.alloc(), network)?;
+    let mut folder = files_of(rt.alloc(), network)?;
     expect(rt, &["load"], &mut folder, Status::Ok, network.report)
 }
 
@@ -78,5 +76,5 @@ fn later_rows_go_over_earlier_ones(rt: HostRuntime) -> Result<(), Fail> {
 
 #[test]
 fn loads_an_hour(rt: HostRuntime) -> Result<(), Fail> {
-    expect_report(&rt, &hour())
+    expect_report(&rt, &an_hour())
 }

@@ -1,7 +1,7 @@
 use Rattle.std.proofs.Common.{◌≡◌, ◌<◌, ◌≤◌, ◌+◌, List, ℕ, length}
 use Rattle.ltm_lines.specs.Source.{prepended}
 use Rattle.ltm_setting.specs.Setting.{setting_of}
-use Rattle.ltm_flows.specs.Shaped.{IsShaped}
+use Rattle.ltm_loading.specs.Shaped.{IsShaped}
 use Rattle.ltm_check.specs.Due.{record_count}
 use Rattle.ltm_check.specs.Pieces.{HasRead}
 use Rattle.ltm_check.proofs.file.read_curves_from.Given as goal

@@ -2,7 +2,7 @@ use Rattle.std.proofs.Common.{◌≡◌, ◌++◌, List, drop}
 use Rattle.ltm_records.specs.Fields.{Fields}
 use Rattle.ltm_records.specs.Left.{records_of}
 use Rattle.ltm_setting.specs.Setting.{setting_of}
-use Rattle.ltm_flows.specs.Shaped.{IsShaped}
+use Rattle.ltm_loading.specs.Shaped.{IsShaped}
 use Rattle.ltm_check.specs.Pieces.{IsReadTo}
 use Rattle.ltm_check.proofs.piece.read_piece.Given as goal
 

@@ -1,6 +1,6 @@
 use Rattle.std.proofs.Common.{◌≡◌, drop}
 use Rattle.ltm_setting.specs.Setting.{setting_of}
-use Rattle.ltm_flows.specs.Shaped.{IsShaped}
+use Rattle.ltm_loading.specs.Shaped.{IsShaped}
 use Rattle.ltm_check.specs.File.{AreRightBelow}
 use Rattle.ltm_check.proofs.Placing.{KeepsBelow}
 use Rattle.ltm_check.proofs.read.read_rows.Given as goal

@@ -16,7 +16,7 @@ loop-out-preserved c j d l m =
     let counts = counts_of c.args.curves.now in
     let moves = option_map (λ m. m.now) c.args.moves in
     let links = c.out_links-link-items.result.now in
-    let group : 2 * (get_or links a (record { 0 = 0 })).0 ≡ up_of (s.out_link u a) = omega (arith, link_item links a c.loop-out-test.true, c.out_links-link-items.ensures.links a c.loop-out-test.true) in
+    let group : c.up_of.result ≡ up_of (s.out_link u a) = omega (arith, c.up_of.ensures, link_item links a c.loop-out-test.true, c.out_links-link-items.ensures.links a c.loop-out-test.true) in
     elim (cases_lt j a) [
       | inl less ↦ c.loop-out.invariant j d less m
       | inr last ↦

@@ -19,8 +19,8 @@ loop-arm-preserved c i d l m =
     let moves = option_map (λ m. m.now) c.args.moves in
     let links = c.in_links-links.result.now in
     let link : a < s.ins u = omega (arith, c.loop-arm-test.true, c.in_links-links.ensures.count) in
-    let group : 2 * (get_or links a (record { 0 = 0 })).0 + 1 ≡ arm_group s u a =
-    omega (arith, link_item links a c.loop-arm-test.true, c.in_links-links.ensures.links a c.loop-arm-test.true, pick_first a (s.ins u) (down_of (s.in_link u a)) (dep_of s u) link) in
+    let group : c.down_of.result ≡ arm_group s u a =
+    omega (arith, c.down_of.ensures, link_item links a c.loop-arm-test.true, c.in_links-links.ensures.links a c.loop-arm-test.true, pick_first a (s.ins u) (down_of (s.in_link u a)) (dep_of s u) link) in
     elim (cases_lt i a) [
       | inl less ↦ c.loop-arm.invariant i d less m
       | inr last ↦

@@ -6,4 +6,4 @@ use Rattle.ltm_editing.proofs.report.push_settled.Goals as goal
 pub returns : goal.returns
 returns c =
     tells_totals c.logs_tell_all.ensures c.args.core.now.log c.show.new.core (c.show.ensures.log ∙ c.repair.ensures.log) (c.show.ensures.all.shown ∙ ap (λ (l : Log). version_now l) (sym c.show.ensures.log)) c.shown-loading.ensures.is_shown
-    c.push_totals.result _ _ (rw c.shown-loading.ensures.loading at c.push_totals.ensures)
+    c.totals_text.result _ _ (rw c.shown-loading.ensures.loading at c.totals_text.ensures.ok)

@@ -3,4 +3,4 @@ use Rattle.ltm_session.proofs.replies.reply_totals.Goals as goal
 
 pub returns-clause-ok : goal.returns-clause-ok
 returns-clause-ok c =
-    on_ok_map c.push_totals.result _ _ (totals_replied c.args.core.now c.shown.result.now _ _ c.shown.ensures.loading c.shown.ensures.is_shown) c.push_totals.ensures.ok
+    on_ok_map c.totals_text.result _ _ (totals_replied c.args.core.now c.shown.result.now _ _ c.shown.ensures.loading c.shown.ensures.is_shown) c.totals_text.ensures.ok

@@ -6,7 +6,7 @@ pub returns : goal.returns
 returns c = λ s version shows.
     let made = c.in_ok-through.ensures in
     let there : (link : ℕ) → link < s.links → link < links_of c.args.loading.now = λ link less. subst (λ n. link < n) (sym shows.links) less in record {
-      totals = c.totals.ensures s version shows;
+      totals = c.totals.ensures.shown s version shows;
       links = made.links_are ∙ shows.links;
       entered = λ link less. made.entered s version link shows (there link less);
       left = λ link less. made.left s version link shows (there link less);

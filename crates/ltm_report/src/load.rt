@@ -1,35 +1,18 @@
-//! The report of a scenario's loading, as one text.
+//! The report of a whole loading, as one text.
 ghost use Rattle.std.specs.Prelude.{◌≡◌, ◌++◌, ◌<◌, IfOk, OnOk, length};
 ghost use Rattle.ltm_curve.specs.Table.{counts_of};
-ghost use Rattle.ltm_loading.specs.Setting.{Setting};
 ghost use Rattle.ltm_setting.specs.Setting.{setting_of};
 ghost use Rattle.ltm_flows.specs.Shown.{Shows, curves_of};
-ghost use Rattle.ltm_texts.specs.Report.{totals_text_of, link_text_of, texts_below, IsReport};
+ghost use Rattle.ltm_report.specs.Reports.{link_report_of, texts_below, IsReport};
 
+use crate::links::load_link_text;
+use crate::totals::totals_text;
 use ltm_flows::{Loading, cold};
-use ltm_report::{load_link_text, totals_text};
 use ltm_scenario::Scenario;
 use ltm_units::{LinkId, NoMemory};
 use std::alloc::Global;
 
-#[tactic(auto, unfolding(crate::specs::Report::totals_text_of))]
-fn push_totals(alloc: Global, loading: &Loading, into: &mut Vec<u8>) -> Result<(), NoMemory>
-    ensures { (s : Setting) → Shows s 0 loading.now
-        → OnOk result (into.new.items ≡ into.old.items ++ totals_text_of s (counts_of (curves_of loading.now))) }
-{
-    let totals = loading.totals();
-    totals_text(
-        alloc,
-        loading.version(),
-        totals.generated,
-        totals.arrived,
-        totals.on_links,
-        totals.waiting,
-        into,
-    )
-}
-
-#[tactic(auto, unfolding(crate::specs::Report::link_text_of, ltm_setting::specs::Setting::setting_of))]
+#[tactic(auto, unfolding(ltm_setting::specs::Setting::setting_of))]
 fn push_link(
     alloc: Global,
     scenario: &Scenario,
@@ -40,12 +23,10 @@ fn push_link(
     requires link { link.0 < length scenario.now.network.links }
     requires loading { Shows (setting_of scenario.now) 0 loading.now }
     ensures { OnOk result (into.new.items
-        ≡ into.old.items ++ link_text_of scenario.now (counts_of (curves_of loading.now)) link.0) }
+        ≡ into.old.items ++ link_report_of scenario.now (counts_of (curves_of loading.now)) link.0) }
 {
     let name = scenario.network().link_name(link);
-    let entered = loading.entered(link);
-    let gone = loading.left(link);
-    load_link_text(alloc, &name, entered, gone, into)
+    load_link_text(alloc, loading, &name, link, into)
 }
 
 fn push_links(
@@ -56,7 +37,7 @@ fn push_links(
 ) -> Result<(), NoMemory>
     requires { Shows (setting_of scenario.now) 0 loading.now }
     ensures { OnOk result (into.new.items ≡ into.old.items
-        ++ texts_below (length scenario.now.network.links) (link_text_of scenario.now (counts_of (curves_of loading.now)))) }
+        ++ texts_below (length scenario.now.network.links) (link_report_of scenario.now (counts_of (curves_of loading.now)))) }
 {
     let links = scenario.network().links();
     for link in 0..links {
@@ -65,8 +46,8 @@ fn push_links(
     Ok(())
 }
 
-/// The totals line of the loading of a scenario and the line of each link, in order of number.
-#[tactic(auto, unfolding(crate::specs::Report::load_report))]
+/// Loads a scenario, and gives the totals line of its loading and the line of each link, in order of number.
+#[tactic(auto, unfolding(crate::specs::Reports::load_report))]
 pub fn report_of(alloc: Global, scenario: &Scenario) -> Result<Vec<u8>, NoMemory>
     ensures { IfOk result (λ text. IsReport scenario.now text.items) }
 {
@@ -74,7 +55,7 @@ pub fn report_of(alloc: Global, scenario: &Scenario) -> Result<Vec<u8>, NoMemory
     let curves = cold(alloc, scenario)?;
     let loading = Loading::of(alloc, scenario, curves, 0)?;
     let mut text = Vec::new(alloc);
-    push_totals(alloc, &loading, &mut text)?;
+    totals_text(alloc, &loading, &mut text)?;
     push_links(alloc, scenario, &loading, &mut text)?;
     Ok(text)
 }

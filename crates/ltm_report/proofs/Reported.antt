@@ -1,0 +1,59 @@
+-- Lines with the numbers of a loading are those of its report.
+use Rattle.std.proofs.Common.{ℕ, ◌≡◌, ◌++◌, List, ◌∙◌}
+use Rattle.ltm_curve.specs.Table.{counts_of}
+use Rattle.ltm_loading.specs.Setting.{Setting}
+use Rattle.ltm_loading.specs.Totals.{entered_link, left_link}
+use Rattle.ltm_flows.specs.declared.loading.Loading.{Loading}
+use Rattle.ltm_flows.specs.declared.in_all.Totals.{Totals}
+use Rattle.ltm_flows.specs.InAll.{AreTotals}
+use Rattle.ltm_flows.specs.Counted.{SumsUp}
+use Rattle.ltm_flows.specs.Shown.{Shows, version_of, curves_of}
+use Rattle.ltm_report.specs.Totals.{totals_line}
+use Rattle.ltm_report.specs.Links.{load_link_line, link_line}
+use Rattle.ltm_report.specs.Reports.{totals_report, counted_totals, load_link_report, link_report}
+
+pub totals_shown : (l : Loading) (t : Totals) (v : ℕ) (old new : List ℕ) → v ≡ version_of l
+    → ((s : Setting) (version : ℕ) → Shows s version l → AreTotals s (counts_of (curves_of l)) s.slots t)
+    → new ≡ old ++ totals_line v t.generated.0 t.arrived.0 t.on_links.0 t.waiting.0
+    → (s : Setting) (version : ℕ) → Shows s version l → new ≡ old ++ totals_report version s (counts_of (curves_of l))
+unfolding totals_report
+totals_shown l t v old new is are wrote s version shows =
+    let all = are s version shows in
+    let number : v ≡ version = is ∙ shows.version in
+    let came = all.generated in
+    let here = all.arrived in
+    let links = all.on_links in
+    let waits = all.waiting in
+    cc
+
+pub totals_counted : (l : Loading) (t : Totals) (v : ℕ) (old new : List ℕ) → v ≡ version_of l → SumsUp l t
+    → new ≡ old ++ totals_line v t.generated.0 t.arrived.0 t.on_links.0 t.waiting.0 → new ≡ old ++ counted_totals l
+totals_counted l t v old new is sums wrote =
+    let came = sums.generated in
+    let here = sums.arrived in
+    let links = sums.on_links in
+    let waits = sums.waiting in
+    cc
+
+pub load_link_shown : (l : Loading) (link : ℕ) (name : List ℕ) (entered gone : ℕ) (old new : List ℕ)
+    → ((s : Setting) (version : ℕ) → Shows s version l → entered ≡ entered_link s (counts_of (curves_of l)) link s.slots)
+    → ((s : Setting) (version : ℕ) → Shows s version l → gone ≡ left_link s (counts_of (curves_of l)) link s.slots)
+    → new ≡ old ++ load_link_line name entered gone
+    → (s : Setting) (version : ℕ) → Shows s version l → new ≡ old ++ load_link_report name link s (counts_of (curves_of l))
+unfolding load_link_report
+load_link_shown l link name entered gone old new came went wrote s version shows =
+    let ins = came s version shows in
+    let outs = went s version shows in
+    cc
+
+pub link_shown : (l : Loading) (link : ℕ) (name : List ℕ) (v entered gone : ℕ) (old new : List ℕ) → v ≡ version_of l
+    → ((s : Setting) (version : ℕ) → Shows s version l → entered ≡ entered_link s (counts_of (curves_of l)) link s.slots)
+    → ((s : Setting) (version : ℕ) → Shows s version l → gone ≡ left_link s (counts_of (curves_of l)) link s.slots)
+    → new ≡ old ++ link_line v name entered gone
+    → (s : Setting) (version : ℕ) → Shows s version l → new ≡ old ++ link_report version name link s (counts_of (curves_of l))
+unfolding link_report
+link_shown l link name v entered gone old new is came went wrote s version shows =
+    let number : v ≡ version = is ∙ shows.version in
+    let ins = came s version shows in
+    let outs = went s version shows in
+    cc
