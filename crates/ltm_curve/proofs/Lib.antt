@@ -11,3 +11,4 @@ pub mod Cells
 pub mod Copying
 pub mod Adding
 pub mod Longer
+pub mod TotalPlaces

@@ -8,3 +8,4 @@ pub mod CurveLaws
 pub mod MarkedCount
 pub mod Cells
 pub mod Copying
+pub mod TotalCurves

@@ -16,6 +16,8 @@ mod adding;
 mod copies;
 mod room;
 
+pub(crate) use room::{fill_to, reserve_to};
+
 /// Groups of rows of counts: a count, in thousandths of a vehicle, for each group, destination and boundary.
 #[derive(Drop)]
 pub struct Curves {
@@ -63,14 +65,14 @@ fn write_many(into: &mut [u32], counts: &[u64])
 }
 
 /// So many counts, all 0.
-fn zero_counts(alloc: Global, many: usize) -> Result<Vec<u32>, NoMemory>
+pub(crate) fn zero_counts(alloc: Global, many: usize) -> Result<Vec<u32>, NoMemory>
     ensures { IfOk result (λ counts. counts.items ≡ replicate many 0) }
 {
     vec![in alloc; 0u32; many].map_err(|_| NoMemory)
 }
 
 /// So many totals, all 0.
-fn zero_totals(alloc: Global, many: usize) -> Result<Vec<u64>, NoMemory>
+pub(crate) fn zero_totals(alloc: Global, many: usize) -> Result<Vec<u64>, NoMemory>
     ensures { IfOk result (λ totals. totals.items ≡ replicate many 0) }
 {
     vec![in alloc; 0u64; many].map_err(|_| NoMemory)

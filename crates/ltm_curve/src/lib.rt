@@ -4,12 +4,12 @@
 //! `Curves` holds a count for each group, destination and boundary; a group is one end of a link, an origin's queue or
 //! the sinks. Between two boundaries the total of a group is interpolated and rounded down to whole units. (Cumulative
 //! counts at the two ends of a link: Newell 1993, Yperman 2007. Whole units, floors and counts by destination are this
-//! engine's own.)
+//! engine's own.) A `TotalCurves` holds totals alone, for who reads no destinations.
 //!
-//! It stands on `ltm_units` and, for the set of changed cells, on `ltm_marks`. `create` and `reserve` take memory; no other
-//! call does. A read costs one access to one flat table, and so does a total; a write keeps the total of its row, and a
+//! It stands on `ltm_units` and, for the set of changed cells, on `ltm_marks`. `create`, `of` and `reserve` take memory; no
+//! other call does. A read costs one access to one flat table, and so does a total; a write keeps the total of its row, and a
 //! time costs one division more. Change it here where counts are to be kept in another way: contracts above speak of
-//! `counts_of` and `is_changed` alone.
+//! `counts_of`, `total_at` and `is_changed` alone.
 #![tactic(auto)]
 
 mod changed;
@@ -19,6 +19,7 @@ mod group;
 mod laws;
 mod rows;
 mod times;
+mod total_curves;
 
 pub use changed::Changed;
 pub use composition::first_less_of;
@@ -27,6 +28,7 @@ pub use laws::{
     counts_tell_all, first_rises, first_stays, first_sums, first_within, one_destination_is_total,
 };
 pub use rows::Rows;
+pub use total_curves::TotalCurves;
 
 #[cfg(test)]
 mod tests;

@@ -1,4 +1,4 @@
-use crate::{Changed, Curves};
+use crate::{Changed, Curves, TotalCurves};
 use ltm_units::Millis;
 use std::process::Abort;
 
@@ -99,4 +99,31 @@ fn longer_curves_and_cells(rt: HostRuntime) {
     assert!(rt; changed.has(0, 3) && !changed.has(0, 2) && changed.count() == 1);
     changed.clear();
     assert!(rt; !changed.has(0, 3) && changed.count() == 0);
+}
+
+// The totals of two groups of two destinations, which grow from one slot to three.
+#[test]
+fn totals_of_curves(rt: HostRuntime) {
+    let Ok(mut curves) = Curves::create(rt.alloc(), 2, 2, 1) else {
+        panic!(rt; "no memory");
+    };
+    let Ok(changed) = Changed::create(rt.alloc(), 2, 1) else {
+        panic!(rt; "no memory");
+    };
+    curves.set(0, 0, 1, 300);
+    curves.set(0, 1, 1, 100);
+    curves.set(1, 1, 1, 70);
+    let Ok(mut totals) = TotalCurves::of(rt.alloc(), &curves) else {
+        panic!(rt; "no memory");
+    };
+    totals.copy_changed(&curves, &changed);
+    assert!(rt; totals.slots() == 1 && totals.total(0, 0) == 0);
+    assert!(rt; totals.total(0, 1) == 400 && totals.total(1, 1) == 70);
+    let Ok(()) = totals.reserve(3) else {
+        panic!(rt; "no memory");
+    };
+    assert!(rt; totals.room() >= 3);
+    totals.lengthen(3);
+    assert!(rt; totals.slots() == 3 && totals.total(0, 1) == 400 && totals.total(1, 1) == 70);
+    assert!(rt; totals.total(0, 3) == 0 && totals.total(1, 3) == 0);
 }

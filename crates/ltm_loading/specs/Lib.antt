@@ -10,6 +10,7 @@ pub mod NextPair
 pub mod ByPlace
 pub mod Ready
 pub mod Totals
+pub mod LoadingTotals
 pub mod Networks
 pub mod Reads
 pub mod Differing

@@ -6,7 +6,7 @@ use super::{Curves, total_count};
 use ltm_units::NoMemory;
 
 /// Makes room for so many numbers in a table. With want of memory nothing changes.
-fn reserve_to<T>(table: &mut Vec<T>, size: usize) -> Result<(), NoMemory>
+pub(crate) fn reserve_to<T>(table: &mut Vec<T>, size: usize) -> Result<(), NoMemory>
     ensures items { table.new.items ≡ table.old.items }
     ensures room { OnOk result (size ≤ vec_capacity table.new) }
     ensures no_less { vec_capacity table.old ≤ vec_capacity table.new }
@@ -16,7 +16,7 @@ fn reserve_to<T>(table: &mut Vec<T>, size: usize) -> Result<(), NoMemory>
 }
 
 /// Puts numbers behind those of a table, for which there is room.
-fn fill_to<T: Copy>(table: &mut Vec<T>, number: T, size: usize)
+pub(crate) fn fill_to<T: Copy>(table: &mut Vec<T>, number: T, size: usize)
     requires longer { length table.old.items ≤ size }
     requires room { size ≤ vec_capacity table.old }
     ensures items { table.new.items ≡ table.old.items ++ replicate (size - length table.old.items) number }

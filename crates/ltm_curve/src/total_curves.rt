@@ -1,0 +1,118 @@
+//! A table of totals.
+//!
+//! It holds the total of each group at each boundary and no count by destination, so it is small. Totals are kept in 32 bits,
+//! boundary by boundary; but those of the last group, which in a loading gathers what has arrived from everywhere, may need
+//! more, and lie in a table of their own. Only `place` and the word `total_at` of `specs/TotalCurves.antt` know this.
+ghost use Rattle.std.specs.Prelude.{◌≡◌, ℕ, ◌+◌, ◌*◌, ◌^◌, ◌<◌, ◌≤◌, length, slice_index, IfOk};
+ghost use Rattle.std.specs.Vec.{vec_capacity};
+ghost use Rattle.ltm_curve.specs.Table.{groups_of, slots_of, total_of};
+
+use crate::curves::{Curves, zero_counts, zero_totals};
+use ltm_units::NoMemory;
+use std::alloc::Global;
+
+mod copying;
+mod growing;
+
+/// A total for each group and boundary, in thousandths of a vehicle: cumulative counts without destinations.
+#[derive(Drop)]
+pub struct TotalCurves {
+    narrow: u32,
+    slots: u32,
+    room: u32,
+    totals: Vec<u32>,
+    last: Vec<u64>,
+    ghost long: { length totals.items ≡ (slots + 1) * narrow },
+    ghost last_long: { length last.items ≡ slots + 1 },
+    ghost last_small: { (k : ℕ) → slice_index last.items k ≤ 2 ^ 37 },
+    ghost within: { slots ≤ room },
+    ghost totals_room: { (room + 1) * narrow ≤ vec_capacity totals },
+    ghost last_room: { room + 1 ≤ vec_capacity last },
+}
+
+/// How many totals there are of so many groups.
+fn table_size(groups: u32, slots: u32) -> usize
+    ensures { result ≡ (slots + 1) * groups }
+{
+    (slots as usize + 1) * groups as usize
+}
+
+/// A table of totals, all 0, in which so many groups are kept in 32 bits, and one more.
+fn empty(alloc: Global, narrow: u32, slots: u32) -> Result<TotalCurves, NoMemory>
+    ensures narrow { IfOk result (λ t. t.narrow ≡ narrow) }
+    ensures slots { IfOk result (λ t. t.slots ≡ slots) }
+{
+    let totals = zero_counts(alloc, table_size(narrow, slots))?;
+    let last = zero_totals(alloc, slots as usize + 1)?;
+    Ok(TotalCurves {
+        narrow,
+        slots,
+        room: slots,
+        totals,
+        last,
+    })
+}
+
+impl TotalCurves {
+    ghost use Rattle.ltm_curve.specs.TotalCurves.{total_groups, total_slots, total_at, IsTotal, SetsTotal, AreNarrow, AreTotalsOf};
+
+    /// The totals of curves, of which there is some group. But for the last group each is less than 2^32.
+    pub fn of(alloc: Global, curves: &Curves) -> Result<TotalCurves, NoMemory>
+        requires some_group { 1 ≤ groups_of curves.now }
+        requires small { AreNarrow curves.now }
+        ensures { IfOk result (λ t. AreTotalsOf t curves.now) }
+    {
+        let mut totals = empty(alloc, curves.groups() - 1, curves.slots())?;
+        totals.copy_all(curves);
+        Ok(totals)
+    }
+
+    /// How many slots there are; there is one boundary more.
+    pub fn slots(&self) -> u32
+        ensures { result ≡ total_slots self.now }
+    {
+        self.slots
+    }
+
+    /// Where a total that is kept in 32 bits lies in its table.
+    fn place(&self, group: u32, boundary: u32) -> usize
+        requires group { group < self.now.narrow }
+        requires boundary { boundary ≤ self.now.slots }
+        ensures place { result ≡ boundary * self.now.narrow + group }
+        ensures within { result < length self.now.totals.items }
+    {
+        let _totals = &self.totals;
+        boundary as usize * self.narrow as usize + group as usize
+    }
+
+    /// The total of a group at a boundary.
+    #[tactic(auto, unfolding(crate::specs::TotalCurves::total_at))]
+    pub fn total(&self, group: u32, boundary: u32) -> u64
+        requires group { group < total_groups self.now }
+        requires boundary { boundary ≤ total_slots self.now }
+        ensures total { result ≡ total_at self.now group boundary }
+        ensures small { result ≤ 2 ^ 37 }
+    {
+        if group < self.narrow {
+            let at = self.place(group, boundary);
+            u64::from(self.totals[at])
+        } else {
+            self.last[boundary as usize]
+        }
+    }
+
+    /// Changes a total, and no other.
+    fn set(&mut self, group: u32, boundary: u32, total: u64)
+        requires place { IsTotal self.old group boundary }
+        requires small { total ≤ 2 ^ 37 }
+        requires narrow { group < self.old.narrow → total < 2 ^ 32 }
+        ensures { SetsTotal self.old self.new group boundary total }
+    {
+        if group < self.narrow {
+            let at = self.place(group, boundary);
+            self.totals[at] = total as u32;
+        } else {
+            self.last[boundary as usize] = total;
+        }
+    }
+}

@@ -1,0 +1,82 @@
+//! Totals that are copied from curves.
+ghost use Rattle.std.specs.Prelude.{◌≡◌, ℕ, ◌+◌, ◌<◌, ◌≤◌, false};
+ghost use Rattle.ltm_curve.specs.Cells.{is_changed, HasCells};
+ghost use Rattle.ltm_curve.specs.Table.{groups_of, slots_of, total_of};
+
+use super::TotalCurves;
+use crate::changed::Changed;
+use crate::curves::Curves;
+
+impl TotalCurves {
+    ghost use Rattle.ltm_curve.specs.TotalCurves.{total_groups, total_slots, total_at, HasTotals, IsTotal, SetsTotal, AreNarrow, AreTotalsOf, TotalsBefore, TotalsBut};
+
+    /// Copies the total of a group at a boundary.
+    fn copy_total(&mut self, curves: &Curves, group: u32, boundary: u32)
+        requires shape { HasTotals self.old (groups_of curves.now) (slots_of curves.now) }
+        requires small { AreNarrow curves.now }
+        requires group { group < groups_of curves.now }
+        requires boundary { boundary ≤ slots_of curves.now }
+        ensures { SetsTotal self.old self.new group boundary (total_of curves.now group boundary) }
+    {
+        let total = curves.total(group, boundary);
+        self.set(group, boundary, total);
+    }
+
+    /// Copies the totals of all groups at a boundary.
+    fn copy_row(&mut self, curves: &Curves, boundary: u32)
+        requires small { AreNarrow curves.now }
+        requires boundary { boundary ≤ slots_of curves.now }
+        requires before { TotalsBefore self.old curves.now boundary 0 }
+        ensures { TotalsBefore self.new curves.now (boundary + 1) 0 }
+    {
+        for group in 0..curves.groups() {
+            self.copy_total(curves, group, boundary);
+        }
+    }
+
+    /// Becomes the totals of curves of the same shape.
+    pub(super) fn copy_all(&mut self, curves: &Curves)
+        requires shape { HasTotals self.old (groups_of curves.now) (slots_of curves.now) }
+        requires small { AreNarrow curves.now }
+        ensures { AreTotalsOf self.new curves.now }
+    {
+        for boundary in 0..curves.slots() {
+            self.copy_row(curves, boundary);
+        }
+        self.copy_row(curves, curves.slots());
+    }
+
+    /// Copies the totals of the changed groups at a boundary.
+    fn copy_changed_row(&mut self, curves: &Curves, changed: &Changed, boundary: u32)
+        requires small { AreNarrow curves.now }
+        requires cells { HasCells changed.now (groups_of curves.now) (slots_of curves.now) }
+        requires boundary { boundary ≤ slots_of curves.now }
+        requires but { TotalsBut self.old curves.now changed.now boundary 0 }
+        ensures { TotalsBut self.new curves.now changed.now (boundary + 1) 0 }
+    {
+        let mut group = 0;
+        while group < curves.groups() {
+            let Some(next) = changed.next(group, boundary) else {
+                return;
+            };
+            self.copy_total(curves, next, boundary);
+            group = next + 1;
+        }
+    }
+
+    /// Becomes the totals of curves of the same shape, where these are the same but in the changed cells, which alone are
+    /// copied. But for the last group each total of the curves is less than 2^32.
+    pub fn copy_changed(&mut self, curves: &Curves, changed: &Changed)
+        requires shape { HasTotals self.old (groups_of curves.now) (slots_of curves.now) }
+        requires small { AreNarrow curves.now }
+        requires cells { HasCells changed.now (groups_of curves.now) (slots_of curves.now) }
+        requires outside { (g k : ℕ) → g < groups_of curves.now → k ≤ slots_of curves.now → is_changed changed.now g k ≡ false
+            → total_at self.old g k ≡ total_of curves.now g k }
+        ensures { AreTotalsOf self.new curves.now }
+    {
+        for boundary in 0..curves.slots() {
+            self.copy_changed_row(curves, changed, boundary);
+        }
+        self.copy_changed_row(curves, changed, curves.slots());
+    }
+}
