@@ -1,88 +1,98 @@
 -- What is read from a loading is that of its setting.
 use Rattle.std.proofs.Common.{◌≡◌, ℕ, ◌+◌, ◌-◌, ◌*◌, ◌/◌, ◌%◌, ◌<◌, ◌≤◌, arith, inl, inr, ap, ◌∙◌, subst}
-use Rattle.std.proofs.Math.Nat.{mul-le-mul_right}
 use Rattle.std.proofs.lemmas.Bool.{cases_lt, cases_eq}
 use Rattle.ltm_units.specs.Sums.{sum_below}
-use Rattle.ltm_units.proofs.Sums.{sum_below-most}
+use Rattle.ltm_units.proofs.Sums.{sum_below-same, sum_below-zero}
 use Rattle.ltm_curve.specs.Counts.{Counts, total}
 use Rattle.ltm_curve.specs.declared.curves.Curves.{Curves}
+use Rattle.ltm_curve.specs.declared.total_curves.TotalCurves.{TotalCurves}
 use Rattle.ltm_curve.specs.Table.{groups_of, destinations_of, slots_of, counts_of, total_of}
+use Rattle.ltm_curve.specs.TotalCurves.{total_groups, total_slots, total_at, AreNarrow, AreTotalsOf}
+use Rattle.ltm_curve.proofs.Lasts.{total_rises}
 use Rattle.ltm_loading.specs.Setting.{Setting, IsSetting}
-use Rattle.ltm_loading.specs.Groups.{up_of, down_of, dep_of, arr_of}
+use Rattle.ltm_loading.specs.Groups.{up_of, down_of, dep_of, arr_of, groups}
 use Rattle.ltm_loading.specs.Loading.{IsFront, IsLoading}
-use Rattle.ltm_loading.specs.Ranges.{CountsSmall}
+use Rattle.ltm_loading.specs.LoadingTotals.{HaveTotals}
+use Rattle.ltm_loading.specs.Ranges.{TotalsSmall}
 use Rattle.ltm_loading.specs.LoadingLaws.{NeverFall}
 use Rattle.ltm_loading.specs.Totals.{departed, arrived, entered_link, left_link, on_links}
 use Rattle.ltm_flows.specs.declared.loading.Loading.{Loading}
 use Rattle.ltm_loading.specs.Shaped.{IsShaped}
-use Rattle.ltm_flows.specs.Shown.{links_of, nodes_of, curves_of, last_of, Shows}
+use Rattle.ltm_flows.specs.Shown.{links_of, nodes_of, curves_of, last_of, ShowsCounts}
 
 -- a loading is a front up to each of its boundaries
 front_by : (s : Setting) (c : Counts) (k : ℕ) → IsLoading s c → k ≤ s.slots → IsFront s c k
 front_by s c k h l = record { empty = h.front.empty; steps = λ u t x y. h.front.steps u t x (omega arith) }
 
--- none of its counts falls
-pub all_rise : (s : Setting) (c : Curves) → NeverFall → IsSetting s → IsShaped s c → IsLoading s (counts_of c) →
-    (g d k : ℕ) → g < groups_of c → d < destinations_of c → k < slots_of c → counts_of c g d k ≤ counts_of c g d (k + 1)
-all_rise s c law v shape h g d k x y z =
-    law s (counts_of c) v h g d k (omega (arith, x, shape.same_groups)) (omega (arith, y, shape.same_destinations)) (omega (arith, z, shape.same_slots))
+-- the totals of shaped curves are those of their counts
+pub shaped_total : (s : Setting) (c : Curves) (g k : ℕ) → IsShaped s c → total_of c g k ≡ total s.destinations (counts_of c g) k
+shaped_total s c g k shape = ap (λ (m : ℕ). total m (counts_of c g) k) shape.same_destinations
 
--- so each of its counts is small
-pub all_small : (s : Setting) (c : Curves) → CountsSmall → IsSetting s → IsShaped s c → IsLoading s (counts_of c) →
-    (g d k : ℕ) → g < groups_of c → d < destinations_of c → k ≤ slots_of c → counts_of c g d k ≤ 1600000000
-all_small s c law v shape h g d k x y z =
+-- but for what has arrived they fit in 32 bits
+pub all_narrow : (s : Setting) (c : Curves) → TotalsSmall → IsSetting s → IsShaped s c → IsLoading s (counts_of c) → AreNarrow c
+all_narrow s c law v shape h g k x z =
     let z_in : k ≤ s.slots = omega (arith, shape.same_slots) in
-    let y_in : d < s.destinations = omega (arith, shape.same_destinations) in
-    let few : k * 160000 ≤ 1600000000 = omega (arith, v.small.few_slots) in
-    let small = law s (counts_of c) v k (front_by s (counts_of c) k h z_in) z_in d y_in in
-    let P : ℕ → Type 0 = λ i. counts_of c i d k ≤ 1600000000 in
-    elim (cases_lt g (2 * s.links)) [
+    let few : k * 32000 ≤ 320000000 = omega (arith, v.small.few_slots) in
+    let small = law s (counts_of c) v k (front_by s (counts_of c) k h z_in) z_in in
+    let P : ℕ → Type 0 = λ i. total s.destinations (counts_of c i) k ≤ 320000000 in
+    let here : P g = elim (cases_lt g (2 * s.links)) [
       | inl link ↦ elim (cases_eq (g % 2) 0) [
         | inl even ↦ let at : up_of (g / 2) ≡ g = omega arith in subst P at (omega (arith, (small.0 (g / 2) (omega arith)).0))
         | inr odd ↦ let at : down_of (g / 2) ≡ g = omega arith in subst P at (omega (arith, (small.0 (g / 2) (omega arith)).1))
       ]
-      | inr other ↦ elim (cases_lt g (2 * s.links + s.nodes)) [
-        | inl node ↦
-            let at : dep_of s (g - 2 * s.links) ≡ g = omega arith in
-            subst P at (elim (cases_lt 0 (s.outs (g - 2 * s.links))) [
-              | inl some ↦ omega (arith, small.1.0 (g - 2 * s.links) (omega arith) some)
-              | inr none ↦ omega (arith, h.no_origin (g - 2 * s.links) d k (omega arith) (omega arith) y_in z_in)
-            ])
-        | inr last ↦ let at : arr_of s ≡ g = omega (arith, shape.same_groups) in subst P at (omega (arith, small.1.1))
-      ]
-    ]
+      | inr other ↦
+          let u : ℕ = g - 2 * s.links in
+          let node : u < s.nodes = omega (arith, shape.same_groups) in
+          let at : dep_of s u ≡ g = omega arith in
+          subst P at (elim (cases_lt 0 (s.outs u)) [
+            | inl some ↦ omega (arith, small.1 u node some)
+            | inr none ↦ omega (arith, sum_below-zero s.destinations (λ d. counts_of c (dep_of s u) d k) (λ d y. h.no_origin u d k node (omega arith) y z_in))
+          ])
+    ] in
+    omega (arith, shaped_total s c g k shape, here)
 
--- and so is each of its totals
-pub total_few : (c : Curves) (g k : ℕ) → destinations_of c ≤ 64 → ((d : ℕ) → d < destinations_of c → counts_of c g d k ≤ 1600000000) → total_of c g k ≤ 102400000000
-total_few c g k few small = omega (arith, sum_below-most (destinations_of c) (λ d. counts_of c g d k) 1600000000 small, mul-le-mul_right 1600000000 few)
+-- a table of the totals of a loading has them
+pub have_totals : (s : Setting) (c : Curves) (t : TotalCurves) → IsShaped s c → AreTotalsOf t c → HaveTotals s (counts_of c) (total_at t)
+have_totals s c t shape are g k x y =
+    are.totals g k (omega (arith, shape.same_groups)) (omega (arith, shape.same_slots)) ∙ shaped_total s c g k shape
 
--- a total of a group
-pub shown_total : (s : Setting) (v : ℕ) (l : Loading) → Shows s v l → (g k : ℕ) → total_of (curves_of l) g k ≡ total s.destinations (counts_of (curves_of l) g) k
-shown_total s v l h g k = ap (λ (m : ℕ). total m (counts_of (curves_of l) g) k) h.shape.same_destinations
+-- and none of them falls
+pub all_rise : (s : Setting) (c : Curves) (t : TotalCurves) → NeverFall → IsSetting s → IsShaped s c → IsLoading s (counts_of c) → AreTotalsOf t c →
+    (g k : ℕ) → g < total_groups t → k < total_slots t → total_at t g k ≤ total_at t g (k + 1)
+all_rise s c t law v shape h are g k x z =
+    let g_in : g < groups_of c = omega (arith, are.shape.same_groups) in
+    let k_in : k < slots_of c = omega (arith, are.shape.same_slots) in
+    let rise : total_of c g k ≤ total_of c g (k + 1) =
+    total_rises (destinations_of c) (counts_of c g) (slots_of c)
+    (λ d i y w. law s (counts_of c) v h g d i (omega (arith, g_in, shape.same_groups)) (omega (arith, y, shape.same_destinations)) (omega (arith, w, shape.same_slots))) k k_in in
+    omega (arith, rise, are.totals g k g_in (omega arith), are.totals g (k + 1) g_in (omega arith))
 
-pub shown_arrived : (s : Setting) (v : ℕ) (l : Loading) → Shows s v l → (k : ℕ) → total_of (curves_of l) (2 * links_of l + nodes_of l) k ≡ arrived s (counts_of (curves_of l)) k
-shown_arrived s v l h k =
+-- a total of a group at the last boundary
+at_last : (s : Setting) (v : ℕ) (c : Counts) (l : Loading) → ShowsCounts s v c l → (g : ℕ) → g < groups s → total_at (curves_of l) g (last_of l) ≡ total s.destinations (c g) s.slots
+at_last s v c l h g x = ap (λ (k : ℕ). total_at (curves_of l) g k) h.shape.same_slots ∙ h.totals g s.slots x (omega arith)
+
+pub shown_arrived : (s : Setting) (v : ℕ) (c : Counts) (l : Loading) → ShowsCounts s v c l → (k : ℕ) → k ≤ last_of l → total_at (curves_of l) (2 * links_of l + nodes_of l) k ≡ arrived s c k
+shown_arrived s v c l h k x =
     let at : 2 * links_of l + nodes_of l ≡ arr_of s = omega (arith, h.links, h.nodes) in
-    ap (λ (g : ℕ). total_of (curves_of l) g k) at ∙ shown_total s v l h (arr_of s) k
+    ap (λ (g : ℕ). total_at (curves_of l) g k) at ∙ h.totals (arr_of s) k (omega arith) (omega (arith, h.shape.same_slots))
 
-pub shown_entered : (s : Setting) (v : ℕ) (l : Loading) → Shows s v l → (i : ℕ) → total_of (curves_of l) (up_of i) (last_of l) ≡ entered_link s (counts_of (curves_of l)) i s.slots
-shown_entered s v l h i = ap (λ (k : ℕ). total_of (curves_of l) (up_of i) k) h.shape.same_slots ∙ shown_total s v l h (up_of i) s.slots
+pub shown_entered : (s : Setting) (v : ℕ) (c : Counts) (l : Loading) → ShowsCounts s v c l → (i : ℕ) → i < links_of l → total_at (curves_of l) (up_of i) (last_of l) ≡ entered_link s c i s.slots
+shown_entered s v c l h i x = at_last s v c l h (up_of i) (omega (arith, h.links))
 
-pub shown_left : (s : Setting) (v : ℕ) (l : Loading) → Shows s v l → (i : ℕ) → total_of (curves_of l) (down_of i) (last_of l) ≡ left_link s (counts_of (curves_of l)) i s.slots
-shown_left s v l h i = ap (λ (k : ℕ). total_of (curves_of l) (down_of i) k) h.shape.same_slots ∙ shown_total s v l h (down_of i) s.slots
+pub shown_left : (s : Setting) (v : ℕ) (c : Counts) (l : Loading) → ShowsCounts s v c l → (i : ℕ) → i < links_of l → total_at (curves_of l) (down_of i) (last_of l) ≡ left_link s c i s.slots
+shown_left s v c l h i x = at_last s v c l h (down_of i) (omega (arith, h.links))
 
-pub shown_on_links : (s : Setting) (v : ℕ) (l : Loading) → Shows s v l →
-    sum_below (links_of l) (λ i. total_of (curves_of l) (up_of i) (last_of l) - total_of (curves_of l) (down_of i) (last_of l)) ≡ on_links s (counts_of (curves_of l)) s.slots
-shown_on_links s v l h =
-    let c : Counts = counts_of (curves_of l) in
-    ap (λ (n : ℕ). sum_below n (λ i. total_of (curves_of l) (up_of i) (last_of l) - total_of (curves_of l) (down_of i) (last_of l))) h.links
-    ∙ (ap (λ (m : ℕ). sum_below s.links (λ i. total m (c (up_of i)) (last_of l) - total m (c (down_of i)) (last_of l))) h.shape.same_destinations
-    ∙ ap (λ (k : ℕ). sum_below s.links (λ i. total s.destinations (c (up_of i)) k - total s.destinations (c (down_of i)) k)) h.shape.same_slots)
+pub shown_on_links : (s : Setting) (v : ℕ) (c : Counts) (l : Loading) → ShowsCounts s v c l →
+    sum_below (links_of l) (λ i. total_at (curves_of l) (up_of i) (last_of l) - total_at (curves_of l) (down_of i) (last_of l)) ≡ on_links s c s.slots
+shown_on_links s v c l h =
+    sum_below-same (links_of l) (λ i. total_at (curves_of l) (up_of i) (last_of l) - total_at (curves_of l) (down_of i) (last_of l)) (λ i. entered_link s c i s.slots - left_link s c i s.slots)
+    (λ i x. omega (arith, shown_entered s v c l h i x, shown_left s v c l h i x))
+    ∙ ap (λ (n : ℕ). sum_below n (λ i. entered_link s c i s.slots - left_link s c i s.slots)) h.links
 
-pub shown_departed : (s : Setting) (v : ℕ) (l : Loading) → Shows s v l → sum_below (nodes_of l) (λ u. total_of (curves_of l) (2 * links_of l + u) (last_of l)) ≡ departed s (counts_of (curves_of l)) s.slots
-shown_departed s v l h =
-    let c : Counts = counts_of (curves_of l) in
-    ap (λ (n : ℕ). sum_below n (λ u. total_of (curves_of l) (2 * links_of l + u) (last_of l))) h.nodes
-    ∙ (ap (λ (n : ℕ). sum_below s.nodes (λ u. total_of (curves_of l) (2 * n + u) (last_of l))) h.links
-    ∙ (ap (λ (m : ℕ). sum_below s.nodes (λ u. total m (c (dep_of s u)) (last_of l))) h.shape.same_destinations
-    ∙ ap (λ (k : ℕ). sum_below s.nodes (λ u. total s.destinations (c (dep_of s u)) k)) h.shape.same_slots))
+pub shown_departed : (s : Setting) (v : ℕ) (c : Counts) (l : Loading) → ShowsCounts s v c l → sum_below (nodes_of l) (λ u. total_at (curves_of l) (2 * links_of l + u) (last_of l)) ≡ departed s c s.slots
+shown_departed s v c l h =
+    sum_below-same (nodes_of l) (λ u. total_at (curves_of l) (2 * links_of l + u) (last_of l)) (λ u. total s.destinations (c (dep_of s u)) s.slots)
+    (λ u x.
+    let at : 2 * links_of l + u ≡ dep_of s u = omega (arith, h.links) in
+    ap (λ (g : ℕ). total_at (curves_of l) g (last_of l)) at ∙ at_last s v c l h (dep_of s u) (omega (arith, h.nodes)))
+    ∙ ap (λ (n : ℕ). sum_below n (λ u. total s.destinations (c (dep_of s u)) s.slots)) h.nodes

@@ -2,13 +2,16 @@
 use Rattle.std.specs.Prelude.{◌≡◌, ℕ, ◌-◌, ◌<◌, ◌≤◌, min, length, map, slice_index, false}
 use Rattle.ltm_curve.specs.declared.curves.Curves.{Curves}
 use Rattle.ltm_curve.specs.declared.changed.Changed.{Changed}
-use Rattle.ltm_curve.specs.Table.{counts_of, groups_of, destinations_of, slots_of, room_of, SameShape, IsIn}
+use Rattle.ltm_curve.specs.declared.total_curves.TotalCurves.{TotalCurves}
+use Rattle.ltm_curve.specs.Counts.{Counts}
+use Rattle.ltm_curve.specs.Table.{groups_of, slots_of, total_of}
+use Rattle.ltm_curve.specs.TotalCurves.{total_groups, total_slots, total_room, total_at, HasTotals}
 use Rattle.ltm_curve.specs.Cells.{is_changed}
 use Rattle.ltm_loading.specs.Setting.{Setting}
 use Rattle.ltm_loading.specs.Loading.{IsLoading}
+use Rattle.ltm_loading.specs.LoadingTotals.{HaveTotals}
 use Rattle.ltm_loading.specs.Totals.{generated}
 use Rattle.ltm_loading.specs.Groups.{groups}
-use Rattle.ltm_loading.specs.Shaped.{IsShaped}
 use Rattle.ltm_flows.specs.declared.loading.Loading.{Loading}
 
 abbrev pub version_of : Loading → ℕ
@@ -23,12 +26,13 @@ links_of l = l.links
 abbrev pub nodes_of : Loading → ℕ
 nodes_of l = l.nodes
 
-abbrev pub curves_of : Loading → Curves
+-- the totals of its groups by boundary
+abbrev pub curves_of : Loading → TotalCurves
 curves_of l = l.curves
 
 -- the last boundary
 abbrev pub last_of : Loading → ℕ
-last_of l = slots_of l.curves
+last_of l = total_slots l.curves
 
 -- the free-flow time of a link
 abbrev pub free_of : Loading → ℕ → ℕ
@@ -40,32 +44,36 @@ generated_of l boundary = slice_index (map (λ units. units.0) l.generated.items
 
 -- for how many slots a loading has room
 abbrev pub loading_room : Loading → ℕ
-loading_room l = min (room_of l.curves) (length l.generated.items - 1)
+loading_room l = min (total_room l.curves) (length l.generated.items - 1)
 
--- a loading is the one loading of a setting, under a version
-pub record Shows (s : Setting) (number : ℕ) (l : Loading) : Type 0 where
+-- a loading is of these counts, which are the one loading of a setting, under a version
+pub record ShowsCounts (s : Setting) (number : ℕ) (c : Counts) (l : Loading) : Type 0 where
   pub version : version_of l ≡ number
-  pub loading : IsLoading s (counts_of (curves_of l))
-  pub shape : IsShaped s (curves_of l)
+  pub loading : IsLoading s c
+  pub shape : HasTotals (curves_of l) (groups s) s.slots
+  pub totals : HaveTotals s c (total_at (curves_of l))
   pub step : step_of l ≡ s.step
   pub links : links_of l ≡ s.links
   pub nodes : nodes_of l ≡ s.nodes
   pub free : (i : ℕ) → i < s.links → free_of l i ≡ s.free_time i
   pub generated : (k : ℕ) → k ≤ s.slots → generated_of l k ≡ generated s k
 
+-- a loading is the one loading of a setting, under a version
+abbrev pub Shows : Setting → ℕ → Loading → Type 0
+Shows s number l = (c : Counts) × ShowsCounts s number c l
+
 -- a loading has the sizes of a setting, or fewer slots and room for those of the setting
 pub record Fits (s : Setting) (l : Loading) : Type 0 where
-  pub groups : groups_of (curves_of l) ≡ groups s
-  pub destinations : destinations_of (curves_of l) ≡ s.destinations
+  pub groups : total_groups (curves_of l) ≡ groups s
   pub slots : last_of l ≤ s.slots
   pub room : s.slots ≤ loading_room l
   pub links : links_of l ≡ s.links
   pub nodes : nodes_of l ≡ s.nodes
 
--- outside the changed cells a loading has the counts of these curves, and those that it does not reach are 0
+-- outside the changed cells a loading has the totals of these curves, and those that it does not reach are 0
 pub record AgreesOutside (l : Loading) (c : Curves) (changed : Changed) : Type 0 where
-  pub agree : (g d k : ℕ) → IsIn (curves_of l) g d k → is_changed changed g k ≡ false → counts_of (curves_of l) g d k ≡ counts_of c g d k
-  pub beyond : (g d k : ℕ) → IsIn c g d k → last_of l < k → is_changed changed g k ≡ false → counts_of c g d k ≡ 0
+  pub agree : (g k : ℕ) → g < groups_of c → k ≤ last_of l → is_changed changed g k ≡ false → total_at (curves_of l) g k ≡ total_of c g k
+  pub beyond : (g k : ℕ) → g < groups_of c → k ≤ slots_of c → last_of l < k → is_changed changed g k ≡ false → total_of c g k ≡ 0
 
 -- all that is read from a loading stays
 pub record SameLoading (old new : Loading) : Type 0 where
@@ -73,7 +81,7 @@ pub record SameLoading (old new : Loading) : Type 0 where
   pub step : step_of new ≡ step_of old
   pub links : links_of new ≡ links_of old
   pub nodes : nodes_of new ≡ nodes_of old
-  pub shape : SameShape (curves_of new) (curves_of old)
-  pub counts : counts_of (curves_of new) ≡ counts_of (curves_of old)
+  pub shape : HasTotals (curves_of new) (total_groups (curves_of old)) (last_of old)
+  pub totals : total_at (curves_of new) ≡ total_at (curves_of old)
   pub free : (i : ℕ) → free_of new i ≡ free_of old i
   pub generated : (k : ℕ) → k ≤ last_of old → generated_of new k ≡ generated_of old k

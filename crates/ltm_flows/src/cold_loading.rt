@@ -4,6 +4,7 @@ ghost use Rattle.ltm_curve.specs.Table.{counts_of, IsEmpty};
 ghost use Rattle.ltm_node.specs.Shape.{width};
 ghost use Rattle.ltm_node.specs.Solvable.{IsSolvable};
 ghost use Rattle.ltm_loading.specs.Setting.{IsSetting};
+ghost use Rattle.ltm_loading.specs.Groups.{groups};
 ghost use Rattle.ltm_loading.specs.Loading.{IsFront, IsLoading};
 ghost use Rattle.ltm_loading.specs.Uncounted.{IsUncountedPair};
 ghost use Rattle.ltm_loading.specs.Pairs.{shape_at};
@@ -71,24 +72,30 @@ fn load_pair(scenario: &Scenario, curves: &mut Curves, pair: Pair, room: &mut Ro
     counts_by_place();
     nothing_moves();
     if uncounted_if_sent(scenario, curves, pair, &mut room.inputs) {
-        write_pair(scenario, curves, pair, room);
+        move_pair(scenario, curves, pair, &room.inputs, &mut room.outputs);
     }
 }
 
 /// The step of a node in a slot: what moves, from inputs with 0 for each count, is added to its counts, which were carried on
-/// to the slot's end.
-fn write_pair(scenario: &Scenario, curves: &mut Curves, pair: Pair, room: &mut Room)
+/// to the slot's end. No count up to the slot's beginning changes. Takes no memory.
+pub fn move_pair(
+    scenario: &Scenario,
+    curves: &mut Curves,
+    pair: Pair,
+    inputs: &NodeInputs,
+    outputs: &mut NodeOutputs,
+)
     requires setting { IsSetting (setting_of scenario.now) }
     requires node { pair.node.0 < (setting_of scenario.now).nodes }
     requires slot { pair.slot < (setting_of scenario.now).slots }
     requires working { IsWorkingAt (setting_of scenario.now) curves.old pair.slot pair.node.0 }
-    requires reads { IsUncountedPair (setting_of scenario.now) (counts_of curves.old) pair.node.0 pair.slot room.old.inputs }
-    requires solvable { IsSolvable room.old.inputs }
-    requires inputs { HasRoom (setting_of scenario.now) room.old.inputs.room }
-    requires outputs { HasRoom (setting_of scenario.now) room.old.outputs.room }
+    requires reads { IsUncountedPair (setting_of scenario.now) (counts_of curves.old) pair.node.0 pair.slot inputs.now }
+    requires solvable { IsSolvable inputs.now }
+    requires room { HasRoom (setting_of scenario.now) outputs.old.room }
     ensures working { IsWorkingAt (setting_of scenario.now) curves.new pair.slot (pair.node.0 + 1) }
-    ensures inputs { HasRoom (setting_of scenario.now) room.new.inputs.room }
-    ensures outputs { HasRoom (setting_of scenario.now) room.new.outputs.room }
+    ensures stays { (g d k : ℕ) → g < groups (setting_of scenario.now) → d < (setting_of scenario.now).destinations → k ≤ pair.slot
+        → counts_of curves.new g d k ≡ counts_of curves.old g d k }
+    ensures room { outputs.new.room ≡ outputs.old.room }
 {
     counts_by_place();
     outputs_small();
@@ -98,8 +105,8 @@ fn write_pair(scenario: &Scenario, curves: &mut Curves, pair: Pair, room: &mut R
     no_arrivals();
     set_by_one_pair();
     let _slots = slot_count(scenario);
-    write_step(&room.inputs, &mut room.outputs);
-    add_moves(scenario, curves, pair, &room.outputs);
+    write_step(inputs, outputs);
+    add_moves(scenario, curves, pair, outputs);
 }
 
 /// The steps of all nodes in a slot. All counts are first carried on to the slot's end, and what moves is then added

@@ -15,7 +15,7 @@ mod summing;
 mod tables;
 
 pub use applying::apply;
-pub use cold_loading::{cold, fresh};
+pub use cold_loading::{cold, fresh, move_pair};
 pub use in_all::Totals;
 pub use loading::Loading;
 pub use ltm_inputs::{inputs_of, shape_of, widest};

@@ -1,7 +1,9 @@
 //! A finished loading, as others read it.
 ghost use Rattle.std.specs.Prelude.{◌≡◌, ◌≤◌, ◌<◌, ◌+◌, ◌*◌, ℕ, length, IfOk, IsFalse, OnOk};
 ghost use Rattle.ltm_curve.specs.Cells.{HasCells};
-ghost use Rattle.ltm_curve.specs.Table.{groups_of, destinations_of, slots_of, counts_of};
+ghost use Rattle.ltm_curve.specs.Counts.{Counts};
+ghost use Rattle.ltm_curve.specs.Table.{counts_of};
+ghost use Rattle.ltm_curve.specs.TotalCurves.{total_groups, total_slots, total_at};
 ghost use Rattle.ltm_loading.specs.Setting.{Setting, IsSetting};
 ghost use Rattle.ltm_loading.specs.Groups.{groups};
 ghost use Rattle.ltm_loading.specs.Loading.{IsLoading};
@@ -11,14 +13,15 @@ ghost use Rattle.ltm_loading.specs.Shaped.{IsShaped};
 
 use crate::in_all::Totals;
 use crate::tables::{free_times, generated_by_boundary, renew_generated, write_free_times};
-use ltm_curve::{Changed, Curves};
-use ltm_loading::{counts_small, down_of, never_fall, up_of};
+use ltm_curve::{Changed, Curves, TotalCurves};
+use ltm_loading::{down_of, never_fall, totals_small, up_of};
 use ltm_scenario::Scenario;
 use ltm_setting::{is_setting, link_count, node_count, step};
 use ltm_units::{LinkId, Millis, NoMemory, Units};
 use std::alloc::Global;
 
-/// A finished loading with its version, its curves, the free-flow times of its links and what its origins have produced.
+/// A finished loading with its version, the totals of its groups by boundary, the free-flow times of its links and what its
+/// origins have produced. Counts by destination are not kept.
 ///
 /// It stands on its own: the scenario may change once the loading is made.
 #[derive(Drop)]
@@ -29,19 +32,15 @@ pub struct Loading {
     nodes: u32,
     free: Vec<Millis>,
     generated: Vec<Units>,
-    curves: Curves,
+    curves: TotalCurves,
     ghost some_step: { 1 ≤ step.0 },
     ghost short_step: { step.0 ≤ 60000 },
     ghost few_links: { links ≤ 4000 },
     ghost few_nodes: { nodes ≤ 8000 },
-    ghost few_destinations: { destinations_of curves ≤ 64 },
-    ghost groups: { groups_of curves ≡ 2 * links + nodes + 1 },
+    ghost groups: { total_groups curves ≡ 2 * links + nodes + 1 },
     ghost times: { length free.items ≡ links },
-    ghost amounts: { slots_of curves + 1 ≤ length generated.items },
-    ghost small: { (g d k : ℕ) → g < groups_of curves → d < destinations_of curves → k ≤ slots_of curves
-        → counts_of curves g d k ≤ 1600000000 },
-    ghost rises: { (g d k : ℕ) → g < groups_of curves → d < destinations_of curves → k < slots_of curves
-        → counts_of curves g d k ≤ counts_of curves g d (k + 1) },
+    ghost amounts: { total_slots curves + 1 ≤ length generated.items },
+    ghost rises: { (g k : ℕ) → g < total_groups curves → k < total_slots curves → total_at curves g k ≤ total_at curves g (k + 1) },
 }
 
 impl Loading {
@@ -55,7 +54,7 @@ impl Loading {
       free_of,
       generated_of,
       loading_room,
-      Shows,
+      ShowsCounts,
       Fits,
       AgreesOutside,
       SameLoading,
@@ -63,22 +62,23 @@ impl Loading {
     ghost use Rattle.ltm_flows.specs.InAll.{AreTotals};
     ghost use Rattle.ltm_flows.specs.Counted.{arrived_of, entered_of, left_of, on_links_of, departed_of, SumsUp};
 
-    /// The loading of a scenario, from its finished curves, which are kept.
-    pub fn of(
+    /// The loading of a scenario, from its finished curves, of which the totals are kept.
+    pub fn create(
         alloc: Global,
         scenario: &Scenario,
-        curves: Curves,
+        curves: &Curves,
         version: u64,
     ) -> Result<Loading, NoMemory>
-        requires shape { IsShaped (setting_of scenario.now) curves }
-        requires loading { IsLoading (setting_of scenario.now) (counts_of curves) }
-        ensures { IfOk result (Shows (setting_of scenario.now) version) }
+        requires shape { IsShaped (setting_of scenario.now) curves.now }
+        requires loading { IsLoading (setting_of scenario.now) (counts_of curves.now) }
+        ensures { IfOk result (ShowsCounts (setting_of scenario.now) version (counts_of curves.now)) }
     {
-        counts_small();
+        totals_small();
         never_fall();
         is_setting(scenario);
         let free = free_times(alloc, scenario)?;
         let generated = generated_by_boundary(alloc, scenario)?;
+        let curves = TotalCurves::of(alloc, curves)?;
         Ok(Loading {
             version,
             step: step(scenario),
@@ -88,27 +88,6 @@ impl Loading {
             generated,
             curves,
         })
-    }
-
-    /// The loading of a scenario, from its finished curves, of which it keeps a copy.
-    pub fn create(
-        alloc: Global,
-        scenario: &Scenario,
-        curves: &Curves,
-        version: u64,
-    ) -> Result<Loading, NoMemory>
-        requires shape { IsShaped (setting_of scenario.now) curves.now }
-        requires loading { IsLoading (setting_of scenario.now) (counts_of curves.now) }
-        ensures { IfOk result (Shows (setting_of scenario.now) version) }
-    {
-        let mut copy = Curves::create(
-            alloc,
-            curves.groups(),
-            curves.destinations(),
-            curves.slots(),
-        )?;
-        copy.copy_from(curves);
-        Loading::of(alloc, scenario, copy, version)
     }
 
     /// The greatest number of slots for which there is room.
@@ -129,7 +108,7 @@ impl Loading {
     /// Makes room for so many slots. Nothing else that is seen changes.
     pub fn reserve(&mut self, slots: u32) -> Result<(), NoMemory>
         ensures same { SameLoading self.old self.new }
-        ensures shows { (s : Setting) (version : ℕ) → Shows s version self.old → Shows s version self.new }
+        ensures shows { (s : Setting) (version : ℕ) (c : Counts) → ShowsCounts s version c self.old → ShowsCounts s version c self.new }
         ensures room { OnOk result (slots ≤ loading_room self.new) }
         ensures no_less { loading_room self.old ≤ loading_room self.new }
     {
@@ -142,7 +121,7 @@ impl Loading {
     }
 
     /// Becomes the loading of another scenario with as many links, nodes and destinations and no fewer slots, for which
-    /// there is room, from its finished curves, of which the changed cells alone are copied: outside them the counts are
+    /// there is room, from its finished curves, of which the changed cells alone are copied: outside them the totals are
     /// the same, and at later boundaries 0. What its origins produce is added up where that is to be done anew; else it is
     /// what they produced before. Takes no memory.
     pub fn refresh(
@@ -159,10 +138,9 @@ impl Loading {
         requires cells { HasCells changed.now (groups (setting_of scenario.now)) (setting_of scenario.now).slots }
         requires outside { AgreesOutside self.old curves.now changed.now }
         requires produced { IsFalse anew → (k : ℕ) → k ≤ (setting_of scenario.now).slots → generated_of self.old k ≡ generated (setting_of scenario.now) k }
-        ensures shows { Shows (setting_of scenario.now) version self.new }
-        ensures counts { counts_of (curves_of self.new) ≡ counts_of curves.now }
+        ensures { ShowsCounts (setting_of scenario.now) version (counts_of curves.now) self.new }
     {
-        counts_small();
+        totals_small();
         never_fall();
         is_setting(scenario);
         write_free_times(scenario, &mut self.free);
@@ -180,12 +158,12 @@ impl Loading {
         self.version
     }
 
-    /// Its curves, of which none falls.
-    pub fn curves(&self) -> &Curves
+    /// The totals of its groups by boundary, of which none falls.
+    pub fn curves(&self) -> &TotalCurves
         ensures value { result.now ≡ curves_of self.now }
-        ensures groups { groups_of (curves_of self.now) ≡ 2 * links_of self.now + nodes_of self.now + 1 }
-        ensures rises { (g d k : ℕ) → g < groups_of (curves_of self.now) → d < destinations_of (curves_of self.now)
-            → k < last_of self.now → counts_of (curves_of self.now) g d k ≤ counts_of (curves_of self.now) g d (k + 1) }
+        ensures groups { total_groups (curves_of self.now) ≡ 2 * links_of self.now + nodes_of self.now + 1 }
+        ensures rises { (g k : ℕ) → g < total_groups (curves_of self.now) → k < last_of self.now
+            → total_at (curves_of self.now) g k ≤ total_at (curves_of self.now) g (k + 1) }
     {
         &self.curves
     }
@@ -241,8 +219,8 @@ impl Loading {
     pub fn arrived(&self, boundary: u32) -> Units
         requires { boundary ≤ last_of self.now }
         ensures counted { result.0 ≡ arrived_of self.now boundary }
-        ensures shown { (s : Setting) (version : ℕ) → Shows s version self.now
-            → result.0 ≡ arrived s (counts_of (curves_of self.now)) boundary }
+        ensures shown { (s : Setting) (version : ℕ) (c : Counts) → ShowsCounts s version c self.now
+            → result.0 ≡ arrived s c boundary }
     {
         Units(self.curves.total(2 * self.links + self.nodes, boundary))
     }
@@ -251,20 +229,20 @@ impl Loading {
     pub fn entered(&self, link: LinkId) -> Units
         requires { link.0 < links_of self.now }
         ensures counted { result.0 ≡ entered_of self.now link.0 }
-        ensures shown { (s : Setting) (version : ℕ) → Shows s version self.now
-            → result.0 ≡ entered_link s (counts_of (curves_of self.now)) link.0 s.slots }
+        ensures shown { (s : Setting) (version : ℕ) (c : Counts) → ShowsCounts s version c self.now
+            → result.0 ≡ entered_link s c link.0 s.slots }
     {
-        Units(self.curves.total(2 * link.0, self.curves.slots()))
+        Units(self.curves.total(up_of(link), self.curves.slots()))
     }
 
     /// What has left a link by the last boundary.
     pub fn left(&self, link: LinkId) -> Units
         requires { link.0 < links_of self.now }
         ensures counted { result.0 ≡ left_of self.now link.0 }
-        ensures shown { (s : Setting) (version : ℕ) → Shows s version self.now
-            → result.0 ≡ left_link s (counts_of (curves_of self.now)) link.0 s.slots }
+        ensures shown { (s : Setting) (version : ℕ) (c : Counts) → ShowsCounts s version c self.now
+            → result.0 ≡ left_link s c link.0 s.slots }
     {
-        Units(self.curves.total(2 * link.0 + 1, self.curves.slots()))
+        Units(self.curves.total(down_of(link), self.curves.slots()))
     }
 
     /// What is on the links at the last boundary.
@@ -296,8 +274,8 @@ impl Loading {
     /// What the loading comes to in all at the last boundary.
     pub fn totals(&self) -> Totals
         ensures counted { SumsUp self.now result }
-        ensures shown { (s : Setting) (version : ℕ) → Shows s version self.now
-            → AreTotals s (counts_of (curves_of self.now)) s.slots result }
+        ensures shown { (s : Setting) (version : ℕ) (c : Counts) → ShowsCounts s version c self.now
+            → AreTotals s c s.slots result }
     {
         let last = self.slots();
         let generated = self.generated(last);

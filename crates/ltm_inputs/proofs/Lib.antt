@@ -4,3 +4,4 @@ pub mod Arms
 pub mod Widths
 pub mod Whole
 pub mod Idle
+pub mod Joined

@@ -44,11 +44,7 @@ weights_part s u t = grid s.destinations (s.outs u) (λ d j. s.weight u d t j)
 abbrev pub limit_parts : Setting → Counts → ℕ → ℕ → List ℕ
 limit_parts s c u t = supply_part s c u t ++ (capacity_part s u ++ weights_part s u t)
 
--- all parts behind what each arm sends
-abbrev pub other_parts : Setting → Counts → ℕ → ℕ → List ℕ
-other_parts s c u t = left_part s c u t ++ (entered_part s c u t ++ (arrived_part s c u t ++ limit_parts s c u t))
-
--- the same with 0 for each count
+-- all parts behind what each arm sends, with 0 for each count
 abbrev pub uncounted_parts : Setting → Counts → ℕ → ℕ → List ℕ
 uncounted_parts s c u t =
     grid (arms_of s u) s.destinations (λ i d. 0)

@@ -77,9 +77,11 @@ accept_shows s touched e is step =
       settled_first = rw (step.settled, step.shown_at) is.shows.settled_first;
       accepted_last = rw step.shown_at (omega arith);
       loading = rw (step.shown_at, step.shown) (rw at_shown is.shows.loading);
-      agree = rw (step.shown_at, step.shown, step.changed) (rw at_shown (λ g b k x m same low.
+      agree = rw (step.shown_at, step.shown, step.changed) (rw at_shown (λ g k x same low.
           let within : k ≤ (now s).slots = omega (arith, low) in
-          is.shows.agree g b k (omega arith) (omega arith) same low ∙ sym (step.desk.grows.old_counts g b k x m within)));
+          is.shows.agree g k (omega arith) same low
+          ∙ (ap (λ (n : ℕ). sum_below n (λ b. s.desk.counts g b k)) same_ends
+          ∙ sum_below-same (now e).destinations (λ b. s.desk.counts g b k) (λ b. e.desk.counts g b k) (λ b m. sym (step.desk.grows.old_counts g b k x m within)))));
       beyond = rw (step.shown_at, step.changed) (rw at_shown (λ g b k x m same low high. elim (cases_lt (now s).slots k) [
         | inl new ↦ step.desk.grows.new_counts g b k x m new high
         | inr old ↦ step.desk.grows.old_counts g b k x m old ∙ is.shows.beyond g b k (omega arith) (omega arith) same low old

@@ -1,6 +1,7 @@
 -- What holds of a repair is kept by every event but a batch.
 use Rattle.std.proofs.Common.{◌≡◌, ℕ, ◌+◌, ◌≤◌, arith, inl, inr, sym, ◌∙◌, Bool, true, false, List}
 use Rattle.std.specs.Prelude.{Some, None}
+use Rattle.ltm_units.proofs.Sums.{sum_below-same}
 use Rattle.ltm_loading.specs.Setting.{IsSetting}
 use Rattle.ltm_loading.specs.Pairs.{pair_row}
 use Rattle.ltm_repair.specs.Desk.{IsAtRest}
@@ -116,9 +117,10 @@ commit_shows s u t row wakes e is step =
       settled_first = rw (books.settled, books.shown_at) is.shows.settled_first;
       accepted_last = rw (books.shown_at, books.accepted) is.shows.accepted_last;
       loading = rw (books.settings, books.shown_at, books.shown) is.shows.loading;
-      agree = rw (books.settings, books.shown_at, books.accepted, books.shown) (λ g b k x m same low.
+      agree = rw (books.settings, books.shown_at, books.accepted, books.shown) (λ g k x same low.
           let within : k ≤ (s.settings s.shown_at).slots = low in
-          is.shows.agree g b k x m (step.changes.stays g k same) low ∙ sym (step.changes.same g b k x m (omega arith) same));
+          is.shows.agree g k x (step.changes.stays g k same) low
+          ∙ sum_below-same (now s).destinations (λ b. s.desk.counts g b k) (λ b. e.desk.counts g b k) (λ b m. sym (step.changes.same g b k x m (omega arith) same)));
       beyond = rw (books.settings, books.shown_at, books.accepted) (λ g b k x m same low high.
           step.changes.same g b k x m high same ∙ is.shows.beyond g b k x m (step.changes.stays g k same) low high);
     }
@@ -170,7 +172,7 @@ publish_repair s e is step = record {
     settled_first = rw (step.settled, step.shown_at) (settled_within s is);
     accepted_last = rw (step.shown_at, step.accepted) (omega arith);
     loading = rw (step.settings, step.shown_at) step.shows;
-    agree = rw (step.settings, step.shown_at, step.accepted, step.desk) (λ g b k x m same low. step.agree g b k x m low);
+    agree = rw (step.settings, step.shown_at, step.accepted, step.desk) (λ g k x same low. step.agree g k x low);
     beyond = rw (step.settings, step.shown_at, step.accepted) (λ g b k x m same low high. absurd (omega arith));
   };
   up_to_date = rw (step.settings, step.accepted, step.desk) (λ h. step.rest);

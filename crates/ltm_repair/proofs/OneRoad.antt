@@ -17,8 +17,7 @@ use Rattle.ltm_repair.proofs.Work.{commits_differences, commits_are_differing}
 opening : IsOpening road_opening
 opening = record {
   rest = record { setting = road_setting 32000; loading = open_loading; kept = λ u t x l. refl; idle = λ u t. (refl, refl) };
-  shows = open_loading;
-  agree = λ g e k x m l. refl;
+  shows = λ g k x l. refl;
   accepted = refl;
   settled = refl;
   shown_at = refl;

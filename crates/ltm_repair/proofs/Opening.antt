@@ -53,8 +53,8 @@ opening_shows s o =
     record {
       settled_first = rw (o.settled, o.shown_at) (omega arith);
       accepted_last = rw (o.accepted, o.shown_at) (omega arith);
-      loading = rw at_shown o.shows;
-      agree = rw at_shown (λ g b k x m same low. o.agree g b k x m low);
+      loading = rw at_shown (record { counts = s.desk.counts; loading = o.rest.loading; sums = o.shows });
+      agree = rw at_shown (λ g k x same low. o.shows g k x low);
       beyond = rw at_shown (λ g b k x m same low high. absurd (omega arith));
     }
 

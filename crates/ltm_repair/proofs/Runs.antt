@@ -1,7 +1,7 @@
 -- What every run of events keeps.
 use Rattle.std.proofs.Common.{◌≡◌, ℕ, arith, inl, inr, subst, sym, refl, ◌∙◌, Bool, true, false, ◌||◌, List, [], ◌∷◌}
 use Rattle.std.specs.Prelude.{◌⊎◌, ◌≢◌, Option, None, is_some}
-use Rattle.ltm_loading.specs.Loading.{IsLoading}
+use Rattle.ltm_loading.specs.LoadingTotals.{AreLoadingTotals}
 use Rattle.ltm_repair.specs.Desk.{Desk}
 use Rattle.ltm_repair.specs.Moves.{DropsSettled}
 use Rattle.ltm_repair.specs.State.{RepairState, now}
@@ -34,10 +34,10 @@ pub shown_is_loading : ShownIsLoading
 shown_is_loading s is = record {
   prefix = is.shows.loading;
   up_to_date = λ current.
-      let P : ℕ → Type 0 = λ k. IsLoading (s.settings k) s.shown in (subst P current is.shows.loading, is.up_to_date current);
+      let P : ℕ → Type 0 = λ k. AreLoadingTotals (s.settings k) s.shown in (subst P current is.shows.loading, is.up_to_date current);
 }
 
-shows_all : (e : RepairState) → IsRepair e → e.shown_at ≡ e.accepted → (e.shown_at ≡ e.accepted) × IsLoading (now e) e.shown
+shows_all : (e : RepairState) → IsRepair e → e.shown_at ≡ e.accepted → (e.shown_at ≡ e.accepted) × AreLoadingTotals (now e) e.shown
 shows_all e is current = (current, ((shown_is_loading e is).up_to_date current).0)
 
 pub publishing_shows_all : PublishingShowsAll

@@ -2,7 +2,7 @@
 use Rattle.std.specs.Prelude.{◌≡◌, ◌≢◌, ℕ, ◌+◌, ◌<◌, ◌≤◌, ◌⊎◌, List, Bool, true, false}
 use Rattle.ltm_loading.specs.Setting.{IsSetting}
 use Rattle.ltm_loading.specs.Groups.{groups}
-use Rattle.ltm_loading.specs.Loading.{IsLoading}
+use Rattle.ltm_loading.specs.LoadingTotals.{HaveTotals, AreLoadingTotals}
 use Rattle.ltm_loading.specs.Networks.{SameNetwork}
 use Rattle.ltm_repair.specs.Desk.{Desk, IsAtRest}
 use Rattle.ltm_repair.specs.Moves.{DropsSettled, TakesClaim, GivesBack, Commits, Accepts}
@@ -81,7 +81,7 @@ pub record Accepted (old : RepairState) (touched : ℕ → ℕ → Bool) (new : 
   pub commits : new.commits ≡ old.commits
   pub changed : new.changed ≡ old.changed
 
--- at rest the working counts are shown, and no cell is changed any more
+-- at rest the totals of the working counts are shown, and no cell is changed any more
 pub record Published (old new : RepairState) : Type 0 where
   pub rest : IsAtRest (now old) old.desk
   pub desk : new.desk ≡ old.desk
@@ -89,12 +89,12 @@ pub record Published (old new : RepairState) : Type 0 where
   pub accepted : new.accepted ≡ old.accepted
   pub settled : new.settled ≡ old.settled
   pub shown_at : new.shown_at ≡ old.accepted
-  pub shows : IsLoading (now old) new.shown
-  pub agree : (g e k : ℕ) → g < groups (now old) → e < (now old).destinations → k ≤ (now old).slots → new.shown g e k ≡ old.desk.counts g e k
+  pub shows : AreLoadingTotals (now old) new.shown
+  pub agree : HaveTotals (now old) old.desk.counts new.shown
   pub commits : new.commits ≡ old.commits
   pub none_changed : (g k : ℕ) → new.changed g k ≡ false
 
--- the shown counts are up to date: the commits are told, and count from 0 again
+-- what is shown is up to date: the commits are told, and count from 0 again
 pub record Settled (old : RepairState) (n : ℕ) (new : RepairState) : Type 0 where
   pub up_to_date : old.shown_at ≡ old.accepted
   pub told : n ≡ old.commits

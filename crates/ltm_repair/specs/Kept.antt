@@ -2,6 +2,7 @@
 use Rattle.std.specs.Prelude.{◌≡◌, ◌≢◌, ◌↔◌, ℕ, ◌<◌, ◌≤◌, ◌⊎◌, List, Some, None, Bool, true}
 use Rattle.ltm_loading.specs.Pairs.{pair_row}
 use Rattle.ltm_loading.specs.Loading.{IsLoading}
+use Rattle.ltm_loading.specs.LoadingTotals.{AreLoadingTotals}
 use Rattle.ltm_repair.specs.Desk.{IsAtRest}
 use Rattle.ltm_repair.specs.State.{RepairState, now}
 use Rattle.ltm_repair.specs.Repair.{IsRepair, IsOpening}
@@ -19,18 +20,18 @@ RunsKeepFacts = (s e : RepairState) (events : List CoreEvent) → IsRepair s →
 abbrev pub RestIsLoading : Type 0
 RestIsLoading = (s : RepairState) → IsRepair s → IsAtRest (now s) s.desk → IsLoading (now s) s.desk.counts
 
--- what is shown is the loading of as many batches as are shown; where these are all, the repair is at rest
+-- what is shown are the totals of the loading of as many batches as are shown; where these are all, the repair is at rest
 pub record ShowsTheLoading (s : RepairState) : Type 0 where
-  pub prefix : IsLoading (s.settings s.shown_at) s.shown
-  pub up_to_date : s.shown_at ≡ s.accepted → IsLoading (now s) s.shown × IsAtRest (now s) s.desk
+  pub prefix : AreLoadingTotals (s.settings s.shown_at) s.shown
+  pub up_to_date : s.shown_at ≡ s.accepted → AreLoadingTotals (now s) s.shown × IsAtRest (now s) s.desk
 
 abbrev pub ShownIsLoading : Type 0
 ShownIsLoading = (s : RepairState) → IsRepair s → ShowsTheLoading s
 
--- after publishing, and after a settle count, what is shown is the loading of all batches
+-- after publishing, and after a settle count, what is shown are the totals of the loading of all batches
 abbrev pub PublishingShowsAll : Type 0
 PublishingShowsAll =
-    (s e : RepairState) → IsRepair s → Published s e ⊎ ((n : ℕ) × Settled s n e) → (e.shown_at ≡ e.accepted) × IsLoading (now e) e.shown
+    (s e : RepairState) → IsRepair s → Published s e ⊎ ((n : ℕ) × Settled s n e) → (e.shown_at ≡ e.accepted) × AreLoadingTotals (now e) e.shown
 
 -- the shown number never falls, nor does the number of batches, and accepted batches stay as they are
 pub record NothingIsTakenBack (s e : RepairState) : Type 0 where

@@ -1,5 +1,6 @@
 -- One road whose entry is closed for a slot, and every repair of it.
 use Rattle.std.specs.Prelude.{◌≡◌, ℕ, List, [], ◌∷◌, map, Some, None, Bool, false}
+use Rattle.ltm_curve.specs.Counts.{total}
 use Rattle.ltm_loading.specs.Pairs.{pair_row}
 use Rattle.ltm_loading.specs.OneRoad.{one_road, open_counts}
 use Rattle.ltm_repair.specs.State.{RepairState, now}
@@ -16,7 +17,7 @@ road_opening = record {
   accepted = 0;
   settled = 0;
   shown_at = 0;
-  shown = open_counts;
+  shown = λ g k. total (one_road 32000).destinations (open_counts g) k;
   commits = 0;
   changed = λ g k. false;
 }

@@ -1,10 +1,11 @@
 -- What holds of a repair at any time, and what one begins with.
 use Rattle.std.specs.Prelude.{◌≡◌, ◌≢◌, ℕ, ◌+◌, ◌-◌, ◌*◌, ◌<◌, ◌≤◌, Some, None, false}
-use Rattle.ltm_curve.specs.Counts.{Counts}
+use Rattle.ltm_curve.specs.Counts.{Counts, total}
 use Rattle.ltm_loading.specs.Setting.{IsSetting}
 use Rattle.ltm_loading.specs.Groups.{groups}
 use Rattle.ltm_loading.specs.Pairs.{pair_row}
 use Rattle.ltm_loading.specs.Loading.{IsLoading}
+use Rattle.ltm_loading.specs.LoadingTotals.{HaveTotals, AreLoadingTotals}
 use Rattle.ltm_loading.specs.Networks.{SameNetwork}
 use Rattle.ltm_repair.specs.Desk.{IsIdle, IsAtRest}
 use Rattle.ltm_repair.specs.Facts.{IsSound}
@@ -17,14 +18,14 @@ pub record AreOfOneNetwork (s : RepairState) : Type 0 where
   pub network : (k : ℕ) → k ≤ s.accepted → SameNetwork (s.settings k) (now s)
   pub horizon : (k : ℕ) → k ≤ s.accepted → (s.settings k).slots ≤ (now s).slots
 
--- what is shown is the loading of so many batches as are shown, with their horizon; outside the changed cells it is the
--- working counts at every boundary that both have, and at every later boundary these are 0
+-- what is shown are the totals of the loading of so many batches as are shown, with their horizon; outside the changed
+-- cells they are those of the working counts at every boundary that both have, and at every later boundary these are 0
 pub record ShowsALoading (s : RepairState) : Type 0 where
   pub settled_first : s.settled ≤ s.shown_at
   pub accepted_last : s.shown_at ≤ s.accepted
-  pub loading : IsLoading (s.settings s.shown_at) s.shown
-  pub agree : (g e k : ℕ) → g < groups (now s) → e < (now s).destinations → s.changed g k ≡ false →
-      k ≤ (s.settings s.shown_at).slots → s.shown g e k ≡ s.desk.counts g e k
+  pub loading : AreLoadingTotals (s.settings s.shown_at) s.shown
+  pub agree : (g k : ℕ) → g < groups (now s) → s.changed g k ≡ false →
+      k ≤ (s.settings s.shown_at).slots → s.shown g k ≡ total (now s).destinations (s.desk.counts g) k
   pub beyond : (g e k : ℕ) → g < groups (now s) → e < (now s).destinations → s.changed g k ≡ false →
       (s.settings s.shown_at).slots < k → k ≤ (now s).slots → s.desk.counts g e k ≡ 0
 
@@ -53,11 +54,10 @@ pub record OpensAtRest (s : RepairState) : Type 0 where
   pub kept : (u t : ℕ) → u < (now s).nodes → t < (now s).slots → s.desk.kept u t ≡ Some (pair_row (now s) s.desk.counts u t)
   pub idle : (u t : ℕ) → IsIdle s.desk u t
 
--- a repair begins at rest with no batch and no commit, and shows its counts
+-- a repair begins at rest with no batch and no commit, and shows the totals of its counts
 pub record IsOpening (s : RepairState) : Type 0 where
   pub rest : OpensAtRest s
-  pub shows : IsLoading (now s) s.shown
-  pub agree : (g e k : ℕ) → g < groups (now s) → e < (now s).destinations → k ≤ (now s).slots → s.shown g e k ≡ s.desk.counts g e k
+  pub shows : HaveTotals (now s) s.desk.counts s.shown
   pub accepted : s.accepted ≡ 0
   pub settled : s.settled ≡ 0
   pub shown_at : s.shown_at ≡ 0

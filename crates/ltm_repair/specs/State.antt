@@ -8,15 +8,15 @@ use Rattle.ltm_loading.specs.Differing.{differing}
 use Rattle.ltm_repair.specs.Desk.{Desk}
 
 -- the desk; the setting after each number of batches; how many batches are accepted, how many of them stand before the
--- last settle count, and how many the shown counts have; the commits since that settle count; and the groups and
--- boundaries in which a commit has changed a count since the last publishing
+-- last settle count, and how many are shown; what is shown, a total for each group and boundary; the commits since that
+-- settle count; and the groups and boundaries in which a commit has changed a count since the last publishing
 pub record RepairState : Type 0 where
   pub desk : Desk
   pub settings : ℕ → Setting
   pub accepted : ℕ
   pub settled : ℕ
   pub shown_at : ℕ
-  pub shown : Counts
+  pub shown : ℕ → ℕ → ℕ
   pub commits : ℕ
   pub changed : ℕ → ℕ → Bool
 

@@ -51,12 +51,12 @@ pub fn rest_is_loading()
     ensures { RestIsLoading }
 {}
 
-/// What is shown is the loading of as many batches as are shown; where these are all, the repair is at rest.
+/// What is shown are the totals of the loading of as many batches as are shown; where these are all, the repair is at rest.
 pub fn shown_is_loading()
     ensures { ShownIsLoading }
 {}
 
-/// After publishing, and after a settle count, what is shown is the loading of all batches.
+/// After publishing, and after a settle count, what is shown are the totals of the loading of all batches.
 pub fn publishing_shows_all()
     ensures { PublishingShowsAll }
 {}

@@ -57,7 +57,7 @@ first_same f g (suc n) h =
     ap (λ x. or_else x (if f n then Some n else None)) (first_same f g n (λ k l. h k (omega arith)))
     ∙ ap (λ (b : Bool). or_else (first_below g n) (if b then Some n else None)) (h n (omega arith))
 
-moment_same : (c d : ℕ → ℕ) (step last count : ℕ) → 0 < step → ((k : ℕ) → k ≤ last → c k ≡ d k) → first_moment c step last count ≡ first_moment d step last count
+pub moment_same : (c d : ℕ → ℕ) (step last count : ℕ) → 0 < step → ((k : ℕ) → k ≤ last → c k ≡ d k) → first_moment c step last count ≡ first_moment d step last count
 unfolding first_moment
 moment_same c d step last count some same =
     first_same (λ time. nat_le count (interpolated c step time)) (λ time. nat_le count (interpolated d step time)) (last * step + 1)

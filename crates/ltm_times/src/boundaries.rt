@@ -1,20 +1,20 @@
 //! The first moment at which a curve has so many units.
 ghost use Rattle.std.specs.Prelude.{◌≡◌, ◌↔◌, ℕ, ◌+◌, ◌-◌, ◌*◌, ◌/◌, ◌<◌, ◌≤◌, ◌^◌, None, option_map};
 ghost use Rattle.ltm_curve.specs.Counts.{Rises};
-ghost use Rattle.ltm_curve.specs.Table.{groups_of, slots_of, total_of};
+ghost use Rattle.ltm_curve.specs.TotalCurves.{total_groups, total_slots, total_at};
 ghost use Rattle.ltm_times.specs.Moments.{first_moment};
 
-use ltm_curve::Curves;
+use ltm_curve::TotalCurves;
 use ltm_units::Millis;
 
 /// The first boundary by which a group has so many units, found by halving.
-fn first_boundary(curves: &Curves, group: u32, count: u64) -> u32
-    requires group { group < groups_of curves.now }
-    requires rises { Rises (total_of curves.now group) (slots_of curves.now) }
-    requires has { count ≤ total_of curves.now group (slots_of curves.now) }
-    ensures within { result ≤ slots_of curves.now }
-    ensures reached { count ≤ total_of curves.now group result }
-    ensures before { (k : ℕ) → k < result → total_of curves.now group k < count }
+fn first_boundary(curves: &TotalCurves, group: u32, count: u64) -> u32
+    requires group { group < total_groups curves.now }
+    requires rises { Rises (total_at curves.now group) (total_slots curves.now) }
+    requires has { count ≤ total_at curves.now group (total_slots curves.now) }
+    ensures within { result ≤ total_slots curves.now }
+    ensures reached { count ≤ total_at curves.now group result }
+    ensures before { (k : ℕ) → k < result → total_at curves.now group k < count }
 {
     let mut low = 0;
     let mut high = curves.slots();
@@ -45,14 +45,19 @@ fn wait_in_slot(from: u64, to: u64, count: u64, step: u64) -> u64
 }
 
 /// The first moment, up to the last boundary, at which a group has so many units; None where it never has.
-pub(crate) fn moment_of(curves: &Curves, group: u32, count: u64, step: Millis) -> Option<Millis>
-    requires group { group < groups_of curves.now }
-    requires rises { Rises (total_of curves.now group) (slots_of curves.now) }
+pub(crate) fn moment_of(
+    curves: &TotalCurves,
+    group: u32,
+    count: u64,
+    step: Millis,
+) -> Option<Millis>
+    requires group { group < total_groups curves.now }
+    requires rises { Rises (total_at curves.now group) (total_slots curves.now) }
     requires some_step { 1 ≤ step.0 }
     requires short_step { step.0 ≤ 60000 }
     ensures time { option_map (λ time. time.0) result
-        ≡ first_moment (total_of curves.now group) step.0 (slots_of curves.now) count }
-    ensures none { (result ≡ None) ↔ (total_of curves.now group (slots_of curves.now) < count) }
+        ≡ first_moment (total_at curves.now group) step.0 (total_slots curves.now) count }
+    ensures none { (result ≡ None) ↔ (total_at curves.now group (total_slots curves.now) < count) }
 {
     if curves.total(group, curves.slots()) < count {
         return None;

@@ -1,16 +1,16 @@
 //! The time that all vehicles spend.
 ghost use Rattle.std.specs.Prelude.{◌≡◌, ℕ};
-ghost use Rattle.ltm_curve.specs.Table.{counts_of};
+ghost use Rattle.ltm_curve.specs.Counts.{Counts};
 ghost use Rattle.ltm_loading.specs.Setting.{Setting};
-ghost use Rattle.ltm_flows.specs.Shown.{curves_of, Shows};
+ghost use Rattle.ltm_flows.specs.Shown.{ShowsCounts};
 ghost use Rattle.ltm_times.specs.Times.{time_spent};
 
 use ltm_flows::Loading;
 
 /// The time that all vehicles spend on their way or at their origins, in units times milliseconds.
 pub fn time_spent(loading: &Loading) -> u128
-    ensures { (s : Setting) (version : ℕ) → Shows s version loading.now
-        → result ≡ time_spent s (counts_of (curves_of loading.now)) }
+    ensures { (s : Setting) (version : ℕ) (c : Counts) → ShowsCounts s version c loading.now
+        → result ≡ time_spent s c }
 {
     let mut sum = 0u128;
     for slot in 0..loading.slots() {

@@ -13,5 +13,5 @@ returns-else-uncounted_if_sent-clause-working c =
     working_idle s c.args.curves.now c.args.pair.slot u c.requires.working
     (idle_meets s counts u c.args.pair.slot c.inputs_by_place.ensures c.counts_by_place.ensures c.nothing_moves.ensures c.requires.setting c.requires.node (c.uncounted_if_sent.ensures.idle.0 c.if-uncounted_if_sent.false) (λ g d of m. c.requires.working.carried u g d (omega arith) c.requires.node of m))
 
-pub write_pair-requires-clause-reads : goal.write_pair-requires-clause-reads
-write_pair-requires-clause-reads c = c.uncounted_if_sent.ensures.inputs c.if-uncounted_if_sent.true
+pub move_pair-requires-clause-reads : goal.move_pair-requires-clause-reads
+move_pair-requires-clause-reads c = c.uncounted_if_sent.ensures.inputs c.if-uncounted_if_sent.true

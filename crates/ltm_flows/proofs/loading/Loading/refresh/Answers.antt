@@ -1,10 +1,11 @@
-use Rattle.std.proofs.Common.{◌∙◌, ap, sym, subst, length, arith}
+use Rattle.std.proofs.Common.{◌∙◌, ap, length, arith}
 use Rattle.std.proofs.lemmas.List.{with_items_is}
-use Rattle.ltm_curve.specs.Counts.{Counts}
-use Rattle.ltm_loading.specs.Loading.{IsLoading}
 use Rattle.ltm_setting.specs.Setting.{setting_of}
-use Rattle.ltm_flows.proofs.Showing.{all_small, all_rise}
+use Rattle.ltm_flows.proofs.Showing.{all_narrow, all_rise}
 use Rattle.ltm_flows.proofs.loading.Loading.refresh.Goals as goal
+
+pub copy_changed-requires-clause-small : goal.copy_changed-requires-clause-small
+copy_changed-requires-clause-small c = all_narrow (setting_of c.args.scenario.now) c.args.curves.now c.totals_small.ensures c.is_setting.ensures.setting c.requires.shape c.requires.loading
 
 pub invariant_of-self-clause-times : goal.invariant_of-self-clause-times
 invariant_of-self-clause-times c =
@@ -18,25 +19,11 @@ invariant_of-self-clause-amounts c =
       ap length (with_items_is c.args.self.now.generated c.renew_generated.new.into (c.renew_generated.auto.into ∙ c.deref_mut-2.ensures.len)),
       c.renew_generated.auto.into ∙ ap length c.deref_mut-2.ensures.value,
       c.args.self.now.amounts,
-      c.copy_changed.ensures.same.shape.slots,
+      c.copy_changed.ensures.shape.same_slots,
       c.requires.shape.same_slots,
       c.requires.fits.room,
     )
 
-pub invariant_of-self-clause-small : goal.invariant_of-self-clause-small
-invariant_of-self-clause-small c =
-    all_small (setting_of c.args.scenario.now) c.copy_changed.new.self c.counts_small.ensures c.is_setting.ensures.setting (record {
-      same_groups = c.copy_changed.ensures.same.shape.groups ∙ c.requires.shape.same_groups;
-      same_destinations = c.copy_changed.ensures.same.shape.destinations ∙ c.requires.shape.same_destinations;
-      same_slots = c.copy_changed.ensures.same.shape.slots ∙ c.requires.shape.same_slots;
-    })
-    (subst (λ (z : Counts). IsLoading (setting_of c.args.scenario.now) z) (sym c.copy_changed.ensures.all) c.requires.loading)
-
 pub invariant_of-self-clause-rises : goal.invariant_of-self-clause-rises
 invariant_of-self-clause-rises c =
-    all_rise (setting_of c.args.scenario.now) c.copy_changed.new.self c.never_fall.ensures c.is_setting.ensures.setting (record {
-      same_groups = c.copy_changed.ensures.same.shape.groups ∙ c.requires.shape.same_groups;
-      same_destinations = c.copy_changed.ensures.same.shape.destinations ∙ c.requires.shape.same_destinations;
-      same_slots = c.copy_changed.ensures.same.shape.slots ∙ c.requires.shape.same_slots;
-    })
-    (subst (λ (z : Counts). IsLoading (setting_of c.args.scenario.now) z) (sym c.copy_changed.ensures.all) c.requires.loading)
+    all_rise (setting_of c.args.scenario.now) c.args.curves.now c.copy_changed.new.self c.never_fall.ensures c.is_setting.ensures.setting c.requires.shape c.requires.loading c.copy_changed.ensures

@@ -5,7 +5,7 @@ use Rattle.ltm_node.specs.declared.shape.NodeShape.{NodeShape}
 use Rattle.ltm_setting.specs.Setting.{setting_of}
 use Rattle.ltm_loading.specs.Pairs.{arms_of}
 use Rattle.ltm_inputs.proofs.Lists.{zeros_joined}
-use Rattle.ltm_inputs.proofs.inputs.put_uncounted.Goals as goal
+use Rattle.ltm_inputs.proofs.row.put_uncounted.Goals as goal
 
 pub returns : goal.returns
 returns c =

@@ -8,12 +8,12 @@ use Rattle.ltm_loading.specs.Uncounted.{moved_on, outputs_at}
 use Rattle.ltm_setting.specs.Setting.{setting_of}
 use Rattle.ltm_flows.proofs.Steps.{none_moves_in, kept_row}
 use Rattle.ltm_flows.proofs.Progress.{working_next}
-use Rattle.ltm_flows.proofs.cold_loading.write_pair.Goals as goal
+use Rattle.ltm_flows.proofs.cold_loading.move_pair.Goals as goal
 
 pub write_step-requires-clause-room : goal.write_step-requires-clause-room
 write_step-requires-clause-room c =
     let u = c.args.pair.node.0 in
-    omega (arith, c.requires.outputs u c.requires.node, ap counts_width c.requires.reads.shape)
+    omega (arith, c.requires.room u c.requires.node, ap counts_width c.requires.reads.shape)
 
 pub add_moves-requires-clause-moves : goal.add_moves-requires-clause-moves
 add_moves-requires-clause-moves c = (c.same_shape.ensures _ _ c.write_step.ensures.step).0 ∙ c.requires.reads.shape
@@ -55,3 +55,6 @@ returns-clause-working c =
     let applies = subst (λ (z : List ℕ). Applies s u (t + 1) z counts (counts_of c.add_moves.new.curves)) row c.add_moves.ensures.applies in
     working_next s c.args.curves.now c.add_moves.new.curves t u (pair_inputs s counts u t) (outputs_at s u (moved_on s counts u t moves)) c.next_pair.ensures c.set_by_one_pair.ensures c.requires.setting c.requires.slot c.requires.node c.requires.working
     (record { shape = refl; row = refl }) (c.step_by_moves.ensures s counts u t _ _ c.requires.reads c.write_step.ensures.step) c.add_moves.ensures.shape applies
+
+pub returns-clause-stays : goal.returns-clause-stays
+returns-clause-stays c g d k x m l = c.add_moves.ensures.applies.later g d k x m (omega (arith, l, c.requires.slot)) (λ e. absurd (omega (arith, e, l)))

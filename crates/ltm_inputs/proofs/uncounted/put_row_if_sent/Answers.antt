@@ -1,7 +1,7 @@
 use Rattle.ltm_curve.specs.Table.{counts_of}
 use Rattle.ltm_setting.specs.Setting.{setting_of}
 use Rattle.ltm_inputs.proofs.Idle.{idle_of_zeros, zeros_of_idle}
-use Rattle.ltm_inputs.proofs.inputs.put_row_if_sent.Goals as goal
+use Rattle.ltm_inputs.proofs.uncounted.put_row_if_sent.Goals as goal
 
 pub returns-then-sent-clause-idle : goal.returns-then-sent-clause-idle
 returns-then-sent-clause-idle c =

@@ -6,7 +6,7 @@ use Rattle.ltm_node.specs.Lending.{with_numbers}
 use Rattle.ltm_setting.specs.Setting.{setting_of}
 use Rattle.ltm_loading.specs.Uncounted.{IsUncountedPair}
 use Rattle.ltm_inputs.proofs.Whole.{written_uncounted}
-use Rattle.ltm_inputs.proofs.inputs.uncounted_if_sent.Goals as goal
+use Rattle.ltm_inputs.proofs.uncounted.uncounted_if_sent.Goals as goal
 
 pub returns : goal.returns
 returns c =

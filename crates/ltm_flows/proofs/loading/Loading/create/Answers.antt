@@ -1,0 +1,19 @@
+use Rattle.std.proofs.Common.{◌∙◌, sym, arith}
+use Rattle.ltm_setting.specs.Setting.{setting_of}
+use Rattle.ltm_flows.proofs.Showing.{all_narrow, all_rise}
+use Rattle.ltm_flows.proofs.loading.Loading.create.Goals as goal
+
+pub of-requires-clause-small : goal.of-requires-clause-small
+of-requires-clause-small c = all_narrow (setting_of c.args.scenario.now) c.args.curves.now c.totals_small.ensures c.is_setting.ensures.setting c.requires.shape c.requires.loading
+
+pub invariant_of-result : goal.invariant_of-result
+invariant_of-result c = record {
+  some_step = c.step.ensures.some;
+  short_step = c.step.ensures.small;
+  few_links = c.link_count.ensures.few;
+  few_nodes = c.node_count.ensures.few;
+  groups = omega (arith, c.in_ok-curves.ensures.shape.same_groups, c.requires.shape.same_groups, c.link_count.ensures.value, c.node_count.ensures.value);
+  times = c.in_ok-free.ensures.count ∙ sym c.link_count.ensures.value;
+  amounts = omega (arith, c.in_ok-generated.ensures.count, c.in_ok-curves.ensures.shape.same_slots, c.requires.shape.same_slots);
+  rises = all_rise (setting_of c.args.scenario.now) c.args.curves.now _ c.never_fall.ensures c.is_setting.ensures.setting c.requires.shape c.requires.loading c.in_ok-curves.ensures;
+}

@@ -1,0 +1,27 @@
+use Rattle.std.proofs.Common.{List, ◌≤◌, ◌∙◌, length, take, ap, refl, arith}
+use Rattle.ltm_curve.specs.Table.{counts_of}
+use Rattle.ltm_node.specs.declared.shape.NodeShape.{NodeShape}
+use Rattle.ltm_node.specs.Shape.{width}
+use Rattle.ltm_node.specs.Lending.{with_numbers}
+use Rattle.ltm_setting.specs.Setting.{setting_of}
+use Rattle.ltm_loading.specs.Uncounted.{IsUncountedPair}
+use Rattle.ltm_inputs.proofs.Whole.{written_uncounted}
+use Rattle.ltm_inputs.proofs.uncounted.uncounted_of.Goals as goal
+
+pub returns : goal.returns
+returns c =
+    let s = setting_of c.args.scenario.now in
+    let counts = counts_of c.args.curves.now in
+    let u = c.args.pair.node.0 in
+    let t = c.args.pair.slot in
+    let room : List _ = c.put_uncounted_front.new.room in
+    let long : width c.reshape.new.self.shape ≤ length room = omega (arith, c.put_uncounted_front.auto.room, c.numbers_mut.ensures.room, c.numbers_mut.ensures.fits) in
+    let inputs : IsUncountedPair s counts u t (with_numbers c.reshape.new.self room) =
+    written_uncounted s counts u t c.reshape.new.self (with_numbers c.reshape.new.self room) room (c.reshape.ensures.shape ∙ c.shape_of-shape.ensures.shape) refl long
+    (ap (λ (z : NodeShape). take (width z) room) c.reshape.ensures.shape ∙ c.put_uncounted_front.ensures.row) in
+    record {
+      positions = c.put_uncounted_front.ensures.positions;
+      inputs = inputs;
+      room = c.reshape.ensures.room;
+      solvable = c.uncounted_in_range.ensures s counts t u (with_numbers c.reshape.new.self room) c.is_setting.ensures.setting c.requires.ready.front c.requires.ready.now c.requires.node inputs;
+    }

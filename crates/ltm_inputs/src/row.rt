@@ -1,0 +1,86 @@
+//! The blocks of a pair's row: its counts, its limits, and zeros in place of its counts.
+ghost use Rattle.std.specs.Prelude.{◌≡◌, ◌+◌, ◌*◌, ◌<◌, ◌≤◌, length};
+ghost use Rattle.ltm_curve.specs.Table.{counts_of};
+ghost use Rattle.ltm_node.specs.Shape.{width, counts_width, counts_begin};
+ghost use Rattle.ltm_loading.specs.Pairs.{shape_at, count_row};
+ghost use Rattle.ltm_setting.specs.Setting.{setting_of};
+ghost use Rattle.ltm_sending.specs.Front.{IsAtFront};
+ghost use Rattle.ltm_inputs.specs.Parts.{limit_parts, uncounted_parts};
+
+use crate::capacities::put_capacity;
+use crate::counts::{arrived, put_entered, put_left};
+use crate::sending::put_supply;
+use crate::weights::put_weights;
+use ltm_curve::Curves;
+use ltm_node::NodeShape;
+use ltm_scenario::Scenario;
+use ltm_units::Pair;
+
+/// Writes the numbers of a pair that stand behind all counts.
+#[inline]
+pub(crate) fn put_limits(
+    scenario: &Scenario,
+    curves: &Curves,
+    pair: Pair,
+    shape: NodeShape,
+    into: &mut [u64],
+)
+    requires node { pair.node.0 < (setting_of scenario.now).nodes }
+    requires ready { IsAtFront (setting_of scenario.now) curves.now pair.slot }
+    requires shape { shape ≡ shape_at (setting_of scenario.now) pair.node.0 }
+    requires few_arms { shape.arms ≤ 5 }
+    requires few_outs { shape.outs ≤ 4 }
+    requires room { length into.old ≡ shape.outs + (shape.arms + shape.destinations * shape.outs) }
+    ensures { into.new ≡ limit_parts (setting_of scenario.now) (counts_of curves.now) pair.node.0 pair.slot }
+{
+    let (supply, rest) = into.split_at_mut(shape.outs as usize);
+    let (capacity, weights) = rest.split_at_mut(shape.arms as usize);
+    put_supply(scenario, curves, pair, supply);
+    put_capacity(scenario, pair.node, capacity);
+    put_weights(scenario, pair, weights);
+}
+
+/// Writes what has been counted at the node of a pair by the beginning of the slot.
+pub(crate) fn put_counts(
+    scenario: &Scenario,
+    curves: &Curves,
+    pair: Pair,
+    shape: NodeShape,
+    into: &mut [u64],
+)
+    requires node { pair.node.0 < (setting_of scenario.now).nodes }
+    requires ready { IsAtFront (setting_of scenario.now) curves.now pair.slot }
+    requires shape { shape ≡ shape_at (setting_of scenario.now) pair.node.0 }
+    requires few_arms { shape.arms ≤ 5 }
+    requires few_destinations { shape.destinations ≤ 64 }
+    requires room { length into.old ≡ counts_width shape }
+    ensures { into.new ≡ count_row (setting_of scenario.now) (counts_of curves.now) pair.node.0 pair.slot }
+{
+    let (flows, come) = into.split_at_mut(shape.arrived_after_place());
+    let (left, entered) = flows.split_at_mut(shape.counts_begin());
+    put_left(scenario, curves, pair, left);
+    put_entered(scenario, curves, pair, entered);
+    come[0] = arrived(scenario, curves, pair);
+}
+
+/// Writes the numbers of a pair that stand behind what its arms send, with 0 for each count.
+pub(crate) fn put_uncounted(
+    scenario: &Scenario,
+    curves: &Curves,
+    pair: Pair,
+    shape: NodeShape,
+    into: &mut [u64],
+)
+    requires node { pair.node.0 < (setting_of scenario.now).nodes }
+    requires ready { IsAtFront (setting_of scenario.now) curves.now pair.slot }
+    requires shape { shape ≡ shape_at (setting_of scenario.now) pair.node.0 }
+    requires few_arms { shape.arms ≤ 5 }
+    requires few_outs { shape.outs ≤ 4 }
+    requires few_destinations { shape.destinations ≤ 64 }
+    requires room { counts_begin shape + length into.old ≡ width shape }
+    ensures { into.new ≡ uncounted_parts (setting_of scenario.now) (counts_of curves.now) pair.node.0 pair.slot }
+{
+    let (counts, limits) = into.split_at_mut(shape.counts_width());
+    counts.fill(0);
+    put_limits(scenario, curves, pair, shape, limits);
+}

@@ -1,0 +1,175 @@
+//! The inputs of a pair of node and slot with 0 for each count: what moves does not depend on the counts.
+ghost use Rattle.std.specs.Prelude.{◌≡◌, ◌<◌, ◌≤◌, ◌↔◌, length, take, IsTrue, IsFalse};
+ghost use Rattle.ltm_curve.specs.Table.{counts_of};
+ghost use Rattle.ltm_node.specs.Shape.{width};
+ghost use Rattle.ltm_node.specs.Solvable.{IsSolvable};
+ghost use Rattle.ltm_loading.specs.Pairs.{shape_at};
+ghost use Rattle.ltm_loading.specs.Uncounted.{uncounted_row, IsUncountedPair};
+ghost use Rattle.ltm_setting.specs.Setting.{setting_of};
+ghost use Rattle.ltm_sending.specs.Front.{IsAtFront};
+ghost use Rattle.ltm_inputs.specs.Idle.{IsIdle};
+ghost use Rattle.ltm_inputs.specs.Parts.{ArePositions};
+
+use crate::numbers::is_any_sent;
+use crate::row::put_uncounted;
+use crate::sending::{put_sending, put_sending_at};
+use crate::shapes::shape_of;
+use ltm_curve::Curves;
+use ltm_loading::uncounted_in_range;
+use ltm_node::{NodeInputs, NodeShape};
+use ltm_scenario::Scenario;
+use ltm_setting::is_setting;
+use ltm_units::Pair;
+
+/// Writes the row of a pair with 0 for each count, if any of its arms sends something; whether one does.
+fn put_row_if_sent(
+    scenario: &Scenario,
+    curves: &Curves,
+    pair: Pair,
+    shape: NodeShape,
+    row: &mut [u64],
+) -> bool
+    requires node { pair.node.0 < (setting_of scenario.now).nodes }
+    requires ready { IsAtFront (setting_of scenario.now) curves.now pair.slot }
+    requires shape { shape ≡ shape_at (setting_of scenario.now) pair.node.0 }
+    requires few_arms { shape.arms ≤ 5 }
+    requires few_outs { shape.outs ≤ 4 }
+    requires few_destinations { shape.destinations ≤ 64 }
+    requires room { length row.old ≡ width shape }
+    ensures row { IsTrue result → row.new ≡ uncounted_row (setting_of scenario.now) (counts_of curves.now) pair.node.0 pair.slot }
+    ensures idle { IsFalse result ↔ IsIdle (setting_of scenario.now) (counts_of curves.now) pair.node.0 pair.slot }
+{
+    let (sending, others) = row.split_at_mut(shape.counts_begin());
+    put_sending(scenario, curves, pair, sending);
+    let sent = is_any_sent(sending);
+    if sent {
+        put_uncounted(scenario, curves, pair, shape, others);
+    }
+    sent
+}
+
+/// Writes the row of a pair with 0 for each count at the front of a room, if any of its arms sends something; whether one
+/// does.
+#[inline]
+fn put_front_if_sent(
+    scenario: &Scenario,
+    curves: &Curves,
+    pair: Pair,
+    shape: NodeShape,
+    room: &mut [u64],
+) -> bool
+    requires node { pair.node.0 < (setting_of scenario.now).nodes }
+    requires ready { IsAtFront (setting_of scenario.now) curves.now pair.slot }
+    requires shape { shape ≡ shape_at (setting_of scenario.now) pair.node.0 }
+    requires few_arms { shape.arms ≤ 5 }
+    requires few_outs { shape.outs ≤ 4 }
+    requires few_destinations { shape.destinations ≤ 64 }
+    requires room { width shape ≤ length room.old }
+    ensures row { IsTrue result → take (width shape) room.new ≡ uncounted_row (setting_of scenario.now) (counts_of curves.now) pair.node.0 pair.slot }
+    ensures idle { IsFalse result ↔ IsIdle (setting_of scenario.now) (counts_of curves.now) pair.node.0 pair.slot }
+{
+    let row = &mut room[..shape.width()];
+    put_row_if_sent(scenario, curves, pair, shape, row)
+}
+
+/// Reads the inputs of a pair of node and slot at the front of a loading with 0 for each count, if any of its arms sends
+/// something; whether one does. The node step of these inputs is what moves, whatever has been counted, so a loading adds it
+/// to counts that it need not read. The counts of a pair whose arms send nothing stay as they are: the numbers of the row
+/// are not told then. Takes no memory.
+pub fn uncounted_if_sent(
+    scenario: &Scenario,
+    curves: &Curves,
+    pair: Pair,
+    into: &mut NodeInputs,
+) -> bool
+    requires node { pair.node.0 < (setting_of scenario.now).nodes }
+    requires ready { IsAtFront (setting_of scenario.now) curves.now pair.slot }
+    requires room { width (shape_at (setting_of scenario.now) pair.node.0) ≤ into.old.room }
+    ensures inputs { IsTrue result → IsUncountedPair (setting_of scenario.now) (counts_of curves.now) pair.node.0 pair.slot into.new }
+    ensures solvable { IsTrue result → IsSolvable into.new }
+    ensures idle { IsFalse result ↔ IsIdle (setting_of scenario.now) (counts_of curves.now) pair.node.0 pair.slot }
+    ensures room { into.new.room ≡ into.old.room }
+{
+    is_setting(scenario);
+    uncounted_in_range();
+    let shape = shape_of(scenario, pair.node);
+    into.reshape(shape);
+    put_front_if_sent(scenario, curves, pair, shape, into.numbers_mut())
+}
+
+/// Writes the row of a pair with 0 for each count, and its positions.
+fn put_uncounted_row(
+    scenario: &Scenario,
+    curves: &Curves,
+    pair: Pair,
+    shape: NodeShape,
+    row: &mut [u64],
+    positions: &mut [u32],
+)
+    requires node { pair.node.0 < (setting_of scenario.now).nodes }
+    requires ready { IsAtFront (setting_of scenario.now) curves.now pair.slot }
+    requires shape { shape ≡ shape_at (setting_of scenario.now) pair.node.0 }
+    requires few_arms { shape.arms ≤ 5 }
+    requires few_outs { shape.outs ≤ 4 }
+    requires few_destinations { shape.destinations ≤ 64 }
+    requires room { length row.old ≡ width shape }
+    requires places { (setting_of scenario.now).ins pair.node.0 ≤ length positions.old }
+    ensures row { row.new ≡ uncounted_row (setting_of scenario.now) (counts_of curves.now) pair.node.0 pair.slot }
+    ensures positions { ArePositions (setting_of scenario.now) (counts_of curves.now) pair.node.0 pair.slot positions.new }
+{
+    let (sending, others) = row.split_at_mut(shape.counts_begin());
+    put_sending_at(scenario, curves, pair, sending, positions);
+    put_uncounted(scenario, curves, pair, shape, others);
+}
+
+/// Writes the row of a pair with 0 for each count at the front of a room, and its positions.
+#[inline]
+fn put_uncounted_front(
+    scenario: &Scenario,
+    curves: &Curves,
+    pair: Pair,
+    shape: NodeShape,
+    room: &mut [u64],
+    positions: &mut [u32],
+)
+    requires node { pair.node.0 < (setting_of scenario.now).nodes }
+    requires ready { IsAtFront (setting_of scenario.now) curves.now pair.slot }
+    requires shape { shape ≡ shape_at (setting_of scenario.now) pair.node.0 }
+    requires few_arms { shape.arms ≤ 5 }
+    requires few_outs { shape.outs ≤ 4 }
+    requires few_destinations { shape.destinations ≤ 64 }
+    requires room { width shape ≤ length room.old }
+    requires places { (setting_of scenario.now).ins pair.node.0 ≤ length positions.old }
+    ensures row { take (width shape) room.new ≡ uncounted_row (setting_of scenario.now) (counts_of curves.now) pair.node.0 pair.slot }
+    ensures positions { ArePositions (setting_of scenario.now) (counts_of curves.now) pair.node.0 pair.slot positions.new }
+{
+    let row = &mut room[..shape.width()];
+    put_uncounted_row(scenario, curves, pair, shape, row, positions);
+}
+
+/// Reads the inputs of a pair of node and slot at the front of a loading with 0 for each count, and the positions, as
+/// `inputs_of` gives them. The node step of these inputs is what moves, whatever has been counted. Takes no memory.
+///
+/// The room that the inputs of any pair need is told by `widest`; a node has at most four in-links.
+pub fn uncounted_of(
+    scenario: &Scenario,
+    curves: &Curves,
+    pair: Pair,
+    into: &mut NodeInputs,
+    positions: &mut [u32],
+)
+    requires node { pair.node.0 < (setting_of scenario.now).nodes }
+    requires ready { IsAtFront (setting_of scenario.now) curves.now pair.slot }
+    requires room { width (shape_at (setting_of scenario.now) pair.node.0) ≤ into.old.room }
+    requires places { (setting_of scenario.now).ins pair.node.0 ≤ length positions.old }
+    ensures positions { ArePositions (setting_of scenario.now) (counts_of curves.now) pair.node.0 pair.slot positions.new }
+    ensures inputs { IsUncountedPair (setting_of scenario.now) (counts_of curves.now) pair.node.0 pair.slot into.new }
+    ensures room { into.new.room ≡ into.old.room }
+    ensures solvable { IsSolvable into.new }
+{
+    is_setting(scenario);
+    uncounted_in_range();
+    let shape = shape_of(scenario, pair.node);
+    into.reshape(shape);
+    put_uncounted_front(scenario, curves, pair, shape, into.numbers_mut(), positions);
+}
