@@ -4,10 +4,11 @@ use Rattle.ltm_scenario.specs.Data.{ScenarioData}
 use Rattle.ltm_scenario.specs.IsScenario.{IsScenario}
 use Rattle.ltm_scenario.specs.declared.edit.Edit.{Edit}
 use Rattle.ltm_scenario.specs.Valid.{IsValid}
-use Rattle.ltm_curve.specs.Table.{counts_of}
+use Rattle.ltm_units.proofs.Sums.{sum_below-same}
+use Rattle.ltm_curve.specs.TotalCurves.{total_at}
 use Rattle.ltm_loading.specs.Setting.{Setting, IsSetting}
-use Rattle.ltm_loading.specs.Groups.{groups}
 use Rattle.ltm_loading.specs.Loading.{IsLoading}
+use Rattle.ltm_loading.specs.LoadingTotals.{HaveTotals}
 use Rattle.ltm_loading.specs.LoadingLaws.{OneLoading}
 use Rattle.ltm_setting.specs.Setting.{setting_of}
 use Rattle.ltm_flows.specs.declared.loading.Loading.{Loading}
@@ -49,7 +50,7 @@ opening_of : OneLoading → (s : ScenarioData) (t : Table) (l : Loading) → IsS
     now (repair_of (begun s t l)) ≡ setting_of s → IsOpening (repair_of (begun s t l))
 unfolding repair_of version_now settled_of
 opening_of law s t l is o shows at =
-    let P : Setting → Type 0 = λ z. (g e k : ℕ) → g < groups z → e < z.destinations → k ≤ z.slots → counts_of (curves_of l) g e k ≡ (desk_at (setting_of s) t).counts g e k in
+    let P : Setting → Type 0 = λ z. HaveTotals z (desk_at (setting_of s) t).counts (total_at (curves_of l)) in
     let Q : Setting → Type 0 = λ z. (u v : ℕ) → u < z.nodes → v < z.slots → IsSettled z (desk_at (setting_of s) t) u v in
     record {
       rest = record {
@@ -58,11 +59,12 @@ opening_of law s t l is o shows at =
         kept = subst Q (sym at) o.kept;
         idle = o.idle;
       };
-      shows = subst (λ (z : Setting). IsLoading z (counts_of (curves_of l))) (sym at) shows.loading;
-      agree = subst P (sym at) (λ g e k x m low. law (setting_of s) (counts_of (curves_of l)) (desk_at (setting_of s) t).counts is shows.loading o.loading g e k x m low);
+      shows = subst P (sym at) (λ g k x low.
+          shows.1.totals g k x low
+          ∙ sum_below-same (setting_of s).destinations (λ e. shows.0 g e k) (λ e. (desk_at (setting_of s) t).counts g e k) (λ e m. law (setting_of s) shows.0 (desk_at (setting_of s) t).counts is shows.1.loading o.loading g e k x m low));
       accepted = refl;
       settled = refl;
-      shown_at = shows.version;
+      shown_at = shows.1.version;
       commits = refl;
       none_changed = o.none_changed;
     }
@@ -80,7 +82,7 @@ shows_begun : (s : ScenarioData) (l : Loading) → Shows (setting_of s) 0 l → 
 shows_begun s l shows =
     let at : setting_at (first_log s) 0 ≡ setting_of s = ap setting_of (first_at s 0 (omega arith)) in
     let P : ℕ → Type 0 = λ n. Shows (setting_at (first_log s) n) n l in
-    subst P (sym shows.version) (subst (λ (z : Setting). Shows z 0 l) (sym at) shows)
+    subst P (sym shows.1.version) (subst (λ (z : Setting). Shows z 0 l) (sym at) shows)
 
 pub core_begins : RepairLaws → OneLoading → (s : ScenarioData) (t : Table) (l : Loading) → IsScenario s → IsValid s → IsSetting (setting_of s) → IsOpened (setting_of s) t → Shows (setting_of s) 0 l →
     last_of l ≤ loading_room l → IsCore (begun s t l)
@@ -91,7 +93,7 @@ core_begins laws law s t l scenario valid is o shows room = record {
   repair = laws.opening (repair_of (begun s t l)) (opening_of law s t l is o shows (now_begun s t l));
   ready = o.ready;
   shows = shows_begun s l shows;
-  room = omega (shows.shape.same_slots, room, arith);
+  room = omega (shows.1.shape.same_slots, room, arith);
 }
 
 rests_begun : (s : ScenarioData) (t : Table) (l : Loading) → IsOpened (setting_of s) t → IsResting (begun s t l)
@@ -106,7 +108,7 @@ pub core_begun : (s : ScenarioData) (t : Table) (l : Loading) → IsOpened (sett
 core_begun s t l o shows = record {
   log = refl;
   scenario = refl;
-  shown = shows.version;
+  shown = shows.1.version;
   commits = refl;
   running = refl;
   rest = rests_begun s t l o;

@@ -114,7 +114,7 @@ production_stays make d is leave k l =
     let now : IsAlike d.log.opening d.scenario =
     subst (λ (z : ScenarioData). IsAlike d.log.opening z) (last_scenario d.log ∙ is.scenario) (is.log.alike (version_now d.log) (omega arith)) in
     let within : k ≤ (setting_at d.log v).slots = omega (l, slots_is d.scenario, slots_is (scenario_at d.log v), since.slots, arith) in
-    is.shows.generated k within ∙ made_same (scenario_at d.log v) d.scenario (now.network ∙ sym was.network) (now.destinations ∙ sym was.destinations) since.rows k
+    is.shows.1.generated k within ∙ made_same (scenario_at d.log v) d.scenario (now.network ∙ sym was.network) (now.destinations ∙ sym was.destinations) since.rows k
 
 -- the same, said by what a core keeps
 yes : (b : Bool) → not b ≡ false → b ≡ true

@@ -3,12 +3,13 @@ use Rattle.std.proofs.Common.{◌≡◌, ℕ, ◌<◌, ◌≤◌, ◌∙◌, Lis
 use Rattle.std.proofs.lemmas.Bool.{cases_lt}
 use Rattle.std.specs.Prelude.{◌≢◌, Option, Some, None, Result, Ok, Err, ◌⊎◌}
 use Rattle.ltm_curve.specs.Counts.{Counts}
-use Rattle.ltm_curve.specs.Table.{counts_of}
+use Rattle.ltm_curve.specs.TotalCurves.{total_at}
 use Rattle.ltm_scenario.specs.declared.edit.Edit.{Edit}
 use Rattle.ltm_scenario.specs.declared.edit.EditFault.{EditFault}
 use Rattle.ltm_loading.specs.Setting.{Setting}
 use Rattle.ltm_loading.specs.Pairs.{pair_row}
 use Rattle.ltm_loading.specs.Loading.{IsLoading}
+use Rattle.ltm_loading.specs.LoadingTotals.{AreLoadingTotals}
 use Rattle.ltm_loading.specs.Differing.{sum_pairs, unlike, row_of, differing as how_many_differ}
 use Rattle.ltm_loading.proofs.PairSums.{le-sum_pairs, sum_pairs-same}
 use Rattle.ltm_loading.proofs.Unlike.{unlike_cases, row_of_new}
@@ -130,7 +131,7 @@ settled_low : (d : CoreData) → IsCore d → settled_of d.log ≤ version_now d
 unfolding repair_of
 settled_low d is = let a = is.repair.shows.settled_first in let b = is.repair.shows.accepted_last in omega (a, b, arith)
 
-shows_all : ShownIsLoading → (d : CoreData) → IsCore d → version_of d.shown ≡ version_now d.log → IsResting d × IsLoading (now (repair_of d)) (counts_of (curves_of d.shown))
+shows_all : ShownIsLoading → (d : CoreData) → IsCore d → version_of d.shown ≡ version_now d.log → IsResting d × AreLoadingTotals (now (repair_of d)) (total_at (curves_of d.shown))
 unfolding repair_of IsResting
 shows_all law d is at = let both = (law (repair_of d) is.repair).up_to_date at in (both.1, both.0)
 
@@ -177,7 +178,7 @@ core_holds rest shown d is = record {
   rest = λ r. subst (λ (s : Setting). IsLoading s (repair_of d).desk.counts) (core_now d is) (rest (repair_of d) is.repair (rests d r));
   up_to_date = λ at.
       let both = shows_all shown d is at in
-      (both.0, subst (λ (s : Setting). IsLoading s (counts_of (curves_of d.shown))) (core_now d is) both.1);
+      (both.0, subst (λ (s : Setting). AreLoadingTotals s (total_at (curves_of d.shown))) (core_now d is) both.1);
   uncounted = left_since d is;
 }
 

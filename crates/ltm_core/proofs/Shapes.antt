@@ -33,10 +33,9 @@ same_sizes a b network destinations = record {
 -- a loading has the sizes of every setting of those sizes, whose horizon is no shorter and for which there is room
 pub shown_fits : (r s : Setting) (v : ℕ) (l : Loading) → SameSizes r s → r.slots ≤ s.slots → Shows r v l → s.slots ≤ loading_room l → Fits s l
 shown_fits r s v l same longer shows room = record {
-  groups = shows.shape.same_groups ∙ sym same.groups;
-  destinations = shows.shape.same_destinations ∙ sym same.destinations;
-  slots = omega (longer, shows.shape.same_slots, arith);
+  groups = shows.1.shape.same_groups ∙ sym same.groups;
+  slots = omega (longer, shows.1.shape.same_slots, arith);
   room = room;
-  links = shows.links ∙ sym same.links;
-  nodes = shows.nodes ∙ sym same.nodes;
+  links = shows.1.links ∙ sym same.links;
+  nodes = shows.1.nodes ∙ sym same.nodes;
 }

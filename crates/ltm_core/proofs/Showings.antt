@@ -2,19 +2,21 @@
 use Rattle.std.proofs.Common.{◌≡◌, ℕ, ◌+◌, ◌-◌, ◌<◌, ◌≤◌, Bool, false, if◌then◌else◌, refl, ap, sym, subst, ◌∙◌, arith}
 use Rattle.ltm_units.specs.Sums.{sum_below}
 use Rattle.ltm_units.proofs.Sums.{sum_below-zero}
+use Rattle.ltm_curve.specs.Counts.{Counts, total}
 use Rattle.ltm_curve.specs.declared.curves.Curves.{Curves}
 use Rattle.ltm_curve.specs.declared.changed.Changed.{Changed}
-use Rattle.ltm_curve.specs.Table.{counts_of, IsIn}
+use Rattle.ltm_curve.specs.Table.{groups_of, slots_of, counts_of, total_of}
+use Rattle.ltm_curve.specs.TotalCurves.{total_at}
 use Rattle.ltm_loading.specs.Shaped.{IsShaped}
 use Rattle.ltm_curve.specs.Cells.{is_changed}
 use Rattle.ltm_loading.specs.Setting.{Setting}
 use Rattle.ltm_loading.specs.Groups.{groups}
-use Rattle.ltm_loading.specs.Loading.{IsLoading}
+use Rattle.ltm_loading.specs.LoadingTotals.{HaveTotals, AreLoadingTotals}
 use Rattle.ltm_scenario.specs.Data.{ScenarioData}
 use Rattle.ltm_scenario.specs.IsScenario.{IsScenario}
 use Rattle.ltm_setting.specs.Setting.{setting_of}
 use Rattle.ltm_flows.specs.declared.loading.Loading.{Loading}
-use Rattle.ltm_flows.specs.Shown.{Shows, Fits, AgreesOutside, version_of, curves_of, last_of, loading_room}
+use Rattle.ltm_flows.specs.Shown.{ShowsCounts, Shows, Fits, AgreesOutside, version_of, curves_of, last_of, loading_room}
 use Rattle.ltm_repair.specs.Desk.{IsAtRest}
 use Rattle.ltm_repair.specs.State.{RepairState, now, all_differences, IsSettleCount as IsCountOf}
 use Rattle.ltm_repair.specs.Repair.{IsRepair}
@@ -34,14 +36,13 @@ use Rattle.ltm_core.proofs.Shapes.{SameSizes, same_sizes, shown_fits as fits_of}
 use Rattle.ltm_core.proofs.Cores.{core_now, after_event, rests_there}
 
 -- ---- publishing
--- what publishing makes of table and loading: the cells are cleared, and the working counts are shown
+-- what publishing makes of table and loading: the cells are cleared, and what is shown is of the working counts
 pub record ShowsTable (s : Setting) (version : ℕ) (old new : Table) (l : Loading) : Type 0 where
   pub desk : desk_at s new ≡ desk_at s old
   pub ready : IsReady s new
   pub cleared : (g k : ℕ) → changed_at s new g k ≡ false
-  pub shows : Shows s version l
+  pub shows : ShowsCounts s version (desk_at s old).counts l
   pub room : s.slots ≤ loading_room l
-  pub counts : (g e k : ℕ) → g < groups s → e < s.destinations → k ≤ s.slots → counts_of (curves_of l) g e k ≡ (desk_at s old).counts g e k
 
 abbrev pub after_publish : CoreData → Table → Loading → CoreData
 after_publish d t l = record d { table = t; shown = l }
@@ -52,8 +53,8 @@ unfolding repair_of
 shown_of d t l at rest step =
     let s : Setting = setting_of d.scenario in
     let P : Setting → Type 0 = λ z. IsAtRest z (desk_in d) in
-    let Q : Setting → Type 0 = λ z. IsLoading z (counts_of (curves_of l)) in
-    let R : Setting → Type 0 = λ z. (g e k : ℕ) → g < groups z → e < z.destinations → k ≤ z.slots → counts_of (curves_of l) g e k ≡ (desk_in d).counts g e k in
+    let Q : Setting → Type 0 = λ z. AreLoadingTotals z (total_at (curves_of l)) in
+    let R : Setting → Type 0 = λ z. HaveTotals z (desk_in d).counts (total_at (curves_of l)) in
     record {
       rest = subst P (sym at) rest;
       desk = step.desk;
@@ -61,8 +62,8 @@ shown_of d t l at rest step =
       accepted = refl;
       settled = refl;
       shown_at = step.shows.version;
-      shows = subst Q (sym at) step.shows.loading;
-      agree = subst R (sym at) step.counts;
+      shows = subst Q (sym at) (record { counts = (desk_in d).counts; loading = step.shows.loading; sums = step.shows.totals });
+      agree = subst R (sym at) step.shows.totals;
       commits = refl;
       none_changed = step.cleared;
     }
@@ -75,7 +76,7 @@ shows_last : (d : CoreData) (l : Loading) → IsCore d → Shows (setting_of d.s
 shows_last d l is shows =
     let P : Setting → Type 0 = λ z. Shows z (version_now d.log) l in
     let Q : ℕ → Type 0 = λ n. Shows (setting_at d.log n) n l in
-    subst Q (sym shows.version) (subst P (sym (ap setting_of (last_scenario d.log ∙ is.scenario))) shows)
+    subst Q (sym shows.1.version) (subst P (sym (ap setting_of (last_scenario d.log ∙ is.scenario))) shows)
 
 pub core_after_publish : RepairLaws → (d : CoreData) (t : Table) (l : Loading) → IsCore d → IsAtRest (setting_of d.scenario) (desk_in d) →
     ShowsTable (setting_of d.scenario) (version_now d.log) d.table t l → IsCore (after_publish d t l)
@@ -85,7 +86,7 @@ core_after_publish laws d t l is rest step = record {
   valid = is.valid;
   repair = after_event laws.keeps (repair_of d) (repair_of (after_publish d t l)) Publish is.repair (core_publishes d t l is rest step);
   ready = step.ready;
-  shows = shows_last d l is step.shows;
+  shows = shows_last d l is ((desk_in d).counts, step.shows);
   room = step.room;
 }
 
@@ -235,7 +236,7 @@ core_shown d is =
 pub core_shown_at : (d v : CoreData) → d ≡ v → IsCore d → IsShownOf v.log v.shown
 core_shown_at d v same is = subst (λ (z : CoreData). IsShownOf z.log z.shown) same (core_shown d is)
 
--- ---- what is shown has the sizes of the present setting but for a longer horizon, and its counts but in the changed cells
+-- ---- what is shown has the sizes of the present setting but for a longer horizon, and its totals but in the changed cells
 shown_sizes : (d : CoreData) → IsCore d → SameSizes (setting_at d.log (version_of d.shown)) (setting_of d.scenario)
 shown_sizes d is =
     let was : IsAlike d.log.opening (scenario_at d.log (version_of d.shown)) = is.log.alike (version_of d.shown) (shown_low d is) in
@@ -252,24 +253,24 @@ shown_shorter d is = longer_here d (core_now d is) is.repair (version_of d.shown
 pub core_fits : (d : CoreData) → IsCore d → Fits (setting_of d.scenario) d.shown
 core_fits d is = fits_of (setting_at d.log (version_of d.shown)) (setting_of d.scenario) (version_of d.shown) d.shown (shown_sizes d is) (shown_shorter d is) is.shows is.room
 
-agrees_here : (d : CoreData) → now (repair_of d) ≡ setting_of d.scenario → IsRepair (repair_of d) → (g e k : ℕ) → g < groups (setting_of d.scenario) → e < (setting_of d.scenario).destinations →
-    changed_at (setting_of d.scenario) d.table g k ≡ false → k ≤ (setting_at d.log (version_of d.shown)).slots → counts_of (curves_of d.shown) g e k ≡ (desk_in d).counts g e k
+agrees_here : (d : CoreData) → now (repair_of d) ≡ setting_of d.scenario → IsRepair (repair_of d) → (g k : ℕ) → g < groups (setting_of d.scenario) →
+    changed_at (setting_of d.scenario) d.table g k ≡ false → k ≤ (setting_at d.log (version_of d.shown)).slots →
+    total_at (curves_of d.shown) g k ≡ total (setting_of d.scenario).destinations ((desk_in d).counts g) k
 unfolding repair_of
 agrees_here d at is =
-    let P : Setting → Type 0 = λ z. (g e k : ℕ) → g < groups z → e < z.destinations → changed_at (setting_of d.scenario) d.table g k ≡ false →
-    k ≤ (setting_at d.log (version_of d.shown)).slots → counts_of (curves_of d.shown) g e k ≡ (desk_in d).counts g e k in
+    let P : Setting → Type 0 = λ z. (g k : ℕ) → g < groups z → changed_at (setting_of d.scenario) d.table g k ≡ false →
+    k ≤ (setting_at d.log (version_of d.shown)).slots → total_at (curves_of d.shown) g k ≡ total z.destinations ((desk_in d).counts g) k in
     subst P at is.shows.agree
 
-agrees_in : (d : CoreData) (c : Curves) (x : Changed) → IsCore d → (desk_in d).counts ≡ counts_of c →
+agrees_in : (d : CoreData) (c : Curves) (x : Changed) → IsCore d → IsShaped (setting_of d.scenario) c → (desk_in d).counts ≡ counts_of c →
     ((g k : ℕ) → g < groups (setting_of d.scenario) → k ≤ (setting_of d.scenario).slots → is_changed x g k ≡ changed_at (setting_of d.scenario) d.table g k) →
-    (g e k : ℕ) → IsIn (curves_of d.shown) g e k → is_changed x g k ≡ false → counts_of (curves_of d.shown) g e k ≡ counts_of c g e k
-agrees_in d c x is same cells g e k inside off =
-    let fits : Fits (setting_of d.scenario) d.shown = core_fits d is in
-    let in_groups : g < groups (setting_of d.scenario) = omega (inside.is_group, fits.groups, arith) in
-    let in_destinations : e < (setting_of d.scenario).destinations = omega (inside.is_destination, fits.destinations, arith) in
-    let in_shown : k ≤ (setting_at d.log (version_of d.shown)).slots = omega (inside.is_boundary, is.shows.shape.same_slots, arith) in
+    (g k : ℕ) → g < groups_of c → k ≤ last_of d.shown → is_changed x g k ≡ false → total_at (curves_of d.shown) g k ≡ total_of c g k
+agrees_in d c x is shape same cells g k inside low off =
+    let in_groups : g < groups (setting_of d.scenario) = omega (inside, shape.same_groups, arith) in
+    let in_shown : k ≤ (setting_at d.log (version_of d.shown)).slots = omega (low, is.shows.1.shape.same_slots, arith) in
     let in_slots : k ≤ (setting_of d.scenario).slots = omega (in_shown, shown_shorter d is, arith) in
-    agrees_here d (core_now d is) is.repair g e k in_groups in_destinations (sym (cells g k in_groups in_slots) ∙ off) in_shown ∙ ap (λ (f : ℕ → ℕ → ℕ → ℕ). f g e k) same
+    agrees_here d (core_now d is) is.repair g k in_groups (sym (cells g k in_groups in_slots) ∙ off) in_shown
+    ∙ (ap (λ (f : Counts). total (setting_of d.scenario).destinations (f g) k) same ∙ ap (λ (n : ℕ). total n (counts_of c g) k) (sym shape.same_destinations))
 
 beyond_here : (d : CoreData) → now (repair_of d) ≡ setting_of d.scenario → IsRepair (repair_of d) → (g e k : ℕ) → g < groups (setting_of d.scenario) → e < (setting_of d.scenario).destinations →
     changed_at (setting_of d.scenario) d.table g k ≡ false → (setting_at d.log (version_of d.shown)).slots < k → k ≤ (setting_of d.scenario).slots → (desk_in d).counts g e k ≡ 0
@@ -281,17 +282,18 @@ beyond_here d at is =
 
 none_beyond : (d : CoreData) (c : Curves) (x : Changed) → IsCore d → IsShaped (setting_of d.scenario) c → (desk_in d).counts ≡ counts_of c →
     ((g k : ℕ) → g < groups (setting_of d.scenario) → k ≤ (setting_of d.scenario).slots → is_changed x g k ≡ changed_at (setting_of d.scenario) d.table g k) →
-    (g e k : ℕ) → IsIn c g e k → last_of d.shown < k → is_changed x g k ≡ false → counts_of c g e k ≡ 0
-none_beyond d c x is shape same cells g e k inside late off =
-    let in_groups : g < groups (setting_of d.scenario) = omega (inside.is_group, shape.same_groups, arith) in
-    let in_destinations : e < (setting_of d.scenario).destinations = omega (inside.is_destination, shape.same_destinations, arith) in
-    let in_slots : k ≤ (setting_of d.scenario).slots = omega (inside.is_boundary, shape.same_slots, arith) in
-    let past : (setting_at d.log (version_of d.shown)).slots < k = omega (late, is.shows.shape.same_slots, arith) in
-    sym (ap (λ (f : ℕ → ℕ → ℕ → ℕ). f g e k) same) ∙ beyond_here d (core_now d is) is.repair g e k in_groups in_destinations (sym (cells g k in_groups in_slots) ∙ off) past in_slots
+    (g k : ℕ) → g < groups_of c → k ≤ slots_of c → last_of d.shown < k → is_changed x g k ≡ false → total_of c g k ≡ 0
+none_beyond d c x is shape same cells g k inside high late off =
+    let in_groups : g < groups (setting_of d.scenario) = omega (inside, shape.same_groups, arith) in
+    let in_slots : k ≤ (setting_of d.scenario).slots = omega (high, shape.same_slots, arith) in
+    let past : (setting_at d.log (version_of d.shown)).slots < k = omega (late, is.shows.1.shape.same_slots, arith) in
+    sum_below-zero _ (λ e. counts_of c g e k) (λ e m.
+    let in_destinations : e < (setting_of d.scenario).destinations = omega (m, shape.same_destinations, arith) in
+    sym (ap (λ (f : Counts). f g e k) same) ∙ beyond_here d (core_now d is) is.repair g e k in_groups in_destinations (sym (cells g k in_groups in_slots) ∙ off) past in_slots)
 
 pub core_agrees : (d : CoreData) (c : Curves) (x : Changed) → IsCore d → IsShaped (setting_of d.scenario) c → (desk_in d).counts ≡ counts_of c →
     ((g k : ℕ) → g < groups (setting_of d.scenario) → k ≤ (setting_of d.scenario).slots → is_changed x g k ≡ changed_at (setting_of d.scenario) d.table g k) → AgreesOutside d.shown c x
-core_agrees d c x is shape same cells = record { agree = agrees_in d c x is same cells; beyond = none_beyond d c x is shape same cells }
+core_agrees d c x is shape same cells = record { agree = agrees_in d c x is shape same cells; beyond = none_beyond d c x is shape same cells }
 
 -- ---- settle counts that are exact
 pub settle_counts_are_exact : SettleCountsAreExact

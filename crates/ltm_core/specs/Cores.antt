@@ -1,6 +1,6 @@
 -- What contracts see of a core, and what holds of every core.
 use Rattle.std.specs.Prelude.{◌≡◌, ℕ, ◌<◌, ◌≤◌, ◌^◌, Bool, List}
-use Rattle.ltm_curve.specs.Table.{counts_of}
+use Rattle.ltm_curve.specs.TotalCurves.{total_at}
 use Rattle.ltm_curve.specs.Counts.{Counts}
 use Rattle.ltm_scenario.specs.declared.edit.Edit.{Edit}
 use Rattle.ltm_scenario.specs.Data.{ScenarioData}
@@ -55,7 +55,7 @@ repair_of d = record {
   accepted = version_now d.log;
   settled = settled_of d.log;
   shown_at = version_of d.shown;
-  shown = counts_of (curves_of d.shown);
+  shown = total_at (curves_of d.shown);
   commits = d.commits;
   changed = changed_at (setting_of d.scenario) d.table;
 }

@@ -1,12 +1,13 @@
 -- Runs of a core: its events one after another, in any order, by any number of owners.
 use Rattle.std.specs.Prelude.{◌≡◌, ◌≢◌, ◌↔◌, Bool, true, ℕ, ◌+◌, ◌*◌, ◌<◌, ◌≤◌, ◌⊎◌, List, [], ◌∷◌, Option, Some, None, Result, Ok, Err}
 use Rattle.ltm_curve.specs.Counts.{Counts}
-use Rattle.ltm_curve.specs.Table.{counts_of}
+use Rattle.ltm_curve.specs.TotalCurves.{total_at}
 use Rattle.ltm_scenario.specs.declared.edit.Edit.{Edit}
 use Rattle.ltm_scenario.specs.declared.edit.EditFault.{EditFault}
 use Rattle.ltm_loading.specs.Setting.{Setting}
 use Rattle.ltm_loading.specs.Pairs.{pair_row}
 use Rattle.ltm_loading.specs.Loading.{IsLoading}
+use Rattle.ltm_loading.specs.LoadingTotals.{AreLoadingTotals}
 use Rattle.ltm_loading.specs.Differing.{unlike, row_of, differing as how_many_differ}
 use Rattle.ltm_setting.specs.Setting.{setting_of}
 use Rattle.ltm_flows.specs.Shown.{version_of, curves_of}
@@ -120,8 +121,8 @@ pub record HoldsOfCore (d : CoreData) : Type 0 where
   pub core : IsCore d
   -- at rest the working counts are the loading of the scenario as it is now
   pub rest : IsResting d → IsLoading (setting_of d.scenario) (repair_of d).desk.counts
-  -- where all batches are shown, the core rests, and what is shown is the loading of the scenario as it is now
-  pub up_to_date : version_of d.shown ≡ version_now d.log → IsResting d × IsLoading (setting_of d.scenario) (counts_of (curves_of d.shown))
+  -- where all batches are shown, the core rests, and what is shown are the totals of the loading of the scenario as it is now
+  pub up_to_date : version_of d.shown ≡ version_now d.log → IsResting d × AreLoadingTotals (setting_of d.scenario) (total_at (curves_of d.shown))
   -- where no commit was made since the last settle count, the pairs with other inputs than the loading are those by which
   -- it differs from the loading of the last settle count
   pub uncounted : d.commits ≡ 0 → (before after : Counts) → IsLoading (setting_at d.log (settled_of d.log)) before → IsLoading (setting_in d) after →

@@ -1,11 +1,13 @@
 -- A pair is claimed and committed in one call.
 use Rattle.std.proofs.Common.{◌≡◌, ℕ, ◌<◌, ◌&&◌, ◌||◌, not, List, Bool, false, true, refl, ap, sym, ◌∙◌, subst, arith, inl, inr}
 use Rattle.std.proofs.lemmas.Bool.{cases_eq}
+use Rattle.ltm_curve.specs.Table.{counts_of}
 use Rattle.ltm_curve.specs.declared.curves.Curves.{Curves}
 use Rattle.ltm_curve.specs.declared.changed.Changed.{Changed}
 use Rattle.ltm_node.specs.Inputs.{Inputs}
 use Rattle.ltm_node.specs.Outputs.{Outputs}
 use Rattle.ltm_loading.specs.Setting.{Setting}
+use Rattle.ltm_loading.specs.Pairs.{pair_row, pair_inputs}
 use Rattle.ltm_frontier.specs.declared.frontier.Frontier.{Frontier}
 use Rattle.ltm_frontier.specs.Frontier.{nodes_of as nodes_in, is_claimed, is_pair, ClaimsPair, Activates, Releases}
 use Rattle.ltm_repair.specs.Answers.{DropsAtFront}
@@ -13,11 +15,14 @@ use Rattle.ltm_repair.specs.Desk.{Desk}
 use Rattle.ltm_repair.specs.Facts.{IsSound}
 use Rattle.ltm_repair.specs.Index.{IndexIsCurrent}
 use Rattle.ltm_repair.specs.Moves.{Commits}
+use Rattle.ltm_desk.specs.declared.claim_rows.ClaimRows.{ClaimRows}
+use Rattle.ltm_desk.specs.declared.layout.Part.TheVariants.{All}
 use Rattle.ltm_desk.specs.declared.rows.KeptRows.{KeptRows}
 use Rattle.ltm_desk.specs.declared.table.Table.{Table}
-use Rattle.ltm_desk.specs.Rows.{WritesRow}
+use Rattle.ltm_desk.specs.Layouts.{LiesAs}
+use Rattle.ltm_desk.specs.Claims.{WritesClaim}
 use Rattle.ltm_desk.specs.Desks.{desk_at, place_of, changed_at}
-use Rattle.ltm_desk.specs.Ready.{HasRows, ClaimsArePlaced, IsReady}
+use Rattle.ltm_desk.specs.Ready.{ClaimsArePlaced, IsReady}
 use Rattle.ltm_desk.specs.Searching.{IsFound}
 use Rattle.ltm_desk.specs.Committing.{readers, rewritten}
 use Rattle.ltm_desk.specs.Recomputing.{RecomputesPair}
@@ -31,18 +36,18 @@ use Rattle.ltm_desk.proofs.Committing.{commits_desk, commits_ready, commits_cell
 
 -- ---- the rows beside claims
 -- what is written beside a claim that is gone is nothing to the desk
-same_without : (s : Setting) (c : Table) (k : KeptRows) (u : ℕ) (row : List ℕ) → HasRows s true 1 k → WritesRow k c.claims u 0 row → ((y : ℕ) → is_claimed c.frontier u y ≡ false) →
+same_without : (s : Setting) (c : Table) (k : ClaimRows) (u : ℕ) (row : List ℕ) → LiesAs s All k.places → WritesClaim k c.claims u row → ((y : ℕ) → is_claimed c.frontier u y ≡ false) →
     desk_at s (record c { claims = k }) ≡ desk_at s c
 same_without s c k u row has writes off =
     let e : Table = record c { claims = k } in
     same_desk s c e refl refl (λ w y p q. refl) (λ w y p q. elim (cases_eq w u) [
-      | inr apart ↦ claim_same c e w y refl (sym (writes.others w 0 (omega (arith, p, has.nodes)) (omega (arith, has.same_slots)) (λ a b. apart (sym a))))
+      | inr apart ↦ claim_same c e w y refl (sym (writes.others w (omega (arith, p, has.nodes)) (λ a. apart (sym a))))
       | inl same ↦
           let none : is_claimed c.frontier w y ≡ false = subst (λ (z : ℕ). is_claimed c.frontier z y ≡ false) (sym same) (off y) in
           claim_off e w y none ∙ sym (claim_off c w y none)
     ])
 
-ready_without : (s : Setting) (c : Table) (k : KeptRows) → IsReady s c → HasRows s true 1 k → desk_at s (record c { claims = k }) ≡ desk_at s c → IsReady s (record c { claims = k })
+ready_without : (s : Setting) (c : Table) (k : ClaimRows) → IsReady s c → LiesAs s All k.places → desk_at s (record c { claims = k }) ≡ desk_at s c → IsReady s (record c { claims = k })
 ready_without s c k ready has same = record {
   fits = record {
     curves = ready.fits.curves;
@@ -74,31 +79,31 @@ freed s t u v n b m f woken y ready found marks wakes frees =
     ]
 
 -- ---- a pair that was found is claimed and committed
-abbrev pub between : Table → Frontier → KeptRows → Table
+abbrev pub between : Table → Frontier → ClaimRows → Table
 between t b r = record t { frontier = b; claims = r }
 
 -- it is marked as claimed and committed, with inputs beside the claim that are not written
-pub record SetsFound (s : Setting) (t : Table) (u v : ℕ) (n : Inputs) (o : Outputs) (h : Changed) (b m f : Frontier) (c : Curves) (k r : KeptRows) : Type 0 where
+pub record SetsFound (s : Setting) (t : Table) (u v : ℕ) (n : Inputs) (o : Outputs) (h : Changed) (b m f : Frontier) (c : Curves) (k : KeptRows) (r : ClaimRows) : Type 0 where
   pub ready : IsReady s t
   pub found : IsFound s t u v n
   pub marks : ClaimsPair t.frontier b u v
-  pub writes : WritesRow t.claims r u 0 n.row
-  pub commits : CommitsTable s (between t b r) u v n o t.index h m f c k
+  pub writes : WritesClaim t.claims r u (pair_row s (counts_of t.curves) u v)
+  pub commits : CommitsTable s (between t b r) u v (pair_inputs s (counts_of t.curves) u v) o t.index h m f c k
 
 abbrev pub recomputed : Table → Changed → Frontier → Curves → KeptRows → Table
 recomputed t h f c k = record { curves = c; kept = k; frontier = f; claims = t.claims; index = t.index; changed = h }
 
-same_after : (s : Setting) (t : Table) (u v : ℕ) (n : Inputs) (o : Outputs) (h : Changed) (b m f : Frontier) (c : Curves) (k r : KeptRows) → SetsFound s t u v n o h b m f c k r →
+same_after : (s : Setting) (t : Table) (u v : ℕ) (n : Inputs) (o : Outputs) (h : Changed) (b m f : Frontier) (c : Curves) (k : KeptRows) (r : ClaimRows) → SetsFound s t u v n o h b m f c k r →
     desk_at s (recomputed t h f c k) ≡ desk_at s (committed (between t b r) t.index h f c k)
 same_after s t u v n o h b m f c k r is =
-    same_without s (committed (between t b r) t.index h f c k) t.claims u n.row is.ready.fits.claims is.writes (λ y. freed s t u v n b m f _ y is.ready is.found is.marks is.commits.wakes is.commits.frees)
+    same_without s (committed (between t b r) t.index h f c k) t.claims u (pair_row s (counts_of t.curves) u v) is.ready.fits.claims is.writes (λ y. freed s t u v n b m f _ y is.ready is.found is.marks is.commits.wakes is.commits.frees)
 
-pub recomputed_ready : (s : Setting) (t : Table) (u v : ℕ) (n : Inputs) (o : Outputs) (h : Changed) (b m f : Frontier) (c : Curves) (k r : KeptRows) → SetsFound s t u v n o h b m f c k r → IsReady s (recomputed t h f c k)
+pub recomputed_ready : (s : Setting) (t : Table) (u v : ℕ) (n : Inputs) (o : Outputs) (h : Changed) (b m f : Frontier) (c : Curves) (k : KeptRows) (r : ClaimRows) → SetsFound s t u v n o h b m f c k r → IsReady s (recomputed t h f c k)
 recomputed_ready s t u v n o h b m f c k r is =
-    ready_without s (committed (between t b r) t.index h f c k) t.claims (commits_ready s (between t b r) u v n o t.index h m f c k is.commits) is.ready.fits.claims (same_after s t u v n o h b m f c k r is)
+    ready_without s (committed (between t b r) t.index h f c k) t.claims (commits_ready s (between t b r) u v (pair_inputs s (counts_of t.curves) u v) o t.index h m f c k is.commits) is.ready.fits.claims (same_after s t u v n o h b m f c k r is)
 
-pub recomputes_pair : (s : Setting) (t : Table) (u v : ℕ) (n : Inputs) (o : Outputs) (h : Changed) (b m f : Frontier) (c : Curves) (k r : KeptRows) → SetsFound s t u v n o h b m f c k r → (before : Table) →
-    DropsAtFront s (desk_at s before) (desk_at s t) → changed_at s t ≡ changed_at s before → RecomputesPair s before u v n.row (recomputed t h f c k)
+pub recomputes_pair : (s : Setting) (t : Table) (u v : ℕ) (n : Inputs) (o : Outputs) (h : Changed) (b m f : Frontier) (c : Curves) (k : KeptRows) (r : ClaimRows) → SetsFound s t u v n o h b m f c k r → (before : Table) →
+    DropsAtFront s (desk_at s before) (desk_at s t) → changed_at s t ≡ changed_at s before → RecomputesPair s before u v (pair_row s (counts_of t.curves) u v) (recomputed t h f c k)
 recomputes_pair s t u v n o h b m f c k r is before drops cells =
     let mid : Table = between t b r in
     let end : Table = committed mid t.index h f c k in
@@ -107,12 +112,12 @@ recomputes_pair s t u v n o h b m f c k r is before drops cells =
     record {
       between = mid;
       ready = takes_ready s t u v n b r is.ready is.found is.marks is.writes;
-      claims = λ ticket. found_answers s (desk_at s before) t u v ticket n n.row (desk_at s mid) drops is.found (takes_desk s t u v n b r is.ready is.found is.marks is.writes);
+      claims = λ ticket. found_answers s (desk_at s before) t u v ticket n (pair_row s (counts_of t.curves) u v) (desk_at s mid) drops is.found (takes_desk s t u v n b r is.ready is.found is.marks is.writes);
       same = changed_same s t mid refl ∙ cells;
       commits = record {
-        commits = subst (λ (d : Desk). Commits s (desk_at s mid) u v n.row (readers s (desk_at s mid) d u v) d) (sym same) (commits_desk s mid u v n o t.index h m f c k is.commits);
+        commits = subst (λ (d : Desk). Commits s (desk_at s mid) u v (pair_row s (counts_of t.curves) u v) (readers s (desk_at s mid) d u v) d) (sym same) (commits_desk s mid u v (pair_inputs s (counts_of t.curves) u v) o t.index h m f c k is.commits);
         cells = λ g y.
             ap (λ (z : ℕ → ℕ → Bool). z g y) (changed_same s end new refl)
-            ∙ (commits_cells s mid u v n o t.index h m f c k is.commits g y ∙ ap (λ (d : Desk). changed_at s mid g y || rewritten s (desk_at s mid) d g y) (sym same));
+            ∙ (commits_cells s mid u v (pair_inputs s (counts_of t.curves) u v) o t.index h m f c k is.commits g y ∙ ap (λ (d : Desk). changed_at s mid g y || rewritten s (desk_at s mid) d g y) (sym same));
       };
     }

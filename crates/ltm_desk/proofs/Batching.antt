@@ -1,13 +1,12 @@
 -- A batch is taken in.
-use Rattle.std.proofs.Common.{◌≡◌, ℕ, ◌<◌, ◌≤◌, ◌&&◌, ◌||◌, not, nat_le, ◌-◌, List, [], ◌∷◌, ◌++◌, take, drop, Bool, true, false, if◌then◌else◌, refl, ap, sym, ◌∙◌, subst, arith, inl, inr, ◌⊎◌}
+use Rattle.std.proofs.Common.{◌≡◌, ℕ, ◌<◌, ◌≤◌, ◌&&◌, ◌||◌, not, nat_le, List, [], ◌∷◌, ◌++◌, take, drop, Bool, true, false, if◌then◌else◌, refl, ap, sym, ◌∙◌, subst, arith, inl, inr, ◌⊎◌}
 use Rattle.std.proofs.Math.Path.{fun_ext}
 use Rattle.std.specs.Prelude.{Some, None, option_map, is_some}
 use Rattle.std.proofs.lemmas.Bool.{cases_lt, le-leb, lt-leb}
 use Rattle.ltm_curve.specs.Counts.{Counts}
 use Rattle.ltm_curve.specs.Table.{counts_of}
 use Rattle.ltm_curve.specs.Cells.{is_changed}
-use Rattle.ltm_node.specs.declared.shape.NodeShape.{NodeShape}
-use Rattle.ltm_node.specs.Shape.{width, counts_width, counts_begin}
+use Rattle.ltm_node.specs.Shape.{counts_begin}
 use Rattle.ltm_scenario.specs.declared.edit.Edit.{Edit}
 use Rattle.ltm_network.specs.Network.{NetworkData}
 use Rattle.ltm_scenario.specs.Data.{ScenarioData}
@@ -28,16 +27,24 @@ use Rattle.ltm_repair.proofs.Index.{index_stays_current}
 use Rattle.ltm_repair.proofs.KeepsBatch.{accept_keeps}
 use Rattle.ltm_pairs.specs.Reaches.{lies_in_one}
 use Rattle.ltm_desk.specs.declared.table.Table.{Table}
+use Rattle.ltm_desk.specs.declared.claim_rows.ClaimRows.{ClaimRows}
+use Rattle.ltm_desk.specs.declared.layout.Layout.{Layout}
+use Rattle.ltm_desk.specs.declared.layout.Part.{Part}
+use Rattle.ltm_desk.specs.declared.layout.Part.TheVariants.{All, Amounts, Weights}
 use Rattle.ltm_desk.specs.declared.rows.KeptRows.{KeptRows}
-use Rattle.ltm_desk.specs.Rows.{row_of, kept_row}
+use Rattle.ltm_desk.specs.Layouts.{LiesAs}
+use Rattle.ltm_desk.specs.Starts.{part_width}
+use Rattle.ltm_desk.specs.Claims.{claim_row}
+use Rattle.ltm_desk.specs.Rows.{kept_row}
 use Rattle.ltm_desk.specs.Pairs.{of_cells}
 use Rattle.ltm_desk.specs.Desks.{filled, kept_of, desk_at, place_of, changed_at}
 use Rattle.ltm_desk.specs.Ready.{FitsTable, IsReady, HasRows}
 use Rattle.ltm_desk.specs.Growing.{horizon_of, at_horizon, HasRoom, Lengthens}
 use Rattle.ltm_desk.specs.Batches.{LeadsTo, touches, TakesIn, TablesFit}
 use Rattle.ltm_desk.proofs.Bools.{or_false, or_right}
-use Rattle.ltm_desk.proofs.RowPlaces.{stays_kept, none_kept}
+use Rattle.ltm_desk.proofs.KeptPlaces.{stays_kept, none_kept}
 use Rattle.ltm_desk.proofs.Desks.{of_pair, past_pair, cases_pairs, active_is, claimed_is, active_past, claimed_past, claim_off}
+use Rattle.ltm_desk.proofs.Keeping.{rows_at}
 use Rattle.ltm_desk.proofs.Standing.{same_place}
 use Rattle.ltm_desk.proofs.ChangedCells.{cell_of, no_cell, cases_cells}
 
@@ -65,12 +72,14 @@ longer a b same = omega (arith, horizon_is a, horizon_is b, same.slots)
 shape_same : (r s : Setting) (u : ℕ) → SameNetwork r s → shape_at r u ≡ shape_at s u
 shape_same r s u same = rw (same.ins, same.outs, same.destinations, same.own) refl
 
-rows_same : (r s : Setting) (counted : Bool) (m n : ℕ) (k : KeptRows) → SameNetwork r s → m ≡ n → HasRows r counted m k → HasRows s counted n k
-rows_same r s counted m n k same slots has = record {
-  nodes = has.nodes ∙ same.nodes;
-  same_slots = has.same_slots ∙ slots;
-  widths = λ u x. has.widths u (omega (arith, x, same.nodes)) ∙ ap (λ (z : NodeShape). if counted then width z else width z - counts_width z) (shape_same r s u same);
+lies_same : (r s : Setting) (part : Part) (p : Layout) → SameNetwork r s → LiesAs r part p → LiesAs s part p
+lies_same r s part p same lies = record {
+  nodes = lies.nodes ∙ same.nodes;
+  widths = λ u x. lies.widths u (omega (arith, x, same.nodes)) ∙ ap (part_width part) (shape_same r s u same);
 }
+
+rows_same : (r s : Setting) (before slots : ℕ) (k : KeptRows) → SameNetwork r s → before ≡ slots → HasRows r before k → HasRows s slots k
+rows_same r s before slots k same at has = record { amounts = lies_same r s Amounts k.narrow same has.amounts; weights = lies_same r s Weights k.wide same has.weights; same_slots = has.same_slots ∙ at }
 
 filled_same : (r s : Setting) (c : Counts) (u v : ℕ) (row : List ℕ) → SameNetwork r s → filled r c u v row ≡ filled s c u v row
 filled_same r s c u v row same = rw (same.ins, same.in_link, same.outs, same.out_link, same.destinations, same.own, same.nodes, same.links) refl
@@ -96,8 +105,8 @@ fits_same r s t same fits =
     } in
     record {
       curves = record { same_groups = fits.curves.same_groups ∙ all; same_destinations = fits.curves.same_destinations ∙ same.destinations; same_slots = refl };
-      kept = rows_same r n false r.slots (horizon_of t) t.kept there slots fits.kept;
-      claims = rows_same r n true 1 1 t.claims there refl fits.claims;
+      kept = rows_same r n r.slots (horizon_of t) t.kept there slots fits.kept;
+      claims = lies_same r n All t.claims.places there fits.claims;
       frontier = record { nodes = fits.frontier.nodes ∙ same.nodes; slots = fits.frontier.slots ∙ slots };
       index = record { links = fits.index.links ∙ same.links; slots = fits.index.slots ∙ slots };
       changed = record { same_groups = fits.changed.same_groups ∙ all; same_slots = fits.changed.same_slots ∙ slots };
@@ -181,7 +190,7 @@ kept_then before after edits t g m f e u v is x l =
     let nodes : r.nodes ≡ s.nodes = network.nodes in
     let horizon : horizon_of t ≡ r.slots = is.ready.fits.curves.same_slots in
     let row : kept_row g.kept u v ≡ kept_row t.kept u v =
-    stays_kept t.kept g.kept u v is.grows.kept (omega (arith, x, nodes, is.ready.fits.kept.nodes)) (omega (arith, l, is.ready.fits.kept.same_slots)) in
+    stays_kept t.kept g.kept u v is.grows.kept (omega (arith, x, nodes, is.ready.fits.kept.amounts.nodes)) (omega (arith, l, is.ready.fits.kept.same_slots)) in
     let counts : count_row s (counts_of g.curves) u v ≡ count_row s (counts_of t.curves) u v =
     counts_set_only_holds s (counts_of g.curves) (counts_of t.curves) u v is.setting x
     (λ a d of k. is.grows.counts a d v (record {
@@ -228,7 +237,7 @@ accepts_desk before after edits t g m f e is =
         new_kept = λ u v late most. elim (cases_lt u s.nodes) [
           | inl x ↦
               of_pair s None (kept_of s new) u v x most
-              ∙ ap (option_map (filled s (counts_of g.curves) u v)) (none_kept g.kept u v (is.grows.none_kept u v (omega (arith, x, nodes, is.ready.fits.kept.nodes)) (omega (arith, late, is.ready.fits.kept.same_slots))))
+              ∙ ap (option_map (filled s (counts_of g.curves) u v)) (none_kept g.kept u v (is.grows.none_kept u v (omega (arith, x, nodes, is.ready.fits.kept.amounts.nodes)) (omega (arith, late, is.ready.fits.kept.same_slots))))
           | inr past ↦ past_pair s None (kept_of s new) u v (inl past)
         ];
       };
@@ -251,7 +260,7 @@ accepts_desk before after edits t g m f e is =
             active_is s new u v x late ∙ (now
             ∙ sym (ap (λ z. (z || is_some ((desk_at r t).claimed u v)) || touches before edits u v) (active_is r t u v node l)
             ∙ (ap (λ z. (is_active t.frontier u v || is_some z) || touches before edits u v) (claimed_is r t u v node l)
-            ∙ (ap (λ z. (is_active t.frontier u v || z) || touches before edits u v) (some_if (is_claimed t.frontier u v) (row_of t.claims u 0))
+            ∙ (ap (λ z. (is_active t.frontier u v || z) || touches before edits u v) (some_if (is_claimed t.frontier u v) (claim_row t.claims u))
             ∙ ap (λ z. (is_active t.frontier u v || is_claimed t.frontier u v) || z) (of_pair r false (is_touched before edits) u v node l)))))
         | inr past ↦
             let old_past : (r.nodes ≤ u) ⊎ (r.slots ≤ v) = inl (omega (arith, past, nodes)) in
@@ -295,15 +304,15 @@ fits_then before after edits t g m f e is =
     let s : Setting = setting_of after in
     let network : SameNetwork r s = one_network before after is.leads.shape in
     let all : groups r ≡ groups s = all_groups r s network in
-    let rows : HasRows s false r.slots t.kept = rows_same r s false r.slots r.slots t.kept network refl is.ready.fits.kept in
+    let rows : HasRows s r.slots t.kept = rows_same r s r.slots r.slots t.kept network refl is.ready.fits.kept in
     record {
       curves = record {
         same_groups = is.grows.curves.same_groups ∙ (is.ready.fits.curves.same_groups ∙ all);
         same_destinations = is.grows.curves.same_destinations ∙ (is.ready.fits.curves.same_destinations ∙ network.destinations);
         same_slots = is.grows.curves.same_slots;
       };
-      kept = record { nodes = rw is.grows.kept.starts rows.nodes; same_slots = is.grows.kept_slots; widths = λ u x. rw is.grows.kept.starts (rows.widths u x) };
-      claims = subst (λ (z : KeptRows). HasRows s true 1 z) (sym is.grows.claims) (rows_same r s true 1 1 t.claims network refl is.ready.fits.claims);
+      kept = rows_at s r.slots s.slots t.kept g.kept rows is.grows.kept.places is.grows.kept_slots;
+      claims = subst (λ (z : ClaimRows). LiesAs s All z.places) (sym is.grows.claims) (lies_same r s All t.claims.places network is.ready.fits.claims);
       frontier = record {
         nodes = is.news.size.nodes ∙ (is.marks.size.nodes ∙ (is.voids.size.nodes ∙ (is.grows.pairs.nodes ∙ (is.ready.fits.frontier.nodes ∙ network.nodes))));
         slots = is.news.size.slots ∙ (is.marks.size.slots ∙ (is.voids.size.slots ∙ is.grows.pair_slots));

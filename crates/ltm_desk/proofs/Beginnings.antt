@@ -1,7 +1,7 @@
 -- The table of a loading at rest.
-use Rattle.std.proofs.Common.{◌≡◌, ℕ, ◌+◌, ◌<◌, ◌&&◌, nat_lt, nat_le, true, false, refl, ap, sym, ◌∙◌, subst, arith, inl, inr}
+use Rattle.std.proofs.Common.{◌≡◌, ℕ, ◌+◌, ◌<◌, ◌&&◌, nat_lt, nat_le, false, refl, ap, sym, ◌∙◌, subst, arith, inl, inr}
 use Rattle.std.proofs.lemmas.Bool.{cases_lt, cases_eq}
-use Rattle.ltm_curve.specs.Counts.{Counts}
+use Rattle.ltm_curve.specs.Counts.{Counts, total}
 use Rattle.ltm_curve.specs.Table.{counts_of}
 use Rattle.ltm_curve.specs.Cells.{cell_groups, cell_slots, is_changed, HasCells, NoneChanged}
 use Rattle.ltm_curve.specs.declared.changed.Changed.{Changed}
@@ -17,19 +17,20 @@ use Rattle.ltm_repair.specs.Desk.{IsOther, IsSettled, IsIdle}
 use Rattle.ltm_repair.specs.Facts.{IsSound}
 use Rattle.ltm_repair.specs.State.{RepairState}
 use Rattle.ltm_repair.proofs.Opening.{opening_is_repair}
+use Rattle.ltm_desk.specs.declared.layout.Part.TheVariants.{All}
 use Rattle.ltm_desk.specs.declared.rows.KeptRows.{KeptRows}
 use Rattle.ltm_desk.specs.declared.table.Table.{Table}
+use Rattle.ltm_desk.specs.Layouts.{LiesAs}
 use Rattle.ltm_desk.specs.Rows.{PutsRow}
 use Rattle.ltm_desk.specs.Pairs.{of_cells}
 use Rattle.ltm_desk.specs.Desks.{uncounted, desk_at, changed_at}
 use Rattle.ltm_desk.specs.Ready.{IsReady, IsOpened, HasRows, HasLists}
 use Rattle.ltm_desk.specs.Placing.{StandsAt, PlacesPair, KeepsPair, KeepsSlots}
 use Rattle.ltm_desk.proofs.Bools.{and_false}
-use Rattle.ltm_desk.proofs.RowPlaces.{put_kept, put_other}
+use Rattle.ltm_desk.proofs.KeptPlaces.{put_kept, put_other}
 use Rattle.ltm_desk.proofs.Desks.{cases_pairs, kept_is, active_past, claimed_past, idle_here}
-use Rattle.ltm_desk.proofs.Keeping.{kept_whole}
+use Rattle.ltm_desk.proofs.Keeping.{kept_whole, rows_lie}
 use Rattle.ltm_desk.proofs.Listing.{place_is}
-use Rattle.ltm_desk.proofs.Taking.{rows_stay}
 
 -- ---- pair after pair
 stands_still : (s : Setting) (c : Counts) (x y : ReadIndex) (u t w v : ℕ) → IsSetting s → u < s.nodes → w < s.nodes → IsOther u t w v → PlacesPair s c x y u t (s.ins u) → StandsAt s c x w v (s.ins w) → StandsAt s c y w v (s.ins w)
@@ -42,11 +43,11 @@ pub keeps_next : (s : Setting) (c : Counts) (a b : KeptRows) (x y : ReadIndex) (
     PlacesPair s c x y u slot (s.ins u) → KeepsSlots s c b y slot (u + 1)
 keeps_next s c a b x y slot u is node low keeps puts places =
     let still : (w v : ℕ) → w < s.nodes → v < s.slots → IsOther u slot w v → KeepsPair s c a x w v → KeepsPair s c b y w v = λ w v p q other pair. record {
-      row = put_other a b u slot (uncounted s u (pair_row s c u slot)) w v puts (omega (arith, p, keeps.rows.nodes)) (omega (arith, q, keeps.rows.same_slots)) other ∙ pair.row;
+      row = put_other a b u slot (uncounted s u (pair_row s c u slot)) w v puts (omega (arith, p, keeps.rows.amounts.nodes)) (omega (arith, q, keeps.rows.same_slots)) other ∙ pair.row;
       placed = stands_still s c x y u slot w v is node p other places pair.placed;
     } in
     record {
-      rows = rows_stay s false s.slots a b u slot (uncounted s u (pair_row s c u slot)) keeps.rows puts.writes;
+      rows = rows_lie s s.slots a b keeps.rows puts.places puts.slots;
       lists = places.lists;
       earlier = λ w v p q. still w v p (omega arith) (λ same at. omega arith) (keeps.earlier w v p q);
       here = λ w p. elim (cases_eq w u) [
@@ -55,7 +56,7 @@ keeps_next s c a b x y slot u is node low keeps puts places =
       ];
     }
 
-pub keeps_first : (s : Setting) (c : Counts) (a : KeptRows) (x : ReadIndex) → HasRows s false s.slots a → HasLists s x → KeepsSlots s c a x 0 0
+pub keeps_first : (s : Setting) (c : Counts) (a : KeptRows) (x : ReadIndex) → HasRows s s.slots a → HasLists s x → KeepsSlots s c a x 0 0
 keeps_first s c a x rows lists = record { rows = rows; lists = lists; earlier = λ w v p q. absurd (omega arith); here = λ w p. absurd (omega arith) }
 
 pub keeps_slot : (s : Setting) (c : Counts) (a : KeptRows) (x : ReadIndex) (slot nodes : ℕ) → nodes ≡ s.nodes → KeepsSlots s c a x slot nodes → KeepsSlots s c a x (slot + 1) 0
@@ -75,7 +76,7 @@ pub record Opens (s : Setting) (t : Table) : Type 0 where
   pub shape : IsShaped s t.curves
   pub loading : IsLoading s (counts_of t.curves)
   pub keeps : KeepsSlots s (counts_of t.curves) t.kept t.index s.slots 0
-  pub claims : HasRows s true 1 t.claims
+  pub claims : LiesAs s All t.claims.places
   pub nodes : nodes_in t.frontier ≡ s.nodes
   pub slots : slots_in t.frontier ≡ s.slots
   pub idle : AllIdle t.frontier
@@ -103,14 +104,13 @@ opens_sound s t opens =
       accepted = 0;
       settled = 0;
       shown_at = 0;
-      shown = counts_of t.curves;
+      shown = λ g k. total s.destinations (counts_of t.curves g) k;
       commits = 0;
       changed = λ g k. false;
     } in
     (opening_is_repair state (record {
       rest = record { setting = opens.setting; loading = opens.loading; kept = λ u v x l. opens_kept s t u v opens x l; idle = λ u v. opens_idle s t u v opens };
-      shows = opens.loading;
-      agree = λ g e k x l m. refl;
+      shows = λ g k x l. refl;
       accepted = refl;
       settled = refl;
       shown_at = refl;

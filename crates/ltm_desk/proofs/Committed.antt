@@ -32,7 +32,7 @@ use Rattle.ltm_desk.specs.Rows.{nodes_of, slots_of, row_of, has_row, kept_row, P
 use Rattle.ltm_desk.specs.Desks.{uncounted, filled, kept_of, desk_at, place_of}
 use Rattle.ltm_desk.specs.Ready.{HasLists, IsReady}
 use Rattle.ltm_desk.specs.Waking.{any_differs, changes, PutsCells, wakes}
-use Rattle.ltm_desk.proofs.RowPlaces.{put_kept, put_other, none_kept, some_kept}
+use Rattle.ltm_desk.proofs.KeptPlaces.{put_kept, put_other, none_kept, some_kept}
 use Rattle.ltm_desk.proofs.Keeping.{kept_whole, same_kept_of, long_row, counts_stay, counts_same, counts_differ, slot_same, forgets_rows, forgets_others, forgets_none, forgets_one}
 use Rattle.ltm_desk.proofs.Reading.{SetsOutputs}
 use Rattle.ltm_desk.proofs.Desks.{of_pair, past_pair, same_of_pairs}
@@ -100,10 +100,10 @@ counts_set s t u v n o x h m f c k is =
 rows_same : (s : Setting) (t : Table) (u v : ℕ) (n : Inputs) (o : Outputs) (x : ReadIndex) (h : Changed) (m f : Frontier) (c : Curves) (k : KeptRows) (w y : ℕ) → CommitsTable s t u v n o x h m f c k →
     w < s.nodes → y < s.slots → IsOther u v w y → IsOther u (v + 1) w y → kept_row k w y ≡ kept_row t.kept w y
 rows_same s t u v n o x h m f c k w y is p q other apart =
-    let in_nodes : w < nodes_of t.kept = omega (arith, p, is.ready.fits.kept.nodes) in
+    let in_nodes : w < nodes_of t.kept = omega (arith, p, is.ready.fits.kept.amounts.nodes) in
     let in_slots : y < slots_of t.kept = omega (arith, q, is.ready.fits.kept.same_slots) in
     let size = forgets_rows (any_differs s (counts_of t.curves) u (v + 1) o) t.kept is.between u (v + 1) is.forgets in
-    put_other is.between k u v (uncounted s u n.row) w y is.puts (rw size.0 in_nodes) (rw size.1 in_slots) other
+    put_other is.between k u v (uncounted s u n.row) w y is.puts (rw size.0.narrow in_nodes) (rw size.1 in_slots) other
     ∙ forgets_others (any_differs s (counts_of t.curves) u (v + 1) o) t.kept is.between u (v + 1) w y is.forgets in_nodes in_slots apart
 
 -- and so do the counts of their nodes
@@ -139,7 +139,7 @@ next_same s t u v n o x h m f c k is off =
     let size = forgets_rows any t.kept is.between u (v + 1) is.forgets in
     same_of_pairs s None (kept_of s e) (kept_of s t) u (v + 1)
     (λ p q. same_kept_of s t e u (v + 1)
-    (put_other is.between k u v (uncounted s u n.row) u (v + 1) is.puts (rw size.0 (omega (arith, p, is.ready.fits.kept.nodes))) (rw size.1 (omega (arith, q, is.ready.fits.kept.same_slots))) (λ a b. omega arith)
+    (put_other is.between k u v (uncounted s u n.row) u (v + 1) is.puts (rw size.0.narrow (omega (arith, p, is.ready.fits.kept.amounts.nodes))) (rw size.1 (omega (arith, q, is.ready.fits.kept.same_slots))) (λ a b. omega arith)
     ∙ forgets_none any t.kept is.between u (v + 1) off is.forgets)
     (counts_same s (counts_of t.curves) (counts_of c) u (v + 1) o (counts_set s t u v n o x h m f c k is) off))
 
@@ -151,11 +151,11 @@ next_gone s t u v n o x h m f c k is on p q =
     let e : Table = committed t x h f c k in
     let any : Bool = any_differs s (counts_of t.curves) u (v + 1) o in
     let size = forgets_rows any t.kept is.between u (v + 1) is.forgets in
-    let in_nodes : u < nodes_of t.kept = omega (arith, p, is.ready.fits.kept.nodes) in
+    let in_nodes : u < nodes_of t.kept = omega (arith, p, is.ready.fits.kept.amounts.nodes) in
     let in_slots : v + 1 < slots_of t.kept = omega (arith, q, is.ready.fits.kept.same_slots) in
     of_pair s None (kept_of s e) u (v + 1) p q
     ∙ ap (option_map (filled s (counts_of c) u (v + 1)))
-    (put_other is.between k u v (uncounted s u n.row) u (v + 1) is.puts (rw size.0 in_nodes) (rw size.1 in_slots) (λ a b. omega arith)
+    (put_other is.between k u v (uncounted s u n.row) u (v + 1) is.puts (rw size.0.narrow in_nodes) (rw size.1 in_slots) (λ a b. omega arith)
     ∙ forgets_one any t.kept is.between u (v + 1) on is.forgets in_nodes in_slots)
 
 pub kept_next : (s : Setting) (t : Table) (u v : ℕ) (n : Inputs) (o : Outputs) (x : ReadIndex) (h : Changed) (m f : Frontier) (c : Curves) (k : KeptRows) → CommitsTable s t u v n o x h m f c k → u < s.nodes →

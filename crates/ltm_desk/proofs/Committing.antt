@@ -1,5 +1,5 @@
 -- A claimed pair is committed.
-use Rattle.std.proofs.Common.{◌≡◌, ◌≢◌, ℕ, ◌+◌, ◌<◌, ◌&&◌, ◌||◌, not, List, Bool, true, false, refl, ap, sym, ◌∙◌, subst, arith, inl, inr}
+use Rattle.std.proofs.Common.{◌≡◌, ◌≢◌, ℕ, ◌+◌, ◌<◌, ◌&&◌, ◌||◌, not, Bool, true, false, refl, ap, sym, ◌∙◌, subst, arith, inl, inr}
 use Rattle.std.specs.Prelude.{Some, None}
 use Rattle.std.proofs.lemmas.Bool.{cases_Bool}
 use Rattle.ltm_curve.specs.Counts.{Counts}
@@ -27,20 +27,19 @@ use Rattle.ltm_pairs.specs.Changes.{differs_at}
 use Rattle.ltm_pairs.specs.Readers.{reads_commit}
 use Rattle.ltm_desk.specs.declared.rows.KeptRows.{KeptRows}
 use Rattle.ltm_desk.specs.declared.table.Table.{Table}
-use Rattle.ltm_desk.specs.Rows.{row_of}
+use Rattle.ltm_desk.specs.Claims.{claim_row}
 use Rattle.ltm_desk.specs.Pairs.{of_pairs, of_cells}
-use Rattle.ltm_desk.specs.Desks.{uncounted, desk_at, place_of, changed_at}
+use Rattle.ltm_desk.specs.Desks.{desk_at, place_of, changed_at}
 use Rattle.ltm_desk.specs.Ready.{IsReady}
 use Rattle.ltm_desk.specs.Waking.{any_differs, changes, wakes}
 use Rattle.ltm_desk.specs.Committing.{readers, rewritten}
 use Rattle.ltm_desk.proofs.Bools.{or_left, and_false}
-use Rattle.ltm_desk.proofs.RowPlaces.{same_some}
-use Rattle.ltm_desk.proofs.Keeping.{rows_left}
+use Rattle.ltm_desk.proofs.Keeping.{rows_left, rows_lie}
 use Rattle.ltm_desk.proofs.Noting.{cells_stay}
 use Rattle.ltm_desk.proofs.Reading.{SetsOutputs, ArePlaced, wakes_are_readers, early, early_reads}
-use Rattle.ltm_desk.proofs.Desks.{of_pair, past_pair, cases_pairs, claimed_is, claimed_pair, claimed_on, claim_same, claim_off, claimed_row, same_claim, idle_here}
+use Rattle.ltm_desk.proofs.Desks.{of_pair, past_pair, cases_pairs, claimed_is, claim_same, claim_off, claimed_row, same_claim, idle_here}
 use Rattle.ltm_desk.proofs.Dropping.{pair_test, other_test, and_not}
-use Rattle.ltm_desk.proofs.Taking.{rows_stay, one_slot}
+use Rattle.ltm_desk.proofs.Taking.{one_slot}
 use Rattle.ltm_desk.proofs.ChangedCells.{cell_of, no_cell, cases_cells, cells_differ}
 use Rattle.ltm_desk.proofs.Committed.{CommitsTable, committed, claim_is, counts_set, kept_this, kept_next, kept_same}
 
@@ -79,7 +78,7 @@ active_readers s t u v n o x h m f c k w y is p q =
       | inl on ↦ or_left (is_active t.frontier w y) (W && not (is_claimed t.frontier w y)) on ∙ sym (or_left (is_active t.frontier w y) R on)
       | inr off ↦ elim (cases_Bool (is_claimed t.frontier w y)) [
         | inl claimed ↦
-            let some : (desk_at s t).claimed w y ≡ Some (row_of t.claims w 0) = claimed_row s t w y p q claimed in
+            let some : (desk_at s t).claimed w y ≡ Some (claim_row t.claims w) = claimed_row s t w y p q claimed in
             let at : y ≡ v = one_slot s (desk_at s t) y v is.ready.sound (w, p, q, λ none. cc) (u, claim.is_node, claim.is_slot, λ none. let mine : (desk_at s t).claimed u v ≡ Some n.row = is.claimed in cc) in
             ap (λ z. is_active t.frontier w y || (z && not (is_claimed t.frontier w y))) (early s old (place_of x) u (v + 1) o w y (omega arith))
             ∙ sym (ap (λ z. is_active t.frontier w y || z) (early_reads s old new u (v + 1) w y (omega arith)))
@@ -148,8 +147,7 @@ commits_ready s t u v n o x h m f c k is =
     record {
       fits = record {
         curves = is.shaped;
-        kept = rows_stay s false s.slots is.between k u v (uncounted s u n.row)
-            (rows_left s false s.slots (any_differs s (counts_of t.curves) u (v + 1) o) t.kept is.between u (v + 1) is.ready.fits.kept is.forgets) is.puts.writes;
+        kept = rows_lie s s.slots is.between k (rows_left s s.slots (any_differs s (counts_of t.curves) u (v + 1) o) t.kept is.between u (v + 1) is.ready.fits.kept is.forgets) is.puts.places is.puts.slots;
         claims = is.ready.fits.claims;
         frontier = record { nodes = is.frees.size.nodes ∙ (is.wakes.size.nodes ∙ is.ready.fits.frontier.nodes); slots = is.frees.size.slots ∙ (is.wakes.size.slots ∙ is.ready.fits.frontier.slots) };
         index = is.lists;
@@ -194,10 +192,3 @@ commits_cells s t u v n o x h m f c k is g b =
 pub claim_inputs : (s : Setting) (t : Table) (u v : ℕ) (n : Inputs) → IsReady s t → (desk_at s t).claimed u v ≡ Some n.row → n.shape ≡ shape_at s u → IsPairInputs s (counts_of t.curves) u v n
 unfolding desk_at
 claim_inputs s t u v n ready some shape = record { shape = shape; row = (ready.sound.claims u v n.row some).now }
-
--- the row that is kept beside a claim is that of the claim
-pub row_is_claimed : (s : Setting) (t : Table) (u v : ℕ) (row : List ℕ) → IsReady s t → (desk_at s t).claimed u v ≡ Some row → row_of t.claims u 0 ≡ row
-row_is_claimed s t u v row ready some =
-    let at = claimed_pair s t u v (λ none. cc) in
-    let on : is_claimed t.frontier u v ≡ true = claimed_on s t u v at.0 at.1 (λ none. cc) in
-    same_some (row_of t.claims u 0) row (sym (claimed_row s t u v at.0 at.1 on) ∙ some)

@@ -16,7 +16,7 @@ use Rattle.ltm_frontier.specs.Frontier.{is_claimed, claims_of}
 use Rattle.ltm_repair.specs.Counting.{claims_out}
 use Rattle.ltm_repair.specs.Answers.{HasClaimAt, IsNoneClaimed}
 use Rattle.ltm_desk.specs.declared.table.Table.{Table}
-use Rattle.ltm_desk.specs.Rows.{row_of}
+use Rattle.ltm_desk.specs.Claims.{claim_row}
 use Rattle.ltm_desk.specs.Cells.{count_cells}
 use Rattle.ltm_desk.specs.Desks.{desk_at, changed_at}
 use Rattle.ltm_desk.specs.Ready.{IsReady}
@@ -68,7 +68,7 @@ some_claimed s t ready some =
     let node : term.index < s.nodes = omega (arith, term.below, node_count s t ready) in
     let in_time : slot_in f.claims < s.slots = omega (arith, f.there term.index (omega (arith, node, ready.fits.frontier.nodes)) marked, ready.fits.frontier.slots) in
     let on : is_claimed f term.index (slot_in f.claims) ≡ true = and_true (slot_in f.claims == slot_in f.claims) (has_node f.claims term.index) (eq-eqb (slot_in f.claims) (slot_in f.claims) refl) marked in
-    let holds : (desk_at s t).claimed term.index (slot_in f.claims) ≡ Some (row_of t.claims term.index 0) = claimed_row s t term.index (slot_in f.claims) node in_time on in
+    let holds : (desk_at s t).claimed term.index (slot_in f.claims) ≡ Some (claim_row t.claims term.index) = claimed_row s t term.index (slot_in f.claims) node in_time on in
     (term.index, node, in_time, λ none. cc)
 
 pub none_claimed : (s : Setting) (t : Table) → IsReady s t → claims_of t.frontier ≡ 0 → IsNoneClaimed s (desk_at s t)

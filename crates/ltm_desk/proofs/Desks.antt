@@ -9,7 +9,7 @@ use Rattle.ltm_loading.specs.Setting.{Setting}
 use Rattle.ltm_frontier.specs.Frontier.{is_active, is_claimed}
 use Rattle.ltm_repair.specs.Desk.{IsIdle}
 use Rattle.ltm_desk.specs.declared.table.Table.{Table}
-use Rattle.ltm_desk.specs.Rows.{row_of}
+use Rattle.ltm_desk.specs.Claims.{claim_row}
 use Rattle.ltm_desk.specs.Pairs.{of_pairs, of_cells}
 use Rattle.ltm_desk.specs.Desks.{kept_of, claim_of, desk_at, changed_at}
 use Rattle.ltm_desk.specs.Dropping.{SameWorkAs}
@@ -74,15 +74,15 @@ claimed_pair s t u v some = elim (cases_pairs s u v) [
   | inr past ↦ absurd (some (claimed_past s t u v past))
 ]
 
-pub claim_on : (t : Table) (u v : ℕ) → is_claimed t.frontier u v ≡ true → claim_of t u v ≡ Some (row_of t.claims u 0)
+pub claim_on : (t : Table) (u v : ℕ) → is_claimed t.frontier u v ≡ true → claim_of t u v ≡ Some (claim_row t.claims u)
 claim_on t u v on = rw on refl
 
 pub claim_off : (t : Table) (u v : ℕ) → is_claimed t.frontier u v ≡ false → claim_of t u v ≡ None
 claim_off t u v off = rw off refl
 
-pub claim_same : (a b : Table) (u v : ℕ) → is_claimed b.frontier u v ≡ is_claimed a.frontier u v → row_of b.claims u 0 ≡ row_of a.claims u 0 → claim_of b u v ≡ claim_of a u v
+pub claim_same : (a b : Table) (u v : ℕ) → is_claimed b.frontier u v ≡ is_claimed a.frontier u v → claim_row b.claims u ≡ claim_row a.claims u → claim_of b u v ≡ claim_of a u v
 claim_same a b u v bits rows =
-    ap (λ z. if z then Some (row_of b.claims u 0) else None) bits ∙ ap (λ (z : List ℕ). if is_claimed a.frontier u v then Some z else None) rows
+    ap (λ z. if z then Some (claim_row b.claims u) else None) bits ∙ ap (λ (z : List ℕ). if is_claimed a.frontier u v then Some z else None) rows
 
 -- a claim has a bit, and no claim has none
 pub claimed_on : (s : Setting) (t : Table) (u v : ℕ) → u < s.nodes → v < s.slots → (desk_at s t).claimed u v ≢ None → is_claimed t.frontier u v ≡ true
@@ -94,10 +94,10 @@ claimed_on s t u v x l some = elim (cases_Bool (is_claimed t.frontier u v)) [
 pub claimed_off : (s : Setting) (t : Table) (u v : ℕ) → u < s.nodes → v < s.slots → (desk_at s t).claimed u v ≡ None → is_claimed t.frontier u v ≡ false
 claimed_off s t u v x l none = elim (cases_Bool (is_claimed t.frontier u v)) [
   | inr off ↦ off
-  | inl on ↦ let some : (desk_at s t).claimed u v ≡ Some (row_of t.claims u 0) = claimed_is s t u v x l ∙ claim_on t u v on in absurd (cc)
+  | inl on ↦ let some : (desk_at s t).claimed u v ≡ Some (claim_row t.claims u) = claimed_is s t u v x l ∙ claim_on t u v on in absurd (cc)
 ]
 
-pub claimed_row : (s : Setting) (t : Table) (u v : ℕ) → u < s.nodes → v < s.slots → is_claimed t.frontier u v ≡ true → (desk_at s t).claimed u v ≡ Some (row_of t.claims u 0)
+pub claimed_row : (s : Setting) (t : Table) (u v : ℕ) → u < s.nodes → v < s.slots → is_claimed t.frontier u v ≡ true → (desk_at s t).claimed u v ≡ Some (claim_row t.claims u)
 claimed_row s t u v x l on = claimed_is s t u v x l ∙ claim_on t u v on
 
 pub idle_here : (s : Setting) (t : Table) (u v : ℕ) → u < s.nodes → v < s.slots → is_active t.frontier u v ≡ false → is_claimed t.frontier u v ≡ false → IsIdle (desk_at s t) u v

@@ -9,7 +9,7 @@ use Rattle.ltm_node.specs.Shape.{width}
 use Rattle.ltm_node.specs.Solvable.{IsSolvable}
 use Rattle.ltm_loading.specs.Setting.{Setting, IsSetting}
 use Rattle.ltm_loading.specs.Pairs.{shape_at}
-use Rattle.ltm_loading.specs.NextPair.{IsPairInputs}
+use Rattle.ltm_loading.specs.Uncounted.{IsUncountedPair}
 use Rattle.ltm_index.specs.declared.read_index.ReadIndex.{ReadIndex}
 use Rattle.ltm_frontier.specs.declared.frontier.Frontier.{Frontier}
 use Rattle.ltm_frontier.specs.Frontier.{nodes_of as nodes_in, is_active, is_pair, IsNextActive, NoneActive as NoneIn, Deactivates}
@@ -28,7 +28,7 @@ use Rattle.ltm_desk.specs.Ready.{HasRows, IsReady}
 use Rattle.ltm_desk.specs.Placing.{PlacesPair}
 use Rattle.ltm_desk.specs.Dropping.{DropsOne, DropsAt, IsWork, NoneActive, SameWorkAs}
 use Rattle.ltm_desk.proofs.Desks.{active_is, kept_is, claim_same, same_active, same_claims}
-use Rattle.ltm_desk.proofs.Keeping.{kept_whole, whole_kept}
+use Rattle.ltm_desk.proofs.Keeping.{kept_whole, whole_kept, kept_uncounted}
 use Rattle.ltm_desk.proofs.Standing.{placed_here, other_places}
 use Rattle.ltm_desk.proofs.Bools.{and_false}
 
@@ -222,11 +222,11 @@ most_wide s u is x =
     omega (arith, arms, outs, is.small.few_destinations, is.small.few_ins u x, is.small.few_outs u x)
 
 -- kept inputs that are those that stand ready
-pub settled_here : (s : Setting) (t : Table) (u slot : ℕ) (n : Inputs) → u < s.nodes → slot < s.slots → IsPairInputs s (counts_of t.curves) u slot n → kept_row t.kept u slot ≡ Some (uncounted s u n.row) → IsSettled s (desk_at s t) u slot
+pub settled_here : (s : Setting) (t : Table) (u slot : ℕ) (n : Inputs) → u < s.nodes → slot < s.slots → IsUncountedPair s (counts_of t.curves) u slot n → kept_row t.kept u slot ≡ Some (uncounted s u n.row) → IsSettled s (desk_at s t) u slot
 unfolding desk_at
-settled_here s t u slot n x l inputs same = kept_is s t u slot x l ∙ kept_whole s t u slot (same ∙ ap (λ (z : List ℕ). Some (uncounted s u z)) inputs.row)
+settled_here s t u slot n x l inputs same = kept_is s t u slot x l ∙ kept_whole s t u slot (same ∙ ap (λ (z : List ℕ). Some z) (kept_uncounted s (counts_of t.curves) u slot n inputs))
 
-pub work_here : (s : Setting) (t : Table) (u slot : ℕ) (n : Inputs) → HasRows s false s.slots t.kept → u < s.nodes → slot < s.slots → is_active t.frontier u slot ≡ true → IsPairInputs s (counts_of t.curves) u slot n → IsSolvable n →
+pub work_here : (s : Setting) (t : Table) (u slot : ℕ) (n : Inputs) → HasRows s s.slots t.kept → u < s.nodes → slot < s.slots → is_active t.frontier u slot ≡ true → IsUncountedPair s (counts_of t.curves) u slot n → IsSolvable n →
     (kept_row t.kept u slot ≡ Some (uncounted s u n.row) → ⊥) → IsWork s (desk_at s t) u slot n
 unfolding desk_at
 work_here s t u slot n has x l on inputs solvable differs = record {
@@ -234,5 +234,5 @@ work_here s t u slot n has x l on inputs solvable differs = record {
   active = active_is s t u slot x l ∙ on;
   inputs = inputs;
   solvable = solvable;
-  changed = λ same. differs (whole_kept s t u slot has x l (sym (kept_is s t u slot x l) ∙ same) ∙ ap (λ (z : List ℕ). Some (uncounted s u z)) (sym inputs.row));
+  changed = λ same. differs (whole_kept s t u slot has x l (sym (kept_is s t u slot x l) ∙ same) ∙ ap (λ (z : List ℕ). Some z) (sym (kept_uncounted s (counts_of t.curves) u slot n inputs)));
 }

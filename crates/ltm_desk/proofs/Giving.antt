@@ -11,11 +11,11 @@ use Rattle.ltm_repair.proofs.Cases.{cases_pair}
 use Rattle.ltm_repair.proofs.Keeps.{give_back_keeps}
 use Rattle.ltm_repair.proofs.Index.{index_stays_current}
 use Rattle.ltm_desk.specs.declared.table.Table.{Table}
-use Rattle.ltm_desk.specs.Rows.{row_of}
+use Rattle.ltm_desk.specs.Claims.{claim_row}
 use Rattle.ltm_desk.specs.Desks.{desk_at, place_of}
 use Rattle.ltm_desk.specs.Ready.{IsReady}
 use Rattle.ltm_desk.proofs.Bools.{or_false, or_right, and_false}
-use Rattle.ltm_desk.proofs.RowPlaces.{same_some}
+use Rattle.ltm_desk.proofs.KeptPlaces.{same_some}
 use Rattle.ltm_desk.proofs.Desks.{cases_pairs, active_is, claimed_is, claimed_past, claim_same, claim_on, claim_off, claimed_pair, same_active, same_claim}
 use Rattle.ltm_desk.proofs.Dropping.{pair_test, other_test, and_not}
 
@@ -64,11 +64,11 @@ gives_ready s t u v m f ready frees marks gives = record {
 }
 
 -- ---- whether a pair is held
-pub held : (s : Setting) (t : Table) (u v : ℕ) (row mine : List ℕ) (r : Bool) → u < s.nodes → v < s.slots → is_claimed t.frontier u v ≡ true → mine ≡ row_of t.claims u 0 → (IsTrue r ↔ (mine ≡ row)) →
+pub held : (s : Setting) (t : Table) (u v : ℕ) (row mine : List ℕ) (r : Bool) → u < s.nodes → v < s.slots → is_claimed t.frontier u v ≡ true → mine ≡ claim_row t.claims u → (IsTrue r ↔ (mine ≡ row)) →
     IsTrue r ↔ ((desk_at s t).claimed u v ≡ Some row)
 held s t u v row mine r x l on same told =
-    let is : (desk_at s t).claimed u v ≡ Some (row_of t.claims u 0) = claimed_is s t u v x l ∙ claim_on t u v on in
-    (λ yes. is ∙ ap (λ (z : List ℕ). Some z) (sym same ∙ told.0 yes), λ e. told.1 (same ∙ same_some (row_of t.claims u 0) row (sym is ∙ e)))
+    let is : (desk_at s t).claimed u v ≡ Some (claim_row t.claims u) = claimed_is s t u v x l ∙ claim_on t u v on in
+    (λ yes. is ∙ ap (λ (z : List ℕ). Some z) (sym same ∙ told.0 yes), λ e. told.1 (same ∙ same_some (claim_row t.claims u) row (sym is ∙ e)))
 
 pub not_held : (s : Setting) (t : Table) (u v : ℕ) (row : List ℕ) → ((u < s.nodes → v < s.slots → is_claimed t.frontier u v ≡ false)) → IsTrue false ↔ ((desk_at s t).claimed u v ≡ Some row)
 not_held s t u v row off =

@@ -17,7 +17,8 @@ use Rattle.ltm_loading.specs.Setting.{Setting}
 use Rattle.ltm_loading.specs.Groups.{up_of, arr_of}
 use Rattle.ltm_loading.specs.Flows.{receiving}
 use Rattle.ltm_loading.specs.Pairs.{arms_of, arm_group, arm_capacity, arrived_by, grid, sending, shape_at, pair_row, count_row}
-use Rattle.ltm_loading.specs.NextPair.{IsOf, IsPairInputs}
+use Rattle.ltm_loading.specs.NextPair.{IsOf}
+use Rattle.ltm_loading.specs.Uncounted.{IsUncountedPair}
 use Rattle.ltm_loading.specs.ByPlace.{HoldsCounts, CountsByPlace}
 use Rattle.ltm_loading.proofs.Rows.{length-grid}
 use Rattle.ltm_loading.proofs.SameRows.{length-pair_row}
@@ -25,14 +26,18 @@ use Rattle.ltm_loading.proofs.Setters.{counts_set_only_holds, of_group}
 use Rattle.ltm_loading.proofs.Same.{pair_row_same}
 use Rattle.ltm_loading.proofs.OneSetter.{set_by_one_pair_holds}
 use Rattle.ltm_pairs.specs.Changes.{some_below}
+use Rattle.ltm_desk.specs.declared.layout.Layout.{Layout}
+use Rattle.ltm_desk.specs.declared.layout.Part.TheVariants.{Amounts, Weights}
 use Rattle.ltm_desk.specs.declared.rows.KeptRows.{KeptRows}
+use Rattle.ltm_desk.specs.Layouts.{LiesAs}
 use Rattle.ltm_desk.specs.declared.table.Table.{Table}
-use Rattle.ltm_desk.specs.Rows.{nodes_of, slots_of, row_of, has_row, kept_row, ForgetsRow, ForgetsIf}
+use Rattle.ltm_desk.specs.Rows.{nodes_of, slots_of, amounts_of, weights_of, row_of, has_row, kept_row, SamePlaces, ForgetsRow, ForgetsIf}
+use Rattle.ltm_desk.specs.Parts.{without_counts}
 use Rattle.ltm_desk.specs.Desks.{uncounted, filled, kept_of}
 use Rattle.ltm_desk.specs.Ready.{HasRows}
 use Rattle.ltm_desk.specs.Waking.{arm_differs, out_differs, sink_differs, any_differs}
 use Rattle.ltm_desk.proofs.Bools.{none_below, one_below, differ, do_not_differ}
-use Rattle.ltm_desk.proofs.RowPlaces.{length_row, some_kept, none_kept}
+use Rattle.ltm_desk.proofs.KeptPlaces.{length_row, some_kept, none_kept}
 use Rattle.ltm_desk.proofs.Reading.{SetsOutputs}
 
 -- ---- a row without its middle, and with it
@@ -49,44 +54,63 @@ between n a c b front =
     let last : drop n (a ++ b) ≡ b = ap (λ (k : ℕ). drop k (a ++ b)) (sym front) ∙ drop-append_seam a b in
     rw (first, last) refl
 
--- ---- the counts of a node stand in what it reads, after what its arms send
-length-counts : (s : Setting) (c : Counts) (u t : ℕ) → length (count_row s c u t) ≡ counts_width (shape_at s u)
-length-counts s c u t =
-    let left : List ℕ = grid (arms_of s u) s.destinations (λ i d. c (arm_group s u i) d t) in
-    let entered : List ℕ = grid (s.outs u) s.destinations (λ j d. c (up_of (s.out_link u j)) d t) in
-    let arrived : List ℕ = list_below 1 (λ k. arrived_by s c (s.own u) t) in
+-- ---- the counts of a node, or zeros, stand in what it reads, after what its arms send
+abbrev blocks : Setting → ℕ → (ℕ → ℕ → ℕ) → (ℕ → ℕ → ℕ) → (ℕ → ℕ) → List ℕ
+blocks s u left entered arrived = grid (arms_of s u) s.destinations left ++ (grid (s.outs u) s.destinations entered ++ list_below 1 arrived)
+
+length-blocks : (s : Setting) (u : ℕ) (left entered : ℕ → ℕ → ℕ) (arrived : ℕ → ℕ) → length (blocks s u left entered arrived) ≡ counts_width (shape_at s u)
+length-blocks s u left entered arrived =
     omega (
-      length-append left (entered ++ arrived),
-      length-append entered arrived,
-      length-grid (arms_of s u) s.destinations (λ i d. c (arm_group s u i) d t),
-      length-grid (s.outs u) s.destinations (λ j d. c (up_of (s.out_link u j)) d t),
-      length-list_below 1 (λ k. arrived_by s c (s.own u) t),
+      length-append (grid (arms_of s u) s.destinations left) (grid (s.outs u) s.destinations entered ++ list_below 1 arrived),
+      length-append (grid (s.outs u) s.destinations entered) (list_below 1 arrived),
+      length-grid (arms_of s u) s.destinations left,
+      length-grid (s.outs u) s.destinations entered,
+      length-list_below 1 arrived,
       arith,
     )
 
-in_row : (s : Setting) (c : Counts) (u t : ℕ) → (sends : List ℕ) × (rest : List ℕ) × (length sends ≡ counts_begin (shape_at s u)) × (pair_row s c u t ≡ sends ++ (count_row s c u t ++ rest))
-in_row s c u t =
-    let left : List ℕ = grid (arms_of s u) s.destinations (λ i d. c (arm_group s u i) d t) in
-    let entered : List ℕ = grid (s.outs u) s.destinations (λ j d. c (up_of (s.out_link u j)) d t) in
-    let arrived : List ℕ = list_below 1 (λ k. arrived_by s c (s.own u) t) in
-    let rest : List ℕ =
-    list_below (s.outs u) (λ j. receiving s c (s.out_link u j) t) ++ (list_below (arms_of s u) (arm_capacity s u) ++ grid s.destinations (s.outs u) (λ d j. s.weight u d t j)) in
-    let sends : List ℕ = grid (arms_of s u) s.destinations (sending s c u t) in
-    let inner : (entered ++ arrived) ++ rest ≡ entered ++ (arrived ++ rest) = append_assoc entered arrived rest in
-    let outer : (left ++ (entered ++ arrived)) ++ rest ≡ left ++ ((entered ++ arrived) ++ rest) = append_assoc left (entered ++ arrived) rest in
-    (sends, rest, length-grid (arms_of s u) s.destinations (sending s c u t), sym (ap (λ z. sends ++ z) (outer ∙ ap (λ z. left ++ z) inner)))
+length-counts : (s : Setting) (c : Counts) (u t : ℕ) → length (count_row s c u t) ≡ counts_width (shape_at s u)
+length-counts s c u t = length-blocks s u (λ i d. c (arm_group s u i) d t) (λ j d. c (up_of (s.out_link u j)) d t) (λ k. arrived_by s c (s.own u) t)
+
+-- what stands before them and what behind
+abbrev sends_of : Setting → Counts → ℕ → ℕ → List ℕ
+sends_of s c u t = grid (arms_of s u) s.destinations (sending s c u t)
+
+abbrev limits_of : Setting → Counts → ℕ → ℕ → List ℕ
+limits_of s c u t = list_below (s.outs u) (λ j. receiving s c (s.out_link u j) t) ++ (list_below (arms_of s u) (arm_capacity s u) ++ grid s.destinations (s.outs u) (λ d j. s.weight u d t j))
+
+joined : (a l e r b : List ℕ) → a ++ (l ++ (e ++ (r ++ b))) ≡ a ++ ((l ++ (e ++ r)) ++ b)
+joined a l e r b = sym (ap (λ z. a ++ z) (append_assoc l (e ++ r) b ∙ ap (λ z. l ++ z) (append_assoc e r b)))
+
+in_row : (s : Setting) (c : Counts) (u t : ℕ) (left entered : ℕ → ℕ → ℕ) (arrived : ℕ → ℕ) →
+    sends_of s c u t ++ (grid (arms_of s u) s.destinations left ++ (grid (s.outs u) s.destinations entered ++ (list_below 1 arrived ++ limits_of s c u t)))
+    ≡ sends_of s c u t ++ (blocks s u left entered arrived ++ limits_of s c u t)
+in_row s c u t left entered arrived =
+    joined (sends_of s c u t) (grid (arms_of s u) s.destinations left) (grid (s.outs u) s.destinations entered) (list_below 1 arrived) (limits_of s c u t)
+
+without : (s : Setting) (c : Counts) (u t : ℕ) (left entered : ℕ → ℕ → ℕ) (arrived : ℕ → ℕ) →
+    uncounted s u (sends_of s c u t ++ (grid (arms_of s u) s.destinations left ++ (grid (s.outs u) s.destinations entered ++ (list_below 1 arrived ++ limits_of s c u t))))
+    ≡ sends_of s c u t ++ limits_of s c u t
+without s c u t left entered arrived =
+    ap (uncounted s u) (in_row s c u t left entered arrived)
+    ∙ around (counts_begin (shape_at s u)) (supplies_begin (shape_at s u)) (sends_of s c u t) (blocks s u left entered arrived) (limits_of s c u t)
+    (length-grid (arms_of s u) s.destinations (sending s c u t)) (omega (arith, length-blocks s u left entered arrived))
+
+no_counts : (s : Setting) (c : Counts) (u t : ℕ) → uncounted s u (pair_row s c u t) ≡ sends_of s c u t ++ limits_of s c u t
+no_counts s c u t = without s c u t (λ i d. c (arm_group s u i) d t) (λ j d. c (up_of (s.out_link u j)) d t) (λ k. arrived_by s c (s.own u) t)
+
+-- what is kept of inputs with 0 for each count is what is kept of the row
+pub kept_uncounted : (s : Setting) (c : Counts) (u t : ℕ) (n : Inputs) → IsUncountedPair s c u t n → uncounted s u n.row ≡ uncounted s u (pair_row s c u t)
+kept_uncounted s c u t n is =
+    ap (uncounted s u) is.row ∙ (without s c u t (λ i d. 0) (λ j d. 0) (λ k. 0) ∙ sym (no_counts s c u t))
 
 -- what is kept of a row gives the row again
 pub fill_uncounted : (s : Setting) (c : Counts) (u t : ℕ) → filled s c u t (uncounted s u (pair_row s c u t)) ≡ pair_row s c u t
 fill_uncounted s c u t =
-    let parts = in_row s c u t in
-    let sends : List ℕ = parts.0 in
-    let rest : List ℕ = parts.1 in
-    let long : length sends ≡ counts_begin (shape_at s u) = parts.2 in
-    let split : pair_row s c u t ≡ sends ++ (count_row s c u t ++ rest) = parts.3 in
-    let short : uncounted s u (pair_row s c u t) ≡ sends ++ rest =
-    ap (uncounted s u) split ∙ around (counts_begin (shape_at s u)) (supplies_begin (shape_at s u)) sends (count_row s c u t) rest long (omega (arith, length-counts s c u t)) in
-    ap (filled s c u t) short ∙ (between (counts_begin (shape_at s u)) sends (count_row s c u t) rest long ∙ sym split)
+    let n : ℕ = counts_begin (shape_at s u) in
+    ap (filled s c u t) (no_counts s c u t)
+    ∙ (between n (sends_of s c u t) (count_row s c u t) (limits_of s c u t) (length-grid (arms_of s u) s.destinations (sending s c u t))
+    ∙ sym (in_row s c u t (λ i d. c (arm_group s u i) d t) (λ j d. c (up_of (s.out_link u j)) d t) (λ k. arrived_by s c (s.own u) t)))
 
 -- and of counts that are filled in nothing is left
 pub uncounted_filled : (s : Setting) (c : Counts) (u t : ℕ) (row : List ℕ) → counts_begin (shape_at s u) ≤ length row → uncounted s u (filled s c u t row) ≡ row
@@ -95,28 +119,18 @@ uncounted_filled s c u t row long =
     around n (supplies_begin (shape_at s u)) (take n row) (count_row s c u t) (drop n row) (length-take-le n row long) (omega (arith, length-counts s c u t)) ∙ take-append-drop n row
 
 -- what a pair reads is as wide as its shape says
-pub inputs_long : (s : Setting) (c : Counts) (u t : ℕ) (n : Inputs) → IsPairInputs s c u t n → length n.row ≡ width n.shape
-inputs_long s c u t n is =
-    let wide : length (pair_row s c u t) ≡ width (shape_at s u) = omega (arith, length-pair_row s c u t, mul_comm s.destinations (s.outs u)) in
-    ap (λ (z : List ℕ). length z) is.row ∙ (wide ∙ ap width (sym is.shape))
+pub pair_long : (s : Setting) (c : Counts) (u t : ℕ) → length (pair_row s c u t) ≡ width (shape_at s u)
+pair_long s c u t = omega (arith, length-pair_row s c u t, mul_comm s.destinations (s.outs u))
 
 -- the parts of a row around the counts
-pub row_parts : (s : Setting) (u : ℕ) (shape : NodeShape) (row a b : List ℕ) → shape ≡ shape_at s u → a ≡ take (counts_begin shape) row → b ≡ drop (supplies_begin shape) row → a ++ b ≡ uncounted s u row
-row_parts s u shape row a b is front back =
-    let first : a ≡ take (counts_begin (shape_at s u)) row = front ∙ ap (λ (z : NodeShape). take (counts_begin z) row) is in
-    let last : b ≡ drop (supplies_begin (shape_at s u)) row = back ∙ ap (λ (z : NodeShape). drop (supplies_begin z) row) is in
-    rw (first, last) refl
-
-pub parts_are : (s : Setting) (u : ℕ) (n : Inputs) (a b : List ℕ) → n.shape ≡ shape_at s u → a ≡ take (counts_begin n.shape) n.row → b ≡ drop (supplies_begin n.shape) n.row → a ++ b ≡ uncounted s u n.row
-parts_are s u n a b shape front back = row_parts s u n.shape n.row a b shape front back
-
-pub is_shape : (n m : Inputs) (shape at : NodeShape) → shape ≡ m.shape → m ≡ n → n.shape ≡ at → shape ≡ at
-is_shape n m shape at e f g = e ∙ (ap (λ (z : Inputs). z.shape) f ∙ g)
+pub parts_are : (s : Setting) (u : ℕ) (n : Inputs) (parts : List ℕ) → n.shape ≡ shape_at s u → parts ≡ without_counts n.shape n.row → parts ≡ uncounted s u n.row
+parts_are s u n parts shape is = is ∙ ap (λ (z : NodeShape). without_counts z n.row) shape
 
 -- ---- what is kept of a table
-pub long_row : (s : Setting) (slots : ℕ) (k : KeptRows) (u t : ℕ) → HasRows s false slots k → u < s.nodes → t < slots → counts_begin (shape_at s u) ≤ length (row_of k u t)
+pub long_row : (s : Setting) (slots : ℕ) (k : KeptRows) (u t : ℕ) → HasRows s slots k → u < s.nodes → t < slots → counts_begin (shape_at s u) ≤ length (row_of k u t)
 long_row s slots k u t has x l =
-    omega (arith, length_row k u t (omega (arith, x, has.nodes)) (omega (arith, l, has.same_slots)), has.widths u x)
+    let node : u < nodes_of k = omega (arith, x, has.amounts.nodes) in
+    omega (arith, length-append (amounts_of k u t) (weights_of k u t), length_row k u t node (omega (arith, l, has.same_slots)), has.amounts.widths u x)
 
 same_some : (x y : List ℕ) → Some x ≡ Some y → x ≡ y
 same_some x y e = cc
@@ -125,7 +139,7 @@ same_some x y e = cc
 pub kept_whole : (s : Setting) (t : Table) (u v : ℕ) → kept_row t.kept u v ≡ Some (uncounted s u (pair_row s (counts_of t.curves) u v)) → kept_of s t u v ≡ Some (pair_row s (counts_of t.curves) u v)
 kept_whole s t u v same = ap (option_map (filled s (counts_of t.curves) u v)) same ∙ ap (λ (z : List ℕ). Some z) (fill_uncounted s (counts_of t.curves) u v)
 
-pub whole_kept : (s : Setting) (t : Table) (u v : ℕ) → HasRows s false s.slots t.kept → u < s.nodes → v < s.slots → kept_of s t u v ≡ Some (pair_row s (counts_of t.curves) u v) →
+pub whole_kept : (s : Setting) (t : Table) (u v : ℕ) → HasRows s s.slots t.kept → u < s.nodes → v < s.slots → kept_of s t u v ≡ Some (pair_row s (counts_of t.curves) u v) →
     kept_row t.kept u v ≡ Some (uncounted s u (pair_row s (counts_of t.curves) u v))
 whole_kept s t u v has x l same =
     let c : Counts = counts_of t.curves in
@@ -249,9 +263,9 @@ pub forgets_off : (b : Bool) (k : KeptRows) (u t : ℕ) → b ≡ false → Forg
 forgets_off true k u t off = absurd (cc)
 forgets_off false k u t off = refl
 
-pub forgets_rows : (b : Bool) (old new : KeptRows) (u t : ℕ) → ForgetsIf b old new u t → (new.starts ≡ old.starts) × (new.slots ≡ old.slots)
-forgets_rows true old new u t is = (is.starts, is.slots)
-forgets_rows false old new u t is = (ap (λ (z : KeptRows). z.starts) is, ap (λ (z : KeptRows). z.slots) is)
+pub forgets_rows : (b : Bool) (old new : KeptRows) (u t : ℕ) → ForgetsIf b old new u t → SamePlaces old new × (new.slots ≡ old.slots)
+forgets_rows true old new u t is = (is.places, is.slots)
+forgets_rows false old new u t is = (record { narrow = ap (λ (z : KeptRows). z.narrow) is; wide = ap (λ (z : KeptRows). z.wide) is }, ap (λ (z : KeptRows). z.slots) is)
 
 pub forgets_others : (b : Bool) (old new : KeptRows) (u t w v : ℕ) → ForgetsIf b old new u t → w < nodes_of old → v < slots_of old → (u ≡ w → t ≡ v → ⊥) → kept_row new w v ≡ kept_row old w v
 forgets_others true old new u t w v is x l other = is.others w v x l other
@@ -265,7 +279,16 @@ pub forgets_one : (b : Bool) (old new : KeptRows) (u t : ℕ) → b ≡ true →
 forgets_one true old new u t on is x l = is.gone x l
 forgets_one false old new u t on is x l = absurd (cc)
 
-pub rows_left : (s : Setting) (counted : Bool) (slots : ℕ) (b : Bool) (old new : KeptRows) (u t : ℕ) → HasRows s counted slots old → ForgetsIf b old new u t → HasRows s counted slots new
-rows_left s counted slots b old new u t has is =
-    let size = forgets_rows b old new u t is in
-    record { nodes = rw size.0 has.nodes; same_slots = size.1 ∙ has.same_slots; widths = λ w x. rw size.0 (has.widths w x) }
+-- ---- rows that lie where they lay have the widths that they had
+pub rows_at : (s : Setting) (before slots : ℕ) (old new : KeptRows) → HasRows s before old → SamePlaces old new → new.slots ≡ slots → HasRows s slots new
+rows_at s before slots old new has places same = record {
+  amounts = subst (λ (z : Layout). LiesAs s Amounts z) (sym places.narrow) has.amounts;
+  weights = subst (λ (z : Layout). LiesAs s Weights z) (sym places.wide) has.weights;
+  same_slots = same;
+}
+
+pub rows_lie : (s : Setting) (slots : ℕ) (old new : KeptRows) → HasRows s slots old → SamePlaces old new → new.slots ≡ old.slots → HasRows s slots new
+rows_lie s slots old new has places same = rows_at s slots slots old new has places (same ∙ has.same_slots)
+
+pub rows_left : (s : Setting) (slots : ℕ) (b : Bool) (old new : KeptRows) (u t : ℕ) → HasRows s slots old → ForgetsIf b old new u t → HasRows s slots new
+rows_left s slots b old new u t has is = let size = forgets_rows b old new u t is in rows_lie s slots old new has size.0 size.1

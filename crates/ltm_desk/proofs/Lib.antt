@@ -1,6 +1,9 @@
 pub mod Bools
 pub mod RowPlaces
+pub mod KeptPlaces
+pub mod ClaimPlaces
 pub mod Smalls
+pub mod PartRows
 pub mod SameRows
 pub mod Startings
 pub mod Activating
@@ -10,6 +13,7 @@ pub mod Listing
 pub mod Windows
 pub mod Wakings
 pub mod Renewals
+pub mod Counted
 pub mod Reading
 pub mod Keeping
 pub mod Desks

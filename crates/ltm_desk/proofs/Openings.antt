@@ -12,9 +12,9 @@ use Rattle.ltm_node.specs.Inputs.{Inputs}
 use Rattle.ltm_node.specs.Laws.{NothingIsSent}
 use Rattle.ltm_loading.specs.Setting.{Setting, IsSetting}
 use Rattle.ltm_loading.specs.Groups.{up_of, down_of, groups}
-use Rattle.ltm_loading.specs.Pairs.{shape_at, pair_row}
-use Rattle.ltm_loading.specs.NextPair.{IsPairInputs}
-use Rattle.ltm_loading.specs.ByPlace.{InputsByPlace}
+use Rattle.ltm_loading.specs.Pairs.{shape_at}
+use Rattle.ltm_loading.specs.Uncounted.{uncounted_row, IsUncountedPair}
+use Rattle.ltm_loading.proofs.Uncounted.{uncounted_parts}
 use Rattle.ltm_loading.proofs.Same.{AgreeAt, pair_row_same, position_same}
 use Rattle.ltm_inputs.specs.Idle.{IsIdle}
 use Rattle.ltm_index.specs.declared.read_index.ReadIndex.{ReadIndex}
@@ -46,11 +46,11 @@ keeps_still s a b k x slot nodes is few stays keeps = record {
 }
 
 -- a pair is idle where its inputs tell that nothing is sent
-pub idle_inputs : (s : Setting) (c : Counts) (u t : ℕ) (n : Inputs) → InputsByPlace → IsPairInputs s c u t n → NothingIsSent n → IsIdle s c u t
-idle_inputs s c u t n by_place reads none i d l m =
-    let same : slice_index n.row (sending_place n.shape i d) ≡ slice_index (pair_row s c u t) (sending_place (shape_at s u) i d) =
+pub idle_inputs : (s : Setting) (c : Counts) (u t : ℕ) (n : Inputs) → IsUncountedPair s c u t n → NothingIsSent n → IsIdle s c u t
+idle_inputs s c u t n reads none i d l m =
+    let same : slice_index n.row (sending_place n.shape i d) ≡ slice_index (uncounted_row s c u t) (sending_place (shape_at s u) i d) =
     ap (λ (z : NodeShape). slice_index n.row (sending_place z i d)) reads.shape ∙ ap (λ (z : List ℕ). slice_index z (sending_place (shape_at s u) i d)) reads.row in
-    sym ((by_place s c u t).0.sending i d l m)
+    sym ((uncounted_parts s c u t).sending i d l m)
     ∙ (sym same ∙ none i d (omega (arith, ap (λ (z : NodeShape). z.arms) reads.shape)) (omega (arith, ap (λ (z : NodeShape). z.destinations) reads.shape)))
 
 -- the front of a row is what the arms send

@@ -1,5 +1,5 @@
 -- A table with more room, and otherwise as before.
-use Rattle.std.proofs.Common.{◌≡◌, ℕ, Bool, true, false, refl, ap, sym, ◌∙◌, subst, arith}
+use Rattle.std.proofs.Common.{◌≡◌, ℕ, Bool, false, refl, ap, sym, ◌∙◌, subst, arith}
 use Rattle.std.specs.Prelude.{None}
 use Rattle.std.proofs.Math.Path.{fun_ext}
 use Rattle.ltm_curve.specs.Counts.{Counts}
@@ -12,16 +12,19 @@ use Rattle.ltm_index.specs.Lists.{slots_of as slots_listed, SameLists}
 use Rattle.ltm_repair.specs.Desk.{Desk}
 use Rattle.ltm_repair.specs.Facts.{IsSound}
 use Rattle.ltm_repair.specs.Index.{IndexIsCurrent}
-use Rattle.ltm_desk.specs.declared.rows.KeptRows.{KeptRows}
+use Rattle.ltm_desk.specs.declared.claim_rows.ClaimRows.{ClaimRows}
+use Rattle.ltm_desk.specs.declared.layout.Part.TheVariants.{All}
 use Rattle.ltm_desk.specs.declared.table.Table.{Table}
-use Rattle.ltm_desk.specs.Rows.{slots_of as slots_kept, row_of, SameRows}
+use Rattle.ltm_desk.specs.Layouts.{LiesAs}
+use Rattle.ltm_desk.specs.Claims.{claim_row}
+use Rattle.ltm_desk.specs.Rows.{slots_of as slots_kept, SameRows}
 use Rattle.ltm_desk.specs.Pairs.{of_pairs, of_cells}
 use Rattle.ltm_desk.specs.Desks.{kept_of, desk_at, place_of, changed_at, claim_of}
-use Rattle.ltm_desk.specs.Ready.{FitsTable, ClaimsArePlaced, IsReady, HasRows}
+use Rattle.ltm_desk.specs.Ready.{FitsTable, ClaimsArePlaced, IsReady}
 use Rattle.ltm_desk.specs.Growing.{SeenAs}
-use Rattle.ltm_desk.proofs.RowPlaces.{stays_kept}
+use Rattle.ltm_desk.proofs.KeptPlaces.{stays_kept}
 use Rattle.ltm_desk.proofs.Desks.{same_pairs, claim_same}
-use Rattle.ltm_desk.proofs.Keeping.{same_kept_of}
+use Rattle.ltm_desk.proofs.Keeping.{same_kept_of, rows_lie}
 use Rattle.ltm_desk.proofs.Standing.{same_place}
 
 -- each part is as before
@@ -44,8 +47,8 @@ parts_fit s a b same fits = record {
     same_destinations = same.shape.destinations ∙ fits.curves.same_destinations;
     same_slots = same.shape.slots ∙ fits.curves.same_slots;
   };
-  kept = record { nodes = rw same.kept.starts fits.kept.nodes; same_slots = same.kept_slots ∙ fits.kept.same_slots; widths = λ u x. rw same.kept.starts (fits.kept.widths u x) };
-  claims = subst (λ (z : KeptRows). HasRows s true 1 z) (sym same.claims) fits.claims;
+  kept = rows_lie s s.slots a.kept b.kept fits.kept same.kept.places same.kept_slots;
+  claims = subst (λ (z : ClaimRows). LiesAs s All z.places) (sym same.claims) fits.claims;
   frontier = record { nodes = same.pairs.nodes ∙ fits.frontier.nodes; slots = same.pair_slots ∙ fits.frontier.slots };
   index = record { links = same.lists.links ∙ fits.index.links; slots = same.list_slots ∙ fits.index.slots };
   changed = record { same_groups = same.cells.shape.same_groups ∙ fits.changed.same_groups; same_slots = same.cells.shape.same_slots ∙ fits.changed.same_slots };
@@ -56,10 +59,10 @@ unfolding desk_at
 parts_desk s a b same fits =
     let K : of_pairs s None (kept_of s b) ≡ of_pairs s None (kept_of s a) =
     same_pairs s None (kept_of s b) (kept_of s a)
-    (λ u v x l. same_kept_of s a b u v (stays_kept a.kept b.kept u v same.kept (omega (arith, x, fits.kept.nodes)) (omega (arith, l, fits.kept.same_slots))) (ap (λ (c : Counts). count_row s c u v) same.counts)) in
+    (λ u v x l. same_kept_of s a b u v (stays_kept a.kept b.kept u v same.kept (omega (arith, x, fits.kept.amounts.nodes)) (omega (arith, l, fits.kept.same_slots))) (ap (λ (c : Counts). count_row s c u v) same.counts)) in
     let A : of_pairs s false (is_active b.frontier) ≡ of_pairs s false (is_active a.frontier) = same_pairs s false (is_active b.frontier) (is_active a.frontier) (λ u v x l. same.pairs.active u v) in
     let C : of_pairs s None (claim_of b) ≡ of_pairs s None (claim_of a) =
-    same_pairs s None (claim_of b) (claim_of a) (λ u v x l. claim_same a b u v (same.pairs.claims.pairs u v) (ap (λ (z : KeptRows). row_of z u 0) same.claims)) in
+    same_pairs s None (claim_of b) (claim_of a) (λ u v x l. claim_same a b u v (same.pairs.claims.pairs u v) (ap (λ (z : ClaimRows). claim_row z u) same.claims)) in
     rw (K, A, C, same.counts) refl
 
 parts_changed : (s : Setting) (a b : Table) → SameParts a b → changed_at s b ≡ changed_at s a

@@ -1,14 +1,14 @@
--- A row is put in its place.
-use Rattle.std.proofs.Common.{◌≡◌, ℕ, ◌+◌, ◌-◌, ◌*◌, ◌<◌, ◌≤◌, ◌⊎◌, List, ◌++◌, true, false, length, slice_index, get_or, drop, arith, inl, inr, refl, ap, sym, ◌∙◌}
-use Rattle.std.specs.Prelude.{slice_range, take, replicate, Bool, Some, None, IsTrue, ◌↔◌, if◌then◌else◌}
+-- Where rows lie.
+use Rattle.std.proofs.Common.{◌≡◌, ℕ, ◌+◌, ◌-◌, ◌*◌, ◌<◌, ◌≤◌, ◌⊎◌, List, ◌++◌, length, slice_index, get_or, take, drop, arith, inl, inr, refl, ap, sym, ◌∙◌}
+use Rattle.std.specs.Prelude.{slice_range}
+use Rattle.std.specs.Global.{Vec}
+use Rattle.std.specs.Vec.{with_items}
 use Rattle.std.proofs.Math.Nat.{mul-le-mul_right}
 use Rattle.std.proofs.lemmas.Bool.{cases_lt}
-use Rattle.std.specs.Vec.{with_items}
-use Rattle.std.proofs.lemmas.List.{ext_get_or, length-take-le, length-drop, length-append, get_or-take, get_or-drop, get_or_append_left, take_all, with_items_is}
+use Rattle.std.proofs.lemmas.List.{ext_get_or, length-take, length-take-le, length-drop, length-append, get_or-take, get_or-drop, get_or_append_left, with_items_is}
 use Rattle.ltm_curve.proofs.PutOver.{put_over, length_over, before_over, in_over, after_over}
-use Rattle.ltm_marks.specs.Marks.{is_marked, SetsMark}
-use Rattle.ltm_desk.specs.declared.rows.KeptRows.{KeptRows}
-use Rattle.ltm_desk.specs.Rows.{slot_width, nodes_of, slots_of, width_of, start_of, row_of, has_row, kept_row, SameRows, WritesRow, PutsRow, ForgetsRow}
+use Rattle.ltm_desk.specs.declared.layout.Layout.{Layout}
+use Rattle.ltm_desk.specs.Layouts.{slot_width, nodes_in, width_in, start_in, row_in}
 
 -- a part of a list, number by number
 pub length_part : (xs : List ℕ) (a w : ℕ) → a + w ≤ length xs → length (slice_range xs a (a + w)) ≡ w
@@ -29,14 +29,13 @@ part_is xs ys a w l m h =
     (λ i x. let below : i < w = omega (length_part xs a w l, x, arith) in part_at xs a w i below ∙ h i below)
 
 -- rows of different pairs lie apart
-apart : (k : KeptRows) (u t w v : ℕ) → u < nodes_of k → t < slots_of k → w < nodes_of k → v < slots_of k → (u ≡ w → t ≡ v → ⊥) →
-    ((a b : ℕ) → a ≤ b → b < length k.starts.items → slice_index k.starts.items a ≤ slice_index k.starts.items b) →
-    (start_of k w v + width_of k w ≤ start_of k u t) ⊎ (start_of k u t + width_of k u ≤ start_of k w v)
-apart k u t w v x l y m other rising =
-    let W : ℕ = slot_width k in
-    let S : ℕ → ℕ = λ a. slice_index k.starts.items a in
-    let u_in : S (u + 1) ≤ W = rising (u + 1) (length k.starts.items - 1) (omega arith) (omega arith) in
-    let w_in : S (w + 1) ≤ W = rising (w + 1) (length k.starts.items - 1) (omega arith) (omega arith) in
+apart : (p : Layout) (u t w v : ℕ) → u < nodes_in p → w < nodes_in p → (u ≡ w → t ≡ v → ⊥) → (start_in p w v + width_in p w ≤ start_in p u t) ⊎ (start_in p u t + width_in p u ≤ start_in p w v)
+apart p u t w v x y other =
+    let W : ℕ = slot_width p in
+    let S : ℕ → ℕ = λ a. slice_index p.starts.items a in
+    let rising : (a b : ℕ) → a ≤ b → b < length p.starts.items → S a ≤ S b = p.rising in
+    let u_in : S (u + 1) ≤ W = rising (u + 1) (length p.starts.items - 1) (omega arith) (omega arith) in
+    let w_in : S (w + 1) ≤ W = rising (w + 1) (length p.starts.items - 1) (omega arith) (omega arith) in
     let u_up : S u ≤ S (u + 1) = rising u (u + 1) (omega arith) (omega arith) in
     let w_up : S w ≤ S (w + 1) = rising w (w + 1) (omega arith) (omega arith) in
     elim (cases_lt v t) [
@@ -62,132 +61,70 @@ apart k u t w v x l y m other rising =
       ]
     ]
 
--- a row ends within the table
-row_within : (k : KeptRows) (w v : ℕ) → w < nodes_of k → v < slots_of k → length k.numbers.items ≡ k.room * slot_width k → k.slots ≤ k.room →
-    ((a b : ℕ) → a ≤ b → b < length k.starts.items → slice_index k.starts.items a ≤ slice_index k.starts.items b) → start_of k w v + width_of k w ≤ length k.numbers.items
-row_within k w v y m long room rising =
-    let W : ℕ = slot_width k in
-    let S : ℕ → ℕ = λ a. slice_index k.starts.items a in
-    let w_in : S (w + 1) ≤ W = rising (w + 1) (length k.starts.items - 1) (omega arith) (omega arith) in
+-- a row ends within a table of so many slots
+pub row_within : (p : Layout) (room most w v : ℕ) → w < nodes_in p → v < room → room * slot_width p ≤ most → start_in p w v + width_in p w ≤ most
+row_within p room most w v y m long =
+    let W : ℕ = slot_width p in
+    let S : ℕ → ℕ = λ a. slice_index p.starts.items a in
+    let rising : (a b : ℕ) → a ≤ b → b < length p.starts.items → S a ≤ S b = p.rising in
+    let w_in : S (w + 1) ≤ W = rising (w + 1) (length p.starts.items - 1) (omega arith) (omega arith) in
     let w_up : S w ≤ S (w + 1) = rising w (w + 1) (omega arith) (omega arith) in
-    let next : v + 1 ≤ k.room = omega (arith, m, room) in
-    let times : (v + 1) * W ≤ k.room * W = mul-le-mul_right W next in
+    let next : v + 1 ≤ room = omega (arith, m) in
+    let times : (v + 1) * W ≤ room * W = mul-le-mul_right W next in
     omega (times, long, w_in, w_up, arith)
 
 -- a row has the width of its node
-pub length_row : (k : KeptRows) (u t : ℕ) → u < nodes_of k → t < slots_of k → length (row_of k u t) ≡ width_of k u
-unfolding row_of
-length_row k u t x l = length_part k.numbers.items (start_of k u t) (width_of k u) (row_within k u t x l k.long k.within k.rising)
+pub length_in : (p : Layout) (xs : List ℕ) (room u t : ℕ) → u < nodes_in p → t < room → room * slot_width p ≤ length xs → length (row_in p xs u t) ≡ width_in p u
+unfolding row_in
+length_in p xs room u t x l long = length_part xs (start_in p u t) (width_in p u) (row_within p room (length xs) u t x l long)
 
-pub writes_row : (old new : KeptRows) (u t : ℕ) (row : List ℕ) → u < nodes_of old → t < slots_of old → length row ≡ width_of old u → new.starts ≡ old.starts → new.slots ≡ old.slots →
-    new.numbers.items ≡ put_over (start_of old u t) (start_of old u t + width_of old u) old.numbers.items row → WritesRow old new u t row
-unfolding row_of
-writes_row old new u t row x l same starts slots put =
-    let a : ℕ = start_of old u t in
-    let w0 : ℕ = width_of old u in
-    let xs : List ℕ = old.numbers.items in
-    let ys : List ℕ = put_over a (a + w0) xs row in
-    let within : a + w0 ≤ length xs = row_within old u t x l old.long old.within old.rising in
-    let wide : length row ≡ a + w0 - a = omega (same, arith) in
-    let kept_long : length ys ≡ length xs = length_over a (a + w0) xs row (omega arith) within wide in
-    record {
-      starts = starts;
-      slots = slots;
-      here = rw (starts, put) (part_is ys row a w0 (omega (kept_long, within, arith)) same (λ i below. in_over a (a + w0) xs row i (omega arith) within (omega (same, below, arith))));
-      others = λ w v y m other.
-          let b : ℕ = start_of old w v in
-          let w1 : ℕ = width_of old w in
-          let there : b + w1 ≤ length xs = row_within old w v y m old.long old.within old.rising in
-          rw (starts, put) (same_part ys xs b w1 (omega (kept_long, there, arith)) there (λ i below.
-          elim (apart old u t w v x l y m other old.rising) [
-            | inl before ↦ before_over a (a + w0) xs row (b + i) (omega arith) within (omega (before, below, arith))
-            | inr behind ↦ after_over a (a + w0) xs row (b + i) (omega arith) within wide (omega (behind, arith))
-          ]));
-    }
+-- the numbers after a row was written in the place of a pair's
+abbrev pub written : Layout → List ℕ → ℕ → ℕ → List ℕ → List ℕ
+written p xs u t row = put_over (start_in p u t) (start_in p u t + width_in p u) xs row
 
-pub puts_row : (old new : KeptRows) (u t : ℕ) (row : List ℕ) → WritesRow old new u t row → SetsMark old.there new.there u t true → PutsRow old new u t row
-puts_row old new u t row writes mark = record {
-  writes = writes;
-  there = mark.here;
-  others_there = λ w v y m other. mark.others w v (omega (arith, y, old.nodes)) (omega (arith, m, old.rows)) other;
-}
+pub length_written : (p : Layout) (xs : List ℕ) (room u t : ℕ) (row : List ℕ) → u < nodes_in p → t < room → room * slot_width p ≤ length xs → length row ≡ width_in p u → length (written p xs u t row) ≡ length xs
+length_written p xs room u t row x l long same =
+    length_over (start_in p u t) (start_in p u t + width_in p u) xs row (omega arith) (row_within p room (length xs) u t x l long) (omega (same, arith))
 
--- rows in which one is written that no call has written
-pub with_row : (k : KeptRows) (u t : ℕ) (row : List ℕ) → u < nodes_of k → t < slots_of k → length row ≡ width_of k u → (m : KeptRows) × WritesRow k m u t row
-with_row k u t row x l same =
-    let a : ℕ = start_of k u t in
-    let ys : List ℕ = put_over a (a + width_of k u) k.numbers.items row in
-    let long : length ys ≡ length k.numbers.items = length_over a (a + width_of k u) k.numbers.items row (omega arith) (row_within k u t x l k.long k.within k.rising) (omega (same, arith)) in
-    let all : (with_items k.numbers ys).items ≡ ys = with_items_is k.numbers ys (long ∙ sym k.numbers.ok.0) in
-    let m : KeptRows = record k { numbers = with_items k.numbers ys; long = ap length all ∙ (long ∙ k.long) } in
-    (m, writes_row k m u t row x l same refl refl all)
+pub written_here : (p : Layout) (xs : List ℕ) (room u t : ℕ) (row : List ℕ) → u < nodes_in p → t < room → room * slot_width p ≤ length xs → length row ≡ width_in p u → row_in p (written p xs u t row) u t ≡ row
+unfolding row_in
+written_here p xs room u t row x l long same =
+    let a : ℕ = start_in p u t in
+    let wide : ℕ = width_in p u in
+    let within : a + wide ≤ length xs = row_within p room (length xs) u t x l long in
+    part_is (written p xs u t row) row a wide (omega (length_written p xs room u t row x l long same, within, arith)) same (λ i below. in_over a (a + wide) xs row i (omega arith) within (omega (same, below, arith)))
 
--- ---- rows that are there
-pub put_kept : (a b : KeptRows) (u t : ℕ) (row : List ℕ) → PutsRow a b u t row → kept_row b u t ≡ Some row
-put_kept a b u t row puts = ap (λ z. if z then Some (row_of b u t) else None) puts.there ∙ ap (λ (z : List ℕ). Some z) puts.writes.here
+pub written_other : (p : Layout) (xs : List ℕ) (room u t : ℕ) (row : List ℕ) (w v : ℕ) → u < nodes_in p → t < room → room * slot_width p ≤ length xs → length row ≡ width_in p u → w < nodes_in p → v < room → (u ≡ w → t ≡ v → ⊥) →
+    row_in p (written p xs u t row) w v ≡ row_in p xs w v
+unfolding row_in
+written_other p xs room u t row w v x l long same y m other =
+    let a : ℕ = start_in p u t in
+    let e : ℕ = a + width_in p u in
+    let b : ℕ = start_in p w v in
+    let within : e ≤ length xs = row_within p room (length xs) u t x l long in
+    let there : b + width_in p w ≤ length xs = row_within p room (length xs) w v y m long in
+    let wide : length row ≡ e - a = omega (same, arith) in
+    same_part (written p xs u t row) xs b (width_in p w) (omega (length_written p xs room u t row x l long same, there, arith)) there (λ i below.
+    elim (apart p u t w v x y other) [
+      | inl before ↦ before_over a e xs row (b + i) (omega arith) within (omega (before, below, arith))
+      | inr behind ↦ after_over a e xs row (b + i) (omega arith) within wide (omega (behind, arith))
+    ])
 
-same_kept : (a b : KeptRows) (w v : ℕ) → has_row b w v ≡ has_row a w v → row_of b w v ≡ row_of a w v → kept_row b w v ≡ kept_row a w v
-same_kept a b w v there row = ap (λ z. if z then Some (row_of b w v) else None) there ∙ ap (λ (z : List ℕ). if has_row a w v then Some z else None) row
+-- so it is where the part of a table between the ends of the row was written
+pub items_written : (p : Layout) (v : Vec ℕ) (room u t from to : ℕ) (whole part row : List ℕ) → u < nodes_in p → t < room → room * slot_width p ≤ length v.items → length row ≡ width_in p u →
+    from ≡ start_in p u t → to ≡ start_in p u t + width_in p u → whole ≡ v.items → part ≡ row → (with_items v (put_over from to whole part)).items ≡ written p v.items u t row
+items_written p v room u t from to whole part row x l long wide start end all is =
+    let same : put_over from to whole part ≡ written p v.items u t row = rw (start, end, all, is) refl in
+    with_items_is v (put_over from to whole part) (ap length same ∙ (length_written p v.items room u t row x l long wide ∙ sym v.ok.0)) ∙ same
 
-pub put_other : (a b : KeptRows) (u t : ℕ) (row : List ℕ) (w v : ℕ) → PutsRow a b u t row → w < nodes_of a → v < slots_of a → (u ≡ w → t ≡ v → ⊥) → kept_row b w v ≡ kept_row a w v
-put_other a b u t row w v puts x l other = same_kept a b w v (puts.others_there w v x l other) (puts.writes.others w v x l other)
-
-pub stays_kept : (a b : KeptRows) (w v : ℕ) → SameRows a b → w < nodes_of a → v < slots_of a → kept_row b w v ≡ kept_row a w v
-stays_kept a b w v same x l = same_kept a b w v (same.there w v) (same.rows w v x l)
-
-pub none_kept : (k : KeptRows) (u t : ℕ) → has_row k u t ≡ false → kept_row k u t ≡ None
-none_kept k u t off = ap (λ z. if z then Some (row_of k u t) else None) off
-
-pub some_kept : (k : KeptRows) (u t : ℕ) → has_row k u t ≡ true → kept_row k u t ≡ Some (row_of k u t)
-some_kept k u t on = ap (λ z. if z then Some (row_of k u t) else None) on
-
-pub same_some : (x y : List ℕ) → Some x ≡ Some y → x ≡ y
-same_some x y e = cc
-
-pub keeps_none : (k : KeptRows) (u t : ℕ) (row : List ℕ) → has_row k u t ≡ false → IsTrue false ↔ (kept_row k u t ≡ Some row)
-keeps_none k u t row off = (λ yes. cc, λ some. let none : kept_row k u t ≡ None = none_kept k u t off in absurd (cc))
-
-pub keeps_this : (k : KeptRows) (u t : ℕ) (row : List ℕ) (r : Bool) → has_row k u t ≡ true → (IsTrue r ↔ (row_of k u t ≡ row)) → IsTrue r ↔ (kept_row k u t ≡ Some row)
-keeps_this k u t row r on told =
-    (λ yes. some_kept k u t on ∙ ap (λ (z : List ℕ). Some z) (told.0 yes), λ some. told.1 (same_some (row_of k u t) row (sym (some_kept k u t on) ∙ some)))
-
--- ---- a row that is there no more
-pub forgets_row : (old new : KeptRows) (u t : ℕ) → u < nodes_of old → t < slots_of old → new.starts ≡ old.starts → new.slots ≡ old.slots → new.numbers ≡ old.numbers → SetsMark old.there new.there u t false →
-    ForgetsRow old new u t
-unfolding row_of
-forgets_row old new u t x l starts slots numbers mark = record {
-  starts = starts;
-  slots = slots;
-  gone = λ y m. none_kept new u t mark.here;
-  others = λ w v y m other. same_kept old new w v (mark.others w v (omega (arith, y, old.nodes)) (omega (arith, m, old.rows)) other) (rw (starts, numbers) refl);
-}
-
-pub forgets_past : (k : KeptRows) (u t : ℕ) → slots_of k ≤ t → ForgetsRow k k u t
-forgets_past k u t past = record { starts = refl; slots = refl; gone = λ y m. absurd (omega (arith, m, past)); others = λ w v y m other. refl }
-
--- ---- further slots
--- numbers behind the table leave its rows
-pub rows_behind : (a b : KeptRows) (more : List ℕ) (w v : ℕ) → w < nodes_of a → v < slots_of a → length a.numbers.items ≡ a.room * slot_width a → a.slots ≤ a.room →
-    ((x y : ℕ) → x ≤ y → y < length a.starts.items → slice_index a.starts.items x ≤ slice_index a.starts.items y) → b.starts ≡ a.starts → b.numbers.items ≡ a.numbers.items ++ more → row_of b w v ≡ row_of a w v
-unfolding row_of
-rows_behind a b more w v x l long room rising starts all =
-    let xs : List ℕ = a.numbers.items in
-    let from : ℕ = start_of a w v in
-    let wide : ℕ = width_of a w in
-    let within : from + wide ≤ length xs = row_within a w v x l long room rising in
-    rw (starts, all) (same_part (xs ++ more) xs from wide (omega (arith, within, length-append xs more)) within (λ i below. get_or_append_left xs more 0 (from + i) (omega (arith, within, below))))
-
-pub same_rows : (a b : KeptRows) → b.starts ≡ a.starts → b.numbers.items ≡ a.numbers.items → ((p r : ℕ) → is_marked b.there p r ≡ is_marked a.there p r) → SameRows a b
-unfolding row_of
-same_rows a b starts items marks = record { starts = starts; rows = λ w v x l. rw (starts, items) refl; there = λ w v. marks w v }
-
-pub more_rows : (a b : KeptRows) (n len : ℕ) → b.starts ≡ a.starts → len ≡ length a.numbers.items → length a.numbers.items ≤ n → b.numbers.items ≡ take n a.numbers.items ++ replicate (n - len) 0 →
-    ((p r : ℕ) → is_marked b.there p r ≡ is_marked a.there p r) → SameRows a b
-more_rows a b n len starts same longer items marks = record {
-  starts = starts;
-  rows = λ w v x l. rows_behind a b (replicate (n - len) 0) w v x l a.long a.within a.rising starts (items ∙ ap (λ (xs : List ℕ). xs ++ replicate (n - len) 0) (take_all n a.numbers.items longer));
-  there = λ w v. marks w v;
-}
-
-pub wider : (old new width : ℕ) → old ≤ new → old * width ≤ new * width
-wider old new width l = mul-le-mul_right width l
+-- a table of which the first numbers are taken, and others put behind them, has the rows that it had
+pub resized_rows : (p : Layout) (xs more : List ℕ) (n room w v : ℕ) → w < nodes_in p → v < room → room * slot_width p ≤ n → room * slot_width p ≤ length xs → row_in p (take n xs ++ more) w v ≡ row_in p xs w v
+unfolding row_in
+resized_rows p xs more n room w v y m enough long =
+    let from : ℕ = start_in p w v in
+    let wide : ℕ = width_in p w in
+    let within : from + wide ≤ length xs = row_within p room (length xs) w v y m long in
+    let taken : from + wide ≤ n = row_within p room n w v y m enough in
+    let first : from + wide ≤ length (take n xs) = omega (length-take n xs, within, taken, arith) in
+    same_part (take n xs ++ more) xs from wide (omega (arith, first, length-append (take n xs) more)) within
+    (λ i below. get_or_append_left (take n xs) more 0 (from + i) (omega (arith, first, below)) ∙ get_or-take n xs (from + i) 0 (omega (arith, taken, below)))

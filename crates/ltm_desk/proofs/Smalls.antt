@@ -1,8 +1,8 @@
 -- What a pair reads fits 32 bits.
-use Rattle.std.proofs.Common.{◌≡◌, ℕ, ◌-◌, ◌*◌, ◌/◌, ◌%◌, ◌^◌, ◌<◌, ◌+◌, List, ◌++◌, take, drop, length, slice_index, ap, arith, inl, inr}
+use Rattle.std.proofs.Common.{◌≡◌, ℕ, ◌-◌, ◌*◌, ◌/◌, ◌%◌, ◌^◌, ◌<◌, List, ◌++◌, length, slice_index, ap, arith, inl, inr}
 use Rattle.std.proofs.Math.Nat.{div-lt_iff_lt-mul, mod-lt}
 use Rattle.std.proofs.lemmas.Bool.{cases_lt}
-use Rattle.std.proofs.lemmas.List.{get_or_past, get_or-take, get_or-drop, length-take}
+use Rattle.std.proofs.lemmas.List.{get_or_past}
 use Rattle.ltm_units.proofs.Sums.{le-sum_below}
 use Rattle.ltm_curve.specs.Counts.{Counts}
 use Rattle.ltm_curve.specs.First.{list_below}
@@ -64,12 +64,3 @@ row_small s c t u v f y x =
     (both_small p3 (p4 ++ (p5 ++ (p6 ++ p7))) (grid_small (s.outs u) s.destinations (λ j d. c (up_of (s.out_link u j)) d t) entereds)
     (both_small p4 (p5 ++ (p6 ++ p7)) (list_small 1 (λ k. arrived_by s c (s.own u) t) (λ k l. come))
     (both_small p5 (p6 ++ p7) s5 (both_small p6 p7 s6 s7)))))
-
--- ---- parts of a row
-pub front_small : (row part : List ℕ) (n : ℕ) → part ≡ take n row → AreSmall row → (i : ℕ) → i < length part → slice_index part i < 2 ^ 32
-front_small row part n is small i l =
-    let low : i < n = omega (arith, l, ap (λ (z : List ℕ). length z) is, length-take n row) in
-    omega (arith, ap (λ (z : List ℕ). slice_index z i) is, get_or-take n row i 0 low, small i)
-
-pub back_small : (row part : List ℕ) (n : ℕ) → part ≡ drop n row → AreSmall row → (i : ℕ) → i < length part → slice_index part i < 2 ^ 32
-back_small row part n is small i l = omega (arith, ap (λ (z : List ℕ). slice_index z i) is, get_or-drop n row i 0, small (n + i))

@@ -1,11 +1,12 @@
 -- A pair is claimed.
-use Rattle.std.proofs.Common.{◌≡◌, ◌≢◌, ℕ, ◌^◌, ◌<◌, ◌==◌, ◌&&◌, ◌||◌, not, List, slice_index, Bool, true, false, refl, ap, sym, ◌∙◌, subst, arith, inl, inr}
+use Rattle.std.proofs.Common.{◌≡◌, ◌≢◌, ℕ, ◌<◌, ◌==◌, ◌&&◌, ◌||◌, not, List, true, false, refl, ap, sym, ◌∙◌, subst, arith, inl, inr}
 use Rattle.std.specs.Prelude.{Some}
 use Rattle.std.proofs.lemmas.Bool.{cases_lt, cases_eq, cases_Bool, eqb-true}
 use Rattle.ltm_curve.specs.Table.{counts_of}
 use Rattle.ltm_node.specs.Inputs.{Inputs}
-use Rattle.ltm_loading.specs.Setting.{Setting, IsSetting}
-use Rattle.ltm_loading.specs.NextPair.{IsPairInputs}
+use Rattle.ltm_loading.specs.Setting.{Setting}
+use Rattle.ltm_loading.specs.Pairs.{pair_row}
+use Rattle.ltm_loading.specs.Uncounted.{IsUncountedPair}
 use Rattle.ltm_frontier.specs.declared.frontier.Frontier.{Frontier}
 use Rattle.ltm_frontier.specs.Frontier.{nodes_of as nodes_in, slots_of as slots_in, is_active, is_claimed, is_pair, ClaimsAreOf, ClaimsPair}
 use Rattle.ltm_frontier.specs.Claims.{has_node, slot_in}
@@ -17,24 +18,22 @@ use Rattle.ltm_repair.specs.Index.{IsPlaced}
 use Rattle.ltm_repair.proofs.Cases.{cases_option, cases_pair}
 use Rattle.ltm_repair.proofs.Keeps.{take_keeps}
 use Rattle.ltm_repair.proofs.Index.{index_stays_current}
-use Rattle.ltm_desk.specs.declared.rows.KeptRows.{KeptRows}
+use Rattle.ltm_desk.specs.declared.claim_rows.ClaimRows.{ClaimRows}
+use Rattle.ltm_desk.specs.declared.layout.Layout.{Layout}
+use Rattle.ltm_desk.specs.declared.layout.Part.TheVariants.{All}
 use Rattle.ltm_desk.specs.declared.table.Table.{Table}
-use Rattle.ltm_desk.specs.Rows.{row_of, WritesRow}
+use Rattle.ltm_desk.specs.Layouts.{LiesAs}
+use Rattle.ltm_desk.specs.Claims.{claim_row, WritesClaim}
 use Rattle.ltm_desk.specs.Desks.{desk_at, place_of}
-use Rattle.ltm_desk.specs.Ready.{IsReady, HasRows}
+use Rattle.ltm_desk.specs.Ready.{IsReady}
 use Rattle.ltm_desk.specs.Searching.{IsFound}
 use Rattle.ltm_desk.proofs.Bools.{or_false, or_right, and_false, and_both}
 use Rattle.ltm_desk.proofs.Desks.{active_is, claimed_is, claim_same, claim_on, claim_off, claimed_row, same_active, same_claim}
-use Rattle.ltm_desk.proofs.Smalls.{row_small}
-use Rattle.ltm_desk.proofs.Dropping.{at_front, pair_test, other_test, and_not}
+use Rattle.ltm_desk.proofs.Dropping.{pair_test, other_test, and_not}
 
 -- a row written in its place leaves the sizes
-pub rows_stay : (s : Setting) (counted : Bool) (slots : ℕ) (a b : KeptRows) (u v : ℕ) (row : List ℕ) → HasRows s counted slots a → WritesRow a b u v row → HasRows s counted slots b
-rows_stay s counted slots a b u v row has writes = record {
-  nodes = rw writes.starts has.nodes;
-  same_slots = writes.slots ∙ has.same_slots;
-  widths = λ w x. rw writes.starts (has.widths w x);
-}
+pub claims_stay : (s : Setting) (a b : ClaimRows) (u : ℕ) (row : List ℕ) → LiesAs s All a.places → WritesClaim a b u row → LiesAs s All b.places
+claims_stay s a b u row has writes = subst (λ (z : Layout). LiesAs s All z) (sym writes.places) has
 
 -- a claimed pair is of a slot
 claimed_slot : (f : Frontier) (w v : ℕ) → w < nodes_in f → is_claimed f w v ≡ true → v < slots_in f
@@ -49,7 +48,7 @@ one_claimed s t u v n ready found w y x on =
     let node : w < s.nodes = omega (arith, x, ready.fits.frontier.nodes) in
     elim (cases_lt y s.slots) [
       | inl l ↦
-          let some : (desk_at s t).claimed w y ≡ Some (row_of t.claims w 0) = claimed_row s t w y node l on in
+          let some : (desk_at s t).claimed w y ≡ Some (claim_row t.claims w) = claimed_row s t w y node l on in
           found.one_slot y (w, node, l, λ none. cc)
       | inr late ↦ absurd (omega (arith, claimed_slot t.frontier w y x on, late, ready.fits.frontier.slots))
     ]
@@ -63,16 +62,10 @@ not_claimed s t u v n w y ready found x apart =
 pub found_active : (s : Setting) (t : Table) (u v : ℕ) (n : Inputs) → IsFound s t u v n → is_active t.frontier u v ≡ true
 found_active s t u v n found = sym (active_is s t u v found.work.work.is_node found.work.is_slot) ∙ found.work.work.active
 
--- its inputs are those of the pair
-pub found_inputs : (s : Setting) (t : Table) (u v : ℕ) (n : Inputs) → IsFound s t u v n → IsPairInputs s (counts_of t.curves) u v n
+-- its inputs are those of the pair with 0 for each count
+pub found_inputs : (s : Setting) (t : Table) (u v : ℕ) (n : Inputs) → IsFound s t u v n → IsUncountedPair s (counts_of t.curves) u v n
 unfolding desk_at
 found_inputs s t u v n found = found.work.work.inputs
-
--- and fit 32 bits
-pub found_small : (s : Setting) (t : Table) (u v : ℕ) (n : Inputs) (i : ℕ) → IsSetting s → IsReady s t → IsFound s t u v n → slice_index n.row i < 2 ^ 32
-found_small s t u v n i is ready found =
-    let front = at_front s t v ready found.work.is_slot found.work.idle in
-    omega (arith, ap (λ (z : List ℕ). slice_index z i) (found_inputs s t u v n found).row, row_small s (counts_of t.curves) v u is front.front found.work.is_slot found.work.work.is_node i)
 
 -- and is then claimed
 pub claimed_found : (s : Setting) (t : Table) (u v : ℕ) (n : Inputs) (f : Frontier) → IsReady s t → IsFound s t u v n → ClaimsPair t.frontier f u v → is_claimed f u v ≡ true
@@ -80,12 +73,12 @@ claimed_found s t u v n f ready found step =
     step.claimed u v (omega (arith, found.work.work.is_node, ready.fits.frontier.nodes)) ∙ or_right (is_claimed t.frontier u v) (is_pair u v u v) (pair_test u v)
 
 -- its positions stand in the index still
-pub found_placed : (s : Setting) (t : Table) (u v : ℕ) (n : Inputs) (f : Frontier) (k : KeptRows) → IsFound s t u v n → IsPlaced s (desk_at s (record t { frontier = f; claims = k })) (place_of t.index) u v
+pub found_placed : (s : Setting) (t : Table) (u v : ℕ) (n : Inputs) (f : Frontier) (k : ClaimRows) → IsFound s t u v n → IsPlaced s (desk_at s (record t { frontier = f; claims = k })) (place_of t.index) u v
 unfolding desk_at
 found_placed s t u v n f k found = found.placed
 
-pub takes_desk : (s : Setting) (t : Table) (u v : ℕ) (n : Inputs) (f : Frontier) (k : KeptRows) → IsReady s t → IsFound s t u v n → ClaimsPair t.frontier f u v → WritesRow t.claims k u 0 n.row →
-    TakesClaim s (desk_at s t) u v n.row (desk_at s (record t { frontier = f; claims = k }))
+pub takes_desk : (s : Setting) (t : Table) (u v : ℕ) (n : Inputs) (f : Frontier) (k : ClaimRows) → IsReady s t → IsFound s t u v n → ClaimsPair t.frontier f u v → WritesClaim t.claims k u (pair_row s (counts_of t.curves) u v) →
+    TakesClaim s (desk_at s t) u v (pair_row s (counts_of t.curves) u v) (desk_at s (record t { frontier = f; claims = k }))
 unfolding desk_at
 takes_desk s t u v n f k ready found step writes =
     let new : Table = record t { frontier = f; claims = k } in
@@ -101,8 +94,8 @@ takes_desk s t u v n f k ready found step writes =
         is_node = node;
         is_slot = slot;
         front = found.work.idle;
-        now = found.work.work.inputs.row;
-        changed = λ same. found.work.work.changed (same ∙ ap (λ (z : List ℕ). Some z) found.work.work.inputs.row);
+        now = refl;
+        changed = found.work.work.changed;
       };
       inactive = active_is s new u v node slot ∙ (step.active u v (in_nodes u node) (omega (arith, slot, ready.fits.frontier.slots)) ∙ (ap (λ z. is_active t.frontier u v && not z) (pair_test u v) ∙ and_false (is_active t.frontier u v)));
       holds = claimed_is s new u v node slot ∙ (claim_on new u v here ∙ ap (λ (z : List ℕ). Some z) writes.here);
@@ -110,7 +103,7 @@ takes_desk s t u v n f k ready found step writes =
         active = λ w y other. same_active s t new w y (λ p q. step.active w y (in_nodes w p) (omega (arith, q, ready.fits.frontier.slots))
             ∙ (ap (λ z. is_active t.frontier w y && not z) (other_test u v w y other) ∙ and_not (is_active t.frontier w y)));
         claimed = λ w y other. same_claim s t new w y (λ p q. elim (cases_eq w u) [
-          | inr apart ↦ claim_same t new w y (rest w y other p) (writes.others w 0 (omega (arith, p, ready.fits.claims.nodes)) (omega (arith, ready.fits.claims.same_slots)) (λ a b. apart (sym a)))
+          | inr apart ↦ claim_same t new w y (rest w y other p) (writes.others w (omega (arith, p, ready.fits.claims.nodes)) (λ a. apart (sym a)))
           | inl same ↦
               let apart : y ≢ v = λ at. other (sym same) (sym at) in
               let was : is_claimed t.frontier w y ≡ false = not_claimed s t u v n w y ready found (in_nodes w p) apart in
@@ -120,22 +113,22 @@ takes_desk s t u v n f k ready found step writes =
       work = record { counts = refl; kept = refl };
     }
 
-pub takes_ready : (s : Setting) (t : Table) (u v : ℕ) (n : Inputs) (f : Frontier) (k : KeptRows) → IsReady s t → IsFound s t u v n → ClaimsPair t.frontier f u v → WritesRow t.claims k u 0 n.row →
+pub takes_ready : (s : Setting) (t : Table) (u v : ℕ) (n : Inputs) (f : Frontier) (k : ClaimRows) → IsReady s t → IsFound s t u v n → ClaimsPair t.frontier f u v → WritesClaim t.claims k u (pair_row s (counts_of t.curves) u v) →
     IsReady s (record t { frontier = f; claims = k })
 unfolding desk_at
 takes_ready s t u v n f k ready found step writes =
-    let takes : TakesClaim s (desk_at s t) u v n.row (desk_at s (record t { frontier = f; claims = k })) = takes_desk s t u v n f k ready found step writes in
+    let takes : TakesClaim s (desk_at s t) u v (pair_row s (counts_of t.curves) u v) (desk_at s (record t { frontier = f; claims = k })) = takes_desk s t u v n f k ready found step writes in
     record {
       fits = record {
         curves = ready.fits.curves;
         kept = ready.fits.kept;
-        claims = rows_stay s true 1 t.claims k u 0 n.row ready.fits.claims writes;
+        claims = claims_stay s t.claims k u (pair_row s (counts_of t.curves) u v) ready.fits.claims writes;
         frontier = record { nodes = step.size.nodes ∙ ready.fits.frontier.nodes; slots = step.size.slots ∙ ready.fits.frontier.slots };
         index = ready.fits.index;
         changed = ready.fits.changed;
       };
-      sound = take_keeps s (desk_at s t) u v n.row (desk_at s (record t { frontier = f; claims = k })) ready.sound takes;
-      index = index_stays_current.take s (desk_at s t) (desk_at s (record t { frontier = f; claims = k })) u v n.row (place_of t.index) takes ready.index;
+      sound = take_keeps s (desk_at s t) u v (pair_row s (counts_of t.curves) u v) (desk_at s (record t { frontier = f; claims = k })) ready.sound takes;
+      index = index_stays_current.take s (desk_at s t) (desk_at s (record t { frontier = f; claims = k })) u v (pair_row s (counts_of t.curves) u v) (place_of t.index) takes ready.index;
       claims = λ w y p q some. elim (cases_pair u v w y) [
         | inl at ↦ subst (λ (z : ℕ). IsPlaced s (desk_at s t) (place_of t.index) z y) at.0 (subst (λ (z : ℕ). IsPlaced s (desk_at s t) (place_of t.index) u z) at.1 found.placed)
         | inr other ↦ ready.claims w y p q (λ none. some (takes.others.claimed w y other ∙ none))

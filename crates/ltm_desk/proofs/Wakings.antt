@@ -1,11 +1,10 @@
 -- What wakes, arm after arm.
-use Rattle.std.proofs.Common.{◌≡◌, ℕ, ◌+◌, ◌*◌, ◌^◌, ◌<◌, ◌≤◌, ◌==◌, ◌&&◌, ◌||◌, not, Bool, false, List, length, slice_index, sum, refl, ap, sym, ◌∙◌, arith, inl, inr}
+use Rattle.std.proofs.Common.{◌≡◌, ℕ, ◌+◌, ◌<◌, ◌==◌, ◌&&◌, ◌||◌, not, Bool, false, List, slice_index, refl, ap, sym, ◌∙◌, arith, inl, inr}
 use Rattle.std.proofs.lemmas.Bool.{cases_lt, lt-ltb, le-ltb}
 use Rattle.ltm_units.specs.Sums.{sum_below}
-use Rattle.ltm_units.proofs.Sums.{sum_below-same, sum_below-most}
+use Rattle.ltm_units.proofs.Sums.{sum_below-same}
 use Rattle.ltm_curve.specs.Counts.{Counts}
 use Rattle.ltm_curve.specs.declared.changed.Changed.{Changed}
-use Rattle.ltm_curve.proofs.Lists.{sum_below-list}
 use Rattle.ltm_node.specs.Outputs.{Outputs, left_after, entered_after, arrived_after}
 use Rattle.ltm_loading.specs.Setting.{Setting}
 use Rattle.ltm_loading.specs.Groups.{up_of, down_of, dep_of, arr_of}
@@ -64,7 +63,6 @@ arms_wake s c u k o n l counts woken x y z arm first next =
 pub record IsOut (s : Setting) (c : Counts) (u k : ℕ) (o : Outputs) (n l : ℕ) (counts : List ℕ) (woken : Bool) : Type 0 where
   pub place : n < s.outs u
   pub link : s.out_link u n ≡ l
-  pub width : length counts ≡ s.destinations
   pub numbers : (d : ℕ) → d < s.destinations → slice_index counts d ≡ entered_after o n d
   pub value : woken ≡ row_differs s.destinations c (up_of l) k (slice_index counts)
 
@@ -84,24 +82,14 @@ outs_cells s c u k o n l counts woken x y z out first next =
     (λ g b. ap (λ t. t && is_cell (up_of l) k g b) (out_value s c u k o n l counts woken out)
     ∙ ap (λ (t : ℕ). out_differs s c u k o n && is_cell (up_of t) k g b) (sym out.link))
 
-entered_sum : (s : Setting) (o : Outputs) (n : ℕ) (counts : List ℕ) → length counts ≡ s.destinations → ((d : ℕ) → d < s.destinations → slice_index counts d ≡ entered_after o n d) → sum counts ≡ sum_below s.destinations (entered_after o n)
-entered_sum s o n counts width same =
-    sym (sum_below-list counts) ∙ (ap (λ (z : ℕ). sum_below z (slice_index counts)) width ∙ sum_below-same s.destinations (slice_index counts) (entered_after o n) same)
-
 pub outs_wake : (s : Setting) (c : Counts) (places : ℕ → ℕ → ℕ) (u k : ℕ) (o : Outputs) (n l : ℕ) (counts : List ℕ) (woken : Bool) (x y z : Frontier) → IsOut s c u k o n l counts woken →
-    Activates x y (wakes_heads s c places u k o n) → Activates y z (λ w v. woken && wakes_head s c places l k (sum counts) w v) → Activates x z (wakes_heads s c places u k o (n + 1))
+    Activates x y (wakes_heads s c places u k o n) → Activates y z (λ w v. woken && wakes_head s c places l k (sum_below s.destinations (slice_index counts)) w v) → Activates x z (wakes_heads s c places u k o (n + 1))
 outs_wake s c places u k o n l counts woken x y z out first next =
     act_next x y z n (λ w v i. out_differs s c u k o i && wakes_head s c places (s.out_link u i) k (sum_below s.destinations (entered_after o i)) w v)
-    (λ w v. woken && wakes_head s c places l k (sum counts) w v) first next
-    (λ w v. ap (λ t. t && wakes_head s c places l k (sum counts) w v) (out_value s c u k o n l counts woken out)
-    ∙ (ap (λ (t : ℕ). out_differs s c u k o n && wakes_head s c places l k t w v) (entered_sum s o n counts out.width out.numbers)
+    (λ w v. woken && wakes_head s c places l k (sum_below s.destinations (slice_index counts)) w v) first next
+    (λ w v. ap (λ t. t && wakes_head s c places l k (sum_below s.destinations (slice_index counts)) w v) (out_value s c u k o n l counts woken out)
+    ∙ (ap (λ (t : ℕ). out_differs s c u k o n && wakes_head s c places l k t w v) (sum_below-same s.destinations (slice_index counts) (entered_after o n) out.numbers)
     ∙ ap (λ (t : ℕ). out_differs s c u k o n && wakes_head s c places t k (sum_below s.destinations (entered_after o n)) w v) (sym out.link)))
-
--- a sum of counts fits
-pub sum_fits : (xs : List ℕ) → length xs ≤ 64 → ((i : ℕ) → i < length xs → slice_index xs i < 2 ^ 31) → sum xs < 2 ^ 64
-sum_fits xs few small =
-    let most : sum_below (length xs) (slice_index xs) ≤ length xs * 2147483648 = sum_below-most (length xs) (slice_index xs) 2147483648 (λ i l. omega (arith, small i l)) in
-    omega (arith, most, sum_below-list xs, few)
 
 -- ---- all of them
 -- the origin is the last arm of a node with out-links

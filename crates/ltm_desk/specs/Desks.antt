@@ -5,7 +5,7 @@ use Rattle.ltm_curve.specs.declared.changed.Changed.{Changed}
 use Rattle.ltm_curve.specs.Counts.{Counts}
 use Rattle.ltm_curve.specs.Table.{counts_of}
 use Rattle.ltm_curve.specs.Cells.{is_changed}
-use Rattle.ltm_node.specs.Shape.{counts_begin, supplies_begin}
+use Rattle.ltm_node.specs.Shape.{counts_begin}
 use Rattle.ltm_loading.specs.Setting.{Setting}
 use Rattle.ltm_loading.specs.Pairs.{shape_at, count_row}
 use Rattle.ltm_frontier.specs.Frontier.{is_active, is_claimed}
@@ -13,12 +13,14 @@ use Rattle.ltm_index.specs.declared.read_index.ReadIndex.{ReadIndex}
 use Rattle.ltm_index.specs.Lists.{entry_of}
 use Rattle.ltm_repair.specs.Desk.{Desk}
 use Rattle.ltm_desk.specs.declared.table.Table.{Table}
-use Rattle.ltm_desk.specs.Rows.{row_of, kept_row}
+use Rattle.ltm_desk.specs.Claims.{claim_row}
+use Rattle.ltm_desk.specs.Parts.{without_counts}
+use Rattle.ltm_desk.specs.Rows.{kept_row}
 use Rattle.ltm_desk.specs.Pairs.{of_pairs, of_cells}
 
 -- what a pair reads but for the counts of its node
 abbrev pub uncounted : Setting → ℕ → List ℕ → List ℕ
-uncounted s u row = take (counts_begin (shape_at s u)) row ++ drop (supplies_begin (shape_at s u)) row
+uncounted s u row = without_counts (shape_at s u) row
 
 -- the counts of the node at the slot's beginning put in their place
 abbrev pub filled : Setting → Counts → ℕ → ℕ → List ℕ → List ℕ
@@ -30,7 +32,7 @@ kept_of s t u v = option_map (filled s (counts_of t.curves) u v) (kept_row t.kep
 
 -- the inputs with which a pair is claimed, if it is. All claims are of one slot, so there is one row for each node
 abbrev pub claim_of : Table → ℕ → ℕ → Option (List ℕ)
-claim_of t u v = if is_claimed t.frontier u v then Some (row_of t.claims u 0) else None
+claim_of t u v = if is_claimed t.frontier u v then Some (claim_row t.claims u) else None
 
 -- the desk: counts, kept inputs, active pairs and claims
 unfoldable pub desk_at : Setting → Table → Desk

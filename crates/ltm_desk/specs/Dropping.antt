@@ -4,7 +4,7 @@ use Rattle.ltm_node.specs.Inputs.{Inputs}
 use Rattle.ltm_node.specs.Solvable.{IsSolvable}
 use Rattle.ltm_loading.specs.Setting.{Setting}
 use Rattle.ltm_loading.specs.Pairs.{pair_row}
-use Rattle.ltm_loading.specs.NextPair.{IsPairInputs}
+use Rattle.ltm_loading.specs.Uncounted.{IsUncountedPair}
 use Rattle.ltm_repair.specs.Desk.{Desk, IsOther, IsIdleBefore}
 use Rattle.ltm_repair.specs.Moves.{DropsSettled}
 use Rattle.ltm_desk.specs.declared.table.Table.{Table}
@@ -20,11 +20,11 @@ pub record DropsAt (s : Setting) (old : Desk) (slot : ℕ) (new : Desk) : Type 0
   pub drops : DropsSettled s old new
   pub only : (u v : ℕ) → old.active u v ≡ true → new.active u v ≡ false → v ≡ slot
 
--- an active pair whose inputs, which stand ready, are not the kept ones
+-- an active pair whose inputs, which stand ready but for the counts, are not the kept ones
 pub record IsWork (s : Setting) (d : Desk) (u t : ℕ) (n : Inputs) : Type 0 where
   pub is_node : u < s.nodes
   pub active : d.active u t ≡ true
-  pub inputs : IsPairInputs s d.counts u t n
+  pub inputs : IsUncountedPair s d.counts u t n
   pub solvable : IsSolvable n
   pub changed : d.kept u t ≢ Some (pair_row s d.counts u t)
 

@@ -1,5 +1,8 @@
-pub mod Rows
 pub mod Starts
+pub mod Layouts
+pub mod Rows
+pub mod Claims
+pub mod Parts
 pub mod Pairs
 pub mod Desks
 pub mod Cells
@@ -9,6 +12,7 @@ pub mod Dropping
 pub mod Searching
 pub mod Placing
 pub mod Openings
+pub mod Counted
 pub mod Waking
 pub mod Committing
 pub mod Recomputing

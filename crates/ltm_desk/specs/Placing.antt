@@ -1,5 +1,5 @@
 -- The positions of pairs are placed in the index, and their inputs are kept.
-use Rattle.std.specs.Prelude.{◌≡◌, ℕ, ◌<◌, Some, false}
+use Rattle.std.specs.Prelude.{◌≡◌, ℕ, ◌<◌, Some}
 use Rattle.ltm_curve.specs.Counts.{Counts}
 use Rattle.ltm_loading.specs.Setting.{Setting}
 use Rattle.ltm_loading.specs.Flows.{position}
@@ -34,7 +34,7 @@ pub record KeepsPair (s : Setting) (c : Counts) (k : KeptRows) (x : ReadIndex) (
 
 -- so it is with all pairs of earlier slots, and with the first nodes of this one
 pub record KeepsSlots (s : Setting) (c : Counts) (k : KeptRows) (x : ReadIndex) (slot nodes : ℕ) : Type 0 where
-  pub rows : HasRows s false s.slots k
+  pub rows : HasRows s s.slots k
   pub lists : HasLists s x
   pub earlier : (w v : ℕ) → w < s.nodes → v < slot → KeepsPair s c k x w v
   pub here : (w : ℕ) → w < nodes → KeepsPair s c k x w slot

@@ -1,5 +1,5 @@
 -- What holds of a table at any time.
-use Rattle.std.specs.Prelude.{◌≡◌, ◌≢◌, ℕ, ◌<◌, None, Bool, true, false}
+use Rattle.std.specs.Prelude.{◌≡◌, ◌≢◌, ℕ, ◌<◌, None, false}
 use Rattle.ltm_curve.specs.Cells.{HasCells}
 use Rattle.ltm_loading.specs.Setting.{Setting}
 use Rattle.ltm_loading.specs.Groups.{groups}
@@ -12,17 +12,18 @@ use Rattle.ltm_index.specs.Lists.{links_of, slots_of as slots_listed}
 use Rattle.ltm_repair.specs.Desk.{Desk, IsSettled, IsIdle}
 use Rattle.ltm_repair.specs.Facts.{IsSound}
 use Rattle.ltm_repair.specs.Index.{IsPlaced, IndexIsCurrent}
+use Rattle.ltm_desk.specs.declared.layout.Part.TheVariants.{All, Amounts, Weights}
 use Rattle.ltm_desk.specs.declared.rows.KeptRows.{KeptRows}
 use Rattle.ltm_desk.specs.declared.table.Table.{Table}
-use Rattle.ltm_desk.specs.Rows.{nodes_of, slots_of, width_of}
-use Rattle.ltm_desk.specs.Starts.{row_width}
+use Rattle.ltm_desk.specs.Layouts.{LiesAs}
+use Rattle.ltm_desk.specs.Rows.{slots_of}
 use Rattle.ltm_desk.specs.Desks.{desk_at, place_of, changed_at}
 
--- a row of each node for so many slots, as wide as its inputs, with or without the counts
-pub record HasRows (s : Setting) (counted : Bool) (slots : ℕ) (k : KeptRows) : Type 0 where
-  pub nodes : nodes_of k ≡ s.nodes
+-- rows of each node for so many slots, as wide as the amounts and the weights of its inputs
+pub record HasRows (s : Setting) (slots : ℕ) (k : KeptRows) : Type 0 where
+  pub amounts : LiesAs s Amounts k.narrow
+  pub weights : LiesAs s Weights k.wide
   pub same_slots : slots_of k ≡ slots
-  pub widths : (u : ℕ) → u < s.nodes → width_of k u ≡ row_width s counted u
 
 -- the pairs of the setting
 pub record HasPairs (s : Setting) (f : Frontier) : Type 0 where
@@ -37,8 +38,8 @@ pub record HasLists (s : Setting) (x : ReadIndex) : Type 0 where
 -- the parts have the sizes of the setting
 pub record FitsTable (s : Setting) (t : Table) : Type 0 where
   pub curves : IsShaped s t.curves
-  pub kept : HasRows s false s.slots t.kept
-  pub claims : HasRows s true 1 t.claims
+  pub kept : HasRows s s.slots t.kept
+  pub claims : LiesAs s All t.claims.places
   pub frontier : HasPairs s t.frontier
   pub index : HasLists s t.index
   pub changed : HasCells t.changed (groups s) s.slots

@@ -32,8 +32,8 @@ answer_of ticket (Work pair) row = Got pair.node.0 pair.slot ticket row
 answer_of ticket Wait row = NotYet
 answer_of ticket Rest row = NoneLeft
 
--- an active pair whose inputs, which stand ready, are not the kept ones, of the front slot and of the slot of all claims; it
--- stands in the index with its positions
+-- an active pair whose inputs, which stand ready but for the counts, are not the kept ones, of the front slot and of the slot
+-- of all claims; it stands in the index with its positions
 pub record IsFound (s : Setting) (t : Table) (u v : ℕ) (n : Inputs) : Type 0 where
   pub work : HasWork s (desk_at s t) u v n
   pub one_slot : (w : ℕ) → HasClaimAt s (desk_at s t) w → w ≡ v

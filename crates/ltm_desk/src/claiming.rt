@@ -3,6 +3,8 @@
 //! Pairs are claimed slot by slot, from the front on: what a pair of the front slot reads is final. A pair that is active
 //! and reads what is kept of it is dropped on the way.
 ghost use Rattle.std.specs.Prelude.{◌≡◌, ◌<◌, ◌≤◌, ℕ, MatchOption, IfSome, IsTrue, IsFalse, true};
+ghost use Rattle.ltm_node.specs.Solvable.{IsSolvable};
+ghost use Rattle.ltm_loading.specs.Pairs.{shape_at};
 ghost use Rattle.ltm_setting.specs.Setting.{setting_of};
 ghost use Rattle.ltm_frontier.specs.Frontier.{is_active};
 ghost use Rattle.ltm_repair.specs.Answers.{HasClaimAt, IsNoneClaimed};
@@ -12,10 +14,10 @@ ghost use Rattle.ltm_repair.specs.Index.{IsPlaced};
 ghost use Rattle.ltm_desk.specs.Searching.{AnswersSearch, FitsFound, IsFound, Finds, answer_of};
 
 use crate::found::Found;
-use crate::parts::around_counts;
+use crate::parts::parts_of;
 use crate::places::place_pair;
 use crate::table::Table;
-use ltm_inputs::inputs_of;
+use ltm_inputs::{count_in, uncounted_of};
 use ltm_node::NodeInputs;
 use ltm_scenario::Scenario;
 use ltm_setting::{is_setting, node_count, slot_count};
@@ -26,7 +28,8 @@ impl Table {
     ghost use Rattle.ltm_desk.specs.Ready.{IsReady};
     ghost use Rattle.ltm_desk.specs.Dropping.{DropsOne, DropsAt, IsWork, HasWork, NoneActive, SameWorkAs};
 
-    /// Reads the inputs of an active pair at the front, and places its positions; whether the inputs are the kept ones.
+    /// Reads the inputs of an active pair at the front but for its counts, and places its positions; whether the inputs are
+    /// the kept ones.
     fn look_at(&mut self, scenario: &Scenario, pair: Pair, inputs: &mut NodeInputs) -> bool
         requires ready { IsReady (setting_of scenario.now) self.old }
         requires node { pair.node.0 < (setting_of scenario.now).nodes }
@@ -44,11 +47,10 @@ impl Table {
     {
         is_setting(scenario);
         let mut positions = [0u32; 4];
-        inputs_of(scenario, &self.curves, pair, inputs, &mut positions);
+        uncounted_of(scenario, &self.curves, pair, inputs, &mut positions);
         place_pair(scenario, &self.curves, pair, &positions, &mut self.index);
-        let (front, back) = around_counts(inputs);
         self.kept
-            .keeps(pair.node.0 as usize, pair.slot as usize, front, back)
+            .keeps(pair.node.0 as usize, pair.slot as usize, parts_of(inputs))
     }
 
     /// Drops an active pair that is settled and placed.
@@ -67,8 +69,8 @@ impl Table {
         self.frontier.unmark(pair);
     }
 
-    /// The first active pair of a slot whose inputs differ from the kept ones, with its inputs. Settled pairs before it are
-    /// dropped; where there is none, all active pairs of the slot.
+    /// The first active pair of a slot whose inputs differ from the kept ones, with its inputs but for the counts. Settled
+    /// pairs before it are dropped; where there is none, all active pairs of the slot.
     fn find_at(&mut self, scenario: &Scenario, slot: u32, inputs: &mut NodeInputs) -> Option<NodeId>
         requires ready { IsReady (setting_of scenario.now) self.old }
         requires slot { slot < (setting_of scenario.now).slots }
@@ -99,18 +101,21 @@ impl Table {
         None
     }
 
-    /// Claims a pair that was found.
-    fn take(&mut self, scenario: &Scenario, pair: Pair, inputs: &NodeInputs)
+    /// Claims a pair that was found, whose counts are written into its inputs.
+    fn take(&mut self, scenario: &Scenario, pair: Pair, inputs: &mut NodeInputs)
         requires ready { IsReady (setting_of scenario.now) self.old }
-        requires found { IsFound (setting_of scenario.now) self.old pair.node.0 pair.slot inputs.now }
+        requires found { IsFound (setting_of scenario.now) self.old pair.node.0 pair.slot inputs.old }
         ensures ready { IsReady (setting_of scenario.now) self.new }
-        ensures takes { TakesClaim (setting_of scenario.now) (desk_at (setting_of scenario.now) self.old) pair.node.0 pair.slot inputs.now.row
+        ensures takes { TakesClaim (setting_of scenario.now) (desk_at (setting_of scenario.now) self.old) pair.node.0 pair.slot inputs.new.row
             (desk_at (setting_of scenario.now) self.new) }
         ensures changed { changed_at (setting_of scenario.now) self.new ≡ changed_at (setting_of scenario.now) self.old }
+        ensures shape { inputs.new.shape ≡ shape_at (setting_of scenario.now) pair.node.0 }
+        ensures solvable { IsSolvable inputs.new }
+        ensures room { inputs.new.room ≡ inputs.old.room }
     {
         is_setting(scenario);
-        let (none, all) = inputs.row().split_at(0);
-        self.claims.put(pair.node.0 as usize, 0, none, all);
+        count_in(scenario, &self.curves, pair, inputs);
+        self.claims.put(pair.node.0 as usize, inputs.row());
         self.frontier.claim_mark(pair);
     }
 
@@ -194,8 +199,8 @@ impl Table {
         }
     }
 
-    /// A pair of the front slot whose inputs differ from the kept ones, with its inputs, for which there is room for 1,162
-    /// numbers. Settled pairs that it passes are dropped; while claims are out, at their slot alone.
+    /// A pair of the front slot whose inputs differ from the kept ones, with its inputs but for the counts, for which there is
+    /// room for 1,162 numbers. Settled pairs that it passes are dropped; while claims are out, at their slot alone.
     pub(crate) fn find(&mut self, scenario: &Scenario, inputs: &mut NodeInputs) -> Found
         requires ready { IsReady (setting_of scenario.now) self.old }
         requires room { 1162 ≤ inputs.old.room }

@@ -5,10 +5,11 @@ ghost use Rattle.ltm_setting.specs.Setting.{setting_of};
 ghost use Rattle.ltm_repair.specs.Moves.{Commits};
 ghost use Rattle.ltm_desk.specs.Committing.{readers, rewritten};
 
-use crate::parts::kept_around_counts;
+use crate::given::Given;
+use crate::parts::parts_of;
 use crate::renewing::renew_pair;
 use crate::table::Table;
-use ltm_loading::{counts_by_place, inputs_by_place, outputs_small};
+use ltm_loading::{counts_by_place, in_range, inputs_by_place, outputs_small};
 use ltm_node::{Solved, no_arrivals, same_shape};
 use ltm_pairs::readers_wake;
 use ltm_scenario::Scenario;
@@ -37,6 +38,7 @@ impl Table {
         inputs_by_place();
         counts_by_place();
         outputs_small();
+        in_range();
         same_shape();
         no_arrivals();
         readers_wake();
@@ -47,15 +49,15 @@ impl Table {
             &mut self.curves,
             &self.index,
             pair,
+            Given::Counted,
             outputs,
             &mut self.changed,
             &mut self.frontier,
             &mut self.kept,
         );
-        let node = pair.node.0 as usize;
-        let shape = solved.inputs().shape();
-        let (front, back) = kept_around_counts(shape, self.claims.row(node, 0));
-        self.kept.copy(node, pair.slot as usize, front, back);
+        let parts = parts_of(solved.inputs());
+        self.kept
+            .put(pair.node.0 as usize, pair.slot as usize, parts);
         self.frontier.release(pair);
     }
 }

@@ -1,18 +1,21 @@
 //! Numbers in 32 bits beside numbers in 64 bits.
-ghost use Rattle.std.specs.Prelude.{◌≡◌, ◌==◌, ◌↔◌, ◌+◌, ◌++◌, ◌^◌, ◌<◌, ℕ, length, slice_index, not, IsTrue};
+ghost use Rattle.std.specs.Prelude.{◌≡◌, ◌==◌, ◌↔◌, ◌^◌, ◌<◌, ℕ, length, slice_index, not, IsTrue};
 ghost use Rattle.ltm_pairs.specs.Changes.{some_below};
 
-/// Whether some number of a row is another one than stands beside it: of two numbers, as with two destinations, without a
-/// loop.
+/// Whether some number of a row is another one than stands beside it: of one and of two numbers, as with so many
+/// destinations, without a loop.
 #[inline]
 pub(crate) fn differs(numbers: &[u32], others: &[u64]) -> bool
     requires { length numbers.now ≡ length others.now }
     ensures { result ≡ some_below (length numbers.now) (λ d. not (slice_index numbers.now d == slice_index others.now d)) }
 {
-    if numbers.len() == 2 {
+    if others.len() == 2 {
         let first = u64::from(numbers[0]) != others[0];
         let second = u64::from(numbers[1]) != others[1];
         return first | second;
+    }
+    if others.len() == 1 {
+        return u64::from(numbers[0]) != others[0];
     }
     many_differ(numbers, others)
 }
@@ -68,18 +71,6 @@ pub(crate) fn still_same_row(numbers: &[u32], others: &[u64]) -> bool
     true
 }
 
-/// Whether a row is made of two others, one behind the other. That they differ is told at the first number that does.
-pub(crate) fn same_parts(numbers: &[u32], front: &[u64], back: &[u64]) -> bool
-    requires { length numbers.now ≡ length front.now + length back.now }
-    ensures { IsTrue result ↔ numbers.now ≡ front.now ++ back.now }
-{
-    let (first, second) = numbers.split_at(front.len());
-    if !same_row(first, front) {
-        return false;
-    }
-    same_row(second, back)
-}
-
 /// Writes a row of numbers in 32 bits.
 pub(crate) fn write_row(into: &mut [u32], numbers: &[u64])
     requires count { length into.old ≡ length numbers.now }
@@ -89,26 +80,4 @@ pub(crate) fn write_row(into: &mut [u32], numbers: &[u64])
     for place in 0..into.len() {
         into[place] = numbers[place] as u32;
     }
-}
-
-/// Writes two rows of numbers in 32 bits, one behind the other.
-pub(crate) fn write_parts(into: &mut [u32], front: &[u64], back: &[u64])
-    requires count { length into.old ≡ length front.now + length back.now }
-    requires front { (i : ℕ) → i < length front.now → slice_index front.now i < 2 ^ 32 }
-    requires back { (i : ℕ) → i < length back.now → slice_index back.now i < 2 ^ 32 }
-    ensures { into.new ≡ front.now ++ back.now }
-{
-    let (first, second) = into.split_at_mut(front.len());
-    write_row(first, front);
-    write_row(second, back);
-}
-
-/// Writes two rows, one behind the other.
-pub(crate) fn copy_parts(into: &mut [u32], front: &[u32], back: &[u32])
-    requires { length into.old ≡ length front.now + length back.now }
-    ensures { into.new ≡ front.now ++ back.now }
-{
-    let (first, second) = into.split_at_mut(front.len());
-    first.copy_from_slice(front);
-    second.copy_from_slice(back);
 }

@@ -1,28 +1,27 @@
 //! A loading is made for a table, and what its pairs read is kept on the way.
-ghost use Rattle.std.specs.Prelude.{◌≡◌, ◌<◌, ◌≤◌, ◌+◌, ◌↔◌, ℕ, length, slice_index, IfOk, IsFalse};
+ghost use Rattle.std.specs.Prelude.{◌≡◌, ◌<◌, ◌+◌, ◌↔◌, ℕ, length, slice_index, IfOk, IsFalse};
 ghost use Rattle.ltm_curve.specs.Table.{counts_of};
 ghost use Rattle.ltm_node.specs.Laws.{NothingIsSent};
 ghost use Rattle.ltm_node.specs.Solvable.{IsSolvable};
 ghost use Rattle.ltm_loading.specs.Setting.{IsSetting};
-ghost use Rattle.ltm_loading.specs.NextPair.{IsPairInputs};
+ghost use Rattle.ltm_loading.specs.Uncounted.{IsUncountedPair};
 ghost use Rattle.ltm_setting.specs.Setting.{setting_of};
 ghost use Rattle.ltm_flows.specs.Working.{IsWorking, IsWorkingAt, HasRoom};
 ghost use Rattle.ltm_sending.specs.Front.{IsAtFront};
 ghost use Rattle.ltm_desk.specs.Placing.{KeepsSlots};
 ghost use Rattle.ltm_desk.specs.Openings.{StaysTo};
 
-use crate::parts::around_counts;
+use crate::parts::parts_of;
 use crate::places::place_pair;
 use crate::rows::KeptRows;
 use crate::table::WIDEST;
 use ltm_curve::Curves;
-use ltm_flows::{apply, fresh};
-use ltm_inputs::inputs_of;
+use ltm_flows::{fresh, move_pair};
+use ltm_inputs::uncounted_of;
 use ltm_loading::{
-    counts_by_place, counts_set_only, inputs_by_place, inputs_read_only, next_pair, next_slot,
-    outputs_small, set_by_one_pair,
+    counts_by_place, counts_set_only, inputs_by_place, inputs_read_only, next_slot, set_by_one_pair,
 };
-use ltm_node::{NodeInputs, NodeOutputs, no_arrivals, nothing_moves, same_shape, write_step};
+use ltm_node::{NodeInputs, NodeOutputs, nothing_moves};
 use ltm_pairs::ReadIndex;
 use ltm_scenario::Scenario;
 use ltm_setting::{is_setting, link_count, node_count, slot_count};
@@ -50,7 +49,7 @@ fn is_any_sent(inputs: &NodeInputs) -> bool
     is_any(&inputs.row()[..sends])
 }
 
-/// Keeps the inputs of the pair of the next node of a slot but for its counts, and places its positions.
+/// Reads the inputs of the pair of the next node of a slot but for its counts, keeps them and places its positions.
 fn keep_pair(
     scenario: &Scenario,
     curves: &Curves,
@@ -65,18 +64,18 @@ fn keep_pair(
     requires keeps { KeepsSlots (setting_of scenario.now) (counts_of curves.now) kept.old index.old pair.slot pair.node.0 }
     requires room { HasRoom (setting_of scenario.now) inputs.old.room }
     ensures keeps { KeepsSlots (setting_of scenario.now) (counts_of curves.now) kept.new index.new pair.slot (pair.node.0 + 1) }
-    ensures inputs { IsPairInputs (setting_of scenario.now) (counts_of curves.now) pair.node.0 pair.slot inputs.new }
+    ensures inputs { IsUncountedPair (setting_of scenario.now) (counts_of curves.now) pair.node.0 pair.slot inputs.new }
     ensures solvable { IsSolvable inputs.new }
     ensures room { inputs.new.room ≡ inputs.old.room }
 {
     let mut positions = [0u32; 4];
-    inputs_of(scenario, curves, pair, inputs, &mut positions);
-    let (front, back) = around_counts(inputs);
-    kept.put(pair.node.0 as usize, pair.slot as usize, front, back);
+    uncounted_of(scenario, curves, pair, inputs, &mut positions);
+    kept.put(pair.node.0 as usize, pair.slot as usize, parts_of(inputs));
     place_pair(scenario, curves, pair, &positions, index);
 }
 
-/// The step of a node in a slot, from its inputs. Where its arms send nothing, its counts stay as they were carried on.
+/// The step of a node in a slot, from its inputs but for the counts. Where its arms send nothing, its counts stay as they
+/// were carried on.
 fn load_pair(
     scenario: &Scenario,
     curves: &mut Curves,
@@ -88,7 +87,7 @@ fn load_pair(
     requires node { pair.node.0 < (setting_of scenario.now).nodes }
     requires slot { pair.slot < (setting_of scenario.now).slots }
     requires working { IsWorkingAt (setting_of scenario.now) curves.old pair.slot pair.node.0 }
-    requires inputs { IsPairInputs (setting_of scenario.now) (counts_of curves.old) pair.node.0 pair.slot inputs.now }
+    requires inputs { IsUncountedPair (setting_of scenario.now) (counts_of curves.old) pair.node.0 pair.slot inputs.now }
     requires solvable { IsSolvable inputs.now }
     requires room { HasRoom (setting_of scenario.now) outputs.old.room }
     ensures working { IsWorkingAt (setting_of scenario.now) curves.new pair.slot (pair.node.0 + 1) }
@@ -99,38 +98,8 @@ fn load_pair(
     counts_by_place();
     nothing_moves();
     if is_any_sent(inputs) {
-        step_pair(scenario, curves, pair, inputs, outputs);
+        move_pair(scenario, curves, pair, inputs, outputs);
     }
-}
-
-/// The step of a node in a slot, whose counts are written at the slot's end.
-fn step_pair(
-    scenario: &Scenario,
-    curves: &mut Curves,
-    pair: Pair,
-    inputs: &NodeInputs,
-    outputs: &mut NodeOutputs,
-)
-    requires setting { IsSetting (setting_of scenario.now) }
-    requires node { pair.node.0 < (setting_of scenario.now).nodes }
-    requires slot { pair.slot < (setting_of scenario.now).slots }
-    requires working { IsWorkingAt (setting_of scenario.now) curves.old pair.slot pair.node.0 }
-    requires inputs { IsPairInputs (setting_of scenario.now) (counts_of curves.old) pair.node.0 pair.slot inputs.now }
-    requires solvable { IsSolvable inputs.now }
-    requires room { HasRoom (setting_of scenario.now) outputs.old.room }
-    ensures working { IsWorkingAt (setting_of scenario.now) curves.new pair.slot (pair.node.0 + 1) }
-    ensures stays { StaysTo (setting_of scenario.now) pair.slot (counts_of curves.old) (counts_of curves.new) }
-    ensures room { outputs.new.room ≡ outputs.old.room }
-{
-    inputs_by_place();
-    outputs_small();
-    next_pair();
-    same_shape();
-    no_arrivals();
-    set_by_one_pair();
-    let _slots = slot_count(scenario);
-    write_step(inputs, outputs);
-    apply(scenario, curves, pair, outputs);
 }
 
 /// Carries all counts on to the end of a slot.
@@ -167,7 +136,7 @@ impl Opening {
         is_setting(scenario);
         let slots = slot_count(scenario);
         let curves = fresh(alloc, scenario)?;
-        let kept = KeptRows::create(alloc, scenario, false, slots as usize)?;
+        let kept = KeptRows::create(alloc, scenario, slots as usize)?;
         let index = ReadIndex::create(alloc, link_count(scenario), slots)?;
         let inputs = NodeInputs::create(alloc, WIDEST)?;
         let outputs = NodeOutputs::create(alloc, WIDEST)?;

@@ -1,29 +1,33 @@
 //! The inputs of a pair without its counts.
-ghost use Rattle.std.specs.Prelude.{◌≡◌, ◌+◌, ◌-◌, length, take, drop};
-ghost use Rattle.ltm_node.specs.Shape.{width, counts_width, counts_begin, supplies_begin};
+ghost use Rattle.std.specs.Prelude.{◌≡◌, ◌+◌, length};
+ghost use Rattle.ltm_node.specs.Solvable.{IsSolvable};
+ghost use Rattle.ltm_desk.specs.declared.layout.Part.TheVariants.{Amounts, Weights};
+ghost use Rattle.ltm_desk.specs.Starts.{part_width};
+ghost use Rattle.ltm_desk.specs.Parts.{joined, without_counts, AreNarrow};
 
-use ltm_node::{NodeInputs, NodeShape};
+use ltm_node::NodeInputs;
 
-/// What stands before the counts in a pair's inputs, and what stands behind them.
+/// What is kept of a pair: what its arms send, and supplies and capacities, which are its amounts; and its weights.
+#[derive(Clone, Copy)]
+pub struct Parts<'a> {
+    pub sends: &'a [u64],
+    pub limits: &'a [u64],
+    pub weights: &'a [u64],
+}
+
+/// What of a pair's inputs is kept.
 #[inline]
-pub(crate) fn around_counts(inputs: &NodeInputs) -> (&[u64], &[u64])
-    ensures front { result.0.now ≡ take (counts_begin inputs.now.shape) inputs.now.row }
-    ensures back { result.1.now ≡ drop (supplies_begin inputs.now.shape) inputs.now.row }
-    ensures width { length result.0.now + length result.1.now ≡ width inputs.now.shape - counts_width inputs.now.shape }
+pub(crate) fn parts_of(inputs: &NodeInputs) -> Parts<'_>
+    ensures row { joined result ≡ without_counts inputs.now.shape inputs.now.row }
+    ensures amounts { length result.sends.now + length result.limits.now ≡ part_width Amounts inputs.now.shape }
+    ensures weights { length result.weights.now ≡ part_width Weights inputs.now.shape }
+    ensures narrow { IsSolvable inputs.now → AreNarrow result }
 {
     let shape = inputs.shape();
     let row = inputs.row();
-    (&row[..shape.counts_begin()], &row[shape.supplies_begin()..])
-}
-
-/// The same of a row in 32 bits.
-#[inline]
-pub(crate) fn kept_around_counts(shape: NodeShape, row: &[u32]) -> (&[u32], &[u32])
-    requires { length row.now ≡ width shape }
-    ensures front { result.0.now ≡ take (counts_begin shape) row.now }
-    ensures back { result.1.now ≡ drop (supplies_begin shape) row.now }
-    ensures width { length result.0.now + length result.1.now ≡ width shape - counts_width shape }
-{
-    let _few = row.len();
-    (&row[..shape.counts_begin()], &row[shape.supplies_begin()..])
+    Parts {
+        sends: &row[..shape.counts_begin()],
+        limits: &row[shape.supplies_begin()..shape.weights_begin()],
+        weights: &row[shape.weights_begin()..],
+    }
 }

@@ -1,15 +1,18 @@
 //! A pair is found, and its counts are set, in one call.
 ghost use Rattle.std.specs.Prelude.{◌≡◌, ◌≤◌};
+ghost use Rattle.ltm_curve.specs.Table.{counts_of};
+ghost use Rattle.ltm_loading.specs.Pairs.{pair_row};
 ghost use Rattle.ltm_repair.specs.Answers.{DropsAtFront};
 ghost use Rattle.ltm_setting.specs.Setting.{setting_of};
 ghost use Rattle.ltm_desk.specs.Searching.{IsFound};
 ghost use Rattle.ltm_desk.specs.Recomputing.{RecomputesPair, Recomputes};
 
 use crate::found::Found;
-use crate::parts::around_counts;
+use crate::given::Given;
+use crate::parts::parts_of;
 use crate::renewing::renew_pair;
 use crate::table::Table;
-use ltm_loading::{counts_by_place, inputs_by_place, outputs_small};
+use ltm_loading::{counts_by_place, outputs_small, step_by_moves};
 use ltm_node::{NodeInputs, NodeOutputs, no_arrivals, same_shape, write_step};
 use ltm_pairs::readers_wake;
 use ltm_scenario::Scenario;
@@ -17,50 +20,52 @@ use ltm_setting::{is_setting, slot_count};
 use ltm_units::Pair;
 
 impl Table {
-    ghost use Rattle.ltm_desk.specs.Desks.{desk_at, changed_at};
+    ghost use Rattle.ltm_desk.specs.Desks.{desk_at, changed_at, curves_of};
     ghost use Rattle.ltm_desk.specs.Ready.{IsReady};
 
-    /// Makes the step of a pair that was found, sets its counts to it and keeps its inputs. The pair is marked as claimed
-    /// meanwhile, and its inputs are not written beside the claim.
+    /// Makes the step of a pair that was found, which tells what moves, sets its counts to those of the slot's beginning and
+    /// what moves, and keeps its inputs. The pair is marked as claimed meanwhile, and its inputs are not written beside the
+    /// claim.
     fn set_found(
         &mut self,
         scenario: &Scenario,
         pair: Pair,
         inputs: &NodeInputs,
-        outputs: &mut NodeOutputs,
+        moves: &mut NodeOutputs,
     )
         requires ready { IsReady (setting_of scenario.now) self.old }
         requires found { IsFound (setting_of scenario.now) self.old pair.node.0 pair.slot inputs.now }
-        requires room { 1162 ≤ outputs.old.room }
+        requires room { 1162 ≤ moves.old.room }
         ensures ready { IsReady (setting_of scenario.now) self.new }
         ensures sets { (before : Table) → DropsAtFront (setting_of scenario.now) (desk_at (setting_of scenario.now) before) (desk_at (setting_of scenario.now) self.old)
             → changed_at (setting_of scenario.now) self.old ≡ changed_at (setting_of scenario.now) before
-            → RecomputesPair (setting_of scenario.now) before pair.node.0 pair.slot inputs.now.row self.new }
-        ensures room { outputs.new.room ≡ outputs.old.room }
+            → RecomputesPair (setting_of scenario.now) before pair.node.0 pair.slot
+            (pair_row (setting_of scenario.now) (counts_of (curves_of self.old)) pair.node.0 pair.slot) self.new }
+        ensures room { moves.new.room ≡ moves.old.room }
     {
         is_setting(scenario);
-        inputs_by_place();
         counts_by_place();
         outputs_small();
+        step_by_moves();
         same_shape();
         no_arrivals();
         readers_wake();
         let _slots = slot_count(scenario);
         self.frontier.claim_mark(pair);
-        write_step(inputs, outputs);
+        write_step(inputs, moves);
         renew_pair(
             scenario,
             &mut self.curves,
             &self.index,
             pair,
-            outputs,
+            Given::Moved,
+            moves,
             &mut self.changed,
             &mut self.frontier,
             &mut self.kept,
         );
-        let (front, back) = around_counts(inputs);
         self.kept
-            .put(pair.node.0 as usize, pair.slot as usize, front, back);
+            .put(pair.node.0 as usize, pair.slot as usize, parts_of(inputs));
         self.frontier.release(pair);
     }
 

@@ -1,68 +1,51 @@
-//! Rows of numbers, one for each pair of node and slot.
-ghost use Rattle.std.specs.Prelude.{◌≡◌, ℕ, ◌+◌, ◌-◌, ◌*◌, ◌^◌, ◌<◌, ◌≤◌, ◌↔◌, ◌++◌, length, slice_index, IfOk, OnOk, IsTrue, Some, false};
+//! What is kept of each pair of node and slot.
+ghost use Rattle.std.specs.Prelude.{◌≡◌, ℕ, ◌+◌, ◌*◌, ◌^◌, ◌<◌, ◌≤◌, ◌↔◌, ◌++◌, length, slice_index, IfOk, OnOk, IsTrue, Some, false};
 ghost use Rattle.ltm_marks.specs.Marks.{width_of as places_of, rows_of, room_of};
-ghost use Rattle.ltm_loading.specs.Setting.{IsSetting};
 ghost use Rattle.ltm_setting.specs.Setting.{setting_of};
-ghost use Rattle.ltm_desk.specs.Starts.{row_width, AreStarts};
+ghost use Rattle.ltm_desk.specs.Layouts.{slot_width, nodes_in};
 
-use crate::comparing::{copy_parts, same_parts, still_same_row, write_parts};
-use ltm_inputs::shape_of;
+use crate::comparing::{same_row, write_row};
+use crate::layout::{Layout, Part};
+use crate::narrow::{same_narrow_parts, write_narrow_parts};
+use crate::parts::Parts;
 use ltm_marks::Marks;
 use ltm_scenario::Scenario;
-use ltm_setting::{is_setting, node_count};
-use ltm_units::{NoMemory, NodeId};
+use ltm_setting::node_count;
+use ltm_units::NoMemory;
 use std::alloc::Global;
 
-/// A row of numbers for each pair of node and slot for which one was put there, in 32 bits each. All rows of one slot lie
-/// side by side, so that a repair walks through memory in order and further slots can be added at the end.
+/// For each pair of node and slot for which they were put there, its amounts, of 16 bits each, and its weights, of 32, in two
+/// flat tables: `narrow` says where amounts lie, and `wide` where weights do.
 #[derive(Drop)]
 pub struct KeptRows {
-    starts: Vec<usize>,
     slots: usize,
     room: usize,
-    numbers: Vec<u32>,
+    narrow: Layout,
+    amounts: Vec<u16>,
+    wide: Layout,
+    weights: Vec<u32>,
     there: Marks,
-    ghost some: { 0 < length starts.items },
-    ghost few: { slice_index starts.items (length starts.items - 1) ≤ 9296000 },
-    ghost rising: { (u w : ℕ) → u ≤ w → w < length starts.items → slice_index starts.items u ≤ slice_index starts.items w },
-    ghost long: { length numbers.items ≡ room * slice_index starts.items (length starts.items - 1) },
+    ghost few: { room ≤ 10000 },
     ghost within: { slots ≤ room },
-    ghost nodes: { places_of there + 1 ≡ length starts.items },
+    ghost amounts_long: { room * slot_width narrow ≤ length amounts.items },
+    ghost weights_long: { room * slot_width wide ≤ length weights.items },
+    ghost same_nodes: { nodes_in wide ≡ nodes_in narrow },
+    ghost nodes: { places_of there ≡ nodes_in narrow },
     ghost rows: { rows_of there ≡ slots },
     ghost bits: { room ≤ room_of there },
 }
 
-/// Where the rows of a node begin within a slot, for each node, and how many numbers the rows of a slot are.
-fn starts_of(alloc: Global, scenario: &Scenario, counted: bool) -> Result<Vec<usize>, NoMemory>
-    ensures { IfOk result (λ starts. AreStarts (setting_of scenario.now) counted (setting_of scenario.now).nodes starts.items) }
+/// So many zeros of 16 bits.
+fn narrow_zeros(alloc: Global, slots: usize, width: usize) -> Result<Vec<u16>, NoMemory>
+    requires slots { slots ≤ 10000 }
+    requires width { width ≤ 9296000 }
+    ensures { IfOk result (λ numbers. length numbers.items ≡ slots * width) }
 {
-    is_setting(scenario);
-    let mut starts = Vec::new(alloc);
-    let mut total = 0usize;
-    starts.push(total)?;
-    for node in 0..node_count(scenario) {
-        total += width_of(scenario, NodeId(node), counted);
-        starts.push(total)?;
-    }
-    Ok(starts)
+    vec![in alloc; 0u16; slots * width].map_err(|_| NoMemory)
 }
 
-/// How many numbers the inputs of a node are, with or without its counts.
-fn width_of(scenario: &Scenario, node: NodeId, counted: bool) -> usize
-    requires setting { IsSetting (setting_of scenario.now) }
-    requires node { node.0 < (setting_of scenario.now).nodes }
-    ensures width { result ≡ row_width (setting_of scenario.now) counted node.0 }
-    ensures small { result ≤ 1162 }
-{
-    let shape = shape_of(scenario, node);
-    if counted {
-        return shape.width();
-    }
-    shape.width() - shape.counts_width()
-}
-
-/// So many zeros.
-fn zeros(alloc: Global, slots: usize, width: usize) -> Result<Vec<u32>, NoMemory>
+/// So many zeros of 32 bits.
+fn wide_zeros(alloc: Global, slots: usize, width: usize) -> Result<Vec<u32>, NoMemory>
     requires slots { slots ≤ 10000 }
     requires width { width ≤ 9296000 }
     ensures { IfOk result (λ numbers. length numbers.items ≡ slots * width) }
@@ -72,80 +55,72 @@ fn zeros(alloc: Global, slots: usize, width: usize) -> Result<Vec<u32>, NoMemory
 
 impl KeptRows {
     ghost use Rattle.ltm_desk.specs.Rows.{
-      slot_width,
       nodes_of,
       slots_of,
       row_room,
-      width_of,
-      start_of,
-      row_of,
+      amounts_width,
+      weights_width,
+      amounts_of,
+      weights_of,
       has_row,
       kept_row,
       SameRows,
       PutsRow,
       ForgetsRow,
+      PutsAmounts,
+      PutsWeights,
     };
+    ghost use Rattle.ltm_desk.specs.Parts.{joined, AreNarrow};
     ghost use Rattle.ltm_desk.specs.Ready.{HasRows};
 
-    /// Room for the inputs of each node in so many slots, with or without its counts; no row is there.
-    pub fn create(
-        alloc: Global,
-        scenario: &Scenario,
-        counted: bool,
-        slots: usize,
-    ) -> Result<KeptRows, NoMemory>
+    /// Room for so many slots; no row is there.
+    pub fn create(alloc: Global, scenario: &Scenario, slots: usize) -> Result<KeptRows, NoMemory>
         requires { slots ≤ 10000 }
-        ensures rows { IfOk result (HasRows (setting_of scenario.now) counted slots) }
+        ensures rows { IfOk result (HasRows (setting_of scenario.now) slots) }
         ensures none { IfOk result (λ k. (u t : ℕ) → has_row k u t ≡ false) }
     {
         let nodes = node_count(scenario);
-        let starts = starts_of(alloc, scenario, counted)?;
-        let width = starts[starts.len() - 1];
-        let numbers = zeros(alloc, slots, width)?;
+        let narrow = Layout::create(alloc, scenario, Part::Amounts)?;
+        let amounts = narrow_zeros(alloc, slots, narrow.slot_width())?;
+        let wide = Layout::create(alloc, scenario, Part::Weights)?;
+        let weights = wide_zeros(alloc, slots, wide.slot_width())?;
         let there = Marks::create(alloc, nodes as usize, slots)?;
         let _room = there.room();
         Ok(KeptRows {
-            starts,
             slots,
             room: slots,
-            numbers,
+            narrow,
+            amounts,
+            wide,
+            weights,
             there,
         })
     }
 
-    /// Where the row of a pair begins.
+    /// The amounts in the place of a pair.
     #[inline]
-    fn start(&self, node: usize, slot: usize) -> usize
+    #[tactic(auto, unfolding(crate::specs::Rows::amounts_of, crate::specs::Layouts::row_in), using(crate::proofs::RowPlaces::length_part))]
+    fn amounts(&self, node: usize, slot: usize) -> &[u16]
         requires node { node < nodes_of self.now }
         requires slot { slot < slots_of self.now }
-        ensures value { result ≡ start_of self.now node slot }
-        ensures within { result + width_of self.now node ≤ length self.now.numbers.items }
+        ensures row { result.now ≡ amounts_of self.now node slot }
+        ensures width { length result.now ≡ amounts_width self.now node }
     {
-        let _numbers = self.numbers.len();
-        let width = self.starts[self.starts.len() - 1];
-        slot * width + self.starts[node]
+        let (from, to) = self.narrow.bounds(node, slot);
+        &self.amounts[from..to]
     }
 
-    /// How many numbers a row of the node has.
+    /// The weights in the place of a pair.
     #[inline]
-    fn width(&self, node: usize) -> usize
-        requires { node < nodes_of self.now }
-        ensures { result ≡ width_of self.now node }
-    {
-        self.starts[node + 1] - self.starts[node]
-    }
-
-    /// The row of a pair.
-    #[tactic(auto, unfolding(crate::specs::Rows::row_of), using(crate::proofs::RowPlaces::length_part))]
-    pub fn row(&self, node: usize, slot: usize) -> &[u32]
+    #[tactic(auto, unfolding(crate::specs::Rows::weights_of, crate::specs::Layouts::row_in), using(crate::proofs::RowPlaces::length_part))]
+    fn weights(&self, node: usize, slot: usize) -> &[u32]
         requires node { node < nodes_of self.now }
         requires slot { slot < slots_of self.now }
-        ensures row { result.now ≡ row_of self.now node slot }
-        ensures width { length result.now ≡ width_of self.now node }
+        ensures row { result.now ≡ weights_of self.now node slot }
+        ensures width { length result.now ≡ weights_width self.now node }
     {
-        let from = self.start(node, slot);
-        let to = from + self.width(node);
-        &self.numbers[from..to]
+        let (from, to) = self.wide.bounds(node, slot);
+        &self.weights[from..to]
     }
 
     /// Whether a row of a pair is there.
@@ -158,53 +133,61 @@ impl KeptRows {
         self.there.is_marked(node, slot)
     }
 
-    /// Whether the row of a pair is this one, where it is likely to be: all numbers are looked at, several at a time.
-    pub fn is_still_row(&self, node: usize, slot: usize, row: &[u64]) -> bool
+    /// Whether this row of a pair is there. That it is another one is told at the first number that differs, from what the
+    /// arms send on.
+    pub fn keeps(&self, node: usize, slot: usize, parts: Parts<'_>) -> bool
         requires node { node < nodes_of self.now }
         requires slot { slot < slots_of self.now }
-        ensures { IsTrue result ↔ row_of self.now node slot ≡ row.now }
-    {
-        still_same_row(self.row(node, slot), row)
-    }
-
-    /// Whether this row of a pair, which is given in two parts, is there.
-    pub fn keeps(&self, node: usize, slot: usize, front: &[u64], back: &[u64]) -> bool
-        requires node { node < nodes_of self.now }
-        requires slot { slot < slots_of self.now }
-        requires width { length front.now + length back.now ≡ width_of self.now node }
-        ensures { IsTrue result ↔ kept_row self.now node slot ≡ Some (front.now ++ back.now) }
+        requires amounts { length parts.sends.now + length parts.limits.now ≡ amounts_width self.now node }
+        ensures { IsTrue result ↔ kept_row self.now node slot ≡ Some (joined parts.entry) }
     {
         if !self.has(node, slot) {
             return false;
         }
-        same_parts(self.row(node, slot), front, back)
+        if !same_narrow_parts(self.amounts(node, slot), parts.sends, parts.limits) {
+            return false;
+        }
+        same_row(self.weights(node, slot), parts.weights)
     }
 
-    /// Puts a row, which is given in two parts, in the place of a pair's, and changes no other.
-    pub fn put(&mut self, node: usize, slot: usize, front: &[u64], back: &[u64])
+    /// Writes the amounts of a pair.
+    #[inline]
+    fn put_amounts(&mut self, node: usize, slot: usize, sends: &[u64], limits: &[u64])
         requires node { node < nodes_of self.old }
         requires slot { slot < slots_of self.old }
-        requires width { length front.now + length back.now ≡ width_of self.old node }
-        requires front { (i : ℕ) → i < length front.now → slice_index front.now i < 2 ^ 32 }
-        requires back { (i : ℕ) → i < length back.now → slice_index back.now i < 2 ^ 32 }
-        ensures { PutsRow self.old self.new node slot (front.now ++ back.now) }
+        requires width { length sends.now + length limits.now ≡ amounts_width self.old node }
+        requires sends { (i : ℕ) → i < length sends.now → slice_index sends.now i < 2 ^ 16 }
+        requires limits { (i : ℕ) → i < length limits.now → slice_index limits.now i < 2 ^ 16 }
+        ensures { PutsAmounts self.old self.new node slot (sends.now ++ limits.now) }
     {
-        let from = self.start(node, slot);
-        let to = from + self.width(node);
-        write_parts(&mut self.numbers[from..to], front, back);
-        self.there.mark(node, slot);
+        let (from, to) = self.narrow.bounds(node, slot);
+        write_narrow_parts(&mut self.amounts[from..to], sends, limits);
     }
 
-    /// Puts a row, of which two parts are given that stand in another table, in the place of a pair's, and changes no other.
-    pub fn copy(&mut self, node: usize, slot: usize, front: &[u32], back: &[u32])
+    /// Writes the weights of a pair.
+    #[inline]
+    fn put_weights(&mut self, node: usize, slot: usize, weights: &[u64])
         requires node { node < nodes_of self.old }
         requires slot { slot < slots_of self.old }
-        requires width { length front.now + length back.now ≡ width_of self.old node }
-        ensures { PutsRow self.old self.new node slot (front.now ++ back.now) }
+        requires width { length weights.now ≡ weights_width self.old node }
+        requires small { (i : ℕ) → i < length weights.now → slice_index weights.now i < 2 ^ 32 }
+        ensures { PutsWeights self.old self.new node slot weights.now }
     {
-        let from = self.start(node, slot);
-        let to = from + self.width(node);
-        copy_parts(&mut self.numbers[from..to], front, back);
+        let (from, to) = self.wide.bounds(node, slot);
+        write_row(&mut self.weights[from..to], weights);
+    }
+
+    /// Puts a row in the place of a pair's, and changes no other.
+    pub fn put(&mut self, node: usize, slot: usize, parts: Parts<'_>)
+        requires node { node < nodes_of self.old }
+        requires slot { slot < slots_of self.old }
+        requires amounts { length parts.sends.now + length parts.limits.now ≡ amounts_width self.old node }
+        requires weights { length parts.weights.now ≡ weights_width self.old node }
+        requires narrow { AreNarrow parts }
+        ensures { PutsRow self.old self.new node slot (joined parts.entry) }
+    {
+        self.put_amounts(node, slot, parts.sends, parts.limits);
+        self.put_weights(node, slot, parts.weights);
         self.there.mark(node, slot);
     }
 
@@ -228,9 +211,14 @@ impl KeptRows {
         if slots <= self.room {
             return Ok(());
         }
-        let width = self.starts[self.starts.len() - 1];
         self.there.reserve(slots)?;
-        match self.numbers.resize(slots * width, 0) {
+        let amounts = slots * self.narrow.slot_width();
+        match self.amounts.resize(amounts, 0) {
+            Ok(()) => {}
+            Err(_) => return Err(NoMemory),
+        }
+        let weights = slots * self.wide.slot_width();
+        match self.weights.resize(weights, 0) {
             Ok(()) => {
                 self.room = slots;
                 Ok(())

@@ -15,6 +15,7 @@ ghost use Rattle.ltm_repair.specs.Moves.{GivesBack};
 ghost use Rattle.ltm_desk.specs.Cells.{count_cells};
 
 use crate::batches::{mark_from, mark_touched};
+use crate::claim_rows::ClaimRows;
 use crate::opening::Opening;
 use crate::room::wide_room;
 use crate::rows::KeptRows;
@@ -37,7 +38,7 @@ pub struct Table {
     pub(crate) curves: Curves,
     pub(crate) kept: KeptRows,
     pub(crate) frontier: Frontier,
-    pub(crate) claims: KeptRows,
+    pub(crate) claims: ClaimRows,
     pub(crate) index: ReadIndex,
     pub(crate) changed: Changed,
 }
@@ -63,7 +64,7 @@ impl Table {
             ..
         } = Opening::load(alloc, scenario)?;
         let frontier = Frontier::create(alloc, nodes, slots)?;
-        let claims = KeptRows::create(alloc, scenario, true, 1)?;
+        let claims = ClaimRows::create(alloc, scenario)?;
         let changed = Changed::create(alloc, group_count(scenario), slots)?;
         Ok(Table {
             curves,
@@ -159,7 +160,7 @@ impl Table {
         if !self.frontier.is_claimed(pair) {
             return false;
         }
-        self.claims.is_still_row(pair.node.0 as usize, 0, row)
+        self.claims.is_still_row(pair.node.0 as usize, row)
     }
 
     /// Makes a claimed pair active again.

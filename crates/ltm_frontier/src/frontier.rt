@@ -215,6 +215,9 @@ impl Frontier {
         requires slot { pair.slot < slots_of self.old }
         ensures { Activates self.old self.new (is_pair pair.node.0 pair.slot) }
     {
+        if self.is_active(pair) {
+            return;
+        }
         if !self.claims.has(pair.node.0, pair.slot) {
             self.first = first_with(self.low, self.first, pair);
             self.low = self.low.min(pair.slot);

@@ -22,8 +22,8 @@ record LinksFirst (old new : Cells) (l v k : ℕ) : Type 0 where
   entry : entry_at new l v ≡ suc k
   entries : (m w : ℕ) → m < old.links → (m ≡ l → w ≡ v → ⊥) → entry_at new m w ≡ entry_at old m w
 
-links_first : (c d e f : Cells) (l v k first : ℕ) (slot boundary : Cell) → l < c.links → first ≡ first_at c l k → SetsBefore c d l first (v + 1) → slot ≡ cell_at d l v → PutsCell d e l v (record slot { next = first; previous = 0; entry = k + 1 }) → boundary ≡ cell_at e l k → PutsCell e f l k (record boundary { first = v + 1 }) → LinksFirst c f l v k
-links_first c d e f l v k first slot boundary link is_first back is_slot puts is_boundary heads =
+links_first : (c d e f : Cells) (l v k first pointer entry : ℕ) (slot boundary : Cell) → l < c.links → pointer ≡ v + 1 → entry ≡ k + 1 → first ≡ first_at c l k → SetsBefore c d l first pointer → slot ≡ cell_at d l v → PutsCell d e l v (record slot { next = first; previous = 0; entry = entry }) → boundary ≡ cell_at e l k → PutsCell e f l k (record boundary { first = pointer }) → LinksFirst c f l v k
+links_first c d e f l v k first pointer entry slot boundary link to_slot to_boundary is_first back is_slot puts is_boundary heads =
     let in_d : (m : ℕ) → m < c.links → m < d.links = λ m lt. omega (arith, back.shape.links) in
     let in_e : (m : ℕ) → m < c.links → m < e.links = λ m lt. omega (arith, back.shape.links, puts.shape.links) in
     let next_kept : (m w : ℕ) → m < c.links → next_at f m w ≡ next_at e m w = λ m w lt. field_same e f l k _ (λ x. x.next) heads (ap (λ x. x.next) is_boundary) m w (in_e m lt) in
@@ -31,14 +31,14 @@ links_first c d e f l v k first slot boundary link is_first back is_slot puts is
     let entry_kept : (m w : ℕ) → m < c.links → entry_at f m w ≡ entry_at e m w = λ m w lt. field_same e f l k _ (λ x. x.entry) heads (ap (λ x. x.entry) is_boundary) m w (in_e m lt) in
     record {
       shape = record { links = heads.shape.links ∙ (puts.shape.links ∙ back.shape.links); room = heads.shape.room ∙ (puts.shape.room ∙ back.shape.room) };
-      first = ap (λ x. x.first) heads.here ∙ omega arith;
+      first = ap (λ x. x.first) heads.here ∙ omega (arith, to_slot);
       next = next_kept l v link ∙ (ap (λ x. x.next) puts.here ∙ is_first);
       before = previous_kept l v link ∙ ap (λ x. x.previous) puts.here;
-      back = λ w other is. previous_kept l w link ∙ (ap (λ x. x.previous) (puts.others l w (in_d l link) (λ _ e. other e)) ∙ (back.here w (is ∙ sym is_first) ∙ omega arith));
+      back = λ w other is. previous_kept l w link ∙ (ap (λ x. x.previous) (puts.others l w (in_d l link) (λ _ e. other e)) ∙ (back.here w (is ∙ sym is_first) ∙ omega (arith, to_slot)));
       firsts = λ m j lt apart. ap (λ x. x.first) (heads.others m j (in_e m lt) apart) ∙ (field_same d e l v _ (λ x. x.first) puts (ap (λ x. x.first) is_slot) m j (in_d m lt) ∙ back.firsts m j lt);
       nexts = λ m w lt apart. next_kept m w lt ∙ (ap (λ x. x.next) (puts.others m w (in_d m lt) apart) ∙ back.nexts m w lt);
       befores = λ m w lt apart other. previous_kept m w lt ∙ (ap (λ x. x.previous) (puts.others m w (in_d m lt) apart) ∙ back.previous m w lt (λ x y. other x (y ∙ is_first)));
-      entry = entry_kept l v link ∙ (ap (λ x. x.entry) puts.here ∙ omega arith);
+      entry = entry_kept l v link ∙ (ap (λ x. x.entry) puts.here ∙ omega (arith, to_boundary));
       entries = λ m w lt apart. entry_kept m w lt ∙ (ap (λ x. x.entry) (puts.others m w (in_d m lt) apart) ∙ back.entries m w lt);
     }
 
@@ -150,9 +150,9 @@ entered_now old new l v k m j w lists link lt free puts =
       | inr other ↦ other_entered old new l v k m j w lists link lt free puts other
     ]
 
-pub put : (c d e f : Cells) (l v k first : ℕ) (slot boundary : Cell) → AreLists c → l < c.links → v < c.room → entry_at c l v ≡ 0 → first ≡ first_at c l k → SetsBefore c d l first (v + 1) → slot ≡ cell_at d l v → PutsCell d e l v (record slot { next = first; previous = 0; entry = k + 1 }) → boundary ≡ cell_at e l k → PutsCell e f l k (record boundary { first = v + 1 }) → AreLists f × PutsFirst c f l v k
-put c d e f l v k first slot boundary lists link below free is_first back is_slot puts is_boundary heads =
-    let linked : LinksFirst c f l v k = links_first c d e f l v k first slot boundary link is_first back is_slot puts is_boundary heads in
+pub put : (c d e f : Cells) (l v k first pointer entry : ℕ) (slot boundary : Cell) → AreLists c → l < c.links → v < c.room → entry_at c l v ≡ 0 → pointer ≡ v + 1 → entry ≡ k + 1 → first ≡ first_at c l k → SetsBefore c d l first pointer → slot ≡ cell_at d l v → PutsCell d e l v (record slot { next = first; previous = 0; entry = entry }) → boundary ≡ cell_at e l k → PutsCell e f l k (record boundary { first = pointer }) → AreLists f × PutsFirst c f l v k
+put c d e f l v k first pointer entry slot boundary lists link below free to_slot to_boundary is_first back is_slot puts is_boundary heads =
+    let linked : LinksFirst c f l v k = links_first c d e f l v k first pointer entry slot boundary link to_slot to_boundary is_first back is_slot puts is_boundary heads in
     let placed : PutsFirst c f l v k = puts_first c f l v k lists link below free linked in
     let in_c : (m : ℕ) → m < f.links → m < c.links = λ m lt. omega (arith, placed.shape.links) in (
       record {

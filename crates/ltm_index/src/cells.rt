@@ -8,10 +8,10 @@ use std::alloc::Global;
 /// slot before it, and the boundary of that list. Each is 0 where there is none, and else one more.
 #[derive(Clone, Copy)]
 pub struct Cell {
-    pub first: u32,
-    pub next: u32,
-    pub previous: u32,
-    pub entry: u32,
+    pub first: u16,
+    pub next: u16,
+    pub previous: u16,
+    pub entry: u16,
 }
 
 /// A cell in which nothing is named.

@@ -4,7 +4,7 @@
 //! the list of these slots, so that a change at a boundary is told to the slots that read it and to no other.
 //!
 //! It stands on `ltm_units` alone. Each call costs a handful of steps, whatever the lists hold, and no memory; only
-//! `create` and `reserve` take memory, sixteen bytes for each link and boundary. The lists are doubly linked through one
+//! `create` and `reserve` take memory, eight bytes for each link and boundary. The lists are doubly linked through one
 //! flat table, in blocks of sixteen boundaries, so that a longer horizon adds blocks at the end.
 //! Change it here where the lists are to be kept in another way: contracts speak of `list_of` and `entry_of` alone.
 #![tactic(auto)]

@@ -4,9 +4,18 @@ ghost use Rattle.ltm_index.specs.Cells.{entry_at, AreLists, SetsAfter, SetsBefor
 
 use crate::cells::{Cell, Cells};
 
+/// What names a slot or a boundary: one more.
+#[inline]
+fn naming(number: u32) -> u16
+    requires { number ≤ 10015 }
+    ensures { result ≡ number + 1 }
+{
+    (number + 1) as u16
+}
+
 /// Lets a pointer of a boundary's list lead on to another one: 0 stands before the list.
 #[inline]
-fn set_after(cells: &mut Cells, link: u32, boundary: u32, pointer: u32, to: u32)
+fn set_after(cells: &mut Cells, link: u32, boundary: u32, pointer: u16, to: u16)
     requires link { link < cells.old.links }
     requires boundary { boundary ≤ cells.old.room }
     requires pointer { pointer ≤ cells.old.room + 1 }
@@ -16,23 +25,25 @@ fn set_after(cells: &mut Cells, link: u32, boundary: u32, pointer: u32, to: u32)
         let cell = cells.get(link, boundary);
         cells.put(link, boundary, Cell { first: to, ..cell });
     } else {
-        let cell = cells.get(link, pointer - 1);
-        cells.put(link, pointer - 1, Cell { next: to, ..cell });
+        let slot = u32::from(pointer) - 1;
+        let cell = cells.get(link, slot);
+        cells.put(link, slot, Cell { next: to, ..cell });
     }
 }
 
 /// Lets the slot that a pointer names, if any, lead back to another one.
 #[inline]
-fn set_before(cells: &mut Cells, link: u32, pointer: u32, to: u32)
+fn set_before(cells: &mut Cells, link: u32, pointer: u16, to: u16)
     requires link { link < cells.old.links }
     requires pointer { pointer ≤ cells.old.room + 1 }
     ensures { SetsBefore cells.old cells.new link pointer to }
 {
     if pointer > 0 {
-        let cell = cells.get(link, pointer - 1);
+        let slot = u32::from(pointer) - 1;
+        let cell = cells.get(link, slot);
         cells.put(
             link,
-            pointer - 1,
+            slot,
             Cell {
                 previous: to,
                 ..cell
@@ -52,7 +63,8 @@ pub fn take_out(cells: &mut Cells, link: u32, slot: u32)
 {
     let cell = cells.get(link, slot);
     if cell.entry > 0 {
-        set_after(cells, link, cell.entry - 1, cell.previous, cell.next);
+        let boundary = u32::from(cell.entry) - 1;
+        set_after(cells, link, boundary, cell.previous, cell.next);
         set_before(cells, link, cell.next, cell.previous);
         let cell = cells.get(link, slot);
         cells.put(link, slot, Cell { entry: 0, ..cell });
@@ -71,7 +83,8 @@ pub fn put_first(cells: &mut Cells, link: u32, slot: u32, boundary: u32)
     ensures put { PutsFirst cells.old cells.new link slot boundary }
 {
     let first = cells.get(link, boundary).first;
-    set_before(cells, link, first, slot + 1);
+    let pointer = naming(slot);
+    set_before(cells, link, first, pointer);
     let cell = cells.get(link, slot);
     cells.put(
         link,
@@ -79,7 +92,7 @@ pub fn put_first(cells: &mut Cells, link: u32, slot: u32, boundary: u32)
         Cell {
             next: first,
             previous: 0,
-            entry: boundary + 1,
+            entry: naming(boundary),
             ..cell
         },
     );
@@ -88,7 +101,7 @@ pub fn put_first(cells: &mut Cells, link: u32, slot: u32, boundary: u32)
         link,
         boundary,
         Cell {
-            first: slot + 1,
+            first: pointer,
             ..cell
         },
     );

@@ -23,13 +23,13 @@ pub struct ReadIndex {
 /// What a pointer names.
 #[inline]
 #[tactic(auto, using(crate::proofs::Reading::named_some))]
-fn slot_named(pointer: u32) -> Option<u32>
+fn slot_named(pointer: u16) -> Option<u32>
     ensures { result ≡ named pointer }
 {
     if pointer == 0 {
         None
     } else {
-        Some(pointer - 1)
+        Some(u32::from(pointer) - 1)
     }
 }
 
@@ -69,7 +69,7 @@ impl ReadIndex {
         requires boundary { boundary ≤ slots_of self.now }
         ensures { IsTrue result ↔ entry_of self.now link.0 slot ≡ Some boundary }
     {
-        self.cells.get(link.0, slot).entry == boundary + 1
+        u32::from(self.cells.get(link.0, slot).entry) == boundary + 1
     }
 
     /// Takes a slot out of the list of the link in which it stands, if any.
@@ -84,7 +84,7 @@ impl ReadIndex {
 
     /// What stands first in the list of a boundary, or after a slot that stands in it: 0 for no slot, else one more.
     #[inline]
-    fn pointer_after(&self, link: LinkId, boundary: u32, after: Option<u32>) -> u32
+    fn pointer_after(&self, link: LinkId, boundary: u32, after: Option<u32>) -> u16
         requires link { link.0 < links_of self.now }
         requires boundary { boundary ≤ slots_of self.now }
         requires after { IfSome after (λ slot. Contains (list_of self.now link.0 boundary) slot) }

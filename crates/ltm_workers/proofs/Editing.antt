@@ -1,10 +1,9 @@
 -- What an editor puts back, and what its settle is.
-use Rattle.std.proofs.Common.{◌≡◌, ◌≤◌, ℕ, List, [], ◌++◌, ap, sym, subst, ◌∙◌, refl, arith}
+use Rattle.std.proofs.Common.{◌≡◌, ℕ, List, [], ◌++◌, ap, sym, ◌∙◌, arith}
 use Rattle.std.proofs.lemmas.List.{append-nil}
 use Rattle.ltm_flows.specs.Shown.{version_of}
 use Rattle.ltm_core.specs.declared.entry.LogEntry.{LogEntry}
-use Rattle.ltm_core.specs.Log.{Log, entries_of, with_mark, version_now, LogLaws}
-use Rattle.ltm_core.specs.Settling.{IsSettleCount}
+use Rattle.ltm_core.specs.Log.{entries_of, with_mark, LogLaws}
 use Rattle.ltm_core.specs.Cores.{CoreData}
 use Rattle.ltm_workers.specs.Beside.{CountsCommits, SettlesBeside}
 

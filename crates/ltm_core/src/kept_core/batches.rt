@@ -4,8 +4,9 @@ ghost use Rattle.ltm_scenario.specs.Edits.{edited_all, horizon_after, HaveAmount
 ghost use Rattle.ltm_scenario.specs.Valid.{IsValid};
 ghost use Rattle.ltm_setting.specs.Setting.{setting_of};
 ghost use Rattle.ltm_desk.specs.Ready.{IsReady};
+ghost use Rattle.ltm_curve.specs.Counts.{Counts};
 ghost use Rattle.ltm_loading.specs.Setting.{Setting};
-ghost use Rattle.ltm_flows.specs.Shown.{Shows, SameLoading, loading_room};
+ghost use Rattle.ltm_flows.specs.Shown.{ShowsCounts, SameLoading, loading_room};
 ghost use Rattle.ltm_desk.specs.Growing.{SeenAs as TableSeenAs, HasRoom as TableHasRoom};
 ghost use Rattle.ltm_core.specs.Reaching.{MayReach};
 ghost use Rattle.ltm_core.specs.Taking.{TakesBatch};
@@ -55,7 +56,7 @@ fn reserve_slots(table: &mut Table, shown: &mut Loading, slots: u32) -> Result<(
     requires { slots ≤ 10000 }
     ensures table { TableSeenAs table.old table.new }
     ensures shown { SameLoading shown.old shown.new }
-    ensures shows { (s : Setting) (version : ℕ) → Shows s version shown.old → Shows s version shown.new }
+    ensures shows { (s : Setting) (version : ℕ) (c : Counts) → ShowsCounts s version c shown.old → ShowsCounts s version c shown.new }
     ensures no_less { loading_room shown.old ≤ loading_room shown.new }
     ensures table_room { OnOk result (TableHasRoom table.new slots) }
     ensures shown_room { OnOk result (slots ≤ loading_room shown.new) }
@@ -80,7 +81,7 @@ fn reserve_all(
     ensures marks { marks.new.items ≡ marks.old.items }
     ensures table { TableSeenAs table.old table.new }
     ensures shown { SameLoading shown.old shown.new }
-    ensures shows { (s : Setting) (version : ℕ) → Shows s version shown.old → Shows s version shown.new }
+    ensures shows { (s : Setting) (version : ℕ) (c : Counts) → ShowsCounts s version c shown.old → ShowsCounts s version c shown.new }
     ensures no_less { loading_room shown.old ≤ loading_room shown.new }
     ensures batch_room { OnOk result (vec_len batches.new < vec_capacity batches.new) }
     ensures mark_room { OnOk result (vec_len marks.new < vec_capacity marks.new) }

@@ -21,7 +21,7 @@ fn mark_last(marks: &mut Vec<bool>)
 impl Core {
     ghost use Rattle.ltm_core.specs.CoreAnswers.{TellsPublish, TellsSettle};
 
-    /// Shows the working counts, where no pair is active or claimed, with their horizon. The changed cells alone are copied,
+    /// Shows the totals of the working counts, where no pair is active or claimed, with their horizon. The changed cells alone are copied,
     /// and what origins produce is added up only after an edit of demand or of the horizon. Takes no memory.
     pub fn publish(&mut self) -> Published
         ensures answer { TellsPublish self.old result self.new }

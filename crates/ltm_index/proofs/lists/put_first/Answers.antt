@@ -9,8 +9,8 @@ set_before-requires-clause-pointer c =
 
 pub returns-clause-lists : goal.returns-clause-lists
 returns-clause-lists c =
-    (put _ _ _ _ _ _ _ _ _ c.get-cell-2.result c.requires.lists c.requires.link c.requires.slot c.requires.free (ap (λ x. x.first) c.get-first.ensures) c.set_before.ensures c.get-cell.ensures c.put.ensures c.get-cell-2.ensures c.put-2.ensures).0
+    (put _ _ _ _ _ _ _ _ _ _ _ c.get-cell-2.result c.requires.lists c.requires.link c.requires.slot c.requires.free c.naming-pointer.ensures c.naming.ensures (ap (λ x. x.first) c.get-first.ensures) c.set_before.ensures c.get-cell.ensures c.put.ensures c.get-cell-2.ensures c.put-2.ensures).0
 
 pub returns-clause-put : goal.returns-clause-put
 returns-clause-put c =
-    (put _ _ _ _ _ _ _ _ _ c.get-cell-2.result c.requires.lists c.requires.link c.requires.slot c.requires.free (ap (λ x. x.first) c.get-first.ensures) c.set_before.ensures c.get-cell.ensures c.put.ensures c.get-cell-2.ensures c.put-2.ensures).1
+    (put _ _ _ _ _ _ _ _ _ _ _ c.get-cell-2.result c.requires.lists c.requires.link c.requires.slot c.requires.free c.naming-pointer.ensures c.naming.ensures (ap (λ x. x.first) c.get-first.ensures) c.set_before.ensures c.get-cell.ensures c.put.ensures c.get-cell-2.ensures c.put-2.ensures).1

@@ -1,4 +1,4 @@
-use Rattle.std.proofs.Common.{ap, sym, ◌∙◌}
+use Rattle.std.proofs.Common.{ap, ◌∙◌}
 use Rattle.ltm_core.specs.Log.{entries_of}
 use Rattle.ltm_core.specs.Cores.{CoreData}
 use Rattle.ltm_turn.specs.Passes.{editor_value}

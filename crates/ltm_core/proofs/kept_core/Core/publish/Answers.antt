@@ -2,7 +2,8 @@ use Rattle.std.proofs.Common.{◌≡◌, ℕ, ◌∙◌, arith, length, ap, sym,
 use Rattle.ltm_curve.specs.Counts.{Counts}
 use Rattle.ltm_loading.specs.Loading.{IsLoading}
 use Rattle.ltm_setting.specs.Setting.{setting_of}
-use Rattle.ltm_flows.specs.Shown.{Shows}
+use Rattle.ltm_desk.specs.Desks.{desk_at}
+use Rattle.ltm_flows.specs.Shown.{ShowsCounts}
 use Rattle.ltm_core.specs.Log.{log_of, version_now}
 use Rattle.ltm_core.proofs.Logs.{kept_version}
 use Rattle.ltm_core.proofs.Cores.{rest_here, not_resting_at}
@@ -49,14 +50,15 @@ version_is c = omega (c.len-version.ensures, c.self.inside.batches.ok.0, kept_ve
 
 shown_table : (c : goal.After-clear_changed) → ShowsTable (setting_of c.self.inside.scenario) (version_now (log_of c.self.inside.opening c.self.inside.batches.items c.self.inside.marks.items)) c.self.inside.table c.clear_changed.new.self c.refresh.new.self
 shown_table c =
-    let P : ℕ → Type 0 = λ n. Shows (setting_of c.self.inside.scenario) n c.refresh.new.self in
+    let s = setting_of c.self.inside.scenario in
+    let P : ℕ → Type 0 = λ n. ShowsCounts s n (desk_at s c.self.inside.table).counts c.refresh.new.self in
+    let Q : Counts → Type 0 = λ f. ShowsCounts s c.len-version.result f c.refresh.new.self in
     record {
       desk = c.clear_changed.ensures.desk (setting_of c.self.inside.scenario);
       ready = c.clear_changed.ensures.ready (setting_of c.self.inside.scenario) c.self.invariant.0.ready;
       cleared = λ g k. c.clear_changed.ensures.none (setting_of c.self.inside.scenario) g k;
-      shows = subst P (version_is c) c.refresh.ensures.shows;
-      room = omega (c.room-room.ensures.value, c.room-room.ensures.within, c.refresh.ensures.shows.shape.same_slots, arith);
-      counts = λ g e k x m l. ap (λ (f : Counts). f g e k) (c.refresh.ensures.counts ∙ sym (c.curves.ensures.counts (setting_of c.self.inside.scenario)));
+      shows = subst P (version_is c) (subst Q (sym (c.curves.ensures.counts s)) c.refresh.ensures);
+      room = omega (c.room-room.ensures.value, c.room-room.ensures.within, c.refresh.ensures.shape.same_slots, arith);
     }
 
 pub invariant_of-self : goal.invariant_of-self

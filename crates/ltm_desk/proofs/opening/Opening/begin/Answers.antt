@@ -1,4 +1,4 @@
-use Rattle.std.proofs.Common.{◌≡◌, ◌∙◌, ap, arith, subst, ℕ, false}
+use Rattle.std.proofs.Common.{◌≡◌, ◌∙◌, ap, arith, subst, ℕ}
 use Rattle.ltm_curve.specs.Table.{counts_of}
 use Rattle.ltm_node.specs.Inputs.{Inputs}
 use Rattle.ltm_node.specs.Outputs.{Outputs}
@@ -17,7 +17,7 @@ returns c =
     record {
       working = working_start s c.in_ok-curves.curves c.in_ok-curves.ensures.shape c.in_ok-curves.ensures.empty;
       keeps = keeps_first s (counts_of c.in_ok-curves.curves) c.in_ok-kept.kept c.in_ok-index.index
-          (subst (λ (n : ℕ). HasRows s false n c.in_ok-kept.kept) c.slot_count-slots.ensures.value c.in_ok-kept.ensures.rows)
+          (subst (λ (n : ℕ). HasRows s n c.in_ok-kept.kept) c.slot_count-slots.ensures.value c.in_ok-kept.ensures.rows)
           (record { links = c.in_ok-index.ensures.links ∙ c.link_count.ensures.value; slots = c.in_ok-index.ensures.slots ∙ c.slot_count-slots.ensures.value });
       inputs = λ u x. omega (arith, most_wide s u c.is_setting.ensures.setting x, wide);
       outputs = λ u x. omega (arith, most_wide s u c.is_setting.ensures.setting x, wide_out);

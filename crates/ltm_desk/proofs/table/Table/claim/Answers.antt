@@ -12,4 +12,4 @@ returns-in-Work-clause-answer c = λ ticket.
     found_answers s (desk_at s c.args.self.now) c.find.new.self c.in-Work.pair.node.0 c.in-Work.pair.slot ticket c.find.new.inputs _ _ c.in-Work.ensures.finds.0 c.in-Work.ensures.finds.1 c.take.ensures.takes
 
 pub returns-in-Work-clause-fits : goal.returns-in-Work-clause-fits
-returns-in-Work-clause-fits c = (c.in-Work.ensures.finds.1.work.work.inputs.shape, c.in-Work.ensures.finds.1.work.work.solvable)
+returns-in-Work-clause-fits c = (c.take.ensures.shape, c.take.ensures.solvable)

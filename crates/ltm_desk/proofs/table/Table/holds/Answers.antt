@@ -1,6 +1,6 @@
 use Rattle.std.proofs.Common.{refl, sym, ◌∙◌, arith}
 use Rattle.ltm_setting.specs.Setting.{setting_of}
-use Rattle.ltm_desk.specs.Rows.{row_of}
+use Rattle.ltm_desk.specs.Claims.{claim_row}
 use Rattle.ltm_desk.proofs.Giving.{held, not_held}
 use Rattle.ltm_desk.proofs.table.Table.holds.Goals as goal
 
@@ -10,6 +10,6 @@ returns-then-not-is_claimed c =
 
 pub returns : goal.returns
 returns c =
-    held (setting_of c.args.scenario.now) c.args.self.now c.args.pair.node.0 c.args.pair.slot c.args.row.now (row_of c.args.self.now.claims c.args.pair.node.0 0) c.is_still_row.result
+    held (setting_of c.args.scenario.now) c.args.self.now c.args.pair.node.0 c.args.pair.slot c.args.row.now (claim_row c.args.self.now.claims c.args.pair.node.0) c.is_still_row.result
     (omega (arith, c.if-pair-node_count.false, c.node_count.ensures.value)) (omega (arith, c.if-pair-slot_count.false, c.slot_count.ensures.value))
     (sym c.is_claimed.ensures.value ∙ c.if-not-is_claimed.false) refl c.is_still_row.ensures
