@@ -1,13 +1,13 @@
 -- The sheet of a list, and how many links it has.
 use Rattle.std.proofs.Common.{◌≡◌, ℕ, true, List, [], ◌∷◌, ◌++◌, length, refl, sym, ap, ◌∙◌}
 use mathlib.Core.List.{IsPrefix}
-use Rattle.ltm_curve.specs.Table.{counts_of}
+use Rattle.ltm_curve.specs.Counts.{Counts}
 use Rattle.ltm_loading.specs.Setting.{Setting}
 use Rattle.ltm_scenario.specs.Data.{ScenarioData}
 use Rattle.ltm_scenario.specs.Makes.{EditsMake}
 use Rattle.ltm_setting.specs.Setting.{setting_of}
 use Rattle.ltm_flows.specs.declared.loading.Loading.{Loading}
-use Rattle.ltm_flows.specs.Shown.{Shows, curves_of}
+use Rattle.ltm_flows.specs.Shown.{ShowsCounts}
 use Rattle.ltm_core.specs.declared.entry.LogEntry.{LogEntry}
 use Rattle.ltm_core.specs.declared.entry.LogEntry.TheVariants.{Opening, Accepted, Mark}
 use Rattle.ltm_board.specs.Sheets.{SheetData, IsSheet, links_on}
@@ -21,13 +21,13 @@ pub opens_itself : (s : ScenarioData) → LeadsTo (list_of s []) s
 opens_itself s = record { opening = s; batches = []; is_list = refl; accepted = tt; leaves = refl }
 
 pub sheet_after : (list : List LogEntry) (s : ScenarioData) (l : Loading) (sheet : SheetData) → LeadsTo list s → IsLoadingOf s l
-    → ((r : Setting) (version : ℕ) → Shows r version l → IsSheet r (counts_of (curves_of l)) sheet) → IsSheetAfter list sheet
+    → ((r : Setting) (version : ℕ) (c : Counts) → ShowsCounts r version c l → IsSheet r c sheet) → IsSheetAfter list sheet
 sheet_after list s l sheet leads loading is = record {
   scenario = s;
-  counts = counts_of (curves_of l);
+  counts = loading.1.0;
   leads = leads;
-  loading = loading.1.loading;
-  is_sheet = is (setting_of s) loading.0 loading.1;
+  loading = loading.1.1.loading;
+  is_sheet = is (setting_of s) loading.0 loading.1.0 loading.1.1;
 }
 
 links_in : (s : ScenarioData) → (setting_of s).links ≡ length s.network.links

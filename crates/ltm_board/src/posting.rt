@@ -1,9 +1,9 @@
 //! What a post makes before it takes the panel, and what it does with it.
 ghost use Rattle.std.specs.Prelude.{◌≡◌, ◌++◌, ℕ, true, false, [], ◌∷◌, IfOk, OnErr};
 ghost use Rattle.std.specs.Arc.{arc_value};
-ghost use Rattle.ltm_curve.specs.Table.{counts_of};
+ghost use Rattle.ltm_curve.specs.Counts.{Counts};
 ghost use Rattle.ltm_loading.specs.Setting.{Setting};
-ghost use Rattle.ltm_flows.specs.Shown.{Shows, curves_of};
+ghost use Rattle.ltm_flows.specs.Shown.{ShowsCounts};
 ghost use Rattle.ltm_board.specs.Sheets.{IsSheet};
 ghost use Rattle.ltm_board.specs.Lists.{entries_of_batches, joined, IsSheetAfter};
 ghost use Rattle.ltm_board.specs.Views.{newest, told_view};
@@ -35,7 +35,7 @@ impl Posting {
         loading: &Loading,
     ) -> Result<Posting, NoMemory>
         ensures batches { IfOk result (λ p. p.batches.items ≡ batches.now) }
-        ensures sheet { IfOk result (λ p. (s : Setting) (version : ℕ) → Shows s version loading.now → IsSheet s (counts_of (curves_of loading.now)) p.sheet) }
+        ensures sheet { IfOk result (λ p. (s : Setting) (version : ℕ) (c : Counts) → ShowsCounts s version c loading.now → IsSheet s c p.sheet) }
         ensures copy { IfOk result (λ p. p.copy ≡ p.sheet) }
     {
         let batches = copies(alloc, batches)?;

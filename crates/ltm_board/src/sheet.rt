@@ -1,8 +1,8 @@
 //! The sheet of a loading.
 ghost use Rattle.std.specs.Prelude.{◌≡◌, ◌<◌, ℕ, length, IfOk};
-ghost use Rattle.ltm_curve.specs.Table.{counts_of};
+ghost use Rattle.ltm_curve.specs.Counts.{Counts};
 ghost use Rattle.ltm_loading.specs.Setting.{Setting};
-ghost use Rattle.ltm_flows.specs.Shown.{Shows, curves_of, links_of};
+ghost use Rattle.ltm_flows.specs.Shown.{ShowsCounts, links_of};
 ghost use Rattle.ltm_board.specs.Making.{AreThrough};
 
 use crate::through::Through;
@@ -69,7 +69,7 @@ impl Sheet {
 
     /// The sheet of a loading.
     pub fn of(alloc: Global, loading: &Loading) -> Result<Sheet, NoMemory>
-        ensures { IfOk result (λ sheet. (s : Setting) (version : ℕ) → Shows s version loading.now → IsSheet s (counts_of (curves_of loading.now)) sheet) }
+        ensures { IfOk result (λ sheet. (s : Setting) (version : ℕ) (c : Counts) → ShowsCounts s version c loading.now → IsSheet s c sheet) }
     {
         let through = through_links(alloc, loading)?;
         Ok(Sheet {

@@ -65,5 +65,5 @@ pub fn loading_of(alloc: Global, scenario: &Scenario) -> Option<Loading>
     ensures { IfSome result (IsLoadingOf scenario.now) }
 {
     let curves = cold(alloc, scenario).ok()?;
-    Loading::of(alloc, scenario, curves, 0).ok()
+    Loading::create(alloc, scenario, &curves, 0).ok()
 }

@@ -2,14 +2,14 @@
 use Rattle.std.proofs.Common.{◌≡◌, ℕ, List, ◌++◌, length, refl, sym, ap, subst, ◌∙◌, Ok, Err}
 use Rattle.std.specs.Prelude.{Result, OnOk, IfOk}
 use Rattle.std.proofs.lemmas.List.{length-map}
-use Rattle.ltm_curve.specs.Table.{counts_of}
+use Rattle.ltm_curve.specs.Counts.{Counts}
 use Rattle.ltm_scenario.specs.declared.edit.Edit.{Edit}
 use Rattle.ltm_scenario.specs.Data.{ScenarioData}
 use Rattle.ltm_scenario.specs.IsScenario.{IsScenario}
 use Rattle.ltm_loading.specs.Setting.{Setting}
 use Rattle.ltm_loading.specs.Loading.{IsLoading}
 use Rattle.ltm_setting.specs.Setting.{setting_of}
-use Rattle.ltm_flows.specs.Shown.{Shows, version_of, curves_of}
+use Rattle.ltm_flows.specs.Shown.{Shows, ShowsCounts, version_of}
 use Rattle.ltm_report.specs.Reports.{totals_report}
 use Rattle.ltm_core.specs.Log.{Log, LogLaws, batches_of, version_now, scenario_at, scenario_now, after_batches}
 use Rattle.ltm_core.specs.Cores.{CoreData, IsShownOf}
@@ -37,14 +37,14 @@ module _ (laws : LogLaws) (log : Log) (d : CoreData) (same : d.log ≡ log) (all
       subst (λ (k : ℕ). Shows (setting_of (scenario_now log)) k d.shown) number (subst (λ (s : ScenarioData). Shows (setting_of s) (version_of d.shown) d.shown) last shown.shows)
 
   pub tells_totals : {A E : Type 0} (r : Result A E) (old new : List ℕ)
-      → OnOk r ((s : Setting) (version : ℕ) → Shows s version d.shown → new ≡ old ++ totals_report version s (counts_of (curves_of d.shown))) → OnOk r (TellsTotals log old new)
+      → OnOk r ((s : Setting) (version : ℕ) (c : Counts) → ShowsCounts s version c d.shown → new ≡ old ++ totals_report version s c) → OnOk r (TellsTotals log old new)
   tells_totals r old new wrote =
-      on_ok r ((s : Setting) (version : ℕ) → Shows s version d.shown → new ≡ old ++ totals_report version s (counts_of (curves_of d.shown))) (TellsTotals log old new)
+      on_ok r ((s : Setting) (version : ℕ) (c : Counts) → ShowsCounts s version c d.shown → new ≡ old ++ totals_report version s c) (TellsTotals log old new)
       (λ is. record {
-        counts = counts_of (curves_of d.shown);
+        counts = shows_last.0;
         scenario = subst (λ (s : ScenarioData). IsScenario s) last shown.scenario;
-        loads = shows_last.loading;
-        lines = is (setting_of (scenario_now log)) (version_now log) shows_last;
+        loads = shows_last.1.loading;
+        lines = is (setting_of (scenario_now log)) (version_now log) shows_last.0 shows_last.1;
       })
       wrote
 

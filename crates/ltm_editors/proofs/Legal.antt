@@ -164,8 +164,8 @@ same_loading l = record {
   step = refl;
   links = refl;
   nodes = refl;
-  shape = record { groups = refl; destinations = refl; slots = refl };
-  counts = refl;
+  shape = record { same_groups = refl; same_slots = refl };
+  totals = refl;
   free = λ i. refl;
   generated = λ k m. refl;
 }

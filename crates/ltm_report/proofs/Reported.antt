@@ -1,24 +1,24 @@
 -- Lines with the numbers of a loading are those of its report.
 use Rattle.std.proofs.Common.{ℕ, ◌≡◌, ◌++◌, List, ◌∙◌}
-use Rattle.ltm_curve.specs.Table.{counts_of}
+use Rattle.ltm_curve.specs.Counts.{Counts}
 use Rattle.ltm_loading.specs.Setting.{Setting}
 use Rattle.ltm_loading.specs.Totals.{entered_link, left_link}
 use Rattle.ltm_flows.specs.declared.loading.Loading.{Loading}
 use Rattle.ltm_flows.specs.declared.in_all.Totals.{Totals}
 use Rattle.ltm_flows.specs.InAll.{AreTotals}
 use Rattle.ltm_flows.specs.Counted.{SumsUp}
-use Rattle.ltm_flows.specs.Shown.{Shows, version_of, curves_of}
+use Rattle.ltm_flows.specs.Shown.{ShowsCounts, version_of}
 use Rattle.ltm_report.specs.Totals.{totals_line}
 use Rattle.ltm_report.specs.Links.{load_link_line, link_line}
 use Rattle.ltm_report.specs.Reports.{totals_report, counted_totals, load_link_report, link_report}
 
 pub totals_shown : (l : Loading) (t : Totals) (v : ℕ) (old new : List ℕ) → v ≡ version_of l
-    → ((s : Setting) (version : ℕ) → Shows s version l → AreTotals s (counts_of (curves_of l)) s.slots t)
+    → ((s : Setting) (version : ℕ) (c : Counts) → ShowsCounts s version c l → AreTotals s c s.slots t)
     → new ≡ old ++ totals_line v t.generated.0 t.arrived.0 t.on_links.0 t.waiting.0
-    → (s : Setting) (version : ℕ) → Shows s version l → new ≡ old ++ totals_report version s (counts_of (curves_of l))
+    → (s : Setting) (version : ℕ) (c : Counts) → ShowsCounts s version c l → new ≡ old ++ totals_report version s c
 unfolding totals_report
-totals_shown l t v old new is are wrote s version shows =
-    let all = are s version shows in
+totals_shown l t v old new is are wrote s version c shows =
+    let all = are s version c shows in
     let number : v ≡ version = is ∙ shows.version in
     let came = all.generated in
     let here = all.arrived in
@@ -36,24 +36,24 @@ totals_counted l t v old new is sums wrote =
     cc
 
 pub load_link_shown : (l : Loading) (link : ℕ) (name : List ℕ) (entered gone : ℕ) (old new : List ℕ)
-    → ((s : Setting) (version : ℕ) → Shows s version l → entered ≡ entered_link s (counts_of (curves_of l)) link s.slots)
-    → ((s : Setting) (version : ℕ) → Shows s version l → gone ≡ left_link s (counts_of (curves_of l)) link s.slots)
+    → ((s : Setting) (version : ℕ) (c : Counts) → ShowsCounts s version c l → entered ≡ entered_link s c link s.slots)
+    → ((s : Setting) (version : ℕ) (c : Counts) → ShowsCounts s version c l → gone ≡ left_link s c link s.slots)
     → new ≡ old ++ load_link_line name entered gone
-    → (s : Setting) (version : ℕ) → Shows s version l → new ≡ old ++ load_link_report name link s (counts_of (curves_of l))
+    → (s : Setting) (version : ℕ) (c : Counts) → ShowsCounts s version c l → new ≡ old ++ load_link_report name link s c
 unfolding load_link_report
-load_link_shown l link name entered gone old new came went wrote s version shows =
-    let ins = came s version shows in
-    let outs = went s version shows in
+load_link_shown l link name entered gone old new came went wrote s version c shows =
+    let ins = came s version c shows in
+    let outs = went s version c shows in
     cc
 
 pub link_shown : (l : Loading) (link : ℕ) (name : List ℕ) (v entered gone : ℕ) (old new : List ℕ) → v ≡ version_of l
-    → ((s : Setting) (version : ℕ) → Shows s version l → entered ≡ entered_link s (counts_of (curves_of l)) link s.slots)
-    → ((s : Setting) (version : ℕ) → Shows s version l → gone ≡ left_link s (counts_of (curves_of l)) link s.slots)
+    → ((s : Setting) (version : ℕ) (c : Counts) → ShowsCounts s version c l → entered ≡ entered_link s c link s.slots)
+    → ((s : Setting) (version : ℕ) (c : Counts) → ShowsCounts s version c l → gone ≡ left_link s c link s.slots)
     → new ≡ old ++ link_line v name entered gone
-    → (s : Setting) (version : ℕ) → Shows s version l → new ≡ old ++ link_report version name link s (counts_of (curves_of l))
+    → (s : Setting) (version : ℕ) (c : Counts) → ShowsCounts s version c l → new ≡ old ++ link_report version name link s c
 unfolding link_report
-link_shown l link name v entered gone old new is came went wrote s version shows =
+link_shown l link name v entered gone old new is came went wrote s version c shows =
     let number : v ≡ version = is ∙ shows.version in
-    let ins = came s version shows in
-    let outs = went s version shows in
+    let ins = came s version c shows in
+    let outs = went s version c shows in
     cc

@@ -1,8 +1,8 @@
 //! The lines of one link: what entered and what left it up to the end of the horizon.
 ghost use Rattle.std.specs.Prelude.{◌≡◌, ◌++◌, ◌<◌, ℕ, OnOk, OnErr};
-ghost use Rattle.ltm_curve.specs.Table.{counts_of};
+ghost use Rattle.ltm_curve.specs.Counts.{Counts};
 ghost use Rattle.ltm_loading.specs.Setting.{Setting};
-ghost use Rattle.ltm_flows.specs.Shown.{Shows, curves_of, links_of, version_of};
+ghost use Rattle.ltm_flows.specs.Shown.{ShowsCounts, links_of, version_of};
 ghost use Rattle.ltm_flows.specs.Counted.{entered_of, left_of};
 ghost use Rattle.ltm_report.specs.Links.{name_piece, through_piece, load_link_line, link_line};
 ghost use Rattle.ltm_report.specs.Reports.{load_link_report, link_report};
@@ -72,8 +72,8 @@ pub fn load_link_text(
     into: &mut Vec<u8>,
 ) -> Result<(), NoMemory>
     requires { link.0 < links_of loading.now }
-    ensures ok { OnOk result ((s : Setting) (version : ℕ) → Shows s version loading.now
-        → into.new.items ≡ into.old.items ++ load_link_report name.now link.0 s (counts_of (curves_of loading.now))) }
+    ensures ok { OnOk result ((s : Setting) (version : ℕ) (c : Counts) → ShowsCounts s version c loading.now
+        → into.new.items ≡ into.old.items ++ load_link_report name.now link.0 s c) }
     ensures counted { OnOk result (into.new.items
         ≡ into.old.items ++ load_link_line name.now (entered_of loading.now link.0) (left_of loading.now link.0)) }
     ensures err { OnErr result (into.new.items ≡ into.old.items) }
@@ -111,8 +111,8 @@ pub fn link_text(
     into: &mut Vec<u8>,
 ) -> Result<(), NoMemory>
     requires { link.0 < links_of loading.now }
-    ensures ok { OnOk result ((s : Setting) (version : ℕ) → Shows s version loading.now
-        → into.new.items ≡ into.old.items ++ link_report version name.now link.0 s (counts_of (curves_of loading.now))) }
+    ensures ok { OnOk result ((s : Setting) (version : ℕ) (c : Counts) → ShowsCounts s version c loading.now
+        → into.new.items ≡ into.old.items ++ link_report version name.now link.0 s c) }
     ensures counted { OnOk result (into.new.items ≡ into.old.items
         ++ link_line (version_of loading.now) name.now (entered_of loading.now link.0) (left_of loading.now link.0)) }
     ensures err { OnErr result (into.new.items ≡ into.old.items) }

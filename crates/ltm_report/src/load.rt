@@ -1,8 +1,8 @@
 //! The report of a whole loading, as one text.
 ghost use Rattle.std.specs.Prelude.{◌≡◌, ◌++◌, ◌<◌, IfOk, OnOk, length};
-ghost use Rattle.ltm_curve.specs.Table.{counts_of};
+ghost use Rattle.ltm_curve.specs.Counts.{Counts};
 ghost use Rattle.ltm_setting.specs.Setting.{setting_of};
-ghost use Rattle.ltm_flows.specs.Shown.{Shows, curves_of};
+ghost use Rattle.ltm_flows.specs.Shown.{Shows, ShowsCounts};
 ghost use Rattle.ltm_report.specs.Reports.{link_report_of, texts_below, IsReport};
 
 use crate::links::load_link_text;
@@ -22,8 +22,8 @@ fn push_link(
 ) -> Result<(), NoMemory>
     requires link { link.0 < length scenario.now.network.links }
     requires loading { Shows (setting_of scenario.now) 0 loading.now }
-    ensures { OnOk result (into.new.items
-        ≡ into.old.items ++ link_report_of scenario.now (counts_of (curves_of loading.now)) link.0) }
+    ensures { OnOk result ((c : Counts) → ShowsCounts (setting_of scenario.now) 0 c loading.now
+        → into.new.items ≡ into.old.items ++ link_report_of scenario.now c link.0) }
 {
     let name = scenario.network().link_name(link);
     load_link_text(alloc, loading, &name, link, into)
@@ -36,8 +36,8 @@ fn push_links(
     into: &mut Vec<u8>,
 ) -> Result<(), NoMemory>
     requires { Shows (setting_of scenario.now) 0 loading.now }
-    ensures { OnOk result (into.new.items ≡ into.old.items
-        ++ texts_below (length scenario.now.network.links) (link_report_of scenario.now (counts_of (curves_of loading.now)))) }
+    ensures { OnOk result ((c : Counts) → ShowsCounts (setting_of scenario.now) 0 c loading.now → into.new.items
+        ≡ into.old.items ++ texts_below (length scenario.now.network.links) (link_report_of scenario.now c)) }
 {
     let links = scenario.network().links();
     for link in 0..links {
@@ -46,14 +46,21 @@ fn push_links(
     Ok(())
 }
 
+/// Loads a scenario. The counts by destination are let go.
+fn loaded(alloc: Global, scenario: &Scenario) -> Result<Loading, NoMemory>
+    ensures { IfOk result (Shows (setting_of scenario.now) 0) }
+{
+    let curves = cold(alloc, scenario)?;
+    Loading::create(alloc, scenario, &curves, 0)
+}
+
 /// Loads a scenario, and gives the totals line of its loading and the line of each link, in order of number.
 #[tactic(auto, unfolding(crate::specs::Reports::load_report))]
 pub fn report_of(alloc: Global, scenario: &Scenario) -> Result<Vec<u8>, NoMemory>
     ensures { IfOk result (λ text. IsReport scenario.now text.items) }
 {
     let _setup = scenario.setup();
-    let curves = cold(alloc, scenario)?;
-    let loading = Loading::of(alloc, scenario, curves, 0)?;
+    let loading = loaded(alloc, scenario)?;
     let mut text = Vec::new(alloc);
     totals_text(alloc, &loading, &mut text)?;
     push_links(alloc, scenario, &loading, &mut text)?;

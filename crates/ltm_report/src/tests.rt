@@ -36,7 +36,7 @@ fn one_road(alloc: Global) -> Result<Loading, CaseFault> {
     )?;
     let scenario = read_case(alloc, &mut folder)?;
     let curves = cold(alloc, &scenario)?;
-    Ok(Loading::of(alloc, &scenario, curves, 3)?)
+    Ok(Loading::create(alloc, &scenario, &curves, 3)?)
 }
 
 fn lines(alloc: Global, loading: &Loading, name: &Name) -> Result<Vec<u8>, NoMemory>

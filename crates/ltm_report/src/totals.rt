@@ -1,8 +1,8 @@
 //! The line of a loading's totals.
 ghost use Rattle.std.specs.Prelude.{◌≡◌, ◌++◌, ℕ, OnOk, OnErr};
-ghost use Rattle.ltm_curve.specs.Table.{counts_of};
+ghost use Rattle.ltm_curve.specs.Counts.{Counts};
 ghost use Rattle.ltm_loading.specs.Setting.{Setting};
-ghost use Rattle.ltm_flows.specs.Shown.{Shows, curves_of};
+ghost use Rattle.ltm_flows.specs.Shown.{ShowsCounts};
 ghost use Rattle.ltm_report.specs.Totals.{came_piece, stays_piece, totals_line};
 ghost use Rattle.ltm_report.specs.Reports.{totals_report, counted_totals};
 
@@ -59,8 +59,8 @@ pub fn totals_line_text(
 
 /// Appends the totals of a loading at the end of its horizon, under its version.
 pub fn totals_text(alloc: Global, loading: &Loading, into: &mut Vec<u8>) -> Result<(), NoMemory>
-    ensures ok { OnOk result ((s : Setting) (version : ℕ) → Shows s version loading.now
-        → into.new.items ≡ into.old.items ++ totals_report version s (counts_of (curves_of loading.now))) }
+    ensures ok { OnOk result ((s : Setting) (version : ℕ) (c : Counts) → ShowsCounts s version c loading.now
+        → into.new.items ≡ into.old.items ++ totals_report version s c) }
     ensures counted { OnOk result (into.new.items ≡ into.old.items ++ counted_totals loading.now) }
     ensures err { OnErr result (into.new.items ≡ into.old.items) }
 {

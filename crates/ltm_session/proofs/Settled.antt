@@ -1,8 +1,8 @@
 -- The steps of a settle make the settle of the machine, with its exact count.
 use Rattle.std.proofs.Common.{ℕ, ◌≡◌, ◌≤◌, ap, sym, subst, ◌∙◌, arith}
-use Rattle.ltm_curve.specs.Table.{counts_of}
+use Rattle.ltm_curve.specs.Counts.{Counts}
 use Rattle.ltm_loading.specs.Loading.{IsLoading}
-use Rattle.ltm_flows.specs.Shown.{version_of, curves_of}
+use Rattle.ltm_flows.specs.Shown.{version_of}
 use Rattle.ltm_core.specs.Log.{Log, LogLaws, with_mark, version_now, settled_of}
 use Rattle.ltm_core.specs.Settling.{IsSettleCount, IsExactCount, setting_at}
 use Rattle.ltm_core.specs.Cores.{CoreData, IsShownOf, IsResting, IsNoneOut}
@@ -45,17 +45,13 @@ settled_exactly : (d r p e : CoreData) (n : ℕ) → SettlesCore d r p e n → I
 unfolding IsExactCount
 settled_exactly d r p e n so =
     let log = log_shown d r p e n so in
-    let a = subst (λ v. IsLoading (setting_at d.log v) (counts_of (curves_of d.shown))) so.awaits.shown so.before.core.shows.loading in
-    let b = subst (λ (l : Log). IsLoading (setting_at l (version_now d.log)) (counts_of (curves_of p.shown))) log
-    (subst (λ v. IsLoading (setting_at p.log v) (counts_of (curves_of p.shown))) (all_shown d r p e n so) so.after.core.shows.loading) in (
+    let before : Counts = so.before.core.shows.0 in
+    let after : Counts = so.after.core.shows.0 in
+    let a = subst (λ v. IsLoading (setting_at d.log v) before) so.awaits.shown so.before.core.shows.1.loading in
+    let b = subst (λ (l : Log). IsLoading (setting_at l (version_now d.log)) after) log
+    (subst (λ v. IsLoading (setting_at p.log v) after) (all_shown d r p e n so) so.after.core.shows.1.loading) in (
       subst (λ (l : Log). IsSettleCount l n) log so.counted.counts,
-      (
-        counts_of (curves_of d.shown),
-        counts_of (curves_of p.shown),
-        a,
-        b,
-        so.counted.told ∙ so.showing.commits ∙ so.repaired.counts so.awaits.uncounted (counts_of (curves_of d.shown)) (counts_of (curves_of p.shown)) a b,
-      ),
+      (before, after, a, b, so.counted.told ∙ so.showing.commits ∙ so.repaired.counts so.awaits.uncounted before after a b),
     )
 
 scenario_of : (d : CoreData) (k : ℕ) → HoldsOfCore d → k ≤ version_now d.log → IsScenarioOf d.log k

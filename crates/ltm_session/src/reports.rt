@@ -1,8 +1,8 @@
 //! What is reported of a travel time.
 ghost use Rattle.std.specs.Prelude.{◌≡◌, ◌++◌, ℕ, ◌<◌, OnOk, OnErr};
-ghost use Rattle.ltm_curve.specs.Table.{counts_of};
+ghost use Rattle.ltm_curve.specs.Counts.{Counts};
 ghost use Rattle.ltm_loading.specs.Setting.{Setting};
-ghost use Rattle.ltm_flows.specs.Shown.{Shows, curves_of, last_of, links_of};
+ghost use Rattle.ltm_flows.specs.Shown.{ShowsCounts, last_of, links_of};
 ghost use Rattle.ltm_session.specs.Reports.{time_report};
 
 use ltm_flows::Loading;
@@ -22,8 +22,8 @@ pub(crate) fn push_time(
 ) -> Result<(), NoMemory>
     requires link { link.0 < links_of loading.now }
     requires slot { slot < last_of loading.now }
-    ensures ok { OnOk result ((s : Setting) (version : ℕ) → Shows s version loading.now
-        → into.new.items ≡ into.old.items ++ time_report version name.now link.0 slot s (counts_of (curves_of loading.now))) }
+    ensures ok { OnOk result ((s : Setting) (version : ℕ) (c : Counts) → ShowsCounts s version c loading.now
+        → into.new.items ≡ into.old.items ++ time_report version name.now link.0 slot s c) }
     ensures err { OnErr result (into.new.items ≡ into.old.items) }
 {
     let time = travel(loading, link, slot);

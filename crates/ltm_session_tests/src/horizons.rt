@@ -122,7 +122,7 @@ fn push_loaded(
         return Err(NoMemory);
     };
     let curves = cold(alloc, &scenario)?;
-    let loading = Loading::of(alloc, &scenario, curves, version)?;
+    let loading = Loading::create(alloc, &scenario, &curves, version)?;
     totals_text(alloc, &loading, into)
 }
 

@@ -1,9 +1,9 @@
 //! The lines of a trial.
 ghost use Rattle.std.specs.Prelude.{◌≡◌, ◌++◌, ◌*◌, ℕ, OnOk};
-ghost use Rattle.ltm_curve.specs.Table.{counts_of};
+ghost use Rattle.ltm_curve.specs.Counts.{Counts};
 ghost use Rattle.ltm_loading.specs.Setting.{Setting};
 ghost use Rattle.ltm_setting.specs.Setting.{setting_of};
-ghost use Rattle.ltm_flows.specs.Shown.{Shows, curves_of};
+ghost use Rattle.ltm_flows.specs.Shown.{ShowsCounts};
 ghost use Rattle.ltm_times.specs.Times.{time_spent};
 ghost use Rattle.ltm_report.specs.Made.{work_line};
 ghost use Rattle.ltm_trial.specs.Trial.{size_of};
@@ -35,8 +35,8 @@ pub(crate) fn push_work(
     solved: u64,
     into: &mut Vec<u8>,
 ) -> Result<(), NoMemory>
-    ensures { (s : Setting) (version : ℕ) → Shows s version loading.now
-        → OnOk result (into.new.items ≡ into.old.items ++ work_line recomputed solved (time_spent s (counts_of (curves_of loading.now)))) }
+    ensures { (s : Setting) (version : ℕ) (c : Counts) → ShowsCounts s version c loading.now
+        → OnOk result (into.new.items ≡ into.old.items ++ work_line recomputed solved (time_spent s c)) }
 {
     work_text(alloc, recomputed, solved, time_spent(loading), into)
 }

@@ -1,12 +1,12 @@
 //! A trial, from two numbers to its report.
 ghost use Rattle.std.specs.Prelude.{◌≡◌, ◌↔◌, ◌++◌, ◌<◌, ◌⊎◌, ℕ, Ok, Err, OnOk, IfOk, IsOk};
-ghost use Rattle.ltm_curve.specs.Table.{counts_of};
+ghost use Rattle.ltm_curve.specs.Counts.{Counts};
 ghost use Rattle.ltm_scenario.specs.Data.{ScenarioData};
 ghost use Rattle.ltm_scenario.specs.Edits.{edited_all, HaveAmounts};
 ghost use Rattle.ltm_scenario.specs.Valid.{IsValid};
 ghost use Rattle.ltm_loading.specs.Setting.{Setting};
 ghost use Rattle.ltm_setting.specs.Setting.{setting_of};
-ghost use Rattle.ltm_flows.specs.Shown.{Shows, curves_of};
+ghost use Rattle.ltm_flows.specs.Shown.{ShowsCounts};
 ghost use Rattle.ltm_times.specs.Times.{time_spent};
 ghost use Rattle.ltm_report.specs.Made.{work_line};
 ghost use Rattle.ltm_report.specs.Reports.{totals_report};
@@ -24,8 +24,8 @@ use std::alloc::Global;
 
 /// The first two lines: of what is shown before the batch.
 fn push_before(alloc: Global, core: &Core, into: &mut Vec<u8>) -> Result<(), NoMemory>
-    ensures { (s : Setting) → Shows s 0 core.now.shown → OnOk result (into.new.items ≡ into.old.items
-        ++ size_of (setting_of core.now.scenario) ++ totals_report 0 s (counts_of (curves_of core.now.shown))) }
+    ensures { (s : Setting) (c : Counts) → ShowsCounts s 0 c core.now.shown → OnOk result (into.new.items ≡ into.old.items
+        ++ size_of (setting_of core.now.scenario) ++ totals_report 0 s c) }
 {
     push_size(alloc, core, into)?;
     totals_text(alloc, core.shown(), into)?;
@@ -40,8 +40,8 @@ fn push_after(
     solved: u64,
     into: &mut Vec<u8>,
 ) -> Result<(), NoMemory>
-    ensures { (s : Setting) → Shows s 1 core.now.shown → OnOk result (into.new.items ≡ into.old.items
-        ++ totals_report 1 s (counts_of (curves_of core.now.shown)) ++ work_line recomputed solved (time_spent s (counts_of (curves_of core.now.shown)))) }
+    ensures { (s : Setting) (c : Counts) → ShowsCounts s 1 c core.now.shown → OnOk result (into.new.items ≡ into.old.items
+        ++ totals_report 1 s c ++ work_line recomputed solved (time_spent s c)) }
 {
     totals_text(alloc, core.shown(), into)?;
     push_work(alloc, core.shown(), recomputed, solved, into)?;

@@ -1,5 +1,5 @@
 -- What a viewer tells is the report of the loading that is shown.
-use Rattle.std.proofs.Common.{◌≡◌, ◌+◌, ℕ, List, length, sym, ap, subst, ◌∙◌, arith}
+use Rattle.std.proofs.Common.{◌≡◌, ◌+◌, ◌++◌, [], ℕ, List, length, refl, sym, ap, subst, ◌∙◌, append_assoc, arith}
 use Rattle.std.specs.Prelude.{Result, Ok, Err, OnOk}
 use Rattle.ltm_curve.specs.Counts.{Counts}
 use Rattle.ltm_loading.specs.Loading.{IsLoading}
@@ -10,14 +10,14 @@ use Rattle.ltm_core.specs.Log.{scenario_at}
 use Rattle.ltm_core.specs.Cores.{CoreData, IsShownOf}
 use Rattle.ltm_core.specs.Runs.{HoldsOfCore}
 use Rattle.ltm_core.specs.declared.entry.LogEntry.{LogEntry}
-use Rattle.ltm_session.specs.Analysts.{state_of}
+use Rattle.ltm_session.specs.Analysts.{Analysts, state_of}
 use Rattle.ltm_report.specs.Reports.{totals_report}
 use Rattle.ltm_session.specs.Answers.{ReportsShown}
 use Rattle.ltm_board.specs.Sheets.{SheetData, IsSheet}
 use Rattle.ltm_board.specs.Lists.{LeadsTo, IsSheetAfter}
 use Rattle.ltm_board.specs.Leads.{ListsLead}
 use Rattle.ltm_viewing.specs.Hung.{shown_list}
-use Rattle.ltm_viewing.specs.Lines.{viewer_line, viewer_report}
+use Rattle.ltm_viewing.specs.Lines.{ViewersTell, viewer_line, viewer_report}
 use Rattle.ltm_viewing.proofs.Posts.{first_leads, first_long}
 
 pub on_ok_map : {A B : Type 0} (r : Result A B) (P Q : Type 0) → (P → Q) → OnOk r P → OnOk r Q
@@ -50,3 +50,9 @@ told_shown laws d viewer count list sheet holds shown is right counted =
       subst (λ (s : ScenarioData). IsLoading (setting_of s) right.counts) same right.loading,
       line_is viewer count k (scenario_at d.log k) right.counts sheet number (subst (λ (s : ScenarioData). IsSheet (setting_of s) right.counts sheet) same right.is_sheet),
     )
+
+-- two viewers tell, one after the other
+pub two_tell : (s : Analysts) (old mid new : List ℕ) → ((one : List ℕ) × ReportsShown s (viewer_report 1) one × (mid ≡ old ++ one))
+    → ((two : List ℕ) × ReportsShown s (viewer_report 2) two × (new ≡ mid ++ two)) → (lines : List ℕ) × ViewersTell 2 s lines × (new ≡ old ++ lines)
+two_tell s old mid new (one, first, wrote) (two, second, wrote_more) =
+    (one ++ two, (one, two, ([], one, refl, first, refl), second, refl), wrote_more ∙ (ap (λ (z : List ℕ). z ++ two) wrote ∙ append_assoc old one two))

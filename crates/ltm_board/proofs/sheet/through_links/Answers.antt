@@ -1,8 +1,7 @@
 use Rattle.std.proofs.Common.{rules, ◌≡◌, ◌+◌, ◌++◌, ◌∷◌, [], List, arith, sym, ap, subst, ◌∙◌}
 use Rattle.std.proofs.lemmas.List.{length_push}
-use Rattle.ltm_curve.specs.Table.{counts_of}
 use Rattle.ltm_loading.specs.Totals.{entered_link, left_link}
-use Rattle.ltm_flows.specs.Shown.{curves_of, links_of}
+use Rattle.ltm_flows.specs.Shown.{links_of}
 use Rattle.ltm_board.specs.declared.through.Through.{Through}
 use Rattle.ltm_board.specs.Making.{AreThrough}
 use Rattle.ltm_board.proofs.Rows.{pushed}
@@ -18,8 +17,8 @@ loop-link-preserved c =
     let now : c.push.new.self.items ≡ xs ++ x ∷ [] = search rules in
     subst (λ (ys : List Through). AreThrough l (i + 1) ys) (sym now) (record {
       links_are = length_push xs x ∙ ap (λ n. n + 1) before.links_are;
-      entered = λ s version link shows less. pushed (λ (t : Through). t.entered.0) xs x i (λ k. entered_link s (counts_of (curves_of l)) k s.slots) before.links_are (c.entered-entered.ensures.shown s version shows) (λ k m. before.entered s version k shows m) link less;
-      left = λ s version link shows less. pushed (λ (t : Through). t.left.0) xs x i (λ k. left_link s (counts_of (curves_of l)) k s.slots) before.links_are (c.left-left.ensures.shown s version shows) (λ k m. before.left s version k shows m) link less;
+      entered = λ s version counts link shows less. pushed (λ (t : Through). t.entered.0) xs x i (λ k. entered_link s counts k s.slots) before.links_are (c.entered-entered.ensures.shown s version counts shows) (λ k m. before.entered s version counts k shows m) link less;
+      left = λ s version counts link shows less. pushed (λ (t : Through). t.left.0) xs x i (λ k. left_link s counts k s.slots) before.links_are (c.left-left.ensures.shown s version counts shows) (λ k m. before.left s version counts k shows m) link less;
     })
 
 pub returns : goal.returns

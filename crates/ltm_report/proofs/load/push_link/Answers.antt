@@ -1,17 +1,14 @@
 use Rattle.std.proofs.lemmas.Result.{on_ok_weaker}
 use Rattle.std.proofs.Common.{◌∙◌, ◌++◌, ℕ, List, ap}
-use Rattle.ltm_curve.specs.Table.{counts_of}
 use Rattle.ltm_network.specs.Network.{NetworkData, link_name}
 use Rattle.ltm_setting.specs.Setting.{setting_of}
-use Rattle.ltm_flows.specs.Shown.{curves_of}
 use Rattle.ltm_report.specs.Reports.{load_link_report}
 use Rattle.ltm_report.proofs.load.push_link.Goals as goal
 
 pub returns : goal.returns
 returns c =
     let setting = setting_of c.args.scenario.now in
-    let counts = counts_of (curves_of c.args.loading.now) in
     let named = c.link_name-name.ensures ∙ ap (λ (n : NetworkData). link_name n c.args.link.0) c.network.ensures in
     on_ok_weaker c.load_link_text.result
-    (λ wrote. wrote setting 0 c.requires.loading ∙ ap (λ (name : List ℕ). c.args.into.now.items ++ load_link_report name c.args.link.0 setting counts) named)
+    (λ wrote counts shows. wrote setting 0 counts shows ∙ ap (λ (name : List ℕ). c.args.into.now.items ++ load_link_report name c.args.link.0 setting counts) named)
     c.load_link_text.ensures.ok

@@ -1,6 +1,5 @@
-use Rattle.ltm_curve.specs.Table.{counts_of}
 use Rattle.ltm_setting.specs.Setting.{setting_of}
-use Rattle.ltm_flows.specs.Shown.{curves_of, Shows}
+use Rattle.ltm_flows.specs.Shown.{Shows}
 use Rattle.ltm_trial.specs.Repairs.{Repairs}
 use Rattle.ltm_trial.proofs.Repaired.{opens_shown, opens_scenario}
 use Rattle.ltm_trial.proofs.Reported.{trial_text}
@@ -16,14 +15,14 @@ returns c =
         scenario = opens_scenario c.args.core.now c.requires.opening c.holds.ensures.core;
         edited = done.scenario;
         network = done.network;
-        before = counts_of (curves_of c.args.core.now.shown);
-        after = counts_of (curves_of c.repair.new.core.shown);
-        loads = shows.loading;
-        reloads = done.shows.loading;
+        before = shows.0;
+        after = done.shows.0;
+        loads = shows.1.loading;
+        reloads = done.shows.1.loading;
         lines =
-            trial_text (setting_of c.args.core.now.scenario) (setting_of done.edited) (counts_of (curves_of c.args.core.now.shown)) (counts_of (curves_of c.repair.new.core.shown)) c.in_ok-recomputed.recomputed c.in_ok-recomputed.solved
-            c.new-text.result.items c.push_before.new.into.items c.push_after.new.into.items c.new-text.ensures.items (c.in_ok-push_before.ensures (setting_of c.args.core.now.scenario) shows)
-            (c.in_ok-push_after.ensures (setting_of done.edited) done.shows)
-            (done.counts (counts_of (curves_of c.args.core.now.shown)) (counts_of (curves_of c.repair.new.core.shown)) shows.loading done.shows.loading) done.same;
+            trial_text (setting_of c.args.core.now.scenario) (setting_of done.edited) shows.0 done.shows.0 c.in_ok-recomputed.recomputed c.in_ok-recomputed.solved
+            c.new-text.result.items c.push_before.new.into.items c.push_after.new.into.items c.new-text.ensures.items (c.in_ok-push_before.ensures (setting_of c.args.core.now.scenario) shows.0 shows.1)
+            (c.in_ok-push_after.ensures (setting_of done.edited) done.shows.0 done.shows.1)
+            (done.counts shows.0 done.shows.0 shows.1.loading done.shows.1.loading) done.same;
       },
     )
