@@ -2,6 +2,7 @@
 use Rattle.std.proofs.Common.{◌≡◌, ℕ, ◌+◌, ◌==◌, List, [], ◌∷◌, Bool, true, false, Result, Ok, Err, Option, Some, None, refl, subst}
 use Rattle.std.specs.Prelude.{IfErr, if◌then◌else◌, is_some, not, nat_le, nat_lt, length, sum}
 use Rattle.std.specs.List.{list_all}
+use Rattle.ltm_units.specs.Results.{refuse, found}
 use Rattle.ltm_io.specs.Folder.{Files}
 use Rattle.ltm_io.specs.declared.doc.Doc.TheVariants as doc
 use Rattle.ltm_network.specs.Network as network
@@ -36,7 +37,7 @@ use Rattle.ltm_casefile.specs.declared.tables.Table.TheVariants as table
 use Rattle.ltm_casefile.specs.declared.setup.SetupRecord.{SetupRecord}
 use Rattle.ltm_casefile.specs.declared.demand.DemandRecord.{DemandRecord}
 use Rattle.ltm_casefile.specs.declared.splits.SplitRecord.{SplitRecord}
-use Rattle.ltm_casefile.specs.Causes.{refuse, found, taken}
+use Rattle.ltm_casefile.specs.Causes.{taken}
 use Rattle.ltm_casefile.specs.Rows.{at_row, rows_from, below_header}
 use Rattle.ltm_casefile.specs.Fields.{has_width, name_in, number_in, amount_in, weights_in}
 use Rattle.ltm_casefile.specs.Setup.{signals_in, setup_record, in_range, opened, setup_read, only_row, setup_of, heads_setup}

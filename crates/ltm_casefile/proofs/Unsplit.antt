@@ -1,5 +1,6 @@
 -- Neither links nor demand set a split row.
 use Rattle.std.proofs.Common.{◌≡◌, ℕ, ◌+◌, List, [], ◌∷◌, Bool, Result, Ok, Err, refl, ap, ◌∙◌}
+use Rattle.ltm_units.specs.Results.{refuse}
 use Rattle.ltm_network.specs.Network as network
 use Rattle.ltm_network.specs.Network.{NetworkData}
 use Rattle.ltm_diagram.specs.declared.diagram.Diagram.{Diagram}
@@ -17,7 +18,7 @@ use Rattle.ltm_casefile.specs.declared.faults.CaseCause.{CaseCause}
 use Rattle.ltm_casefile.specs.declared.faults.CaseFault.{CaseFault}
 use Rattle.ltm_casefile.specs.declared.faults.File.{File}
 use Rattle.ltm_casefile.specs.declared.tables.Table.TheVariants as table
-use Rattle.ltm_casefile.specs.Causes.{refuse, taken}
+use Rattle.ltm_casefile.specs.Causes.{taken}
 use Rattle.ltm_casefile.specs.Rows.{at_row, rows_from, below_header}
 use Rattle.ltm_casefile.specs.Links.{link_record, with_link_record, link_added}
 use Rattle.ltm_casefile.specs.Links as links

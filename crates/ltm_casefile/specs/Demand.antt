@@ -1,5 +1,6 @@
 -- What a record of demand makes of a scenario.
 use Rattle.std.specs.Prelude.{ℕ, ◌==◌, not, Result, Ok, unwrap_or, Bool, length, codes, ◌&&◌}
+use Rattle.ltm_units.specs.Results.{refuse, found}
 use Rattle.ltm_network.specs.Network.{find_node}
 use Rattle.ltm_demand.specs.declared.row.DemandRow.{DemandRow}
 use Rattle.ltm_scenario.specs.Data.{ScenarioData}
@@ -9,7 +10,7 @@ use Rattle.ltm_records.specs.Fields.{Fields, has}
 use Rattle.ltm_casefile.specs.declared.faults.CaseCause.{CaseCause}
 use Rattle.ltm_casefile.specs.declared.faults.CaseCause.TheVariants.{Unknown, NoOrigin, SameEnds, BadSlots, TooManyDestinations, TooManyRows}
 use Rattle.ltm_casefile.specs.declared.demand.DemandRecord.{DemandRecord}
-use Rattle.ltm_casefile.specs.Causes.{refuse, found, taken}
+use Rattle.ltm_casefile.specs.Causes.{taken}
 use Rattle.ltm_casefile.specs.Fields.{has_width, name_in, number_in, amount_in}
 
 abbrev pub is_demand_header : Fields → Bool

@@ -2,12 +2,12 @@
 use Rattle.std.specs.Prelude.{ℕ, ◌-◌, ◌==◌, not, List, length, Option, Some, None, option_and_then, if◌then◌else◌, Result}
 use Rattle.ltm_units.specs.declared.names.Name.{Name}
 use Rattle.ltm_units.specs.declared.quantities.Units.{Units}
+use Rattle.ltm_units.specs.Results.{refuse, found}
 use Rattle.ltm_records.specs.Fields.{Fields, field as text_at, name_at, whole_at, vehicles_at}
 use Rattle.ltm_records.specs.Weights.{weights_of}
 use Rattle.ltm_scenario.specs.Weights.{NamedWeight, are_weights}
 use Rattle.ltm_casefile.specs.declared.faults.CaseCause.{CaseCause}
 use Rattle.ltm_casefile.specs.declared.faults.CaseCause.TheVariants.{Width, Field}
-use Rattle.ltm_casefile.specs.Causes.{refuse, found}
 
 abbrev pub has_width : Fields → ℕ → Result (Unit {0}) CaseCause
 has_width fields width = refuse (not (length fields == width)) Width

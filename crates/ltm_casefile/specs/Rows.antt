@@ -1,5 +1,6 @@
 -- The records of a file, one after the other.
 use Rattle.std.specs.Prelude.{ℕ, ◌+◌, Bool, not, List, [], ◌∷◌, Result, Ok, Err}
+use Rattle.ltm_units.specs.Results.{refuse}
 use Rattle.ltm_scenario.specs.Build.{◌>>=◌}
 use Rattle.ltm_records.specs.Fields.{Fields}
 use Rattle.ltm_casefile.specs.declared.faults.CaseCause.{CaseCause}
@@ -7,7 +8,6 @@ use Rattle.ltm_casefile.specs.declared.faults.CaseCause.TheVariants.{Header}
 use Rattle.ltm_casefile.specs.declared.faults.CaseFault.{CaseFault}
 use Rattle.ltm_casefile.specs.declared.faults.CaseFault.TheVariants.{Bad}
 use Rattle.ltm_casefile.specs.declared.faults.File.{File}
-use Rattle.ltm_casefile.specs.Causes.{refuse}
 
 -- a record's cause, with its file and its row
 abbrev pub at_row : {A : Type 0} → File → ℕ → Result A CaseCause → Result A CaseFault

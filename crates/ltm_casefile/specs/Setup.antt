@@ -1,5 +1,6 @@
 -- What the setup says.
 use Rattle.std.specs.Prelude.{ℕ, ◌==◌, ◌||◌, ◌&&◌, codes, not, nat_lt, Bool, if◌then◌else◌, List, [], ◌∷◌, length, Result, Ok, Err}
+use Rattle.ltm_units.specs.Results.{refuse}
 use Rattle.ltm_scenario.specs.declared.setup.SetupFault.{SetupFault}
 use Rattle.ltm_scenario.specs.declared.setup.SetupFault.TheVariants.{Range as OutOfRange}
 use Rattle.ltm_scenario.specs.Setup.{setup_checked}
@@ -13,7 +14,6 @@ use Rattle.ltm_casefile.specs.declared.faults.CaseFault.TheVariants.{Bad}
 use Rattle.ltm_casefile.specs.declared.faults.File.TheVariants as file
 use Rattle.ltm_casefile.specs.declared.setup.SetupRecord.{SetupRecord}
 use Rattle.ltm_casefile.specs.declared.setup.Opened.{Opened}
-use Rattle.ltm_casefile.specs.Causes.{refuse}
 use Rattle.ltm_casefile.specs.Fields.{has_width, number_in, amount_in}
 use Rattle.ltm_casefile.specs.Rows.{at_row, below_header}
 

@@ -1,5 +1,6 @@
 -- What a record of signals makes of a scenario.
 use Rattle.std.specs.Prelude.{Result, Ok, Bool, length, codes, ◌==◌, ◌&&◌}
+use Rattle.ltm_units.specs.Results.{found}
 use Rattle.ltm_network.specs.Network.{find_link}
 use Rattle.ltm_scenario.specs.Data.{ScenarioData}
 use Rattle.ltm_scenario.specs.Build.{with_exit, ◌>>=◌}
@@ -7,7 +8,7 @@ use Rattle.ltm_records.specs.Fields.{Fields, has}
 use Rattle.ltm_casefile.specs.declared.faults.CaseCause.{CaseCause}
 use Rattle.ltm_casefile.specs.declared.faults.CaseCause.TheVariants.{Unknown, BadSlots}
 use Rattle.ltm_casefile.specs.declared.signals.SignalRecord.{SignalRecord}
-use Rattle.ltm_casefile.specs.Causes.{found, taken}
+use Rattle.ltm_casefile.specs.Causes.{taken}
 use Rattle.ltm_casefile.specs.Fields.{has_width, name_in, number_in, amount_in}
 
 abbrev pub is_signals_header : Fields → Bool

@@ -1,6 +1,7 @@
 -- What a record of splits makes of a scenario.
 use Rattle.std.specs.Prelude.{ℕ, ◌==◌, not, nat_lt, sum, Result, Ok, Bool, length, codes, ◌&&◌}
 use Rattle.std.specs.List.{list_all}
+use Rattle.ltm_units.specs.Results.{refuse, found}
 use Rattle.ltm_network.specs.Network.{find_node}
 use Rattle.ltm_splits.specs.Rows.{key_of}
 use Rattle.ltm_scenario.specs.Data.{ScenarioData}
@@ -10,7 +11,7 @@ use Rattle.ltm_records.specs.Fields.{Fields, has}
 use Rattle.ltm_casefile.specs.declared.faults.CaseCause.{CaseCause}
 use Rattle.ltm_casefile.specs.declared.faults.CaseCause.TheVariants.{Unknown, SameEnds, BadSlots, ZeroWeight, TooManyDestinations, TooManyRows}
 use Rattle.ltm_casefile.specs.declared.splits.SplitRecord.{SplitRecord}
-use Rattle.ltm_casefile.specs.Causes.{refuse, found, taken}
+use Rattle.ltm_casefile.specs.Causes.{taken}
 use Rattle.ltm_casefile.specs.Fields.{has_width, name_in, number_in, weights_in}
 use Rattle.ltm_casefile.specs.Demand.{place_of}
 

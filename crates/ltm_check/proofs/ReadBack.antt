@@ -23,7 +23,7 @@ use Rattle.ltm_scenario.specs.Reads.{destination_node, destination_name}
 use Rattle.ltm_records.specs.Fields.{Fields, same}
 use Rattle.ltm_records.specs.Left.{records_of}
 use Rattle.ltm_loading.specs.Setting.{IsSetting}
-use Rattle.ltm_loading.specs.Groups.{groups}
+use Rattle.ltm_loading.specs.Groups.{up_of, groups}
 use Rattle.ltm_setting.specs.Setting.{setting_of}
 use Rattle.ltm_check.specs.Due.{record_count, record_place, group_at, destination_at, link_groups, node_groups_end, kind_of, name_of}
 use Rattle.ltm_check.specs.CountsTold.{counts_told}
@@ -90,14 +90,14 @@ pick true c x y z P first second third = first refl
 pick false true x y z P first second third = second refl refl
 pick false false x y z P first second third = third refl refl
 
-even_plain : (b : Bool) → IsPlain (if b then codes "up" else codes "down")
-even_plain true = refl
-even_plain false = refl
+end_plain : (b : Bool) → IsPlain (if b then codes "up" else codes "down")
+end_plain true = refl
+end_plain false = refl
 
 kind_plain : (s : ScenarioData) (g : ℕ) → IsPlain (kind_of s g)
 kind_plain s g =
-    pick (nat_lt g (link_groups s)) (nat_lt g (node_groups_end s)) (if g % 2 == 0 then codes "up" else codes "down") (codes "dep") (codes "arr") IsPlain
-    (λ e. even_plain (g % 2 == 0)) (λ e f. refl) (λ e f. refl)
+    pick (nat_lt g (link_groups s)) (nat_lt g (node_groups_end s)) (if g == up_of (g / 2) then codes "up" else codes "down") (codes "dep") (codes "arr") IsPlain
+    (λ e. end_plain (g == up_of (g / 2))) (λ e f. refl) (λ e f. refl)
 
 less_told : (a b : ℕ) → nat_lt a b ≡ true → a < b
 less_told a b e = grind (arith, nat_tests)

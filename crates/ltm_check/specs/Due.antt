@@ -4,7 +4,7 @@ use Rattle.std.specs.Prelude.{ℕ, ◌+◌, ◌-◌, ◌*◌, ◌/◌, ◌%◌, 
 use Rattle.ltm_network.specs.Network.{link_name, node_name}
 use Rattle.ltm_scenario.specs.Data.{ScenarioData}
 use Rattle.ltm_scenario.specs.Reads.{destination_name}
-use Rattle.ltm_loading.specs.Groups.{groups}
+use Rattle.ltm_loading.specs.Groups.{up_of, groups}
 use Rattle.ltm_setting.specs.Setting.{setting_of}
 
 -- how many records there are
@@ -23,7 +23,7 @@ destination_at s place = place % (setting_of s).destinations
 
 -- the groups of links come first, two for each link, and then those of nodes
 abbrev pub link_groups : ScenarioData → ℕ
-link_groups s = 2 * length s.network.links
+link_groups s = up_of (length s.network.links)
 
 abbrev pub node_groups_end : ScenarioData → ℕ
 node_groups_end s = link_groups s + length s.network.nodes
@@ -31,7 +31,7 @@ node_groups_end s = link_groups s + length s.network.nodes
 -- what is counted: what has entered a link, has left it, has left an origin, or has arrived
 abbrev pub kind_of : ScenarioData → ℕ → List ℕ
 kind_of s group =
-    if nat_lt group (link_groups s) then (if group % 2 == 0 then codes "up" else codes "down")
+    if nat_lt group (link_groups s) then (if group == up_of (group / 2) then codes "up" else codes "down")
     else if nat_lt group (node_groups_end s) then codes "dep" else codes "arr"
 
 -- the name of the link, of the node, or of the destination, of which it is counted

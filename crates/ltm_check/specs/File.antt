@@ -3,15 +3,12 @@ use Rattle.std.specs.Prelude.{ℕ, ◌≡◌, ◌<◌, ◌+◌, ◌==◌, ◌&&�
 use Rattle.ltm_curve.specs.Counts.{Counts}
 use Rattle.ltm_scenario.specs.Data.{ScenarioData}
 use Rattle.ltm_scenario.specs.Reads.{destination_name}
-use Rattle.ltm_records.specs.Fields.{Fields, field, same}
+use Rattle.ltm_records.specs.Fields.{Fields, field, has}
 use Rattle.ltm_setting.specs.Setting.{setting_of}
 use Rattle.ltm_check.specs.declared.faults.CurvesCause.{CurvesCause}
 use Rattle.ltm_check.specs.declared.faults.CurvesCause.TheVariants.{Header, Width, Field, Rows}
 use Rattle.ltm_check.specs.CountsTold.{counts_told}
 use Rattle.ltm_check.specs.Due.{record_count, record_place, group_at, destination_at, kind_of, name_of}
-
-abbrev pub has : Fields → ℕ → List ℕ → Bool
-has fields place text = same (field fields place) text
 
 abbrev pub is_curves_header : Fields → Bool
 is_curves_header fields =

@@ -5,6 +5,7 @@ ghost use Rattle.ltm_setting.specs.Setting.{setting_of};
 ghost use Rattle.ltm_scenario.specs.Reads.{destination_name};
 ghost use Rattle.ltm_check.specs.Due.{record_count, kind_of, name_of};
 
+use ltm_loading::up_of;
 use ltm_scenario::Scenario;
 use ltm_setting::{arr_of, dep_of, destination_count, group_count};
 use ltm_units::{LinkId, Name, NodeId};
@@ -23,7 +24,11 @@ pub(crate) fn kind_of(scenario: &Scenario, group: u32) -> &'static [u8]
     ensures { result.now ≡ kind_of scenario.now group }
 {
     if group < dep_of(scenario, NodeId(0)) {
-        if group % 2 == 0 { b"up" } else { b"down" }
+        if group == up_of(LinkId(group / 2)) {
+            b"up"
+        } else {
+            b"down"
+        }
     } else if group < arr_of(scenario) {
         b"dep"
     } else {

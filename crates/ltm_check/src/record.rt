@@ -1,12 +1,11 @@
 //! A record of a curve file.
 ghost use Rattle.std.specs.Prelude.{◌≡◌, ◌<◌, IsNone};
 ghost use Rattle.csv.specs.Records.{fields_of};
-ghost use Rattle.ltm_records.specs.Fields.{same, field};
 ghost use Rattle.ltm_curve.specs.Table.{SameShape};
 ghost use Rattle.ltm_loading.specs.Groups.{groups};
 ghost use Rattle.ltm_setting.specs.Setting.{setting_of};
 ghost use Rattle.ltm_loading.specs.Shaped.{IsShaped};
-ghost use Rattle.ltm_check.specs.File.{is_curves_header, has, counts_in, fault_of, or_no_counts};
+ghost use Rattle.ltm_check.specs.File.{is_curves_header, counts_in, fault_of, or_no_counts};
 ghost use Rattle.ltm_check.specs.Kept.{PutsCounts};
 
 use crate::counts::read_counts;
@@ -14,15 +13,8 @@ use crate::due::{kind_of, name_of, name_of_destination};
 use crate::faults::CurvesCause;
 use csv::ByteRecord;
 use ltm_curve::Curves;
-use ltm_records::{text_at, width};
+use ltm_records::{has, text_at, width};
 use ltm_scenario::Scenario;
-
-/// Whether the field at a place is this text.
-fn has(row: &ByteRecord, place: usize, text: &[u8]) -> bool
-    ensures { result ≡ has (fields_of row.now) place text.now }
-{
-    text_at(row, place) == text
-}
 
 /// Whether the record is `kind,name,destination,counts`.
 pub(crate) fn is_curves_header(row: &ByteRecord) -> bool

@@ -1,5 +1,5 @@
 -- A text has at most as many records as bytes, and one more.
-use Rattle.std.proofs.Common.{ℕ, zero, suc, ◌≡◌, ◌+◌, ◌≤◌, List, [], ◌∷◌, length, Option, Some, None, true, false, cond, arith}
+use Rattle.std.proofs.Common.{ℕ, zero, suc, ◌+◌, ◌≤◌, List, [], ◌∷◌, length, Option, Some, None, true, false, cond, arith}
 use Rattle.csv.specs.Machine.{Read, next_record}
 use Rattle.csv.specs.Reading.{default_config, records_from, records_next, strip_bom, is_bom}
 use Rattle.csv.specs.declared.parser.Config.{Config}

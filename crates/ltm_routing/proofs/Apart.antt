@@ -1,8 +1,8 @@
 -- The out-links of a node over which a split row sends traffic, by name.
-use Rattle.std.proofs.Common.{ℕ, zero, suc, ◌≡◌, ◌≢◌, ◌+◌, ◌≤◌, ◌<◌, ◌==◌, ◌&&◌, Bool, true, false, cond, not, List, [], ◌∷◌, ◌++◌, length, map, sum, Option, Some, None, refl, ap, sym, subst, arith, ◌∙◌, nat_le}
-use Rattle.std.specs.Prelude.{All, ⊤, if◌then◌else◌, sum_by, ◌||◌, slice_index_or}
+use Rattle.std.proofs.Common.{ℕ, ◌≡◌, ◌+◌, ◌≤◌, ◌<◌, ◌==◌, ◌&&◌, Bool, true, false, not, List, [], ◌∷◌, length, map, sum, Some, refl, ap, sym, subst, arith, ◌∙◌, nat_le}
+use Rattle.std.specs.Prelude.{All, ⊤, if◌then◌else◌, ◌||◌, slice_index_or}
 use Rattle.std.specs.Option.{option_map_or}
-use Rattle.std.specs.List.{list_any, list_all}
+use Rattle.std.specs.List.{list_all}
 use Rattle.std.specs.Cmp.Lexicographic.{same_text, nat_list_eq_equiv}
 use Rattle.std.proofs.lemmas.Bool.Decides.{nat_tests}
 use Rattle.std.proofs.lemmas.List.{length-map, get_or_default}
@@ -10,9 +10,9 @@ use Rattle.std.proofs.lemmas.List.Sums.{sum_by-cons}
 use Rattle.std.proofs.lemmas.List.Elements.{All-head, All-tail, All-cons, All-nil}
 use Rattle.ltm_network.specs.Numbers.{numbers_of}
 use Rattle.ltm_network.specs.Names.{same}
-use Rattle.ltm_network.specs.Network.{NetworkData, find_link, link_name, tail_of, out_links, out_link}
+use Rattle.ltm_network.specs.Network.{NetworkData, find_link, link_name, tail_of, out_links}
 use Rattle.ltm_network.specs.IsNetwork.{IsNetwork, NamesAreFound}
-use Rattle.ltm_network.specs.Places.{HasPlaces, LinksAtTheirPlaces}
+use Rattle.ltm_network.specs.Places.{LinksAtTheirPlaces}
 use Rattle.ltm_scenario.specs.Weights.{NamedWeight, is_named, are_apart, are_weights}
 use Rattle.ltm_scenario.specs.Edits.{weight_of}
 use Rattle.ltm_routing.specs.Lines.{sent_over}

@@ -1,26 +1,24 @@
 -- What the rows of route splits are, and by what they are read back.
-use Rattle.std.proofs.Common.{ℕ, ◌≡◌, ◌≢◌, ◌+◌, ◌≤◌, ◌<◌, ◌==◌, ◌&&◌, not, Bool, true, false, cond, List, [], ◌∷◌, length, map, sum, Some, None, Ok, refl, ap, sym, subst, arith, ◌∙◌, nat_lt}
-use Rattle.std.specs.Prelude.{All, is_some, if◌then◌else◌, slice_index}
+use Rattle.std.proofs.Common.{ℕ, ◌≡◌, ◌≤◌, ◌<◌, ◌==◌, ◌&&◌, not, Bool, true, false, List, [], ◌∷◌, length, map, sum, refl, sym, subst, arith}
+use Rattle.std.specs.Prelude.{All, if◌then◌else◌}
 use Rattle.std.proofs.lemmas.Bool.Decides.{nat_tests}
 use Rattle.std.proofs.lemmas.List.{length-map}
 use Rattle.std.proofs.lemmas.List.Elements.{All-cons, All-nil}
-use Rattle.ltm_network.specs.Network.{NetworkData, find_node, node_name, link_name, out_links, tail_of}
+use Rattle.ltm_network.specs.Network.{NetworkData, node_name, link_name, out_links, tail_of}
 use Rattle.ltm_network.specs.IsNetwork.{IsNetwork, NamesAreFound}
 use Rattle.ltm_network.specs.Places.{LinksAtTheirPlaces}
 use Rattle.ltm_splits.specs.Rows.{SplitRow, key_of}
 use Rattle.ltm_scenario.specs.Data.{ScenarioData}
 use Rattle.ltm_scenario.specs.Reads.{destination_node}
-use Rattle.ltm_scenario.specs.Setup.{IsSetup}
 use Rattle.ltm_scenario.specs.IsScenario.{IsScenario}
 use Rattle.ltm_scenario.specs.Edits.{weight_of}
-use Rattle.ltm_routes.specs.Potentials.{potential_at}
 use Rattle.ltm_routes.specs.Split.{RoutesData, begins_at, route_split, is_routed, rows_from, rows_to, routes_to, route_splits}
 use Rattle.ltm_routing.specs.Lines.{sent_over, names_over}
 use Rattle.ltm_routing.specs.File.{IsNamed}
 use Rattle.ltm_routing.proofs.Cases.{all_below}
 use Rattle.ltm_routing.proofs.Weights.{ones, weights_told}
 use Rattle.ltm_routing.proofs.Apart.{Rising, AllLinks, bit, numbers_rise, sent_rise, sent_all, sent_few, sent_sum, are_some, weights_back, out_are_links, out_leave, named_leave}
-use Rattle.ltm_routing.proofs.Step.{IsReadable, record_with, record_read}
+use Rattle.ltm_routing.proofs.Step.{IsReadable, record_read}
 
 -- a row of a node for a destination, with weight 1 for some out-links
 pub record IsPlaced (s : ScenarioData) (row : SplitRow) : Type 0 where

@@ -1,5 +1,5 @@
 -- Route splits change nothing that routes, names and lines are made of.
-use Rattle.std.proofs.Common.{ℕ, ◌≡◌, ◌≤◌, List, length, Option, Result, Ok, Err, refl, ap, sym, subst, ◌∙◌}
+use Rattle.std.proofs.Common.{ℕ, ◌≡◌, ◌≤◌, List, length, Option, Result, Ok, Err, ap, sym, subst, ◌∙◌}
 use Rattle.std.specs.Prelude.{All, IfSome, IfOk, OnOk}
 use Rattle.ltm_io.specs.Folder.{Files}
 use Rattle.ltm_network.specs.IsNetwork.{NamesAreFound}

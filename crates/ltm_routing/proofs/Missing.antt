@@ -1,5 +1,6 @@
 -- Routes are never in want of a file.
-use Rattle.std.proofs.Common.{◌≡◌, ℕ, length, nat_lt, false, true, List, Result, Ok, Err, refl, ap, sym, ◌∙◌}
+use Rattle.std.proofs.Common.{◌≡◌, length, nat_lt, false, true, List, Result, Ok, Err, refl, ap, ◌∙◌}
+use Rattle.ltm_units.specs.Results.{refuse}
 use Rattle.ltm_scenario.specs.Data.{ScenarioData}
 use Rattle.ltm_scenario.specs.Check.{checked}
 use Rattle.ltm_scenario.specs.Build.{◌>>=◌}
@@ -8,7 +9,7 @@ use Rattle.ltm_casefile.specs.declared.faults.CaseFault.{CaseFault}
 use Rattle.ltm_casefile.specs.declared.faults.CaseFault.TheVariants as fault
 use Rattle.ltm_casefile.specs.declared.faults.CaseCause.TheVariants.{TooManyRows}
 use Rattle.ltm_casefile.specs.declared.faults.File.TheVariants as file
-use Rattle.ltm_casefile.specs.Causes.{refuse, taken}
+use Rattle.ltm_casefile.specs.Causes.{taken}
 use Rattle.ltm_casefile.specs.Rows.{at_row}
 use Rattle.ltm_casefile.specs.Case.{sound, whole}
 use Rattle.ltm_routes.specs.Split.{RoutesData, route_splits, with_splits}

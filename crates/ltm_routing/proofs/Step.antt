@@ -1,11 +1,12 @@
 -- A record of route splits sets the split row that it was written from.
-use Rattle.std.proofs.Common.{ℕ, zero, suc, ◌≡◌, ◌+◌, ◌≤◌, ◌<◌, ◌==◌, ◌&&◌, Bool, true, false, cond, not, List, [], ◌∷◌, ◌++◌, length, map, sum, Option, Some, None, Result, Ok, Err, refl, ap, sym, subst, arith, ◌∙◌, nat_lt}
-use Rattle.std.specs.Prelude.{codes, All, if◌then◌else◌, slice_index, unwrap_or, nat_le}
+use Rattle.std.proofs.Common.{ℕ, ◌≡◌, ◌+◌, ◌==◌, true, false, cond, List, [], ◌∷◌, map, sum, Some, Result, Ok, Err, refl, ap, sym, ◌∙◌, nat_lt}
+use Rattle.std.specs.Prelude.{codes, All, slice_index, unwrap_or, nat_le}
 use Rattle.std.specs.Option.{option_map_or}
 use Rattle.std.specs.List.{list_all}
 use Rattle.std.proofs.lemmas.List.Elements.{All-head, All-tail}
 use Rattle.ltm_units.specs.Words.{is_name}
 use Rattle.ltm_units.specs.Numbers.{whole}
+use Rattle.ltm_units.specs.Results.{refuse}
 use Rattle.ltm_network.specs.Network.{NetworkData, find_node, find_link, link_name, node_name, tail_of, out_links}
 use Rattle.ltm_splits.specs.declared.keys.SplitKey.{SplitKey}
 use Rattle.ltm_splits.specs.declared.keys.SplitFault.{SplitFault}
@@ -14,17 +15,15 @@ use Rattle.ltm_splits.specs.Rows.{SplitRow, SplitsData, key_of, is_over, with_ro
 use Rattle.ltm_scenario.specs.Data.{ScenarioData, splits_of}
 use Rattle.ltm_scenario.specs.Reads.{destination_of, destination_node, destination_name}
 use Rattle.ltm_scenario.specs.Build.{with_split, with_destination, added, ◌>>=◌}
-use Rattle.ltm_scenario.specs.Edits.{is_out_link, weight_of, weights_at}
+use Rattle.ltm_scenario.specs.Edits.{weight_of, weights_at}
 use Rattle.ltm_scenario.specs.Weights.{NamedWeight, are_weights}
-use Rattle.ltm_records.specs.Fields.{Fields, name_of}
+use Rattle.ltm_records.specs.Fields.{Fields}
 use Rattle.ltm_records.specs.Weights.{weights_of}
 use Rattle.ltm_casefile.specs.declared.faults.CaseCause.{CaseCause}
 use Rattle.ltm_casefile.specs.declared.faults.CaseCause.TheVariants as cause
-use Rattle.ltm_casefile.specs.declared.faults.CaseFault.{CaseFault}
 use Rattle.ltm_casefile.specs.declared.faults.File.TheVariants as file
 use Rattle.ltm_casefile.specs.declared.splits.SplitRecord.{SplitRecord}
-use Rattle.ltm_casefile.specs.Causes.{refuse, found, taken}
-use Rattle.ltm_casefile.specs.Fields.{has_width, name_in, number_in, weights_in, apart}
+use Rattle.ltm_casefile.specs.Causes.{taken}
 use Rattle.ltm_casefile.specs.Demand.{place_of}
 use Rattle.ltm_casefile.specs.Splits.{split_record, split_ends, with_split_record, split_added}
 use Rattle.ltm_casefile.specs.Rows.{at_row, rows_from}

@@ -1,24 +1,22 @@
 -- The text of route splits is read back as they were set, and is short enough to be read.
-use Rattle.std.proofs.Common.{ℕ, zero, suc, ◌≡◌, ◌+◌, ◌*◌, ◌≤◌, ◌<◌, ◌&&◌, Bool, true, false, List, [], ◌∷◌, ◌++◌, length, map, Ok, refl, ap, sym, subst, arith, ◌∙◌, length-append, nat_le}
-use Rattle.std.specs.Prelude.{All, codes, slice_index, not}
+use Rattle.std.proofs.Common.{ℕ, zero, suc, ◌≡◌, ◌*◌, ◌≤◌, true, List, [], ◌∷◌, ◌++◌, length, map, Ok, refl, ap, sym, subst, arith, ◌∙◌, length-append}
+use Rattle.std.specs.Prelude.{All, codes}
 use Rattle.std.specs.List.{flat_map}
 use Rattle.std.proofs.lemmas.Bool.Decides.{nat_tests}
 use Rattle.std.proofs.lemmas.List.{map-append, length-map}
 use Rattle.std.proofs.lemmas.List.Elements.{All-head, All-tail}
 use Rattle.csv.specs.Writing.{default_writer, row_text, read_back}
 use Rattle.csv.proofs.RoundTrip.{rows_text}
-use Rattle.ltm_units.specs.Words.{is_name, is_name_byte}
-use Rattle.ltm_network.specs.Network.{NetworkData, node_name, out_links, link_name}
+use Rattle.ltm_units.specs.Words.{is_name}
+use Rattle.ltm_network.specs.Network.{node_name, out_links, link_name}
 use Rattle.ltm_network.specs.IsNetwork.{IsNetwork, NamesAreFound}
 use Rattle.ltm_network.specs.Places.{LinksAtTheirPlaces}
 use Rattle.ltm_splits.specs.Rows.{SplitRow}
 use Rattle.ltm_scenario.specs.Data.{ScenarioData}
 use Rattle.ltm_scenario.specs.Reads.{destination_name}
 use Rattle.ltm_scenario.specs.IsScenario.{IsScenario}
-use Rattle.ltm_scenario.specs.Build.{◌>>=◌}
 use Rattle.ltm_records.specs.Fields.{Fields}
 use Rattle.ltm_records.specs.Left.{records_of}
-use Rattle.ltm_casefile.specs.declared.faults.CaseCause.TheVariants as cause
 use Rattle.ltm_casefile.specs.declared.faults.File.TheVariants as file
 use Rattle.ltm_casefile.specs.declared.tables.Table.TheVariants as table
 use Rattle.ltm_casefile.specs.Splits.{split_added}
@@ -28,10 +26,10 @@ use Rattle.ltm_casefile.specs.Case.{with_file}
 use Rattle.ltm_report.specs.Routes.{splits_header_line, entry_piece, further_entries, entries, key_piece, route_row_line}
 use Rattle.ltm_routes.specs.Split.{RoutesData, rows_to, routes_to, lists_below, route_splits, with_splits}
 use Rattle.ltm_routing.specs.declared.lines.RouteLines.TheVariants as lines
-use Rattle.ltm_routing.specs.Lines.{sent_over, names_over, record_of, line_of, lines_to, header_of, routes_text}
+use Rattle.ltm_routing.specs.Lines.{sent_over, names_over, record_of, line_of, lines_to, routes_text}
 use Rattle.ltm_routing.specs.File.{IsNamed}
 use Rattle.ltm_routing.proofs.Plain.{AllNames}
-use Rattle.ltm_routing.proofs.Row.{fields_of_row, header_fields, row_line, file_read, texts_append}
+use Rattle.ltm_routing.proofs.Row.{header_fields, row_line, file_read, texts_append}
 use Rattle.ltm_routing.proofs.Apart.{sent_few}
 use Rattle.ltm_routing.proofs.Step.{fields_at, rows_added}
 use Rattle.ltm_routing.proofs.Cases.{all_left, all_right}

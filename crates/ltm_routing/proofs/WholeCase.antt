@@ -1,8 +1,7 @@
 -- The files of the roads with their splits are a case, where no signals are asked for.
-use Rattle.std.proofs.Common.{ℕ, ◌≡◌, ◌≤◌, ◌||◌, ◌&&◌, Bool, true, false, cond, List, length, Option, Some, None, Result, Ok, Err, IfSome, refl, ap, sym, subst, arith, ◌∙◌}
+use Rattle.std.proofs.Common.{ℕ, ◌≡◌, ◌≤◌, true, false, cond, List, length, Option, Some, None, Result, Ok, Err, IfSome, refl, ap, sym, subst, arith, ◌∙◌}
 use Rattle.std.specs.Prelude.{nat_le}
 use Rattle.std.proofs.lemmas.Bool.Decides.{nat_tests}
-use Rattle.ltm_io.specs.declared.doc.Doc.{Doc}
 use Rattle.ltm_io.specs.declared.doc.Doc.TheVariants as doc
 use Rattle.ltm_io.specs.Folder.{Files}
 use Rattle.ltm_scenario.specs.Data.{ScenarioData}
@@ -14,7 +13,7 @@ use Rattle.ltm_casefile.specs.declared.faults.File.TheVariants as file
 use Rattle.ltm_casefile.specs.declared.setup.Opened.{Opened}
 use Rattle.ltm_casefile.specs.declared.tables.Table.TheVariants as table
 use Rattle.ltm_casefile.specs.Setup.{setup_of}
-use Rattle.ltm_casefile.specs.Case.{sized, CaseTexts, texts_of, signals_of, with_file, with_signals, filled, whole, CaseParts, opened_of, parts_of, built, case_of, has_signals, asks_for}
+use Rattle.ltm_casefile.specs.Case.{sized, CaseTexts, texts_of, with_file, filled, whole, CaseParts, opened_of, parts_of, built, case_of, has_signals, asks_for}
 use Rattle.ltm_casefile.specs.Roads.{RoadTexts, road_texts_of, roads_filled, roads_in, unsplit_case_of}
 use Rattle.ltm_routing.specs.File.{with_splits_file}
 use Rattle.ltm_routing.proofs.Cases.{went_well}

@@ -1,7 +1,6 @@
 -- The files of routes.
 use Rattle.std.specs.Prelude.{ℕ, ◌≡◌, ◌≤◌, true, false, List, length, slice_index, All, Option, Some, IfSome, Ok}
 use Rattle.ltm_units.specs.Words.{is_name}
-use Rattle.ltm_io.specs.declared.doc.Doc.{Doc}
 use Rattle.ltm_io.specs.declared.doc.Doc.TheVariants as doc
 use Rattle.ltm_io.specs.Folder.{Files}
 use Rattle.ltm_network.specs.Network.{NetworkData, node_name}

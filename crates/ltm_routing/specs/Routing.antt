@@ -1,5 +1,6 @@
 -- What the roads and the demand of a case make of it by least free-flow routes.
 use Rattle.std.specs.Prelude.{ℕ, ◌≡◌, nat_lt, length, List, Option, IfSome, Result, Ok, Err}
+use Rattle.ltm_units.specs.Results.{refuse}
 use Rattle.ltm_io.specs.Folder.{Files}
 use Rattle.ltm_scenario.specs.Data.{ScenarioData}
 use Rattle.ltm_scenario.specs.Build.{◌>>=◌}
@@ -7,7 +8,7 @@ use Rattle.ltm_casefile.specs.declared.faults.CaseFault.{CaseFault}
 use Rattle.ltm_casefile.specs.declared.faults.CaseFault.TheVariants as fault
 use Rattle.ltm_casefile.specs.declared.faults.CaseCause.TheVariants.{TooManyRows}
 use Rattle.ltm_casefile.specs.declared.faults.File.TheVariants as file
-use Rattle.ltm_casefile.specs.Causes.{refuse, taken}
+use Rattle.ltm_casefile.specs.Causes.{taken}
 use Rattle.ltm_casefile.specs.Rows.{at_row}
 use Rattle.ltm_casefile.specs.Case.{whole}
 use Rattle.ltm_casefile.specs.Roads.{unsplit_case_of}

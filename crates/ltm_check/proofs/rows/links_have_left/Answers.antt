@@ -1,4 +1,4 @@
-use Rattle.std.proofs.Common.{◌≡◌, ◌<◌, ◌+◌, ◌*◌, ℕ, get_or, inl, inr, arith, option_map, subst}
+use Rattle.std.proofs.Common.{◌≡◌, ◌<◌, ◌+◌, ℕ, inl, inr, arith, option_map, subst}
 use Rattle.std.proofs.lemmas.Bool.{cases_lt}
 use Rattle.ltm_curve.specs.Table.{counts_of}
 use Rattle.ltm_loading.specs.Groups.{down_of, dep_of}
