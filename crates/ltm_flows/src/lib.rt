@@ -7,6 +7,7 @@
 #![tactic(auto)]
 
 mod applying;
+mod at_end;
 mod cold_loading;
 mod in_all;
 mod loading;
@@ -15,6 +16,7 @@ mod summing;
 mod tables;
 
 pub use applying::apply;
+pub use at_end::totals_at_end;
 pub use cold_loading::{cold, fresh, move_pair};
 pub use in_all::Totals;
 pub use loading::Loading;

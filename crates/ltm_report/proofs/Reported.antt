@@ -1,7 +1,10 @@
 -- Lines with the numbers of a loading are those of its report.
-use Rattle.std.proofs.Common.{ℕ, ◌≡◌, ◌++◌, List, ◌∙◌}
-use Rattle.ltm_curve.specs.Counts.{Counts}
+use Rattle.std.proofs.Common.{ℕ, ◌≡◌, ◌++◌, List, ◌∙◌, ap}
+use Rattle.ltm_curve.specs.Counts.{Counts, total}
+use Rattle.ltm_curve.specs.declared.curves.Curves.{Curves}
+use Rattle.ltm_curve.specs.Table.{slots_of, counts_of, total_of}
 use Rattle.ltm_loading.specs.Setting.{Setting}
+use Rattle.ltm_loading.specs.Shaped.{IsShaped}
 use Rattle.ltm_loading.specs.Totals.{entered_link, left_link}
 use Rattle.ltm_flows.specs.declared.loading.Loading.{Loading}
 use Rattle.ltm_flows.specs.declared.in_all.Totals.{Totals}
@@ -57,3 +60,24 @@ link_shown l link name v entered gone old new is came went wrote s version c sho
     let ins = came s version c shows in
     let outs = went s version c shows in
     cc
+
+-- the same of counts at the last boundary
+pub totals_are : (v : ℕ) (s : Setting) (c : Counts) (t : Totals) (old new : List ℕ) → AreTotals s c s.slots t
+    → new ≡ old ++ totals_line v t.generated.0 t.arrived.0 t.on_links.0 t.waiting.0 → new ≡ old ++ totals_report v s c
+unfolding totals_report
+totals_are v s c t old new are wrote =
+    let came = are.generated in
+    let here = are.arrived in
+    let links = are.on_links in
+    let waits = are.waiting in
+    cc
+
+pub load_link_is : (s : Setting) (c : Counts) (link : ℕ) (name : List ℕ) (entered gone : ℕ) (old new : List ℕ) → entered ≡ entered_link s c link s.slots → gone ≡ left_link s c link s.slots
+    → new ≡ old ++ load_link_line name entered gone → new ≡ old ++ load_link_report name link s c
+unfolding load_link_report
+load_link_is s c link name entered gone old new came went wrote = cc
+
+-- a total at the last boundary of curves of a setting's shape
+pub total_at_end : (s : Setting) (c : Curves) (group g last : ℕ) → IsShaped s c → group ≡ g → last ≡ slots_of c → total_of c group last ≡ total s.destinations (counts_of c g) s.slots
+total_at_end s c group g last shape same is =
+    ap (λ (i : ℕ). total_of c i last) same ∙ (ap (λ (k : ℕ). total_of c g k) (is ∙ shape.same_slots) ∙ ap (λ (m : ℕ). total m (counts_of c g) s.slots) shape.same_destinations)

@@ -48,7 +48,7 @@ fn push_link(
     push_newline(into)
 }
 
-fn load_link_line_text(
+pub(crate) fn load_link_line_text(
     alloc: Global,
     name: &Name,
     entered: Units,

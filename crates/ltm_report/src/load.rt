@@ -1,68 +1,79 @@
 //! The report of a whole loading, as one text.
 ghost use Rattle.std.specs.Prelude.{◌≡◌, ◌++◌, ◌<◌, IfOk, OnOk, length};
-ghost use Rattle.ltm_curve.specs.Counts.{Counts};
+ghost use Rattle.ltm_curve.specs.Table.{counts_of};
+ghost use Rattle.ltm_loading.specs.Shaped.{IsShaped};
 ghost use Rattle.ltm_setting.specs.Setting.{setting_of};
-ghost use Rattle.ltm_flows.specs.Shown.{Shows, ShowsCounts};
-ghost use Rattle.ltm_report.specs.Reports.{link_report_of, texts_below, IsReport};
+ghost use Rattle.ltm_report.specs.Reports.{totals_report, link_report_of, texts_below, IsReport};
 
-use crate::links::load_link_text;
-use crate::totals::totals_text;
-use ltm_flows::{Loading, cold};
+use crate::links::load_link_line_text;
+use crate::totals::totals_line_text;
+use ltm_curve::Curves;
+use ltm_flows::{cold, totals_at_end};
+use ltm_loading::{down_of, up_of};
 use ltm_scenario::Scenario;
-use ltm_units::{LinkId, NoMemory};
+use ltm_setting::link_count;
+use ltm_units::{LinkId, NoMemory, Units};
 use std::alloc::Global;
+
+fn push_totals(
+    alloc: Global,
+    scenario: &Scenario,
+    curves: &Curves,
+    into: &mut Vec<u8>,
+) -> Result<(), NoMemory>
+    requires { IsShaped (setting_of scenario.now) curves.now }
+    ensures { OnOk result (into.new.items ≡ into.old.items ++ totals_report 0 (setting_of scenario.now) (counts_of curves.now)) }
+{
+    totals_line_text(alloc, 0, totals_at_end(scenario, curves), into)
+}
 
 #[tactic(auto, unfolding(ltm_setting::specs::Setting::setting_of))]
 fn push_link(
     alloc: Global,
     scenario: &Scenario,
-    loading: &Loading,
+    curves: &Curves,
     link: LinkId,
     into: &mut Vec<u8>,
 ) -> Result<(), NoMemory>
     requires link { link.0 < length scenario.now.network.links }
-    requires loading { Shows (setting_of scenario.now) 0 loading.now }
-    ensures { OnOk result ((c : Counts) → ShowsCounts (setting_of scenario.now) 0 c loading.now
-        → into.new.items ≡ into.old.items ++ link_report_of scenario.now c link.0) }
+    requires shape { IsShaped (setting_of scenario.now) curves.now }
+    ensures { OnOk result (into.new.items ≡ into.old.items ++ link_report_of scenario.now (counts_of curves.now) link.0) }
 {
+    let _links = link_count(scenario);
     let name = scenario.network().link_name(link);
-    load_link_text(alloc, loading, &name, link, into)
+    let last = curves.slots();
+    let entered = curves.total(up_of(link), last);
+    let left = curves.total(down_of(link), last);
+    load_link_line_text(alloc, &name, Units(entered), Units(left), into)
 }
 
 fn push_links(
     alloc: Global,
     scenario: &Scenario,
-    loading: &Loading,
+    curves: &Curves,
     into: &mut Vec<u8>,
 ) -> Result<(), NoMemory>
-    requires { Shows (setting_of scenario.now) 0 loading.now }
-    ensures { OnOk result ((c : Counts) → ShowsCounts (setting_of scenario.now) 0 c loading.now → into.new.items
-        ≡ into.old.items ++ texts_below (length scenario.now.network.links) (link_report_of scenario.now c)) }
+    requires { IsShaped (setting_of scenario.now) curves.now }
+    ensures { OnOk result (into.new.items
+        ≡ into.old.items ++ texts_below (length scenario.now.network.links) (link_report_of scenario.now (counts_of curves.now))) }
 {
     let links = scenario.network().links();
     for link in 0..links {
-        push_link(alloc, scenario, loading, LinkId(link), into)?;
+        push_link(alloc, scenario, curves, LinkId(link), into)?;
     }
     Ok(())
 }
 
-/// Loads a scenario. The counts by destination are let go.
-fn loaded(alloc: Global, scenario: &Scenario) -> Result<Loading, NoMemory>
-    ensures { IfOk result (Shows (setting_of scenario.now) 0) }
-{
-    let curves = cold(alloc, scenario)?;
-    Loading::create(alloc, scenario, &curves, 0)
-}
-
-/// Loads a scenario, and gives the totals line of its loading and the line of each link, in order of number.
+/// Loads a scenario, and gives the totals line of its loading and the line of each link, in order of number. The totals by
+/// boundary, of which it tells the last alone, are not kept.
 #[tactic(auto, unfolding(crate::specs::Reports::load_report))]
 pub fn report_of(alloc: Global, scenario: &Scenario) -> Result<Vec<u8>, NoMemory>
     ensures { IfOk result (λ text. IsReport scenario.now text.items) }
 {
     let _setup = scenario.setup();
-    let loading = loaded(alloc, scenario)?;
+    let curves = cold(alloc, scenario)?;
     let mut text = Vec::new(alloc);
-    totals_text(alloc, &loading, &mut text)?;
-    push_links(alloc, scenario, &loading, &mut text)?;
+    push_totals(alloc, scenario, &curves, &mut text)?;
+    push_links(alloc, scenario, &curves, &mut text)?;
     Ok(text)
 }

@@ -1,0 +1,13 @@
+use Rattle.std.proofs.Common.{◌≡◌, ◌≤◌, ◌*◌, ◌^◌}
+use Rattle.ltm_units.specs.Sums.{sum_below}
+use Rattle.ltm_curve.specs.Counts.{total}
+use Rattle.ltm_curve.specs.Table.{counts_of}
+use Rattle.ltm_loading.specs.Groups.{dep_of}
+use Rattle.ltm_setting.specs.Setting.{setting_of}
+use Rattle.ltm_flows.proofs.at_end.departed_at_end.Given as goal
+
+abbrev pub invariant-loop-node : goal.invariant-loop-node
+invariant-loop-node l = record {
+  sum : l.sum ≡ sum_below l.node (λ u. total (setting_of l.scenario).destinations (counts_of l.curves (dep_of (setting_of l.scenario) u)) (setting_of l.scenario).slots);
+  small : l.sum ≤ l.node * 2 ^ 37;
+}
