@@ -40,12 +40,23 @@ impl FileText {
 }
 
 /// The bytes of the files that each case has.
-#[derive(Drop)]
 pub struct Texts {
     pub setup: FileText,
     pub links: FileText,
     pub demand: FileText,
     pub splits: FileText,
+}
+
+// By hand, so that letting go of texts is one call, and not their parts one by one wherever that may happen.
+impl Drop for Texts {
+    fn drop(self) {
+        let Texts {
+            setup: _setup,
+            links: _links,
+            demand: _demand,
+            splits: _splits,
+        } = self;
+    }
 }
 
 impl Model for Texts {

@@ -17,11 +17,21 @@ use std::alloc::Global;
 use std::marker::Model;
 
 /// The bytes of the files that say the roads and who travels on them.
-#[derive(Drop)]
 struct RoadTexts {
     setup: FileText,
     links: FileText,
     demand: FileText,
+}
+
+// By hand, so that letting go of texts is one call, and not their parts one by one wherever that may happen.
+impl Drop for RoadTexts {
+    fn drop(self) {
+        let RoadTexts {
+            setup: _setup,
+            links: _links,
+            demand: _demand,
+        } = self;
+    }
 }
 
 impl Model for RoadTexts {

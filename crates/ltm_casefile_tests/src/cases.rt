@@ -1,53 +1,112 @@
-//! Folders in memory, and what comes of them.
+//! What comes of a folder: what its case says, or what is wrong with it.
+use crate::folders::{Base, Put, fill, folder_of};
 use ltm_casefile::{CaseFault, read_case};
 use ltm_io::{Doc, MemFolder};
-use ltm_units::NoMemory;
+use ltm_scenario::Scenario;
+use ltm_units::{LinkId, NoMemory, NodeId};
 use std::alloc::Global;
+use std::process::Abort;
 
-const SETUP: &str = "step_ms,slots,origin_capacity\n";
+/// What a case says.
+#[derive(Clone, Copy, PartialEq, Eq)]
+pub struct Read {
+    pub slots: u32,
+    pub links: u32,
+    pub nodes: u32,
+    /// How many nodes are destinations.
+    pub destinations: usize,
+    /// The first of them and the last.
+    pub ends: [Option<u32>; 2],
+    pub demand_rows: usize,
+    /// In thousandths.
+    pub vehicles: u64,
+    pub split_rows: usize,
+    /// The first three weights of the first node for the last destination, in slot 0.
+    pub weights: [Option<u32>; 3],
+    /// The weight for the first destination from slot 9,999 on, of the fourth node's only link.
+    pub last_weight: Option<u32>,
+    /// The exit limit of the first link in the first five slots, in thousandths.
+    pub exits: [Option<u64>; 5],
+}
 
-const SETUP_WITH_SIGNALS: &str = "step_ms,slots,origin_capacity,signals\n";
-
-const LINKS: &str = "link,from,to,length_m,free_kmh,wave_kmh,jam_per_km\n";
-
-const DEMAND: &str = "origin,destination,from_slot,to_slot,vehicles\n";
-
-const SPLITS: &str = "node,destination,from_slot,weights\n";
-
-const SIGNALS: &str = "link,from_slot,to_slot,vehicles\n";
-
-fn header(doc: Doc) -> &'static str {
-    match doc {
-        Doc::Setup => SETUP,
-        Doc::Links => LINKS,
-        Doc::Demand => DEMAND,
-        Doc::Splits => SPLITS,
-        _ => SIGNALS,
+fn ends(nodes: &[NodeId]) -> [Option<u32>; 2] {
+    match nodes {
+        [] => [None, None],
+        [only] => [Some(only.0), Some(only.0)],
+        [first, .., last] => [Some(first.0), Some(last.0)],
     }
 }
 
-/// Puts the records of a file below its header.
-pub fn put(alloc: Global, folder: &mut MemFolder, doc: Doc, rows: &str) -> Result<(), NoMemory> {
-    let text = format!(in alloc; "{}{rows}", header(doc))?;
-    folder.put(doc, text.as_bytes())
+fn weights(scenario: &Scenario) -> [Option<u32>; 3] {
+    let _setup = scenario.setup();
+    let last = (scenario.destinations().len() as u32).saturating_sub(1);
+    match scenario.splits().row(NodeId(0), last, 0) {
+        Some(row) => [
+            row.first().copied(),
+            row.get(1).copied(),
+            row.get(2).copied(),
+        ],
+        None => [None; 3],
+    }
 }
 
-/// One road `a` from `n1` to `n2`, and one vehicle.
-pub fn one_road(alloc: Global) -> Result<MemFolder, NoMemory> {
-    let mut folder = MemFolder::create(alloc, &[])?;
-    put(alloc, &mut folder, Doc::Setup, "1000,4,1\n")?;
-    put(alloc, &mut folder, Doc::Links, "a,n1,n2,20,36,18,150\n")?;
-    put(alloc, &mut folder, Doc::Demand, "n1,n2,0,2,1\n")?;
-    put(alloc, &mut folder, Doc::Splits, "n1,n2,0,a=1\n")?;
-    Ok(folder)
+fn last_weight(scenario: &Scenario) -> Option<u32> {
+    let weights = scenario.splits().row(NodeId(3), 0, 9_999)?;
+    weights.first().copied()
 }
 
-/// The same, with a setup whose header has the field of the signals.
-pub fn with_signals(alloc: Global, row: &str) -> Result<MemFolder, NoMemory> {
-    let mut folder = one_road(alloc)?;
-    let text = format!(in alloc; "{SETUP_WITH_SIGNALS}{row}")?;
-    folder.put(Doc::Setup, text.as_bytes())?;
-    Ok(folder)
+/// The exit limit of the first link, in a slot of the horizon.
+fn exit_limit(scenario: &Scenario, slot: u32) -> Option<u64> {
+    if scenario.network().links() == 0 || slot >= scenario.setup().slots {
+        return None;
+    }
+    Some(scenario.exit_limit(LinkId(0), slot).0)
+}
+
+fn exits(scenario: &Scenario) -> [Option<u64>; 5] {
+    let mut exits = [None; 5];
+    for slot in 0..5u32 {
+        exits[slot as usize] = exit_limit(scenario, slot);
+    }
+    exits
+}
+
+fn look(scenario: &Scenario) -> Read {
+    Read {
+        slots: scenario.setup().slots,
+        links: scenario.network().links(),
+        nodes: scenario.network().nodes(),
+        destinations: scenario.destinations().len(),
+        ends: ends(scenario.destinations()),
+        demand_rows: scenario.demand().row_count(),
+        vehicles: scenario.demand().total().0,
+        split_rows: scenario.splits().row_count(),
+        weights: weights(scenario),
+        last_weight: last_weight(scenario),
+        exits: exits(scenario),
+    }
+}
+
+fn read_folder(alloc: Global, folder: &mut MemFolder) -> Result<Read, CaseFault> {
+    match read_case(alloc, folder) {
+        Ok(scenario) => Ok(look(&scenario)),
+        Err(fault) => Err(fault),
+    }
+}
+
+fn read_filled(alloc: Global, folder: &mut MemFolder, put: Put) -> Result<Read, CaseFault> {
+    match fill(alloc, folder, put) {
+        Ok(()) => read_folder(alloc, folder),
+        Err(_) => Err(CaseFault::NoMemory),
+    }
+}
+
+/// What comes of a folder.
+fn read_of(alloc: Global, base: Base, put: Put) -> Result<Read, CaseFault> {
+    match folder_of(alloc, base) {
+        Ok(mut folder) => read_filled(alloc, &mut folder, put),
+        Err(_) => Err(CaseFault::NoMemory),
+    }
 }
 
 fn shown(alloc: Global, fault: CaseFault) -> Result<String, NoMemory> {
@@ -60,17 +119,67 @@ fn shown(alloc: Global, fault: CaseFault) -> Result<String, NoMemory> {
     Ok(text)
 }
 
-/// What is wrong with the case of a folder, as text.
-pub fn fault_of(alloc: Global, folder: &mut MemFolder) -> Result<String, NoMemory> {
-    match read_case(alloc, folder).err() {
-        Some(fault) => shown(alloc, fault),
-        None => Ok(format!(in alloc; "good")?),
+fn is_shown(alloc: Global, fault: CaseFault, text: &str) -> bool {
+    match shown(alloc, fault) {
+        Ok(found) => found.as_str() == text,
+        Err(_) => false,
     }
 }
 
-/// What is wrong where one file of one road has these records.
-pub fn fault_with(alloc: Global, doc: Doc, rows: &str) -> Result<String, NoMemory> {
-    let mut folder = one_road(alloc)?;
-    put(alloc, &mut folder, doc, rows)?;
-    fault_of(alloc, &mut folder)
+/// Whether this is wrong with the case, told as text.
+fn is_told(alloc: Global, base: Base, put: Put, text: &str) -> bool {
+    match read_of(alloc, base, put) {
+        Ok(_) => text == "good",
+        Err(fault) => is_shown(alloc, fault, text),
+    }
+}
+
+/// The place of the first row with another fault.
+fn first_otherwise(alloc: Global, table: &[(Base, Put, &'static str)]) -> Option<usize> {
+    for (place, (base, put, text)) in table.iter().enumerate() {
+        if !is_told(alloc, *base, *put, text) {
+            return Some(place);
+        }
+    }
+    None
+}
+
+/// The place of the first row with another fault, where one file of the one road has these records.
+fn first_row_otherwise(
+    alloc: Global,
+    doc: Doc,
+    table: &[(&'static str, &'static str)],
+) -> Option<usize> {
+    for (place, (rows, text)) in table.iter().enumerate() {
+        if !is_told(alloc, Base::OneRoad, Put::Rows(doc, rows), text) {
+            return Some(place);
+        }
+    }
+    None
+}
+
+/// Each folder has this fault, or is good.
+pub fn expect(rt: &impl Abort, alloc: Global, table: &[(Base, Put, &'static str)]) {
+    let place = first_otherwise(alloc, table);
+    assert_eq!(rt; place, None);
+}
+
+/// The one road has this fault, or is good, where a file has these records.
+pub fn expect_rows(
+    rt: &impl Abort,
+    alloc: Global,
+    doc: Doc,
+    table: &[(&'static str, &'static str)],
+) {
+    let place = first_row_otherwise(alloc, doc, table);
+    assert_eq!(rt; place, None);
+}
+
+/// The case of a folder says this.
+pub fn expect_read(rt: &impl Abort, alloc: Global, base: Base, put: Put, want: &Read) {
+    let is_said = match read_of(alloc, base, put) {
+        Ok(read) => read == *want,
+        Err(_) => false,
+    };
+    assert!(rt; is_said);
 }

@@ -31,7 +31,6 @@ use std::marker::Model;
 ///
 /// Any number of owners of a `Scratch` claim pairs, work on them and commit them, in any order; what holds of every core
 /// is `IsCore`.
-#[derive(Drop)]
 pub struct Core {
     opening: Scenario,
     batches: Vec<Batch>,
@@ -41,6 +40,22 @@ pub struct Core {
     shown: Loading,
     commits: u128,
     stopped: bool,
+}
+
+// By hand, so that letting go of a core is one call, and not its parts one by one wherever that may happen.
+impl Drop for Core {
+    fn drop(self) {
+        let Core {
+            opening: _opening,
+            batches: _batches,
+            marks: _marks,
+            scenario: _scenario,
+            table: _table,
+            shown: _shown,
+            commits: _commits,
+            stopped: _stopped,
+        } = self;
+    }
 }
 
 impl Model for Core {

@@ -199,3 +199,7 @@ pub next_within : (m : ℕ) (rows : ℕ → ℕ → ℕ) (n last k : ℕ) → Is
 next_within m rows n last k h below some =
     let low : k < last = end_before m rows n last k h below some in
     rises_le (total m rows) last (total_rises m rows last h.rise) (k + 1) last (omega arith) (omega arith)
+
+-- the last boundary with at most so many units has at most so many
+pub end_within : (m : ℕ) (rows : ℕ → ℕ → ℕ) (n last k : ℕ) → IsPart m rows n last → k ≡ last_within (total m rows) n last → total m rows k ≤ n
+end_within m rows n last k h e = omega (arith, (end_is_last m rows n last h).within, ap (total m rows) e)

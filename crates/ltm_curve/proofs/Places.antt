@@ -125,3 +125,12 @@ none_past old new n g d k e f longer l =
     let at : place new g d k ≡ place old g d k = ap (λ (z : ℕ). (k * z + g) * new.destinations + d) e ∙ ap (λ (z : ℕ). (k * old.groups + g) * z + d) f in
     let past : (old.slots + 1) * (old.groups * old.destinations) ≤ place old g d k = place_from old g d k (old.slots + 1) (omega arith) in
     ap (slice_index new.counts.items) at ∙ (ap (λ (xs : List ℕ). slice_index xs (place old g d k)) longer ∙ at_new old.counts.items n (place old g d k) (omega (arith, old.long)))
+
+-- with one destination its count is the total
+pub only_count : (c : Curves) (g k at v : ℕ) → destinations_of c ≡ 1 → at ≡ k * c.groups + g → v ≡ slice_index c.counts.items at → v ≡ total_of c g k
+unfolding counts_of
+only_count c g k at v one e f =
+    let here : at ≡ place c g 0 k = omega (arith, place_alone c g k one) in
+    let all : total_of c g k ≡ sum_below 1 (λ d. counts_of c g d k) = ap (λ (z : ℕ). sum_below z (λ d. counts_of c g d k)) one in
+    let is : slice_index c.counts.items at ≡ counts_of c g 0 k = ap (slice_index c.counts.items) here in
+    omega (arith, all, is, f)

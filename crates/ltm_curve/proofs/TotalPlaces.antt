@@ -1,15 +1,18 @@
 -- Where totals lie in their tables.
-use Rattle.std.proofs.Common.{◌≡◌, ◌≢◌, ℕ, ◌+◌, ◌*◌, ◌-◌, ◌^◌, ◌<◌, ◌≤◌, ◌++◌, Bool, true, false, nat_le, if◌then◌else◌, List, length, replicate, slice_index, slice_set, arith, inl, inr, ap, sym, ◌∙◌, get_or-set_same, get_or-set_other}
+use Rattle.std.proofs.Common.{◌≡◌, ◌≢◌, ℕ, ◌+◌, ◌*◌, ◌-◌, ◌<◌, ◌≤◌, ◌⊎◌, ◌++◌, Bool, true, false, nat_le, nat_lt, take, drop, if◌then◌else◌, List, length, replicate, slice_index, slice_set, arith, inl, inr, ap, sym, ◌∙◌, get_or-set_same, get_or-set_other}
 use Rattle.std.proofs.Math.Nat.{mul-le-mul_right}
-use Rattle.std.proofs.lemmas.Bool.{cases_lt}
+use Rattle.std.proofs.lemmas.Bool.{cases_eq, cases_lt}
 use Rattle.std.proofs.lemmas.Bool.Decides.{nat_tests}
 use Rattle.std.proofs.lemmas.Nat.{same_from_place}
-use Rattle.ltm_units.proofs.Sums.{sum_below-most}
+use Rattle.std.proofs.lemmas.List.{get_or-take, get_or-drop, get_or_past, length-take-le, length-drop}
+use Rattle.ltm_units.specs.Sums.{sum_below}
 use Rattle.ltm_curve.specs.declared.curves.Curves.{Curves}
 use Rattle.ltm_curve.specs.declared.total_curves.TotalCurves.{TotalCurves}
-use Rattle.ltm_curve.specs.Table.{destinations_of, counts_of, place}
-use Rattle.ltm_curve.specs.TotalCurves.{total_slots, total_at, AreNarrow, IsTotal, SetsTotal}
+use Rattle.ltm_curve.specs.Table.{groups_of, destinations_of, counts_of, total_of}
+use Rattle.ltm_curve.specs.RowTotals.{total_in}
+use Rattle.ltm_curve.specs.TotalCurves.{total_slots, total_at, IsTotal, SetsTotal}
 use Rattle.ltm_curve.proofs.Longer.{at_old, at_new}
+use Rattle.ltm_curve.proofs.PutOver.{put_over, before_over, in_over, after_over, outside}
 
 is_last : (n g : ℕ) → n ≤ g → nat_le n g ≡ true
 is_last n g l = grind (arith, nat_tests)
@@ -22,7 +25,7 @@ at_last : (t : TotalCurves) (g k : ℕ) → t.narrow ≤ g → total_at t g k �
 unfolding total_at
 at_last t g k l = ap (λ (b : Bool). if b then slice_index t.last.items k else slice_index t.totals.items (k * t.narrow + g)) (is_last t.narrow g l)
 
-at_narrow : (t : TotalCurves) (g k : ℕ) → g < t.narrow → total_at t g k ≡ slice_index t.totals.items (k * t.narrow + g)
+pub at_narrow : (t : TotalCurves) (g k : ℕ) → g < t.narrow → total_at t g k ≡ slice_index t.totals.items (k * t.narrow + g)
 unfolding total_at
 at_narrow t g k l = ap (λ (b : Bool). if b then slice_index t.last.items k else slice_index t.totals.items (k * t.narrow + g)) (is_narrow t.narrow g l)
 
@@ -67,6 +70,83 @@ sets_last old new g k v here l groups slots within set totals = record {
       ];
 }
 
+-- a row of the narrow table is written over
+pub row_within : (t : TotalCurves) (k : ℕ) → k ≤ t.slots → k * t.narrow + t.narrow ≤ length t.totals.items
+row_within t k l = let up : k + 1 ≤ t.slots + 1 = omega (arith, l) in omega (arith, t.long, mul-le-mul_right t.narrow up)
+
+pub row_here : (old new : TotalCurves) (k : ℕ) (ys : List ℕ) (g : ℕ) → k ≤ old.slots → length ys ≡ old.narrow → new.narrow ≡ old.narrow →
+    new.totals.items ≡ put_over (k * old.narrow) (k * old.narrow + old.narrow) old.totals.items ys → g < old.narrow → total_at new g k ≡ slice_index ys g
+row_here old new k ys g l long groups over x =
+    at_narrow_as new old g k groups x
+    ∙ (ap (λ (xs : List ℕ). slice_index xs (k * old.narrow + g)) over ∙ in_over (k * old.narrow) (k * old.narrow + old.narrow) old.totals.items ys g (omega arith) (row_within old k l) (omega (arith, x, long)))
+
+pub row_elsewhere : (old new : TotalCurves) (k : ℕ) (ys : List ℕ) (g j : ℕ) → k ≤ old.slots → length ys ≡ old.narrow → new.narrow ≡ old.narrow →
+    new.totals.items ≡ put_over (k * old.narrow) (k * old.narrow + old.narrow) old.totals.items ys → new.last.items ≡ old.last.items → (j ≢ k) ⊎ (old.narrow ≤ g) → total_at new g j ≡ total_at old g j
+row_elsewhere old new k ys g j l long groups over last other =
+    elim (cases_lt g old.narrow) [
+      | inl low ↦
+          let apart : j ≢ k = elim other [ inl a ↦ a | inr b ↦ absurd (omega (arith, b, low)) ] in
+          let same : length ys ≡ k * old.narrow + old.narrow - k * old.narrow = omega (arith, long) in
+          let kept : slice_index (put_over (k * old.narrow) (k * old.narrow + old.narrow) old.totals.items ys) (j * old.narrow + g) ≡ slice_index old.totals.items (j * old.narrow + g) =
+          elim (outside k j g old.narrow apart low) [
+            | inl before ↦ before_over (k * old.narrow) (k * old.narrow + old.narrow) old.totals.items ys (j * old.narrow + g) (omega arith) (row_within old k l) before
+            | inr after ↦ after_over (k * old.narrow) (k * old.narrow + old.narrow) old.totals.items ys (j * old.narrow + g) (omega arith) (row_within old k l) same after
+          ] in
+          at_narrow_as new old g j groups low ∙ (ap (λ (xs : List ℕ). slice_index xs (j * old.narrow + g)) over ∙ (kept ∙ sym (at_narrow old g j low)))
+      | inr high ↦ at_last new g j (omega (arith, high, groups)) ∙ (ap (λ (xs : List ℕ). slice_index xs j) last ∙ sym (at_last old g j high))
+    ]
+
+-- where each number of the row is the total of curves or stays, so is each total
+pub row_copied : (old new : TotalCurves) (c : Curves) (k : ℕ) (ys : List ℕ) → k ≤ old.slots → length ys ≡ old.narrow → new.narrow ≡ old.narrow →
+    new.totals.items ≡ put_over (k * old.narrow) (k * old.narrow + old.narrow) old.totals.items ys → new.last.items ≡ old.last.items →
+    ((g : ℕ) → g < old.narrow → (slice_index ys g ≡ total_of c g k) ⊎ (slice_index ys g ≡ total_at old g k)) →
+    (g j : ℕ) → (total_at new g j ≡ total_of c g j) ⊎ (total_at new g j ≡ total_at old g j)
+row_copied old new c k ys l long groups over last either g j =
+    elim (cases_lt g old.narrow) [
+      | inl low ↦ elim (cases_eq j k) [
+        | inl e ↦
+            let here : total_at new g j ≡ slice_index ys g = ap (total_at new g) e ∙ row_here old new k ys g l long groups over low in
+            elim (either g low) [ inl a ↦ inl (here ∙ (a ∙ ap (total_of c g) (sym e))) | inr b ↦ inr (here ∙ (b ∙ ap (total_at old g) (sym e))) ]
+        | inr apart ↦ inr (row_elsewhere old new k ys g j l long groups over last (inl apart))
+      ]
+      | inr high ↦ inr (row_elsewhere old new k ys g j l long groups over last (inr high))
+    ]
+
+-- a row that is lent
+pub row_long : (xs : List ℕ) (a n : ℕ) → a + n ≤ length xs → length (take (a + n - a) (drop a xs)) ≡ n
+row_long xs a n l = omega (arith, length-take-le (a + n - a) (drop a xs) (omega (arith, l, length-drop a xs)))
+
+pub row_at : (t : TotalCurves) (k g : ℕ) (xs : List ℕ) → xs ≡ t.totals.items → g < t.narrow → slice_index (take (k * t.narrow + t.narrow - k * t.narrow) (drop (k * t.narrow) xs)) g ≡ total_at t g k
+row_at t k g xs same l =
+    get_or-take (k * t.narrow + t.narrow - k * t.narrow) (drop (k * t.narrow) xs) g 0 (omega (arith, l))
+    ∙ (get_or-drop (k * t.narrow) xs g 0 ∙ (ap (λ (ys : List ℕ). slice_index ys (k * t.narrow + g)) same ∙ sym (at_narrow t g k l)))
+
+-- what a row of curves tells is the total
+less_true : (a b : ℕ) → a < b → nat_lt a b ≡ true
+less_true a b l = grind (arith, nat_tests)
+
+less_false : (a b : ℕ) → b ≤ a → nat_lt a b ≡ false
+less_false a b l = grind (arith, nat_tests)
+
+pub total_is : (c : Curves) (k : ℕ) (totals counts : List ℕ) (g : ℕ) → (2 ≤ destinations_of c → length totals ≡ groups_of c) → (destinations_of c < 2 → length totals ≡ 0) →
+    ((h : ℕ) → h < length totals → slice_index totals h ≡ total_of c h k) → (destinations_of c ≡ 1 → length counts ≡ groups_of c) → (destinations_of c ≢ 1 → length counts ≡ 0) →
+    ((h : ℕ) → h < length counts → slice_index counts h ≡ total_of c h k) → g < groups_of c → total_in totals counts g ≡ total_of c g k
+unfolding counts_of
+total_is c k totals counts g several few kept one others only l =
+    elim (cases_lt 1 (destinations_of c)) [
+      | inl many ↦
+          let x : g < length totals = omega (arith, l, several (omega (arith, many))) in
+          ap (λ (b : Bool). if b then slice_index totals g else slice_index counts g) (less_true g (length totals) x) ∙ kept g x
+      | inr less ↦
+          ap (λ (b : Bool). if b then slice_index totals g else slice_index counts g) (less_false g (length totals) (omega (arith, few (omega (arith, less)))))
+          ∙ elim (cases_eq (destinations_of c) 1) [
+            | inl alone ↦ only g (omega (arith, l, one alone))
+            | inr none ↦
+                let zero : destinations_of c ≡ 0 = omega (arith, less, none) in
+                get_or_past counts g 0 (omega (arith, others none)) ∙ sym (ap (λ (n : ℕ). sum_below n (λ d. counts_of c g d k)) zero)
+          ]
+    ]
+
 -- where zeros come behind both tables, the totals that were there stay, and further ones are 0
 pub kept_in : (old new : TotalCurves) (n m g k : ℕ) → new.narrow ≡ old.narrow → new.totals.items ≡ old.totals.items ++ replicate n 0 → new.last.items ≡ old.last.items ++ replicate m 0 → IsTotal old g k →
     total_at new g k ≡ total_at old g k
@@ -88,13 +168,3 @@ none_past old new n m g k groups totals last past =
           at_narrow_as new old g k groups low ∙ (ap (λ (xs : List ℕ). slice_index xs (k * old.narrow + g)) totals ∙ at_new old.totals.items n (k * old.narrow + g) (omega (arith, old.long)))
       | inr high ↦ at_last new g k (omega arith) ∙ (ap (λ (xs : List ℕ). slice_index xs k) last ∙ at_new old.last.items m k (omega (arith, old.last_long)))
     ]
-
--- the totals of two destinations fit in 32 bits
-pub few_narrow : (c : Curves) → destinations_of c ≤ 2 → AreNarrow c
-unfolding counts_of
-few_narrow c few g k x y =
-    omega (
-      arith,
-      sum_below-most c.destinations (λ d. counts_of c g d k) (2 ^ 31 - 1) (λ d l. omega (arith, c.small (place c g d k))),
-      mul-le-mul_right (2 ^ 31 - 1) few,
-    )

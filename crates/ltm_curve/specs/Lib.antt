@@ -9,3 +9,4 @@ pub mod MarkedCount
 pub mod Cells
 pub mod Copying
 pub mod TotalCurves
+pub mod RowTotals

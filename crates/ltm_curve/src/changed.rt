@@ -1,5 +1,6 @@
 //! Which counts were changed.
-ghost use Rattle.std.specs.Prelude.{◌≡◌, ℕ, ◌+◌, ◌-◌, ◌<◌, ◌≤◌, false, IfOk, OnOk, OnErr, MatchOption};
+ghost use Rattle.std.specs.Prelude.{◌≡◌, ℕ, ◌+◌, ◌-◌, ◌/◌, ◌%◌, ◌==◌, ◌<◌, ◌≤◌, false, IfOk, OnOk, OnErr, MatchOption};
+ghost use Rattle.std.specs.Int.{bit_at};
 ghost use Rattle.ltm_marks.specs.Marks.{rows_of};
 ghost use Rattle.ltm_curve.specs.MarkedCount.{marked_count};
 
@@ -82,6 +83,25 @@ impl Changed {
             Some(next) => Some(next as u32),
             None => None,
         }
+    }
+
+    /// How many groups there are cells for.
+    #[inline]
+    pub(crate) fn groups(&self) -> usize
+        ensures value { result ≡ cell_groups self.now }
+        ensures few { result ≤ 65536 }
+    {
+        self.marks.width()
+    }
+
+    /// Which groups have a cell at a boundary in the set, of the 64 beside one: a bit each.
+    #[inline]
+    pub(crate) fn word(&self, group: u32, boundary: u32) -> u64
+        requires group { group < cell_groups self.now }
+        requires boundary { boundary ≤ cell_slots self.now }
+        ensures { (g : ℕ) → g / 64 ≡ group / 64 → is_changed self.now g boundary ≡ (bit_at result (g % 64) == 1) }
+    {
+        self.marks.word_with(boundary as usize, group as usize)
     }
 
     /// Makes room for so many slots. Nothing else that is seen changes; with want of memory nothing at all. There is want

@@ -85,6 +85,24 @@ pub fn first_less_of<R: Rows>(rows: &R, n: u64, last: u32, less: &[u32], into: &
         return;
     }
     let end = end_of(rows, n, last);
+    first_less_at(rows, n, last, end, less, into);
+}
+
+/// The same where the last boundary that has at most n units is known.
+#[inline]
+fn first_less_at<R: Rows>(rows: &R, n: u64, last: u32, end: u32, less: &[u32], into: &mut [u64])
+    requires last { last ≤ R.end rows.now }
+    requires part { IsPart (R.width rows.now) (R.rows rows.now) n last }
+    requires end { end ≡ last_within (total (R.width rows.now) (R.rows rows.now)) n last }
+    requires below { end ≤ last }
+    requires within { total (R.width rows.now) (R.rows rows.now) end ≤ n }
+    requires less { length less.now ≡ R.width rows.now }
+    requires room { length into.old ≡ R.width rows.now }
+    requires behind { (d : ℕ) → d < R.width rows.now → slice_index less.now d
+        ≤ first_units (R.width rows.now) (R.rows rows.now) n last d }
+    ensures { (d : ℕ) → d < R.width rows.now → slice_index into.new d
+        ≡ first_units (R.width rows.now) (R.rows rows.now) n last d - slice_index less.now d }
+{
     let part = n - rows.total(end);
     if part == 0 {
         rows.write_less(end, less, into);
@@ -143,6 +161,74 @@ impl Curves {
             group,
         };
         first_less_of(&rows, n, last, self.row(less, boundary), into);
+    }
+
+    /// The same where there are several destinations and the last boundary at which n were not yet passed is known.
+    pub fn first_less_from(
+        &self,
+        group: u32,
+        n: u64,
+        last: u32,
+        end: u32,
+        less: u32,
+        boundary: u32,
+        into: &mut [u64],
+    )
+        requires several { 2 ≤ destinations_of self.now }
+        requires group { group < groups_of self.now }
+        requires last { last ≤ slots_of self.now }
+        requires part { IsPart (destinations_of self.now) (counts_of self.now group) n last }
+        requires end { end ≡ last_within (total_of self.now group) n last }
+        requires below { end ≤ last }
+        requires less { less < groups_of self.now }
+        requires boundary { boundary ≤ slots_of self.now }
+        requires behind { (d : ℕ) → d < destinations_of self.now → counts_of self.now less d boundary
+            ≤ first_units (destinations_of self.now) (counts_of self.now group) n last d }
+        requires room { length into.old ≡ destinations_of self.now }
+        ensures { (d : ℕ) → d < destinations_of self.now → slice_index into.new d
+            ≡ first_units (destinations_of self.now) (counts_of self.now group) n last d - counts_of self.now less d boundary }
+    {
+        let _last = last;
+        let rows = Group {
+            curves: self,
+            group,
+        };
+        first_less_at(&rows, n, last, end, self.row(less, boundary), into);
+    }
+
+    /// The same of two destinations, without a loop.
+    #[inline]
+    pub fn first_less_two(
+        &self,
+        group: u32,
+        n: u64,
+        last: u32,
+        end: u32,
+        less: u32,
+        boundary: u32,
+        into: &mut [u64],
+    )
+        requires two { destinations_of self.now ≡ 2 }
+        requires group { group < groups_of self.now }
+        requires last { last ≤ slots_of self.now }
+        requires part { IsPart (destinations_of self.now) (counts_of self.now group) n last }
+        requires end { end ≡ last_within (total_of self.now group) n last }
+        requires below { end ≤ last }
+        requires less { less < groups_of self.now }
+        requires boundary { boundary ≤ slots_of self.now }
+        requires behind { (d : ℕ) → d < destinations_of self.now → counts_of self.now less d boundary
+            ≤ first_units (destinations_of self.now) (counts_of self.now group) n last d }
+        requires room { length into.old ≡ destinations_of self.now }
+        ensures { (d : ℕ) → d < destinations_of self.now → slice_index into.new d
+            ≡ first_units (destinations_of self.now) (counts_of self.now group) n last d - counts_of self.now less d boundary }
+    {
+        let rows = Group {
+            curves: self,
+            group,
+        };
+        let part = n - self.kept_total(group, end);
+        let gone = self.row(less, boundary);
+        rows.write_first_two(n, last, end, part, gone, into);
     }
 
     /// The greatest boundary not above `last` at which a group has at most n units; 0 where there is none. The totals may

@@ -15,6 +15,8 @@ use std::alloc::Global;
 mod adding;
 mod copies;
 mod room;
+mod row_totals;
+mod totals;
 
 pub(crate) use room::{fill_to, reserve_to};
 
@@ -278,33 +280,5 @@ impl Curves {
         let to = from + self.destinations as usize;
         self.totals[row] = sum_of(counts);
         write_row(&mut self.counts[from..to], counts);
-    }
-
-    /// The total of a group at a boundary, over all destinations.
-    #[tactic(auto, using(crate::proofs::Places::total_small))]
-    pub fn total(&self, group: u32, boundary: u32) -> u64
-        requires group { group < groups_of self.now }
-        requires boundary { boundary ≤ slots_of self.now }
-        ensures total { result ≡ total_of self.now group boundary }
-        ensures small { result ≤ 2 ^ 37 }
-    {
-        if self.destinations > 1 {
-            self.kept_total(group, boundary)
-        } else if self.destinations == 1 {
-            self.get(group, 0, boundary)
-        } else {
-            0
-        }
-    }
-
-    /// The same where there are several destinations.
-    #[tactic(auto, unfolding(crate::specs::Table::counts_of))]
-    fn kept_total(&self, group: u32, boundary: u32) -> u64
-        requires group { group < groups_of self.now }
-        requires boundary { boundary ≤ slots_of self.now }
-        requires several { 2 ≤ destinations_of self.now }
-        ensures { result ≡ total_of self.now group boundary }
-    {
-        self.totals[self.row_number(group, boundary)]
     }
 }

@@ -1,6 +1,8 @@
 //! A group of curves, as rows of counts.
 ghost use Rattle.std.specs.Prelude.{◌≡◌, ℕ, ◌+◌, ◌-◌, ◌^◌, ◌<◌, ◌≤◌, length, sum, slice_index};
-ghost use Rattle.ltm_curve.specs.First.{entries, mixed, RowsRise};
+ghost use Rattle.ltm_curve.specs.Counts.{total};
+ghost use Rattle.ltm_curve.specs.First.{entries, mixed, first_units, last_within, RowsRise};
+ghost use Rattle.ltm_curve.specs.FirstLaws.{IsPart};
 
 use crate::curves::Curves;
 use crate::rows::Rows;
@@ -16,10 +18,29 @@ pub(crate) struct Group<'a> {
 impl Group<'_> {
     ghost use Rattle.ltm_curve.specs.Table.{destinations_of, slots_of, counts_of};
 
+    /// Writes the counts of two destinations at a boundary, each less a number.
+    #[inline]
+    pub(crate) fn write_less_two(&self, boundary: u32, less: &[u32], into: &mut [u64])
+        requires two { destinations_of self.now.curves.now ≡ 2 }
+        requires boundary { boundary ≤ slots_of self.now.curves.now }
+        requires less { length less.now ≡ destinations_of self.now.curves.now }
+        requires room { length into.old ≡ destinations_of self.now.curves.now }
+        requires behind { (d : ℕ) → d < destinations_of self.now.curves.now → slice_index less.now d
+            ≤ counts_of self.now.curves.now self.now.group d boundary }
+        ensures { (d : ℕ) → d < destinations_of self.now.curves.now → slice_index into.new d
+            ≡ counts_of self.now.curves.now self.now.group d boundary - slice_index less.now d }
+    {
+        let row = self.curves.row(self.group, boundary);
+        let first = u64::from(row[0] - less[0]);
+        let other = u64::from(row[1] - less[1]);
+        into[0] = first;
+        into[1] = other;
+    }
+
     /// Writes the counts of two destinations at a slot's start with their shares of a part of the units that enter in the
     /// slot, each less a number: what of the part the first does not get is the other's.
     #[inline]
-    fn write_mixed_two(&self, slot: u32, part: u64, less: &[u32], into: &mut [u64])
+    pub(crate) fn write_mixed_two(&self, slot: u32, part: u64, less: &[u32], into: &mut [u64])
         requires two { destinations_of self.now.curves.now ≡ 2 }
         requires next { slot + 1 < 2 ^ 32 }
         requires slot { slot < slots_of self.now.curves.now }
@@ -39,6 +60,42 @@ impl Group<'_> {
         let share = share_of(part, entered, whole);
         into[0] = u64::from(before[0]) + share - u64::from(less[0]);
         into[1] = u64::from(before[1]) + (part - share) - u64::from(less[1]);
+    }
+}
+
+impl Group<'_> {
+    ghost use Rattle.ltm_curve.specs.Table.{destinations_of, slots_of, counts_of};
+
+    /// Writes what two destinations have of the first n units, each less a number, from the boundary at which these end and
+    /// what is then left of them.
+    #[inline]
+    pub(crate) fn write_first_two(
+        &self,
+        n: u64,
+        last: u32,
+        end: u32,
+        part: u64,
+        less: &[u32],
+        into: &mut [u64],
+    )
+        requires two { destinations_of self.now.curves.now ≡ 2 }
+        requires last { last ≤ slots_of self.now.curves.now }
+        requires units { IsPart (destinations_of self.now.curves.now) (counts_of self.now.curves.now self.now.group) n last }
+        requires end { end ≡ last_within (total (destinations_of self.now.curves.now) (counts_of self.now.curves.now self.now.group)) n last }
+        requires below { end ≤ last }
+        requires part { part ≡ n - total (destinations_of self.now.curves.now) (counts_of self.now.curves.now self.now.group) end }
+        requires less { length less.now ≡ destinations_of self.now.curves.now }
+        requires room { length into.old ≡ destinations_of self.now.curves.now }
+        requires behind { (d : ℕ) → d < destinations_of self.now.curves.now → slice_index less.now d
+            ≤ first_units (destinations_of self.now.curves.now) (counts_of self.now.curves.now self.now.group) n last d }
+        ensures { (d : ℕ) → d < destinations_of self.now.curves.now → slice_index into.new d
+            ≡ first_units (destinations_of self.now.curves.now) (counts_of self.now.curves.now self.now.group) n last d - slice_index less.now d }
+    {
+        if part == 0 {
+            self.write_less_two(end, less, into);
+        } else {
+            self.write_mixed_two(end, part, less, into);
+        }
     }
 }
 

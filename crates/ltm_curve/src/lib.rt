@@ -16,6 +16,7 @@ mod changed;
 mod composition;
 mod curves;
 mod group;
+mod kind;
 mod laws;
 mod rows;
 mod times;
@@ -24,11 +25,9 @@ mod total_curves;
 pub use changed::Changed;
 pub use composition::first_less_of;
 pub use curves::Curves;
+pub use kind::{Alone, Any, Kind, Several, Two};
 pub use laws::{
     counts_tell_all, first_rises, first_stays, first_sums, first_within, one_destination_is_total,
 };
 pub use rows::Rows;
 pub use total_curves::TotalCurves;
-
-#[cfg(test)]
-mod tests;

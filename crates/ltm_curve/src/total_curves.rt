@@ -13,6 +13,7 @@ use std::alloc::Global;
 
 mod copying;
 mod growing;
+mod row_copies;
 
 /// A total for each group and boundary, in thousandths of a vehicle: cumulative counts without destinations.
 #[derive(Drop)]

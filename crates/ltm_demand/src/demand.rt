@@ -16,12 +16,22 @@ use std::marker::Model;
 ///
 /// The rows lie in a list for each origin, beside its table, and origins by node number. Contracts see the horizon and
 /// all rows in the order of their keys, and beside them what can be set without memory. They do not see the tables.
-#[derive(Drop)]
 pub struct Demand {
     slots: u32,
     count: usize,
     // By node number, up to the last that has had a row.
     origins: Vec<Origin>,
+}
+
+// By hand, so that letting go of a demand is one call, and not its parts one by one wherever that may happen.
+impl Drop for Demand {
+    fn drop(self) {
+        let Demand {
+            slots: _slots,
+            count: _count,
+            origins: _origins,
+        } = self;
+    }
 }
 
 impl Model for Demand {

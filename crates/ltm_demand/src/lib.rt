@@ -21,6 +21,3 @@ pub use all_rows::DemandRows;
 pub use demand::Demand;
 pub use laws::{destinations_add_up, production_never_falls, production_stays};
 pub use row::{DemandFault, DemandRow};
-
-#[cfg(test)]
-mod tests;

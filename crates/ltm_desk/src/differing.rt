@@ -1,7 +1,7 @@
 //! Counts of a pair are set where they differ from those that stand, and the cells that change are noted.
 //!
 //! They are given as they are, or as what has moved since the slot's beginning: then they are those of the slot's beginning
-//! and what has moved, which are nowhere written but where they are set. Of one and of two numbers, as with so many
+//! and what has moved, which are nowhere written but where they are set. Of one, two and four numbers, as with so many
 //! destinations, they are made without a loop.
 ghost use Rattle.std.specs.Prelude.{◌≡◌, ◌==◌, ◌&&◌, ◌+◌, ◌<◌, ◌≤◌, ◌^◌, ℕ, length, slice_index, None};
 ghost use Rattle.ltm_curve.specs.Table.{groups_of, destinations_of, slots_of, counts_of, SetsRow};
@@ -110,7 +110,7 @@ fn renew_in(
     renew_row(curves, changed, group, slot + 1, counts)
 }
 
-/// The same for any count of destinations. Kept out of line.
+/// The same for any count of destinations, and with four without a loop. Kept out of line.
 #[inline(never)]
 fn renew_many(
     curves: &mut Curves,
@@ -131,6 +131,20 @@ fn renew_many(
     ensures cells { PutsCells changed.old changed.new (λ g k. result && is_cell group (slot + 1) g k) }
 {
     let _most = curves.destinations();
+    if moves.len() == 4 {
+        let before = curves.row(group, slot);
+        let first = u64::from(before[0]) + moves[0];
+        let second = u64::from(before[1]) + moves[1];
+        let third = u64::from(before[2]) + moves[2];
+        let fourth = u64::from(before[3]) + moves[3];
+        return renew_row(
+            curves,
+            changed,
+            group,
+            slot + 1,
+            &[first, second, third, fourth],
+        );
+    }
     if moves.len() <= 8 {
         return renew_in(curves, changed, group, slot, moves, &mut [0; 8]);
     }

@@ -1,5 +1,5 @@
 //! Numbers in 16 bits beside numbers in 64 bits.
-ghost use Rattle.std.specs.Prelude.{◌≡◌, ◌↔◌, ◌+◌, ◌++◌, ◌^◌, ◌<◌, ℕ, length, slice_index, IsTrue};
+ghost use Rattle.std.specs.Prelude.{◌≡◌, ◌↔◌, ◌+◌, ◌*◌, ◌/◌, ◌++◌, ◌^◌, ◌<◌, ℕ, length, slice_index, IsTrue};
 
 /// Whether two rows are equal. That they differ is told at the first number that does.
 #[inline]
@@ -28,18 +28,77 @@ pub(crate) fn same_narrow_parts(numbers: &[u16], front: &[u64], back: &[u64]) ->
     same_narrow(second, back)
 }
 
+/// Writes a row of numbers in 16 bits but for the last of them, fewer than four: four at a time, all of which are read before
+/// one is written. Returns how many are written.
+#[inline]
+fn write_fours(into: &mut [u16], numbers: &[u64]) -> usize
+    requires count { length into.old ≡ length numbers.now }
+    requires small { (i : ℕ) → i < length numbers.now → slice_index numbers.now i < 2 ^ 16 }
+    ensures many { result ≡ length numbers.now / 4 * 4 }
+    ensures count { length into.new ≡ length numbers.now }
+    ensures written { (i : ℕ) → i < result → slice_index into.new i ≡ slice_index numbers.now i }
+{
+    let mut place = 0;
+    while place + 4 <= into.len() {
+        let first = numbers[place] as u16;
+        let second = numbers[place + 1] as u16;
+        let third = numbers[place + 2] as u16;
+        let fourth = numbers[place + 3] as u16;
+        into[place] = first;
+        into[place + 1] = second;
+        into[place + 2] = third;
+        into[place + 3] = fourth;
+        place += 4;
+    }
+    place
+}
+
+/// Writes the two numbers of a row that follow whole fours, where there are two more.
+#[inline]
+fn write_two(into: &mut [u16], numbers: &[u64], place: usize)
+    requires count { length into.old ≡ length numbers.now }
+    requires small { (i : ℕ) → i < length numbers.now → slice_index numbers.now i < 2 ^ 16 }
+    requires place { place ≡ length numbers.now / 4 * 4 }
+    requires before { (i : ℕ) → i < place → slice_index into.old i ≡ slice_index numbers.now i }
+    ensures count { length into.new ≡ length numbers.now }
+    ensures written { (i : ℕ) → i < length numbers.now / 2 * 2 → slice_index into.new i ≡ slice_index numbers.now i }
+{
+    if (numbers.len() / 2) % 2 == 1 {
+        let first = numbers[place] as u16;
+        let second = numbers[place + 1] as u16;
+        into[place] = first;
+        into[place + 1] = second;
+    }
+}
+
+/// Writes the last number of a row of an odd count.
+#[inline]
+fn write_last(into: &mut [u16], numbers: &[u64])
+    requires count { length into.old ≡ length numbers.now }
+    requires small { (i : ℕ) → i < length numbers.now → slice_index numbers.now i < 2 ^ 16 }
+    requires before { (i : ℕ) → i < length numbers.now / 2 * 2 → slice_index into.old i ≡ slice_index numbers.now i }
+    ensures { into.new ≡ numbers.now }
+{
+    if numbers.len() % 2 == 1 {
+        let last = numbers.len() - 1;
+        into[last] = numbers[last] as u16;
+    }
+}
+
 /// Writes a row of numbers in 16 bits.
+#[inline]
 fn write_narrow(into: &mut [u16], numbers: &[u64])
     requires count { length into.old ≡ length numbers.now }
     requires small { (i : ℕ) → i < length numbers.now → slice_index numbers.now i < 2 ^ 16 }
     ensures { into.new ≡ numbers.now }
 {
-    for place in 0..into.len() {
-        into[place] = numbers[place] as u16;
-    }
+    let place = write_fours(into, numbers);
+    write_two(into, numbers, place);
+    write_last(into, numbers);
 }
 
 /// Writes two rows of numbers in 16 bits, one behind the other.
+#[inline]
 pub(crate) fn write_narrow_parts(into: &mut [u16], front: &[u64], back: &[u64])
     requires count { length into.old ≡ length front.now + length back.now }
     requires front { (i : ℕ) → i < length front.now → slice_index front.now i < 2 ^ 16 }

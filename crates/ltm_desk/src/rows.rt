@@ -178,6 +178,7 @@ impl KeptRows {
     }
 
     /// Puts a row in the place of a pair's, and changes no other.
+    #[inline(always)]
     pub fn put(&mut self, node: usize, slot: usize, parts: Parts<'_>)
         requires node { node < nodes_of self.old }
         requires slot { slot < slots_of self.old }

@@ -33,7 +33,6 @@ pub const WIDEST: u32 = 1162;
 /// What a repair works on: the counts, the inputs that are kept of each pair without its counts, the active and the
 /// claimed pairs with the inputs of the claims, for each link and boundary the slots that read there, and the cells that
 /// commits have changed.
-#[derive(Drop)]
 pub struct Table {
     pub(crate) curves: Curves,
     pub(crate) kept: KeptRows,
@@ -41,6 +40,20 @@ pub struct Table {
     pub(crate) claims: ClaimRows,
     pub(crate) index: ReadIndex,
     pub(crate) changed: Changed,
+}
+
+// By hand, so that letting go of a table is one call, and not its parts one by one wherever that may happen.
+impl Drop for Table {
+    fn drop(self) {
+        let Table {
+            curves: _curves,
+            kept: _kept,
+            frontier: _frontier,
+            claims: _claims,
+            index: _index,
+            changed: _changed,
+        } = self;
+    }
 }
 
 impl Table {

@@ -12,6 +12,3 @@ mod laws;
 pub use delay::{Delay, Delays};
 pub use diagram::{Diagram, DiagramFault, Field, Limits};
 pub use laws::limits_in_range;
-
-#[cfg(test)]
-mod tests;

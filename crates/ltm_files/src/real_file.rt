@@ -6,10 +6,19 @@ use ltm_lines::{ReadFault, RealInput, Source};
 use std::io::Read;
 
 /// An open file. It tells nothing of what is left.
-#[derive(Drop)]
 pub struct RealFile<R: Read + Drop> {
     input: RealInput<R>,
     faults: u64,
+}
+
+// By hand, so that letting go of a file is one call, and not its parts one by one wherever that may happen.
+impl<R: Read + Drop> Drop for RealFile<R> {
+    fn drop(self) {
+        let RealFile {
+            input: _input,
+            faults: _faults,
+        } = self;
+    }
 }
 
 impl<R: Read + Drop> RealFile<R> {

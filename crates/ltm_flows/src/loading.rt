@@ -24,7 +24,6 @@ use std::alloc::Global;
 /// origins have produced. Counts by destination are not kept.
 ///
 /// It stands on its own: the scenario may change once the loading is made.
-#[derive(Drop)]
 pub struct Loading {
     version: u64,
     step: Millis,
@@ -41,6 +40,21 @@ pub struct Loading {
     ghost times: { length free.items ≡ links },
     ghost amounts: { total_slots curves + 1 ≤ length generated.items },
     ghost rises: { (g k : ℕ) → g < total_groups curves → k < total_slots curves → total_at curves g k ≤ total_at curves g (k + 1) },
+}
+
+// By hand, so that letting go of a loading is one call, and not its parts one by one wherever that may happen.
+impl Drop for Loading {
+    fn drop(self) {
+        let Loading {
+            version: _version,
+            step: _step,
+            links: _links,
+            nodes: _nodes,
+            free: _free,
+            generated: _generated,
+            curves: _curves,
+        } = self;
+    }
 }
 
 impl Loading {

@@ -1,5 +1,5 @@
 //! The frontier of a repair.
-ghost use Rattle.std.specs.Prelude.{◌≡◌, ℕ, ◌+◌, ◌<◌, ◌≤◌, min, true, false, IfOk, OnOk, OnErr, MatchOption, IsTrue};
+ghost use Rattle.std.specs.Prelude.{◌≡◌, ℕ, ◌+◌, ◌<◌, ◌≤◌, min, true, false, IfOk, OnOk, OnErr, IfSome, MatchOption, IsTrue};
 ghost use Rattle.ltm_marks.specs.Marks.{width_of, rows_of, is_marked};
 ghost use Rattle.ltm_frontier.specs.Claims.{width, slot_in, count_in, has_node};
 
@@ -188,8 +188,30 @@ impl Frontier {
         }
     }
 
-    /// The front, which is not sought below its slot again until a pair there is made active.
-    pub fn advance(&mut self) -> Option<u32>
+    /// The first active node of the slot from which the front is sought, where no pair is claimed and that node is near.
+    #[inline]
+    fn near(&self) -> Option<u32>
+        ensures { IfSome result (IsFrontFrom self.now self.now.low) }
+    {
+        if self.claims.count() > 0 {
+            return None;
+        }
+        let (slot, node) = (self.low as usize, self.first as usize);
+        if slot >= self.active.rows() {
+            return None;
+        }
+        if node >= self.active.width() {
+            return None;
+        }
+        match self.active.next_near(slot, node) {
+            Some(node) => return Some(node as u32),
+            None => return None,
+        }
+    }
+
+    /// The front, found wherever it is, below which it is not sought again.
+    #[inline(never)]
+    fn advance_far(&mut self) -> Option<u32>
         ensures front { MatchOption result (AllIdle self.old) (IsFront self.old) }
         ensures size { SameSize self.old self.new }
         ensures pairs { SamePairs self.old self.new }
@@ -206,6 +228,20 @@ impl Frontier {
                 None
             }
         }
+    }
+
+    /// The front, which is not sought below its slot again until a pair there is made active.
+    #[inline]
+    pub fn advance(&mut self) -> Option<u32>
+        ensures front { MatchOption result (AllIdle self.old) (IsFront self.old) }
+        ensures size { SameSize self.old self.new }
+        ensures pairs { SamePairs self.old self.new }
+    {
+        if let Some(node) = self.near() {
+            self.first = node;
+            return Some(self.low);
+        }
+        self.advance_far()
     }
 
     /// Makes the pair active, unless it is claimed.

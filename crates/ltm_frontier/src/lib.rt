@@ -11,6 +11,3 @@ mod claims;
 mod frontier;
 
 pub use frontier::Frontier;
-
-#[cfg(test)]
-mod tests;

@@ -110,7 +110,7 @@ impl Cells {
     /// Where the cell of a link lies.
     #[inline]
     #[tactic(auto, using(crate::proofs::Writes::place_within, crate::proofs::Writes::size_fits))]
-    fn place(&self, link: u32, at: u32) -> usize
+    pub fn place(&self, link: u32, at: u32) -> usize
         requires link { link < self.now.links }
         requires at { at ≤ self.now.room }
         ensures place { result ≡ place_of self.now.links link at }
@@ -121,16 +121,41 @@ impl Cells {
         (block as usize * self.links as usize + link as usize) * SPAN as usize + place as usize
     }
 
+    /// The cell of a link, which lies at this place.
+    #[inline]
+    #[tactic(auto, unfolding(crate::specs::Cells::cell_at), using(crate::proofs::Writes::place_within))]
+    pub fn get_in(&self, link: u32, at: u32, place: usize) -> Cell
+        requires link { link < self.now.links }
+        requires at { at ≤ self.now.room }
+        requires place { place ≡ place_of self.now.links link at }
+        ensures { result ≡ cell_at self.now link at }
+    {
+        let _cells = &self.cells;
+        self.cells[place]
+    }
+
     /// The cell of a link.
     #[inline]
-    #[tactic(auto, unfolding(crate::specs::Cells::cell_at))]
     pub fn get(&self, link: u32, at: u32) -> Cell
         requires link { link < self.now.links }
         requires at { at ≤ self.now.room }
         ensures { result ≡ cell_at self.now link at }
     {
         let place = self.place(link, at);
-        self.cells[place]
+        self.get_in(link, at, place)
+    }
+
+    /// Writes the cell of a link, which lies at this place.
+    #[inline]
+    #[tactic(auto, using(crate::proofs::Writes::place_within))]
+    pub fn put_in(&mut self, link: u32, at: u32, place: usize, cell: Cell)
+        requires link { link < self.old.links }
+        requires at { at ≤ self.old.room }
+        requires place { place ≡ place_of self.old.links link at }
+        ensures { PutsCell self.old self.new link at cell }
+    {
+        let _cells = &self.cells;
+        self.cells[place] = cell;
     }
 
     /// Writes the cell of a link.
@@ -141,6 +166,6 @@ impl Cells {
         ensures { PutsCell self.old self.new link at cell }
     {
         let place = self.place(link, at);
-        self.cells[place] = cell;
+        self.put_in(link, at, place, cell);
     }
 }

@@ -16,6 +16,3 @@ mod read_index;
 
 pub use laws::slots_stand_by_entry;
 pub use read_index::ReadIndex;
-
-#[cfg(test)]
-mod tests;

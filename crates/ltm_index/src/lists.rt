@@ -82,27 +82,23 @@ pub fn put_first(cells: &mut Cells, link: u32, slot: u32, boundary: u32)
     ensures lists { AreLists cells.new }
     ensures put { PutsFirst cells.old cells.new link slot boundary }
 {
-    let first = cells.get(link, boundary).first;
+    let here = cells.place(link, slot);
+    let there = cells.place(link, boundary);
+    let first = cells.get_in(link, boundary, there).first;
     let pointer = naming(slot);
     set_before(cells, link, first, pointer);
-    let cell = cells.get(link, slot);
-    cells.put(
-        link,
-        slot,
-        Cell {
-            next: first,
-            previous: 0,
-            entry: naming(boundary),
-            ..cell
-        },
-    );
-    let cell = cells.get(link, boundary);
-    cells.put(
-        link,
-        boundary,
-        Cell {
-            first: pointer,
-            ..cell
-        },
-    );
+    let cell = cells.get_in(link, slot, here);
+    let entered = Cell {
+        next: first,
+        previous: 0,
+        entry: naming(boundary),
+        ..cell
+    };
+    cells.put_in(link, slot, here, entered);
+    let cell = cells.get_in(link, boundary, there);
+    let led = Cell {
+        first: pointer,
+        ..cell
+    };
+    cells.put_in(link, boundary, there, led);
 }

@@ -53,3 +53,11 @@ set_next xs i v f before l here j less =
       | inl same ↦ ap (slice_index (set xs i v)) same ∙ (get_or-set_same xs i v 0 l ∙ (here ∙ ap f (sym same)))
       | inr other ↦ get_or-set_other xs i j v 0 other ∙ before j (omega arith)
     ]
+
+-- a table of one row
+pub grid-one : (w : ℕ) (f : ℕ → ℕ → ℕ) → grid 1 w f ≡ list_below w (f 0)
+grid-one w f = grid-more 0 w f ∙ ap (λ (z : List ℕ). z ++ list_below w (f 0)) (sym (filled_none [] w f).rows)
+
+-- what is written of one row is such a table
+pub written_one : (xs : List ℕ) (n w : ℕ) (f : ℕ → ℕ → ℕ) → n ≡ 1 → xs ≡ list_below w (f 0) → xs ≡ grid n w f
+written_one xs n w f one is = is ∙ (sym (grid-one w f) ∙ ap (λ (z : ℕ). grid z w f) (sym one))

@@ -10,8 +10,8 @@ ghost use Rattle.ltm_setting.specs.Setting.{setting_of};
 ghost use Rattle.ltm_sending.specs.Front.{IsAtFront};
 ghost use Rattle.ltm_inputs.specs.Parts.{ArePositions};
 
-use crate::row::{put_counts, put_limits};
-use crate::sending::put_sending_at;
+use crate::flows::put_flows_and_limits;
+use crate::row::put_counts;
 use crate::shapes::shape_of;
 use ltm_curve::Curves;
 use ltm_loading::in_range;
@@ -42,9 +42,8 @@ fn put_row(
 {
     let (sending, others) = row.split_at_mut(shape.counts_begin());
     let (counts, limits) = others.split_at_mut(shape.counts_width());
-    put_sending_at(scenario, curves, pair, sending, positions);
     put_counts(scenario, curves, pair, shape, counts);
-    put_limits(scenario, curves, pair, shape, limits);
+    put_flows_and_limits(scenario, curves, pair, shape, sending, positions, limits);
 }
 
 /// Writes the row of a pair at the front of a room, and its positions.

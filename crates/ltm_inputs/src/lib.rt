@@ -10,6 +10,7 @@
 
 mod capacities;
 mod counts;
+mod flows;
 mod inputs;
 mod numbers;
 mod row;
@@ -21,6 +22,3 @@ mod weights;
 pub use inputs::{count_in, inputs_of};
 pub use shapes::{shape_of, widest};
 pub use uncounted::{uncounted_if_sent, uncounted_of};
-
-#[cfg(test)]
-mod tests;

@@ -1,5 +1,5 @@
 //! Numbers of 32 bits, and amounts above 0.
-ghost use Rattle.std.specs.Prelude.{◌≡◌, ◌↔◌, ◌<◌, ℕ, IsFalse, length, slice_index};
+ghost use Rattle.std.specs.Prelude.{◌≡◌, ◌↔◌, ◌<◌, ◌≤◌, ℕ, IsFalse, length, slice_index};
 
 /// Writes some numbers of 32 bits: up to four, as for the out-links of a node, without a loop.
 #[inline]
@@ -7,22 +7,35 @@ pub(crate) fn put_numbers(numbers: &[u32], into: &mut [u64])
     requires { length into.old ≡ length numbers.now }
     ensures { into.new ≡ numbers.now }
 {
-    if into.len() == 4 {
-        into[0] = u64::from(numbers[0]);
-        into[1] = u64::from(numbers[1]);
-        into[2] = u64::from(numbers[2]);
-        into[3] = u64::from(numbers[3]);
-    } else if into.len() == 3 {
-        into[0] = u64::from(numbers[0]);
-        into[1] = u64::from(numbers[1]);
-        into[2] = u64::from(numbers[2]);
+    if into.len() > 4 {
+        put_many(numbers, into);
+    } else if into.len() > 2 {
+        put_three_or_four(numbers, into);
     } else if into.len() == 2 {
         into[0] = u64::from(numbers[0]);
         into[1] = u64::from(numbers[1]);
     } else if into.len() == 1 {
         into[0] = u64::from(numbers[0]);
+    }
+}
+
+/// The same for three or four numbers.
+#[inline]
+fn put_three_or_four(numbers: &[u32], into: &mut [u64])
+    requires few { length into.old ≤ 4 }
+    requires more { 2 < length into.old }
+    requires same { length into.old ≡ length numbers.now }
+    ensures { into.new ≡ numbers.now }
+{
+    if into.len() == 4 {
+        into[0] = u64::from(numbers[0]);
+        into[1] = u64::from(numbers[1]);
+        into[2] = u64::from(numbers[2]);
+        into[3] = u64::from(numbers[3]);
     } else {
-        put_many(numbers, into);
+        into[0] = u64::from(numbers[0]);
+        into[1] = u64::from(numbers[1]);
+        into[2] = u64::from(numbers[2]);
     }
 }
 
@@ -34,6 +47,21 @@ fn put_many(numbers: &[u32], into: &mut [u64])
 {
     for at in 0..into.len() {
         into[at] = u64::from(numbers[at]);
+    }
+}
+
+/// Writes zeros: four, as for the counts of a node in a row of links with one destination, without a loop.
+#[inline]
+pub(crate) fn put_zeros(into: &mut [u64])
+    ensures { (k : ℕ) → k < length into.old → slice_index into.new k ≡ 0 }
+{
+    if into.len() == 4 {
+        into[0] = 0;
+        into[1] = 0;
+        into[2] = 0;
+        into[3] = 0;
+    } else {
+        into.fill(0);
     }
 }
 

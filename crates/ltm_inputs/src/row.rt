@@ -9,6 +9,7 @@ ghost use Rattle.ltm_inputs.specs.Parts.{limit_parts, uncounted_parts};
 
 use crate::capacities::put_capacity;
 use crate::counts::{arrived, put_entered, put_left};
+use crate::numbers::put_zeros;
 use crate::sending::put_supply;
 use crate::weights::put_weights;
 use ltm_curve::Curves;
@@ -37,7 +38,7 @@ pub(crate) fn put_limits(
     let (capacity, weights) = rest.split_at_mut(shape.arms as usize);
     put_supply(scenario, curves, pair, supply);
     put_capacity(scenario, pair.node, capacity);
-    put_weights(scenario, pair, weights);
+    put_weights(scenario, pair, shape.outs, weights);
 }
 
 /// Writes what has been counted at the node of a pair by the beginning of the slot.
@@ -81,6 +82,6 @@ pub(crate) fn put_uncounted(
     ensures { into.new ≡ uncounted_parts (setting_of scenario.now) (counts_of curves.now) pair.node.0 pair.slot }
 {
     let (counts, limits) = into.split_at_mut(shape.counts_width());
-    counts.fill(0);
+    put_zeros(counts);
     put_limits(scenario, curves, pair, shape, limits);
 }

@@ -10,9 +10,10 @@ ghost use Rattle.ltm_sending.specs.Front.{IsAtFront};
 ghost use Rattle.ltm_inputs.specs.Idle.{IsIdle};
 ghost use Rattle.ltm_inputs.specs.Parts.{ArePositions};
 
-use crate::numbers::is_any_sent;
+use crate::flows::put_flows_and_limits;
+use crate::numbers::{is_any_sent, put_zeros};
 use crate::row::put_uncounted;
-use crate::sending::{put_sending, put_sending_at};
+use crate::sending::put_sending;
 use crate::shapes::shape_of;
 use ltm_curve::Curves;
 use ltm_loading::uncounted_in_range;
@@ -118,8 +119,9 @@ fn put_uncounted_row(
     ensures positions { ArePositions (setting_of scenario.now) (counts_of curves.now) pair.node.0 pair.slot positions.new }
 {
     let (sending, others) = row.split_at_mut(shape.counts_begin());
-    put_sending_at(scenario, curves, pair, sending, positions);
-    put_uncounted(scenario, curves, pair, shape, others);
+    let (counts, limits) = others.split_at_mut(shape.counts_width());
+    put_zeros(counts);
+    put_flows_and_limits(scenario, curves, pair, shape, sending, positions, limits);
 }
 
 /// Writes the row of a pair with 0 for each count at the front of a room, and its positions.

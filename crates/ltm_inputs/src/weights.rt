@@ -1,12 +1,12 @@
 //! The weights of the out-links of a node.
-ghost use Rattle.std.specs.Prelude.{◌≡◌, ℕ, ◌*◌, ◌<◌, length};
+ghost use Rattle.std.specs.Prelude.{◌≡◌, ℕ, ◌*◌, ◌<◌, ◌≤◌, length};
 ghost use Rattle.ltm_curve.specs.First.{list_below};
 ghost use Rattle.ltm_setting.specs.Setting.{setting_of};
 ghost use Rattle.ltm_inputs.specs.Parts.{weights_part};
 
 use crate::numbers::put_numbers;
 use ltm_scenario::Scenario;
-use ltm_setting::{destination_count, out_links, weights};
+use ltm_setting::{destination_count, weights};
 use ltm_units::Pair;
 
 /// Writes the weights of a destination in a slot: 0 where no split row is in force.
@@ -23,15 +23,22 @@ fn put_weights_of(scenario: &Scenario, pair: Pair, destination: u32, into: &mut 
     }
 }
 
-/// Writes the weights of each destination in a slot.
-pub(crate) fn put_weights(scenario: &Scenario, pair: Pair, into: &mut [u64])
+/// Writes the weights of each destination in a slot, for so many out-links: of one destination, without a loop.
+pub(crate) fn put_weights(scenario: &Scenario, pair: Pair, outs: u32, into: &mut [u64])
     requires node { pair.node.0 < (setting_of scenario.now).nodes }
+    requires outs { outs ≡ (setting_of scenario.now).outs pair.node.0 }
+    requires few { outs ≤ 4 }
     requires room { length into.old ≡ (setting_of scenario.now).destinations * (setting_of scenario.now).outs pair.node.0 }
     ensures { into.new ≡ weights_part (setting_of scenario.now) pair.node.0 pair.slot }
 {
-    let outs = out_links(scenario, pair.node).len();
+    let outs = outs as usize;
+    let destinations = destination_count(scenario);
+    if destinations == 1 {
+        put_weights_of(scenario, pair, 0, into);
+        return;
+    }
     let mut place = 0;
-    for destination in 0..destination_count(scenario) {
+    for destination in 0..destinations {
         put_weights_of(scenario, pair, destination, &mut into[place..place + outs]);
         place += outs;
     }

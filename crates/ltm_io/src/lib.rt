@@ -24,6 +24,3 @@ pub use real_folder::RealFolder;
 pub use real_output::RealOutput;
 pub use sink::{Sink, SinkError, write_all_known};
 pub use sure_sink::SureSink;
-
-#[cfg(test)]
-mod tests;

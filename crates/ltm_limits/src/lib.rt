@@ -11,6 +11,3 @@ mod limits;
 
 pub use laws::{limits_are_lengthened, limits_are_set, limits_stay_whole};
 pub use limits::LimitTable;
-
-#[cfg(test)]
-mod tests;

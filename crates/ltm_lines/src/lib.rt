@@ -19,6 +19,3 @@ pub use mem_source::MemSource;
 pub use real_input::RealInput;
 pub use source::{ReadFault, Source};
 pub use sure_source::SureSource;
-
-#[cfg(test)]
-mod tests;

@@ -18,6 +18,3 @@ mod splitting;
 mod words;
 
 pub use made::{Made, MakeFault, make_case};
-
-#[cfg(test)]
-mod tests;

@@ -151,3 +151,8 @@ more_rows room rows words x y l a b =
     let e : room + (rows - room) ≡ rows = omega arith in
     let f : (room + (rows - room)) * words ≡ rows * words = ap (λ z. z * words) e in
     omega (arith, a, b, f)
+
+-- a mark is the bit of its place in the word of any place beside it
+pub mark_in_word : (m : Marks) (row place p : ℕ) → p / 64 ≡ place / 64 → is_marked m p row ≡ (bit_at (slice_index m.bits.items (word_of m place row)) (p % 64) == 1)
+unfolding is_marked
+mark_in_word m row place p e = ap (λ k. bit_at (slice_index m.bits.items k) (p % 64) == 1) (same_word m row place p e)

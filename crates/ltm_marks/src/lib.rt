@@ -8,4 +8,4 @@
 
 mod marks;
 
-pub use marks::Marks;
+pub use marks::{Marks, first_from};

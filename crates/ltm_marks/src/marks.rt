@@ -1,6 +1,7 @@
 //! Marks of places in rows.
+ghost use Rattle.std.specs.Int.{bit_at};
 ghost use Rattle.ltm_marks.specs.Bits.{NoBit, IsFirstBit};
-ghost use Rattle.std.specs.Prelude.{◌≡◌, ℕ, ◌+◌, ◌*◌, ◌/◌, ◌^◌, ◌<◌, ◌≤◌, length, true, false, IfOk, OnErr, OnOk, MatchOption, slice_index, replicate, ◌++◌};
+ghost use Rattle.std.specs.Prelude.{◌≡◌, ℕ, ◌+◌, ◌*◌, ◌/◌, ◌%◌, ◌==◌, ◌^◌, ◌<◌, ◌≤◌, length, true, false, IfOk, OnErr, OnOk, IfSome, MatchOption, slice_index, replicate, ◌++◌};
 
 use ltm_units::NoMemory;
 use std::alloc::Global;
@@ -22,7 +23,8 @@ pub struct Marks {
 }
 
 /// The first set bit of a word, not below a place.
-fn first_from(word: u64, from: u32) -> Option<u32>
+#[inline]
+pub fn first_from(word: u64, from: u32) -> Option<u32>
     requires { from < 64 }
     ensures { MatchOption result (NoBit word from) (IsFirstBit word from) }
 {
@@ -176,6 +178,34 @@ impl Marks {
             Some(found) => Some(from - bit + found as usize),
             None => None,
         }
+    }
+
+    /// The word with the mark of a place: the marks of 64 places of a row, a bit each.
+    #[inline]
+    pub fn word_with(&self, row: usize, place: usize) -> u64
+        requires row { row < rows_of self.now }
+        requires place { place < width_of self.now }
+        ensures { (p : ℕ) → p / 64 ≡ place / 64 → is_marked self.now p row ≡ (bit_at result (p % 64) == 1) }
+    {
+        let word = self.word(place, row);
+        self.bits[word]
+    }
+
+    /// The first marked place of a row, not below one, if it lies in the same word.
+    #[inline]
+    pub fn next_near(&self, row: usize, from: usize) -> Option<usize>
+        requires row { row < rows_of self.now }
+        requires from { from < width_of self.now }
+        ensures { IfSome result (IsNext self.now row from) }
+    {
+        if let Some(place) = self.next_in_word(row, from) {
+            return if place < self.width {
+                Some(place)
+            } else {
+                None
+            };
+        }
+        None
     }
 
     /// The first marked place of a row, not below one; none exactly where there is none.

@@ -15,6 +15,3 @@ mod nodes;
 
 pub use laws::{links_at_their_places, names_are_found, networks_stay_networks};
 pub use network::{Network, NetworkFault};
-
-#[cfg(test)]
-mod tests;

@@ -53,11 +53,21 @@ impl From<NoMemory> for NetworkFault {
 ///
 /// Links are numbered in order of adding, nodes in order of first being named, the tail before the head. Contracts
 /// see the names of the nodes and, for each link, its name and the numbers of its ends.
-#[derive(Drop)]
 pub struct Network {
     nodes: Nodes,
     link_names: Names,
     ends: Vec<Ends>,
+}
+
+// By hand, so that letting go of a network is one call, and not its parts one by one wherever that may happen.
+impl Drop for Network {
+    fn drop(self) {
+        let Network {
+            nodes: _nodes,
+            link_names: _link_names,
+            ends: _ends,
+        } = self;
+    }
 }
 
 impl Model for Network {

@@ -5,6 +5,7 @@ use Rattle.std.proofs.lemmas.List.{get_or-set_other, get_or-set_same}
 use Rattle.std.proofs.lemmas.Nat.{same_from_place, mul-add-lt}
 use Rattle.ltm_units.specs.Sums.{sum_below}
 use Rattle.ltm_units.proofs.Sums.{sum_below_more, sum_below-zero}
+use Rattle.ltm_node.specs.declared.shape.NodeShape.{NodeShape}
 use Rattle.ltm_node.specs.Shape.{counts_width}
 use Rattle.ltm_node.specs.Inputs.{Inputs, left, entered}
 use Rattle.ltm_node.specs.Outputs.{left_after_place, entered_after_place, arrived_after_place}
@@ -22,6 +23,10 @@ left_low n i d l m = omega (arith, mul-add-lt i n.shape.destinations d n.shape.a
 
 pub entered_low : (n : Inputs) (j d : ℕ) → j < n.shape.outs → d < n.shape.destinations → entered_after_place n.shape j d < arrived_after_place n.shape
 entered_low n j d l m = omega (arith, mul-add-lt j n.shape.destinations d n.shape.outs l m)
+
+-- the place of the next out-link
+pub place_on : (s : NodeShape) (j d : ℕ) → entered_after_place s (j + 1) d ≡ entered_after_place s j d + s.destinations
+place_on s j d = let next : (j + 1) * s.destinations ≡ j * s.destinations + s.destinations = omega arith in omega arith
 
 -- a pair of destination and arm before the next one is before this one, or is this one
 pub pair_cases : (b a d i : ℕ) → a < 8 → i < 8 → d * 8 + i < b * 8 + (a + 1) → (d * 8 + i < b * 8 + a) ⊎ ((i ≡ a) × (d ≡ b))

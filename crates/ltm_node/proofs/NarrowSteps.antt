@@ -1,8 +1,8 @@
 -- A narrow node: at most one out-link, in a case with one destination.
-use Rattle.std.proofs.Common.{◌≡◌, ℕ, ◌+◌, ◌-◌, ◌*◌, ◌/◌, ◌<◌, ◌≤◌, true, false, List, [], ◌∷◌, sum, drop, set, slice_index, get_or, length, arith, inl, inr, refl, ap, ◌∙◌, sym, subst}
+use Rattle.std.proofs.Common.{◌≡◌, ℕ, ◌+◌, ◌-◌, ◌*◌, ◌/◌, ◌<◌, ◌≤◌, min, true, false, List, [], ◌∷◌, sum, drop, set, slice_index, get_or, length, arith, inl, inr, refl, ap, ◌∙◌, sym, subst}
 use Rattle.std.proofs.Math.ListN.{length-set}
 use Rattle.std.proofs.Math.Nat.{mul-le-mul_left, mul-div_right, mul-div_cancel}
-use Rattle.std.proofs.lemmas.Bool.{cases_eq}
+use Rattle.std.proofs.lemmas.Bool.{cases_eq, cases_lt}
 use Rattle.std.proofs.lemmas.List.{get_or-set_other, get_or-set_same, length-take}
 use Rattle.ltm_units.specs.Sums.{sum_below}
 use Rattle.ltm_units.specs.Nested.{nested_split}
@@ -30,6 +30,9 @@ arm_place s i one = omega (arith, ap (λ z. i * z) one)
 
 sum_of_one : (k : ℕ) (f : ℕ → ℕ) → k ≡ 1 → sum_below k f ≡ f 0
 sum_of_one k f one = let e : sum_below k f ≡ sum_below 1 f = ap (λ z. sum_below z f) one in omega arith
+
+pub sum_of_two : (k : ℕ) (f : ℕ → ℕ) → k ≡ 2 → sum_below k f ≡ f 0 + f 1
+sum_of_two k f two = let e : sum_below k f ≡ sum_below 2 f = ap (λ z. sum_below z f) two in omega arith
 
 sum_of_none : (k : ℕ) (f : ℕ → ℕ) → k ≡ 0 → sum_below k f ≡ 0
 sum_of_none k f none = let e : sum_below k f ≡ sum_below 0 f = ap (λ z. sum_below z f) none in omega arith
@@ -260,3 +263,34 @@ step_short n o total s one out elsewhere sum short h =
             ap (λ z. slice_index o.row (arrived_after_place z)) h.shape ∙ (h.arrived ∙ omega (arith, dry));
       };
     } ∣₁
+
+-- one arm alone moves what the out-link can take of what it sends
+pub step_alone : (n : Inputs) (o : Outputs) (amount : ℕ) → IsNarrow n.shape → n.shape.arms ≡ 1 → n.shape.outs ≡ 1 → is_own n.shape 0 ≡ false → ((i : ℕ) → leaves n i ≡ sending n i 0) → amount ≡ min (sending n 0 0) (supply n 0) → HaveShifted n amount o → IsNodeStep n o
+step_alone n o amount s one out elsewhere all is h =
+    let total : ℕ = sending n 0 0 in
+    let sum : total ≡ sum_below n.shape.arms (leaves n) = sym (sum_of_one n.shape.arms (leaves n) one ∙ all 0) in
+    elim (cases_lt (supply n 0) total) [
+      | inl short ↦
+          let e : amount ≡ supply n 0 = omega arith in
+          step_short n o total s one out elsewhere sum short (subst (λ (z : ℕ). HaveShifted n z o) e h)
+      | inr fits ↦
+          let e : amount ≡ total = omega arith in
+          let g : HaveShifted n total o = subst (λ (z : ℕ). HaveShifted n z o) e h in
+          let P : ℕ → Type 0 = λ z. slice_index o.row (left_after_place n.shape z 0) ≡ left n z 0 + leaves n z in
+          let within : (j : ℕ) → j < n.shape.outs → total ≤ supply n j = λ j l.
+          let only : j ≡ 0 = omega (arith, out) in subst (λ (z : ℕ). total ≤ supply n z) (sym only) fits in
+          step_to_out n o total s elsewhere sum within (record {
+            arms = record {
+              shape = g.shape;
+              width = g.width;
+              left = λ i l. let only : i ≡ 0 = omega (arith, one) in subst P (sym only) (g.left ∙ ap (λ z. left n 0 0 + z) (sym (all 0)));
+            };
+            entered = λ some. g.entered;
+            arrived = omega (arith, g.arrived);
+          })
+    ]
+
+-- where nothing leaves the arms, nothing moves
+pub step_still : (n : Inputs) (o : Outputs) → IsNarrow n.shape → is_own n.shape 0 ≡ false → ((i : ℕ) → leaves n i ≡ 0) → HaveMoved n 0 0 o → IsNodeStep n o
+step_still n o s elsewhere none h =
+    step_to_out n o 0 s elsewhere (sym (sum_below-zero n.shape.arms (leaves n) (λ i l. none i))) (λ j l. omega arith) h

@@ -12,6 +12,7 @@ use Rattle.ltm_node.specs.Inputs.{Inputs}
 use Rattle.ltm_node.specs.Outputs.{Outputs}
 use Rattle.ltm_node.specs.Demands.{part, sent_into, demands}
 use Rattle.ltm_node.specs.Step.{moved, sunk, come, sunk_in_all, StepShares, IsNodeStep}
+use Rattle.ltm_node.specs.Narrow.{laid}
 use Rattle.ltm_node.specs.Laws.{SameShape, SameInputs, SameOutputs, SameStep, NoArrivals, NothingIsSent, NothingMoves}
 use Rattle.ltm_node.proofs.Ranges.{moved_nothing, sunk_nothing, sunk_elsewhere, part_le}
 
@@ -59,6 +60,10 @@ same_step_holds n m o p h g = (
   step_over n m o p h g,
   step_over m n p o (record { shape = sym h.shape; row = sym h.row }) (record { shape = sym g.shape; row = sym g.row }),
 )
+
+-- a row of counts that are the node step, in some outputs
+pub step_laid : (n : Inputs) (o : Outputs) → o.shape ≡ n.shape → IsNodeStep n (laid n.shape o.row) → IsNodeStep n o
+step_laid n o shape step = step_over n n (laid n.shape o.row) o (record { shape = refl; row = refl }) (record { shape = shape; row = refl }) step
 
 -- nothing is sunk at a node that is no destination
 none_sunk : (n : Inputs) (e : ℕ) (p : ℕ → ℕ) → n.shape.own ≡ None → sunk_in_all n e p ≡ 0

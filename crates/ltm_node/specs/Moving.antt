@@ -1,4 +1,4 @@
-use Rattle.std.specs.Prelude.{◌≡◌, ℕ, ◌+◌, ◌*◌, ◌/◌, ◌<◌, ◌≤◌, max, List, length, slice_index}
+use Rattle.std.specs.Prelude.{◌≡◌, ℕ, ◌+◌, ◌*◌, ◌/◌, ◌<◌, ◌≤◌, ◌⊎◌, max, List, length, slice_index}
 use Rattle.ltm_units.specs.Sums.{sum_below}
 use Rattle.ltm_shares.specs.declared.sent.Sent.{Sent}
 use Rattle.ltm_shares.specs.Sent.{sent_at}
@@ -82,6 +82,34 @@ FitsSupply n s = (j : ℕ) → j < n.shape.outs → sum_below n.shape.arms (λ i
 -- the priority of an arm, above 0 also for an arm that sends nothing
 abbrev pub priority_or_more : Inputs → ℕ → ℕ
 priority_or_more n arm = 1024 * capacity n arm / max 1 (sent n arm)
+
+-- what the first arms send into each out-link
+abbrev pub AreTotalsOf : Inputs → Sent → ℕ → (ℕ → ℕ) → Type 0
+AreTotalsOf n s first totals = (j : ℕ) → j < n.shape.outs → totals j ≡ sum_below first (λ i. sent_at s i j)
+
+-- what all arms send into each out-link
+abbrev pub AreTotals : Inputs → Sent → (ℕ → ℕ) → Type 0
+AreTotals n s totals = AreTotalsOf n s n.shape.arms totals
+
+-- the out-link j is the k-th that is asked
+pub record Asks (n : Inputs) (m : Demands) (k j : ℕ) : Type 0 where
+  pub asked : k < m.outs
+  pub is_out : j < n.shape.outs
+  pub sending : (i : ℕ) → i < n.shape.arms → m.sending i k ≡ sent_into n i j
+  pub supply : m.supply k ≡ supply n j
+
+-- the out-link can take all that is sent to it
+abbrev pub TakesAll : Inputs → ℕ → Type 0
+TakesAll n j = sum_below n.shape.arms (λ i. sent_into n i j) ≤ supply n j
+
+-- of the first out-links, those are asked that cannot take all that is sent to them
+pub record AsksFirst (n : Inputs) (first : ℕ) (m : Demands) : Type 0 where
+  pub arms : m.arms ≡ n.shape.arms
+  pub few : m.outs ≤ first
+  pub priority : (i : ℕ) → i < n.shape.arms → m.priority i ≡ priority_or_more n i
+  pub out_links : (k : ℕ) → k < m.outs → (j : ℕ) × Asks n m k j
+  pub all : (j : ℕ) → j < first → TakesAll n j ⊎ ((k : ℕ) × Asks n m k j)
+  pub clear : (i k : ℕ) → k < 4 → m.outs ≤ k → m.sending i k ≡ 0
 
 -- the demands with a priority for each arm
 abbrev pub filled_demands : Inputs → Demands

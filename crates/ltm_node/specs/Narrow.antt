@@ -1,4 +1,4 @@
-use Rattle.std.specs.Prelude.{◌≡◌, ℕ, ◌+◌, ◌<◌, ◌≤◌, length, slice_index}
+use Rattle.std.specs.Prelude.{◌≡◌, ℕ, ◌+◌, ◌<◌, ◌≤◌, List, length, slice_index}
 use Rattle.ltm_node.specs.Shape.{counts_width}
 use Rattle.ltm_node.specs.Inputs.{Inputs, left, entered, arrived}
 use Rattle.ltm_node.specs.Outputs.{Outputs, left_after_place, entered_after_place, arrived_after_place}
@@ -17,6 +17,10 @@ whole arm = 1
 -- what an arm moves to the one destination where its share is 1
 abbrev pub leaves : Inputs → ℕ → ℕ
 leaves n arm = gone n 1 whole arm 0
+
+-- a row of counts as the counts of a node of this shape
+abbrev pub laid : NodeShape → List ℕ → Outputs
+laid shape row = record { shape = shape; row = row; room = length row }
 
 -- the counts of the first arms are those at the next boundary, at shares of 1
 pub record HaveLeft (n : Inputs) (first : ℕ) (o : Outputs) : Type 0 where

@@ -27,6 +27,3 @@ pub use node_step::write_step;
 pub use outputs::NodeOutputs;
 pub use shape::NodeShape;
 pub use solved::{Solved, solve};
-
-#[cfg(test)]
-mod tests;

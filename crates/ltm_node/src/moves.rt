@@ -8,13 +8,15 @@
 //! for what is sent by each way. The pass here is its general form, for all shapes and shares; each fast form is proved
 //! against the same rule.
 //!
-//! - `Portion::Whole` comes before the shares in `write_step`: where no out-link is short, one pass is enough, and neither
-//!   shares nor a fraction are worked out. What it notes in `sent` is what the shares are made from where one is short.
+//! - `Portion::Whole` comes before the shares in `step_wide`: where no out-link is short, one pass is enough, and neither
+//!   shares nor a fraction are worked out. What it notes in `sent` is what the shares are made from where one is short, and
+//!   only those that are short are asked (`ask`).
 //! - The narrow step (`narrow.rt`), for at most one out-link and one destination, writes the counts straight to their places.
 //!   It saves the copy of the counts, the split and `sent`, and where one arm alone sends more than its out-link can take,
 //!   the shares too.
 //! - `part_of` divides in 64 bits, and only for a weight that is neither 0 nor all that is left; `sum_of` adds up to four
-//!   weights without a loop; `send_all` steps from load to load by the places in the row.
+//!   weights without a loop; `send_all` steps from load to load, and `split` from out-link to out-link, by their places in
+//!   the rows.
 //!
 //! A change of the rule is made in `specs/Step.antt`, here and in `narrow.rt` with `specs/Narrow.antt`. A change of the order
 //! of the loops is one of `IsMoving` in `specs/Moving.antt`, which says how far row and `sent` are. Where a number stands in a
@@ -23,6 +25,7 @@ ghost use Rattle.std.specs.Prelude.{◌≡◌, ◌<◌, ◌+◌, false, true, su
 ghost use Rattle.ltm_units.specs.Sums.{sum_below};
 ghost use Rattle.ltm_node.specs.Shape.{is_own, sending_place, width};
 ghost use Rattle.ltm_node.specs.Inputs.{weights};
+ghost use Rattle.ltm_node.specs.Outputs.{entered_after_place};
 ghost use Rattle.ltm_node.specs.Solvable.{IsSolvable};
 ghost use Rattle.ltm_node.specs.Portion.{AreFractions};
 
@@ -117,10 +120,11 @@ impl Mover<'_> {
         sum_of(self.weights(destination))
     }
 
-    /// Adds what moves of a part, and returns it.
+    /// Adds what moves of a part, whose count stands at this place of the row, and returns it.
     #[inline]
-    fn enter(&self, part: Part, row: &mut [u64], sent: &mut Sent) -> u64
+    fn enter(&self, part: Part, place: usize, row: &mut [u64], sent: &mut Sent) -> u64
         requires part { IsPart self.now.inputs.now part }
+        requires place { place ≡ entered_after_place self.now.inputs.now.shape part.out part.destination }
         requires before { IsMovingBy self.now part.destination part.arm part.out row.old sent.old }
         ensures moved { result ≡ moved_by self.now part.arm part.destination part.out }
         ensures after { IsMovingBy self.now part.destination part.arm (part.out + 1) row.new sent.new }
@@ -129,9 +133,18 @@ impl Mover<'_> {
             return 0;
         }
         let moved = self.portion.of(part.arm, part.amount);
-        row[self.shape.entered_after_place(part.out, part.destination)] += moved;
+        row[place] += moved;
         sent.add(part.arm as usize, part.out as usize, moved);
         moved
+    }
+
+    /// Where the count that has entered the first out-link for a destination stands.
+    #[inline]
+    fn entered_begin(&self, destination: u32) -> usize
+        requires { destination < self.now.inputs.now.shape.destinations }
+        ensures { result ≡ entered_after_place self.now.inputs.now.shape 0 destination }
+    {
+        self.shape.arms as usize * self.shape.destinations as usize + destination as usize
     }
 
     /// Adds what has left an arm by all out-links.
@@ -160,12 +173,14 @@ impl Mover<'_> {
         let mut rest = whole;
         let mut total = 0u64;
         let mut out = 0u32;
+        let mut place = self.entered_begin(load.destination);
         while rest > 0 {
             let weight = weights[out as usize];
             let part = load.by(out, part_of(left, weight, rest));
             left -= part.amount;
             rest -= weight;
-            total += self.enter(part, row, sent);
+            total += self.enter(part, place, row, sent);
+            place += self.shape.destinations as usize;
             out += 1;
         }
         self.leave(load, total, row, sent);

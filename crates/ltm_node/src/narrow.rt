@@ -1,16 +1,313 @@
 //! The step of a narrow node, which has at most one out-link, in a case with one destination.
 //!
 //! All that its arms send goes one way, so each count is written straight to its place in the row of the outputs.
-ghost use Rattle.std.specs.Prelude.{◌≡◌, ℕ, ◌<◌, ◌≤◌, false, IsTrue, IsFalse};
+ghost use Rattle.std.specs.Prelude.{◌≡◌, ℕ, ◌<◌, ◌≤◌, false, true, length, IsTrue, IsFalse};
 ghost use Rattle.ltm_units.specs.Sums.{sum_below};
-ghost use Rattle.ltm_node.specs.Shape.{counts_width, is_own};
-ghost use Rattle.ltm_node.specs.Inputs.{sending, supply};
+ghost use Rattle.ltm_node.specs.Shape.{counts_width, is_own, width};
+ghost use Rattle.ltm_node.specs.Inputs.{sending, left, entered, arrived, supply, weight};
 ghost use Rattle.ltm_node.specs.Solvable.{IsSolvable};
 ghost use Rattle.ltm_node.specs.Step.{IsNodeStep};
-ghost use Rattle.ltm_node.specs.Narrow.{IsNarrow, HaveLeft, HaveMoved, HaveShifted, leaves};
+ghost use Rattle.ltm_node.specs.Narrow.{IsNarrow, HaveLeft, HaveMoved, HaveShifted, leaves, laid};
 
 use crate::inputs::NodeInputs;
 use crate::outputs::NodeOutputs;
+use crate::shape::NodeShape;
+
+/// A narrow node. The shape and the row of its inputs are at hand, so that they need not be read anew behind each write.
+#[derive(Clone, Copy)]
+pub struct Narrow<'a> {
+    pub inputs: &'a NodeInputs,
+    pub shape: NodeShape,
+    numbers: &'a [u64],
+    ghost solvable: { IsSolvable inputs.now },
+    ghost narrow: { IsNarrow inputs.now.shape },
+    ghost same_shape: { shape ≡ inputs.now.shape },
+    ghost same_row: { numbers.now ≡ inputs.now.row },
+    ghost long: { length numbers.now ≡ width shape },
+}
+
+/// What more than any narrow node moves is.
+const MOST: u64 = 320_000;
+
+impl Narrow<'_> {
+    /// What an arm sends.
+    #[inline]
+    fn sending(&self, arm: u32) -> u64
+        requires { arm < self.now.inputs.now.shape.arms }
+        ensures { result ≡ sending self.now.inputs.now arm 0 }
+    {
+        self.numbers[self.shape.sending_place(arm, 0)]
+    }
+
+    /// What has left an arm by the beginning of the slot.
+    #[inline]
+    fn left(&self, arm: u32) -> u64
+        requires { arm < self.now.inputs.now.shape.arms }
+        ensures { result ≡ left self.now.inputs.now arm 0 }
+    {
+        self.numbers[self.shape.left_place(arm, 0)]
+    }
+
+    /// What has entered the out-link by the beginning of the slot.
+    #[inline]
+    fn entered(&self) -> u64
+        requires { 0 < self.now.inputs.now.shape.outs }
+        ensures { result ≡ entered self.now.inputs.now 0 0 }
+    {
+        self.numbers[self.shape.entered_place(0, 0)]
+    }
+
+    /// What has arrived by the beginning of the slot.
+    #[inline]
+    fn arrived(&self) -> u64
+        ensures { result ≡ arrived self.now.inputs.now }
+    {
+        self.numbers[self.shape.arrived_place()]
+    }
+
+    /// What the out-link can take.
+    #[inline]
+    fn can_take(&self) -> u64
+        requires { 0 < self.now.inputs.now.shape.outs }
+        ensures { result ≡ supply self.now.inputs.now 0 }
+    {
+        self.numbers[self.shape.supply_place(0)]
+    }
+
+    /// The weight of the out-link.
+    #[inline]
+    fn weight(&self) -> u64
+        requires { 0 < self.now.inputs.now.shape.outs }
+        ensures { result ≡ weight self.now.inputs.now 0 0 }
+    {
+        self.numbers[self.shape.weights_place(0)]
+    }
+
+    /// Whether the node is the destination.
+    #[inline]
+    fn is_own(&self) -> bool
+        ensures { result ≡ is_own self.now.inputs.now.shape 0 }
+    {
+        self.shape.is_own(0)
+    }
+
+    /// Whether all that the arms send goes to the out-link where their shares are 1; else nothing does.
+    #[inline]
+    fn all_leaves(&self) -> bool
+        requires elsewhere { is_own self.now.inputs.now.shape 0 ≡ false }
+        ensures out { IsTrue result → self.now.inputs.now.shape.outs ≡ 1 }
+        ensures all { IsTrue result → (arm : ℕ) → leaves self.now.inputs.now arm ≡ sending self.now.inputs.now arm 0 }
+        ensures nothing { IsFalse result → (arm : ℕ) → leaves self.now.inputs.now arm ≡ 0 }
+    {
+        if self.shape.outs == 0 {
+            return false;
+        }
+        self.weight() > 0
+    }
+
+    /// Writes what has left each arm where nothing leaves it.
+    fn keep_left(&self, counts: &mut [u64])
+        requires nothing { (arm : ℕ) → leaves self.now.inputs.now arm ≡ 0 }
+        requires width { length counts.old ≡ counts_width self.now.inputs.now.shape }
+        ensures after { HaveLeft self.now.inputs.now self.now.inputs.now.shape.arms (laid self.now.inputs.now.shape counts.new) }
+    {
+        for arm in 0..self.shape.arms {
+            let count = self.left(arm);
+            counts[self.shape.left_after_place(arm, 0)] = count;
+        }
+    }
+
+    /// Writes what has left each arm where all that it sends leaves it, and gives what leaves them all, for as long as that
+    /// is within a bound. That it may end early also keeps so short a loop from being widened.
+    #[inline]
+    fn write_left(&self, counts: &mut [u64], most: u64) -> u64
+        requires all { (arm : ℕ) → leaves self.now.inputs.now arm ≡ sending self.now.inputs.now arm 0 }
+        requires width { length counts.old ≡ counts_width self.now.inputs.now.shape }
+        ensures small { result ≤ 320000 }
+        ensures width { length counts.new ≡ counts_width self.now.inputs.now.shape }
+        ensures after { result ≤ most
+            → HaveLeft self.now.inputs.now self.now.inputs.now.shape.arms (laid self.now.inputs.now.shape counts.new) }
+        ensures total { result ≤ most
+            → result ≡ sum_below self.now.inputs.now.shape.arms (leaves self.now.inputs.now) }
+    {
+        let mut total = 0u64;
+        for arm in 0..self.shape.arms {
+            let amount = self.sending(arm);
+            let count = self.left(arm) + amount;
+            counts[self.shape.left_after_place(arm, 0)] = count;
+            total += amount;
+            if total > most {
+                return total;
+            }
+        }
+        total
+    }
+
+    /// Writes what has entered the out-link and what has arrived.
+    #[inline]
+    fn write_rest(&self, counts: &mut [u64], entering: u64, arriving: u64)
+        requires before { HaveLeft self.now.inputs.now self.now.inputs.now.shape.arms (laid self.now.inputs.now.shape counts.old) }
+        requires entering { entering ≤ 320000 }
+        requires arriving { arriving ≤ 320000 }
+        ensures after { HaveMoved self.now.inputs.now entering arriving (laid self.now.inputs.now.shape counts.new) }
+    {
+        let arrived = self.arrived() + arriving;
+        if self.shape.outs > 0 {
+            let count = self.entered() + entering;
+            counts[self.shape.entered_after_place(0, 0)] = count;
+        }
+        counts[self.shape.arrived_after_place()] = arrived;
+    }
+
+    /// Writes the counts where there are one arm and one out-link, and this amount moves.
+    #[inline]
+    fn shift(&self, counts: &mut [u64], amount: u64)
+        requires arm { self.now.inputs.now.shape.arms ≡ 1 }
+        requires out { self.now.inputs.now.shape.outs ≡ 1 }
+        requires amount { amount ≤ 32000 }
+        requires width { length counts.old ≡ counts_width self.now.inputs.now.shape }
+        ensures after { HaveShifted self.now.inputs.now amount (laid self.now.inputs.now.shape counts.new) }
+    {
+        let left = self.left(0) + amount;
+        let entered = self.entered() + amount;
+        let arrived = self.arrived();
+        counts[self.shape.left_after_place(0, 0)] = left;
+        counts[self.shape.entered_after_place(0, 0)] = entered;
+        counts[self.shape.arrived_after_place()] = arrived;
+    }
+
+    /// Writes the counts where nothing moves. Kept out of line.
+    #[inline(never)]
+    fn stay(&self, counts: &mut [u64])
+        requires elsewhere { is_own self.now.inputs.now.shape 0 ≡ false }
+        requires nothing { (arm : ℕ) → leaves self.now.inputs.now arm ≡ 0 }
+        requires width { length counts.old ≡ counts_width self.now.inputs.now.shape }
+        ensures { IsNodeStep self.now.inputs.now (laid self.now.inputs.now.shape counts.new) }
+    {
+        self.keep_left(counts);
+        self.write_rest(counts, 0, 0);
+    }
+
+    /// Writes the counts of the node that is the destination. Kept out of line.
+    #[inline(never)]
+    fn sink(&self, counts: &mut [u64])
+        requires own { is_own self.now.inputs.now.shape 0 ≡ true }
+        requires width { length counts.old ≡ counts_width self.now.inputs.now.shape }
+        ensures { IsNodeStep self.now.inputs.now (laid self.now.inputs.now.shape counts.new) }
+    {
+        let total = self.write_left(counts, MOST);
+        self.write_rest(counts, 0, total);
+    }
+
+    /// Writes the counts where one arm alone sends: it moves what the out-link can take.
+    #[inline]
+    fn send_alone(&self, counts: &mut [u64])
+        requires elsewhere { is_own self.now.inputs.now.shape 0 ≡ false }
+        requires arm { self.now.inputs.now.shape.arms ≡ 1 }
+        requires out { self.now.inputs.now.shape.outs ≡ 1 }
+        requires all { (arm : ℕ) → leaves self.now.inputs.now arm ≡ sending self.now.inputs.now arm 0 }
+        requires width { length counts.old ≡ counts_width self.now.inputs.now.shape }
+        ensures { IsNodeStep self.now.inputs.now (laid self.now.inputs.now.shape counts.new) }
+    {
+        let amount = self.sending(0);
+        let most = self.can_take();
+        self.shift(counts, amount.min(most));
+    }
+
+    /// Writes what has left each of two arms where these amounts leave them.
+    #[inline]
+    fn write_two(&self, counts: &mut [u64], first: u64, second: u64)
+        requires arms { self.now.inputs.now.shape.arms ≡ 2 }
+        requires first { first ≡ leaves self.now.inputs.now 0 }
+        requires second { second ≡ leaves self.now.inputs.now 1 }
+        requires width { length counts.old ≡ counts_width self.now.inputs.now.shape }
+        ensures { HaveLeft self.now.inputs.now self.now.inputs.now.shape.arms (laid self.now.inputs.now.shape counts.new) }
+    {
+        let one = self.left(0) + first;
+        let other = self.left(1) + second;
+        counts[self.shape.left_after_place(0, 0)] = one;
+        counts[self.shape.left_after_place(1, 0)] = other;
+    }
+
+    /// Writes the counts where two arms send, as an in-link and the origin, if the out-link can take what they do; whether it
+    /// did. It has no loop, since most nodes of a corridor are such.
+    #[inline]
+    fn send_two(&self, counts: &mut [u64]) -> bool
+        requires elsewhere { is_own self.now.inputs.now.shape 0 ≡ false }
+        requires arms { self.now.inputs.now.shape.arms ≡ 2 }
+        requires out { self.now.inputs.now.shape.outs ≡ 1 }
+        requires all { (arm : ℕ) → leaves self.now.inputs.now arm ≡ sending self.now.inputs.now arm 0 }
+        requires width { length counts.old ≡ counts_width self.now.inputs.now.shape }
+        ensures { IsTrue result → IsNodeStep self.now.inputs.now (laid self.now.inputs.now.shape counts.new) }
+    {
+        let first = self.sending(0);
+        let second = self.sending(1);
+        let most = self.can_take();
+        let total = first + second;
+        if total > most {
+            return false;
+        }
+        self.write_two(counts, first, second);
+        self.write_rest(counts, total, 0);
+        true
+    }
+
+    /// Writes the counts where several arms send, if the out-link can take what they do; whether it did. Kept out of line.
+    #[inline(never)]
+    fn send_many(&self, counts: &mut [u64]) -> bool
+        requires elsewhere { is_own self.now.inputs.now.shape 0 ≡ false }
+        requires out { self.now.inputs.now.shape.outs ≡ 1 }
+        requires all { (arm : ℕ) → leaves self.now.inputs.now arm ≡ sending self.now.inputs.now arm 0 }
+        requires width { length counts.old ≡ counts_width self.now.inputs.now.shape }
+        ensures { IsTrue result → IsNodeStep self.now.inputs.now (laid self.now.inputs.now.shape counts.new) }
+    {
+        let most = self.can_take();
+        let total = self.write_left(counts, most);
+        if total > most {
+            return false;
+        }
+        self.write_rest(counts, total, 0);
+        true
+    }
+
+    /// Writes the counts where all that the arms send goes to the out-link, if it can take that or there is one arm alone;
+    /// whether it did.
+    #[inline]
+    fn send(&self, counts: &mut [u64]) -> bool
+        requires elsewhere { is_own self.now.inputs.now.shape 0 ≡ false }
+        requires out { self.now.inputs.now.shape.outs ≡ 1 }
+        requires all { (arm : ℕ) → leaves self.now.inputs.now arm ≡ sending self.now.inputs.now arm 0 }
+        requires width { length counts.old ≡ counts_width self.now.inputs.now.shape }
+        ensures { IsTrue result → IsNodeStep self.now.inputs.now (laid self.now.inputs.now.shape counts.new) }
+    {
+        if self.shape.arms == 2 {
+            return self.send_two(counts);
+        }
+        if self.shape.arms == 1 {
+            self.send_alone(counts);
+            return true;
+        }
+        self.send_many(counts)
+    }
+
+    /// Writes the counts at the end of the slot, where the out-link can take all that is sent to it or is sent to by one arm
+    /// alone; whether it did.
+    #[inline]
+    pub fn write(&self, counts: &mut [u64]) -> bool
+        requires { length counts.old ≡ counts_width self.now.inputs.now.shape }
+        ensures { IsTrue result → IsNodeStep self.now.inputs.now (laid self.now.inputs.now.shape counts.new) }
+    {
+        if self.is_own() {
+            self.sink(counts);
+            return true;
+        }
+        if !self.all_leaves() {
+            self.stay(counts);
+            return true;
+        }
+        self.send(counts)
+    }
+}
 
 /// Writes the counts at the end of the slot where the node is narrow, and its out-link can take all that is sent to it or
 /// is sent to by one arm alone; whether it did.
@@ -21,149 +318,15 @@ pub fn step_narrow(inputs: &NodeInputs, outputs: &mut NodeOutputs) -> bool
     ensures step { IsTrue result → IsNodeStep inputs.now outputs.new }
     ensures room { outputs.new.room ≡ outputs.old.room }
 {
-    inputs.outs() <= 1 && inputs.destinations() == 1 && write_narrow(inputs, outputs)
-}
-
-/// The same for a node that is narrow.
-fn write_narrow(inputs: &NodeInputs, outputs: &mut NodeOutputs) -> bool
-    requires solvable { IsSolvable inputs.now }
-    requires narrow { IsNarrow inputs.now.shape }
-    requires room { counts_width inputs.now.shape ≤ outputs.old.room }
-    ensures step { IsTrue result → IsNodeStep inputs.now outputs.new }
-    ensures room { outputs.new.room ≡ outputs.old.room }
-{
-    outputs.reshape(inputs.shape());
-    let total = write_left(inputs, outputs);
-    if inputs.is_own(0) {
-        write_rest(inputs, outputs, 0, total);
-        return true;
-    }
-    if total > can_take(inputs) {
-        return write_short(inputs, outputs, total);
-    }
-    write_rest(inputs, outputs, total, 0);
-    true
-}
-
-/// Writes the counts where the out-link is sent more than it can take, if there is one arm alone: it moves what the
-/// out-link can take. Whether it did.
-fn write_short(inputs: &NodeInputs, outputs: &mut NodeOutputs, total: u64) -> bool
-    requires solvable { IsSolvable inputs.now }
-    requires narrow { IsNarrow inputs.now.shape }
-    requires out { inputs.now.shape.outs ≡ 1 }
-    requires elsewhere { is_own inputs.now.shape 0 ≡ false }
-    requires total { total ≡ sum_below inputs.now.shape.arms (leaves inputs.now) }
-    requires short { supply inputs.now 0 < total }
-    requires before { HaveLeft inputs.now inputs.now.shape.arms outputs.old }
-    ensures step { IsTrue result → IsNodeStep inputs.now outputs.new }
-    ensures room { outputs.new.room ≡ outputs.old.room }
-{
-    if inputs.arms() != 1 {
+    let shape = inputs.shape();
+    if shape.outs > 1 || shape.destinations != 1 {
         return false;
     }
-    shift(inputs, outputs, inputs.supply(0));
-    true
-}
-
-/// Writes the counts where there are one arm and one out-link, and this amount moves.
-#[tactic(auto, using(crate::proofs::NarrowSteps::narrow_width))]
-fn shift(inputs: &NodeInputs, outputs: &mut NodeOutputs, amount: u64)
-    requires solvable { IsSolvable inputs.now }
-    requires narrow { IsNarrow inputs.now.shape }
-    requires arm { inputs.now.shape.arms ≡ 1 }
-    requires out { inputs.now.shape.outs ≡ 1 }
-    requires amount { amount ≤ 32000 }
-    requires before { HaveLeft inputs.now 1 outputs.old }
-    ensures after { HaveShifted inputs.now amount outputs.new }
-    ensures room { outputs.new.room ≡ outputs.old.room }
-{
-    let shape = inputs.shape();
-    outputs.put(shape.left_after_place(0, 0), inputs.left(0, 0) + amount);
-    outputs.put(
-        shape.entered_after_place(0, 0),
-        inputs.entered(0, 0) + amount,
-    );
-    outputs.put(shape.arrived_after_place(), inputs.arrived());
-}
-
-/// What the out-link can take, if there is one.
-#[inline]
-fn can_take(inputs: &NodeInputs) -> u64
-    requires narrow { IsNarrow inputs.now.shape }
-    ensures { (out : ℕ) → out < inputs.now.shape.outs → result ≡ supply inputs.now out }
-{
-    if inputs.outs() == 0 {
-        0
-    } else {
-        inputs.supply(0)
-    }
-}
-
-/// Writes what has left each arm, and gives what leaves them all.
-#[tactic(auto, using(crate::proofs::NarrowSteps::narrow_width))]
-fn write_left(inputs: &NodeInputs, outputs: &mut NodeOutputs) -> u64
-    requires solvable { IsSolvable inputs.now }
-    requires narrow { IsNarrow inputs.now.shape }
-    requires before { HaveLeft inputs.now 0 outputs.old }
-    ensures after { HaveLeft inputs.now inputs.now.shape.arms outputs.new }
-    ensures total { result ≡ sum_below inputs.now.shape.arms (leaves inputs.now) }
-    ensures room { outputs.new.room ≡ outputs.old.room }
-{
-    let shape = inputs.shape();
-    let all = all_leaves(inputs);
-    let mut total = 0u64;
-    for arm in 0..inputs.arms() {
-        let amount = leaving(inputs, arm, all);
-        outputs.put(shape.left_after_place(arm, 0), inputs.left(arm, 0) + amount);
-        total += amount;
-    }
-    total
-}
-
-/// Whether all that the arms send leaves them where their shares are 1; else nothing does.
-fn all_leaves(inputs: &NodeInputs) -> bool
-    requires narrow { IsNarrow inputs.now.shape }
-    ensures all { IsTrue result → (arm : ℕ) → leaves inputs.now arm ≡ sending inputs.now arm 0 }
-    ensures nothing { IsFalse result → (arm : ℕ) → leaves inputs.now arm ≡ 0 }
-{
-    if inputs.is_own(0) {
-        return true;
-    }
-    if inputs.outs() == 0 {
-        return false;
-    }
-    inputs.weight(0, 0) > 0
-}
-
-/// What leaves an arm.
-#[inline]
-fn leaving(inputs: &NodeInputs, arm: u32, all: bool) -> u64
-    requires narrow { IsNarrow inputs.now.shape }
-    requires arm { arm < inputs.now.shape.arms }
-    requires all { IsTrue all → (i : ℕ) → leaves inputs.now i ≡ sending inputs.now i 0 }
-    requires nothing { IsFalse all → (i : ℕ) → leaves inputs.now i ≡ 0 }
-    ensures { result ≡ leaves inputs.now arm }
-{
-    if all { inputs.sending(arm, 0) } else { 0 }
-}
-
-/// Writes what has entered the out-link and what has arrived.
-#[tactic(auto, using(crate::proofs::NarrowSteps::narrow_width))]
-fn write_rest(inputs: &NodeInputs, outputs: &mut NodeOutputs, entering: u64, arriving: u64)
-    requires solvable { IsSolvable inputs.now }
-    requires narrow { IsNarrow inputs.now.shape }
-    requires before { HaveLeft inputs.now inputs.now.shape.arms outputs.old }
-    requires entering { entering ≤ 320000 }
-    requires arriving { arriving ≤ 320000 }
-    ensures after { HaveMoved inputs.now entering arriving outputs.new }
-    ensures room { outputs.new.room ≡ outputs.old.room }
-{
-    let shape = inputs.shape();
-    if shape.outs > 0 {
-        outputs.put(
-            shape.entered_after_place(0, 0),
-            inputs.entered(0, 0) + entering,
-        );
-    }
-    outputs.put(shape.arrived_after_place(), inputs.arrived() + arriving);
+    let numbers = inputs.row();
+    let narrow = Narrow {
+        inputs,
+        shape,
+        numbers,
+    };
+    outputs.write_narrow(&narrow)
 }

@@ -1,5 +1,5 @@
 //! The counts that a node step gives.
-ghost use Rattle.std.specs.Prelude.{◌≡◌, ℕ, ◌<◌, ◌≤◌, ◌*◌, ◌+◌, ◌^◌, max, take, drop, length, IfOk, slice_index, slice_set};
+ghost use Rattle.std.specs.Prelude.{◌≡◌, ℕ, ◌<◌, ◌≤◌, ◌*◌, ◌+◌, ◌^◌, max, take, drop, length, IfOk, IsTrue, slice_index};
 ghost use Rattle.ltm_shares.specs.Sent.{sent_at};
 ghost use Rattle.ltm_node.specs.Shape.{counts_width, no_shape};
 ghost use Rattle.ltm_node.specs.Outputs.{
@@ -12,11 +12,14 @@ ghost use Rattle.ltm_node.specs.Outputs.{
   arrived_after,
 };
 ghost use Rattle.ltm_node.specs.Solvable.{IsSolvable};
+ghost use Rattle.ltm_node.specs.Step.{IsNodeStep};
+ghost use Rattle.ltm_node.specs.Narrow.{laid};
 ghost use Rattle.ltm_node.specs.Portion.{AreFractions};
 ghost use Rattle.ltm_node.specs.Moving.{HaveMovedTo, HaveMovedAll};
 
 use crate::inputs::NodeInputs;
 use crate::moves::Mover;
+use crate::narrow::Narrow;
 use crate::portion::Portion;
 use crate::shape::NodeShape;
 use ltm_shares::Sent;
@@ -67,26 +70,6 @@ impl NodeOutputs {
         ensures width { length self.now.row ≡ counts_width self.now.shape }
     {
         self.shape
-    }
-
-    /// Takes a shape, for a caller that then writes every count: what counts the row holds is not told.
-    #[inline]
-    pub(crate) fn reshape(&mut self, shape: NodeShape)
-        requires { counts_width shape ≤ self.old.room }
-        ensures shape { self.new.shape ≡ shape }
-        ensures room { self.new.room ≡ self.old.room }
-        ensures width { length self.new.row ≡ counts_width shape }
-    {
-        self.shape = shape;
-    }
-
-    /// Sets the count at a place of the row.
-    #[inline]
-    pub(crate) fn put(&mut self, place: usize, value: u64)
-        requires { place < counts_width self.old.shape }
-        ensures { self.new ≡ record self.old { row = slice_set self.old.row place value } }
-    {
-        self.counts[place] = value;
     }
 
     /// What has left an arm for a destination by the end of the slot.
@@ -188,12 +171,39 @@ impl NodeOutputs {
         self.add_moves(&Mover::of(inputs, portion), sent);
     }
 
-    /// The row of all counts.
-    #[cfg(test)]
-    pub(crate) fn row(&self) -> &[u64]
-        ensures { result.now ≡ self.now.row }
+    /// Takes a shape, for a caller that then writes every count: what counts the row holds is not told.
+    #[inline]
+    fn reshape(&mut self, shape: NodeShape)
+        requires { counts_width shape ≤ self.old.room }
+        ensures shape { self.new.shape ≡ shape }
+        ensures room { self.new.room ≡ self.old.room }
+        ensures width { length self.new.row ≡ counts_width shape }
+    {
+        self.shape = shape;
+    }
+
+    /// Writes the counts of a narrow node in place of those that they are; whether it did.
+    #[inline]
+    fn write_over(&mut self, narrow: &Narrow<'_>) -> bool
+        requires shape { self.old.shape ≡ narrow.now.inputs.now.shape }
+        requires width { length self.old.row ≡ counts_width narrow.now.inputs.now.shape }
+        ensures shape { self.new.shape ≡ narrow.now.inputs.now.shape }
+        ensures room { self.new.room ≡ self.old.room }
+        ensures step { IsTrue result
+            → IsNodeStep narrow.now.inputs.now (laid narrow.now.inputs.now.shape self.new.row) }
     {
         let width = self.shape.counts_width();
-        &self.counts[..width]
+        narrow.write(&mut self.counts[0..width])
+    }
+
+    /// Takes the counts at the end of the slot of a narrow node; whether it did.
+    #[inline]
+    pub(crate) fn write_narrow(&mut self, narrow: &Narrow<'_>) -> bool
+        requires { counts_width narrow.now.inputs.now.shape ≤ self.old.room }
+        ensures step { IsTrue result → IsNodeStep narrow.now.inputs.now self.new }
+        ensures room { self.new.room ≡ self.old.room }
+    {
+        self.reshape(narrow.inputs.shape());
+        self.write_over(narrow)
     }
 }

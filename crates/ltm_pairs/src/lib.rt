@@ -22,6 +22,3 @@ pub use laws::{
 pub use ltm_index::{ReadIndex, slots_stand_by_entry};
 pub use spread::Spread;
 pub use windows::readers_ago;
-
-#[cfg(test)]
-mod tests;

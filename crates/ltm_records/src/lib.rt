@@ -13,6 +13,3 @@ mod weights;
 pub use fields::{has, name_at, text_at, vehicles_at, whole_at, width};
 pub use records::Records;
 pub use weights::{Entries, read_weights};
-
-#[cfg(test)]
-mod tests;

@@ -14,10 +14,19 @@ use std::alloc::Global;
 use std::marker::Model;
 
 /// The records that are left of a text, the header among them.
-#[derive(Drop)]
 pub struct Records<'a> {
     reader: Reader<&'a [u8]>,
     ended: bool,
+}
+
+// By hand, so that letting go of records is one call, and not their parts one by one wherever that may happen.
+impl Drop for Records<'_> {
+    fn drop(self) {
+        let Records {
+            reader: _reader,
+            ended: _ended,
+        } = self;
+    }
 }
 
 impl<'a> Model for Records<'a> {

@@ -36,6 +36,3 @@ pub use refusals::{
 pub use routes::{route_row_text, route_time_text, splits_header_text};
 pub use times::time_text;
 pub use totals::{totals_line_text, totals_text};
-
-#[cfg(test)]
-mod tests;

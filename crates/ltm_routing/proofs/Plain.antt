@@ -1,22 +1,29 @@
 -- A name has no byte that means something in a file of records or in a field of weights.
-use Rattle.std.proofs.Common.{ℕ, ◌≡◌, ◌&&◌, Bool, true, false, List, [], ◌∷◌, ◌++◌, length, refl, arith, ◌∙◌, nat_le}
+use Rattle.std.proofs.Common.{ℕ, ◌≡◌, ◌==◌, ◌&&◌, Bool, true, false, List, [], ◌∷◌, ◌++◌, length, refl, ap, sym, ◌∙◌, nat_le, inl, inr}
 use Rattle.std.specs.Prelude.{All, ◌||◌}
 use Rattle.std.specs.List.{list_any, list_all}
-use Rattle.std.proofs.lemmas.Bool.Decides.{nat_tests}
+use Rattle.std.proofs.lemmas.Bool.{cases_Bool, eqb-true}
 use Rattle.std.proofs.lemmas.List.Elements.{All-cons, All-nil}
 use Rattle.std.proofs.lemmas.List.Folds.{list_any-append}
 use Rattle.csv.specs.Writing.{default_writer, needs_byte}
 use Rattle.ltm_units.specs.Words.{is_name, is_name_byte}
 use Rattle.ltm_records.specs.Weights.{is_space, is_equals}
 
+-- a byte of which the test fails is not one of which it holds
+another_byte : (b n : ℕ) → is_name_byte n ≡ false → is_name_byte b ≡ true → (b == n) ≡ false
+another_byte b n fails is = elim (cases_Bool (b == n)) [
+  | inl same ↦ let wrong : true ≡ false = sym is ∙ ap is_name_byte (eqb-true b n same) ∙ fails in cc
+  | inr other ↦ other
+]
+
 byte_plain : (b : ℕ) → is_name_byte b ≡ true → needs_byte default_writer b ≡ false
-byte_plain b is = grind (arith, nat_tests)
+byte_plain b is = rw (another_byte b 44 refl is, another_byte b 34 refl is, another_byte b 13 refl is, another_byte b 10 refl is) refl
 
 byte_no_space : (b : ℕ) → is_name_byte b ≡ true → is_space b ≡ false
-byte_no_space b is = grind (arith, nat_tests)
+byte_no_space b is = another_byte b 32 refl is
 
 byte_no_equals : (b : ℕ) → is_name_byte b ≡ true → is_equals b ≡ false
-byte_no_equals b is = grind (arith, nat_tests)
+byte_no_equals b is = another_byte b 61 refl is
 
 both : (a b : Bool) → (a && b) ≡ true → (a ≡ true) × (b ≡ true)
 both true b is = (refl, is)

@@ -12,10 +12,19 @@ use std::marker::Model;
 const MOST_DESTINATIONS: usize = 64;
 
 /// The list of destinations, and by node number the place of the node in it, as far as the last node that is one.
-#[derive(Drop)]
 pub struct Destinations {
     list: Vec<NodeId>,
     places: Vec<Option<u32>>,
+}
+
+// By hand, so that letting go of destinations is one call, and not their parts one by one wherever that may happen.
+impl Drop for Destinations {
+    fn drop(self) {
+        let Destinations {
+            list: _list,
+            places: _places,
+        } = self;
+    }
 }
 
 impl Model for Destinations {

@@ -16,11 +16,21 @@ pub struct Timed {
 }
 
 /// The diagrams by link number, and beside them the limits that they set at the step.
-#[derive(Drop)]
 pub struct Diagrams {
     step: Millis,
     diagrams: Vec<Diagram>,
     timed: Vec<Timed>,
+}
+
+// By hand, so that letting go of diagrams is one call, and not their parts one by one wherever that may happen.
+impl Drop for Diagrams {
+    fn drop(self) {
+        let Diagrams {
+            step: _step,
+            diagrams: _diagrams,
+            timed: _timed,
+        } = self;
+    }
 }
 
 impl Model for Diagrams {

@@ -1,4 +1,4 @@
-//! Small cases. What a call asks of a scenario is tested as the case is made, and a test that makes none ends there.
+//! Small cases. What a call asks of a scenario is looked at as the case is made, and none is made where that is not so.
 ghost use Rattle.std.specs.Prelude.{◌≡◌, ◌<◌, IsTrue, length};
 ghost use Rattle.ltm_network.specs.Network.{out_links};
 ghost use Rattle.ltm_network.specs.Names.{number_of};
@@ -9,16 +9,39 @@ ghost use Rattle.ltm_scenario.specs.IsScenario.{IsDemandOf, IsSplitOf};
 use ltm_demand::DemandRow;
 use ltm_diagram::Diagram;
 use ltm_scenario::{Scenario, Setup};
-use ltm_units::{Millis, Name, NodeId, Units};
-use std::alloc::Global;
-use std::process::Abort;
+use ltm_units::{LinkId, Millis, Name, NodeId, Units};
 
-pub fn name(rt: &impl Abort, text: &str) -> Name {
-    Name::read(text.as_bytes()).expect(rt, "a name")
+/// A case. Its slots are of a second, and its origins let out a vehicle in each; the links are those of `diagram`.
+#[derive(Clone, Copy)]
+pub enum Case {
+    /// Link `a` from `n1` to `n2`, the one destination, over so many slots; a vehicle sets out in the first two.
+    Road(u32),
+    /// The road over four slots, without its split row.
+    UnsplitRoad,
+    /// The road over ten thousand slots, with a demand row for each in place of that of the vehicle.
+    FullRoad,
+    /// A copy of the road over four slots, made once its exit is closed in slots 1 and 2.
+    ClosedCopy,
+    /// Four slots, three links, and the destinations `n3` and `n2`.
+    ///
+    /// ```text
+    ///              n2
+    ///         a  ↗    ↘  b          demand from n1 to n3, split rows for n3: all over a at n1, over b at n2
+    ///          n1  →  n3
+    ///              c
+    /// ```
+    ThreeLinks,
+    /// A thousand links in a row over so many slots, `l0000` from `n0000` to `n0001` and so on, that end at the one destination
+    /// `n1000`; without rows.
+    Corridor(u32),
+}
+
+pub fn name(text: &str) -> Option<Name> {
+    Name::read(text.as_bytes())
 }
 
 /// A letter and four digits.
-pub fn numbered(rt: &impl Abort, letter: u8, number: u32) -> Name {
+fn numbered(letter: u8, number: u32) -> Option<Name> {
     let text = [
         letter,
         b'0' + (number / 1000 % 10) as u8,
@@ -26,7 +49,7 @@ pub fn numbered(rt: &impl Abort, letter: u8, number: u32) -> Name {
         b'0' + (number / 10 % 10) as u8,
         b'0' + (number % 10) as u8,
     ];
-    Name::read(&text).expect(rt, "a name")
+    Name::read(&text)
 }
 
 /// 20 m, 36 and 18 km/h, 150 vehicles per km.
@@ -39,14 +62,19 @@ pub fn diagram() -> Diagram {
     }
 }
 
-/// Slots of a second each, and origins that let out a vehicle in each.
-fn empty(rt: &impl Abort, alloc: Global, slots: u32) -> Scenario {
-    let setup = Setup {
+/// The setup of a case.
+pub fn setup_of(case: Case) -> Setup {
+    let slots = match case {
+        Case::Road(slots) => slots,
+        Case::FullRoad => 10_000,
+        Case::Corridor(slots) => slots,
+        Case::UnsplitRoad | Case::ClosedCopy | Case::ThreeLinks => 4,
+    };
+    Setup {
         step: Millis(1000),
         slots,
         origin_capacity: Units(1000),
-    };
-    Scenario::create(alloc, setup).expect(rt, "a setup")
+    }
 }
 
 /// Whether a link may start at the node of that name.
@@ -57,19 +85,29 @@ fn is_free(scenario: &Scenario, tail: &Name) -> bool
     scenario.splits().row_count() == 0
 }
 
-pub fn add_link(rt: &impl Abort, scenario: &mut Scenario, link: Name, tail: Name, head: Name) {
-    assert!(rt; is_free(scenario, &tail));
-    scenario
-        .add_link(link, tail, head, diagram())
-        .expect(rt, "a link");
+fn add_link(scenario: &mut Scenario, link: Name, tail: Name, head: Name) -> Option<()> {
+    if !is_free(scenario, &tail) {
+        return None;
+    }
+    match scenario.add_link(link, tail, head, diagram()) {
+        Ok(_) => Some(()),
+        Err(_) => None,
+    }
+}
+
+fn link(scenario: &mut Scenario, link: &str, tail: &str, head: &str) -> Option<()> {
+    add_link(scenario, name(link)?, name(tail)?, name(head)?)
 }
 
 /// Makes the node of that number a destination.
-pub fn end_at(rt: &impl Abort, scenario: &mut Scenario, node: u32) {
-    assert!(rt; node < scenario.network().nodes());
-    scenario
-        .add_destination(NodeId(node))
-        .expect(rt, "a destination");
+fn end_at(scenario: &mut Scenario, node: u32) -> Option<()> {
+    if node >= scenario.network().nodes() {
+        return None;
+    }
+    match scenario.add_destination(NodeId(node)) {
+        Ok(_) => Some(()),
+        Err(_) => None,
+    }
 }
 
 fn out_count(scenario: &Scenario, node: NodeId) -> usize
@@ -112,7 +150,7 @@ fn is_split(scenario: &Scenario, node: NodeId, destination: u32, from: u32, weig
 }
 
 /// One vehicle over the first two slots, from the node of that number.
-pub fn demand(rt: &impl Abort, scenario: &mut Scenario, origin: u32, destination: u32) {
+pub fn demand(scenario: &mut Scenario, origin: u32, destination: u32) -> Option<()> {
     let row = DemandRow {
         origin: NodeId(origin),
         destination,
@@ -120,55 +158,63 @@ pub fn demand(rt: &impl Abort, scenario: &mut Scenario, origin: u32, destination
         to: 2,
         amount: Units(1000),
     };
-    set_demand(rt, scenario, row);
+    set_demand(scenario, row)
 }
 
-pub fn set_demand(rt: &impl Abort, scenario: &mut Scenario, row: DemandRow) {
-    assert!(rt; row.amount.0 <= 1_000_000_000);
-    assert!(rt; is_demand(scenario, &row));
-    scenario.set_demand(row).expect(rt, "a demand row");
+fn set_demand(scenario: &mut Scenario, row: DemandRow) -> Option<()> {
+    if row.amount.0 > 1_000_000_000 || !is_demand(scenario, &row) {
+        return None;
+    }
+    scenario.set_demand(row).ok()
 }
 
 /// A split row at the node of that number.
 pub fn split(
-    rt: &impl Abort,
     scenario: &mut Scenario,
     node: u32,
     destination: u32,
     from: u32,
     weights: &[u32],
-) {
-    assert!(rt; is_split(scenario, NodeId(node), destination, from, weights));
+) -> Option<()> {
+    if !is_split(scenario, NodeId(node), destination, from, weights) {
+        return None;
+    }
     scenario
         .set_split(NodeId(node), destination, from, weights)
-        .expect(rt, "a split row");
+        .ok()
 }
 
-/// Link `a` from `n1` to `n2`, the one destination, without rows.
-fn bare_road(rt: &impl Abort, alloc: Global, slots: u32) -> Scenario {
-    let mut scenario = empty(rt, alloc, slots);
-    add_link(
-        rt,
-        &mut scenario,
-        name(rt, "a"),
-        name(rt, "n1"),
-        name(rt, "n2"),
-    );
-    end_at(rt, &mut scenario, 1);
-    scenario
+/// Sets the exit limit of the only link in slots 1 and 2.
+fn close_exit(scenario: &mut Scenario) -> Option<()> {
+    if scenario.network().links() != 1 {
+        return None;
+    }
+    scenario.set_exit(LinkId(0), 1, 3, Units(0)).ok()
 }
 
-/// Four slots and a vehicle from `n1` to `n2`, without a split row.
-pub fn unsplit_road(rt: &impl Abort, alloc: Global) -> Scenario {
-    let mut scenario = bare_road(rt, alloc, 4);
-    demand(rt, &mut scenario, 0, 0);
-    scenario
+fn bare_road(scenario: &mut Scenario) -> Option<()> {
+    link(scenario, "a", "n1", "n2")?;
+    end_at(scenario, 1)
 }
 
-/// Ten thousand slots with a demand row for each.
-pub fn full_road(rt: &impl Abort, alloc: Global) -> Scenario {
-    let mut scenario = bare_road(rt, alloc, 10_000);
-    split(rt, &mut scenario, 0, 0, 0, &[1]);
+fn unsplit_road(scenario: &mut Scenario) -> Option<()> {
+    bare_road(scenario)?;
+    demand(scenario, 0, 0)
+}
+
+fn road(scenario: &mut Scenario) -> Option<()> {
+    unsplit_road(scenario)?;
+    split(scenario, 0, 0, 0, &[1])
+}
+
+fn closed_road(scenario: &mut Scenario) -> Option<()> {
+    road(scenario)?;
+    close_exit(scenario)
+}
+
+fn full_road(scenario: &mut Scenario) -> Option<()> {
+    bare_road(scenario)?;
+    split(scenario, 0, 0, 0, &[1])?;
     for slot in 0..10_000 {
         let row = DemandRow {
             origin: NodeId(0),
@@ -177,69 +223,47 @@ pub fn full_road(rt: &impl Abort, alloc: Global) -> Scenario {
             to: slot + 1,
             amount: Units(1),
         };
-        set_demand(rt, &mut scenario, row);
+        set_demand(scenario, row)?;
     }
-    scenario
+    Some(())
 }
 
-/// The same as `unsplit_road` with its split row.
-pub fn one_road(rt: &impl Abort, alloc: Global) -> Scenario {
-    road_over(rt, alloc, 4)
+fn three_links(scenario: &mut Scenario) -> Option<()> {
+    link(scenario, "a", "n1", "n2")?;
+    link(scenario, "b", "n2", "n3")?;
+    link(scenario, "c", "n1", "n3")?;
+    end_at(scenario, 2)?;
+    end_at(scenario, 1)?;
+    split(scenario, 0, 0, 0, &[1, 0])?;
+    split(scenario, 1, 0, 0, &[1])?;
+    demand(scenario, 0, 0)
 }
 
-/// The same over that many slots.
-pub fn road_over(rt: &impl Abort, alloc: Global, slots: u32) -> Scenario {
-    let mut scenario = bare_road(rt, alloc, slots);
-    demand(rt, &mut scenario, 0, 0);
-    split(rt, &mut scenario, 0, 0, 0, &[1]);
-    scenario
-}
-
-/// The links of `three_links`, without rows.
-fn bare_links(rt: &impl Abort, alloc: Global) -> Scenario {
-    let n1 = name(rt, "n1");
-    let n2 = name(rt, "n2");
-    let n3 = name(rt, "n3");
-    let mut scenario = empty(rt, alloc, 4);
-    add_link(rt, &mut scenario, name(rt, "a"), n1, n2);
-    add_link(rt, &mut scenario, name(rt, "b"), n2, n3);
-    add_link(rt, &mut scenario, name(rt, "c"), n1, n3);
-    scenario
-}
-
-/// Four slots, three links, and the destinations `n3` and `n2`.
-///
-/// ```text
-///              n2
-///         a  ↗    ↘  b          demand from n1 to n3, split rows for n3: all over a at n1, over b at n2
-///          n1  →  n3
-///              c
-/// ```
-pub fn three_links(rt: &impl Abort, alloc: Global) -> Scenario {
-    let mut scenario = bare_links(rt, alloc);
-    end_at(rt, &mut scenario, 2);
-    end_at(rt, &mut scenario, 1);
-    split(rt, &mut scenario, 0, 0, 0, &[1, 0]);
-    split(rt, &mut scenario, 1, 0, 0, &[1]);
-    demand(rt, &mut scenario, 0, 0);
-    scenario
-}
-
-/// A thousand links in a row, `l0000` from `n0000` to `n0001` and so on, that end at the one destination `n1000`.
-pub fn corridor(rt: &impl Abort, alloc: Global, slots: u32) -> Scenario {
-    let mut scenario = empty(rt, alloc, slots);
+fn corridor(scenario: &mut Scenario) -> Option<()> {
     for k in 0..1000 {
-        let tail = numbered(rt, b'n', k);
-        let head = numbered(rt, b'n', k + 1);
-        add_link(rt, &mut scenario, numbered(rt, b'l', k), tail, head);
+        let tail = numbered(b'n', k)?;
+        let head = numbered(b'n', k + 1)?;
+        add_link(scenario, numbered(b'l', k)?, tail, head)?;
     }
-    end_at(rt, &mut scenario, 1000);
-    scenario
+    end_at(scenario, 1000)
 }
 
 /// A split row at each node of the corridor but the last.
-pub fn split_all(rt: &impl Abort, scenario: &mut Scenario) {
+pub fn split_all(scenario: &mut Scenario) -> Option<()> {
     for node in 0..1000 {
-        split(rt, scenario, node, 0, 0, &[1]);
+        split(scenario, node, 0, 0, &[1])?;
+    }
+    Some(())
+}
+
+/// Puts a case into a scenario of its setup.
+pub fn fill(scenario: &mut Scenario, case: Case) -> Option<()> {
+    match case {
+        Case::Road(_) => road(scenario),
+        Case::UnsplitRoad => unsplit_road(scenario),
+        Case::FullRoad => full_road(scenario),
+        Case::ClosedCopy => closed_road(scenario),
+        Case::ThreeLinks => three_links(scenario),
+        Case::Corridor(_) => corridor(scenario),
     }
 }

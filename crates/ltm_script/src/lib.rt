@@ -13,6 +13,3 @@ mod weights;
 
 pub use command::{Command, CommandFault};
 pub use line::{every_line_is_read, read_command};
-
-#[cfg(test)]
-mod tests;

@@ -1,5 +1,5 @@
 -- Totals some time ago.
-use Rattle.std.proofs.Common.{◌≡◌, ℕ, zero, suc, ◌+◌, ◌-◌, ◌*◌, ◌<◌, ◌≤◌, true, false, cond, nat_lt, sym, ap, ◌∙◌, arith}
+use Rattle.std.proofs.Common.{◌≡◌, ℕ, zero, suc, ◌+◌, ◌-◌, ◌*◌, ◌/◌, ◌<◌, ◌≤◌, true, false, cond, nat_lt, sym, ap, ◌∙◌, arith}
 use Rattle.std.proofs.Math.Nat.{mul-le-mul_right}
 use Rattle.std.proofs.lemmas.Bool.Decides.{nat_tests}
 use Rattle.ltm_curve.specs.Counts.{interpolated, Rises}
@@ -56,3 +56,18 @@ found_past f step slot slots rest time boundary left found whole since is_bounda
 -- with no rest it is reached by the boundary
 pub reached_here : (f : ℕ → ℕ) (step boundary rest found : ℕ) → rest < step → rest ≡ 0 → found ≡ interpolated f step (boundary * step + rest) → found ≤ f boundary
 reached_here f step boundary rest found below none e = omega (arith, e, interpolated_past_none f step boundary rest below none)
+
+-- what the code adds to a boundary's count
+pub part_fits : (units rest step : ℕ) → rest < step → units * rest / step ≤ units
+part_fits units rest step below = part_within units rest step (omega arith)
+
+pub past_here : (f : ℕ → ℕ) (step boundary rest found : ℕ) → rest < step → rest ≡ 0 → found ≡ f boundary → found ≡ interpolated f step (boundary * step + rest)
+past_here f step boundary rest found below none e = e ∙ sym (interpolated_past_none f step boundary rest below none)
+
+pub past_part : (f : ℕ → ℕ) (step boundary rest before after part found : ℕ) → rest < step → before ≡ f boundary → after ≡ f (boundary + 1) → part ≡ (after - before) * rest / step → found ≡ before + part →
+    found ≡ interpolated f step (boundary * step + rest)
+past_part f step boundary rest before after part found below is_before is_after is_part is =
+    is
+    ∙ (ap (λ (z : ℕ). before + z) is_part
+    ∙ (ap (λ (z : ℕ). z + (after - z) * rest / step) is_before
+    ∙ (ap (λ (z : ℕ). f boundary + (z - f boundary) * rest / step) is_after ∙ sym (interpolated_past f step boundary rest below))))

@@ -1,5 +1,5 @@
 -- Units that may leave, of which some have left.
-use Rattle.std.proofs.Common.{◌≡◌, ℕ, zero, suc, ◌+◌, ◌-◌, ◌*◌, ◌/◌, ◌<◌, ◌≤◌, min, arith, inl, inr, ap, sym, ◌∙◌}
+use Rattle.std.proofs.Common.{◌≡◌, ◌==◌, Bool, true, false, ℕ, zero, suc, ◌+◌, ◌-◌, ◌*◌, ◌/◌, ◌<◌, ◌≤◌, min, arith, inl, inr, ap, sym, ◌∙◌}
 use Rattle.std.proofs.Math.Nat.{mul-div_cancel_left}
 use Rattle.std.proofs.lemmas.Bool.{cases_lt}
 use Rattle.std.proofs.lemmas.Bool.Decides.{nat_tests}
@@ -73,3 +73,18 @@ whole_limited limit whole part e pos =
       | inl cut ↦ same ∙ cut_limited limit whole cut
       | inr all ↦ same ∙ all_limited limit whole all
     ]
+
+-- what a test for one destination tells
+pub is_one : (alone : Bool) (m : ℕ) → alone ≡ true → alone ≡ (m == 1) → m ≡ 1
+is_one alone m is told = grind (arith, nat_tests)
+
+is_several : (alone : Bool) (m : ℕ) → alone ≡ false → alone ≡ (m == 1) → 0 < m → 2 ≤ m
+is_several alone m is told some = grind (arith, nat_tests)
+
+some_destination : (m : ℕ) (rows : ℕ → ℕ → ℕ) (n last : ℕ) → n ≤ total m rows last → 0 < n → 0 < m
+some_destination zero rows n last within some = absurd (omega (arith, within, some))
+some_destination (suc m) rows n last within some = omega arith
+
+-- where something may leave there is a destination
+pub some_two : (alone : Bool) (m : ℕ) (rows : ℕ → ℕ → ℕ) (n last : ℕ) → alone ≡ false → alone ≡ (m == 1) → IsPart m rows n last → 0 < n → 2 ≤ m
+some_two alone m rows n last is told part some = is_several alone m is told (some_destination m rows n last part.within some)

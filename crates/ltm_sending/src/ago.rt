@@ -1,11 +1,11 @@
 //! Totals some time ago.
-ghost use Rattle.std.specs.Prelude.{◌≡◌, ℕ, ◌+◌, ◌*◌, ◌<◌, ◌≤◌};
+ghost use Rattle.std.specs.Prelude.{◌≡◌, ℕ, ◌+◌, ◌*◌, ◌/◌, ◌^◌, ◌<◌, ◌≤◌};
 ghost use Rattle.ltm_curve.specs.Counts.{Rises};
-ghost use Rattle.ltm_curve.specs.Table.{groups_of, slots_of, total_of};
+ghost use Rattle.ltm_curve.specs.Table.{groups_of, destinations_of, slots_of, total_of};
 ghost use Rattle.ltm_diagram.specs.Delays.{IsDelay};
 ghost use Rattle.ltm_loading.specs.Flows.{earlier};
 
-use ltm_curve::Curves;
+use ltm_curve::{Curves, Kind};
 use ltm_diagram::Delay;
 use ltm_units::Millis;
 
@@ -20,7 +20,14 @@ pub(crate) struct Ago {
 /// after the slot's start is read.
 #[inline]
 #[tactic(auto, using(crate::proofs::Past::long_enough))]
-pub(crate) fn total_ago(curves: &Curves, group: u32, slot: u32, delay: Delay, step: Millis) -> Ago
+pub(crate) fn total_ago<K: Kind>(
+    curves: &Curves,
+    group: u32,
+    slot: u32,
+    delay: Delay,
+    step: Millis,
+) -> Ago
+    requires kind { K.fits (destinations_of curves.now) }
     requires group { group < groups_of curves.now }
     requires slot { slot ≤ slots_of curves.now }
     requires small_step { step.0 ≤ 60000 }
@@ -37,8 +44,31 @@ pub(crate) fn total_ago(curves: &Curves, group: u32, slot: u32, delay: Delay, st
         return Ago { total: 0, by: 0 };
     }
     let boundary = (end - slots) as u32;
-    let rest = Millis(u64::from(delay.rest));
-    let total = curves.past(group, boundary, rest, step);
-    let by = if rest.0 == 0 { boundary } else { boundary + 1 };
-    Ago { total, by }
+    let before = K::total(curves, group, boundary);
+    if delay.rest == 0 {
+        return Ago {
+            total: before,
+            by: boundary,
+        };
+    }
+    let by = boundary + 1;
+    let after = K::total(curves, group, by);
+    let part = part_of(after - before, delay.rest, step);
+    Ago {
+        total: before + part,
+        by,
+    }
+}
+
+/// What of the units of a slot has come in a part of it, rounded down.
+#[inline]
+#[tactic(auto, using(crate::proofs::Past::part_fits))]
+fn part_of(units: u64, rest: u32, step: Millis) -> u64
+    requires small_step { step.0 ≤ 60000 }
+    requires rest { rest < step.0 }
+    requires small { units ≤ 2 ^ 37 }
+    ensures part { result ≡ units * rest / step.0 }
+    ensures within { result ≤ units }
+{
+    units * u64::from(rest) / step.0
 }

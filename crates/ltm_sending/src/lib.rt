@@ -10,13 +10,11 @@
 #![tactic(auto)]
 
 mod ago;
+mod leaving;
 mod link;
 mod origin;
 mod parts;
 mod produced;
 
-pub use link::{receive, send_link, send_link_at};
-pub use origin::send_origin;
-
-#[cfg(test)]
-mod tests;
+pub use link::{link_sends, link_takes, receive, send_link, send_link_at};
+pub use origin::{origin_sends, send_origin};

@@ -3,16 +3,16 @@ ghost use Rattle.std.specs.Prelude.{◌≡◌, ℕ, ◌+◌, ◌-◌, ◌^◌, �
 ghost use Rattle.ltm_curve.specs.Counts.{total};
 ghost use Rattle.ltm_curve.specs.First.{first_units};
 ghost use Rattle.ltm_curve.specs.FirstLaws.{IsPart};
-ghost use Rattle.ltm_curve.specs.Table.{counts_of};
+ghost use Rattle.ltm_curve.specs.Table.{counts_of, destinations_of};
 ghost use Rattle.ltm_loading.specs.Setting.{IsSetting};
 ghost use Rattle.ltm_loading.specs.Flows.{origin_sending};
 ghost use Rattle.ltm_setting.specs.Setting.{setting_of};
 ghost use Rattle.ltm_sending.specs.Front.{IsAtFront};
 ghost use Rattle.ltm_sending.specs.MayLeave.{WaitAtOrigin};
 
-use crate::parts::send_nothing;
+use crate::parts::send_none;
 use crate::produced::Produced;
-use ltm_curve::{Curves, Rows, first_less_of};
+use ltm_curve::{Any, Curves, Kind, Rows, first_less_of};
 use ltm_loading::origins_are_ready;
 use ltm_scenario::Scenario;
 use ltm_setting::{dep_of, is_setting, origin_capacity};
@@ -29,7 +29,8 @@ struct Queue {
 
 /// The units that may leave an origin by the end of a slot.
 #[inline]
-fn queue_at(scenario: &Scenario, curves: &Curves, node: NodeId, slot: u32) -> Queue
+fn queue_at<K: Kind>(scenario: &Scenario, curves: &Curves, node: NodeId, slot: u32) -> Queue
+    requires kind { K.fits (destinations_of curves.now) }
     requires node { node.0 < (setting_of scenario.now).nodes }
     requires some_out { 0 < (setting_of scenario.now).outs node.0 }
     requires setting { IsSetting (setting_of scenario.now) }
@@ -39,7 +40,7 @@ fn queue_at(scenario: &Scenario, curves: &Curves, node: NodeId, slot: u32) -> Qu
     origins_are_ready();
     let rows = Produced { scenario, node };
     let all = rows.total(slot + 1);
-    let left = curves.total(dep_of(scenario, node), slot);
+    let left = K::total(curves, dep_of(scenario, node), slot);
     let goal = all.min(left + origin_capacity(scenario));
     Queue { all, goal, left }
 }
@@ -75,13 +76,33 @@ pub fn send_origin(scenario: &Scenario, curves: &Curves, node: NodeId, slot: u32
     ensures { (d : ℕ) → d < (setting_of scenario.now).destinations → slice_index into.new d
         ≡ origin_sending (setting_of scenario.now) (counts_of curves.now) node.0 slot d }
 {
+    origin_sends::<Any>(scenario, curves, node, slot, into);
+}
+
+/// The same for curves of a kind.
+#[inline]
+pub fn origin_sends<K: Kind>(
+    scenario: &Scenario,
+    curves: &Curves,
+    node: NodeId,
+    slot: u32,
+    into: &mut [u64],
+)
+    requires kind { K.fits (destinations_of curves.now) }
+    requires node { node.0 < (setting_of scenario.now).nodes }
+    requires some_out { 0 < (setting_of scenario.now).outs node.0 }
+    requires ready { IsAtFront (setting_of scenario.now) curves.now slot }
+    requires room { length into.old ≡ (setting_of scenario.now).destinations }
+    ensures { (d : ℕ) → d < (setting_of scenario.now).destinations → slice_index into.new d
+        ≡ origin_sending (setting_of scenario.now) (counts_of curves.now) node.0 slot d }
+{
     is_setting(scenario);
-    let queue = queue_at(scenario, curves, node, slot);
+    let queue = queue_at::<K>(scenario, curves, node, slot);
     if queue.goal == queue.left {
-        send_nothing(into);
+        send_none::<K>(curves, into);
         return;
     }
-    if into.len() == 1 {
+    if K::is_alone(curves) {
         into[0] = queue.goal - queue.left;
         return;
     }

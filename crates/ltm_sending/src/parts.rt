@@ -1,6 +1,9 @@
 //! How much of the parts of a whole passes a limit.
 ghost use Rattle.std.specs.Prelude.{◌≡◌, ℕ, ◌<◌, ◌≤◌, length, slice_index};
+ghost use Rattle.ltm_curve.specs.Table.{destinations_of};
 ghost use Rattle.ltm_loading.specs.Flows.{limited};
+
+use ltm_curve::{Curves, Kind};
 
 /// Writes that nothing is sent: to two destinations, without a loop.
 #[inline]
@@ -15,6 +18,20 @@ pub(crate) fn send_nothing(into: &mut [u64])
     }
 }
 
+/// The same for curves of a kind: to one destination, without a loop.
+#[inline]
+pub(crate) fn send_none<K: Kind>(curves: &Curves, into: &mut [u64])
+    requires kind { K.fits (destinations_of curves.now) }
+    requires room { length into.old ≡ destinations_of curves.now }
+    ensures { (d : ℕ) → d < length into.old → slice_index into.new d ≡ 0 }
+{
+    if K::is_alone(curves) {
+        into[0] = 0;
+        return;
+    }
+    send_nothing(into);
+}
+
 /// What passes a limit of a part of a whole.
 #[inline]
 fn within(limit: u64, whole: u64, part: u64) -> u64
@@ -27,6 +44,7 @@ fn within(limit: u64, whole: u64, part: u64) -> u64
 }
 
 /// Brings numbers, each a part of a whole, within a limit of the whole.
+#[inline]
 pub(crate) fn limit_all(limit: u64, whole: u64, parts: &mut [u64])
     requires parts { (d : ℕ) → d < length parts.old → slice_index parts.old d ≤ whole }
     requires small { whole ≤ 32000 }
@@ -35,6 +53,17 @@ pub(crate) fn limit_all(limit: u64, whole: u64, parts: &mut [u64])
     if whole <= limit {
         return;
     }
+    limit_each(limit, whole, parts);
+}
+
+/// The same where the limit cuts. Kept out of line.
+#[inline(never)]
+fn limit_each(limit: u64, whole: u64, parts: &mut [u64])
+    requires cuts { limit < whole }
+    requires parts { (d : ℕ) → d < length parts.old → slice_index parts.old d ≤ whole }
+    requires small { whole ≤ 32000 }
+    ensures { (d : ℕ) → d < length parts.old → slice_index parts.new d ≡ limited limit whole (slice_index parts.old d) }
+{
     for part in parts.iter_mut() {
         *part = within(limit, whole, *part);
     }

@@ -21,6 +21,3 @@ pub use laws::{rows_stay, rules_of_rows};
 pub use rows::Rows;
 pub use splits::Splits;
 pub use weights::{Weights, are_zero};
-
-#[cfg(test)]
-mod tests;

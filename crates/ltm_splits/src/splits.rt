@@ -16,11 +16,21 @@ use std::marker::Model;
 ///
 /// Rows lie by node number and destination, so what a loading asks is found without a search but among the rows of one
 /// pair, mostly one.
-#[derive(Drop)]
 pub struct Splits {
     slots: u32,
     count: usize,
     table: NodeTable,
+}
+
+// By hand, so that letting go of splits is one call, and not its parts one by one wherever that may happen.
+impl Drop for Splits {
+    fn drop(self) {
+        let Splits {
+            slots: _slots,
+            count: _count,
+            table: _table,
+        } = self;
+    }
 }
 
 impl Model for Splits {

@@ -71,20 +71,82 @@ pub front_of_words : (words : List (List ℕ)) (command : Command) (told : Optio
 front_of_words words command told old new asks (inl same) = inl same
 front_of_words words command told old new asks (inr (status, text, under, front)) = inr (status, text, inr (command, asks, under), front)
 
+-- ---- the statuses that a refusal never has, and those of few refusals
+never_ok : (e : Refusal) → ending.Ok ≡ refusal_status e → ⊥
+never_ok (refusal.Case (fault.Folder f)) is = cc
+never_ok (refusal.Case (fault.TooLong f)) is = cc
+never_ok (refusal.Case (fault.Bad f row cause)) is = cc
+never_ok (refusal.Case fault.NoMemory) is = cc
+never_ok refusal.NoCurves is = cc
+never_ok refusal.LongCurves is = cc
+never_ok (refusal.BadCurves row cause) is = cc
+never_ok refusal.NoStart is = cc
+never_ok (refusal.NoStep node slot) is = cc
+
+never_usage : (e : Refusal) → ending.Usage ≡ refusal_status e → ⊥
+never_usage (refusal.Case (fault.Folder f)) is = cc
+never_usage (refusal.Case (fault.TooLong f)) is = cc
+never_usage (refusal.Case (fault.Bad f row cause)) is = cc
+never_usage (refusal.Case fault.NoMemory) is = cc
+never_usage refusal.NoCurves is = cc
+never_usage refusal.LongCurves is = cc
+never_usage (refusal.BadCurves row cause) is = cc
+never_usage refusal.NoStart is = cc
+never_usage (refusal.NoStep node slot) is = cc
+
+never_read : (e : Refusal) → ending.ReadFault ≡ refusal_status e → ⊥
+never_read (refusal.Case (fault.Folder f)) is = cc
+never_read (refusal.Case (fault.TooLong f)) is = cc
+never_read (refusal.Case (fault.Bad f row cause)) is = cc
+never_read (refusal.Case fault.NoMemory) is = cc
+never_read refusal.NoCurves is = cc
+never_read refusal.LongCurves is = cc
+never_read (refusal.BadCurves row cause) is = cc
+never_read refusal.NoStart is = cc
+never_read (refusal.NoStep node slot) is = cc
+
+never_many : (e : Refusal) → ending.TooManyCommands ≡ refusal_status e → ⊥
+never_many (refusal.Case (fault.Folder f)) is = cc
+never_many (refusal.Case (fault.TooLong f)) is = cc
+never_many (refusal.Case (fault.Bad f row cause)) is = cc
+never_many (refusal.Case fault.NoMemory) is = cc
+never_many refusal.NoCurves is = cc
+never_many refusal.LongCurves is = cc
+never_many (refusal.BadCurves row cause) is = cc
+never_many refusal.NoStart is = cc
+never_many (refusal.NoStep node slot) is = cc
+
+only_bad : (e : Refusal) → ending.BadCase ≡ refusal_status e → (f : File) × (row : ℕ) × (cause : CaseCause) × (e ≡ refusal.Case (fault.Bad f row cause))
+only_bad (refusal.Case (fault.Folder f)) is = cc
+only_bad (refusal.Case (fault.TooLong f)) is = cc
+only_bad (refusal.Case (fault.Bad f row cause)) is = (f, row, cause, refl)
+only_bad (refusal.Case fault.NoMemory) is = cc
+only_bad refusal.NoCurves is = cc
+only_bad refusal.LongCurves is = cc
+only_bad (refusal.BadCurves row cause) is = cc
+only_bad refusal.NoStart is = cc
+only_bad (refusal.NoStep node slot) is = cc
+
+only_long : (e : Refusal) → ending.TooLong ≡ refusal_status e → IsLong e
+only_long (refusal.Case (fault.Folder f)) is = cc
+only_long (refusal.Case (fault.TooLong f)) is = tt
+only_long (refusal.Case (fault.Bad f row cause)) is = cc
+only_long (refusal.Case fault.NoMemory) is = cc
+only_long refusal.NoCurves is = cc
+only_long refusal.LongCurves is = tt
+only_long (refusal.BadCurves row cause) is = cc
+only_long refusal.NoStart is = cc
+only_long (refusal.NoStep node slot) is = cc
+
+one_refusal : (x e : Refusal) (answer : Answer) → answer ≡ Err x → answer ≡ Err e → e ≡ x
+one_refusal x e answer first second = cc
+
 -- ---- what belongs to a status
 pub loaded : (told : Option Files) (text : List ℕ) → IsAnswerUnder ask.Load told ending.Ok text → (s : ScenarioData) × Describes told (Ok s) × IsReport s text
 loaded told text (Ok t, (Ok s, describes, (u, report, same)), ok, is) =
     let equal : u ≡ text = cc in (s, describes, subst (IsReport s) equal report)
 loaded told text (Ok t, (Err fault, describes, same), ok, is) = cc
-loaded told text (Err (refusal.Case (fault.Folder f)), says, ok, is) = cc
-loaded told text (Err (refusal.Case (fault.TooLong f)), says, ok, is) = cc
-loaded told text (Err (refusal.Case (fault.Bad f row cause)), says, ok, is) = cc
-loaded told text (Err (refusal.Case fault.NoMemory), says, ok, is) = cc
-loaded told text (Err refusal.NoCurves, says, ok, is) = cc
-loaded told text (Err refusal.LongCurves, says, ok, is) = cc
-loaded told text (Err (refusal.BadCurves row cause), says, ok, is) = cc
-loaded told text (Err refusal.NoStart, says, ok, is) = cc
-loaded told text (Err (refusal.NoStep node slot), says, ok, is) = cc
+loaded told text (Err e, says, ok, is) = absurd (never_ok e ok)
 
 curves_in : (told : Option Files) (text t : List ℕ) (s : ScenarioData) → Describes told (Ok s) → IsLoadingText s t → t ≡ text → (s : ScenarioData) × Describes told (Ok s) × IsLoadingText s text
 curves_in told text t s describes is same = (s, describes, subst (IsLoadingText s) same is)
@@ -93,27 +155,11 @@ pub curves_loaded : (told : Option Files) (text : List ℕ) → IsAnswerUnder as
 curves_loaded told text (Ok t, (Ok u, (Ok s, describes, (w, loading, same)), also), ok, is) = let equal : w ≡ text = cc in curves_in told text w s describes loading equal
 curves_loaded told text (Ok t, (Ok u, (Err fault, describes, same), also), ok, is) = cc
 curves_loaded told text (Ok t, (Err fault, says, also), ok, is) = cc
-curves_loaded told text (Err (refusal.Case (fault.Folder f)), says, ok, is) = cc
-curves_loaded told text (Err (refusal.Case (fault.TooLong f)), says, ok, is) = cc
-curves_loaded told text (Err (refusal.Case (fault.Bad f row cause)), says, ok, is) = cc
-curves_loaded told text (Err (refusal.Case fault.NoMemory), says, ok, is) = cc
-curves_loaded told text (Err refusal.NoCurves, says, ok, is) = cc
-curves_loaded told text (Err refusal.LongCurves, says, ok, is) = cc
-curves_loaded told text (Err (refusal.BadCurves row cause), says, ok, is) = cc
-curves_loaded told text (Err refusal.NoStart, says, ok, is) = cc
-curves_loaded told text (Err (refusal.NoStep node slot), says, ok, is) = cc
+curves_loaded told text (Err e, says, ok, is) = absurd (never_ok e ok)
 
 pub checked_yes : (told : Option Files) (text : List ℕ) → IsAnswerUnder ask.Check told ending.Ok text → (s : ScenarioData) × (bytes : List ℕ) × HasCurves told s bytes × TellsLoading s (records_of bytes) × (text ≡ yes_line)
 checked_yes told text (Ok t, says, ok, is) = let h = yes_told told t says in (h.0, h.1, h.2, h.3, is ∙ h.4)
-checked_yes told text (Err (refusal.Case (fault.Folder f)), says, ok, is) = cc
-checked_yes told text (Err (refusal.Case (fault.TooLong f)), says, ok, is) = cc
-checked_yes told text (Err (refusal.Case (fault.Bad f row cause)), says, ok, is) = cc
-checked_yes told text (Err (refusal.Case fault.NoMemory), says, ok, is) = cc
-checked_yes told text (Err refusal.NoCurves, says, ok, is) = cc
-checked_yes told text (Err refusal.LongCurves, says, ok, is) = cc
-checked_yes told text (Err (refusal.BadCurves row cause), says, ok, is) = cc
-checked_yes told text (Err refusal.NoStart, says, ok, is) = cc
-checked_yes told text (Err (refusal.NoStep node slot), says, ok, is) = cc
+checked_yes told text (Err e, says, ok, is) = absurd (never_ok e ok)
 
 pub tried : (start nodes : ℕ) (told : Option Files) (text : List ℕ) → IsAnswerUnder (ask.Try start nodes) told ending.Ok text → IsTrial start nodes text
 tried start nodes told text (Ok t, (u, trial, same), ok, is) = let equal : u ≡ text = cc in subst (IsTrial start nodes) equal trial
@@ -122,52 +168,22 @@ tried start nodes told text (Err fault, (u, trial, same), ok, is) = absurd (cc)
 pub bad_told : (command : Command) (told : Option Files) (text : List ℕ) → IsAnswerUnder command told ending.BadCase text
     → (f : File) × (row : ℕ) × (cause : CaseCause) × Answers command told (Err (refusal.Case (fault.Bad f row cause))) × (text ≡ bad_case_line f row cause)
 bad_told command told text (Ok t, says, ok, is) = cc
-bad_told command told text (Err (refusal.Case (fault.Bad f row cause)), says, ok, is) = (f, row, cause, says, is)
-bad_told command told text (Err (refusal.Case (fault.Folder f)), says, ok, is) = cc
-bad_told command told text (Err (refusal.Case (fault.TooLong f)), says, ok, is) = cc
-bad_told command told text (Err (refusal.Case fault.NoMemory), says, ok, is) = cc
-bad_told command told text (Err refusal.NoCurves, says, ok, is) = cc
-bad_told command told text (Err refusal.LongCurves, says, ok, is) = cc
-bad_told command told text (Err (refusal.BadCurves row cause), says, ok, is) = cc
-bad_told command told text (Err refusal.NoStart, says, ok, is) = cc
-bad_told command told text (Err (refusal.NoStep node slot), says, ok, is) = cc
+bad_told command told text (Err e, says, ok, is) =
+    let h = only_bad e ok in
+    (h.0, h.1, h.2, subst (λ x. Answers command told (Err x)) h.3 says, is ∙ ap words_of h.3)
 
 pub long_told : (command : Command) (told : Option Files) (text : List ℕ) → IsAnswerUnder command told ending.TooLong text
     → (e : Refusal) × IsLong e × Answers command told (Err e) × (text ≡ words_of e)
 long_told command told text (Ok t, says, ok, is) = cc
-long_told command told text (Err (refusal.Case (fault.TooLong f)), says, ok, is) = (refusal.Case (fault.TooLong f), tt, says, is)
-long_told command told text (Err refusal.LongCurves, says, ok, is) = (refusal.LongCurves, tt, says, is)
-long_told command told text (Err (refusal.Case (fault.Folder f)), says, ok, is) = cc
-long_told command told text (Err (refusal.Case (fault.Bad f row cause)), says, ok, is) = cc
-long_told command told text (Err (refusal.Case fault.NoMemory), says, ok, is) = cc
-long_told command told text (Err refusal.NoCurves, says, ok, is) = cc
-long_told command told text (Err (refusal.BadCurves row cause), says, ok, is) = cc
-long_told command told text (Err refusal.NoStart, says, ok, is) = cc
-long_told command told text (Err (refusal.NoStep node slot), says, ok, is) = cc
+long_told command told text (Err e, says, ok, is) = (e, only_long e ok, says, is)
 
 pub no_usage : (command : Command) (told : Option Files) (text : List ℕ) → IsAnswerUnder command told ending.Usage text → ⊥
 no_usage command told text (Ok t, says, ok, is) = cc
-no_usage command told text (Err (refusal.Case (fault.Folder f)), says, ok, is) = cc
-no_usage command told text (Err (refusal.Case (fault.TooLong f)), says, ok, is) = cc
-no_usage command told text (Err (refusal.Case (fault.Bad f row cause)), says, ok, is) = cc
-no_usage command told text (Err (refusal.Case fault.NoMemory), says, ok, is) = cc
-no_usage command told text (Err refusal.NoCurves, says, ok, is) = cc
-no_usage command told text (Err refusal.LongCurves, says, ok, is) = cc
-no_usage command told text (Err (refusal.BadCurves row cause), says, ok, is) = cc
-no_usage command told text (Err refusal.NoStart, says, ok, is) = cc
-no_usage command told text (Err (refusal.NoStep node slot), says, ok, is) = cc
+no_usage command told text (Err e, says, ok, is) = never_usage e ok
 
 pub no_script : (command : Command) (told : Option Files) (result : Status) (text : List ℕ) → IsAnswerUnder command told result text → (result ≡ ending.ReadFault → ⊥) × (result ≡ ending.TooManyCommands → ⊥)
 no_script command told result text (Ok t, says, ok, is) = (λ r. cc, λ r. cc)
-no_script command told result text (Err (refusal.Case (fault.Folder f)), says, ok, is) = (λ r. cc, λ r. cc)
-no_script command told result text (Err (refusal.Case (fault.TooLong f)), says, ok, is) = (λ r. cc, λ r. cc)
-no_script command told result text (Err (refusal.Case (fault.Bad f row cause)), says, ok, is) = (λ r. cc, λ r. cc)
-no_script command told result text (Err (refusal.Case fault.NoMemory), says, ok, is) = (λ r. cc, λ r. cc)
-no_script command told result text (Err refusal.NoCurves, says, ok, is) = (λ r. cc, λ r. cc)
-no_script command told result text (Err refusal.LongCurves, says, ok, is) = (λ r. cc, λ r. cc)
-no_script command told result text (Err (refusal.BadCurves row cause), says, ok, is) = (λ r. cc, λ r. cc)
-no_script command told result text (Err refusal.NoStart, says, ok, is) = (λ r. cc, λ r. cc)
-no_script command told result text (Err (refusal.NoStep node slot), says, ok, is) = (λ r. cc, λ r. cc)
+no_script command told result text (Err e, says, ok, is) = (λ r. never_read e (sym r ∙ ok), λ r. never_many e (sym r ∙ ok))
 
 pub script_never : (command : Command) (told : Option Files) (old new : Option (List ℕ)) (result : Status)
     → (IsWhole result → (text : List ℕ) × IsAnswerUnder command told result text × (new ≡ appended text old)) → (result ≡ ending.ReadFault → ⊥) × (result ≡ ending.TooManyCommands → ⊥)
@@ -346,14 +362,14 @@ missing_refused command told files e (refusal.Case (fault.Folder f)) result is m
 missing_refused command told files e (refusal.Case fault.NoMemory) result is missing none says gives memory = inr (memory refl)
 missing_refused command told files e refusal.NoCurves result is missing none says gives memory = inl (gives tt)
 missing_refused command told files e (refusal.Case (fault.TooLong f)) result is missing none says gives memory =
-    let same : Err (refusal.Case (fault.TooLong f)) ≡ Err e = only_missing command told files e (Err (refusal.Case (fault.TooLong f))) is missing none says in let eq : e ≡ refusal.Case (fault.TooLong f) = cc in absurd (subst IsMissing eq missing)
+    let eq : e ≡ refusal.Case (fault.TooLong f) = one_refusal (refusal.Case (fault.TooLong f)) e (Err (refusal.Case (fault.TooLong f))) refl (only_missing command told files e (Err (refusal.Case (fault.TooLong f))) is missing none says) in absurd (subst IsMissing eq missing)
 missing_refused command told files e (refusal.Case (fault.Bad f row cause)) result is missing none says gives memory =
-    let same : Err (refusal.Case (fault.Bad f row cause)) ≡ Err e = only_missing command told files e (Err (refusal.Case (fault.Bad f row cause))) is missing none says in let eq : e ≡ refusal.Case (fault.Bad f row cause) = cc in absurd (subst IsMissing eq missing)
+    let eq : e ≡ refusal.Case (fault.Bad f row cause) = one_refusal (refusal.Case (fault.Bad f row cause)) e (Err (refusal.Case (fault.Bad f row cause))) refl (only_missing command told files e (Err (refusal.Case (fault.Bad f row cause))) is missing none says) in absurd (subst IsMissing eq missing)
 missing_refused command told files e refusal.LongCurves result is missing none says gives memory =
-    let same : Err (refusal.LongCurves) ≡ Err e = only_missing command told files e (Err (refusal.LongCurves)) is missing none says in let eq : e ≡ refusal.LongCurves = cc in absurd (subst IsMissing eq missing)
+    let eq : e ≡ refusal.LongCurves = one_refusal (refusal.LongCurves) e (Err (refusal.LongCurves)) refl (only_missing command told files e (Err (refusal.LongCurves)) is missing none says) in absurd (subst IsMissing eq missing)
 missing_refused command told files e (refusal.BadCurves row cause) result is missing none says gives memory =
-    let same : Err (refusal.BadCurves row cause) ≡ Err e = only_missing command told files e (Err (refusal.BadCurves row cause)) is missing none says in let eq : e ≡ refusal.BadCurves row cause = cc in absurd (subst IsMissing eq missing)
+    let eq : e ≡ refusal.BadCurves row cause = one_refusal (refusal.BadCurves row cause) e (Err (refusal.BadCurves row cause)) refl (only_missing command told files e (Err (refusal.BadCurves row cause)) is missing none says) in absurd (subst IsMissing eq missing)
 missing_refused command told files e refusal.NoStart result is missing none says gives memory =
-    let same : Err (refusal.NoStart) ≡ Err e = only_missing command told files e (Err (refusal.NoStart)) is missing none says in let eq : e ≡ refusal.NoStart = cc in absurd (subst IsMissing eq missing)
+    let eq : e ≡ refusal.NoStart = one_refusal (refusal.NoStart) e (Err (refusal.NoStart)) refl (only_missing command told files e (Err (refusal.NoStart)) is missing none says) in absurd (subst IsMissing eq missing)
 missing_refused command told files e (refusal.NoStep node slot) result is missing none says gives memory =
-    let same : Err (refusal.NoStep node slot) ≡ Err e = only_missing command told files e (Err (refusal.NoStep node slot)) is missing none says in let eq : e ≡ refusal.NoStep node slot = cc in absurd (subst IsMissing eq missing)
+    let eq : e ≡ refusal.NoStep node slot = one_refusal (refusal.NoStep node slot) e (Err (refusal.NoStep node slot)) refl (only_missing command told files e (Err (refusal.NoStep node slot)) is missing none says) in absurd (subst IsMissing eq missing)

@@ -20,6 +20,3 @@ mod view;
 pub use facts::holds_between_steps;
 pub use ltm_told::Told;
 pub use passes::{EditorHeld, EditorPass, Turn, WorkerHeld, WorkerPass};
-
-#[cfg(test)]
-mod tests;

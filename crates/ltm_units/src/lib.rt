@@ -22,6 +22,3 @@ pub use quantities::{Millis, NoMemory, Units};
 pub use share::share_of;
 pub use steps::Steps;
 pub use summing::sum_of;
-
-#[cfg(test)]
-mod tests;

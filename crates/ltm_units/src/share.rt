@@ -27,21 +27,3 @@ pub fn share_of(amount: u64, part: u64, whole: u64) -> u64
         (u128::from(amount) * u128::from(part) / u128::from(whole)) as u64
     }
 }
-
-#[cfg(test)]
-mod tests {
-    use super::share_of;
-
-    // 5 over 3, 3 and 4 gives 1, 1 and 3.
-    #[test]
-    fn shares_in_turn(rt: HostRuntime) {
-        assert_eq!(rt; share_of(5, 3, 10), 1);
-        assert_eq!(rt; share_of(4, 3, 7), 1);
-        assert_eq!(rt; share_of(3, 4, 4), 3);
-        assert_eq!(rt; share_of(0, 0, 0), 0);
-        assert_eq!(rt;
-            share_of(1 << 63, 1 << 62, 3 << 62),
-            3_074_457_345_618_258_602
-        );
-    }
-}

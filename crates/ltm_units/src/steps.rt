@@ -37,16 +37,3 @@ impl Steps {
         self.taken
     }
 }
-
-#[cfg(test)]
-mod tests {
-    use super::Steps;
-
-    #[test]
-    fn counts_each_tick(rt: HostRuntime) {
-        let mut steps = Steps::new();
-        steps.tick();
-        steps.tick();
-        assert_eq!(rt; steps.count(), 2);
-    }
-}

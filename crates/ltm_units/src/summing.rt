@@ -25,18 +25,3 @@ fn sum_many(numbers: &[u64]) -> u64
 {
     numbers.iter().sum()
 }
-
-#[cfg(test)]
-mod tests {
-    use super::sum_of;
-
-    #[test]
-    fn sums_of_few_and_many(rt: HostRuntime) {
-        assert_eq!(rt; sum_of(&[]), 0);
-        assert_eq!(rt; sum_of(&[7]), 7);
-        assert_eq!(rt; sum_of(&[7, 20]), 27);
-        assert_eq!(rt; sum_of(&[7, 20, 300]), 327);
-        assert_eq!(rt; sum_of(&[7, 20, 300, 4000]), 4327);
-        assert_eq!(rt; sum_of(&[7, 20, 300, 4000, 50_000]), 54_327);
-    }
-}

@@ -1,9 +1,10 @@
 //! Totals that are copied from curves.
-ghost use Rattle.std.specs.Prelude.{◌≡◌, ℕ, ◌+◌, ◌<◌, ◌≤◌, false};
+ghost use Rattle.std.specs.Prelude.{◌≡◌, ℕ, ◌+◌, ◌<◌, ◌≤◌, ◌⊎◌, true, false};
 ghost use Rattle.ltm_curve.specs.Cells.{is_changed, HasCells};
 ghost use Rattle.ltm_curve.specs.Table.{groups_of, slots_of, total_of};
 
 use super::TotalCurves;
+use super::row_copies::{copy_row, copy_words};
 use crate::changed::Changed;
 use crate::curves::Curves;
 
@@ -22,6 +23,23 @@ impl TotalCurves {
         self.set(group, boundary, total);
     }
 
+    /// Copies the totals at a boundary that are kept in 32 bits.
+    fn copy_narrow(&mut self, curves: &Curves, boundary: u32)
+        requires shape { HasTotals self.old (groups_of curves.now) (slots_of curves.now) }
+        requires small { AreNarrow curves.now }
+        requires boundary { boundary ≤ slots_of curves.now }
+        ensures shape { HasTotals self.new (groups_of curves.now) (slots_of curves.now) }
+        ensures copied { (g : ℕ) → g + 1 < groups_of curves.now → total_at self.new g boundary ≡ total_of curves.now g boundary }
+        ensures others { (g k : ℕ) → IsTotal self.old g k
+            → (total_at self.new g k ≡ total_of curves.now g k) ⊎ (total_at self.new g k ≡ total_at self.old g k) }
+    {
+        let totals = curves.totals_at(boundary);
+        let counts = curves.only_counts_at(boundary);
+        let from = boundary as usize * self.narrow as usize;
+        let to = from + self.narrow as usize;
+        copy_row(&mut self.totals[from..to], totals, counts);
+    }
+
     /// Copies the totals of all groups at a boundary.
     fn copy_row(&mut self, curves: &Curves, boundary: u32)
         requires small { AreNarrow curves.now }
@@ -29,9 +47,8 @@ impl TotalCurves {
         requires before { TotalsBefore self.old curves.now boundary 0 }
         ensures { TotalsBefore self.new curves.now (boundary + 1) 0 }
     {
-        for group in 0..curves.groups() {
-            self.copy_total(curves, group, boundary);
-        }
+        self.copy_narrow(curves, boundary);
+        self.copy_total(curves, self.narrow, boundary);
     }
 
     /// Becomes the totals of curves of the same shape.
@@ -46,7 +63,32 @@ impl TotalCurves {
         self.copy_row(curves, curves.slots());
     }
 
-    /// Copies the totals of the changed groups at a boundary.
+    /// Copies the totals of the changed groups at a boundary that are kept in 32 bits.
+    fn copy_changed_narrow(&mut self, curves: &Curves, changed: &Changed, boundary: u32)
+        requires shape { HasTotals self.old (groups_of curves.now) (slots_of curves.now) }
+        requires small { AreNarrow curves.now }
+        requires cells { HasCells changed.now (groups_of curves.now) (slots_of curves.now) }
+        requires boundary { boundary ≤ slots_of curves.now }
+        ensures shape { HasTotals self.new (groups_of curves.now) (slots_of curves.now) }
+        ensures copied { (g : ℕ) → g + 1 < groups_of curves.now → is_changed changed.now g boundary ≡ true
+            → total_at self.new g boundary ≡ total_of curves.now g boundary }
+        ensures others { (g k : ℕ) → IsTotal self.old g k
+            → (total_at self.new g k ≡ total_of curves.now g k) ⊎ (total_at self.new g k ≡ total_at self.old g k) }
+    {
+        let totals = curves.totals_at(boundary);
+        let counts = curves.only_counts_at(boundary);
+        let from = boundary as usize * self.narrow as usize;
+        let to = from + self.narrow as usize;
+        copy_words(
+            &mut self.totals[from..to],
+            totals,
+            counts,
+            changed,
+            boundary,
+        );
+    }
+
+    /// Copies the totals of the changed groups at a boundary, and of the last one.
     fn copy_changed_row(&mut self, curves: &Curves, changed: &Changed, boundary: u32)
         requires small { AreNarrow curves.now }
         requires cells { HasCells changed.now (groups_of curves.now) (slots_of curves.now) }
@@ -54,14 +96,8 @@ impl TotalCurves {
         requires but { TotalsBut self.old curves.now changed.now boundary 0 }
         ensures { TotalsBut self.new curves.now changed.now (boundary + 1) 0 }
     {
-        let mut group = 0;
-        while group < curves.groups() {
-            let Some(next) = changed.next(group, boundary) else {
-                return;
-            };
-            self.copy_total(curves, next, boundary);
-            group = next + 1;
-        }
+        self.copy_changed_narrow(curves, changed, boundary);
+        self.copy_total(curves, self.narrow, boundary);
     }
 
     /// Becomes the totals of curves of the same shape, where these are the same but in the changed cells, which alone are

@@ -20,23 +20,27 @@ bounded_next xs i v most before l here j less =
     ]
 
 pub loop-arm-preserved : goal.loop-arm-preserved
-loop-arm-preserved c =
+loop-arm-preserved g c =
     let s = setting_of c.args.scenario.now in
     let counts = counts_of c.args.curves.now in
     let links = c.args.links.now in
     let i : ℕ = c.loop-arm.arm in
+    let wide : c.destinations-destinations.result ≡ s.destinations = omega (arith, c.destinations-destinations.ensures, c.requires.ready.shape.same_destinations) in
     let f : ℕ → ℕ → ℕ = λ k d. link_sending s counts (link_at links k) c.args.slot d in
     let at : i < length c.loop-arm.positions = omega (arith, c.loop-arm-test.true, c.loop-arm.auto.positions, c.requires.places) in
+    let room : i < length c.loop-arm.capacity = omega (arith, c.loop-arm-test.true, c.loop-arm.auto.capacity, c.requires.arms) in
     let fits : c.loop-arm.place + s.destinations ≤ length c.loop-arm.into =
     row_fits c.loop-arm.into c.loop-arm.place i s.destinations (length links) f c.loop-arm.invariant.filled c.loop-arm-test.true (omega (arith, c.loop-arm.auto.into, c.requires.room)) in
-    let long : length c.send_link_at.new.into ≡ s.destinations =
-    c.send_link_at.auto.into ∙ (length-take-le _ (drop c.loop-arm.place c.loop-arm.into) (omega (arith, c.destination_count-destinations.ensures.value, length-drop c.loop-arm.place c.loop-arm.into)) ∙ omega (arith, c.destination_count-destinations.ensures.value)) in
-    let row : c.send_link_at.new.into ≡ list_below s.destinations (f i) =
-    list_from s.destinations (f i) c.send_link_at.new.into long (λ d l. c.send_link_at.ensures.sends d l ∙ ap (λ (z : ℕ). link_sending s counts z c.args.slot d) (link_item links i c.loop-arm-test.true)) in
+    let long : length c.link_sends.new.into ≡ s.destinations =
+    c.link_sends.auto.into ∙ (length-take-le _ (drop c.loop-arm.place c.loop-arm.into) (omega (arith, wide, length-drop c.loop-arm.place c.loop-arm.into)) ∙ omega (arith, wide)) in
+    let row : c.link_sends.new.into ≡ list_below s.destinations (f i) =
+    list_from s.destinations (f i) c.link_sends.new.into long (λ d l. c.link_sends.ensures.sends d l ∙ ap (λ (z : ℕ). link_sending s counts z c.args.slot d) (link_item links i c.loop-arm-test.true)) in
     record {
-      filled = filled_more c.loop-arm.into c.loop-arm.place i s.destinations c.destination_count-destinations.result _ (length links) f c.send_link_at.new.into c.loop-arm.invariant.filled c.loop-arm-test.true (omega (arith, c.loop-arm.auto.into, c.requires.room))
-          c.destination_count-destinations.ensures.value (omega (arith, c.destination_count-destinations.ensures.value)) row;
-      positions = set_next c.loop-arm.positions i c.send_link_at.result (λ j. position s counts (link_at links j) c.args.slot) c.loop-arm.invariant.positions at
-          (c.send_link_at.ensures.position ∙ ap (λ (z : ℕ). position s counts z c.args.slot) (link_item links i c.loop-arm-test.true));
-      below = bounded_next c.loop-arm.positions i c.send_link_at.result c.args.slot c.loop-arm.invariant.below at c.send_link_at.ensures.below;
+      filled = filled_more c.loop-arm.into c.loop-arm.place i s.destinations c.destinations-destinations.result _ (length links) f c.link_sends.new.into c.loop-arm.invariant.filled c.loop-arm-test.true (omega (arith, c.loop-arm.auto.into, c.requires.room))
+          wide (omega (arith, wide)) row;
+      positions = set_next c.loop-arm.positions i c.link_sends.result (λ j. position s counts (link_at links j) c.args.slot) c.loop-arm.invariant.positions at
+          (c.link_sends.ensures.position ∙ ap (λ (z : ℕ). position s counts z c.args.slot) (link_item links i c.loop-arm-test.true));
+      below = bounded_next c.loop-arm.positions i c.link_sends.result c.args.slot c.loop-arm.invariant.below at c.link_sends.ensures.below;
+      capacities = set_next c.loop-arm.capacity i c.limits-most.result.capacity (λ j. s.capacity (link_at links j)) c.loop-arm.invariant.capacities room
+          (c.limits-most.ensures.capacity ∙ ap s.capacity (link_item links i c.loop-arm-test.true));
     }

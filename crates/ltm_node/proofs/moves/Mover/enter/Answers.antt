@@ -1,6 +1,5 @@
-use Rattle.std.proofs.Common.{◌≡◌, ◌≤◌, ℕ, ◌+◌, ◌∙◌, ap, arith, rules, subst, sym, slice_index}
+use Rattle.std.proofs.Common.{◌≡◌, ◌≤◌, ℕ, ◌+◌, ap, arith, rules, subst, sym, slice_index}
 use Rattle.ltm_shares.specs.Sent.{sent_at}
-use Rattle.ltm_node.specs.declared.shape.NodeShape.{NodeShape}
 use Rattle.ltm_node.specs.Outputs.{entered_after_place}
 use Rattle.ltm_node.specs.Demands.{part}
 use Rattle.ltm_node.specs.Solvable.{IsSolvable}
@@ -48,7 +47,7 @@ overflow_add-row c =
     let k : ℕ = c.args.part.out in
     let share : c.of-moved.result ≡ moved n e p a b k = moved_is n e p a b k c.args.part.amount c.of-moved.result c.requires.part.amount c.of-moved.ensures in
     let small : moved n e p a b k ≤ 32000 = moved_small n e p a b k s (f.at_most_all a c.requires.part.arm) c.requires.part.arm c.requires.part.destination in
-    let place : c.entered_after_place.result ≡ entered_after_place n.shape k b = c.entered_after_place.ensures.place ∙ ap (λ (z : NodeShape). entered_after_place z k b) same in
+    let place : c.args.place ≡ entered_after_place n.shape k b = c.requires.place in
     omega (
       arith,
       entered_room n e p b a k c.of-moved.result c.args.row.now (sent_at c.args.sent.now) s f.at_most_all c.requires.before c.requires.part.arm c.requires.part.destination c.requires.part.out (omega arith),
@@ -85,6 +84,6 @@ returns-clause-after c =
     let b : ℕ = c.args.part.destination in
     let k : ℕ = c.args.part.out in
     let share : c.of-moved.result ≡ moved n e p a b k = moved_is n e p a b k c.args.part.amount c.of-moved.result c.requires.part.amount c.of-moved.ensures in
-    let place : c.entered_after_place.result ≡ entered_after_place n.shape k b = c.entered_after_place.ensures.place ∙ ap (λ (z : NodeShape). entered_after_place z k b) same in
+    let place : c.args.place ≡ entered_after_place n.shape k b = c.requires.place in
     entered_on n e p b a k c.of-moved.result c.args.row.now (sent_at c.args.sent.now) _ (sent_at c.add.new.self) s c.requires.before c.requires.part.arm c.requires.part.destination c.requires.part.out share
-    (row_added c.args.row.now c.entered_after_place.result _ c.of-moved.result place) c.add.ensures.added c.add.ensures.others
+    (row_added c.args.row.now c.args.place _ c.of-moved.result place) c.add.ensures.added c.add.ensures.others

@@ -11,7 +11,8 @@ use Rattle.ltm_node.specs.Step.{moved}
 use Rattle.ltm_node.specs.Moving.{IsMoving, IsPart}
 use Rattle.ltm_node.proofs.Ranges.{sending_small, weights_fit, part_is, moved_none, moved_small, moved_out_small}
 use Rattle.ltm_node.proofs.Splitting.{out_within, weight_within_rest, part_next, split_next, split_ended, sum_ended}
-use Rattle.ltm_node.proofs.Amounts.{entered_past}
+use Rattle.ltm_node.specs.declared.shape.NodeShape.{NodeShape}
+use Rattle.ltm_node.proofs.Amounts.{entered_past, place_on}
 use Rattle.ltm_node.proofs.moves.Mover.split.Goals as goal
 
 pub part_of-requires-clause-left : goal.part_of-requires-clause-left
@@ -104,6 +105,9 @@ loop-rest-preserved c =
     record {
       within = omega (arith, inside, ap length c.weights-weights.ensures.weights, c.weights-weights.ensures.outs);
       split = subst (λ (z : ℕ). IsSplitUpTo c.args.load.amount ws (k + 1) (c.loop-rest.left - v) (c.loop-rest.rest - z)) (sym weight) (split_next c.args.load.amount ws k c.loop-rest.left c.loop-rest.rest v split inside share);
+      place =
+          let same : c.args.self.now.shape ≡ n.shape = search rules in
+          omega (arith, c.loop-rest.invariant.place, ap (λ (z : NodeShape). z.destinations) same, place_on n.shape k b);
       total = omega (arith, c.loop-rest.invariant.total, sum_below_more (λ j. moved n e p a b j) k);
       moving = subst (λ (q : Part). IsMoving n e p q.destination q.arm (q.out + 1) c.enter-total.new.row (sent_at c.enter-total.new.sent)) c.by-part.ensures c.enter-total.ensures.after;
     }

@@ -1,0 +1,49 @@
+//! Totals over all destinations.
+ghost use Rattle.std.specs.Prelude.{◌≡◌, ◌^◌, ◌<◌, ◌≤◌};
+
+use super::Curves;
+
+impl Curves {
+    ghost use Rattle.ltm_curve.specs.Table.{groups_of, destinations_of, slots_of, total_of};
+
+    /// The total of a group at a boundary, over all destinations.
+    #[tactic(auto, using(crate::proofs::Places::total_small))]
+    pub fn total(&self, group: u32, boundary: u32) -> u64
+        requires group { group < groups_of self.now }
+        requires boundary { boundary ≤ slots_of self.now }
+        ensures total { result ≡ total_of self.now group boundary }
+        ensures small { result ≤ 2 ^ 37 }
+    {
+        if self.destinations > 1 {
+            self.kept_total(group, boundary)
+        } else if self.destinations == 1 {
+            self.get(group, 0, boundary)
+        } else {
+            0
+        }
+    }
+
+    /// The same where there is one destination, whose count is the total.
+    #[inline]
+    pub(crate) fn only_total(&self, group: u32, boundary: u32) -> u64
+        requires group { group < groups_of self.now }
+        requires boundary { boundary ≤ slots_of self.now }
+        requires one { destinations_of self.now ≡ 1 }
+        ensures { result ≡ total_of self.now group boundary }
+    {
+        let at = self.row_number(group, boundary);
+        u64::from(self.counts[at])
+    }
+
+    /// The same where there are several destinations.
+    #[inline]
+    #[tactic(auto, unfolding(crate::specs::Table::counts_of))]
+    pub(crate) fn kept_total(&self, group: u32, boundary: u32) -> u64
+        requires group { group < groups_of self.now }
+        requires boundary { boundary ≤ slots_of self.now }
+        requires several { 2 ≤ destinations_of self.now }
+        ensures { result ≡ total_of self.now group boundary }
+    {
+        self.totals[self.row_number(group, boundary)]
+    }
+}
