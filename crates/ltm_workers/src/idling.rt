@@ -18,7 +18,8 @@ const FARTHEST: u32 = 13;
 const LAST_SPIN: u32 = 8;
 
 /// What a worker keeps while it finds nothing to do: at first it looks again, after ever longer pauses; then it sleeps until
-/// it is told of news. Whoever was woken and finds a pair wakes one more.
+/// it is told of news. Whoever was woken and has claimed a pair wakes one more before it works on it, so that all who are
+/// wanted come while the first pairs are at work. Nobody sleeps who found the turn held: it has not seen what there is to do.
 ///
 /// A pause doubles where another held the turn, and is quartered where a pair was committed: so all workers together find the
 /// turn held in about two of three looks, and whoever holds it most is hardly ever held up.
@@ -51,15 +52,19 @@ impl Idling {
         Some(turn.listen())
     }
 
-    /// After a pair was committed.
-    pub(crate) fn after_work(&mut self, turn: &Turn<Core>) {
-        self.looks = 0;
-        self.distance = self.distance.saturating_sub(2);
-        self.backoff.reset();
+    /// After a claim, before the pair is worked on.
+    pub(crate) fn after_claim(&mut self, turn: &Turn<Core>) {
         if self.woken {
             self.woken = false;
             turn.tell_one();
         }
+    }
+
+    /// After a pair was committed.
+    pub(crate) fn after_work(&mut self) {
+        self.looks = 0;
+        self.distance = self.distance.saturating_sub(2);
+        self.backoff.reset();
     }
 
     /// After a look that found no pair, though others may yet make one: steps back.
@@ -74,17 +79,12 @@ impl Idling {
     }
 
     /// After a look at which another held the turn: steps back, twice as far as the last time.
-    pub(crate) fn after_busy_look<R: Wait>(&mut self, rt: &R, news: Option<Key<'_>>) {
-        match news {
-            Some(news) => self.sleep(rt, news),
-            None => {
-                self.looks = self.looks.saturating_add(1);
-                if self.distance < FARTHEST {
-                    self.distance += 1;
-                }
-                self.step_back(rt);
-            }
+    pub(crate) fn after_busy_look<R: Wait>(&mut self, rt: &R) {
+        self.looks = self.looks.saturating_add(1);
+        if self.distance < FARTHEST {
+            self.distance += 1;
         }
+        self.step_back(rt);
     }
 
     /// Pauses as long as the worker has stepped back.

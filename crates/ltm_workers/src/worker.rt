@@ -49,6 +49,7 @@ fn go_round<R: Wait, G: Gate>(
     pass: WorkerPass<Core>,
     gate: &G,
     scratch: Scratch,
+    idling: &mut Idling,
 ) -> (WorkerPass<Core>, Round)
     requires { worker_turn pass ≡ turn_id turn.now }
     ensures turn { worker_turn result.0 ≡ turn_id turn.now }
@@ -59,6 +60,7 @@ fn go_round<R: Wait, G: Gate>(
         Sight::Busy(scratch) => return (pass, Round::Busy(scratch)),
         Sight::Seen(Look::Stopped(scratch)) => return (pass, Round::Ended(scratch)),
         Sight::Seen(Look::Found(Claimed::Got(claim))) => {
+            idling.after_claim(turn);
             let (pass, scratch) = finish(rt, turn, pass, gate, claim);
             return (pass, Round::Worked(scratch));
         }
@@ -75,7 +77,7 @@ fn go_round<R: Wait, G: Gate>(
 /// stopped. In each held turn it makes one call of the core; each node step is made with no turn held.
 ///
 /// Where it finds nothing to do it steps back, and at last sleeps until the turn's listeners are told of news: so whoever
-/// accepts a batch tells one of them, and whoever stops the core tells all; so does each worker as it ends. Takes no memory.
+/// accepts a batch tells one of them, and whoever stops the core tells all. Takes no memory.
 pub fn work<R: Wait, G: Gate>(
     rt: &R,
     turn: &Turn<Core>,
@@ -92,21 +94,17 @@ pub fn work<R: Wait, G: Gate>(
     let mut scratch = scratch;
     for _ in rt.forever() {
         let news = idling.before_look(turn);
-        let (after, round) = go_round(rt, turn, pass, gate, scratch);
+        let (after, round) = go_round(rt, turn, pass, gate, scratch, &mut idling);
         pass = after;
         match round {
-            Round::Ended(last) => {
-                // One that found the turn busy has not seen that the core is stopped, and may have gone to sleep since.
-                turn.tell_all();
-                return (pass, last);
-            }
+            Round::Ended(last) => return (pass, last),
             Round::Worked(next) => {
                 scratch = next;
-                idling.after_work(turn);
+                idling.after_work();
             }
             Round::Busy(next) => {
                 scratch = next;
-                idling.after_busy_look(rt, news);
+                idling.after_busy_look(rt);
             }
             Round::Vain(next) => {
                 scratch = next;

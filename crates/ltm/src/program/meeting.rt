@@ -15,6 +15,9 @@ use std::thread::yield_now;
 /// How often a wait yields before it gives up.
 const PATIENCE: u64 = 20_000_000;
 
+/// How often the editor yields before it gives the edit: workers that found nothing to do sleep by then.
+const LEISURE: u64 = 100_000;
+
 /// Holds the first worker that comes until a second has come, or until it has waited too long.
 #[derive(Drop)]
 struct Meeting {
@@ -54,7 +57,7 @@ impl Gate for Meeting {
 const EDIT: &str =
     "{\"do\":\"edit\",\"edits\":[{\"kind\":\"diagram\",\"link\":\"a\",\"length_m\":20,\"free_kmh\":36,\"wave_kmh\":36,\"jam_per_km\":150}]}\n";
 
-/// Gives the edit in one read. Before it ends it waits until two workers have come to the gate.
+/// Gives the edit in one read, at leisure. Before it ends it waits until two workers have come to the gate.
 #[derive(Drop)]
 struct EditThenWait<'a> {
     gate: &'a Meeting,
@@ -73,6 +76,9 @@ impl<'a> Source for EditThenWait<'a> {
         if self.given || into.len() < line.len() {
             let _met = self.gate.wait();
             return Ok(0);
+        }
+        for _ in 0..LEISURE {
+            yield_now();
         }
         self.given = true;
         into[..line.len()].copy_from_slice(line);
