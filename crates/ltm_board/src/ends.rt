@@ -23,7 +23,6 @@ use std::sync::Arc;
 ///                       '---- learn by the viewer
 /// board, viewer --- close
 /// ```
-#[derive(Drop)]
 pub struct Board {
     pub(crate) frame: Arc<Frame, Global>,
     pub(crate) seat: BoardSeat,
@@ -33,8 +32,18 @@ pub struct Board {
     pub ghost same: { own.list ≡ joined (newest seat.me.0.known) },
 }
 
+// By hand, so that letting go of a board is one call.
+impl Drop for Board {
+    fn drop(self) {
+        let Board {
+            frame: _frame,
+            seat: _seat,
+            own: _own,
+        } = self;
+    }
+}
+
 /// The end that reads, which may be in another thread. Contracts see the lists that it knows: `viewer_lists`.
-#[derive(Drop)]
 pub struct Viewer {
     pub(crate) frame: Arc<Frame, Global>,
     pub(crate) seat: BoardSeat,
@@ -43,12 +52,28 @@ pub struct Viewer {
     pub ghost opened: { is_opened (joined (oldest seat.me.0.known)) ≡ true },
 }
 
+// By hand, so that letting go of a viewer is one call.
+impl Drop for Viewer {
+    fn drop(self) {
+        let Viewer {
+            frame: _frame,
+            seat: _seat,
+        } = self;
+    }
+}
+
 /// What a board tells its viewer: the posts that are published. It has no bytes.
-#[derive(Drop)]
 pub struct Note {
     pub(crate) seat: BoardSeat,
     pub ghost idles: { (seat.me.1 ≡ []) × (seat.me.0.posts ≡ false) × (seat.me.0.holds ≡ false) },
     pub ghost one: { seat.me.0.known ≡ newest seat.me.0.known ∷ [] },
+}
+
+// By hand, so that letting go of a note is one call.
+impl Drop for Note {
+    fn drop(self) {
+        let Note { seat: _seat } = self;
+    }
 }
 
 impl Note {

@@ -16,10 +16,16 @@ use std::snapshot::Snapshot;
 use std::sync::{Arc, Wait};
 
 /// A panel that one seat at a time takes down.
-#[derive(Drop)]
 pub struct Frame {
     pub(crate) table: BoardTable,
     pub ghost sized: { (table.shared.table_id.words ≡ 1) × (table.shared.table_id.slots ≡ 1) },
+}
+
+// By hand, so that letting go of a frame is one call.
+impl Drop for Frame {
+    fn drop(self) {
+        let Frame { table: _table } = self;
+    }
 }
 
 /// A frame with a panel, and the board's own seat, which knows its list.

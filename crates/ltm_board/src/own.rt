@@ -8,11 +8,21 @@ use std::marker::Model;
 use std::snapshot::Snapshot;
 
 /// The sheet that was posted last, and how many batches its list has. Contracts see it as a panel.
-#[derive(Drop)]
 pub struct Own {
     of: Snapshot<Panel>,
     count: u64,
     sheet: Sheet,
+}
+
+// By hand, so that letting go of the copy is one call.
+impl Drop for Own {
+    fn drop(self) {
+        let Own {
+            of: _of,
+            count: _count,
+            sheet: _sheet,
+        } = self;
+    }
 }
 
 impl Model for Own {

@@ -13,11 +13,21 @@ use std::mem;
 use std::snapshot::Snapshot;
 
 /// Contracts see its list and its sheet; of the opening scenario nothing is kept.
-#[derive(Drop)]
 pub struct Panel {
     opening: Snapshot<Scenario>,
     batches: Vec<Batch>,
     sheet: Sheet,
+}
+
+// By hand, so that letting go of a panel is one call.
+impl Drop for Panel {
+    fn drop(self) {
+        let Panel {
+            opening: _opening,
+            batches: _batches,
+            sheet: _sheet,
+        } = self;
+    }
 }
 
 impl Model for Panel {

@@ -12,10 +12,19 @@ use std::alloc::Global;
 use std::marker::Model;
 
 /// The totals of a loading, and for each link what has entered it and what has left it by the last boundary.
-#[derive(Drop)]
 pub struct Sheet {
     totals: Totals,
     through: Vec<Through>,
+}
+
+// By hand, so that letting go of a sheet is one call.
+impl Drop for Sheet {
+    fn drop(self) {
+        let Sheet {
+            totals: _totals,
+            through: _through,
+        } = self;
+    }
 }
 
 impl Model for Sheet {

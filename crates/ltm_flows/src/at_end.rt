@@ -10,7 +10,7 @@ use crate::in_all::Totals;
 use ltm_curve::Curves;
 use ltm_loading::{down_of, up_of};
 use ltm_scenario::Scenario;
-use ltm_setting::{link_count, node_count, produced_total, slot_count};
+use ltm_setting::{arr_of, dep_of, link_count, node_count, produced_total, slot_count};
 use ltm_units::{LinkId, NodeId, Units};
 
 /// What all origins have produced.
@@ -46,10 +46,9 @@ fn departed_at_end(scenario: &Scenario, curves: &Curves) -> u64
     ensures { result ≡ departed (setting_of scenario.now) (counts_of curves.now) (setting_of scenario.now).slots }
 {
     let last = slot_count(scenario);
-    let links = link_count(scenario);
     let mut sum = 0;
     for node in 0..node_count(scenario) {
-        sum += curves.total(2 * links + node, last);
+        sum += curves.total(dep_of(scenario, NodeId(node)), last);
     }
     sum
 }
@@ -60,8 +59,7 @@ pub fn totals_at_end(scenario: &Scenario, curves: &Curves) -> Totals
     ensures { AreTotals (setting_of scenario.now) (counts_of curves.now) (setting_of scenario.now).slots result }
 {
     let last = slot_count(scenario);
-    let group = 2 * link_count(scenario) + node_count(scenario);
-    let arrived = curves.total(group, last);
+    let arrived = curves.total(arr_of(scenario), last);
     let generated = generated_at_end(scenario);
     let departed = departed_at_end(scenario, curves);
     Totals {

@@ -27,13 +27,24 @@ pub enum Line {
 ///
 /// It reads ahead, but only where it has given all that it has read. A line ends at its newline; the last line needs
 /// none. Once a line was too long or a read failed, every answer is that answer.
-#[derive(Drop)]
 pub struct Lines {
     line: Vec<u8>,
     ahead: ReadAhead,
     max: u32,
     kept: Option<Line>,
     ghost room: { max ≤ vec_capacity line },
+}
+
+// By hand, so that letting go of a reader is one call.
+impl Drop for Lines {
+    fn drop(self) {
+        let Lines {
+            line: _line,
+            ahead: _ahead,
+            max: _max,
+            kept: _kept,
+        } = self;
+    }
 }
 
 impl Lines {

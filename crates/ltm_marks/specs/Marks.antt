@@ -62,3 +62,7 @@ pub record IsNextInWord (m : Marks) (row from place : ℕ) : Type 0 where
 -- no place within the word of a place is marked from it on
 abbrev pub HasNoneInWord : Marks → ℕ → ℕ → Type 0
 HasNoneInWord m row from = (p : ℕ) → from ≤ p → p / 64 ≡ from / 64 → is_marked m p row ≡ false
+
+-- no place of a row within the word of a place is marked from it on
+abbrev pub HasNoneNear : Marks → ℕ → ℕ → Type 0
+HasNoneNear m row from = (p : ℕ) → from ≤ p → p / 64 ≡ from / 64 → p < width_of m → is_marked m p row ≡ false

@@ -1,7 +1,7 @@
 //! Marks of places in rows.
 ghost use Rattle.std.specs.Int.{bit_at};
 ghost use Rattle.ltm_marks.specs.Bits.{NoBit, IsFirstBit};
-ghost use Rattle.std.specs.Prelude.{◌≡◌, ℕ, ◌+◌, ◌*◌, ◌/◌, ◌%◌, ◌==◌, ◌^◌, ◌<◌, ◌≤◌, length, true, false, IfOk, OnErr, OnOk, IfSome, MatchOption, slice_index, replicate, ◌++◌};
+ghost use Rattle.std.specs.Prelude.{◌≡◌, ℕ, ◌+◌, ◌*◌, ◌/◌, ◌%◌, ◌==◌, ◌^◌, ◌<◌, ◌≤◌, length, true, false, IfOk, OnErr, OnOk, MatchOption, slice_index, replicate, ◌++◌};
 
 use ltm_units::NoMemory;
 use std::alloc::Global;
@@ -69,7 +69,7 @@ fn clear_bits(bits: &mut Vec<u64>)
 }
 
 impl Marks {
-    ghost use Rattle.ltm_marks.specs.Marks.{width_of, rows_of, room_of, word_of, is_marked, SetsMark, SameMarks, IsNext, HasNone, IsNextInWord, HasNoneInWord};
+    ghost use Rattle.ltm_marks.specs.Marks.{width_of, rows_of, room_of, word_of, is_marked, SetsMark, SameMarks, IsNext, HasNone, IsNextInWord, HasNoneInWord, HasNoneNear};
 
     /// So many rows of so many places, none of them marked, at most 65,536 of each.
     #[tactic(auto, using(crate::proofs::Bits::none_marked))]
@@ -191,12 +191,12 @@ impl Marks {
         self.bits[word]
     }
 
-    /// The first marked place of a row, not below one, if it lies in the same word.
+    /// The first marked place of a row, not below one, if it lies in the same word; none exactly where none of that word does.
     #[inline]
     pub fn next_near(&self, row: usize, from: usize) -> Option<usize>
         requires row { row < rows_of self.now }
         requires from { from < width_of self.now }
-        ensures { IfSome result (IsNext self.now row from) }
+        ensures { MatchOption result (HasNoneNear self.now row from) (IsNext self.now row from) }
     {
         if let Some(place) = self.next_in_word(row, from) {
             return if place < self.width {

@@ -1,13 +1,15 @@
 //! The step of a narrow node, which has at most one out-link, in a case with one destination.
 //!
 //! All that its arms send goes one way, so each count is written straight to its place in the row of the outputs.
-ghost use Rattle.std.specs.Prelude.{◌≡◌, ℕ, ◌<◌, ◌≤◌, false, true, length, IsTrue, IsFalse};
+ghost use Rattle.std.specs.Prelude.{◌≡◌, ℕ, ◌≤◌, false, true, length, IsTrue, IsFalse};
 ghost use Rattle.ltm_units.specs.Sums.{sum_below};
 ghost use Rattle.ltm_node.specs.Shape.{counts_width, is_own, width};
-ghost use Rattle.ltm_node.specs.Inputs.{sending, left, entered, arrived, supply, weight};
+ghost use Rattle.ltm_node.specs.Inputs.{sending};
 ghost use Rattle.ltm_node.specs.Solvable.{IsSolvable};
 ghost use Rattle.ltm_node.specs.Step.{IsNodeStep};
 ghost use Rattle.ltm_node.specs.Narrow.{IsNarrow, HaveLeft, HaveMoved, HaveShifted, leaves, laid};
+
+mod readers;
 
 use crate::inputs::NodeInputs;
 use crate::outputs::NodeOutputs;
@@ -30,67 +32,6 @@ pub struct Narrow<'a> {
 const MOST: u64 = 320_000;
 
 impl Narrow<'_> {
-    /// What an arm sends.
-    #[inline]
-    fn sending(&self, arm: u32) -> u64
-        requires { arm < self.now.inputs.now.shape.arms }
-        ensures { result ≡ sending self.now.inputs.now arm 0 }
-    {
-        self.numbers[self.shape.sending_place(arm, 0)]
-    }
-
-    /// What has left an arm by the beginning of the slot.
-    #[inline]
-    fn left(&self, arm: u32) -> u64
-        requires { arm < self.now.inputs.now.shape.arms }
-        ensures { result ≡ left self.now.inputs.now arm 0 }
-    {
-        self.numbers[self.shape.left_place(arm, 0)]
-    }
-
-    /// What has entered the out-link by the beginning of the slot.
-    #[inline]
-    fn entered(&self) -> u64
-        requires { 0 < self.now.inputs.now.shape.outs }
-        ensures { result ≡ entered self.now.inputs.now 0 0 }
-    {
-        self.numbers[self.shape.entered_place(0, 0)]
-    }
-
-    /// What has arrived by the beginning of the slot.
-    #[inline]
-    fn arrived(&self) -> u64
-        ensures { result ≡ arrived self.now.inputs.now }
-    {
-        self.numbers[self.shape.arrived_place()]
-    }
-
-    /// What the out-link can take.
-    #[inline]
-    fn can_take(&self) -> u64
-        requires { 0 < self.now.inputs.now.shape.outs }
-        ensures { result ≡ supply self.now.inputs.now 0 }
-    {
-        self.numbers[self.shape.supply_place(0)]
-    }
-
-    /// The weight of the out-link.
-    #[inline]
-    fn weight(&self) -> u64
-        requires { 0 < self.now.inputs.now.shape.outs }
-        ensures { result ≡ weight self.now.inputs.now 0 0 }
-    {
-        self.numbers[self.shape.weights_place(0)]
-    }
-
-    /// Whether the node is the destination.
-    #[inline]
-    fn is_own(&self) -> bool
-        ensures { result ≡ is_own self.now.inputs.now.shape 0 }
-    {
-        self.shape.is_own(0)
-    }
-
     /// Whether all that the arms send goes to the out-link where their shares are 1; else nothing does.
     #[inline]
     fn all_leaves(&self) -> bool

@@ -21,10 +21,19 @@ use std::marker::Model;
 ///          n1  →  n3            so a and c both begin one, and traffic from n1 is shared among them in equal parts
 ///              c
 /// ```
-#[derive(Drop)]
 pub struct Routes {
     potentials: Vec<Option<Millis>>,
     begins: Vec<bool>,
+}
+
+// By hand, so that letting go of routes is one call.
+impl Drop for Routes {
+    fn drop(self) {
+        let Routes {
+            potentials: _potentials,
+            begins: _begins,
+        } = self;
+    }
 }
 
 impl Model for Routes {

@@ -29,7 +29,6 @@ use std::marker::Model;
 /// The parts of a scenario side by side, each in its own table.
 ///
 /// Contracts see its data, and beside them the room that undoing an edit needs.
-#[derive(Drop)]
 pub struct Tables {
     alloc: Global,
     setup: Setup,
@@ -40,6 +39,23 @@ pub struct Tables {
     splits: Splits,
     entry: LimitTable,
     exit: LimitTable,
+}
+
+// By hand, so that letting go of the tables is one call.
+impl Drop for Tables {
+    fn drop(self) {
+        let Tables {
+            alloc: _alloc,
+            setup: _setup,
+            network: _network,
+            diagrams: _diagrams,
+            destinations: _destinations,
+            demand: _demand,
+            splits: _splits,
+            entry: _entry,
+            exit: _exit,
+        } = self;
+    }
 }
 
 impl Model for Tables {

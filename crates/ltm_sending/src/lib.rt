@@ -16,5 +16,5 @@ mod origin;
 mod parts;
 mod produced;
 
-pub use link::{link_sends, link_takes, receive, send_link, send_link_at};
+pub use link::{link_sends, link_takes, receive, send_link};
 pub use origin::{origin_sends, send_origin};

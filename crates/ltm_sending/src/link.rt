@@ -186,27 +186,8 @@ pub fn send_link(scenario: &Scenario, curves: &Curves, link: LinkId, slot: u32, 
     send_waiting(scenario, curves, link, slot, waiting, into);
 }
 
-/// Writes the same, and tells the position of the slot for the link: the last boundary by which no more has entered the link
-/// than may have left it by the slot's end. Of which destinations the last of these units are is read there.
-pub fn send_link_at(
-    scenario: &Scenario,
-    curves: &Curves,
-    link: LinkId,
-    slot: u32,
-    into: &mut [u64],
-) -> u32
-    requires link { link.0 < (setting_of scenario.now).links }
-    requires ready { IsAtFront (setting_of scenario.now) curves.now slot }
-    requires room { length into.old ≡ (setting_of scenario.now).destinations }
-    ensures sends { (d : ℕ) → d < (setting_of scenario.now).destinations → slice_index into.new d
-        ≡ link_sending (setting_of scenario.now) (counts_of curves.now) link.0 slot d }
-    ensures position { result ≡ position (setting_of scenario.now) (counts_of curves.now) link.0 slot }
-    ensures below { result ≤ slot }
-{
-    link_sends::<Any>(scenario, curves, link, slot, into)
-}
-
-/// The same for curves of a kind.
+/// Writes the same for curves of a kind, and tells the position of the slot for the link: the last boundary by which no more has
+/// entered the link than may have left it by the slot's end. Of which destinations the last of these units are is read there.
 #[inline]
 pub fn link_sends<K: Kind>(
     scenario: &Scenario,

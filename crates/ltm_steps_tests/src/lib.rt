@@ -19,3 +19,5 @@ mod nodes;
 mod pairs;
 #[cfg(test)]
 mod reads;
+#[cfg(test)]
+mod solvable;

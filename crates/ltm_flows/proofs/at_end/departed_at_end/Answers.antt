@@ -14,7 +14,7 @@ loop-node-preserved c =
     let curves : Curves = c.args.curves.now in
     let counts : Counts = counts_of curves in
     let node : ℕ = c.loop-node.node in
-    let group : 2 * c.link_count-links.result + node ≡ dep_of s node = omega (arith, c.link_count-links.ensures.value) in
+    let group : c.dep_of.result ≡ dep_of s node = c.dep_of.ensures.group in
     let left : c.total-sum.result ≡ total s.destinations (counts (dep_of s node)) s.slots =
     c.total-sum.ensures.total
     ∙ (ap (λ (g : ℕ). total_of curves g c.slot_count-last.result) group

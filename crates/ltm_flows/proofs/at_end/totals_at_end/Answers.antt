@@ -10,7 +10,7 @@ pub returns : goal.returns
 returns c =
     let s = setting_of c.args.scenario.now in
     let curves : Curves = c.args.curves.now in
-    let group : 2 * c.link_count.result + c.node_count.result ≡ arr_of s = omega (arith, c.link_count.ensures.value, c.node_count.ensures.value) in
+    let group : c.arr_of.result ≡ arr_of s = c.arr_of.ensures.group in
     record {
       generated = c.generated_at_end-generated.ensures;
       arrived = c.total-arrived.ensures.total

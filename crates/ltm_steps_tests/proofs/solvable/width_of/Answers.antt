@@ -1,6 +1,6 @@
 use Rattle.std.proofs.Common.{◌≤◌, arith}
 use Rattle.std.proofs.Math.Nat.{mul-le-mul_right}
-use Rattle.ltm_steps_tests.proofs.nodes.width_of.Goals as goal
+use Rattle.ltm_steps_tests.proofs.solvable.width_of.Goals as goal
 
 pub width-width-requires : goal.width-width-requires
 width-width-requires g c =

@@ -1,7 +1,7 @@
 use Rattle.std.proofs.Common.{ℕ, ◌<◌, ◌≤◌}
 use Rattle.ltm_node.specs.Inputs.{capacity}
 use Rattle.ltm_node.specs.Demands.{sent}
-use Rattle.ltm_steps_tests.proofs.nodes.check_capacities.Given as goal
+use Rattle.ltm_steps_tests.proofs.solvable.check_capacities.Given as goal
 
 abbrev pub invariant-loop-arm : goal.invariant-loop-arm
 invariant-loop-arm g l = record {
