@@ -44,6 +44,7 @@ fn serve_core<R: Threads + Wait + Sync, S: Source, W: Sink, G: Gate>(
 ) -> Status
     requires workers { workers ≤ 64 }
     requires fresh { version_now core.log ≡ 0 }
+    requires running { core.stopped ≡ false }
     ensures whole { IsWhole result → (end : SessionEnd) × (text : List ℕ) × (result ≡ status_of_end end)
         × IsServed AnswersBeside core.log.opening (S.left input.old) end text × (W.written output.new ≡ appended text (W.written output.old)) }
     ensures front { (W.written output.new ≡ W.written output.old) ⊎ ((end : SessionEnd) × (text : List ℕ)

@@ -1,5 +1,5 @@
 //! A session beside workers.
-ghost use Rattle.std.specs.Prelude.{◌≡◌, ◌≢◌, ◌≤◌, ℕ, List, [], Some, None, IfOk, vec_len};
+ghost use Rattle.std.specs.Prelude.{◌≡◌, ◌≢◌, ◌≤◌, ℕ, List, [], Some, None, IfOk, false, vec_len};
 ghost use Rattle.ltm_io.specs.Faults.{Rose};
 ghost use Rattle.ltm_lines.specs.Lines.{max_of, taken_by, kept_by};
 ghost use Rattle.ltm_core.specs.Log.{version_now};
@@ -49,8 +49,8 @@ fn take_gear(alloc: Global, core: &Core, workers: u32) -> Result<Gear, NoMemory>
 /// Serves a script with up to 64 workers beside the caller's thread, which is the editor: each line is answered in order, and
 /// its answer is written whole before the next line is read. Without workers it is `serve_alone`.
 ///
-/// The core has accepted nothing, as `Core::create` gives it. A worker for which no thread can be made is left out. The core
-/// that is handed back has the log of the lines that were answered; with workers it is stopped.
+/// The core has accepted nothing and is not stopped, as `Core::create` gives it. A worker for which no thread can be made is
+/// left out. The core that is handed back has the log of the lines that were answered; with workers it is stopped.
 pub fn serve<R: Threads + Wait + Sync, S: Source, W: Sink, G: Gate>(
     rt: &R,
     alloc: Global,
@@ -62,6 +62,7 @@ pub fn serve<R: Threads + Wait + Sync, S: Source, W: Sink, G: Gate>(
 ) -> Served
     requires workers { workers ≤ 64 }
     requires fresh { version_now core.log ≡ 0 }
+    requires running { core.stopped ≡ false }
     // What was answered, what was written of it, how that ended, and the log then.
     ensures session { (output : List ℕ) × (t : Analysts) × IsSession AnswersBeside core.log.opening (S.left source.old) result.end output t
         × Wrote result.end (W.written sink.old) (W.written sink.new) output × (result.core.log ≡ t.log) }

@@ -76,8 +76,9 @@ fn go_round<R: Wait, G: Gate>(
 /// Claims pairs, works on them and commits them, and shows what is worked out where it finds rest, until the core is
 /// stopped. In each held turn it makes one call of the core; each node step is made with no turn held.
 ///
-/// Where it finds nothing to do it steps back, and at last sleeps until the turn's listeners are told of news: so whoever
-/// accepts a batch tells one of them, and whoever stops the core tells all. Takes no memory.
+/// Where claims are out and no pair is left to claim it looks again after a pause; where the core rests it sleeps until the
+/// turn's listeners are told of news: so whoever accepts a batch tells one of them, and whoever stops the core tells all. Takes
+/// no memory.
 pub fn work<R: Wait, G: Gate>(
     rt: &R,
     turn: &Turn<Core>,
@@ -108,7 +109,7 @@ pub fn work<R: Wait, G: Gate>(
             }
             Round::Vain(next) => {
                 scratch = next;
-                idling.after_vain_look(rt, news);
+                idling.after_vain_look(rt);
             }
             Round::Rested(next) => {
                 scratch = next;
