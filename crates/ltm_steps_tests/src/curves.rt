@@ -57,7 +57,7 @@ fn counts_and_times(rt: HostRuntime) {
 
 // The totals 0, 400 and 1000 some time before the end of a slot of a second: 1000, 1250, 2000 and 2001 ms before that of
 // slot 1, and 1000, 1333 and 2001 ms before that of slot 2.
-fn ask_some_time_ago(rt: &impl Abort, curves: &mut Curves)
+fn ask_between_boundaries(rt: &impl Abort, curves: &mut Curves)
     requires { HasShape curves.old 1 2 2 }
 {
     curves.set(0, 0, 1, 300);
@@ -82,9 +82,9 @@ fn ask_some_time_ago(rt: &impl Abort, curves: &mut Curves)
 }
 
 #[test]
-fn totals_some_time_ago(rt: HostRuntime) {
+fn totals_between_boundaries(rt: HostRuntime) {
     match Curves::create(rt.alloc(), 1, 2, 2) {
-        Ok(mut curves) => ask_some_time_ago(&rt, &mut curves),
+        Ok(mut curves) => ask_between_boundaries(&rt, &mut curves),
         Err(_) => panic!(rt; "no memory"),
     }
 }
@@ -222,14 +222,11 @@ fn check_small(rt: &impl Abort, curves: &Curves)
     assert!(rt; curves.total(0, 1) <= 1000);
 }
 
-// Totals stay where no cell was changed, and grow from one slot to three.
-fn lengthen_totals(rt: &impl Abort, totals: &mut TotalCurves, curves: &Curves, changed: &Changed)
+// Totals grow from one slot to three.
+fn lengthen_totals(rt: &impl Abort, totals: &mut TotalCurves, curves: &Curves)
     requires shape { HasShape curves.now 2 2 1 }
-    requires small { AreNarrow curves.now }
     requires totals { AreTotalsOf totals.old curves.now }
-    requires cells { HasCells changed.now 2 1 }
 {
-    totals.copy_changed(curves, changed);
     assert_eq!(rt; totals.slots(), 1);
     let told = [totals.total(0, 0), totals.total(0, 1), totals.total(1, 1)];
     assert_eq!(rt; told, [0, 400, 70]);
@@ -246,24 +243,13 @@ fn lengthen_totals(rt: &impl Abort, totals: &mut TotalCurves, curves: &Curves, c
     assert_eq!(rt; told, [400, 70, 0, 0]);
 }
 
-fn totals_beside(rt: &impl Abort, alloc: Global, curves: &Curves, changed: &Changed)
-    requires shape { HasShape curves.now 2 2 1 }
-    requires small { AreNarrow curves.now }
-    requires cells { HasCells changed.now 2 1 }
-{
-    match TotalCurves::of(alloc, curves) {
-        Ok(mut totals) => lengthen_totals(rt, &mut totals, curves, changed),
-        Err(_) => panic!(rt; "no memory"),
-    }
-}
-
 fn totals_of(rt: &impl Abort, alloc: Global, curves: &mut Curves)
     requires { HasShape curves.old 2 2 1 }
 {
     set_totals(curves);
     check_small(rt, curves);
-    match Changed::create(alloc, 2, 1) {
-        Ok(changed) => totals_beside(rt, alloc, curves, &changed),
+    match TotalCurves::of(alloc, curves) {
+        Ok(mut totals) => lengthen_totals(rt, &mut totals, curves),
         Err(_) => panic!(rt; "no memory"),
     }
 }
