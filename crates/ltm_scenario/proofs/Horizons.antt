@@ -7,14 +7,14 @@ use Rattle.ltm_demand.specs.Rows.{DemandData, DemandState, IsDemandRow, IsNoLess
 use Rattle.ltm_demand.specs.Kept.{AreDemandRows}
 use Rattle.ltm_splits.specs.Rows as splits
 use Rattle.ltm_splits.specs.Rows.{SplitsData}
-use Rattle.ltm_scenario.specs.declared.tables.Tables.TheInside.{Inside}
-use Rattle.ltm_scenario.specs.declared.tables.undo.Undo.TheVariants.{Horizon}
+use Rattle.ltm_scenario.specs.declared.parts.Parts.{Parts}
+use Rattle.ltm_scenario.specs.declared.parts.undo.Undo.TheVariants.{Horizon}
 use Rattle.ltm_scenario.specs.Data.{ScenarioData}
 use Rattle.ltm_scenario.specs.Cells.{widths, cells, cells_with, most_cells}
 use Rattle.ltm_scenario.specs.Horizon.{setup_over, with_slots, with_fewer_slots, MayReach}
 use Rattle.ltm_scenario.specs.State.{KeepsRoom}
 use Rattle.ltm_scenario.specs.IsScenario.{IsScenario}
-use Rattle.ltm_scenario.specs.Tables.{scenario_in, state_in, AreTables}
+use Rattle.ltm_scenario.specs.Parts.{scenario_in, state_in, AreParts}
 use Rattle.ltm_scenario.specs.Undo.{Undoes}
 use Rattle.ltm_scenario.proofs.Undoing.{undoes_by}
 use Rattle.ltm_scenario.proofs.Rooms.{room_stays}
@@ -53,15 +53,15 @@ abbrev demand_over : DemandState → ℕ → DemandState
 demand_over d slots = record d { demand = record { slots = slots; rows = d.demand.rows } }
 
 -- the tables with another horizon
-abbrev tables_over : Inside → ℕ → DemandState → SplitsData → LimitsState → LimitsState → Inside
-tables_over t slots demand splits entry exit = record t { setup = setup_over t.setup slots; demand = demand; splits = splits; entry = entry; exit = exit }
+abbrev parts_over : Parts → ℕ → DemandState → SplitsData → LimitsState → LimitsState → Parts
+parts_over t slots demand splits entry exit = record t { setup = setup_over t.setup slots; demand = demand; splits = splits; entry = entry; exit = exit }
 
-pub stretched_are_tables : (t : Inside) (slots : ℕ) (demand : DemandState) (rows : SplitsData) (entry exit : LimitsState) → AreTables t → t.setup.slots < slots → slots ≤ 10000 →
+pub stretched_are_parts : (t : Parts) (slots : ℕ) (demand : DemandState) (rows : SplitsData) (entry exit : LimitsState) → AreParts t → t.setup.slots < slots → slots ≤ 10000 →
     demand ≡ demand_over t.demand slots → rows ≡ splits.with_slots t.splits slots →
     entry.limits ≡ lengthened t.entry.limits slots → entry.slots ≡ slots → exit.limits ≡ lengthened t.exit.limits slots → exit.slots ≡ slots →
-    (scenario_in (tables_over t slots demand rows entry exit) ≡ with_slots (scenario_in t) slots) × AreTables (tables_over t slots demand rows entry exit)
-stretched_are_tables t slots demand rows entry exit are longer most demand_is rows_are entry_is entry_slots exit_is exit_slots =
-    let same : scenario_in (tables_over t slots demand rows entry exit) ≡ with_slots (scenario_in t) slots =
+    (scenario_in (parts_over t slots demand rows entry exit) ≡ with_slots (scenario_in t) slots) × AreParts (parts_over t slots demand rows entry exit)
+stretched_are_parts t slots demand rows entry exit are longer most demand_is rows_are entry_is entry_slots exit_is exit_slots =
+    let same : scenario_in (parts_over t slots demand rows entry exit) ≡ with_slots (scenario_in t) slots =
     λ i. record (with_slots (scenario_in t) slots) { demand = ap (λ (d : DemandState). d.demand.rows) demand_is i; splits = ap (λ (d : SplitsData). d.rows) rows_are i; entry = entry_is i; exit = exit_is i } in (
       same,
       record {
@@ -74,23 +74,23 @@ stretched_are_tables t slots demand rows entry exit are longer most demand_is ro
       },
     )
 
-pub stretch_undoes : (t : Inside) (slots : ℕ) (demand : DemandState) (rows : SplitsData) (entry exit : LimitsState) → AreTables t → t.setup.slots < slots →
+pub stretch_undoes : (t : Parts) (slots : ℕ) (demand : DemandState) (rows : SplitsData) (entry exit : LimitsState) → AreParts t → t.setup.slots < slots →
     demand ≡ demand_over t.demand slots → rows ≡ splits.with_slots t.splits slots →
     shortened entry.limits t.entry.slots ≡ t.entry.limits → shortened exit.limits t.exit.slots ≡ t.exit.limits →
-    Undoes (state_in t) (state_in (tables_over t slots demand rows entry exit)) (Horizon t.setup.slots)
+    Undoes (state_in t) (state_in (parts_over t slots demand rows entry exit)) (Horizon t.setup.slots)
 stretch_undoes t slots demand rows entry exit are longer demand_is rows_are entry_back exit_back =
     let entry_was : shortened entry.limits t.setup.slots ≡ t.entry.limits = ap (shortened entry.limits) (sym are.entry_slots) ∙ entry_back in
     let exit_was : shortened exit.limits t.setup.slots ≡ t.exit.limits = ap (shortened exit.limits) (sym are.exit_slots) ∙ exit_back in
-    undoes_by (state_in t) (state_in (tables_over t slots demand rows entry exit)) (Horizon t.setup.slots) are.scenario
+    undoes_by (state_in t) (state_in (parts_over t slots demand rows entry exit)) (Horizon t.setup.slots) are.scenario
     (λ i. record (scenario_in t) { demand = ap (λ (d : DemandState). d.demand.rows) demand_is i; splits = ap (λ (d : SplitsData). d.rows) rows_are i; entry = entry_was i; exit = exit_was i })
     (omega (arith, longer))
 
-pub shortened_are_tables : (t : Inside) (slots : ℕ) (demand : DemandState) (rows : SplitsData) (entry exit : LimitsState) → AreTables t → IsScenario (with_fewer_slots (scenario_in t) slots) →
+pub shortened_are_parts : (t : Parts) (slots : ℕ) (demand : DemandState) (rows : SplitsData) (entry exit : LimitsState) → AreParts t → IsScenario (with_fewer_slots (scenario_in t) slots) →
     demand ≡ demand_over t.demand slots → rows ≡ splits.with_slots t.splits slots →
     entry.limits ≡ shortened t.entry.limits slots → entry.slots ≡ slots → exit.limits ≡ shortened t.exit.limits slots → exit.slots ≡ slots →
-    (scenario_in (tables_over t slots demand rows entry exit) ≡ with_fewer_slots (scenario_in t) slots) × AreTables (tables_over t slots demand rows entry exit)
-shortened_are_tables t slots demand rows entry exit are is demand_is rows_are entry_is entry_slots exit_is exit_slots =
-    let same : scenario_in (tables_over t slots demand rows entry exit) ≡ with_fewer_slots (scenario_in t) slots =
+    (scenario_in (parts_over t slots demand rows entry exit) ≡ with_fewer_slots (scenario_in t) slots) × AreParts (parts_over t slots demand rows entry exit)
+shortened_are_parts t slots demand rows entry exit are is demand_is rows_are entry_is entry_slots exit_is exit_slots =
+    let same : scenario_in (parts_over t slots demand rows entry exit) ≡ with_fewer_slots (scenario_in t) slots =
     λ i. record (with_fewer_slots (scenario_in t) slots) { demand = ap (λ (d : DemandState). d.demand.rows) demand_is i; splits = ap (λ (d : SplitsData). d.rows) rows_are i; entry = entry_is i; exit = exit_is i } in (
       same,
       record {
@@ -104,8 +104,8 @@ shortened_are_tables t slots demand rows entry exit are is demand_is rows_are en
     )
 
 -- no room goes
-pub room_over : (t : Inside) (slots : ℕ) (demand : DemandState) (rows : SplitsData) (entry exit : LimitsState) → demand ≡ demand_over t.demand slots → entry.places ≡ t.entry.places → exit.places ≡ t.exit.places →
-    KeepsRoom (state_in t) (state_in (tables_over t slots demand rows entry exit))
+pub room_over : (t : Parts) (slots : ℕ) (demand : DemandState) (rows : SplitsData) (entry exit : LimitsState) → demand ≡ demand_over t.demand slots → entry.places ≡ t.entry.places → exit.places ≡ t.exit.places →
+    KeepsRoom (state_in t) (state_in (parts_over t slots demand rows entry exit))
 room_over t slots demand rows entry exit demand_is entry_places exit_places =
     let stays = room_stays (state_in t) in
     record {

@@ -2,6 +2,7 @@ pub mod Added
 pub mod Amounts
 pub mod Batches
 pub mod Bounds
+pub mod Changed
 pub mod Empty
 pub mod Found
 pub mod Horizons
@@ -9,7 +10,6 @@ pub mod Keeps
 pub mod Kept
 pub mod Linked
 pub mod Making
-pub mod Parts
 pub mod Places
 pub mod Ranges
 pub mod Reaching

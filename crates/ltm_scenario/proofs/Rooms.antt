@@ -3,8 +3,8 @@ use Rattle.std.proofs.Common.{◌≡◌, ℕ, ◌≤◌, ◌==◌, ◌||◌, ◌
 use Rattle.std.proofs.lemmas.Bool.Decides.{nat_tests}
 use Rattle.ltm_demand.specs.declared.row.DemandRow.{DemandRow}
 use Rattle.ltm_demand.specs.Rows.{DemandData, OriginRoom, IsNoLess, CanRestore, room_at, own_rows, amount_at}
-use Rattle.ltm_scenario.specs.declared.tables.undo.Undo.{Undo}
-use Rattle.ltm_scenario.specs.declared.tables.undo.Undo.TheVariants.{Demand, Limit, NewSplit, OldSplit, Diagram, Horizon}
+use Rattle.ltm_scenario.specs.declared.parts.undo.Undo.{Undo}
+use Rattle.ltm_scenario.specs.declared.parts.undo.Undo.TheVariants.{Demand, Limit, NewSplit, OldSplit, Diagram, Horizon}
 use Rattle.ltm_scenario.specs.declared.side.Side.TheVariants.{Entry, Exit}
 use Rattle.ltm_scenario.specs.Data.{ScenarioData, demand_of}
 use Rattle.ltm_scenario.specs.State.{ScenarioState, KeepsRoom}

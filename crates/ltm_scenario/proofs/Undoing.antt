@@ -15,16 +15,16 @@ use Rattle.ltm_demand.specs.Rows.{DemandData, DemandState, CanRestore, edited as
 use Rattle.ltm_splits.specs.declared.keys.SplitKey.{SplitKey}
 use Rattle.ltm_splits.specs.Rows as splits
 use Rattle.ltm_splits.specs.Rows.{SplitRow, SplitsData, put_back, row_of}
-use Rattle.ltm_scenario.specs.declared.tables.Tables.TheInside.{Inside}
-use Rattle.ltm_scenario.specs.declared.tables.undo.Undo.{Undo}
-use Rattle.ltm_scenario.specs.declared.tables.undo.Undo.TheVariants.{Demand, Limit, NewSplit, OldSplit, Diagram, Horizon}
+use Rattle.ltm_scenario.specs.declared.parts.Parts.{Parts}
+use Rattle.ltm_scenario.specs.declared.parts.undo.Undo.{Undo}
+use Rattle.ltm_scenario.specs.declared.parts.undo.Undo.TheVariants.{Demand, Limit, NewSplit, OldSplit, Diagram, Horizon}
 use Rattle.ltm_scenario.specs.declared.side.Side.TheVariants.{Entry, Exit}
 use Rattle.ltm_scenario.specs.Data.{ScenarioData}
 use Rattle.ltm_scenario.specs.Diagrams.{DiagramsState}
 use Rattle.ltm_scenario.specs.State.{ScenarioState}
 use Rattle.ltm_scenario.specs.IsScenario.{IsScenario}
 use Rattle.ltm_scenario.specs.SplitNote.{IsSplitNote}
-use Rattle.ltm_scenario.specs.Tables.{scenario_in, state_in, AreTables}
+use Rattle.ltm_scenario.specs.Parts.{scenario_in, state_in, AreParts}
 use Rattle.ltm_scenario.specs.Undo.{undone, CanUndo, Undoes}
 use Rattle.ltm_scenario.proofs.Kept.{with_row_rows}
 
@@ -33,14 +33,14 @@ pub undoes_by : (old new : ScenarioState) (undo : Undo) → IsScenario old.scena
 undoes_by old new undo is back fits = record { back = back; can = record { scenario = subst IsScenario (sym back) is; fits = fits } }
 
 -- ---- demand
-pub demand_undoes : (t : Inside) (next : DemandState) (row : DemandRow) → AreTables t → AreTables (record t { demand = next }) → demand.with_row next.demand row ≡ Ok t.demand.demand → CanRestore next row → Undoes (state_in t) (state_in (record t { demand = next })) (Demand row)
+pub demand_undoes : (t : Parts) (next : DemandState) (row : DemandRow) → AreParts t → AreParts (record t { demand = next }) → demand.with_row next.demand row ≡ Ok t.demand.demand → CanRestore next row → Undoes (state_in t) (state_in (record t { demand = next })) (Demand row)
 demand_undoes t next row are are_next back can =
     let rows : t.demand.demand.rows ≡ edited_rows next.demand.rows row = ap (λ (d : DemandData). d.rows) (with_row_rows next.demand t.demand.demand row back) in
     undoes_by (state_in t) (state_in (record t { demand = next })) (Demand row) are.scenario
     (ap (λ (rs : List DemandRow). record (scenario_in t) { demand = rs }) (sym rows))
     (let P : ℕ → Type 0 = λ n. CanRestore (record { demand = record { slots = n; rows = next.demand.rows }; room = next.room }) row in subst P are_next.demand_slots can)
 
-pub demand_restored : (t : Inside) (next : DemandState) (row : DemandRow) → AreTables t → IsScenario (undone (scenario_in t) (Demand row)) → demand.with_row t.demand.demand row ≡ Ok next.demand → (scenario_in (record t { demand = next }) ≡ undone (scenario_in t) (Demand row)) × AreTables (record t { demand = next })
+pub demand_restored : (t : Parts) (next : DemandState) (row : DemandRow) → AreParts t → IsScenario (undone (scenario_in t) (Demand row)) → demand.with_row t.demand.demand row ≡ Ok next.demand → (scenario_in (record t { demand = next }) ≡ undone (scenario_in t) (Demand row)) × AreParts (record t { demand = next })
 demand_restored t next row are is done =
     let rows = with_row_rows t.demand.demand next.demand row done in
     let same : scenario_in (record t { demand = next }) ≡ undone (scenario_in t) (Demand row) = ap (λ (d : DemandData). record (scenario_in t) { demand = d.rows }) rows in (
@@ -56,7 +56,7 @@ demand_restored t next row are is done =
     )
 
 -- ---- limits
-pub entry_restored : (t : Inside) (next : LimitsState) (link from : ℕ) (was : Vec ℕ) → AreTables t → IsScenario (undone (scenario_in t) (Limit Entry link from was)) → next.limits ≡ with_values t.entry.limits link from was.items → next.slots ≡ t.entry.slots → (scenario_in (record t { entry = next }) ≡ undone (scenario_in t) (Limit Entry link from was)) × AreTables (record t { entry = next })
+pub entry_restored : (t : Parts) (next : LimitsState) (link from : ℕ) (was : Vec ℕ) → AreParts t → IsScenario (undone (scenario_in t) (Limit Entry link from was)) → next.limits ≡ with_values t.entry.limits link from was.items → next.slots ≡ t.entry.slots → (scenario_in (record t { entry = next }) ≡ undone (scenario_in t) (Limit Entry link from was)) × AreParts (record t { entry = next })
 entry_restored t next link from was are is done slots =
     let same : scenario_in (record t { entry = next }) ≡ undone (scenario_in t) (Limit Entry link from was) = ap (λ ls. record (scenario_in t) { entry = ls }) done in (
       same,
@@ -70,7 +70,7 @@ entry_restored t next link from was are is done slots =
       },
     )
 
-pub exit_restored : (t : Inside) (next : LimitsState) (link from : ℕ) (was : Vec ℕ) → AreTables t → IsScenario (undone (scenario_in t) (Limit Exit link from was)) → next.limits ≡ with_values t.exit.limits link from was.items → next.slots ≡ t.exit.slots → (scenario_in (record t { exit = next }) ≡ undone (scenario_in t) (Limit Exit link from was)) × AreTables (record t { exit = next })
+pub exit_restored : (t : Parts) (next : LimitsState) (link from : ℕ) (was : Vec ℕ) → AreParts t → IsScenario (undone (scenario_in t) (Limit Exit link from was)) → next.limits ≡ with_values t.exit.limits link from was.items → next.slots ≡ t.exit.slots → (scenario_in (record t { exit = next }) ≡ undone (scenario_in t) (Limit Exit link from was)) × AreParts (record t { exit = next })
 exit_restored t next link from was are is done slots =
     let same : scenario_in (record t { exit = next }) ≡ undone (scenario_in t) (Limit Exit link from was) = ap (λ ls. record (scenario_in t) { exit = ls }) done in (
       same,
@@ -88,14 +88,14 @@ exit_restored t next link from was are is done slots =
 as_many : (from to count n places : ℕ) → from ≤ to → count ≡ to - from → to * n ≤ places → (from + count) * n ≤ places
 as_many from to count n places order is fits = subst (λ k. k * n ≤ places) (let e : to ≡ from + count = omega arith in e) fits
 
-pub entry_undoes : (t : Inside) (next : LimitsState) (link from to : ℕ) (was : Vec ℕ) → AreTables t → AreTables (record t { entry = next }) → link < length t.network.links → from ≤ to → to ≤ t.setup.slots → with_values next.limits link from was.items ≡ t.entry.limits → vec_len was ≡ to - from → to * length t.entry.limits ≤ next.places → Undoes (state_in t) (state_in (record t { entry = next })) (Limit Entry link from was)
+pub entry_undoes : (t : Parts) (next : LimitsState) (link from to : ℕ) (was : Vec ℕ) → AreParts t → AreParts (record t { entry = next }) → link < length t.network.links → from ≤ to → to ≤ t.setup.slots → with_values next.limits link from was.items ≡ t.entry.limits → vec_len was ≡ to - from → to * length t.entry.limits ≤ next.places → Undoes (state_in t) (state_in (record t { entry = next })) (Limit Entry link from was)
 entry_undoes t next link from to was are are_next inside order within back count places =
     let long : length next.limits ≡ length t.entry.limits = are_next.scenario.entry.for_each ∙ sym are.scenario.entry.for_each in
     undoes_by (state_in t) (state_in (record t { entry = next })) (Limit Entry link from was) are.scenario
     (ap (λ ls. record (scenario_in t) { entry = ls }) back)
     (omega (arith, are_next.scenario.entry.for_each), omega arith, as_many from to (vec_len was) (length next.limits) next.places order count (subst (λ n. to * n ≤ next.places) (sym long) places))
 
-pub exit_undoes : (t : Inside) (next : LimitsState) (link from to : ℕ) (was : Vec ℕ) → AreTables t → AreTables (record t { exit = next }) → link < length t.network.links → from ≤ to → to ≤ t.setup.slots → with_values next.limits link from was.items ≡ t.exit.limits → vec_len was ≡ to - from → to * length t.exit.limits ≤ next.places → Undoes (state_in t) (state_in (record t { exit = next })) (Limit Exit link from was)
+pub exit_undoes : (t : Parts) (next : LimitsState) (link from to : ℕ) (was : Vec ℕ) → AreParts t → AreParts (record t { exit = next }) → link < length t.network.links → from ≤ to → to ≤ t.setup.slots → with_values next.limits link from was.items ≡ t.exit.limits → vec_len was ≡ to - from → to * length t.exit.limits ≤ next.places → Undoes (state_in t) (state_in (record t { exit = next })) (Limit Exit link from was)
 exit_undoes t next link from to was are are_next inside order within back count places =
     let long : length next.limits ≡ length t.exit.limits = are_next.scenario.exit.for_each ∙ sym are.scenario.exit.for_each in
     undoes_by (state_in t) (state_in (record t { exit = next })) (Limit Exit link from was) are.scenario
@@ -103,7 +103,7 @@ exit_undoes t next link from to was are are_next inside order within back count 
     (omega (arith, are_next.scenario.exit.for_each), omega arith, as_many from to (vec_len was) (length next.limits) next.places order count (subst (λ n. to * n ≤ next.places) (sym long) places))
 
 -- ---- splits
-pub split_undoes : (t : Inside) (next : SplitsData) (key : SplitKey) (weights : List ℕ) (undo : Undo) → AreTables t → IsSplitNote t.splits.rows key undo → put_back next.rows key (row_of t.splits.rows key) ≡ t.splits.rows → row_of next.rows key ≡ Some weights → Undoes (state_in t) (state_in (record t { splits = next })) undo
+pub split_undoes : (t : Parts) (next : SplitsData) (key : SplitKey) (weights : List ℕ) (undo : Undo) → AreParts t → IsSplitNote t.splits.rows key undo → put_back next.rows key (row_of t.splits.rows key) ≡ t.splits.rows → row_of next.rows key ≡ Some weights → Undoes (state_in t) (state_in (record t { splits = next })) undo
 split_undoes t next key weights (Demand row) are note back stands = absurd note
 split_undoes t next key weights (Limit side link from was) are note back stands = absurd note
 split_undoes t next key weights (NewSplit at) are note back stands =
@@ -118,7 +118,7 @@ split_undoes t next key weights (OldSplit at was) are note back stands =
 split_undoes t next key weights (Diagram link diagram limits) are note back stands = absurd note
 split_undoes t next key weights (Horizon slots) are note back stands = absurd note
 
-pub splits_restored : (t : Inside) (next : SplitsData) (rows : List SplitRow) → AreTables t → IsScenario (record (scenario_in t) { splits = rows }) → next ≡ splits.with_rows t.splits rows → (scenario_in (record t { splits = next }) ≡ record (scenario_in t) { splits = rows }) × AreTables (record t { splits = next })
+pub splits_restored : (t : Parts) (next : SplitsData) (rows : List SplitRow) → AreParts t → IsScenario (record (scenario_in t) { splits = rows }) → next ≡ splits.with_rows t.splits rows → (scenario_in (record t { splits = next }) ≡ record (scenario_in t) { splits = rows }) × AreParts (record t { splits = next })
 splits_restored t next rows are is done =
     let same : scenario_in (record t { splits = next }) ≡ record (scenario_in t) { splits = rows } = ap (λ (d : SplitsData). record (scenario_in t) { splits = d.rows }) done in (
       same,
@@ -150,7 +150,7 @@ diagram_is_scenario s link diagram is sets = record {
   weights = is.weights;
 }
 
-pub diagrams_changed : (t : Inside) (next : DiagramsState) (link : ℕ) (diagram : LinkDiagram) (limits : Limits) → AreTables t → limits_of diagram t.setup.step.0 ≡ Ok limits → next.step ≡ t.diagrams.step → next.diagrams ≡ slice_set t.diagrams.diagrams link diagram → (scenario_in (record t { diagrams = next }) ≡ record (scenario_in t) { diagrams = slice_set t.diagrams.diagrams link diagram }) × AreTables (record t { diagrams = next })
+pub diagrams_changed : (t : Parts) (next : DiagramsState) (link : ℕ) (diagram : LinkDiagram) (limits : Limits) → AreParts t → limits_of diagram t.setup.step.0 ≡ Ok limits → next.step ≡ t.diagrams.step → next.diagrams ≡ slice_set t.diagrams.diagrams link diagram → (scenario_in (record t { diagrams = next }) ≡ record (scenario_in t) { diagrams = slice_set t.diagrams.diagrams link diagram }) × AreParts (record t { diagrams = next })
 diagrams_changed t next link diagram limits are sets step done =
     let same : scenario_in (record t { diagrams = next }) ≡ record (scenario_in t) { diagrams = slice_set t.diagrams.diagrams link diagram } = ap (λ ds. record (scenario_in t) { diagrams = ds }) done in (
       same,
@@ -164,10 +164,10 @@ diagrams_changed t next link diagram limits are sets step done =
       },
     )
 
-pub diagrams_restored : (t : Inside) (next : DiagramsState) (link : ℕ) (diagram : LinkDiagram) (limits : Limits) → AreTables t → limits_of diagram t.setup.step.0 ≡ Ok limits → next.step ≡ t.diagrams.step → next.diagrams ≡ slice_set t.diagrams.diagrams link diagram → (scenario_in (record t { diagrams = next }) ≡ undone (scenario_in t) (Diagram link diagram limits)) × AreTables (record t { diagrams = next })
+pub diagrams_restored : (t : Parts) (next : DiagramsState) (link : ℕ) (diagram : LinkDiagram) (limits : Limits) → AreParts t → limits_of diagram t.setup.step.0 ≡ Ok limits → next.step ≡ t.diagrams.step → next.diagrams ≡ slice_set t.diagrams.diagrams link diagram → (scenario_in (record t { diagrams = next }) ≡ undone (scenario_in t) (Diagram link diagram limits)) × AreParts (record t { diagrams = next })
 diagrams_restored t next link diagram limits are sets step done = diagrams_changed t next link diagram limits are sets step done
 
-pub diagram_undoes : (t : Inside) (next : DiagramsState) (link : ℕ) (diagram old : LinkDiagram) (limits : Limits) → AreTables t → link < length t.diagrams.diagrams → next.diagrams ≡ slice_set t.diagrams.diagrams link diagram → old ≡ get_or t.diagrams.diagrams link old → limits_of old t.setup.step.0 ≡ Ok limits → Undoes (state_in t) (state_in (record t { diagrams = next })) (Diagram link old limits)
+pub diagram_undoes : (t : Parts) (next : DiagramsState) (link : ℕ) (diagram old : LinkDiagram) (limits : Limits) → AreParts t → link < length t.diagrams.diagrams → next.diagrams ≡ slice_set t.diagrams.diagrams link diagram → old ≡ get_or t.diagrams.diagrams link old → limits_of old t.setup.step.0 ≡ Ok limits → Undoes (state_in t) (state_in (record t { diagrams = next })) (Diagram link old limits)
 diagram_undoes t next link diagram old limits are inside done was sets =
     let back : slice_set next.diagrams link old ≡ t.diagrams.diagrams =
     ap (λ ds. slice_set ds link old) done ∙ set-set t.diagrams.diagrams link diagram old ∙ ap (set t.diagrams.diagrams link) was ∙ set-get_or t.diagrams.diagrams link old in

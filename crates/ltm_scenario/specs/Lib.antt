@@ -13,7 +13,7 @@ pub mod Setup
 pub mod Shape
 pub mod SplitNote
 pub mod State
-pub mod Tables
+pub mod Parts
 pub mod Undo
 pub mod Valid
 pub mod Weights

@@ -3,8 +3,8 @@ use Rattle.std.specs.Prelude.{◌≡◌, Some, None, List}
 use Rattle.ltm_splits.specs.declared.keys.SplitKey.{SplitKey}
 use Rattle.ltm_splits.specs.Rows.{SplitRow, row_of}
 use Rattle.ltm_splits.specs.WeightsLie.{AreWeights}
-use Rattle.ltm_scenario.specs.declared.tables.undo.Undo.{Undo}
-use Rattle.ltm_scenario.specs.declared.tables.undo.Undo.TheVariants.{Demand, Limit, NewSplit, OldSplit, Diagram, Horizon}
+use Rattle.ltm_scenario.specs.declared.parts.undo.Undo.{Undo}
+use Rattle.ltm_scenario.specs.declared.parts.undo.Undo.TheVariants.{Demand, Limit, NewSplit, OldSplit, Diagram, Horizon}
 
 -- the row that stands at the key, or that none does
 abbrev pub IsSplitNote : List SplitRow → SplitKey → Undo → Type 0

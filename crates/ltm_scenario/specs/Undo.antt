@@ -5,8 +5,8 @@ use Rattle.ltm_diagram.specs.Limits.{limits_of}
 use Rattle.ltm_demand.specs.Rows.{CanRestore, edited as edited_rows}
 use Rattle.ltm_splits.specs.Rows.{taken_out, put_in, row_of}
 use Rattle.ltm_splits.specs.WeightsLie.{AreWeights}
-use Rattle.ltm_scenario.specs.declared.tables.undo.Undo.{Undo}
-use Rattle.ltm_scenario.specs.declared.tables.undo.Undo.TheVariants.{Demand, Limit, NewSplit, OldSplit, Diagram, Horizon}
+use Rattle.ltm_scenario.specs.declared.parts.undo.Undo.{Undo}
+use Rattle.ltm_scenario.specs.declared.parts.undo.Undo.TheVariants.{Demand, Limit, NewSplit, OldSplit, Diagram, Horizon}
 use Rattle.ltm_scenario.specs.Data.{ScenarioData}
 use Rattle.ltm_scenario.specs.Horizon.{with_fewer_slots}
 use Rattle.ltm_scenario.specs.Build.{limits_at, with_limits_at}

@@ -6,14 +6,15 @@ ghost use Rattle.ltm_scenario.specs.Edits.{demand_row, demand_edited, limited_li
 ghost use Rattle.ltm_scenario.specs.State.{KeepsRoom};
 ghost use Rattle.ltm_scenario.specs.Undo.{Undoes};
 ghost use Rattle.ltm_scenario.specs.IsScenario.{IsDemandOf};
+ghost use Rattle.ltm_scenario.specs.Parts.{scenario_in, state_in, AreParts};
 
 mod split;
 
 use crate::edit::{Edit, EditCause, EditFault};
 use crate::faults::HorizonFault;
+use crate::parts::Parts;
+use crate::parts::undo::Undo;
 use crate::side::Side;
-use crate::tables::Tables;
-use crate::tables::undo::Undo;
 use ltm_demand::{DemandFault, DemandRow};
 use ltm_diagram::Diagram;
 use ltm_units::{Name, NodeId, Units};
@@ -38,17 +39,19 @@ fn cause_of_horizon(fault: HorizonFault) -> EditCause
     }
 }
 
-impl Tables {
+impl Parts {
     /// Makes the edits in order, or none of them. The first has the place.
     #[tactic(auto, using(crate::proofs::Rooms::room_stays, crate::proofs::Rooms::room_through, crate::proofs::Rooms::still_undoes, crate::proofs::Rooms::undone_back))]
     pub fn accept_from(&mut self, place: u32, edits: &[Edit]) -> Result<(), EditFault>
+        requires parts { AreParts self.old }
         requires places { place + length edits.now < 2 ^ 32 }
         requires amounts { HaveAmounts edits.now }
-        ensures ok { OnOk result (edited_from place self.old.scenario edits.now ≡ Ok self.new.scenario) }
-        ensures err { OnErr result (self.new.scenario ≡ self.old.scenario) }
+        ensures ok { OnOk result (edited_from place (scenario_in self.old) edits.now ≡ Ok (scenario_in self.new)) }
+        ensures err { OnErr result (scenario_in self.new ≡ scenario_in self.old) }
         ensures cause { IfErr result (λ fault. fault.cause ≢ EditCause.NoMemory
-            → edited_from place self.old.scenario edits.now ≡ Err fault) }
-        ensures room { KeepsRoom self.old self.new }
+            → edited_from place (scenario_in self.old) edits.now ≡ Err fault) }
+        ensures room { KeepsRoom (state_in self.old) (state_in self.new) }
+        ensures parts { AreParts self.new }
     {
         let Some((edit, rest)) = edits.split_first() else {
             return Ok(());
@@ -67,12 +70,14 @@ impl Tables {
 
     /// Makes one edit, and gives what undoes it.
     fn apply(&mut self, edit: &Edit) -> Result<Undo, EditCause>
-        requires { amount_of edit.now ≤ 1000000000 }
-        ensures ok { OnOk result (edited self.old.scenario edit.now ≡ Ok self.new.scenario) }
-        ensures undo { IfOk result (Undoes self.old self.new) }
-        ensures err { OnErr result (self.new.scenario ≡ self.old.scenario) }
-        ensures cause { IfErr result (λ e. e ≢ EditCause.NoMemory → edited self.old.scenario edit.now ≡ Err e) }
-        ensures room { KeepsRoom self.old self.new }
+        requires parts { AreParts self.old }
+        requires amount { amount_of edit.now ≤ 1000000000 }
+        ensures ok { OnOk result (edited (scenario_in self.old) edit.now ≡ Ok (scenario_in self.new)) }
+        ensures undo { IfOk result (Undoes (state_in self.old) (state_in self.new)) }
+        ensures err { OnErr result (scenario_in self.new ≡ scenario_in self.old) }
+        ensures cause { IfErr result (λ e. e ≢ EditCause.NoMemory → edited (scenario_in self.old) edit.now ≡ Err e) }
+        ensures room { KeepsRoom (state_in self.old) (state_in self.new) }
+        ensures parts { AreParts self.new }
     {
         match *edit {
             Edit::Demand {
@@ -113,14 +118,16 @@ impl Tables {
         to: u32,
         amount: Units,
     ) -> Result<Undo, EditCause>
-        requires { amount.0 ≤ 1000000000 }
+        requires parts { AreParts self.old }
+        requires amount { amount.0 ≤ 1000000000 }
         ensures ok { OnOk result
-            (demand_edited self.old.scenario origin.now destination.now from to amount.0 ≡ Ok self.new.scenario) }
-        ensures undo { IfOk result (Undoes self.old self.new) }
-        ensures err { OnErr result (self.new.scenario ≡ self.old.scenario) }
+            (demand_edited (scenario_in self.old) origin.now destination.now from to amount.0 ≡ Ok (scenario_in self.new)) }
+        ensures undo { IfOk result (Undoes (state_in self.old) (state_in self.new)) }
+        ensures err { OnErr result (scenario_in self.new ≡ scenario_in self.old) }
         ensures cause { IfErr result (λ e. e ≢ EditCause.NoMemory
-            → demand_edited self.old.scenario origin.now destination.now from to amount.0 ≡ Err e) }
-        ensures room { KeepsRoom self.old self.new }
+            → demand_edited (scenario_in self.old) origin.now destination.now from to amount.0 ≡ Err e) }
+        ensures room { KeepsRoom (state_in self.old) (state_in self.new) }
+        ensures parts { AreParts self.new }
     {
         let row = match self.demand_row(origin, destination, from, to, amount) {
             Ok(row) => row,
@@ -142,17 +149,17 @@ impl Tables {
         to: u32,
         amount: Units,
     ) -> Result<DemandRow, EditCause>
-        ensures row { result ≡ demand_row self.now.scenario origin.now destination.now from to amount.0 }
-        ensures is_row { IfOk result (IsDemandOf self.now.scenario) }
+        ensures row { result ≡ demand_row (scenario_in self.now) origin.now destination.now from to amount.0 }
+        ensures is_row { IfOk result (IsDemandOf (scenario_in self.now)) }
         ensures amount { IfOk result (λ row. row.amount ≡ amount) }
     {
-        let Some(origin) = self.network().find_node(origin) else {
+        let Some(origin) = self.network.find_node(origin) else {
             return Err(EditCause::UnknownName);
         };
-        let Some(end) = self.network().find_node(destination) else {
+        let Some(end) = self.network.find_node(destination) else {
             return Err(EditCause::UnknownName);
         };
-        let Some(destination) = self.own(end) else {
+        let Some(destination) = self.destinations.place(end) else {
             return Err(EditCause::UnknownDestination);
         };
         if self.has_no_out_link(origin) {
@@ -176,27 +183,14 @@ impl Tables {
         })
     }
 
-    pub fn has_no_out_link(&self, node: NodeId) -> bool
-        requires { node.0 < length self.now.scenario.network.nodes }
-        ensures { result ≡ has_no_out_link self.now.scenario node.0 }
-    {
-        self.network().out_links(node).is_empty()
-    }
-
-    pub fn are_slots(&self, from: u32, to: u32) -> bool
-        ensures { result ≡ are_slots self.now.scenario from to }
-    {
-        from < to && to <= self.setup().slots
-    }
-
     /// The link whose limits an edit sets.
     #[tactic(auto, unfolding(crate::specs::Edits::limited_link))]
     fn limited_link(&self, name: &Name, from: u32, to: u32) -> Result<u32, EditCause>
-        ensures link { result ≡ limited_link self.now.scenario name.now from to }
-        ensures there { IfOk result (λ link. link < length self.now.scenario.network.links) }
-        ensures slots { OnOk result (are_slots self.now.scenario from to ≡ true) }
+        ensures link { result ≡ limited_link (scenario_in self.now) name.now from to }
+        ensures there { IfOk result (λ link. link < length (scenario_in self.now).network.links) }
+        ensures slots { OnOk result (are_slots (scenario_in self.now) from to ≡ true) }
     {
-        let Some(link) = self.network().find_link(name) else {
+        let Some(link) = self.network.find_link(name) else {
             return Err(EditCause::UnknownName);
         };
         if !self.are_slots(from, to) {
@@ -213,12 +207,14 @@ impl Tables {
         to: u32,
         amount: Units,
     ) -> Result<Undo, EditCause>
-        ensures ok { OnOk result (limit_edited self.old.scenario side name.now from to amount.0 ≡ Ok self.new.scenario) }
-        ensures undo { IfOk result (Undoes self.old self.new) }
-        ensures err { OnErr result (self.new.scenario ≡ self.old.scenario) }
+        requires parts { AreParts self.old }
+        ensures ok { OnOk result (limit_edited (scenario_in self.old) side name.now from to amount.0 ≡ Ok (scenario_in self.new)) }
+        ensures undo { IfOk result (Undoes (state_in self.old) (state_in self.new)) }
+        ensures err { OnErr result (scenario_in self.new ≡ scenario_in self.old) }
         ensures cause { IfErr result (λ e. e ≢ EditCause.NoMemory
-            → limit_edited self.old.scenario side name.now from to amount.0 ≡ Err e) }
-        ensures room { KeepsRoom self.old self.new }
+            → limit_edited (scenario_in self.old) side name.now from to amount.0 ≡ Err e) }
+        ensures room { KeepsRoom (state_in self.old) (state_in self.new) }
+        ensures parts { AreParts self.new }
     {
         let link = match self.limited_link(name, from, to) {
             Ok(link) => link,
@@ -232,28 +228,32 @@ impl Tables {
 
     #[tactic(auto, unfolding(crate::specs::Edits::diagram_edited))]
     fn edit_diagram(&mut self, name: &Name, diagram: Diagram) -> Result<Undo, EditCause>
-        ensures ok { OnOk result (diagram_edited self.old.scenario name.now diagram ≡ Ok self.new.scenario) }
-        ensures undo { IfOk result (Undoes self.old self.new) }
-        ensures err { OnErr result (self.new.scenario ≡ self.old.scenario) }
+        requires parts { AreParts self.old }
+        ensures ok { OnOk result (diagram_edited (scenario_in self.old) name.now diagram ≡ Ok (scenario_in self.new)) }
+        ensures undo { IfOk result (Undoes (state_in self.old) (state_in self.new)) }
+        ensures err { OnErr result (scenario_in self.new ≡ scenario_in self.old) }
         ensures cause { IfErr result (λ e. e ≢ EditCause.NoMemory
-            → diagram_edited self.old.scenario name.now diagram ≡ Err e) }
-        ensures room { KeepsRoom self.old self.new }
+            → diagram_edited (scenario_in self.old) name.now diagram ≡ Err e) }
+        ensures room { KeepsRoom (state_in self.old) (state_in self.new) }
+        ensures parts { AreParts self.new }
     {
-        let Some(link) = self.network().find_link(name) else {
+        let Some(link) = self.network.find_link(name) else {
             return Err(EditCause::UnknownName);
         };
-        match diagram.limits(self.setup().step) {
+        match diagram.limits(self.setup.step) {
             Ok(limits) => return Ok(self.change_diagram(link.0, diagram, limits)),
             Err(fault) => return Err(EditCause::Diagram(fault)),
         }
     }
 
     fn edit_horizon(&mut self, slots: u32) -> Result<Undo, EditCause>
-        ensures ok { OnOk result (horizon_edited self.old.scenario slots ≡ Ok self.new.scenario) }
-        ensures undo { IfOk result (Undoes self.old self.new) }
-        ensures err { OnErr result (self.new.scenario ≡ self.old.scenario) }
-        ensures cause { IfErr result (λ e. horizon_edited self.old.scenario slots ≡ Err e) }
-        ensures room { KeepsRoom self.old self.new }
+        requires parts { AreParts self.old }
+        ensures ok { OnOk result (horizon_edited (scenario_in self.old) slots ≡ Ok (scenario_in self.new)) }
+        ensures undo { IfOk result (Undoes (state_in self.old) (state_in self.new)) }
+        ensures err { OnErr result (scenario_in self.new ≡ scenario_in self.old) }
+        ensures cause { IfErr result (λ e. horizon_edited (scenario_in self.old) slots ≡ Err e) }
+        ensures room { KeepsRoom (state_in self.old) (state_in self.new) }
+        ensures parts { AreParts self.new }
     {
         match self.lengthen(slots) {
             Ok(undo) => return Ok(undo),

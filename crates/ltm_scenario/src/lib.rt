@@ -15,10 +15,10 @@ mod edit;
 mod edits;
 mod faults;
 mod laws;
+mod parts;
 mod scenario;
 mod setup;
 mod side;
-mod tables;
 mod weights;
 
 pub use batch::{Batch, BatchFault};

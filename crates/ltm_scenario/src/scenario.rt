@@ -10,20 +10,20 @@ ghost use Rattle.ltm_scenario.specs.Data.{empty_scenario, demand_of, splits_of};
 ghost use Rattle.ltm_scenario.specs.Reads.{destination_of, destination_node};
 ghost use Rattle.ltm_scenario.specs.Cells.{cells};
 ghost use Rattle.ltm_scenario.specs.Valid.{IsValid};
-ghost use Rattle.ltm_scenario.specs.Check.{checked};
 ghost use Rattle.ltm_scenario.specs.Build.{with_link, with_destination, with_demand, with_split, with_exit, HasNoSplitAt};
 ghost use Rattle.ltm_scenario.specs.Horizon.{with_horizon, MayReach};
 ghost use Rattle.ltm_scenario.specs.Edits.{edited_all, horizon_after, HaveAmounts};
 ghost use Rattle.ltm_scenario.specs.Shape.{SameShape};
 ghost use Rattle.ltm_scenario.specs.IsScenario.{IsScenario, IsDemandOf, IsSplitOf};
 
+mod building;
 mod rows;
 
 use crate::batch::Batch;
 use crate::edit::{EditCause, EditFault};
 use crate::faults::{DestinationFault, HorizonFault, LinkFault, ScenarioFault};
+use crate::parts::Parts;
 use crate::setup::{MOST_SLOTS, Setup, SetupFault};
-use crate::tables::Tables;
 use ltm_demand::{Demand, DemandFault, DemandRow};
 use ltm_diagram::{Delays, Diagram, Limits};
 use ltm_network::Network;
@@ -37,13 +37,13 @@ use std::marker::Model;
 ///
 /// Contracts see these data alone: two scenarios are equal where they are.
 pub struct Scenario {
-    tables: Tables,
+    pub(crate) parts: Parts,
 }
 
 // By hand, so that letting go of a scenario is one call, and not its parts one by one wherever that may happen.
 impl Drop for Scenario {
     fn drop(self) {
-        let Scenario { tables: _tables } = self;
+        let Scenario { parts: _parts } = self;
     }
 }
 
@@ -52,7 +52,11 @@ impl Model for Scenario {
 
     ghost Value = { ScenarioData };
 
-    ghost view = { λ s. s.tables.scenario };
+    ghost use Rattle.ltm_scenario.specs.Parts.{scenario_in, AreParts};
+
+    ghost view = { λ s. scenario_in s.parts };
+
+    ghost invariant = { λ s. AreParts s.parts };
 }
 
 impl Scenario {
@@ -64,93 +68,8 @@ impl Scenario {
     {
         setup.check()?;
         Ok(Scenario {
-            tables: Tables::new(alloc, setup),
+            parts: Parts::new(alloc, setup),
         })
-    }
-
-    /// Adds a link with its diagram; its ends are made nodes where they are new. What the network refuses comes before
-    /// what the diagram lacks.
-    ///
-    /// No split row stands at the tail, since a split row has a weight for each out-link of its node.
-    pub fn add_link(
-        &mut self,
-        name: Name,
-        tail: Name,
-        head: Name,
-        diagram: Diagram,
-    ) -> Result<LinkId, LinkFault>
-        requires { HasNoSplitAt self.old (number_of self.old.network.nodes tail) }
-        ensures ok { OnOk result (with_link self.old name tail head diagram ≡ Ok self.new) }
-        ensures number { IfOk result (λ link. link.0 ≡ length self.old.network.links) }
-        ensures splits { self.new.splits ≡ self.old.splits }
-        ensures err { OnErr result (self.new ≡ self.old) }
-        ensures cause { IfErr result (λ e. e ≢ LinkFault.NoMemory
-            → with_link self.old name tail head diagram ≡ Err e) }
-    {
-        self.tables.add_link(name, tail, head, diagram)
-    }
-
-    /// The place of a node among the destinations, a new last one where it had none.
-    pub fn add_destination(&mut self, node: NodeId) -> Result<u32, DestinationFault>
-        requires { node.0 < length self.old.network.nodes }
-        ensures ok { OnOk result (with_destination self.old node.0 ≡ Ok self.new) }
-        ensures place { IfOk result (λ place. destination_of self.new.destinations node.0 ≡ Some place) }
-        ensures err { OnErr result (self.new ≡ self.old) }
-        ensures cause { IfErr result (λ e. e ≢ DestinationFault.NoMemory
-            → with_destination self.old node.0 ≡ Err e) }
-    {
-        self.tables.add_destination(node)
-    }
-
-    /// Sets a demand row in place of the one with its key; an amount of 0 takes that row out.
-    ///
-    /// The amount is at most 1,000,000,000 units. The origin has an out-link and is not the destination.
-    pub fn set_demand(&mut self, row: DemandRow) -> Result<(), DemandFault>
-        requires amount { row.amount.0 ≤ 1000000000 }
-        requires row { IsDemandOf self.old row }
-        ensures ok { OnOk result (with_demand self.old row ≡ Ok self.new) }
-        ensures err { OnErr result (self.new ≡ self.old) }
-        ensures cause { IfErr result (λ e. e ≢ DemandFault.NoMemory → with_demand self.old row ≡ Err e) }
-    {
-        self.tables.set_demand(row)
-    }
-
-    /// Sets the split row that begins at the slot `from`, one weight per out-link in order of link number, in place of
-    /// the one with the same node, destination and first slot.
-    ///
-    /// The node is not the destination.
-    pub fn set_split(
-        &mut self,
-        node: NodeId,
-        destination: u32,
-        from: u32,
-        weights: &[u32],
-    ) -> Result<(), SplitFault>
-        requires { IsSplitOf self.old (key_of node.0 destination from, weights.now) }
-        ensures ok { OnOk result
-            (with_split self.old (key_of node.0 destination from) weights.now ≡ Ok self.new) }
-        ensures err { OnErr result (self.new ≡ self.old) }
-        ensures cause { IfErr result (λ e. e ≢ SplitFault.NoMemory
-            → with_split self.old (key_of node.0 destination from) weights.now ≡ Err e) }
-    {
-        self.tables.set_split(node, destination, from, weights)
-    }
-
-    /// Sets the exit limit of a link for the slots `from` to `to - 1`: the amount, at most 32 vehicles.
-    pub fn set_exit(
-        &mut self,
-        link: LinkId,
-        from: u32,
-        to: u32,
-        amount: Units,
-    ) -> Result<(), DemandFault>
-        requires { link.0 < length self.old.network.links }
-        ensures ok { OnOk result (with_exit self.old link.0 from to amount.0 ≡ Ok self.new) }
-        ensures err { OnErr result (self.new ≡ self.old) }
-        ensures cause { IfErr result (λ e. e ≢ DemandFault.NoMemory
-            → with_exit self.old link.0 from to amount.0 ≡ Err e) }
-    {
-        self.tables.set_exit(link, from, to, amount)
     }
 
     /// Raises the horizon to that many slots; it never falls. The entry and exit limits of the new slots are those that were
@@ -160,7 +79,7 @@ impl Scenario {
         ensures err { OnErr result (self.new ≡ self.old) }
         ensures cause { IfErr result (λ e. with_horizon self.old slots ≡ Err e) }
     {
-        match self.tables.lengthen(slots) {
+        match self.parts.lengthen(slots) {
             Ok(_) => return Ok(()),
             Err(fault) => return Err(fault),
         }
@@ -174,32 +93,23 @@ impl Scenario {
         requires { IsValid self.now }
         ensures { IsTrue result ↔ MayReach self.now slots }
     {
-        let now = self.setup().slots;
+        let now = self.parts.setup.slots;
         if slots == now {
             return true;
         }
         if slots < now || slots > MOST_SLOTS {
             return false;
         }
-        self.tables.cells_with(slots) <= self.tables.most_cells()
-    }
-
-    /// Whether the case is valid, or the first broken rule: demand rows in order of origin and destination, then split
-    /// rows in order of node, destination and first slot, then the number of cells. It takes no memory.
-    #[tactic(auto, using(crate::proofs::Validity::valid_is_checked))]
-    pub fn check(&self) -> Result<(), ScenarioFault>
-        ensures first { result ≡ checked self.now }
-        ensures valid { IsOk result ↔ IsValid self.now }
-    {
-        self.tables.check()
+        self.parts.cells_with(slots) <= self.parts.most_cells()
     }
 
     /// How many cells a loading has: the numbers that its pairs read, the counts of two sets of curves, and the entry
     /// and exit limits. It takes no memory.
+    #[tactic(auto, unfolding(crate::specs::Cells::cells))]
     pub fn cells(&self) -> u128
         ensures { result ≡ cells self.now }
     {
-        self.tables.cells()
+        self.parts.cells_with(self.parts.setup.slots)
     }
 
     /// Makes all edits of a batch in order, or changes nothing and names the first that is refused after those before it,
@@ -225,11 +135,8 @@ impl Scenario {
         ensures cells { self.new.setup.slots ≡ self.old.setup.slots → cells self.new ≡ cells self.old }
     {
         let edits = batch.edits();
-        match self.tables.accept_from(1, edits) {
-            Ok(()) => {
-                let _after = self.setup();
-                return Ok(());
-            }
+        match self.parts.accept_from(1, edits) {
+            Ok(()) => return Ok(()),
             Err(fault) => return Err(fault),
         }
     }
@@ -239,14 +146,14 @@ impl Scenario {
         ensures setup { result.now ≡ self.now.setup }
         ensures scenario { IsScenario self.now }
     {
-        self.tables.setup()
+        &self.parts.setup
     }
 
     /// The nodes and links.
     pub fn network(&self) -> &Network
         ensures { result.now ≡ self.now.network }
     {
-        self.tables.network()
+        &self.parts.network
     }
 
     /// The diagram of a link.
@@ -254,7 +161,7 @@ impl Scenario {
         requires { link.0 < length self.now.network.links }
         ensures { slice_get self.now.diagrams link.0 ≡ Some result.now }
     {
-        self.tables.diagram(link)
+        self.parts.diagrams.diagram(link.0)
     }
 
     /// The limits that a link's diagram sets at the step of the setup.
@@ -263,7 +170,7 @@ impl Scenario {
         ensures { (diagram : Diagram) → slice_get self.now.diagrams link.0 ≡ Some diagram
             → limits_of diagram self.now.setup.step.0 ≡ Ok result }
     {
-        self.tables.limits(link)
+        self.parts.diagrams.limits(link.0)
     }
 
     /// The times of a link, counted in slots.
@@ -272,7 +179,7 @@ impl Scenario {
         ensures { (diagram : Diagram) → (limits : Limits) → slice_get self.now.diagrams link.0 ≡ Some diagram
             → limits_of diagram self.now.setup.step.0 ≡ Ok limits → AreDelays self.now.setup.step.0 limits result }
     {
-        self.tables.delays(link)
+        self.parts.diagrams.delays(link.0)
     }
 
     /// The most that enters a link in a slot, in thousandths of a vehicle.
@@ -281,7 +188,7 @@ impl Scenario {
         requires slot { slot < self.now.setup.slots }
         ensures { result.0 ≡ limit_at self.now.entry link.0 slot }
     {
-        self.tables.entry_limit(link, slot)
+        Units(u64::from(self.parts.entry.limit(link.0, slot)))
     }
 
     /// The most that leaves a link in a slot, in thousandths of a vehicle.
@@ -290,21 +197,21 @@ impl Scenario {
         requires slot { slot < self.now.setup.slots }
         ensures { result.0 ≡ limit_at self.now.exit link.0 slot }
     {
-        self.tables.exit_limit(link, slot)
+        Units(u64::from(self.parts.exit.limit(link.0, slot)))
     }
 
     /// The rows of demand.
     pub fn demand(&self) -> &Demand
         ensures { result.now.demand ≡ demand_of self.now }
     {
-        self.tables.demand()
+        &self.parts.demand
     }
 
     /// The split rows.
     pub fn splits(&self) -> &Splits
         ensures { result.now ≡ splits_of self.now }
     {
-        self.tables.splits()
+        &self.parts.splits
     }
 
     /// The nodes that are destinations, in order of becoming one.
@@ -312,7 +219,7 @@ impl Scenario {
         ensures nodes { map (λ node. node.0) result.now ≡ self.now.destinations }
         ensures count { length result.now ≡ length self.now.destinations }
     {
-        self.tables.destinations()
+        self.parts.destinations.list()
     }
 
     /// The node of a destination.
@@ -321,7 +228,7 @@ impl Scenario {
         ensures node { result.0 ≡ destination_node self.now destination }
         ensures there { result.0 < length self.now.network.nodes }
     {
-        self.tables.destination_node(destination)
+        self.parts.destinations.node(destination)
     }
 
     /// Which destination a node is, if it is one.
@@ -330,15 +237,26 @@ impl Scenario {
         ensures there { IfSome result (λ place. (place < length self.now.destinations)
             × (destination_node self.now place ≡ node.0)) }
     {
-        self.tables.own(node)
+        self.parts.destinations.place(node)
     }
 
     /// An equal scenario, on the same allocator.
     pub fn try_copy(&self) -> Result<Scenario, NoMemory>
         ensures { IfOk result (λ copy. copy ≡ self.now) }
     {
+        let parts = &self.parts;
         Ok(Scenario {
-            tables: self.tables.try_copy()?,
+            parts: Parts {
+                alloc: parts.alloc,
+                setup: parts.setup,
+                network: parts.network.clone()?,
+                diagrams: parts.diagrams.try_copy()?,
+                destinations: parts.destinations.try_copy()?,
+                demand: parts.demand.try_copy()?,
+                splits: parts.splits.try_copy()?,
+                entry: parts.entry.try_copy()?,
+                exit: parts.exit.try_copy()?,
+            },
         })
     }
 }

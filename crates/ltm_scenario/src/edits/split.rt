@@ -6,10 +6,11 @@ ghost use Rattle.ltm_scenario.specs.Reads.{destination_node};
 ghost use Rattle.ltm_scenario.specs.Edits.{split_key, split_row, split_edited, is_out_link, weight_of, weights_at, is_open, cause_of_split};
 ghost use Rattle.ltm_scenario.specs.State.{KeepsRoom};
 ghost use Rattle.ltm_scenario.specs.Undo.{Undoes};
+ghost use Rattle.ltm_scenario.specs.Parts.{scenario_in, state_in, AreParts};
 
 use crate::edit::EditCause;
-use crate::tables::Tables;
-use crate::tables::undo::Undo;
+use crate::parts::Parts;
+use crate::parts::undo::Undo;
 use crate::weights::Weights;
 use ltm_splits::{SplitFault, SplitKey, are_zero};
 use ltm_units::{Name, NoMemory, NodeId};
@@ -25,20 +26,7 @@ fn cause_of_split(fault: SplitFault) -> EditCause
     }
 }
 
-/// The weight of the link of that name, 0 where it is not named.
-fn weight_of(weights: &[(Name, u32)], name: &Name) -> u32
-    ensures { result ≡ weight_of weights.now name.now }
-{
-    let Some((weight, others)) = weights.split_first() else {
-        return 0;
-    };
-    if weight.0 == *name {
-        return weight.1;
-    }
-    weight_of(others, name)
-}
-
-impl Tables {
+impl Parts {
     pub fn edit_split(
         &mut self,
         node: &Name,
@@ -46,13 +34,15 @@ impl Tables {
         from: u32,
         weights: &Weights,
     ) -> Result<Undo, EditCause>
+        requires parts { AreParts self.old }
         ensures ok { OnOk result
-            (split_edited self.old.scenario node.now destination.now from weights.now ≡ Ok self.new.scenario) }
-        ensures undo { IfOk result (Undoes self.old self.new) }
-        ensures err { OnErr result (self.new.scenario ≡ self.old.scenario) }
+            (split_edited (scenario_in self.old) node.now destination.now from weights.now ≡ Ok (scenario_in self.new)) }
+        ensures undo { IfOk result (Undoes (state_in self.old) (state_in self.new)) }
+        ensures err { OnErr result (scenario_in self.new ≡ scenario_in self.old) }
         ensures cause { IfErr result (λ e. e ≢ EditCause.NoMemory
-            → split_edited self.old.scenario node.now destination.now from weights.now ≡ Err e) }
-        ensures room { KeepsRoom self.old self.new }
+            → split_edited (scenario_in self.old) node.now destination.now from weights.now ≡ Err e) }
+        ensures room { KeepsRoom (state_in self.old) (state_in self.new) }
+        ensures parts { AreParts self.new }
     {
         let key = match self.split_key(node, destination, from, weights.pairs()) {
             Ok(key) => key,
@@ -81,24 +71,24 @@ impl Tables {
         from: u32,
         weights: &[(Name, u32)],
     ) -> Result<SplitKey, EditCause>
-        ensures key { result ≡ split_key self.now.scenario node.now destination.now from weights.now }
-        ensures node { IfOk result (λ key. key.node.0 < length self.now.scenario.network.nodes) }
-        ensures destination { IfOk result (λ key. key.destination < length self.now.scenario.destinations) }
-        ensures ends { IfOk result (λ key. (key.node.0 == destination_node self.now.scenario key.destination) ≡ false) }
+        ensures key { result ≡ split_key (scenario_in self.now) node.now destination.now from weights.now }
+        ensures node { IfOk result (λ key. key.node.0 < length (scenario_in self.now).network.nodes) }
+        ensures destination { IfOk result (λ key. key.destination < length (scenario_in self.now).destinations) }
+        ensures ends { IfOk result (λ key. (key.node.0 == destination_node (scenario_in self.now) key.destination) ≡ false) }
     {
-        let Some(node) = self.network().find_node(node) else {
+        let Some(node) = self.network.find_node(node) else {
             return Err(EditCause::UnknownName);
         };
-        let Some(end) = self.network().find_node(destination) else {
+        let Some(end) = self.network.find_node(destination) else {
             return Err(EditCause::UnknownName);
         };
-        let Some(destination) = self.own(end) else {
+        let Some(destination) = self.destinations.place(end) else {
             return Err(EditCause::UnknownDestination);
         };
         if node.0 == end.0 {
             return Err(EditCause::SameEnds);
         }
-        if from >= self.setup().slots {
+        if from >= self.setup.slots {
             return Err(EditCause::BadSlots);
         }
         if !self.are_out_links(node, weights) {
@@ -111,48 +101,13 @@ impl Tables {
         })
     }
 
-    /// Whether all weights are those of out-links of the node.
-    pub fn are_out_links(&self, node: NodeId, weights: &[(Name, u32)]) -> bool
-        ensures { result ≡ list_all (λ w. is_out_link self.now.scenario node.0 w.0) weights.now }
-    {
-        weights
-            .iter()
-            .all(|weight| self.is_out_link(node, &weight.0))
-    }
-
-    fn is_out_link(&self, node: NodeId, name: &Name) -> bool
-        ensures { result ≡ is_out_link self.now.scenario node.0 name.now }
-    {
-        let network = self.network();
-        match network.find_link(name) {
-            Some(link) => network.tail(link).0 == node.0,
-            None => false,
-        }
-    }
-
-    /// A weight for each out-link of the node, in order of link number.
-    pub fn weights_at(&self, node: NodeId, weights: &[(Name, u32)]) -> Result<Vec<u32>, NoMemory>
-        requires { node.0 < length self.now.scenario.network.nodes }
-        ensures weights { IfOk result (λ row. row.items ≡ weights_at self.now.scenario node.0 weights.now) }
-        ensures each { IfOk result (λ row. length row.items ≡ length (out_links self.now.scenario.network node.0)) }
-    {
-        let network = self.network();
-        let links = network.out_links(node);
-        let mut row = Vec::new(self.allocator());
-        'each: for link in links {
-            let name = network.link_name(*link);
-            row.push(weight_of(weights, &name))?;
-        }
-        Ok(row)
-    }
-
     /// Whether the weights are not all 0 and lead on.
     #[tactic(auto, unfolding(crate::specs::Edits::split_row))]
     fn check_split_edit(&self, key: SplitKey, weights: &[u32]) -> Result<(), EditCause>
-        requires node { key.node.0 < length self.now.scenario.network.nodes }
-        requires destination { key.destination < length self.now.scenario.destinations }
-        ensures ok { OnOk result (split_row self.now.scenario key weights.now ≡ Ok (key, weights.now)) }
-        ensures cause { IfErr result (λ e. split_row self.now.scenario key weights.now ≡ Err e) }
+        requires node { key.node.0 < length (scenario_in self.now).network.nodes }
+        requires destination { key.destination < length (scenario_in self.now).destinations }
+        ensures ok { OnOk result (split_row (scenario_in self.now) key weights.now ≡ Ok (key, weights.now)) }
+        ensures cause { IfErr result (λ e. split_row (scenario_in self.now) key weights.now ≡ Err e) }
     {
         if are_zero(weights) {
             return Err(EditCause::ZeroWeight);
@@ -165,11 +120,11 @@ impl Tables {
 
     /// Whether the row would leave some split open.
     fn is_open(&self, key: SplitKey, weights: &[u32]) -> bool
-        requires node { key.node.0 < length self.now.scenario.network.nodes }
-        requires destination { key.destination < length self.now.scenario.destinations }
-        ensures { result ≡ is_open self.now.scenario key.node.0 key.destination key.from weights.now }
+        requires node { key.node.0 < length (scenario_in self.now).network.nodes }
+        requires destination { key.destination < length (scenario_in self.now).destinations }
+        ensures { result ≡ is_open (scenario_in self.now) key.node.0 key.destination key.from weights.now }
     {
         (key.from != 0 && !self.has_split(key.node, key.destination))
-            || !self.all_lead_on(key.destination, self.network().out_links(key.node), weights)
+            || !self.all_lead_on(key.destination, self.network.out_links(key.node), weights)
     }
 }

@@ -14,7 +14,7 @@ impl Scenario {
     pub fn are_slots(&self, from: u32, to: u32) -> bool
         ensures { result ≡ are_slots self.now from to }
     {
-        self.tables.are_slots(from, to)
+        self.parts.are_slots(from, to)
     }
 
     /// Whether no link leaves the node; then no traffic starts at it.
@@ -22,14 +22,14 @@ impl Scenario {
         requires { node.0 < length self.now.network.nodes }
         ensures { result ≡ has_no_out_link self.now node.0 }
     {
-        self.tables.has_no_out_link(node)
+        self.parts.has_no_out_link(node)
     }
 
     /// Whether each weight is that of an out-link of the node.
     pub fn are_out_links(&self, node: NodeId, weights: &[(Name, u32)]) -> bool
         ensures { result ≡ list_all (λ w. is_out_link self.now node.0 w.0) weights.now }
     {
-        self.tables.are_out_links(node, weights)
+        self.parts.are_out_links(node, weights)
     }
 
     /// A weight for each out-link of the node, in order of link number: that of the link's name, 0 where it is not named.
@@ -38,6 +38,6 @@ impl Scenario {
         ensures weights { IfOk result (λ row. row.items ≡ weights_at self.now node.0 weights.now) }
         ensures each { IfOk result (λ row. length row.items ≡ length (out_links self.now.network node.0)) }
     {
-        self.tables.weights_at(node, weights)
+        self.parts.weights_at(node, weights)
     }
 }

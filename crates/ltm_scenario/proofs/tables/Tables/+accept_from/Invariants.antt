@@ -1,5 +1,0 @@
-use Rattle.std.proofs.Common.{length}
-use Rattle.ltm_scenario.proofs.tables.Tables.+accept_from.Given as goal
-
-abbrev pub decreases-accept_from : goal.decreases-accept_from
-decreases-accept_from l = length l.edits.now

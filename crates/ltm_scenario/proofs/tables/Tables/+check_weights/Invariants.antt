@@ -1,5 +1,0 @@
-use Rattle.std.proofs.Common.{length}
-use Rattle.ltm_scenario.proofs.tables.Tables.+check_weights.Given as goal
-
-abbrev pub decreases-check_weights : goal.decreases-check_weights
-decreases-check_weights l = length l.links.now

@@ -1,0 +1,30 @@
+-- How a scenario lies in its tables.
+use Rattle.std.specs.Prelude.{◌≡◌}
+use Rattle.ltm_scenario.specs.declared.parts.Parts.{Parts}
+use Rattle.ltm_scenario.specs.Data.{ScenarioData}
+use Rattle.ltm_scenario.specs.State.{ScenarioState}
+use Rattle.ltm_scenario.specs.IsScenario.{IsScenario}
+
+abbrev pub scenario_in : Parts → ScenarioData
+scenario_in t = record {
+  setup = t.setup;
+  network = t.network;
+  diagrams = t.diagrams.diagrams;
+  destinations = t.destinations;
+  demand = t.demand.demand.rows;
+  splits = t.splits.rows;
+  entry = t.entry.limits;
+  exit = t.exit.limits;
+}
+
+abbrev pub state_in : Parts → ScenarioState
+state_in t = record { scenario = scenario_in t; demand_room = t.demand.room; entry_places = t.entry.places; exit_places = t.exit.places }
+
+-- the tables agree on the step and the horizon, and what they say is a scenario
+pub record AreParts (t : Parts) : Type 0 where
+  pub scenario : IsScenario (scenario_in t)
+  pub step : t.diagrams.step ≡ t.setup.step.0
+  pub demand_slots : t.demand.demand.slots ≡ t.setup.slots
+  pub splits_slots : t.splits.slots ≡ t.setup.slots
+  pub entry_slots : t.entry.slots ≡ t.setup.slots
+  pub exit_slots : t.exit.slots ≡ t.setup.slots

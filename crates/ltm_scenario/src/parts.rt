@@ -1,0 +1,74 @@
+//! The parts of a scenario.
+ghost use Rattle.std.specs.Prelude.{◌≡◌, Ok};
+ghost use Rattle.ltm_scenario.specs.Setup.{setup_checked};
+ghost use Rattle.ltm_scenario.specs.Data.{empty_scenario};
+ghost use Rattle.ltm_scenario.specs.Parts.{scenario_in, AreParts};
+
+mod changes;
+mod horizon;
+mod reads;
+pub mod undo;
+
+use crate::destinations::Destinations;
+use crate::diagrams::Diagrams;
+use crate::setup::Setup;
+use ltm_demand::Demand;
+use ltm_limits::LimitTable;
+use ltm_network::Network;
+use ltm_splits::Splits;
+use std::alloc::Global;
+
+/// The parts of a scenario side by side, each in its own table, and where further memory is taken.
+///
+/// Edits work on these, and not on a `Scenario`: contracts see each part here, and so the room that undoing an edit needs.
+/// `AreParts` says that they are those of a scenario.
+pub struct Parts {
+    pub alloc: Global,
+    pub setup: Setup,
+    pub network: Network,
+    pub diagrams: Diagrams,
+    pub destinations: Destinations,
+    pub demand: Demand,
+    pub splits: Splits,
+    pub entry: LimitTable,
+    pub exit: LimitTable,
+}
+
+// By hand, so that letting go of them is one call.
+impl Drop for Parts {
+    fn drop(self) {
+        let Parts {
+            alloc: _alloc,
+            setup: _setup,
+            network: _network,
+            diagrams: _diagrams,
+            destinations: _destinations,
+            demand: _demand,
+            splits: _splits,
+            entry: _entry,
+            exit: _exit,
+        } = self;
+    }
+}
+
+impl Parts {
+    /// No link, no destination, no row.
+    #[tactic(auto, using(crate::proofs::Empty::empty_is_scenario))]
+    pub fn new(alloc: Global, setup: Setup) -> Parts
+        requires { setup_checked setup ≡ Ok tt }
+        ensures scenario { scenario_in result ≡ empty_scenario setup }
+        ensures parts { AreParts result }
+    {
+        Parts {
+            alloc,
+            setup,
+            network: Network::new(alloc),
+            diagrams: Diagrams::new(alloc, setup.step),
+            destinations: Destinations::new(alloc),
+            demand: Demand::new(alloc, setup.slots),
+            splits: Splits::new(alloc, setup.slots),
+            entry: LimitTable::new(alloc, setup.slots),
+            exit: LimitTable::new(alloc, setup.slots),
+        }
+    }
+}
