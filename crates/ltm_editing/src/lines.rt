@@ -4,9 +4,9 @@ ghost use Rattle.std.specs.Fmt.{decimal};
 ghost use Rattle.ltm_report.specs.Pieces.{number_piece, newline};
 ghost use Rattle.ltm_editing.specs.Lines.{place_piece, verdict_line, call_line, call_lines, cause_words, long_edits_line, bad_script_line};
 
+use crate::fault::LineCause;
 use itoa::Buffer;
 use ltm_editors::{Call, Verdict};
-use ltm_edits::LineCause;
 use ltm_report::{accepted_text, edit_fault_text};
 use ltm_units::NoMemory;
 use std::alloc::Global;
