@@ -1,7 +1,5 @@
-//! Amounts as texts, names, sums, shares and steps.
-use ltm_units::{
-    Name, NumberFault, Steps, Units, read_vehicles, read_whole, share_of, sum_of, write_vehicles,
-};
+//! Amounts as texts, names, and shares.
+use ltm_units::{Name, NumberFault, Units, read_vehicles, read_whole, share_of, write_vehicles};
 use std::alloc::Global;
 use std::collections::BTreeMap;
 
@@ -100,19 +98,6 @@ fn reads_names(rt: HostRuntime) {
     assert!(rt; are_names == [false, false, false, true]);
 }
 
-#[test]
-fn sums_of_few_and_many(rt: HostRuntime) {
-    let sums = [
-        sum_of(&[]),
-        sum_of(&[7]),
-        sum_of(&[7, 20]),
-        sum_of(&[7, 20, 300]),
-        sum_of(&[7, 20, 300, 4000]),
-        sum_of(&[7, 20, 300, 4000, 50_000]),
-    ];
-    assert!(rt; sums == [0, 7, 27, 327, 4327, 54_327]);
-}
-
 // 5 over 3, 3 and 4 gives 1, 1 and 3.
 #[test]
 fn shares_in_turn(rt: HostRuntime) {
@@ -124,12 +109,4 @@ fn shares_in_turn(rt: HostRuntime) {
         share_of(1 << 63, 1 << 62, 3 << 62),
     ];
     assert!(rt; shares == [1, 1, 3, 0, 3_074_457_345_618_258_602]);
-}
-
-#[test]
-fn counts_each_tick(rt: HostRuntime) {
-    let mut steps = Steps::new();
-    steps.tick();
-    steps.tick();
-    assert_eq!(rt; steps.count(), 2);
 }

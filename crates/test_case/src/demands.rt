@@ -94,52 +94,6 @@ fn produces_evenly_and_floored(rt: HostRuntime) {
     }
 }
 
-/// Sets twelve rows one behind another from node 0, one beside them, and one of node 1. Whether all are set.
-fn set_many(demand: &mut Demand) -> bool {
-    for k in 0..12u32 {
-        if set(demand, row(0, 0, 30 * k, 30 * k + 30, 360_000)) != DONE {
-            return false;
-        }
-    }
-    set(demand, row(0, 2, 0, 1, 1000)) == DONE && set(demand, row(1, 0, 0, 1, 500)) == DONE
-}
-
-/// What node 0 has produced by the end of a slot: for destination 0, in all, and for each of three.
-fn produced_of_many(demand: &Demand, slot: u32) -> [u64; 5] {
-    let each = demand.row_by_end(NodeId(0), slot);
-    [
-        demand.by_end(NodeId(0), 0, slot).0,
-        demand.origin_by_end(NodeId(0), slot).0,
-        each.get(0).copied().unwrap_or(u64::MAX),
-        each.get(1).copied().unwrap_or(u64::MAX),
-        each.get(2).copied().unwrap_or(u64::MAX),
-    ]
-}
-
-/// Whether the rows are set, what they have produced by four slots, and what they produce in all.
-fn told_of_many(alloc: Global) -> (bool, [[u64; 5]; 4], u64) {
-    let mut demand = Demand::new(alloc, 360);
-    let done = set_many(&mut demand);
-    let told = [
-        produced_of_many(&demand, 0),
-        produced_of_many(&demand, 29),
-        produced_of_many(&demand, 30),
-        produced_of_many(&demand, 359),
-    ];
-    (done, told, demand.total().0)
-}
-
-#[test]
-fn rows_add_up(rt: HostRuntime) {
-    let told = [
-        [12_000, 13_000, 12_000, 0, 1000],
-        [360_000, 361_000, 360_000, 0, 1000],
-        [372_000, 373_000, 372_000, 0, 1000],
-        [4_320_000, 4_321_000, 4_320_000, 0, 1000],
-    ];
-    assert!(rt; told_of_many(rt.alloc()) == (true, told, 4_321_500));
-}
-
 /// The place of the first row that is answered otherwise; none where all are answered so.
 fn first_otherwise(demand: &mut Demand, rows: &[(DemandRow, Answer)]) -> Option<usize> {
     for (place, (row, want)) in rows.iter().enumerate() {

@@ -1,7 +1,7 @@
 //! Limits by link and slot, as they are set and put back, and over a longer horizon.
 ghost use Rattle.std.specs.Prelude.{◌≡◌};
 
-use ltm_limits::{LimitTable, limits_are_lengthened, limits_are_set, limits_stay_whole};
+use ltm_limits::LimitTable;
 use std::alloc::Global;
 
 /// A limit; none beyond the links or the slots.
@@ -160,11 +160,4 @@ fn limits_set_and_put_back(rt: HostRuntime) {
     ];
     let copy = (2, 4, [NEVER, back, [None; 4]]);
     assert!(rt; told.copy == Some((copy, Some(longer))));
-}
-
-#[test]
-fn laws_hold() {
-    limits_are_set();
-    limits_are_lengthened();
-    limits_stay_whole();
 }

@@ -1,9 +1,7 @@
 //! Links and nodes of small networks.
 ghost use Rattle.std.specs.Prelude.{◌<◌, IfSome, length};
 
-use ltm_network::{
-    Network, NetworkFault, links_at_their_places, names_are_found, networks_stay_networks,
-};
+use ltm_network::{Network, NetworkFault};
 use ltm_units::{LinkId, Name, NodeId};
 use std::alloc::Global;
 
@@ -118,13 +116,6 @@ fn links_at_their_nodes_and_by_name(rt: HostRuntime) {
     let (ends, found) = told_of_three(rt.alloc());
     let want = Some((2, 0, 2, true, None));
     assert!(rt; ends == Some((0, 2, [true, true, true])) && found == want);
-}
-
-#[test]
-fn laws_hold() {
-    links_at_their_places();
-    names_are_found();
-    networks_stay_networks();
 }
 
 /// A letter and four digits.

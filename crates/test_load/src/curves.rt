@@ -1,9 +1,7 @@
 //! Counts, totals and times of small curves.
 ghost use Rattle.ltm_curve.specs.Table.{HasShape, IsEmpty};
-ghost use Rattle.ltm_curve.specs.Cells.{HasCells};
-ghost use Rattle.ltm_curve.specs.TotalCurves.{AreNarrow, AreTotalsOf};
 
-use ltm_curve::{Changed, Curves, TotalCurves};
+use ltm_curve::Curves;
 use ltm_units::Millis;
 use std::alloc::Global;
 use std::process::Abort;
@@ -157,107 +155,6 @@ fn first_and_copy(rt: &impl Abort, alloc: Global, curves: &mut Curves)
 fn first_units_and_copies(rt: HostRuntime) {
     match Curves::create(rt.alloc(), 1, 2, 2) {
         Ok(mut curves) => first_and_copy(&rt, rt.alloc(), &mut curves),
-        Err(_) => panic!(rt; "no memory"),
-    }
-}
-
-// Curves of one slot grow to three.
-fn lengthen_curves(rt: &impl Abort, curves: &mut Curves)
-    requires { HasShape curves.old 1 1 1 }
-{
-    curves.set(0, 0, 1, 500);
-    assert!(rt; curves.reserve(3).is_ok());
-    assert!(rt; curves.room() >= 3);
-    curves.lengthen(3);
-    assert_eq!(rt; curves.slots(), 3);
-    assert_eq!(rt; [curves.get(0, 0, 1), curves.get(0, 0, 3)], [500, 0]);
-}
-
-// And so do the cells that were changed.
-fn lengthen_cells(rt: &impl Abort, changed: &mut Changed)
-    requires { HasCells changed.old 1 1 }
-{
-    assert!(rt; changed.reserve(3).is_ok());
-    assert!(rt; changed.room() >= 3);
-    changed.lengthen(3);
-    changed.put(0, 3);
-    changed.put(0, 3);
-    assert!(rt; changed.has(0, 3) && !changed.has(0, 2) && changed.count() == 1);
-    changed.clear();
-    assert!(rt; !changed.has(0, 3) && changed.count() == 0);
-}
-
-#[test]
-fn longer_curves(rt: HostRuntime) {
-    match Curves::create(rt.alloc(), 1, 1, 1) {
-        Ok(mut curves) => lengthen_curves(&rt, &mut curves),
-        Err(_) => panic!(rt; "no memory"),
-    }
-}
-
-#[test]
-fn longer_cells(rt: HostRuntime) {
-    match Changed::create(rt.alloc(), 1, 1) {
-        Ok(mut changed) => lengthen_cells(&rt, &mut changed),
-        Err(_) => panic!(rt; "no memory"),
-    }
-}
-
-// The totals of two groups of two destinations at the end of a slot.
-fn set_totals(curves: &mut Curves)
-    requires { HasShape curves.old 2 2 1 }
-    ensures { HasShape curves.new 2 2 1 }
-{
-    curves.set(0, 0, 1, 300);
-    curves.set(0, 1, 1, 100);
-    curves.set(1, 1, 1, 70);
-}
-
-// Those of the first group are small.
-fn check_small(rt: &impl Abort, curves: &Curves)
-    requires { HasShape curves.now 2 2 1 }
-    ensures { AreNarrow curves.now }
-{
-    assert!(rt; curves.total(0, 0) <= 1000);
-    assert!(rt; curves.total(0, 1) <= 1000);
-}
-
-// Totals grow from one slot to three.
-fn lengthen_totals(rt: &impl Abort, totals: &mut TotalCurves, curves: &Curves)
-    requires shape { HasShape curves.now 2 2 1 }
-    requires totals { AreTotalsOf totals.old curves.now }
-{
-    assert_eq!(rt; totals.slots(), 1);
-    let told = [totals.total(0, 0), totals.total(0, 1), totals.total(1, 1)];
-    assert_eq!(rt; told, [0, 400, 70]);
-    assert!(rt; totals.reserve(3).is_ok());
-    assert!(rt; totals.room() >= 3);
-    totals.lengthen(3);
-    assert_eq!(rt; totals.slots(), 3);
-    let told = [
-        totals.total(0, 1),
-        totals.total(1, 1),
-        totals.total(0, 3),
-        totals.total(1, 3),
-    ];
-    assert_eq!(rt; told, [400, 70, 0, 0]);
-}
-
-fn totals_of(rt: &impl Abort, alloc: Global, curves: &mut Curves)
-    requires { HasShape curves.old 2 2 1 }
-{
-    set_totals(curves);
-    check_small(rt, curves);
-    match TotalCurves::of(alloc, curves) {
-        Ok(mut totals) => lengthen_totals(rt, &mut totals, curves),
-        Err(_) => panic!(rt; "no memory"),
-    }
-}
-
-#[test]
-fn totals_of_curves(rt: HostRuntime) {
-    match Curves::create(rt.alloc(), 2, 2, 1) {
-        Ok(mut curves) => totals_of(&rt, rt.alloc(), &mut curves),
         Err(_) => panic!(rt; "no memory"),
     }
 }

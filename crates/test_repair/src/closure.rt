@@ -131,24 +131,3 @@ fn a_commit_wakes_its_readers(rt: HostRuntime) {
     assert_eq!(rt; active(&scenario, &table, 1), [false, true, true, false]);
     assert!(rt; table.changed() == 2);
 }
-
-#[test]
-fn the_closure_is_repaired_by_five_commits(rt: HostRuntime) {
-    let mut scenario = road(&rt, rt.alloc());
-    let mut table = Table::create(rt.alloc(), &scenario).expect(&rt, "memory");
-    close(&rt, rt.alloc(), &mut scenario, &mut table);
-    for (node, slot) in [(0, 0), (0, 1), (0, 2), (1, 2), (1, 3)] {
-        assert!(rt; !table.is_at_rest(&scenario));
-        let pair = repair_one(&rt, rt.alloc(), &scenario, &mut table).expect(&rt, "a pair");
-        assert!(rt;
-            pair.node.0 == node && pair.slot == slot,
-            "{node} in slot {slot}"
-        );
-        assert!(rt; table.claimed() == 0);
-    }
-    assert!(rt; repair_one(&rt, rt.alloc(), &scenario, &mut table).is_none());
-    assert!(rt; table.is_at_rest(&scenario));
-    assert!(rt; table.changed() == 8);
-    table.clear_changed();
-    assert!(rt; table.changed() == 0);
-}

@@ -1,9 +1,7 @@
-//! The active and the claimed pairs of a repair.
-ghost use Rattle.std.specs.Prelude.{◌≡◌, ℕ, false};
-ghost use Rattle.ltm_frontier.specs.Frontier.{nodes_of, slots_of, is_claimed};
+//! The active pairs of a repair.
 
 use ltm_frontier::Frontier;
-use ltm_units::{NodeId, Pair, Reach};
+use ltm_units::{NodeId, Pair};
 use std::alloc::Global;
 
 const NODES: u32 = 70;
@@ -69,77 +67,4 @@ fn finds_active_nodes_as_a_plain_list_does(rt: HostRuntime) {
     let told = found(rt.alloc(), &[0, 1, 62, 63], &[5, 63, 64, 69]);
     let fronts = [(None, Some(2)), (None, Some(1))];
     assert_eq!(rt; told, Some((None, fronts)));
-}
-
-/// Whether a pair is active, whether it is claimed, how many are claimed, and the front.
-fn state_of(frontier: &Frontier, pair: Pair) -> (bool, bool, u32, Option<u32>) {
-    if pair.node.0 >= frontier.nodes() || pair.slot >= frontier.slots() {
-        return (false, false, u32::MAX, None);
-    }
-    (
-        frontier.is_active(pair),
-        frontier.is_claimed(pair),
-        frontier.claimed(),
-        frontier.front(),
-    )
-}
-
-/// One pair is marked, claimed, marked again while it is claimed, made active again by a void, and taken out. Its state
-/// after the first, the third and the fourth, and the front in the end.
-fn claimed_once(frontier: &mut Frontier) -> ([(bool, bool, u32, Option<u32>); 3], Option<u32>)
-    requires nodes { nodes_of frontier.old ≡ 70 }
-    requires slots { slots_of frontier.old ≡ 4 }
-    requires none { (u t : ℕ) → is_claimed frontier.old u t ≡ false }
-{
-    let node = NodeId(64);
-    let pair = Pair { node, slot: 2 };
-    frontier.mark_range(Reach {
-        node,
-        from: 2,
-        to: 4,
-    });
-    let marked = state_of(frontier, pair);
-    if !frontier.is_active(pair) {
-        return ([marked; 3], None);
-    }
-    frontier.claim_mark(pair);
-    frontier.mark(pair);
-    let claimed = state_of(frontier, pair);
-    frontier.void_all();
-    let void = state_of(frontier, pair);
-    frontier.unmark(pair);
-    ([marked, claimed, void], frontier.advance())
-}
-
-/// Makes six slots: how many there are, and the front.
-fn longer(frontier: &mut Frontier) -> Option<(u32, Option<u32>)> {
-    if frontier.slots() > 6 || frontier.reserve(6).is_err() {
-        return None;
-    }
-    frontier.lengthen(6);
-    Some((frontier.slots(), frontier.front()))
-}
-
-/// What is told of a pair of four slots, and of six slots.
-type States = (
-    ([(bool, bool, u32, Option<u32>); 3], Option<u32>),
-    Option<(u32, Option<u32>)>,
-);
-
-fn told(alloc: Global) -> Option<States> {
-    match Frontier::create(alloc, NODES, 4) {
-        Ok(mut frontier) => {
-            let told = claimed_once(&mut frontier);
-            Some((told, longer(&mut frontier)))
-        }
-        Err(_) => None,
-    }
-}
-
-#[test]
-fn a_claimed_pair_is_not_active(rt: HostRuntime) {
-    let marked = (true, false, 0, Some(2));
-    let claimed = (false, true, 1, Some(2));
-    let states = ([marked, claimed, marked], Some(3));
-    assert_eq!(rt; told(rt.alloc()), Some((states, Some((6, Some(3))))));
 }

@@ -96,34 +96,3 @@ fn places_and_lifts(rt: HostRuntime) {
     ];
     assert_eq!(rt; moved(rt.alloc(), &rows), Some((None, true)));
 }
-
-/// A longer horizon has the old lists, and its new boundaries have none. Whether three lists are as they should be.
-fn are_longer(index: &mut ReadIndex) -> Option<[bool; 3]>
-    requires links { links_of index.old ≡ 2 }
-    requires slots { slots_of index.old ≡ 3 }
-{
-    let link = LinkId(1);
-    index.place(link, 0, 3);
-    if index.room() < 3 || index.reserve(5).is_err() || index.room() < 5 {
-        return None;
-    }
-    index.lengthen(5);
-    index.place(link, 4, 5);
-    Some([
-        are_readers(index, link, 3, &[0]),
-        are_readers(index, link, 4, &[]),
-        are_readers(index, link, 5, &[4]),
-    ])
-}
-
-fn lists_of_longer(alloc: Global) -> Option<[bool; 3]> {
-    match ReadIndex::create(alloc, 2, 3) {
-        Ok(mut index) => are_longer(&mut index),
-        Err(_) => None,
-    }
-}
-
-#[test]
-fn horizon_grows(rt: HostRuntime) {
-    assert_eq!(rt; lists_of_longer(rt.alloc()), Some([true, true, true]));
-}

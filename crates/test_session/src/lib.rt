@@ -8,8 +8,6 @@
 #[cfg(test)]
 mod cases;
 #[cfg(test)]
-mod failing;
-#[cfg(test)]
 mod horizons;
 #[cfg(test)]
 mod lines;

@@ -57,34 +57,3 @@ fn deep_line_is_no_json(rt: HostRuntime) {
         SessionEnd::Ended,
     );
 }
-
-// The longest line has 65,536 bytes without its newline.
-#[test]
-fn longer_line_ends_the_session(rt: HostRuntime) {
-    let script = vec![in rt.alloc(); b'x'; 65_537].expect(&rt, "memory");
-    let end = SessionEnd::LineTooLong(1);
-    let _outcome = expect_served(&rt, rt.alloc(), Case::OneRoad, &script, "", end);
-
-    let output = "refused command NotJson\n";
-    let _outcome = expect_served(
-        &rt,
-        rt.alloc(),
-        Case::OneRoad,
-        &script[1..],
-        output,
-        SessionEnd::Ended,
-    );
-}
-
-// An empty line is no JSON. After 100,000 of them one more line is too many.
-#[test]
-fn line_too_many_ends_the_session(rt: HostRuntime) {
-    let script = vec![in rt.alloc(); b'\n'; 100_001].expect(&rt, "memory");
-    let answer = "refused command NotJson\n";
-    let mut output = String::new(rt.alloc());
-    for _ in 0..100_000 {
-        output.push_str(answer).expect(&rt, "memory");
-    }
-    let end = SessionEnd::TooManyCommands;
-    let _outcome = expect_served(&rt, rt.alloc(), Case::OneRoad, &script, &output, end);
-}
