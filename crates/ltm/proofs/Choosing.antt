@@ -10,8 +10,8 @@ use Rattle.ltm_casefile.specs.declared.faults.CaseFault.TheVariants as fault
 use Rattle.ltm_checking.specs.declared.refusal.Refusal.TheVariants as checked
 use Rattle.ltm_session.specs.declared.ends.SessionEnd.{SessionEnd}
 use Rattle.ltm_session.specs.declared.ends.SessionEnd.TheVariants as end
-use Rattle.ltm_edits.specs.declared.fault.EditsFault.TheVariants as edits
-use Rattle.ltm_edits.specs.declared.fault.LineCause.{LineCause}
+use Rattle.ltm_editing.specs.declared.fault.EditsFault.TheVariants as edits
+use Rattle.ltm_editing.specs.declared.fault.LineCause.{LineCause}
 use Rattle.ltm_editing.specs.declared.refusal.Refusal.TheVariants as refusal
 use Rattle.ltm_editing.specs.Lines.{bad_script_line}
 use Rattle.ltm_editing.specs.Editing.{IsEditingText}

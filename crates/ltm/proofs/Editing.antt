@@ -9,9 +9,9 @@ use Rattle.ltm_scenario.specs.Data.{ScenarioData}
 use Rattle.ltm_casefile.specs.declared.faults.CaseFault.{CaseFault}
 use Rattle.ltm_casefile.specs.declared.faults.CaseFault.TheVariants as fault
 use Rattle.ltm_checking.specs.declared.refusal.Refusal.TheVariants as checked
-use Rattle.ltm_edits.specs.declared.fault.EditsFault.{EditsFault}
-use Rattle.ltm_edits.specs.declared.fault.EditsFault.TheVariants as edits
-use Rattle.ltm_edits.specs.declared.fault.LineCause.{LineCause}
+use Rattle.ltm_editing.specs.declared.fault.EditsFault.{EditsFault}
+use Rattle.ltm_editing.specs.declared.fault.EditsFault.TheVariants as edits
+use Rattle.ltm_editing.specs.declared.fault.LineCause.{LineCause}
 use Rattle.ltm_editing.specs.declared.refusal.Refusal.{Refusal}
 use Rattle.ltm_editing.specs.declared.refusal.Refusal.TheVariants as refusal
 use Rattle.ltm_editing.specs.Lines.{bad_script_line}

@@ -3,7 +3,7 @@ use Rattle.std.proofs.Common.{ℕ, ◌≡◌, ◌⊎◌, inl, inr, refl, ap, sym
 use Rattle.std.proofs.lemmas.List.{append-nil}
 use Rattle.ltm_io.specs.Folder.{Files}
 use Rattle.ltm_io.specs.Sink.{appended, AppendsFront}
-use Rattle.ltm_lines.specs.Script.{lines_of}
+use Rattle.ltm_io.specs.Script.{lines_of}
 use Rattle.ltm_scenario.specs.Data.{ScenarioData}
 use Rattle.ltm_session.specs.declared.ends.SessionEnd.{SessionEnd}
 use Rattle.ltm_session.specs.declared.ends.SessionEnd.TheVariants as end

@@ -8,9 +8,9 @@ use Rattle.ltm_scenario.specs.declared.edit.Edit.{Edit}
 use Rattle.ltm_scenario.specs.Data.{ScenarioData}
 use Rattle.ltm_casefile.specs.Case.{case_of}
 use Rattle.ltm_report.specs.Refusals.{too_many_line}
-use Rattle.ltm_edits.specs.declared.fault.EditsFault.{EditsFault}
-use Rattle.ltm_edits.specs.declared.fault.EditsFault.TheVariants as edits
-use Rattle.ltm_edits.specs.Scripts.{scripts_of}
+use Rattle.ltm_editing.specs.declared.fault.EditsFault.{EditsFault}
+use Rattle.ltm_editing.specs.declared.fault.EditsFault.TheVariants as edits
+use Rattle.ltm_editing.specs.Scripts.{scripts_of}
 use Rattle.ltm_editing.specs.declared.refusal.Refusal.TheVariants as refusal
 use Rattle.ltm_editing.specs.Lines.{long_edits_line, bad_script_line}
 use Rattle.ltm_editing.specs.Answers.{Answer, AnswersEditing, MayAsk}

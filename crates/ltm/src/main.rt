@@ -16,9 +16,7 @@ mod serve;
 mod serve_beside;
 mod view;
 
-use ltm_files::DiskFolder;
-use ltm_io::RealOutput;
-use ltm_lines::RealInput;
+use ltm_io::{DiskFolder, RealInput, RealOutput};
 use ltm_texts::Status;
 use ltm_workers::PlainGate;
 use program::run;

@@ -28,9 +28,7 @@ ghost use Rattle.ltm.specs.Sessions.{ServesWhole, session_status};
 ghost use Rattle.ltm.specs.Whole.{AsksNothing, IsTextOf, WritesFrontOf, FolderFailed};
 
 use crate::serve::serve;
-use ltm_files::OpenFolder;
-use ltm_io::Sink;
-use ltm_lines::Source;
+use ltm_io::{OpenFolder, Sink, Source};
 use ltm_texts::{Status, run_texts, session_of};
 use std::alloc::Global;
 

@@ -20,8 +20,7 @@ ghost use Rattle.ltm.specs.Sessions.{IsServed, IsSessionUnder, WritesSessionFron
 
 use ltm_casefile::{CaseFault, read_case};
 use ltm_core::Core;
-use ltm_io::{Folder, Sink};
-use ltm_lines::Source;
+use ltm_io::{Folder, Sink, Source};
 use ltm_report::{long_script_text, too_many_text};
 use ltm_scenario::Scenario;
 use ltm_session::{Served, SessionEnd, serve_alone};

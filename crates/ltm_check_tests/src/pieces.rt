@@ -2,7 +2,7 @@
 use crate::files::{FILE, one_road};
 use ltm_casefile::read_case;
 use ltm_check::{Checked, CurvesFault, FileFault, check_curves, read_curves, read_curves_from};
-use ltm_lines::SureSource;
+use ltm_io::SureSource;
 use ltm_scenario::Scenario;
 use std::alloc::Global;
 use std::test::Fail;

@@ -1,5 +1,5 @@
 //! What no clause says of the input and its lines: that calls succeed, and what the system gives.
-use ltm_lines::{Line, Lines, MemSource, ReadFault, RealInput, Source, SureSource};
+use ltm_io::{Line, Lines, MemSource, ReadFault, RealInput, Source, SureSource};
 use std::alloc::Global;
 use std::io;
 use std::io::{Error, ErrorKind, Read};

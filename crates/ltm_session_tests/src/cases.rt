@@ -2,8 +2,7 @@
 //! such place is dear to prove.
 use ltm_casefile::read_case;
 use ltm_core::Core;
-use ltm_io::{MemFolder, Sink, SureSink};
-use ltm_lines::{Source, SureSource};
+use ltm_io::{MemFolder, Sink, Source, SureSink, SureSource};
 use ltm_scenario::Scenario;
 use ltm_session::{Served, SessionEnd, serve_alone};
 use ltm_units::NoMemory;

@@ -1,7 +1,6 @@
 //! Each read and each write of a session fails in turn.
 use crate::cases::{Case, serve};
-use ltm_io::MemSink;
-use ltm_lines::MemSource;
+use ltm_io::{MemSink, MemSource};
 use ltm_session::SessionEnd;
 use std::alloc::Global;
 use std::process::Abort;

@@ -1,7 +1,6 @@
 //! A partner who gives the next line only when the last one has been answered.
 use crate::cases::{Case, serve};
-use ltm_io::{Sink, SinkError};
-use ltm_lines::{ReadFault, Source};
+use ltm_io::{ReadFault, Sink, SinkError, Source};
 use ltm_session::SessionEnd;
 use std::cell::Cell;
 

@@ -1,8 +1,7 @@
 //! Editors of the one road.
 use super::run;
 use crate::run::cases::{USAGE, one_road};
-use ltm_io::{Doc, MemFolder, SureSink};
-use ltm_lines::SureSource;
+use ltm_io::{Doc, MemFolder, SureSink, SureSource};
 use ltm_texts::Status;
 use ltm_units::NoMemory;
 use ltm_workers::PlainGate;

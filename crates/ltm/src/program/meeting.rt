@@ -1,8 +1,7 @@
 //! Two workers are at work on two pairs of one slot at once, while the editor waits for its next line.
 use super::run;
 use crate::run::cases::one_road;
-use ltm_io::SureSink;
-use ltm_lines::{ReadFault, Source};
+use ltm_io::{ReadFault, Source, SureSink};
 use ltm_texts::Status;
 use ltm_units::Pair;
 use ltm_workers::Gate;

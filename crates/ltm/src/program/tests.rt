@@ -1,8 +1,7 @@
 //! Sessions beside workers whose output is one text, or one of two, whatever the order in which threads run.
 use super::run;
 use crate::run::cases::{USAGE, folder_of, hour, one_road};
-use ltm_io::{MemFolder, SureSink};
-use ltm_lines::SureSource;
+use ltm_io::{MemFolder, SureSink, SureSource};
 use ltm_texts::Status;
 use ltm_units::NoMemory;
 use ltm_workers::PlainGate;

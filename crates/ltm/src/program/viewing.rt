@@ -1,8 +1,7 @@
 //! Viewers at a session of the one road. Values by hand.
 use super::run;
 use crate::run::cases::{USAGE, one_road};
-use ltm_io::SureSink;
-use ltm_lines::SureSource;
+use ltm_io::{SureSink, SureSource};
 use ltm_texts::Status;
 use ltm_workers::PlainGate;
 use std::alloc::{AllocError, Global};

@@ -1,7 +1,6 @@
 //! A small case in memory, and one run of the program over a folder, a script and an output in memory.
 use super::run_alone;
-use ltm_io::{Doc, MemFolder, MemSink};
-use ltm_lines::MemSource;
+use ltm_io::{Doc, MemFolder, MemSink, MemSource};
 use ltm_texts::Status;
 use ltm_units::NoMemory;
 use std::alloc::{AllocError, Global};

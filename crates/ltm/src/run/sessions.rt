@@ -1,7 +1,6 @@
 //! Sessions of a small case: what is written under each status. Values by hand.
 use super::cases::{DEMAND, LINKS, SETUP, SPLITS, expect_served, folder_of, one_road, run};
-use ltm_io::{MemFolder, MemSink};
-use ltm_lines::MemSource;
+use ltm_io::{MemFolder, MemSink, MemSource};
 use ltm_texts::Status;
 use std::alloc::Global;
 use std::process::Abort;

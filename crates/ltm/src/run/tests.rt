@@ -1,7 +1,6 @@
 //! Loading a small case, and what is told of words, files and the outside. Values by hand.
 use super::cases::{DEMAND, LINKS, SETUP, SPLITS, USAGE, expect, folder_of, one_road, run};
-use ltm_io::{Doc, MemFolder, MemSink};
-use ltm_lines::MemSource;
+use ltm_io::{Doc, MemFolder, MemSink, MemSource};
 use ltm_texts::Status;
 use std::test::Fail;
 
