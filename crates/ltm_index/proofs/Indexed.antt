@@ -5,7 +5,7 @@ use Rattle.ltm_index.specs.declared.cells.Cells.{Cells}
 use Rattle.ltm_index.specs.declared.read_index.ReadIndex.{ReadIndex}
 use Rattle.ltm_index.specs.Chains.{times, left_after, list_from, first_in, named, IsChain}
 use Rattle.ltm_index.specs.Cells.{cell_at, empty_cell, first_at, next_at, previous_at, entry_at, after_at, list_at, SameCells, AreLists, IsChained, IsEntered, IsUpTo, TakesOut, PutsFirst}
-use Rattle.ltm_index.specs.Lists.{links_of, slots_of, list_of, entry_of, Lifts, Places, SameLists, IsEmpty, IsEmptyFrom, StandsByEntry, StandsOnce, StaysWithout, WithinHorizon}
+use Rattle.ltm_index.specs.Lists.{links_of, slots_of, list_of, entry_of, Places, SameLists, IsEmpty, IsEmptyFrom, StandsByEntry, StandsOnce, StaysWithout, WithinHorizon}
 use Rattle.ltm_index.proofs.Chaining.{chain_same, without_none}
 use Rattle.ltm_index.proofs.Linked.{stands_once, stands_nowhere, entry_of_one, at_most_once, list_is, list_short, nothing_met}
 use Rattle.ltm_index.proofs.Reading.{times_from_place, place_from_times, left_is, next_stands, named_at, named_first, named_next, none_is_empty}
@@ -19,17 +19,6 @@ lists_of_index x =
     }
 
 -- ---- taking out and putting first
-pub lifts : (old new : ReadIndex) (l v : ℕ) → new.slots ≡ old.slots → TakesOut old.cells new.cells l v → Lifts old new l v
-unfolding list_of entry_of
-lifts old new l v slots takes =
-    record {
-      size = record { links = takes.shape.links; slots = slots; room = takes.shape.room };
-      lists = takes.lists;
-      other_links = takes.other_links;
-      entry = ap named takes.entry;
-      other_entries = λ m w lt other. ap named (takes.entries m w lt other);
-    }
-
 pub places : (old new : ReadIndex) (between : Cells) (l v k : ℕ) → l < links_of old → new.slots ≡ old.slots → TakesOut old.cells between l v → PutsFirst between new.cells l v k → Places old new l v k
 unfolding list_of entry_of
 places old new between l v k link slots takes puts =

@@ -31,14 +31,6 @@ pub record SameSize (old new : ReadIndex) : Type 0 where
   pub slots : slots_of new ≡ slots_of old
   pub room : room_of new ≡ room_of old
 
--- a slot is taken out of the list of the link in which it stands
-pub record Lifts (old new : ReadIndex) (l v : ℕ) : Type 0 where
-  pub size : SameSize old new
-  pub lists : (k : ℕ) → list_of new l k ≡ without v (list_of old l k)
-  pub other_links : (m k : ℕ) → m < links_of old → m ≢ l → list_of new m k ≡ list_of old m k
-  pub entry : entry_of new l v ≡ None
-  pub other_entries : (m w : ℕ) → m < links_of old → (m ≡ l → w ≡ v → ⊥) → entry_of new m w ≡ entry_of old m w
-
 -- a slot is taken out of the list of the link in which it stands, and put first in that of a boundary
 pub record Places (old new : ReadIndex) (l v k : ℕ) : Type 0 where
   pub size : SameSize old new

@@ -34,7 +34,7 @@ fn slot_named(pointer: u16) -> Option<u32>
 }
 
 impl ReadIndex {
-    ghost use Rattle.ltm_index.specs.Lists.{links_of, slots_of, room_of, list_of, entry_of, Lifts, Places, SameLists, IsEmpty, IsEmptyFrom};
+    ghost use Rattle.ltm_index.specs.Lists.{links_of, slots_of, room_of, list_of, entry_of, Places, SameLists, IsEmpty, IsEmptyFrom};
 
     /// An index of so many links and slots, at most 4,000 and 10,000, in which every list is empty. There is one boundary
     /// more than slots.
@@ -70,16 +70,6 @@ impl ReadIndex {
         ensures { IsTrue result ↔ entry_of self.now link.0 slot ≡ Some boundary }
     {
         u32::from(self.cells.get(link.0, slot).entry) == boundary + 1
-    }
-
-    /// Takes a slot out of the list of the link in which it stands, if any.
-    #[inline]
-    pub fn lift(&mut self, link: LinkId, slot: u32)
-        requires link { link.0 < links_of self.old }
-        requires slot { slot < slots_of self.old }
-        ensures { Lifts self.old self.new link.0 slot }
-    {
-        take_out(&mut self.cells, link.0, slot);
     }
 
     /// What stands first in the list of a boundary, or after a slot that stands in it: 0 for no slot, else one more.

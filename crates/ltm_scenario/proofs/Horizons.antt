@@ -10,8 +10,8 @@ use Rattle.ltm_splits.specs.Rows.{SplitsData}
 use Rattle.ltm_scenario.specs.declared.parts.Parts.{Parts}
 use Rattle.ltm_scenario.specs.declared.parts.undo.Undo.TheVariants.{Horizon}
 use Rattle.ltm_scenario.specs.Data.{ScenarioData}
-use Rattle.ltm_scenario.specs.Cells.{widths, cells, cells_with, most_cells}
-use Rattle.ltm_scenario.specs.Horizon.{setup_over, with_slots, with_fewer_slots, MayReach}
+use Rattle.ltm_scenario.specs.Cells.{widths, cells, cells_with}
+use Rattle.ltm_scenario.specs.Horizon.{setup_over, with_slots, with_fewer_slots}
 use Rattle.ltm_scenario.specs.State.{KeepsRoom}
 use Rattle.ltm_scenario.specs.IsScenario.{IsScenario}
 use Rattle.ltm_scenario.specs.Parts.{scenario_in, state_in, AreParts}

@@ -1,4 +1,4 @@
--- How a scenario lies in its tables.
+-- What the parts of a scenario say, and the room that they have.
 use Rattle.std.specs.Prelude.{◌≡◌}
 use Rattle.ltm_scenario.specs.declared.parts.Parts.{Parts}
 use Rattle.ltm_scenario.specs.Data.{ScenarioData}
@@ -20,7 +20,7 @@ scenario_in t = record {
 abbrev pub state_in : Parts → ScenarioState
 state_in t = record { scenario = scenario_in t; demand_room = t.demand.room; entry_places = t.entry.places; exit_places = t.exit.places }
 
--- the tables agree on the step and the horizon, and what they say is a scenario
+-- the parts agree on the step and the horizon, and what they say is a scenario
 pub record AreParts (t : Parts) : Type 0 where
   pub scenario : IsScenario (scenario_in t)
   pub step : t.diagrams.step ≡ t.setup.step.0

@@ -1,7 +1,7 @@
 //! - **What it is**: the scenario, which is what a case says of setup, network, demand, splits and limits; the rules of a
 //!   valid case; and batches of edits that are made whole or not at all.
 //! - **On what it stands**: `ltm_network`, `ltm_diagram`, `ltm_demand`, `ltm_splits` and `ltm_limits`, each with a table of
-//!   its own, which it holds side by side and in step.
+//!   its own, which it holds side by side and in step (`parts`).
 //! - **What a call costs**: a read costs what its table's costs; an edit costs what its table's call costs and a few
 //!   look-ups by name, and takes no copy of the scenario; a longer horizon costs a pass over the nodes, for the cells; `check` passes over all rows once.
 //! - **When to change it here**: when a case says more, when a rule of a valid case changes, or for another kind of edit.

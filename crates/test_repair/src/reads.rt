@@ -21,8 +21,8 @@ fn are_readers(index: &ReadIndex, link: LinkId, boundary: u32, slots: &[u32]) ->
     at.is_none()
 }
 
-/// Places a slot of link 1, or lifts it.
-fn move_to(index: &mut ReadIndex, slot: u32, boundary: Option<u32>)
+/// Places a slot of link 1.
+fn move_to(index: &mut ReadIndex, slot: u32, boundary: u32)
     requires links { links_of index.old ≡ 2 }
     requires slots { slots_of index.old ≡ 3 }
     ensures links { links_of index.new ≡ 2 }
@@ -31,10 +31,7 @@ fn move_to(index: &mut ReadIndex, slot: u32, boundary: Option<u32>)
     if slot >= 3 {
         return;
     }
-    match boundary {
-        Some(boundary) => index.place(LinkId(1), slot, boundary.min(3)),
-        None => index.lift(LinkId(1), slot),
-    }
+    index.place(LinkId(1), slot, boundary.min(3));
 }
 
 /// Whether the lists of link 1 are these.
@@ -50,7 +47,7 @@ fn are_lists(index: &ReadIndex, lists: &[&[u32]; 4]) -> bool
 }
 
 /// A slot, the boundary to which it is moved, and the lists of link 1 then.
-type Row<'a> = (u32, Option<u32>, [&'a [u32]; 4]);
+type Row<'a> = (u32, u32, [&'a [u32]; 4]);
 
 /// The place of the first row after which a list is another; none where each is as it should be.
 fn first_otherwise(index: &mut ReadIndex, rows: &[Row<'_>]) -> Option<usize>
@@ -80,19 +77,17 @@ fn moved(alloc: Global, rows: &[Row<'_>]) -> Option<(Option<usize>, bool)> {
     }
 }
 
-// Slots of link 1 are placed and lifted one after another, and after each call every list of it is compared.
+// Slots of link 1 are placed one after another, and after each call every list of it is compared.
 #[test]
-fn places_and_lifts(rt: HostRuntime) {
-    let rows: [Row<'_>; 9] = [
-        (0, Some(1), [&[], &[0], &[], &[]]),
-        (1, Some(1), [&[], &[1, 0], &[], &[]]),
-        (2, Some(1), [&[], &[2, 1, 0], &[], &[]]),
-        (1, Some(3), [&[], &[2, 0], &[], &[1]]),
-        (0, Some(1), [&[], &[0, 2], &[], &[1]]),
-        (2, None, [&[], &[0], &[], &[1]]),
-        (2, None, [&[], &[0], &[], &[1]]),
-        (2, Some(0), [&[2], &[0], &[], &[1]]),
-        (0, Some(0), [&[0, 2], &[], &[], &[1]]),
+fn slots_are_placed(rt: HostRuntime) {
+    let rows: [Row<'_>; 7] = [
+        (0, 1, [&[], &[0], &[], &[]]),
+        (1, 1, [&[], &[1, 0], &[], &[]]),
+        (2, 1, [&[], &[2, 1, 0], &[], &[]]),
+        (1, 3, [&[], &[2, 0], &[], &[1]]),
+        (0, 1, [&[], &[0, 2], &[], &[1]]),
+        (2, 0, [&[2], &[0], &[], &[1]]),
+        (0, 0, [&[0, 2], &[], &[], &[1]]),
     ];
     assert_eq!(rt; moved(rt.alloc(), &rows), Some((None, true)));
 }

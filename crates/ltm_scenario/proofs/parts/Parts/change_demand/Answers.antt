@@ -1,4 +1,3 @@
-use Rattle.std.proofs.Common.{◌≡◌}
 use Rattle.ltm_demand.specs.Rows.{with_amount}
 use Rattle.ltm_scenario.specs.Parts.{AreParts}
 use Rattle.ltm_scenario.proofs.Changed.{with_demand_row}

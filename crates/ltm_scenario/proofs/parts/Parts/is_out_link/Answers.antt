@@ -1,6 +1,6 @@
 use Rattle.std.proofs.Common.{◌==◌, false, ap, ◌∙◌}
 use Rattle.std.specs.Option.{option_map_or}
-use Rattle.ltm_network.specs.Network.{NetworkData, tail_of, find_link}
+use Rattle.ltm_network.specs.Network.{tail_of}
 use Rattle.ltm_scenario.proofs.parts.Parts.is_out_link.Goals as goal
 
 pub returns-in-Some : goal.returns-in-Some
