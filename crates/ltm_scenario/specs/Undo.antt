@@ -4,7 +4,7 @@ use Rattle.ltm_limits.specs.Limits.{with_values}
 use Rattle.ltm_diagram.specs.Limits.{limits_of}
 use Rattle.ltm_demand.specs.Rows.{CanRestore, edited as edited_rows}
 use Rattle.ltm_splits.specs.Rows.{taken_out, put_in, row_of}
-use Rattle.ltm_splits.specs.WeightsLie.{AreWeights}
+use Rattle.ltm_splits.specs.Weights.{AreWeights}
 use Rattle.ltm_scenario.specs.declared.tables.undo.Undo.{Undo}
 use Rattle.ltm_scenario.specs.declared.tables.undo.Undo.TheVariants.{Demand, Entry, Exit, NewSplit, OldSplit, Diagram, Horizon}
 use Rattle.ltm_scenario.specs.Data.{ScenarioData}

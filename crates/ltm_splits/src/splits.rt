@@ -1,7 +1,7 @@
 //! The table of split rows.
 ghost use Rattle.std.specs.Prelude.{◌≡◌, ◌≢◌, ◌≤◌, ◌<◌, [], Ok, Err, Some, None, IsTrue, IsSome, IsNone, IfSome, IfOk, IfErr, OnOk, OnErr, is_some, if◌then◌else◌, length};
 ghost use Rattle.std.specs.Option.{option_copied};
-ghost use Rattle.ltm_splits.specs.WeightsLie.{AreWeights};
+ghost use Rattle.ltm_splits.specs.Weights.{AreWeights};
 
 use crate::keys::{SplitFault, SplitKey};
 use crate::node_table::NodeTable;

@@ -1,31 +1,28 @@
 //! The weights of a row, as they lie in a table.
 ghost use Rattle.std.specs.Prelude.{◌≡◌, ◌==◌, ◌<◌, ◌^◌, All, sum};
 ghost use Rattle.std.specs.List.{list_all};
-ghost use Rattle.ltm_splits.specs.WeightsLie.{AreWeights};
+ghost use Rattle.ltm_splits.specs.Weights.{AreWeights};
 
+use ltm_units::Four;
 use std::marker::Model;
 
 /// One weight per out-link in order of link number: at most four, and not all of them 0.
 #[derive(Clone, Copy)]
 pub struct Weights {
-    values: [u32; 4],
-    len: u8,
+    values: Four<u32>,
 }
 
 impl Model for Weights {
-    ghost use Rattle.std.specs.Prelude.{◌≡◌, ℕ, ◌≤◌, List, length, take};
-    ghost use Rattle.ltm_splits.specs.WeightsLie.{padded, AreWeights};
-    ghost use Rattle.ltm_splits.specs.WeightsBack.{laid, gives_back};
+    ghost use Rattle.std.specs.Prelude.{ℕ, List};
+    ghost use Rattle.ltm_splits.specs.Weights.{AreWeights};
 
     ghost Value = { List ℕ };
 
-    ghost view = { λ w. take w.len w.values };
+    ghost view = { λ w. w.values };
 
-    ghost invariant = { λ w. AreWeights (take w.len w.values) × (w.len ≤ 4) × (w.values ≡ padded (take w.len w.values)) };
+    ghost invariant = { λ w. AreWeights w.values };
 
-    ghost inverse = { laid };
-
-    ghost inverse_ok = { gives_back };
+    ghost inverse = { λ weights. record { values = weights } };
 }
 
 impl Weights {
@@ -33,11 +30,9 @@ impl Weights {
         requires { AreWeights weights.now }
         ensures { result ≡ weights.now }
     {
-        let mut values = [0u32; 4];
-        values[..weights.len()].copy_from_slice(weights);
-        Weights {
-            values,
-            len: weights.len() as u8,
+        match Four::of(weights) {
+            Some(values) => Weights { values },
+            None => unreachable!(),
         }
     }
 
@@ -47,7 +42,7 @@ impl Weights {
         ensures weights { result.now ≡ self.now }
         ensures some { AreWeights self.now }
     {
-        &self.values[..self.len as usize]
+        self.values.as_slice()
     }
 }
 
