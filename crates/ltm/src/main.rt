@@ -1,27 +1,14 @@
 //! - **What it is**: the program `ltm`. `main` only makes the real folder, input and output and calls `run`, whose
 //!   contract is that of the whole program.
-//! - **On what it stands**: `ltm_texts` for the commands whose text is made whole before it is written, `ltm_session` for the
-//!   session, which answers a script line by line, `ltm_crew` for workers beside it, `ltm_viewing` for viewers at it,
-//!   `ltm_editing` for several editors, and `ltm_casefile`, which reads the case.
-//! - **What a call costs**: a cold loading, the routes to each destination or a trial; a session a cold loading, and then what
-//!   its lines cost.
-//! - **When to change it here**: when there is another command that reads the input, or when a session ends or is closed in
-//!   another way. A command with a text of its own stands in `ltm_texts`.
+//! - **On what it stands**: `ltm_program`, which has `run`, `ltm_io` for the real ends, and `ltm_texts` for the exit statuses.
+//! - **What a call costs**: what `run` costs.
+//! - **When to change it here**: when the program meets another end of the system. All else stands in `ltm_program`.
 #![tactic(auto)]
 
-mod edit_together;
-mod program;
-mod run;
-mod serve;
-mod serve_beside;
-mod view;
-
-use ltm_files::DiskFolder;
-use ltm_io::RealOutput;
-use ltm_lines::RealInput;
+use ltm_io::{DiskFolder, RealInput, RealOutput};
+use ltm_program::run;
 use ltm_texts::Status;
 use ltm_workers::PlainGate;
-use program::run;
 use std::process::ExitCode;
 use std::{env, io};
 

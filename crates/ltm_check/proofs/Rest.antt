@@ -1,7 +1,7 @@
 -- What was taken of a source, and what is left of it.
 use Rattle.std.proofs.Common.{◌≡◌, ℕ, ◌≤◌, List, [], ◌∷◌, ◌++◌, length, Option, Some, None, IfSome, refl, sym, ap, subst, ◌∙◌, arith, append_assoc, length-append}
 use Rattle.std.proofs.lemmas.List.{append-nil}
-use Rattle.ltm_lines.specs.Source.{prepended}
+use Rattle.ltm_io.specs.Source.{prepended}
 
 pub none_taken : (told : Option (List ℕ)) → told ≡ prepended [] told
 none_taken None = refl

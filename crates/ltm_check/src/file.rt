@@ -1,7 +1,7 @@
 //! Reading a curve file piece by piece.
 ghost use Rattle.std.specs.Prelude.{◌≡◌, ◌<◌, ◌≤◌, ◌^◌, ◌+◌, ◌++◌, ◌⊎◌, List, ℕ, [], drop, length, Err, OnOk, OnErr, IfOk, IfErr, IfSome};
 ghost use Rattle.ltm_io.specs.Faults.{Rose};
-ghost use Rattle.ltm_lines.specs.Source.{prepended};
+ghost use Rattle.ltm_io.specs.Source.{prepended};
 ghost use Rattle.ltm_records.specs.Fields.{Fields};
 ghost use Rattle.ltm_records.specs.Left.{records_of};
 ghost use Rattle.ltm_setting.specs.Setting.{setting_of};
@@ -18,7 +18,7 @@ use crate::faults::{CurvesCause, CurvesFault, FileFault};
 use crate::piece::read_piece;
 use ltm_curve::Curves;
 use ltm_flows::fresh;
-use ltm_lines::Source;
+use ltm_io::Source;
 use ltm_scenario::Scenario;
 use ltm_units::NoMemory;
 use std::alloc::Global;

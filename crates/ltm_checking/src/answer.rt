@@ -21,7 +21,7 @@ use crate::refusal::Refusal;
 use ltm_casefile::{CaseFault, read_case};
 use ltm_check::{Checked, check_curves, kept_answers_alike};
 use ltm_curve::Curves;
-use ltm_files::OpenFolder;
+use ltm_io::OpenFolder;
 use ltm_scenario::Scenario;
 use ltm_setting::is_setting;
 use ltm_units::{NoMemory, Pair};

@@ -13,8 +13,7 @@ use crate::refusal::Refusal;
 use ltm_casefile::CaseFault;
 use ltm_check::{CurvesFault, FileFault, read_curves_from};
 use ltm_curve::Curves;
-use ltm_files::{OpenFault, OpenFolder};
-use ltm_io::Doc;
+use ltm_io::{Doc, OpenFault, OpenFolder};
 use ltm_scenario::Scenario;
 use std::alloc::Global;
 

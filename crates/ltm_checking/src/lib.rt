@@ -1,6 +1,6 @@
 //! - **What it is**: the loading of a case as a curve file, and whether the `curves.csv` beside a case is its loading, as the
 //!   texts that are written.
-//! - **On what it stands**: `ltm_casefile`, which reads the case, `ltm_flows`, which loads it, `ltm_files`, which opens the
+//! - **On what it stands**: `ltm_casefile`, which reads the case, `ltm_flows`, which loads it, `ltm_io`, which opens the
 //!   curve file, and `ltm_check`, which writes, reads and checks curves.
 //! - **What a call costs**: the text of a loading costs a cold loading and a pass over its counts; a check costs a pass over
 //!   the file, which is read piece by piece and never held, and the step of each pair of node and slot, and no loading is made.

@@ -21,7 +21,7 @@ use ltm_flows::Loading;
 use ltm_loading::one_loading;
 use ltm_scenario::{Batch, Scenario};
 use ltm_setting::{is_setting, node_count, slot_count};
-use ltm_told::Told;
+use ltm_turn::Told;
 use ltm_units::NoMemory;
 use std::alloc::Global;
 use std::marker::Model;

@@ -8,9 +8,9 @@ use Rattle.ltm_scenario.specs.Edits.{edited_all}
 use Rattle.ltm_scenario.specs.Data.{ScenarioData}
 use Rattle.ltm_flows.specs.Shown.{version_of}
 use Rattle.ltm_io.specs.Sink.{appended, AppendsFront}
-use Rattle.ltm_lines.specs.Source.{prepended}
-use Rattle.ltm_lines.specs.Script.{after_line}
-use Rattle.ltm_lines.specs.Answers.{GivesLine}
+use Rattle.ltm_io.specs.Source.{prepended}
+use Rattle.ltm_io.specs.Script.{after_line}
+use Rattle.ltm_io.specs.Answers.{GivesLine}
 use Rattle.ltm_script.specs.Line.{reading}
 use Rattle.ltm_script.specs.declared.command.Command.{Command}
 use Rattle.ltm_script.specs.declared.command.Command.TheVariants as command

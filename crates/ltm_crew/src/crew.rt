@@ -2,14 +2,13 @@
 ghost use Rattle.std.specs.Prelude.{◌≡◌, ◌+◌, ◌≤◌, ℕ, List, [], Some, None, IfSome, IsSomeAnd};
 ghost use Rattle.std.specs.Thread.{IsSync};
 ghost use Rattle.ltm_io.specs.Faults.{Rose};
-ghost use Rattle.ltm_lines.specs.Lines.{max_of, taken_by, kept_by};
+ghost use Rattle.ltm_io.specs.Lines.{max_of, taken_by, kept_by};
 ghost use Rattle.ltm_turn.specs.Passes.{turn_id, editor_turn, worker_turn, editor_list, editor_seen, editor_workers};
 ghost use Rattle.ltm_crew.specs.Beside.{SessionBeside, ReadsAll};
 
 use crate::answering::line_beside;
 use ltm_core::{Core, Scratch};
-use ltm_io::Sink;
-use ltm_lines::{Lines, Source};
+use ltm_io::{Lines, Sink, Source};
 use ltm_session::{MOST_LINES, SessionEnd, end_of_lines, next_line};
 use ltm_turn::{EditorPass, Turn, WorkerPass};
 use ltm_workers::{Gate, stop_beside, work};

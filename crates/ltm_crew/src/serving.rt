@@ -1,7 +1,7 @@
 //! A session beside workers.
 ghost use Rattle.std.specs.Prelude.{◌≡◌, ◌≢◌, ◌≤◌, ℕ, List, [], Some, None, IfOk, false, vec_len};
 ghost use Rattle.ltm_io.specs.Faults.{Rose};
-ghost use Rattle.ltm_lines.specs.Lines.{max_of, taken_by, kept_by};
+ghost use Rattle.ltm_io.specs.Lines.{max_of, taken_by, kept_by};
 ghost use Rattle.ltm_core.specs.Log.{version_now};
 ghost use Rattle.ltm_session.specs.Analysts.{Analysts, state_of};
 ghost use Rattle.ltm_session.specs.Answers.{AnswersAlone, AnswersBeside};
@@ -9,8 +9,7 @@ ghost use Rattle.ltm_session.specs.Session.{IsSession, Wrote, end_of};
 
 use crate::crew::{Gear, crew};
 use ltm_core::{Core, Scratch, logs_tell_all};
-use ltm_io::Sink;
-use ltm_lines::{Lines, Source};
+use ltm_io::{Lines, Sink, Source};
 use ltm_session::{LONGEST_LINE, Served, SessionEnd, serve_alone};
 use ltm_turn::Turn;
 use ltm_units::NoMemory;

@@ -14,12 +14,12 @@ use Rattle.ltm_casefile.specs.declared.faults.CaseFault.{CaseFault}
 use Rattle.ltm_casefile.specs.declared.faults.CaseFault.TheVariants as fault
 use Rattle.ltm_casefile.specs.Case.{case_of, is_case_file, asks_for}
 use Rattle.ltm_casefile.specs.Faults.{Agrees, HasRisen, WasAsked}
-use Rattle.ltm_edits.specs.declared.fault.EditsFault.{EditsFault}
-use Rattle.ltm_edits.specs.declared.fault.EditsFault.TheVariants as edits
-use Rattle.ltm_edits.specs.Files.{docs_of}
-use Rattle.ltm_edits.specs.Scripts.{scripts_of}
-use Rattle.ltm_edits.specs.Faults.{IfMissing}
-use Rattle.ltm_edits.specs.Faults as of_edits
+use Rattle.ltm_editing.specs.declared.fault.EditsFault.{EditsFault}
+use Rattle.ltm_editing.specs.declared.fault.EditsFault.TheVariants as edits
+use Rattle.ltm_editing.specs.Files.{docs_of}
+use Rattle.ltm_editing.specs.Scripts.{scripts_of}
+use Rattle.ltm_editing.specs.Faults.{IfMissing}
+use Rattle.ltm_editing.specs.Faults as of_edits
 use Rattle.ltm_editing.specs.declared.refusal.Refusal.TheVariants as refusal
 use Rattle.ltm_editing.specs.Editing.{IsEditingText}
 use Rattle.ltm_editing.specs.Answers.{AnswersEditing, IsTold, IsMissing, Missed}

@@ -3,3 +3,6 @@ pub mod Crews
 pub mod Told
 pub mod Answered
 pub mod Sent
+pub mod Each
+pub mod Cut
+pub mod Missing

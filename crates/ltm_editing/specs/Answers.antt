@@ -9,10 +9,10 @@ use Rattle.ltm_scenario.specs.Data.{ScenarioData}
 use Rattle.ltm_casefile.specs.declared.faults.CaseFault.{CaseFault}
 use Rattle.ltm_casefile.specs.declared.faults.CaseFault.TheVariants as fault
 use Rattle.ltm_casefile.specs.Case.{case_of, is_case_file, asks_for}
-use Rattle.ltm_edits.specs.declared.fault.EditsFault.{EditsFault}
-use Rattle.ltm_edits.specs.declared.fault.EditsFault.TheVariants as edits
-use Rattle.ltm_edits.specs.Files.{docs_of}
-use Rattle.ltm_edits.specs.Scripts.{scripts_of}
+use Rattle.ltm_editing.specs.declared.fault.EditsFault.{EditsFault}
+use Rattle.ltm_editing.specs.declared.fault.EditsFault.TheVariants as edits
+use Rattle.ltm_editing.specs.Files.{docs_of}
+use Rattle.ltm_editing.specs.Scripts.{scripts_of}
 use Rattle.ltm_editing.specs.declared.refusal.Refusal.{Refusal}
 use Rattle.ltm_editing.specs.declared.refusal.Refusal.TheVariants as refusal
 use Rattle.ltm_editing.specs.Editing.{IsEditingText}

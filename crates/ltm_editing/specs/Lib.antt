@@ -3,3 +3,7 @@ pub mod Crews
 pub mod Lines
 pub mod Editing
 pub mod Answers
+pub mod Each
+pub mod Faults
+pub mod Files
+pub mod Scripts

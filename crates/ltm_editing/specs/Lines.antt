@@ -3,8 +3,8 @@ use Rattle.std.specs.Prelude.{ℕ, ◌+◌, List, [], ◌∷◌, ◌++◌, codes
 use Rattle.ltm_editors.specs.declared.call.Call.{Call}
 use Rattle.ltm_editors.specs.declared.call.Verdict.{Verdict}
 use Rattle.ltm_editors.specs.declared.call.Verdict.TheVariants.{Accepted, Refused}
-use Rattle.ltm_edits.specs.declared.fault.LineCause.{LineCause}
-use Rattle.ltm_edits.specs.declared.fault.LineCause.TheVariants.{NotJson, NotCommand, NotEdit}
+use Rattle.ltm_editing.specs.declared.fault.LineCause.{LineCause}
+use Rattle.ltm_editing.specs.declared.fault.LineCause.TheVariants.{NotJson, NotCommand, NotEdit}
 use Rattle.ltm_units.specs.Texts.{number_piece}
 use Rattle.ltm_report.specs.Pieces.{newline}
 use Rattle.ltm_report.specs.Answers.{accepted_line}

@@ -3,13 +3,13 @@ ghost use Rattle.std.specs.Prelude.{◌≡◌, ◌≤◌, ℕ, Ok, Err, IfOk, If
 ghost use Rattle.std.specs.List.{Contains};
 ghost use Rattle.ltm_io.specs.declared.doc.Doc.{Doc};
 ghost use Rattle.ltm_casefile.specs.Case.{is_case_file, asks_for};
-ghost use Rattle.ltm_edits.specs.Files.{docs_of};
+ghost use Rattle.ltm_editing.specs.Files.{docs_of};
 ghost use Rattle.ltm_editing.specs.Answers.{AnswersEditing, IsTold, IsMissing, Missed};
 
 use crate::editing::edit_scenario;
+use crate::edits::read_edits;
 use crate::refusal::Refusal;
 use ltm_casefile::{CaseFault, read_case};
-use ltm_edits::read_edits;
 use ltm_io::Folder;
 use std::alloc::Global;
 use std::sync::Wait;

@@ -8,8 +8,8 @@ ghost use Rattle.ltm_editing.specs.Histories.{batches_by};
 ghost use Rattle.ltm_editing.specs.Crews.{MadeAll};
 
 use crate::editor::edit;
+use crate::script::Script;
 use ltm_editors::{Desk, Office, Seat};
-use ltm_edits::Script;
 use ltm_units::NoMemory;
 use std::sync::Wait;
 use std::thread::{Threads, join};

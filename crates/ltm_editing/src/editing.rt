@@ -9,9 +9,9 @@ ghost use Rattle.ltm_editing.specs.Editing.{IsEditingText};
 
 use crate::crew::crew;
 use crate::report::{let_go, report};
+use crate::script::Script;
 use ltm_core::Core;
 use ltm_editors::{Desk, Office};
-use ltm_edits::Script;
 use ltm_scenario::Scenario;
 use ltm_units::NoMemory;
 use std::alloc::Global;

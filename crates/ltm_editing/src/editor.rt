@@ -5,8 +5,8 @@ ghost use Rattle.ltm_scenario.specs.Edits.{HaveAmounts};
 ghost use Rattle.ltm_editors.specs.Seats.{desk_id, seat_place, seat_seen, held_place, held_value};
 ghost use Rattle.ltm_editing.specs.Histories.{batches_by};
 
+use crate::script::Script;
 use ltm_editors::{Desk, Held, Office, Seat};
-use ltm_edits::Script;
 use ltm_scenario::Batch;
 use ltm_units::NoMemory;
 use std::sync::Wait;

@@ -4,8 +4,8 @@ ghost use Rattle.ltm_units.specs.Texts.{number_piece};
 ghost use Rattle.ltm_report.specs.Pieces.{newline};
 ghost use Rattle.ltm_editing.specs.Lines.{place_piece, verdict_line, call_line, call_lines, cause_words, long_edits_line, bad_script_line};
 
+use crate::fault::LineCause;
 use ltm_editors::{Call, Verdict};
-use ltm_edits::LineCause;
 use ltm_report::{accepted_text, edit_fault_text};
 use ltm_units::{NoMemory, push_number, push_text};
 use std::alloc::Global;

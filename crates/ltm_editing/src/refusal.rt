@@ -1,6 +1,6 @@
 //! Why there is no text.
+use crate::fault::EditsFault;
 use ltm_casefile::CaseFault;
-use ltm_edits::EditsFault;
 
 /// Why editors write nothing of what they do.
 #[derive(Clone, Copy, PartialEq, Eq)]

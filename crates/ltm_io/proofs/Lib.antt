@@ -1,2 +1,4 @@
 pub mod Fronts
 pub mod WritesInARow
+pub mod Pieces
+pub mod Steps

@@ -8,3 +8,13 @@ pub mod RealFolder
 pub mod RealOutput
 pub mod Sink
 pub mod SureSink
+pub mod Answers
+pub mod Bytes
+pub mod Lines
+pub mod MemSource
+pub mod RealInput
+pub mod Script
+pub mod Source
+pub mod SureSource
+pub mod RealFile
+pub mod DiskFolder

@@ -3,7 +3,7 @@ ghost use Rattle.std.specs.Prelude.{◌≡◌, ◌<◌};
 ghost use Rattle.ltm_io.specs.Doc.{name_of, place_of};
 
 /// How many files there are.
-pub(crate) const DOC_COUNT: usize = 14;
+pub const DOC_COUNT: usize = 14;
 
 /// A file of a folder: one of the case, the signals, the curves, or one of eight lists of edits.
 #[derive(Clone, Copy, Debug, PartialEq, Eq)]
@@ -47,8 +47,8 @@ impl Doc {
         }
     }
 
-    // The file's place in a table with one entry for each file.
-    pub(crate) fn place(self) -> usize
+    /// The file's place in a table with one entry for each file.
+    pub fn place(self) -> usize
         ensures place { result ≡ place_of self }
         ensures within { result < DOC_COUNT }
     {

@@ -12,7 +12,7 @@ use Rattle.ltm_script.specs.declared.command.CommandFault.{CommandFault}
 use Rattle.ltm_script.specs.declared.command.CommandFault.TheVariants as fault
 use Rattle.ltm_report.specs.Answers.{accepted_line}
 use Rattle.ltm_report.specs.EditFaults.{edit_fault_line}
-use Rattle.ltm_lines.specs.Script.{lines_of}
+use Rattle.ltm_io.specs.Script.{lines_of}
 use Rattle.ltm_core.specs.Log.{Log, LogLaws, with_batch, version_now, scenario_now}
 use Rattle.ltm_core.specs.Settling.{IsSettleCount, IsExactCount}
 use Rattle.ltm_session.specs.Analysts.{Analysts, opening_state, settled}

@@ -22,7 +22,7 @@ use Rattle.ltm_script.specs.declared.command.CommandFault.TheVariants as fault
 use Rattle.ltm_report.specs.Answers.{accepted_line, settled_line}
 use Rattle.ltm_report.specs.EditFaults.{edit_fault_line}
 use Rattle.ltm_report.specs.Refusals.{unknown_link_line, unknown_time_line}
-use Rattle.ltm_lines.specs.Script.{lines_of}
+use Rattle.ltm_io.specs.Script.{lines_of}
 use Rattle.ltm_core.specs.Log.{Log, with_batch, version_now, settled_of, scenario_at, scenario_now}
 use Rattle.ltm_core.specs.Settling.{IsExactCount, setting_at}
 use Rattle.ltm_report.specs.Reports.{totals_report, link_report}

@@ -4,9 +4,9 @@ use Rattle.std.proofs.lemmas.List.{append-nil}
 use Rattle.std.proofs.lemmas.List.Elements.{All-push, All-nil}
 use Rattle.std.proofs.Math.Seq.{take-append-add, take-length}
 use Rattle.std.specs.Prelude.{Option, Some, None, IfSome}
-use Rattle.ltm_lines.specs.Source.{prepended}
-use Rattle.ltm_lines.specs.Script.{lines_of, after_line}
-use Rattle.ltm_lines.specs.Answers.{GivesLine}
+use Rattle.ltm_io.specs.Source.{prepended}
+use Rattle.ltm_io.specs.Script.{lines_of, after_line}
+use Rattle.ltm_io.specs.Answers.{GivesLine}
 use Rattle.ltm_io.specs.Sink.{appended, AppendsFront}
 use Rattle.ltm_scenario.specs.Data.{ScenarioData}
 use Rattle.ltm_session.specs.declared.ends.SessionEnd.{SessionEnd}

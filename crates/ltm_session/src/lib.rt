@@ -1,6 +1,6 @@
 //! - **What it is**: the session: a script of edits and questions is read line by line, and each line is answered before the
 //!   next one is read.
-//! - **On what it stands**: `ltm_core` and `ltm_workers` for the repair, `ltm_lines` and `ltm_script` for the script,
+//! - **On what it stands**: `ltm_core` and `ltm_workers` for the repair, `ltm_io` and `ltm_script` for the script,
 //!   `ltm_times` and `ltm_report` for the answers, `ltm_io` for the output.
 //! - **What a call costs**: an edit the marks of the pairs that it touches, a question the length of its answer and, of
 //!   totals, one pass over the links and nodes; a settle a claim, a node step and a commit for each pair whose inputs have

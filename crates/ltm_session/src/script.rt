@@ -1,12 +1,12 @@
 //! The next line of a script, or how the session ends.
 ghost use Rattle.std.specs.Prelude.{◌≡◌, ◌⊎◌, ℕ, ◌+◌, ◌<◌, ◌≤◌, length, None, OnOk, IfErr, Err};
 ghost use Rattle.ltm_io.specs.Faults.{Rose};
-ghost use Rattle.ltm_lines.specs.Lines.{max_of, text_of, kept_by, coming};
-ghost use Rattle.ltm_lines.specs.Answers.{GivesLine};
+ghost use Rattle.ltm_io.specs.Lines.{max_of, text_of, kept_by, coming};
+ghost use Rattle.ltm_io.specs.Answers.{GivesLine};
 ghost use Rattle.ltm_session.specs.Serving.{EndsIfTold};
 
 use crate::ends::SessionEnd;
-use ltm_lines::{Line, Lines, Source};
+use ltm_io::{Line, Lines, Source};
 
 /// The most bytes of a line.
 pub const LONGEST_LINE: u32 = 65_536;

@@ -2,7 +2,7 @@
 ghost use Rattle.std.specs.Prelude.{◌≡◌, ◌≢◌, ◌++◌, ◌≤◌, ℕ, List, [], Some, None, Err, OnOk, OnErr, IfOk, IfErr, ◌⊎◌};
 ghost use Rattle.ltm_io.specs.Faults.{Rose};
 ghost use Rattle.ltm_io.specs.Sink.{appended, AppendsFront};
-ghost use Rattle.ltm_lines.specs.Lines.{max_of, taken_by, kept_by};
+ghost use Rattle.ltm_io.specs.Lines.{max_of, taken_by, kept_by};
 ghost use Rattle.ltm_core.specs.Log.{version_now};
 ghost use Rattle.ltm_session.specs.Analysts.{state_of, opening_state};
 ghost use Rattle.ltm_session.specs.Answers.{AnswersAlone};
@@ -14,8 +14,7 @@ use crate::answering::answer;
 use crate::ends::SessionEnd;
 use crate::script::{LONGEST_LINE, MOST_LINES, end_of_lines, next_line};
 use ltm_core::Core;
-use ltm_io::{Sink, SinkError, write_all_known};
-use ltm_lines::{Lines, Source};
+use ltm_io::{Lines, Sink, SinkError, Source, write_all_known};
 use ltm_units::NoMemory;
 use ltm_workers::Bench;
 use std::alloc::Global;

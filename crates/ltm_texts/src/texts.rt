@@ -28,8 +28,7 @@ use crate::closing::write_text;
 use crate::refusing::refuse;
 use crate::status::Status;
 use crate::words::{Command, command_of, usage_text};
-use ltm_files::OpenFolder;
-use ltm_io::Sink;
+use ltm_io::{OpenFolder, Sink};
 use std::alloc::Global;
 
 /// Writes what a command answers to a folder, or says why there is no answer.

@@ -3,7 +3,7 @@ ghost use Rattle.ltm_turn.specs.Rule.{IsTurn};
 ghost use Rattle.ltm_turn.specs.Boxes.{boxed};
 ghost use Rattle.ltm_turn.specs.Facts.{OneHolder, HomeWhenFree, EditorsList, NumberNeverFalls, MayBePutBack};
 
-use ltm_told::Told;
+use crate::Told;
 
 /// The rule of a turn, which every step keeps, says that one view is the editor's and at most one holds the turn; that the
 /// value is in its slot exactly while the turn is free; that a value in the slot has the list that the editor left, and a

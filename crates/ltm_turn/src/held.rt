@@ -5,8 +5,8 @@ ghost use Rattle.ltm_turn.specs.Passes.{editor_value, worker_value, with_editor_
 ghost use Rattle.ltm_turn.specs.contracts.passes.EditorHeld.{the_row as editor_row};
 ghost use Rattle.ltm_turn.specs.contracts.passes.WorkerHeld.{the_row as worker_row};
 
+use crate::Told;
 use crate::passes::{EditorHeld, WorkerHeld};
-use ltm_told::Told;
 
 impl<T: Told> EditorHeld<T> {
     /// The value.

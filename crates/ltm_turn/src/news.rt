@@ -1,7 +1,7 @@
 //! How those who find nothing to do in the value wait for news of it.
+use crate::Told;
 use crate::passes::Turn;
 use crossbeam_utils::sync::Key;
-use ltm_told::Told;
 
 impl<T: Told> Turn<T> {
     /// Listens for news from now on. It is called before a turn is taken; where that turn shows nothing to do, `wait` of what

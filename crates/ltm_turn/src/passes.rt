@@ -4,11 +4,11 @@
 //! names a struct with a ghost field is not brought in where the struct stands.
 ghost use Rattle.std.specs.Prelude.{◌≡◌, true, false, [], ◌∷◌, None};
 
+use crate::Told;
 use crate::rule::TurnRule;
 use crate::view::View;
 use atomic_table::{Seat, Table};
 use crossbeam_utils::sync::EventCount;
-use ltm_told::Told;
 use std::alloc::Global;
 use std::snapshot::Snapshot;
 

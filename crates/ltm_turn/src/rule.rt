@@ -14,9 +14,9 @@ ghost use Rattle.ltm_turn.specs.Boxes.{boxed};
 ghost use Rattle.ltm_turn.specs.Steps.{Takes, Notes, Frees};
 ghost use Rattle.ltm_turn.specs.Views.{opening_view, after_split, worker_view, after_join, spent_view};
 
+use crate::Told;
 use crate::view::View;
 use atomic_table::{Join, Play, Split, TableRule};
-use ltm_told::Told;
 use std::snapshot::Snapshot;
 
 /// The rule of a turn. The key of the table is the first value, from which the editor's view begins.

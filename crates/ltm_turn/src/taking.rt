@@ -4,12 +4,12 @@ ghost use mathlib.Core.List.{IsPrefix};
 ghost use Rattle.ltm_turn.specs.Views.{holding, idle};
 ghost use Rattle.ltm_turn.specs.Passes.{turn_id, editor_turn, worker_turn, editor_held_turn, worker_held_turn, editor_list, editor_seen, worker_seen, editor_workers, editor_found, editor_found_number, editor_held_workers, editor_value, worker_found, worker_found_number, worker_value};
 
+use crate::Told;
 use crate::passes::{EditorGrip, EditorHeld, EditorPass, Turn, WorkerGrip, WorkerHeld, WorkerPass};
 use crate::rule::{Free, Note, Take};
 use crate::view::View;
 use atomic_table::Seat;
 use crossbeam_utils::Backoff;
-use ltm_told::Told;
 use std::sync::Wait;
 
 impl<T: Told> Turn<T> {

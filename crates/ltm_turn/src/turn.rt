@@ -2,11 +2,11 @@
 ghost use Rattle.std.specs.Prelude.{◌≡◌, ◌+◌, ◌-◌, ◌<◌, ◌≤◌, max, IfOk, IfErr};
 ghost use Rattle.ltm_turn.specs.Passes.{turn_id, editor_turn, worker_turn, editor_list, editor_seen, worker_seen, editor_workers};
 
+use crate::Told;
 use crate::passes::{EditorPass, Turn, WorkerPass};
 use crate::rule::{JoinWorker, SplitWorker};
 use atomic_table::{Refused, Table};
 use crossbeam_utils::sync::EventCount;
-use ltm_told::Told;
 use ltm_units::NoMemory;
 use std::alloc::{AllocFailed, Global};
 use std::snapshot::Snapshot;

@@ -5,6 +5,8 @@
 //! - **What a call costs**: one pass over the text or the parts that it is given; nothing allocates but what appends to a
 //!   text.
 //! - **When to change it here**: when a unit, the form of a name or the text of a number changes for all crates at once.
+//!
+//! `write_vehicles` is for callers outside: the crates above write an amount behind words.
 #![tactic(auto)]
 
 mod four;
@@ -27,4 +29,4 @@ pub use quantities::{Millis, NoMemory, Units};
 pub use share::share_of;
 pub use steps::Steps;
 pub use summing::sum_of;
-pub use texts::{append, append_number, push_number, push_text, push_vehicles};
+pub use texts::{append, append_number, push_number, push_text, push_vehicles, write_vehicles};

@@ -81,3 +81,12 @@ pub fn push_vehicles(into: &mut Vec<u8>, words: &[u8], amount: Units) -> Result<
     append_vehicles(into, words, amount);
     Ok(())
 }
+
+/// Appends an amount as whole vehicles, a point and three digits, or nothing.
+#[tactic(auto, unfolding(crate::specs::Texts::amount_piece))]
+pub fn write_vehicles(amount: Units, into: &mut Vec<u8>) -> Result<(), NoMemory>
+    ensures ok { OnOk result (into.new.items ≡ into.old.items ++ vehicles_text amount.0) }
+    ensures err { OnErr result (into.new.items ≡ into.old.items) }
+{
+    push_vehicles(into, b"", amount)
+}

@@ -3,7 +3,7 @@ use Rattle.std.proofs.Common.{◌≡◌, ◌⊎◌, ℕ, List, [], ◌++◌, len
 use Rattle.std.proofs.lemmas.List.{append-nil}
 use Rattle.std.specs.Prelude.{Option, Some, None, IfSome}
 use Rattle.ltm_io.specs.Sink.{appended, AppendsFront}
-use Rattle.ltm_lines.specs.Script.{lines_of}
+use Rattle.ltm_io.specs.Script.{lines_of}
 use Rattle.ltm_scenario.specs.Data.{ScenarioData}
 use Rattle.ltm_core.specs.Cores.{CoreData}
 use Rattle.ltm_session.specs.declared.ends.SessionEnd.{SessionEnd}

@@ -1,7 +1,7 @@
 -- How a script that is served over a core ends.
 use Rattle.std.proofs.Common.{ℕ, ◌≡◌, ◌⊎◌, inl, inr, ◌<◌, ◌≤◌, List, [], length, subst}
 use Rattle.std.specs.Prelude.{Option, Some, None}
-use Rattle.ltm_lines.specs.Answers.{GivesLine}
+use Rattle.ltm_io.specs.Answers.{GivesLine}
 use Rattle.ltm_core.specs.Cores.{CoreData}
 use Rattle.ltm_session.specs.declared.ends.SessionEnd.{SessionEnd}
 use Rattle.ltm_session.specs.declared.ends.SessionEnd.TheVariants.{Ended, WriteFault, NoMemory}

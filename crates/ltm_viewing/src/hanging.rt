@@ -1,6 +1,6 @@
 //! How the boards of a view are hung.
 ghost use Rattle.std.specs.Prelude.{◌≡◌, ◌≤◌, ◌<◌, [], ◌∷◌, IfOk, None};
-ghost use Rattle.ltm_lines.specs.Lines.{max_of, taken_by, kept_by};
+ghost use Rattle.ltm_io.specs.Lines.{max_of, taken_by, kept_by};
 ghost use Rattle.ltm_core.specs.Log.{version_now};
 ghost use Rattle.ltm_board.specs.Boards.{board_list};
 ghost use Rattle.ltm_board.specs.Lists.{joined};
@@ -12,7 +12,7 @@ use crate::watch::Watch;
 use crate::watches::Watches;
 use ltm_board::{Board, Sheet};
 use ltm_core::{Core, logs_tell_all};
-use ltm_lines::Lines;
+use ltm_io::Lines;
 use ltm_session::LONGEST_LINE;
 use ltm_setting::link_count;
 use ltm_units::NoMemory;

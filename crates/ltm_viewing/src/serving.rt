@@ -2,7 +2,7 @@
 ghost use Rattle.std.specs.Prelude.{◌≡◌, ◌⊎◌, ◌++◌, ◌≤◌, ℕ, List, [], None, Some, Err, OnOk, IfErr};
 ghost use Rattle.ltm_io.specs.Faults.{Rose};
 ghost use Rattle.ltm_io.specs.Sink.{appended};
-ghost use Rattle.ltm_lines.specs.Lines.{max_of, taken_by, kept_by};
+ghost use Rattle.ltm_io.specs.Lines.{max_of, taken_by, kept_by};
 ghost use Rattle.ltm_session.specs.Analysts.{state_of, opening_state};
 ghost use Rattle.ltm_session.specs.Answers.{AnswersAlone};
 ghost use Rattle.ltm_session.specs.Ready.{AwaitsLine};
@@ -15,8 +15,7 @@ use crate::boards::Boards;
 use crate::news::News;
 use crate::posting::post_newer;
 use ltm_core::Core;
-use ltm_io::Sink;
-use ltm_lines::{Lines, Source};
+use ltm_io::{Lines, Sink, Source};
 use ltm_session::{MOST_LINES, SessionEnd, answer, end_of_lines, next_line, write_answer};
 use ltm_workers::Bench;
 use std::alloc::Global;

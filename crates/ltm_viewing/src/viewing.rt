@@ -2,7 +2,7 @@
 ghost use Rattle.std.specs.Prelude.{◌≡◌, ◌≢◌, ◌≤◌, ◌<◌, ℕ, List, [], None, Some, option_map};
 ghost use Rattle.std.specs.Thread.{IsSync};
 ghost use Rattle.ltm_io.specs.Faults.{Rose};
-ghost use Rattle.ltm_lines.specs.Lines.{max_of, taken_by, kept_by};
+ghost use Rattle.ltm_io.specs.Lines.{max_of, taken_by, kept_by};
 ghost use Rattle.ltm_core.specs.Log.{version_now};
 ghost use Rattle.ltm_session.specs.Analysts.{state_of, opening_state};
 ghost use Rattle.ltm_session.specs.Ready.{AwaitsLine};
@@ -20,8 +20,7 @@ use crate::watch::Watch;
 use crate::watches::Watches;
 use crate::watching::look_on;
 use ltm_core::Core;
-use ltm_io::Sink;
-use ltm_lines::Source;
+use ltm_io::{Sink, Source};
 use ltm_session::SessionEnd;
 use std::alloc::Global;
 use std::sync::Wait;

@@ -1,5 +1,5 @@
 use Rattle.std.proofs.Common.{◌≡◌, ◌<◌, ◌≤◌, ◌+◌, List, ℕ, length}
-use Rattle.ltm_lines.specs.Source.{prepended}
+use Rattle.ltm_io.specs.Source.{prepended}
 use Rattle.ltm_check.proofs.file.count_rest.Given as goal
 
 abbrev pub invariant-loop : goal.invariant-loop

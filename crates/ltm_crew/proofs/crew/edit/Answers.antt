@@ -1,5 +1,5 @@
 use Rattle.std.proofs.Common.{◌≡◌, arith, refl, sym, subst, ◌∙◌}
-use Rattle.ltm_lines.specs.Lines.{coming}
+use Rattle.ltm_io.specs.Lines.{coming}
 use Rattle.ltm_session.specs.Serving.{EndsIfTold}
 use Rattle.ltm_crew.proofs.Known.{coming_first, begins_told, serving_beside_begins, serving_beside_more, serving_beside_ends, serving_beside_stops, reads_all, reads_none, told_more, no_fault_read, not_ended}
 use Rattle.ltm_crew.proofs.crew.edit.Goals as goal

@@ -1,5 +1,5 @@
 use Rattle.std.proofs.Common.{◌≡◌, ◌≤◌, None}
-use Rattle.ltm_lines.specs.Lines.{max_of, kept_by, coming}
+use Rattle.ltm_io.specs.Lines.{max_of, kept_by, coming}
 use Rattle.ltm_turn.specs.Passes.{turn_id, editor_turn, editor_list, editor_seen, editor_workers}
 use Rattle.ltm_crew.specs.Beside.{ServingBeside, StaysTold}
 use Rattle.ltm_crew.proofs.crew.edit.Given as goal

@@ -6,7 +6,7 @@ use Rattle.ltm_scenario.specs.declared.edit.Edit.{Edit}
 use Rattle.ltm_scenario.specs.Edits.{HaveAmounts}
 use Rattle.ltm_editors.proofs.desk.Seat.TheSendSync as seat
 use Rattle.ltm_editors.proofs.desk.Desk.TheSendSync as desk
-use Rattle.ltm_edits.proofs.script.Script.TheSendSync as script
+use Rattle.ltm_editing.proofs.script.Script.TheSendSync as script
 use Rattle.ltm_editors.specs.Seats.{seat_place, seat_seen}
 use Rattle.ltm_editing.proofs.Calls.{all_split}
 use Rattle.ltm_editing.proofs.Crews.{taken_out, owns_next, crew_made}

@@ -1,5 +1,5 @@
 use Rattle.std.proofs.Common.{◌≡◌, arith, sym, subst}
-use Rattle.ltm_lines.specs.Lines.{coming, taken_by}
+use Rattle.ltm_io.specs.Lines.{coming, taken_by}
 use Rattle.ltm_session.specs.Analysts.{state_of}
 use Rattle.ltm_session.specs.Answers.{AnswersAlone}
 use Rattle.ltm_session.specs.Serving.{EndsIfTold}

@@ -1,5 +1,5 @@
 use Rattle.std.proofs.Common.{◌≡◌, ◌≤◌, None}
-use Rattle.ltm_lines.specs.Lines.{max_of, kept_by, coming}
+use Rattle.ltm_io.specs.Lines.{max_of, kept_by, coming}
 use Rattle.ltm_session.specs.Analysts.{state_of}
 use Rattle.ltm_session.specs.Answers.{AnswersAlone}
 use Rattle.ltm_session.specs.Ready.{AwaitsLine}

@@ -1,7 +1,0 @@
-use Rattle.ltm_editors_tests.proofs.crowds.+crowd+fn-crowd-join+arg3.Given as goal
-
-abbrev pub decreases-crowd : goal.decreases-crowd
-decreases-crowd g l = l.editors
-
-abbrev pub decreases-join+arg3 : goal.decreases-join+arg3
-decreases-join+arg3 g l = l.rest

@@ -1,4 +1,0 @@
-pub mod Each
-pub mod Faults
-pub mod Files
-pub mod Scripts

@@ -1,2 +1,0 @@
-pub mod RealFile
-pub mod DiskFolder

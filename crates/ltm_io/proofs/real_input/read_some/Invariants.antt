@@ -1,0 +1,6 @@
+-- What an interrupted read leaves.
+use Rattle.std.specs.Io.KnownBytes.{Keeps}
+use Rattle.ltm_io.proofs.real_input.read_some.Given as goal
+
+abbrev pub invariant-loop : goal.invariant-loop
+invariant-loop g l = Keeps (g.R.Read.remaining l.initial.reader) (g.R.Read.remaining l.reader)

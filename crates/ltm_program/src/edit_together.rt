@@ -1,0 +1,145 @@
+//! The command `editors K`: so many editors edit the folder's case, each in a thread of its own.
+ghost use Rattle.std.specs.Prelude.{◌≡◌, ◌⊎◌, ◌<◌, ◌≤◌, ℕ, List, map, string_bytes, Some, Ok, Err, IfSome, true, false};
+ghost use Rattle.std.specs.List.{Contains};
+ghost use Rattle.ltm_io.specs.Faults.{Rose};
+ghost use Rattle.ltm_io.specs.Sink.{appended, AppendsFront};
+ghost use Rattle.ltm_io.specs.Folder.{Files};
+ghost use Rattle.ltm_io.specs.declared.doc.Doc.{Doc};
+ghost use Rattle.ltm_scenario.specs.declared.edit.Edit.{Edit};
+ghost use Rattle.ltm_scenario.specs.Data.{ScenarioData};
+ghost use Rattle.ltm_casefile.specs.declared.faults.CaseFault.{CaseFault};
+ghost use Rattle.ltm_casefile.specs.Case.{is_case_file, asks_for};
+ghost use Rattle.ltm_editing.specs.declared.fault.EditsFault.{EditsFault};
+ghost use Rattle.ltm_editing.specs.Files.{docs_of};
+ghost use Rattle.ltm_editing.specs.declared.refusal.Refusal.{Refusal};
+ghost use Rattle.ltm_editing.specs.Lines.{long_edits_line, bad_script_line};
+ghost use Rattle.ltm_editing.specs.Editing.{IsEditingText};
+ghost use Rattle.ltm_editing.specs.Answers.{Answer, AnswersEditing, IsTold, IsMissing, Missed};
+ghost use Rattle.ltm_texts.specs.Words.{AsksEditors};
+ghost use Rattle.ltm_texts.specs.Program.{IsWhole};
+ghost use Rattle.ltm_program.specs.Editors.{edits_refusal, edits_status, editing_words, editing_status, IsEditingUnder, WritesEditingFront, HasScripts, IsCalmFor};
+
+use crate::serve::close_many;
+use ltm_editing::{EditsFault, LineCause, Refusal, bad_script_text, editing_text, long_edits_text};
+use ltm_io::{Folder, Sink};
+use ltm_texts::{Status, editors_of, refuse_fault, write_text};
+use std::alloc::Global;
+use std::sync::Wait;
+use std::thread::Threads;
+
+/// For how many editors the words ask; none where they ask for something else.
+pub(crate) fn editors_in(words: &[String]) -> u32
+    ensures few { result ≤ 8 }
+    ensures crews { (n : ℕ) → AsksEditors (map string_bytes words.now) n → n ≡ result }
+    ensures asked { 0 < result → AsksEditors (map string_bytes words.now) result }
+{
+    match editors_of(words) {
+        Some(editors) => editors,
+        None => 0,
+    }
+}
+
+/// Says that a file of edits has more bytes than are read.
+fn refuse_long<W: Sink>(alloc: Global, editor: u32, output: &mut W) -> Status
+    ensures answers { (result ≡ Status.TooLong) ⊎ ((result ≡ Status.WriteFault) ⊎ (result ≡ Status.NoMemory)) }
+    ensures wrote { result ≡ Status.TooLong → W.written output.new ≡ appended (long_edits_line editor) (W.written output.old) }
+    ensures front { (W.written output.new ≡ W.written output.old)
+        ⊎ AppendsFront (W.written output.old) (W.written output.new) (long_edits_line editor) }
+    ensures cause { result ≡ Status.WriteFault → Rose (W.faults output.old) (W.faults output.new) }
+{
+    match long_edits_text(alloc, editor) {
+        Ok(line) => write_text(output, line.as_slice(), Status::TooLong),
+        Err(_) => Status::NoMemory,
+    }
+}
+
+/// Says which line of a file of edits is no edit, and why.
+fn refuse_line<W: Sink>(
+    alloc: Global,
+    editor: u32,
+    line: u32,
+    cause: LineCause,
+    output: &mut W,
+) -> Status
+    ensures answers { (result ≡ Status.BadScript) ⊎ ((result ≡ Status.WriteFault) ⊎ (result ≡ Status.NoMemory)) }
+    ensures wrote { result ≡ Status.BadScript → W.written output.new ≡ appended (bad_script_line editor line cause) (W.written output.old) }
+    ensures front { (W.written output.new ≡ W.written output.old)
+        ⊎ AppendsFront (W.written output.old) (W.written output.new) (bad_script_line editor line cause) }
+    ensures cause { result ≡ Status.WriteFault → Rose (W.faults output.old) (W.faults output.new) }
+{
+    match bad_script_text(alloc, editor, line, cause) {
+        Ok(text) => write_text(output, text.as_slice(), Status::BadScript),
+        Err(_) => Status::NoMemory,
+    }
+}
+
+/// Says what is wrong with the files of edits, where something is.
+fn refuse_edits<W: Sink>(alloc: Global, fault: EditsFault, output: &mut W) -> Status
+    ensures whole { IsWhole result → IsTold (Refusal.Edits fault) × (result ≡ edits_status fault)
+        × (W.written output.new ≡ appended (edits_refusal fault) (W.written output.old)) }
+    ensures front { (W.written output.new ≡ W.written output.old)
+        ⊎ (IsTold (Refusal.Edits fault) × AppendsFront (W.written output.old) (W.written output.new) (edits_refusal fault)) }
+    ensures folder_fault { result ≡ Status.FolderFault → IsMissing (Refusal.Edits fault) × (W.written output.new ≡ W.written output.old) }
+    ensures missing { IsMissing (Refusal.Edits fault) → result ≡ Status.FolderFault }
+    ensures memory { fault ≡ EditsFault.NoMemory → result ≡ Status.NoMemory }
+    ensures cause { result ≡ Status.WriteFault → Rose (W.faults output.old) (W.faults output.new) }
+{
+    match fault {
+        EditsFault::Missing(_) => Status::FolderFault,
+        EditsFault::TooLong(editor) => refuse_long(alloc, editor, output),
+        EditsFault::TooMany => close_many(alloc, output),
+        EditsFault::BadLine {
+            editor,
+            line,
+            cause,
+        } => refuse_line(alloc, editor, line, cause, output),
+        EditsFault::NoMemory => Status::NoMemory,
+    }
+}
+
+/// Says why there is no text, where that lies in the files.
+fn refuse<W: Sink>(alloc: Global, refusal: Refusal, output: &mut W) -> Status
+    ensures whole { IsWhole result → IsTold refusal × (result ≡ editing_status (Err refusal))
+        × (W.written output.new ≡ appended (editing_words (Err refusal)) (W.written output.old)) }
+    ensures front { (W.written output.new ≡ W.written output.old)
+        ⊎ (IsTold refusal × AppendsFront (W.written output.old) (W.written output.new) (editing_words (Err refusal))) }
+    ensures folder_fault { result ≡ Status.FolderFault → IsMissing refusal × (W.written output.new ≡ W.written output.old) }
+    ensures missing { IsMissing refusal → result ≡ Status.FolderFault }
+    ensures memory { (refusal ≡ Refusal.Case CaseFault.NoMemory) ⊎ (refusal ≡ Refusal.Edits EditsFault.NoMemory) → result ≡ Status.NoMemory }
+    ensures cause { result ≡ Status.WriteFault → Rose (W.faults output.old) (W.faults output.new) }
+{
+    match refusal {
+        Refusal::Case(fault) => refuse_fault(alloc, fault, output),
+        Refusal::Edits(fault) => refuse_edits(alloc, fault, output),
+    }
+}
+
+/// Has so many editors edit the folder's case, and writes what they made, or says why there is nothing to write.
+pub fn edit_together<R: Threads + Wait + Sync, F: Folder, W: Sink>(
+    rt: &R,
+    alloc: Global,
+    editors: u32,
+    folder: &mut F,
+    output: &mut W,
+) -> Status
+    requires { editors ≤ 8 }
+    ensures keeps { F.told folder.new ≡ F.told folder.old }
+    ensures others { (d : Doc) → is_case_file d ≡ false → (Contains (docs_of editors) d → ⊥) → F.faults folder.new d ≡ F.faults folder.old d }
+    ensures unasked { IfSome (F.told folder.old) (λ files. (d : Doc) → asks_for files d ≡ false → (Contains (docs_of editors) d → ⊥)
+        → F.faults folder.new d ≡ F.faults folder.old d) }
+    ensures usage { result ≡ Status.Usage → ⊥ }
+    ensures folder_fault { result ≡ Status.FolderFault → Missed (F.told folder.old) editors (F.faults folder.old) (F.faults folder.new)
+        × (W.written output.new ≡ W.written output.old) }
+    ensures read_fault { result ≡ Status.ReadFault → ⊥ }
+    ensures write_fault { result ≡ Status.WriteFault → Rose (W.faults output.old) (W.faults output.new) }
+    ensures whole { IsWhole result → (text : List ℕ) × IsEditingUnder editors (F.told folder.old) result text
+        × (W.written output.new ≡ appended text (W.written output.old)) }
+    ensures front { WritesEditingFront editors (F.told folder.old) (W.written output.old) (W.written output.new) }
+    ensures missing { (files : Files) (refusal : Refusal) → F.told folder.old ≡ Some files → IsMissing refusal → AnswersEditing (Some files) editors (Err refusal)
+        → (result ≡ Status.FolderFault) ⊎ (result ≡ Status.NoMemory) }
+{
+    match editing_text(rt, alloc, editors, folder) {
+        Ok(text) => write_text(output, text.as_slice(), Status::Ok),
+        Err(refusal) => refuse(alloc, refusal, output),
+    }
+}

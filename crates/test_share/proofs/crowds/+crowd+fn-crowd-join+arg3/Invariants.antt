@@ -1,0 +1,7 @@
+use Rattle.test_share.proofs.crowds.+crowd+fn-crowd-join+arg3.Given as goal
+
+abbrev pub decreases-crowd : goal.decreases-crowd
+decreases-crowd g l = l.editors
+
+abbrev pub decreases-join+arg3 : goal.decreases-join+arg3
+decreases-join+arg3 g l = l.rest
