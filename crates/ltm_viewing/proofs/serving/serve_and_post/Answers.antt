@@ -6,35 +6,29 @@ use Rattle.ltm_session.specs.Analysts.{state_of}
 use Rattle.ltm_session.proofs.Progress.{whole_front}
 use Rattle.ltm_viewing.proofs.Growing.{grows}
 use Rattle.ltm_viewing.proofs.Posts.{posted_still, few_still, shown_newer}
-use Rattle.ltm_viewing.proofs.serving.serve_line.Goals as goal
+use Rattle.ltm_viewing.proofs.serving.serve_and_post.Goals as goal
 
 pub post_newer-requires-clause-posted : goal.post_newer-requires-clause-posted
 post_newer-requires-clause-posted g c =
-    let (text, said, longer) = c.in_ok-answer.ensures.ok in
-    posted_still c.args.core.now c.answer.new.core c.version-before.result c.args.boards.now (grows (state_of c.args.core.now) (state_of c.answer.new.core) (reading c.args.line.now) text said)
+    let (text, said, wrote) = c.in_ok-serve_line.ensures.ok in
+    posted_still c.args.core.now c.serve_line.new.core c.version-before.result c.args.boards.now (grows (state_of c.args.core.now) (state_of c.serve_line.new.core) (reading c.args.line.now) text said)
     c.shown.ensures.is_shown.is_version (c.version-before.ensures ∙ ap version_of c.shown.ensures.loading) c.requires.posted
 
 pub post_newer-requires-clause-few : goal.post_newer-requires-clause-few
 post_newer-requires-clause-few g c =
-    let (text, said, longer) = c.in_ok-answer.ensures.ok in
-    few_still c.args.core.now c.answer.new.core c.version-before.result (grows (state_of c.args.core.now) (state_of c.answer.new.core) (reading c.args.line.now) text said) c.shown.ensures.is_shown.is_version
+    let (text, said, wrote) = c.in_ok-serve_line.ensures.ok in
+    few_still c.args.core.now c.serve_line.new.core c.version-before.result (grows (state_of c.args.core.now) (state_of c.serve_line.new.core) (reading c.args.line.now) text said) c.shown.ensures.is_shown.is_version
     (c.version-before.ensures ∙ ap version_of c.shown.ensures.loading)
 
 pub post_newer-requires-clause-newer : goal.post_newer-requires-clause-newer
 post_newer-requires-clause-newer g c =
-    let (text, said, longer) = c.in_ok-answer.ensures.ok in
-    shown_newer c.args.core.now c.answer.new.core c.version-before.result (grows (state_of c.args.core.now) (state_of c.answer.new.core) (reading c.args.line.now) text said)
+    let (text, said, wrote) = c.in_ok-serve_line.ensures.ok in
+    shown_newer c.args.core.now c.serve_line.new.core c.version-before.result (grows (state_of c.args.core.now) (state_of c.serve_line.new.core) (reading c.args.line.now) text said)
     (c.version-before.ensures ∙ ap version_of c.shown.ensures.loading)
 
 pub returns-in-Err-clause-err : goal.returns-in-Err-clause-err
 returns-in-Err-clause-err g c =
-    let (text, said, longer) = c.in_ok-answer.ensures.ok in
-    let whole : c.as_slice.result.now ≡ text = c.as_slice.ensures.value ∙ (longer ∙ ap (λ (l : List ℕ). l ++ text) c.clear.ensures.items) in (
+    let (text, said, wrote) = c.in_ok-serve_line.ensures.ok in (
       inr refl,
-      inr (
-        text,
-        said,
-        subst (λ (l : List ℕ). AppendsFront (g.W.Sink.written c.args.sink.now) (g.W.Sink.written c.write_answer.new.sink) l) whole
-            (whole_front (g.W.Sink.written c.args.sink.now) (g.W.Sink.written c.write_answer.new.sink) c.as_slice.result.now c.in_ok-write_answer.ensures.ok),
-      ),
+      inr (text, said, whole_front (g.W.Sink.written c.args.sink.now) (g.W.Sink.written c.serve_line.new.sink) text wrote),
     )
