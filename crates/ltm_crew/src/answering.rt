@@ -1,9 +1,10 @@
 //! A line beside workers.
-ghost use Rattle.std.specs.Prelude.{◌≡◌, ◌≢◌, ◌⊎◌, ◌++◌, ◌≤◌, ℕ, List, Ok, Err, OnOk, OnErr, IfErr};
+ghost use Rattle.std.specs.Prelude.{◌≡◌, ◌≢◌, ◌⊎◌, ◌++◌, ◌+◌, ◌≤◌, ℕ, List, Ok, Err, OnOk, OnErr, IfErr, vec_len, vec_capacity};
 ghost use Rattle.ltm_io.specs.Faults.{Rose};
 ghost use Rattle.ltm_io.specs.Sink.{appended};
 ghost use Rattle.ltm_flows.specs.Shown.{version_of};
 ghost use Rattle.ltm_script.specs.Commands.{HasAmounts};
+ghost use Rattle.ltm_report.specs.Answers.{settled_line, answer_room};
 ghost use Rattle.ltm_core.specs.declared.entry.LogEntry.{LogEntry};
 ghost use Rattle.ltm_core.specs.Log.{entries_of, version_now};
 ghost use Rattle.ltm_turn.specs.Passes.{turn_id, editor_turn, editor_list, editor_seen, editor_workers};
@@ -18,7 +19,7 @@ use ltm_script::{Command, CommandFault, read_command};
 use ltm_session::{SessionEnd, reply, reply_fault, write_answer};
 use ltm_turn::{EditorPass, Turn};
 use ltm_units::NoMemory;
-use ltm_workers::settle_beside;
+use ltm_workers::{Settled, settle_beside};
 use std::alloc::Global;
 use std::sync::Wait;
 
@@ -78,6 +79,37 @@ fn reply_beside<R: Wait>(
     (editor, done)
 }
 
+/// Appends what a settle has counted, for which there is room.
+fn push_settled(settled: Settled, text: &mut Vec<u8>)
+    requires { vec_len text.old + answer_room ≤ vec_capacity text.old }
+    ensures { text.new.items ≡ text.old.items ++ settled_line settled.version settled.count }
+{
+    match settled_text(settled.version, settled.count, text) {
+        Ok(()) => return,
+        Err(_) => unreachable!(),
+    }
+}
+
+/// Settles, and appends the count, for which there is room.
+fn settle_in_room<R: Wait>(
+    rt: &R,
+    turn: &Turn<Core>,
+    editor: EditorPass<Core>,
+    scratch: Scratch,
+    text: &mut Vec<u8>,
+) -> (EditorPass<Core>, Scratch)
+    requires turn { editor_turn editor ≡ turn_id turn.now }
+    requires room { vec_len text.old + answer_room ≤ vec_capacity text.old }
+    ensures turn { (editor_turn result.0 ≡ turn_id turn.now) × (editor_workers result.0 ≡ editor_workers editor) }
+    ensures told { (words : List ℕ) × SaidBeside (Ok Command.Settle) words (editor_list editor) (editor_seen editor) (editor_list result.0) (editor_seen result.0)
+        × (text.new.items ≡ text.old.items ++ words) }
+{
+    logs_tell_all();
+    let (editor, scratch, settled) = settle_beside(rt, turn, editor, scratch);
+    push_settled(settled, text);
+    (editor, scratch)
+}
+
 /// Settles, and appends the count. Its room is taken before.
 fn settle_line<R: Wait>(
     rt: &R,
@@ -92,14 +124,12 @@ fn settle_line<R: Wait>(
         × (text.new.items ≡ text.old.items ++ words)) }
     ensures err { OnErr result.2 ((text.new.items ≡ text.old.items) × (editor_list result.0 ≡ editor_list editor) × (editor_seen editor ≤ editor_seen result.0)) }
 {
-    logs_tell_all();
-    let Ok(()) = text.reserve(ANSWER_ROOM) else {
-        return (editor, scratch, Err(NoMemory));
-    };
-    let (editor, scratch, settled) = settle_beside(rt, turn, editor, scratch);
-    match settled_text(settled.version, settled.count, text) {
-        Ok(()) => return (editor, scratch, Ok(())),
-        Err(_) => unreachable!(),
+    match text.reserve(ANSWER_ROOM) {
+        Ok(()) => {
+            let (editor, scratch) = settle_in_room(rt, turn, editor, scratch, text);
+            return (editor, scratch, Ok(()));
+        }
+        Err(_) => return (editor, scratch, Err(NoMemory)),
     }
 }
 

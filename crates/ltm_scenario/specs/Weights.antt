@@ -1,5 +1,5 @@
 -- Weights by the names of out-links.
-use Rattle.std.specs.Prelude.{ℕ, ◌&&◌, not, Bool, true, nat_le, List, [], ◌∷◌, length}
+use Rattle.std.specs.Prelude.{ℕ, ◌&&◌, not, Bool, true, nat_le, List, [], ◌∷◌, length, Option, Some, None, if◌then◌else◌}
 use Rattle.std.specs.List.{list_any}
 use Rattle.ltm_network.specs.Names.{same}
 
@@ -18,3 +18,7 @@ are_apart (w ∷ ws) = not (is_named w.0 ws) && are_apart ws
 -- one to four weights with distinct names
 abbrev pub are_weights : List NamedWeight → Bool
 are_weights weights = nat_le 1 (length weights) && nat_le (length weights) 4 && are_apart weights
+
+-- the weights, where they are such
+abbrev pub as_weights : List NamedWeight → Option (List NamedWeight)
+as_weights weights = if are_weights weights then Some weights else None

@@ -1,6 +1,6 @@
 //! Weights by the names of out-links.
-ghost use Rattle.std.specs.Prelude.{◌≡◌, Some, None, true, if◌then◌else◌};
-ghost use Rattle.ltm_scenario.specs.Weights.{are_weights, are_apart, is_named};
+ghost use Rattle.std.specs.Prelude.{◌≡◌, true};
+ghost use Rattle.ltm_scenario.specs.Weights.{are_weights, as_weights, are_apart, is_named};
 
 use ltm_units::{Four, Name};
 use std::marker::Model;
@@ -25,17 +25,14 @@ impl Model for Weights {
 }
 
 impl Weights {
-    /// The weights, where the list has one to four pairs with distinct names.
-    pub fn of(pairs: &[(Name, u32)]) -> Option<Weights>
-        ensures { result ≡ (if are_weights pairs.now then Some pairs.now else None) }
+    /// The weights, where no name stands twice.
+    pub fn of(pairs: Four<(Name, u32)>) -> Option<Weights>
+        ensures { result ≡ as_weights pairs }
     {
-        if !are_apart(pairs) {
+        if !are_apart(pairs.as_slice()) {
             return None;
         }
-        match Four::of(pairs) {
-            Some(pairs) => return Some(Weights { pairs }),
-            None => return None,
-        }
+        Some(Weights { pairs })
     }
 
     /// The names with their weights.

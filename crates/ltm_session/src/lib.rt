@@ -23,4 +23,4 @@ pub use ends::SessionEnd;
 pub use laws::{alone_is_a_session, one_output};
 pub use replies::{reply, reply_fault};
 pub use script::{LONGEST_LINE, MOST_LINES, end_of_lines, next_line};
-pub use serving::{Served, serve_alone, write_answer};
+pub use serving::{Served, serve_alone, serve_line, write_answer};

@@ -66,7 +66,7 @@ pub fn write_answer<W: Sink>(text: &[u8], sink: &mut W) -> Result<(), SessionEnd
 
 /// Answers one line, and writes the answer whole.
 #[tactic(auto, using(crate::proofs::Looking::looks_state))]
-fn serve_line<W: Sink>(
+pub fn serve_line<W: Sink>(
     alloc: Global,
     core: &mut Core,
     bench: &mut Bench,

@@ -1,4 +1,4 @@
--- The weights of a row.
+-- What the weights of a row are.
 use Rattle.std.specs.Prelude.{ℕ, ◌<◌, ◌≤◌, ◌^◌, List, length, sum, All}
 
 -- at most four weights, not all of them 0, and each fits 32 bits

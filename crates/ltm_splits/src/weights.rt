@@ -1,5 +1,5 @@
 //! The weights of a row, as they lie in a table.
-ghost use Rattle.std.specs.Prelude.{◌≡◌, ◌==◌, ◌<◌, ◌^◌, All, sum};
+ghost use Rattle.std.specs.Prelude.{◌≡◌, ◌==◌, ◌<◌, ◌≤◌, ◌^◌, All, Some, None, length, sum, if◌then◌else◌};
 ghost use Rattle.std.specs.List.{list_all};
 ghost use Rattle.ltm_splits.specs.Weights.{AreWeights};
 
@@ -26,12 +26,17 @@ impl Model for Weights {
 }
 
 impl Weights {
-    pub(crate) fn of(weights: &[u32]) -> Weights
-        requires { AreWeights weights.now }
-        ensures { result ≡ weights.now }
+    /// The weights, where they are not all 0: then they have no sum, and no row has them.
+    pub fn of(weights: &[u32]) -> Option<Weights>
+        requires { length weights.now ≤ 4 }
+        ensures { result ≡ (if sum weights.now == 0 then None else Some weights.now) }
     {
+        if are_zero(weights) {
+            return None;
+        }
+        fit_32_bits(weights);
         match Four::of(weights) {
-            Some(values) => return Weights { values },
+            Some(values) => Some(Weights { values }),
             None => unreachable!(),
         }
     }
@@ -47,12 +52,12 @@ impl Weights {
 }
 
 /// Each weight fits 32 bits. The function does nothing but read them.
-pub fn fit_32_bits(weights: &[u32])
+fn fit_32_bits(weights: &[u32])
     ensures { All (λ weight. weight < 2 ^ 32) weights.now }
 {}
 
-/// Whether the weights are all 0: then they have no sum, and no row has them.
-pub fn are_zero(weights: &[u32]) -> bool
+/// Whether the weights are all 0.
+fn are_zero(weights: &[u32]) -> bool
     ensures { result ≡ (sum weights.now == 0) }
 {
     is_each_zero(weights)

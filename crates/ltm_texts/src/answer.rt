@@ -59,8 +59,8 @@ fn trial(alloc: Global, start: u64, nodes: u32) -> Result<Vec<u8>, CaseFault>
     ensures fault { IfErr result (λ e. e ≡ CaseFault.NoMemory) }
 {
     match try_report(alloc, start, nodes) {
-        Ok(text) => Ok(text),
-        Err(MakeFault::NoMemory) => Err(CaseFault::NoMemory),
+        Ok(text) => return Ok(text),
+        Err(MakeFault::NoMemory) => return Err(CaseFault::NoMemory),
         Err(MakeFault::BadSize) => unreachable!(),
     }
 }
@@ -80,7 +80,7 @@ fn curves<F: Folder>(alloc: Global, folder: &mut F) -> Result<Vec<u8>, CaseFault
 }
 
 /// That the curve file beside the folder's case is its loading, or why it is not.
-#[tactic(auto, using(crate::proofs::MissingFile::check_failed, crate::proofs::Answering::check_fault))]
+#[tactic(auto, using(crate::proofs::MissingFile::check_failed, crate::proofs::Answering::check_told, crate::proofs::Answering::check_fault))]
 fn check<F: OpenFolder>(alloc: Global, folder: &mut F) -> Result<Vec<u8>, Refusal>
     ensures keeps { F.told folder.new ≡ F.told folder.old }
     ensures others { (d : Doc) → is_check_file d ≡ false → F.faults folder.new d ≡ F.faults folder.old d }

@@ -16,7 +16,7 @@ use crate::news::News;
 use crate::posting::post_newer;
 use ltm_core::Core;
 use ltm_io::{Lines, Sink, Source};
-use ltm_session::{MOST_LINES, SessionEnd, answer, end_of_lines, next_line, write_answer};
+use ltm_session::{MOST_LINES, SessionEnd, end_of_lines, next_line, serve_line};
 use ltm_workers::Bench;
 use std::alloc::Global;
 use std::sync::Wait;
@@ -31,7 +31,7 @@ pub(crate) struct Seat {
 }
 
 /// Answers one line, writes the answer whole, and posts the loading that it came to show.
-fn serve_line<R: Wait, W: Sink>(
+fn serve_and_post<R: Wait, W: Sink>(
     rt: &R,
     alloc: Global,
     core: &mut Core,
@@ -54,9 +54,7 @@ fn serve_line<R: Wait, W: Sink>(
     ensures fault { result ≡ Err SessionEnd.WriteFault → Rose (W.faults sink.old) (W.faults sink.new) }
 {
     let before = core.shown().version();
-    text.clear();
-    answer(alloc, core, bench, line, text)?;
-    write_answer(text.as_slice(), sink)?;
+    serve_line(alloc, core, bench, line, text, sink)?;
     match post_newer(rt, core, before, boards, news) {
         Ok(()) => Ok(()),
         Err(_) => Err(SessionEnd::NoMemory),
@@ -90,7 +88,7 @@ pub(crate) fn serve_lines<R: Wait, S: Source, W: Sink>(
         if let Err(end) = next_line(&mut seat.lines, source, answered) {
             return end;
         }
-        if let Err(end) = serve_line(
+        if let Err(end) = serve_and_post(
             rt,
             seat.alloc,
             core,

@@ -104,9 +104,9 @@ fn has_one_to_four_values(rt: HostRuntime) {
     let Some((four, fifth)) = filled() else {
         panic!(rt; "no four");
     };
-    assert!(rt; four.as_slice() == [7, 7, 20, 300] && fifth.is_none());
+    assert!(rt; four.as_slice() == [7, 7, 20, 300].as_slice() && fifth.is_none());
     assert!(rt; Four::of(&none).is_none() && Four::of(&[1, 2, 3, 4, 5]).is_none());
-    assert!(rt; Four::of(&[1, 2, 3]).is_some_and(|three| three.as_slice() == [1, 2, 3]));
+    assert!(rt; Four::of(&[1, 2, 3]).is_some_and(|three| three.as_slice() == [1, 2, 3].as_slice()));
 }
 
 /// Whether both names are put in.

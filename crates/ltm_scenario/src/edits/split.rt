@@ -1,5 +1,5 @@
 //! Edits of a split row.
-ghost use Rattle.std.specs.Prelude.{◌≡◌, ◌≢◌, ℕ, ◌<◌, ◌==◌, List, length, Ok, Err, OnOk, OnErr, IfOk, IfErr, false};
+ghost use Rattle.std.specs.Prelude.{◌≡◌, ◌≢◌, ℕ, ◌<◌, ◌≤◌, ◌==◌, List, length, take, sum, Some, None, Ok, Err, OnOk, OnErr, IfOk, IfErr, IfSome, false, if◌then◌else◌};
 ghost use Rattle.std.specs.List.{list_all};
 ghost use Rattle.ltm_network.specs.Network.{out_links};
 ghost use Rattle.ltm_scenario.specs.Reads.{destination_node};
@@ -12,8 +12,8 @@ use crate::edit::EditCause;
 use crate::parts::Parts;
 use crate::parts::undo::Undo;
 use crate::weights::Weights;
-use ltm_splits::{SplitFault, SplitKey, are_zero};
-use ltm_units::{Name, NoMemory, NodeId};
+use ltm_splits::{SplitFault, SplitKey, Weights as RowWeights};
+use ltm_units::Name;
 
 fn cause_of_split(fault: SplitFault) -> EditCause
     ensures { result ≡ cause_of_split fault }
@@ -48,15 +48,11 @@ impl Parts {
             Ok(key) => key,
             Err(cause) => return Err(cause),
         };
-        let weights = match self.weights_at(key.node, weights.pairs()) {
-            Ok(weights) => weights,
-            Err(_) => return Err(EditCause::NoMemory),
-        };
-        match self.check_split_edit(key, &weights) {
-            Ok(()) => {}
+        let row = match self.split_row(key, weights.pairs()) {
+            Ok(row) => row,
             Err(cause) => return Err(cause),
-        }
-        match self.change_split(key, &weights) {
+        };
+        match self.change_split(key, row.as_slice()) {
             Ok(undo) => return Ok(undo),
             Err(fault) => return Err(cause_of_split(fault)),
         }
@@ -101,21 +97,23 @@ impl Parts {
         })
     }
 
-    /// Whether the weights are not all 0 and lead on.
+    /// The weights of the row, where they are not all 0 and lead on.
     #[tactic(auto, unfolding(crate::specs::Edits::split_row))]
-    fn check_split_edit(&self, key: SplitKey, weights: &[u32]) -> Result<(), EditCause>
+    fn split_row(&self, key: SplitKey, weights: &[(Name, u32)]) -> Result<RowWeights, EditCause>
         requires node { key.node.0 < length (scenario_in self.now).network.nodes }
         requires destination { key.destination < length (scenario_in self.now).destinations }
-        ensures ok { OnOk result (split_row (scenario_in self.now) key weights.now ≡ Ok (key, weights.now)) }
-        ensures cause { IfErr result (λ e. split_row (scenario_in self.now) key weights.now ≡ Err e) }
+        ensures ok { IfOk result (λ row. split_row (scenario_in self.now) key (weights_at (scenario_in self.now) key.node.0 weights.now) ≡ Ok (key, row)) }
+        ensures cause { IfErr result (λ e. split_row (scenario_in self.now) key (weights_at (scenario_in self.now) key.node.0 weights.now) ≡ Err e) }
+        ensures row { IfOk result (λ row. row ≡ weights_at (scenario_in self.now) key.node.0 weights.now) }
+        ensures each { IfOk result (λ row. length row ≡ length (out_links (scenario_in self.now).network key.node.0)) }
     {
-        if are_zero(weights) {
+        let Some(row) = self.weights_at(key.node, weights) else {
             return Err(EditCause::ZeroWeight);
-        }
-        if self.is_open(key, weights) {
+        };
+        if self.is_open(key, row.as_slice()) {
             return Err(EditCause::OpenSplit);
         }
-        Ok(())
+        Ok(row)
     }
 
     /// Whether the row would leave some split open.

@@ -1,5 +1,5 @@
 //! What edits ask of the parts, as a scenario does.
-ghost use Rattle.std.specs.Prelude.{◌≡◌, ℕ, ◌+◌, ◌*◌, ◌<◌, ◌≤◌, ◌==◌, List, All, length, map, false, IfOk};
+ghost use Rattle.std.specs.Prelude.{◌≡◌, ℕ, ◌+◌, ◌*◌, ◌<◌, ◌≤◌, ◌==◌, List, All, length, map, false, take, sum, Some, None, IfSome, if◌then◌else◌};
 ghost use Rattle.std.specs.List.{list_all, zip};
 ghost use Rattle.ltm_network.specs.Network.{out_links};
 ghost use Rattle.ltm_scenario.specs.Reads.{has_no_out_link, has_split};
@@ -10,7 +10,8 @@ ghost use Rattle.ltm_scenario.specs.Edits.{is_out_link, weight_of, weights_at};
 ghost use Rattle.ltm_scenario.specs.Parts.{scenario_in};
 
 use crate::parts::Parts;
-use ltm_units::{LinkId, Name, NoMemory, NodeId};
+use ltm_splits::Weights as RowWeights;
+use ltm_units::{LinkId, Name, NodeId};
 
 /// The weight of the link of that name, 0 where it is not named.
 fn weight_of(weights: &[(Name, u32)], name: &Name) -> u32
@@ -58,20 +59,34 @@ impl Parts {
         }
     }
 
-    /// A weight for each out-link of the node, in order of link number.
-    pub fn weights_at(&self, node: NodeId, weights: &[(Name, u32)]) -> Result<Vec<u32>, NoMemory>
+    /// A weight for each out-link of the node, in order of link number, and how many these are.
+    fn named_row(&self, node: NodeId, weights: &[(Name, u32)]) -> ([u32; 4], usize)
         requires { node.0 < length (scenario_in self.now).network.nodes }
-        ensures weights { IfOk result (λ row. row.items ≡ weights_at (scenario_in self.now) node.0 weights.now) }
-        ensures each { IfOk result (λ row. length row.items ≡ length (out_links (scenario_in self.now).network node.0)) }
+        ensures row { take result.1 result.0 ≡ weights_at (scenario_in self.now) node.0 weights.now }
+        ensures each { result.1 ≡ length (out_links (scenario_in self.now).network node.0) }
+        ensures few { result.1 ≤ 4 }
     {
         let network = &self.network;
         let links = network.out_links(node);
-        let mut row = Vec::new(self.alloc);
+        let mut row = [0u32; 4];
+        let mut count: usize = 0;
         'each: for link in links {
             let name = network.link_name(*link);
-            row.push(weight_of(weights, &name))?;
+            row[count] = weight_of(weights, &name);
+            count += 1;
         }
-        Ok(row)
+        (row, count)
+    }
+
+    /// A weight for each out-link of the node, in order of link number, where they are not all 0.
+    pub fn weights_at(&self, node: NodeId, weights: &[(Name, u32)]) -> Option<RowWeights>
+        requires { node.0 < length (scenario_in self.now).network.nodes }
+        ensures weights { let row = weights_at (scenario_in self.now) node.0 weights.now in
+            result ≡ (if sum row == 0 then None else Some row) }
+        ensures each { IfSome result (λ row. length row ≡ length (out_links (scenario_in self.now).network node.0)) }
+    {
+        let (row, count) = self.named_row(node, weights);
+        RowWeights::of(&row[..count])
     }
 
     /// Whether the node and the destination have a split row.

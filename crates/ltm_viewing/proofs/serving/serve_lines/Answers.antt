@@ -25,25 +25,25 @@ returns-in-Err-clause-script g c =
     let so = c.loop-answered.invariant.3 in
     scripted_ends c.args.core.now c.loop-answered.core _ _ _ _ _ _ c.in-Err.end so (omega arith) c.in-Err.ensures.end
 
-pub returns-in-Err-serve_line-clause-script : goal.returns-in-Err-serve_line-clause-script
-returns-in-Err-serve_line-clause-script g c =
+pub returns-in-Err-serve_and_post-clause-script : goal.returns-in-Err-serve_and_post-clause-script
+returns-in-Err-serve_and_post-clause-script g c =
     let so = c.loop-answered.invariant.3 in
-    scripted_stops c.args.core.now c.loop-answered.core _ _ _ _ _ _ _ _ _ c.text.result.now c.in-Err-serve_line.end so (omega arith)
-    (rw (sym c.text.ensures) at c.in_default.ensures.line) (rw (sym c.text.ensures) at c.in_default.ensures.fits) c.in-Err-serve_line.ensures.err
+    scripted_stops c.args.core.now c.loop-answered.core _ _ _ _ _ _ _ _ _ c.text.result.now c.in-Err-serve_and_post.end so (omega arith)
+    (rw (sym c.text.ensures) at c.in_default.ensures.line) (rw (sym c.text.ensures) at c.in_default.ensures.fits) c.in-Err-serve_and_post.ensures.err
 
 pub loop-answered-preserved : goal.loop-answered-preserved
 loop-answered-preserved g c =
     let (kept, most, awaits, so, s_faults, w_faults, posted, hooks) = c.loop-answered.invariant in
-    let (words, is, wrote) = c.in_default-serve_line.ensures.ok in (
+    let (words, is, wrote) = c.in_default-serve_and_post.ensures.ok in (
       c.in_default.ensures.unkept,
       c.in_default.ensures.max,
-      c.in_default-serve_line.ensures.awaits,
+      c.in_default-serve_and_post.ensures.awaits,
       serving_more AnswersAlone _ _ _ _ _ _ _ _ _ _ c.text.result.now words so (rw c.text.ensures c.in_default.ensures.line)
           (rw c.text.ensures c.in_default.ensures.fits) is wrote,
       omega (arith, s_faults, c.in_default.ensures.later),
-      omega (arith, w_faults, c.in_default-serve_line.ensures.later),
-      c.in_default-serve_line.ensures.posted,
-      c.in_default-serve_line.ensures.hooks ∙ hooks,
+      omega (arith, w_faults, c.in_default-serve_and_post.ensures.later),
+      c.in_default-serve_and_post.ensures.posted,
+      c.in_default-serve_and_post.ensures.hooks ∙ hooks,
     )
 
 pub returns-clause-script : goal.returns-clause-script
