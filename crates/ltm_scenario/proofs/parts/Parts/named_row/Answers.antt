@@ -1,7 +1,7 @@
-use Rattle.std.proofs.Common.{length, map, ap, ◌∙◌}
+use Rattle.std.proofs.Common.{map, ap, ◌∙◌}
 use Rattle.std.proofs.lemmas.List.{take_all}
 use Rattle.ltm_units.specs.declared.places.LinkId.{LinkId}
-use Rattle.ltm_network.specs.Network.{NetworkData, link_name, out_links}
+use Rattle.ltm_network.specs.Network.{NetworkData, link_name}
 use Rattle.ltm_scenario.specs.Edits.{weight_of}
 use Rattle.ltm_scenario.proofs.Linked.{map_numbers}
 use Rattle.ltm_scenario.proofs.parts.Parts.named_row.Goals as goal
