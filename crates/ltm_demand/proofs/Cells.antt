@@ -1,5 +1,5 @@
 -- Places of a table with a width: slot times width plus column.
-use Rattle.std.proofs.Common.{◌≡◌, ◌≢◌, ℕ, ◌+◌, ◌*◌, ◌/◌, ◌<◌, ◌≤◌, List, length, slice_index, slice_set, arith, ap, sym, ◌∙◌, inl, inr}
+use Rattle.std.proofs.Common.{◌≡◌, ◌≢◌, ℕ, ◌+◌, ◌-◌, ◌*◌, ◌/◌, ◌<◌, ◌≤◌, List, length, slice_index, slice_set, refl, arith, ap, sym, subst, ◌∙◌, inl, inr}
 use Rattle.std.proofs.lemmas.Nat.{div-mul-add, mul-add-lt}
 use Rattle.std.proofs.lemmas.List.{get_or-set_same, get_or-set_other, length-set}
 use Rattle.ltm_demand.specs.Tables.{IsOneOf}
@@ -69,3 +69,41 @@ module _ (units : List ℕ) (w own s v : ℕ) (behind : 0 < own) (below : own < 
     pub both_column : (c t : ℕ) → c < w → c ≢ 0 → c ≢ own → slice_index (slice_set one (s * w + own) z) (t * w + c) ≡ slice_index units (t * w + c)
     both_column c t under first other =
         set_column one w s own z below own_inside c t under other ∙ (ap (λ (xs : List ℕ). slice_index xs (t * w + c)) as_first ∙ set_column units w s 0 v (omega arith) first_inside c t under first)
+
+-- ---- what an exchange in each of the two leaves
+pub first_place : (units : List ℕ) (s w : ℕ) → slice_index units (s * w) ≡ slice_index units (s * w + 0)
+first_place units s w = let e : s * w ≡ s * w + 0 = omega arith in ap (slice_index units) e
+
+pub one_set : (units new : List ℕ) (w own s v : ℕ) → new ≡ slice_set units (s * w) v → 0 < own → own < w → (s + 1) * w ≤ length units → (s * w + own < length new) × (slice_index new (s * w + own) ≡ slice_index units (s * w + own))
+one_set units new w own s v is behind below fits = (
+  omega (arith, own_inside units w own s v behind below fits, ap length is),
+  ap (λ (xs : List ℕ). slice_index xs (s * w + own)) is ∙ one_own units w own s v behind below fits,
+)
+
+-- both numbers of the slot are exchanged, and no other number changes
+pub record BothSet (units new : List ℕ) (w own s gone come : ℕ) : Type 0 where
+  pub len : length new ≡ length units
+  pub here : (c : ℕ) → IsOneOf own c → slice_index new (s * w + c) + gone ≡ slice_index units (s * w + c) + come
+  pub elsewhere : (c t : ℕ) → c < w → t ≢ s → slice_index new (t * w + c) ≡ slice_index units (t * w + c)
+  pub others : (c t : ℕ) → c < w → c ≢ 0 → c ≢ own → slice_index new (t * w + c) ≡ slice_index units (t * w + c)
+
+pub both_set : (units first new : List ℕ) (w own s gone come : ℕ) → first ≡ slice_set units (s * w) (slice_index units (s * w) - gone + come) → new ≡ slice_set first (s * w + own) (slice_index first (s * w + own) - gone + come) →
+    0 < own → own < w → (s + 1) * w ≤ length units → ((c : ℕ) → IsOneOf own c → gone ≤ slice_index units (s * w + c)) → BothSet units new w own s gone come
+both_set units first new w own s gone come first_is new_is behind below fits has =
+    let v = slice_index units (s * w) - gone + come in
+    let one : List ℕ = slice_set units (s * w) v in
+    let z = slice_index one (s * w + own) - gone + come in
+    let is : new ≡ slice_set one (s * w + own) z = new_is ∙ ap (λ (xs : List ℕ). slice_set xs (s * w + own) (slice_index xs (s * w + own) - gone + come)) first_is in
+    record {
+      len = ap length is ∙ (length-set one (s * w + own) z ∙ length-set units (s * w) v);
+      here = λ c which. elim which [
+        | inl zeroth ↦
+            subst (λ n. slice_index new (s * w + n) + gone ≡ slice_index units (s * w + n) + come) (sym zeroth)
+            (omega (arith, ap (λ (xs : List ℕ). slice_index xs (s * w + 0)) is, both_first units w own s v behind below fits z, first_place units s w, has 0 (inl refl)))
+        | inr other ↦
+            subst (λ n. slice_index new (s * w + n) + gone ≡ slice_index units (s * w + n) + come) (sym other)
+            (omega (arith, ap (λ (xs : List ℕ). slice_index xs (s * w + own)) is, both_own units w own s v behind below fits z, one_own units w own s v behind below fits, has own (inr refl)))
+      ];
+      elsewhere = λ c t under other. ap (λ (xs : List ℕ). slice_index xs (t * w + c)) is ∙ both_slot units w own s v behind below fits z c t under other;
+      others = λ c t under zeroth other. ap (λ (xs : List ℕ). slice_index xs (t * w + c)) is ∙ both_column units w own s v behind below fits z c t under zeroth other;
+    }

@@ -15,7 +15,6 @@ index_mut-origin-requires c =
     let xs = c.self.inside.origins.items in
     let row = c.args.row.now in
     let kept = c.self.invariant in
-    let gap : IsGap (origin_at xs row.origin.0).rows row c.args.place = gap_own c.self.inside.slots c.self.inside.count xs row c.args.place kept (subst (λ (d : DemandState). IsGap (own_rows d.demand.rows row.origin.0) row c.args.place) (sym c.self.view_is) c.requires.gap) in
     let vacant : IsVacant xs row = vacant_in c.self.inside.slots c.self.inside.count xs row kept (subst (λ (d : DemandState). has_place d row ≡ true) (sym c.self.view_is) c.requires.vacant) in
     let inside : row.origin.0 < length xs = vacant_inside xs row vacant in
     omega (arith, inside, c.self.inside.origins.ok)
@@ -36,7 +35,6 @@ fill-requires-clause-vacant c =
     let xs = c.self.inside.origins.items in
     let row = c.args.row.now in
     let kept = c.self.invariant in
-    let gap : IsGap (origin_at xs row.origin.0).rows row c.args.place = gap_own c.self.inside.slots c.self.inside.count xs row c.args.place kept (subst (λ (d : DemandState). IsGap (own_rows d.demand.rows row.origin.0) row c.args.place) (sym c.self.view_is) c.requires.gap) in
     let vacant : IsVacant xs row = vacant_in c.self.inside.slots c.self.inside.count xs row kept (subst (λ (d : DemandState). has_place d row ≡ true) (sym c.self.view_is) c.requires.vacant) in
     let inside : row.origin.0 < length xs = vacant_inside xs row vacant in
     let read : c.index_mut-origin.result.now ≡ origin_at xs row.origin.0 = get_or_read xs row.origin.0 c.index_mut-origin.result.now inside c.index_mut-origin.ensures.value no_origin in
@@ -47,7 +45,6 @@ fill-requires-clause-reached c =
     let xs = c.self.inside.origins.items in
     let row = c.args.row.now in
     let kept = c.self.invariant in
-    let gap : IsGap (origin_at xs row.origin.0).rows row c.args.place = gap_own c.self.inside.slots c.self.inside.count xs row c.args.place kept (subst (λ (d : DemandState). IsGap (own_rows d.demand.rows row.origin.0) row c.args.place) (sym c.self.view_is) c.requires.gap) in
     let vacant : IsVacant xs row = vacant_in c.self.inside.slots c.self.inside.count xs row kept (subst (λ (d : DemandState). has_place d row ≡ true) (sym c.self.view_is) c.requires.vacant) in
     let inside : row.origin.0 < length xs = vacant_inside xs row vacant in
     let read : c.index_mut-origin.result.now ≡ origin_at xs row.origin.0 = get_or_read xs row.origin.0 c.index_mut-origin.result.now inside c.index_mut-origin.ensures.value no_origin in
@@ -80,8 +77,8 @@ invariant_of-self c =
     let shifted : IsShifted (origin_at xs row.origin.0).table c.fill.new.self.table row 0 = subst (λ (o : OriginData). IsShifted o.table c.fill.new.self.table row 0) read c.fill.ensures.shifted in
     filled_kept c.self.inside.slots c.self.inside.count xs row c.args.place kept gap c.fill.new.self inside within c.requires.small one few rows shifted vacant.reached
 
-pub returns-clause-done : goal.returns-clause-done
-returns-clause-done c =
+pub returns : goal.returns
+returns c =
     let xs = c.self.inside.origins.items in
     let row = c.args.row.now in
     let kept = c.self.invariant in
@@ -94,51 +91,12 @@ returns-clause-done c =
     let one : length (edited (rows_of xs) row) ≡ length (rows_of xs) + 1 = subst (λ (d : DemandState). length (edited d.demand.rows row) ≡ length d.demand.rows + 1) (sym c.self.view_is) (length_filled c.args.self.now.demand.rows row c.args.place c.requires.gap c.requires.some) in
     let rows : c.fill.new.self.rows ≡ edited (origin_at xs row.origin.0).rows row = c.fill.ensures.rows ∙ ap (λ (o : OriginData). edited o.rows row) read in
     let shifted : IsShifted (origin_at xs row.origin.0).table c.fill.new.self.table row 0 = subst (λ (o : OriginData). IsShifted o.table c.fill.new.self.table row 0) read c.fill.ensures.shifted in
-    (subst (λ (d : DemandState). IsDone d (state_of c.self.inside.slots (rows_of (set xs row.origin.0 c.fill.new.self)) (room_of (set xs row.origin.0 c.fill.new.self))) row 0) c.self.view_is
-    (filled_done c.self.inside.slots c.self.inside.count xs row c.args.place kept gap c.fill.new.self inside within c.requires.small one few rows shifted vacant.reached)).done
-
-pub returns-clause-back : goal.returns-clause-back
-returns-clause-back c =
-    let xs = c.self.inside.origins.items in
-    let row = c.args.row.now in
-    let kept = c.self.invariant in
-    let gap : IsGap (origin_at xs row.origin.0).rows row c.args.place = gap_own c.self.inside.slots c.self.inside.count xs row c.args.place kept (subst (λ (d : DemandState). IsGap (own_rows d.demand.rows row.origin.0) row c.args.place) (sym c.self.view_is) c.requires.gap) in
-    let vacant : IsVacant xs row = vacant_in c.self.inside.slots c.self.inside.count xs row kept (subst (λ (d : DemandState). has_place d row ≡ true) (sym c.self.view_is) c.requires.vacant) in
-    let inside : row.origin.0 < length xs = vacant_inside xs row vacant in
-    let read : c.index_mut-origin.result.now ≡ origin_at xs row.origin.0 = get_or_read xs row.origin.0 c.index_mut-origin.result.now inside c.index_mut-origin.ensures.value no_origin in
-    let within : has_slots c.self.inside.slots row ≡ true = subst (λ (d : DemandState). has_slots d.demand.slots row ≡ true) (sym c.self.view_is) c.requires.slots in
-    let few : length (rows_of xs) < 10000 = subst (λ (d : DemandState). length d.demand.rows < 10000) (sym c.self.view_is) c.requires.few in
-    let one : length (edited (rows_of xs) row) ≡ length (rows_of xs) + 1 = subst (λ (d : DemandState). length (edited d.demand.rows row) ≡ length d.demand.rows + 1) (sym c.self.view_is) (length_filled c.args.self.now.demand.rows row c.args.place c.requires.gap c.requires.some) in
-    let rows : c.fill.new.self.rows ≡ edited (origin_at xs row.origin.0).rows row = c.fill.ensures.rows ∙ ap (λ (o : OriginData). edited o.rows row) read in
-    let shifted : IsShifted (origin_at xs row.origin.0).table c.fill.new.self.table row 0 = subst (λ (o : OriginData). IsShifted o.table c.fill.new.self.table row 0) read c.fill.ensures.shifted in
-    (subst (λ (d : DemandState). IsDone d (state_of c.self.inside.slots (rows_of (set xs row.origin.0 c.fill.new.self)) (room_of (set xs row.origin.0 c.fill.new.self))) row 0) c.self.view_is
-    (filled_done c.self.inside.slots c.self.inside.count xs row c.args.place kept gap c.fill.new.self inside within c.requires.small one few rows shifted vacant.reached)).back
-
-pub returns-clause-undo : goal.returns-clause-undo
-returns-clause-undo c =
-    let xs = c.self.inside.origins.items in
-    let row = c.args.row.now in
-    let kept = c.self.invariant in
-    let gap : IsGap (origin_at xs row.origin.0).rows row c.args.place = gap_own c.self.inside.slots c.self.inside.count xs row c.args.place kept (subst (λ (d : DemandState). IsGap (own_rows d.demand.rows row.origin.0) row c.args.place) (sym c.self.view_is) c.requires.gap) in
-    let vacant : IsVacant xs row = vacant_in c.self.inside.slots c.self.inside.count xs row kept (subst (λ (d : DemandState). has_place d row ≡ true) (sym c.self.view_is) c.requires.vacant) in
-    let inside : row.origin.0 < length xs = vacant_inside xs row vacant in
-    let read : c.index_mut-origin.result.now ≡ origin_at xs row.origin.0 = get_or_read xs row.origin.0 c.index_mut-origin.result.now inside c.index_mut-origin.ensures.value no_origin in
-    let within : has_slots c.self.inside.slots row ≡ true = subst (λ (d : DemandState). has_slots d.demand.slots row ≡ true) (sym c.self.view_is) c.requires.slots in
-    let few : length (rows_of xs) < 10000 = subst (λ (d : DemandState). length d.demand.rows < 10000) (sym c.self.view_is) c.requires.few in
-    let one : length (edited (rows_of xs) row) ≡ length (rows_of xs) + 1 = subst (λ (d : DemandState). length (edited d.demand.rows row) ≡ length d.demand.rows + 1) (sym c.self.view_is) (length_filled c.args.self.now.demand.rows row c.args.place c.requires.gap c.requires.some) in
-    let rows : c.fill.new.self.rows ≡ edited (origin_at xs row.origin.0).rows row = c.fill.ensures.rows ∙ ap (λ (o : OriginData). edited o.rows row) read in
-    let shifted : IsShifted (origin_at xs row.origin.0).table c.fill.new.self.table row 0 = subst (λ (o : OriginData). IsShifted o.table c.fill.new.self.table row 0) read c.fill.ensures.shifted in
-    (subst (λ (d : DemandState). IsDone d (state_of c.self.inside.slots (rows_of (set xs row.origin.0 c.fill.new.self)) (room_of (set xs row.origin.0 c.fill.new.self))) row 0) c.self.view_is
-    (filled_done c.self.inside.slots c.self.inside.count xs row c.args.place kept gap c.fill.new.self inside within c.requires.small one few rows shifted vacant.reached)).undo
-
-pub returns-clause-room : goal.returns-clause-room
-returns-clause-room c =
-    let xs = c.self.inside.origins.items in
-    let row = c.args.row.now in
-    let kept = c.self.invariant in
-    let gap : IsGap (origin_at xs row.origin.0).rows row c.args.place = gap_own c.self.inside.slots c.self.inside.count xs row c.args.place kept (subst (λ (d : DemandState). IsGap (own_rows d.demand.rows row.origin.0) row c.args.place) (sym c.self.view_is) c.requires.gap) in
-    let vacant : IsVacant xs row = vacant_in c.self.inside.slots c.self.inside.count xs row kept (subst (λ (d : DemandState). has_place d row ≡ true) (sym c.self.view_is) c.requires.vacant) in
-    let inside : row.origin.0 < length xs = vacant_inside xs row vacant in
-    let read : c.index_mut-origin.result.now ≡ origin_at xs row.origin.0 = get_or_read xs row.origin.0 c.index_mut-origin.result.now inside c.index_mut-origin.ensures.value no_origin in
-    subst (λ (d : DemandState). (o : ℕ) → IsNoLess (room_at d.room o) (room_at (room_of (set xs row.origin.0 c.fill.new.self)) o)) c.self.view_is
-    (room_set xs row.origin.0 c.fill.new.self inside (subst (λ (o : OriginData). IsNoLess (room_in o) (room_in c.fill.new.self)) read c.fill.ensures.places))
+    let all = subst (λ (d : DemandState). IsDone d (state_of c.self.inside.slots (rows_of (set xs row.origin.0 c.fill.new.self)) (room_of (set xs row.origin.0 c.fill.new.self))) row 0) c.self.view_is
+    (filled_done c.self.inside.slots c.self.inside.count xs row c.args.place kept gap c.fill.new.self inside within c.requires.small one few rows shifted vacant.reached) in
+    record {
+      done = all.done;
+      back = all.back;
+      undo = all.undo;
+      room = subst (λ (d : DemandState). (o : ℕ) → IsNoLess (room_at d.room o) (room_at (room_of (set xs row.origin.0 c.fill.new.self)) o)) c.self.view_is
+          (room_set xs row.origin.0 c.fill.new.self inside (subst (λ (o : OriginData). IsNoLess (room_in o) (room_in c.fill.new.self)) read c.fill.ensures.places));
+    }

@@ -75,8 +75,8 @@ invariant_of-self c =
     let shifted : IsShifted (origin_at xs row.origin.0).table c.replace-was.new.self.table row c.replace-was.result = subst (λ (o : OriginData). IsShifted o.table c.replace-was.new.self.table row c.replace-was.result) read c.replace-was.ensures.shifted in
     replaced_kept c.self.inside.slots c.self.inside.count xs row c.args.place kept at c.replace-was.result c.taken_out.result c.replace-was.new.self inside within c.requires.small was rows shifted c.taken_out.ensures
 
-pub returns-clause-done : goal.returns-clause-done
-returns-clause-done c =
+pub returns : goal.returns
+returns c =
     let xs = c.self.inside.origins.items in
     let row = c.args.row.now in
     let kept = c.self.invariant in
@@ -87,60 +87,13 @@ returns-clause-done c =
     let was : c.replace-was.result ≡ amount_at (origin_at xs row.origin.0).rows row = c.replace-was.ensures.was ∙ ap (λ (o : OriginData). amount_at o.rows row) read in
     let rows : c.replace-was.new.self.rows ≡ edited (origin_at xs row.origin.0).rows row = c.replace-was.ensures.rows ∙ ap (λ (o : OriginData). edited o.rows row) read in
     let shifted : IsShifted (origin_at xs row.origin.0).table c.replace-was.new.self.table row c.replace-was.result = subst (λ (o : OriginData). IsShifted o.table c.replace-was.new.self.table row c.replace-was.result) read c.replace-was.ensures.shifted in
-    (subst (λ (d : DemandState). IsDone d (state_of c.self.inside.slots (rows_of (set xs row.origin.0 c.replace-was.new.self)) (room_of (set xs row.origin.0 c.replace-was.new.self))) row c.replace-was.result) c.self.view_is
-    (replaced_done c.self.inside.slots c.self.inside.count xs row c.args.place kept at c.replace-was.result c.taken_out.result c.replace-was.new.self inside within c.requires.small was rows shifted c.taken_out.ensures c.replace-was.ensures.vacant)).done
-
-pub returns-clause-was : goal.returns-clause-was
-returns-clause-was c =
-    let xs = c.self.inside.origins.items in
-    let row = c.args.row.now in
-    let kept = c.self.invariant in
-    let at : IsAt (origin_at xs row.origin.0).rows row c.args.place = at_own c.self.inside.slots c.self.inside.count xs row c.args.place kept (subst (λ (d : DemandState). IsAt (own_rows d.demand.rows row.origin.0) row c.args.place) (sym c.self.view_is) c.requires.at) in
-    let inside : row.origin.0 < length xs = at_inside xs row c.args.place at in
-    let read : c.index_mut-origin.result.now ≡ origin_at xs row.origin.0 = get_or_read xs row.origin.0 c.index_mut-origin.result.now inside c.index_mut-origin.ensures.value no_origin in
-    let within : has_slots c.self.inside.slots row ≡ true = subst (λ (d : DemandState). has_slots d.demand.slots row ≡ true) (sym c.self.view_is) c.requires.slots in
-    let was : c.replace-was.result ≡ amount_at (origin_at xs row.origin.0).rows row = c.replace-was.ensures.was ∙ ap (λ (o : OriginData). amount_at o.rows row) read in
-    let rows : c.replace-was.new.self.rows ≡ edited (origin_at xs row.origin.0).rows row = c.replace-was.ensures.rows ∙ ap (λ (o : OriginData). edited o.rows row) read in
-    let shifted : IsShifted (origin_at xs row.origin.0).table c.replace-was.new.self.table row c.replace-was.result = subst (λ (o : OriginData). IsShifted o.table c.replace-was.new.self.table row c.replace-was.result) read c.replace-was.ensures.shifted in
-    was ∙ (sym (amount_joined xs kept.own row) ∙ ap (λ (d : DemandState). amount_at d.demand.rows row) c.self.view_is)
-
-pub returns-clause-back : goal.returns-clause-back
-returns-clause-back c =
-    let xs = c.self.inside.origins.items in
-    let row = c.args.row.now in
-    let kept = c.self.invariant in
-    let at : IsAt (origin_at xs row.origin.0).rows row c.args.place = at_own c.self.inside.slots c.self.inside.count xs row c.args.place kept (subst (λ (d : DemandState). IsAt (own_rows d.demand.rows row.origin.0) row c.args.place) (sym c.self.view_is) c.requires.at) in
-    let inside : row.origin.0 < length xs = at_inside xs row c.args.place at in
-    let read : c.index_mut-origin.result.now ≡ origin_at xs row.origin.0 = get_or_read xs row.origin.0 c.index_mut-origin.result.now inside c.index_mut-origin.ensures.value no_origin in
-    let within : has_slots c.self.inside.slots row ≡ true = subst (λ (d : DemandState). has_slots d.demand.slots row ≡ true) (sym c.self.view_is) c.requires.slots in
-    let was : c.replace-was.result ≡ amount_at (origin_at xs row.origin.0).rows row = c.replace-was.ensures.was ∙ ap (λ (o : OriginData). amount_at o.rows row) read in
-    let rows : c.replace-was.new.self.rows ≡ edited (origin_at xs row.origin.0).rows row = c.replace-was.ensures.rows ∙ ap (λ (o : OriginData). edited o.rows row) read in
-    let shifted : IsShifted (origin_at xs row.origin.0).table c.replace-was.new.self.table row c.replace-was.result = subst (λ (o : OriginData). IsShifted o.table c.replace-was.new.self.table row c.replace-was.result) read c.replace-was.ensures.shifted in
-    (subst (λ (d : DemandState). IsDone d (state_of c.self.inside.slots (rows_of (set xs row.origin.0 c.replace-was.new.self)) (room_of (set xs row.origin.0 c.replace-was.new.self))) row c.replace-was.result) c.self.view_is
-    (replaced_done c.self.inside.slots c.self.inside.count xs row c.args.place kept at c.replace-was.result c.taken_out.result c.replace-was.new.self inside within c.requires.small was rows shifted c.taken_out.ensures c.replace-was.ensures.vacant)).back
-
-pub returns-clause-undo : goal.returns-clause-undo
-returns-clause-undo c =
-    let xs = c.self.inside.origins.items in
-    let row = c.args.row.now in
-    let kept = c.self.invariant in
-    let at : IsAt (origin_at xs row.origin.0).rows row c.args.place = at_own c.self.inside.slots c.self.inside.count xs row c.args.place kept (subst (λ (d : DemandState). IsAt (own_rows d.demand.rows row.origin.0) row c.args.place) (sym c.self.view_is) c.requires.at) in
-    let inside : row.origin.0 < length xs = at_inside xs row c.args.place at in
-    let read : c.index_mut-origin.result.now ≡ origin_at xs row.origin.0 = get_or_read xs row.origin.0 c.index_mut-origin.result.now inside c.index_mut-origin.ensures.value no_origin in
-    let within : has_slots c.self.inside.slots row ≡ true = subst (λ (d : DemandState). has_slots d.demand.slots row ≡ true) (sym c.self.view_is) c.requires.slots in
-    let was : c.replace-was.result ≡ amount_at (origin_at xs row.origin.0).rows row = c.replace-was.ensures.was ∙ ap (λ (o : OriginData). amount_at o.rows row) read in
-    let rows : c.replace-was.new.self.rows ≡ edited (origin_at xs row.origin.0).rows row = c.replace-was.ensures.rows ∙ ap (λ (o : OriginData). edited o.rows row) read in
-    let shifted : IsShifted (origin_at xs row.origin.0).table c.replace-was.new.self.table row c.replace-was.result = subst (λ (o : OriginData). IsShifted o.table c.replace-was.new.self.table row c.replace-was.result) read c.replace-was.ensures.shifted in
-    (subst (λ (d : DemandState). IsDone d (state_of c.self.inside.slots (rows_of (set xs row.origin.0 c.replace-was.new.self)) (room_of (set xs row.origin.0 c.replace-was.new.self))) row c.replace-was.result) c.self.view_is
-    (replaced_done c.self.inside.slots c.self.inside.count xs row c.args.place kept at c.replace-was.result c.taken_out.result c.replace-was.new.self inside within c.requires.small was rows shifted c.taken_out.ensures c.replace-was.ensures.vacant)).undo
-
-pub returns-clause-room : goal.returns-clause-room
-returns-clause-room c =
-    let xs = c.self.inside.origins.items in
-    let row = c.args.row.now in
-    let kept = c.self.invariant in
-    let at : IsAt (origin_at xs row.origin.0).rows row c.args.place = at_own c.self.inside.slots c.self.inside.count xs row c.args.place kept (subst (λ (d : DemandState). IsAt (own_rows d.demand.rows row.origin.0) row c.args.place) (sym c.self.view_is) c.requires.at) in
-    let inside : row.origin.0 < length xs = at_inside xs row c.args.place at in
-    let read : c.index_mut-origin.result.now ≡ origin_at xs row.origin.0 = get_or_read xs row.origin.0 c.index_mut-origin.result.now inside c.index_mut-origin.ensures.value no_origin in
-    subst (λ (d : DemandState). (o : ℕ) → IsNoLess (room_at d.room o) (room_at (room_of (set xs row.origin.0 c.replace-was.new.self)) o)) c.self.view_is
-    (room_set xs row.origin.0 c.replace-was.new.self inside (subst (λ (o : OriginData). IsNoLess (room_in o) (room_in c.replace-was.new.self)) read c.replace-was.ensures.places))
+    let all = subst (λ (d : DemandState). IsDone d (state_of c.self.inside.slots (rows_of (set xs row.origin.0 c.replace-was.new.self)) (room_of (set xs row.origin.0 c.replace-was.new.self))) row c.replace-was.result) c.self.view_is
+    (replaced_done c.self.inside.slots c.self.inside.count xs row c.args.place kept at c.replace-was.result c.taken_out.result c.replace-was.new.self inside within c.requires.small was rows shifted c.taken_out.ensures c.replace-was.ensures.vacant) in
+    record {
+      done = all.done;
+      was = was ∙ (sym (amount_joined xs kept.own row) ∙ ap (λ (d : DemandState). amount_at d.demand.rows row) c.self.view_is);
+      back = all.back;
+      undo = all.undo;
+      room = subst (λ (d : DemandState). (o : ℕ) → IsNoLess (room_at d.room o) (room_at (room_of (set xs row.origin.0 c.replace-was.new.self)) o)) c.self.view_is
+          (room_set xs row.origin.0 c.replace-was.new.self inside (subst (λ (o : OriginData). IsNoLess (room_in o) (room_in c.replace-was.new.self)) read c.replace-was.ensures.places));
+    }
