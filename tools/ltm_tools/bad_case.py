@@ -223,6 +223,11 @@ def too_many_rows(file: str, row: int) -> BadCase:
     return BadCase(file, row, "TooManyRows", f"there are {count_text(most)} rows already, which is the most", "gather rows: longer spans, or fewer pairs")
 
 
+def too_many_routes(rows: int) -> BadCase:
+    return BadCase("whole", 0, "TooManyRows", f"the routes make {count_text(rows)} rows, and at most {count_text(MOST_SPLIT_ROWS)} may be",
+                   "take fewer destinations, or a smaller network")
+
+
 def no_split(node: str, destination: str, reason: str, advice: str) -> BadCase:
     return BadCase("whole", 0, f"NoSplit {node} {destination}", reason, advice)
 

@@ -37,7 +37,7 @@ from .formats import (
     weights_text,
     whole_of,
 )
-from .valid import check_cells, check_splits
+from .valid import check_cells, check_routes, check_splits
 
 MOST_DIAGRAM = (MOST_LENGTH_M, MOST_KMH, MOST_KMH, MOST_JAM_PER_KM)
 
@@ -57,8 +57,8 @@ def fetch(folder: str | os.PathLike[str], file: str) -> bytes:
 
 
 def read_case(folder: str | os.PathLike[str], *, splits: bool | None = None, columns: Sequence[str] = SETUP_LATER) -> Case:
-    """The valid case of a folder, or the first fault. With `splits` True a `splits.csv` is wanted, with False it is not looked
-    at, and with None it may be missing. `columns` may stand in `setup.csv` behind its first three."""
+    """The valid case of a folder, or the first fault. With `splits` True a `splits.csv` is wanted, as by `load`; with False it is not
+    looked at, and routes are asked for, as by `routes`; with None it may be missing. `columns` may stand in `setup.csv` behind its first three."""
     texts = {file: fetch(folder, file) for file in ("setup", "links", "demand")}
     if splits is not False:
         try:
@@ -75,7 +75,9 @@ def read_case(folder: str | os.PathLike[str], *, splits: bool | None = None, col
             read_rows(file, texts[file], add)
     case = reader.case
     case.splits = case.splits if "splits" in texts else None
-    if case.splits is not None:
+    if splits is False:
+        check_routes(case)
+    elif case.splits is not None:
         check_splits(case)
     check_cells(case)
     return case

@@ -14,7 +14,7 @@ from typing import NoReturn
 from . import libraries
 from .errors import Fault
 
-COMMANDS = ("gmns", "pictures")  # modules, in the order in which they are told
+COMMANDS = ("explain", "gmns", "pictures")  # modules, in the order in which they are told
 
 PROGRAM = "ltm-tools"
 INTERRUPTED = 130

@@ -1,8 +1,8 @@
-"""What the whole of a case has to meet: a split row wherever traffic may come, and no more cells than may be."""
+"""What the whole of a case has to meet: a split row wherever traffic may come, or a route, and no more cells than may be."""
 from . import bad_case
 from .bad_case import BadCase
 from .case import Case, Split
-from .formats import MOST_CELLS
+from .formats import MOST_CELLS, MOST_SPLIT_ROWS
 
 
 def check_splits(case: Case) -> None:
@@ -54,6 +54,34 @@ def late_row(node: str, destination: str, first: int) -> BadCase:
     """The fault of a pair whose first row begins after slot 0."""
     return bad_case.no_split(node, destination, f"the first row of splits.csv for node {node} and destination {destination} begins at slot {first}",
                              "let it begin at slot 0, or add one that does")
+
+
+def reaching(case: Case, destination: str) -> set[str]:
+    """The nodes from which links lead to a destination, it among them."""
+    tails: dict[str, list[str]] = {}
+    for link in case.links:
+        tails.setdefault(link.head, []).append(link.tail)
+    found, left = {destination}, [destination]
+    while left:
+        for tail in tails.get(left.pop(), ()):
+            if tail not in found:
+                found.add(tail)
+                left.append(tail)
+    return found
+
+
+def check_routes(case: Case) -> None:
+    """Whether there is a route for all demand, and routes make no more rows than may be."""
+    nodes = {node: number for number, node in enumerate(case.nodes)}
+    reach = {destination: reaching(case, destination) for destination in case.destinations}
+    rows = sum(len(found) - 1 for found in reach.values())
+    if rows > MOST_SPLIT_ROWS:
+        raise bad_case.too_many_routes(rows)
+    pairs = {(row.origin, row.destination) for row in case.standing_demand()}
+    for origin, destination in sorted(pairs, key=lambda pair: (nodes[pair[0]], list(reach).index(pair[1]))):
+        if origin not in reach[destination]:
+            raise bad_case.no_split(origin, destination, f"vehicles set out from {origin} for {destination}, and no links lead there from {origin}",
+                                    "add a link, or take the demand out")
 
 
 def check_cells(case: Case) -> None:
