@@ -189,7 +189,7 @@ class Reader:
         name, tail, head = (name_in("links", row, fields, place) for place in (1, 2, 3))
         link = Link(name, tail, head, *(whole_in("links", row, fields, place) for place in (4, 5, 6, 7)))
         self.check_place(row, link)
-        check_diagram(row, link, self.case.setup.step_ms)
+        self.check_limits(row, link)
         self.case.links.append(link)
         self.links[name], self.rows[name] = link, row
         for node in (tail, head):
@@ -210,6 +210,10 @@ class Reader:
             raise bad_case.too_many_out(row, link.tail, self.out[link.tail])
         if len(self.into.get(link.head, ())) >= MOST_IN:
             raise bad_case.too_many_in(row, link.head, self.into[link.head])
+
+    def check_limits(self, row: int, link: Link) -> None:
+        """Whether the link's diagram sets limits at the step of the setup."""
+        check_diagram(row, link, self.case.setup.step_ms)
 
     def check_node(self, file: str, row: int, place: int, name: str) -> None:
         if name not in self.out:

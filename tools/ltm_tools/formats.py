@@ -145,6 +145,11 @@ def count_text(number: int) -> str:
     return f"{number:,}"
 
 
+def counted(number: int, what: str) -> str:
+    """A number of things: `1 link`, `4,000 links`."""
+    return f"{count_text(number)} {what}{'s' * (number != 1)}"
+
+
 CLOCK = re.compile(r"([0-9]{1,3}):([0-5][0-9])(?::([0-5][0-9])(?:\.([0-9]{1,3}))?)?", re.ASCII)
 
 
