@@ -171,6 +171,8 @@ def too_much(folder: str, status: int, line: str, words: list[str]) -> Told:
     if number:
         return [f"line {number[1]} of the script has more than {count_text(MOST_LINE_BYTES)} bytes, and that is the most",
                 "    cut the batch into several: a batch has at most 32 edits"]
+    if not line.strip() and words[0] in ("session", "view"):
+        return [f"a line of the script has more than {count_text(MOST_LINE_BYTES)} bytes, and that is the most"]
     name = line.strip().removeprefix("too long ")
     if name == line.strip():
         return []

@@ -3,6 +3,7 @@ import argparse
 import os
 import shutil
 import subprocess
+import sys
 from collections.abc import Sequence
 from pathlib import Path
 from typing import IO
@@ -20,16 +21,17 @@ def add_program_argument(parser: argparse.ArgumentParser) -> None:
 
 
 def find_program(program: str | os.PathLike[str] | None = None) -> Path:
-    """The absolute path of the program: the one named, else that of the variable LTM, else the one built in the clone, else `ltm` on
-    the path; a Fault that says how to have it where there is none."""
+    """The absolute path of the program: the one named, else that of the variable LTM, else the one built in the clone, else one beside
+    this command, else `ltm` on the path; a Fault that says how to have it where there is none."""
     named = program or os.environ.get("LTM")
     if named:
         path = Path(named).absolute()
         if not path.is_file() or not os.access(path, os.X_OK):
             raise Fault(f"{named} is no program that can be run: {HOW}")
         return path
-    if BUILT.is_file() and os.access(BUILT, os.X_OK):
-        return BUILT
+    for path in (BUILT, Path(sys.argv[0]).resolve().with_name("ltm")):  # the second where ./ltm --install put both side by side
+        if path.is_file() and os.access(path, os.X_OK):
+            return path
     found = shutil.which("ltm")
     if found is None:
         raise Fault(f"the program ltm is not built: {HOW}")

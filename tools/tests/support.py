@@ -30,12 +30,15 @@ class FolderTest(unittest.TestCase):
         self.folder = Path(made.name)
 
     def case(self, **files: str | bytes | None) -> Path:
-        """The smallest case in a folder, with these files in place of its own; None leaves one out."""
+        """The smallest case in a folder, with these files in place of its own; None takes one out."""
         folder = self.folder / "case"
         folder.mkdir(exist_ok=True)
         for name, text in {**ROAD, **files}.items():
-            if text is not None:
-                (folder / f"{name}.csv").write_bytes(text.encode() if isinstance(text, str) else text)
+            path = folder / f"{name}.csv"
+            if text is None:
+                path.unlink(missing_ok=True)
+            else:
+                path.write_bytes(text.encode() if isinstance(text, str) else text)
         return folder
 
     def program(self, body: str) -> Path:
