@@ -136,7 +136,7 @@ def units_in(file: str, row: int, fields: list[str], place: int) -> int:
 
 def setup_headers(columns: Sequence[str]) -> list[tuple[str, ...]]:
     """The headers that `setup.csv` may have: the three fields, and of these columns each or not, in order."""
-    headers = [SETUP]
+    headers: list[tuple[str, ...]] = [SETUP]
     for column in columns:
         headers += [(*header, column) for header in headers]
     return headers

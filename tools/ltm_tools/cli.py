@@ -5,6 +5,7 @@ Each command is a module of this package with NAME, SUMMARY (a line), EXAMPLES (
 """
 import argparse
 import importlib
+import io
 import os
 import sys
 from collections.abc import Sequence
@@ -63,7 +64,8 @@ def run(words: Sequence[str] | None) -> int:
 def main(words: Sequence[str] | None = None) -> int:
     """Runs a command; whatever is wrong is one line on the standard error, and status 1."""
     for stream in (sys.stdout, sys.stderr):
-        stream.reconfigure(errors="backslashreplace")  # type: ignore[union-attr]
+        if isinstance(stream, io.TextIOWrapper):
+            stream.reconfigure(errors="backslashreplace")
     try:
         return run(words)
     except BrokenPipeError:

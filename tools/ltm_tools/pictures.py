@@ -126,7 +126,7 @@ def draw_arrivals(plot: Any, curves: Curves) -> "Figure":
     arrived = {name: vehicles(curves.arrived(name)) for name in curves.destinations}
     if not arrived:
         raise Fault("the curve file has no destination")
-    order = sorted(arrived, key=lambda name: -arrived[name][-1])
+    order = sorted(arrived, key=lambda name: -float(arrived[name][-1]))
     shown = order if len(order) <= MOST_LINES else order[: MOST_LINES - 1]
     times = minutes(len(arrived[order[0]]), curves)
     figure, axes = plot.subplots(figsize=(8, 5), layout="constrained")

@@ -104,7 +104,8 @@ def schedule(needs: Needs, costs: Mapping[str, float], lanes: int, done: Iterabl
         chain[name] = costs[name] + max((chain[upper] for upper in above[name]), default=0.0)
     waits = {name: sum(need not in done for need in lower) for name, lower in needs.items() if name not in done}
     ready = sorted((name for name, count in waits.items() if count == 0), key=lambda name: -chain[name])
-    made, running, now = Schedule(lanes), [], 0.0
+    made, now = Schedule(lanes), 0.0
+    running: list[tuple[float, str]] = []
     while ready or running:
         while ready and len(running) < lanes:
             name = ready.pop(0)

@@ -58,11 +58,24 @@ def copy_crates(top: Path, place: Path, needs: Needs) -> None:
     """Brings the copy to what the clone has: texts that differ are written, and what is gone is removed. What `rt` keeps stays."""
     for name in needs:
         for part in PARTS:
-            _copy(top / "crates" / name / part, place / "crates" / name / part)
-    _copy(top / "HANDLES", place / "HANDLES")
-    for folder in (place / "crates").iterdir():
+            _copy(top / "crates" / name / part, place / "tree" / "crates" / name / part)
+    _copy(top / "HANDLES", place / "tree" / "HANDLES")
+    for folder in (place / "tree" / "crates").iterdir():
         if folder.name not in needs:
             shutil.rmtree(folder)
+
+
+def put_aside(place: Path, names: Iterable[str]) -> None:
+    """Takes crates out of the tree, since `rt all` wants each that is there to be listed."""
+    (place / "aside").mkdir(exist_ok=True)
+    for name in names:
+        (place / "tree" / "crates" / name).rename(place / "aside" / name)
+
+
+def put_back(place: Path) -> None:
+    """Puts back what was taken out, by this run or by one that was interrupted."""
+    for folder in (place / "aside").glob("*"):
+        folder.rename(place / "tree" / "crates" / folder.name)
 
 
 def _copy(source: Path, target: Path) -> None:
@@ -95,7 +108,7 @@ def stamps_of(place: Path, needs: Needs) -> dict[str, str]:
     for name, lower in needs.items():
         sum_ = hashlib.sha256("".join(stamps[need] for need in lower).encode())
         for part in ("src", "specs", "proofs"):
-            for path in sorted((place / "crates" / name / part).rglob("*.*t")):
+            for path in sorted((place / "tree" / "crates" / name / part).rglob("*.*t")):
                 sum_.update(f"{path.relative_to(place)} {path.stat().st_size}\n".encode() + path.read_bytes())
         stamps[name] = sum_.hexdigest()
     return stamps
@@ -131,12 +144,14 @@ class Proof:
         self.tell()
         if not self.kept.issuperset(self.plan.side_by_side):
             self.list_crates(self.plan.side_by_side)
-            self.rt(["all", "check", "--jobs", str(self.jobs)], self.place, self.read_log)
+            put_aside(self.place, self.plan.tail)
+            self.rt(["all", "check", "--jobs", str(self.jobs)], self.place / "tree", self.read_log)
             self.keep(self.plan.side_by_side)
+            put_back(self.place)
         self.list_crates(self.needs)
         for name in self.plan.tail:
             words = ["run", "--jobs", str(self.jobs), "--", "try", "1", "4"] if name == PROGRAM else ["lib", "--jobs", str(self.jobs)]
-            self.rt(words, self.place / "crates" / name)
+            self.rt(words, self.place / "tree" / "crates" / name)
             self.keep([name])
         self.tell(is_last=True)
 
@@ -151,7 +166,8 @@ class Proof:
 
     def list_crates(self, names: Sequence[str] | Needs) -> None:
         """Writes the crates.txt of the copy, with the kit's libraries as the clone has them."""
-        (self.place / "crates.txt").write_text("".join(f"{line}\n" for line in lines_of(read_text(self.place / "all_crates.txt"), names)), encoding="ascii")
+        lines = lines_of(read_text(self.place / "all_crates.txt"), names)
+        (self.place / "tree" / "crates.txt").write_text("".join(f"{line}\n" for line in lines), encoding="ascii")
 
     def rt(self, words: list[str], folder: Path, look: Callable[[], None] | None = None) -> None:
         """Runs rt in a folder, and tells meanwhile how far it is."""
@@ -246,15 +262,16 @@ def run(args: argparse.Namespace) -> int:
     text = read_text(CLONE / "crates.txt")
     needs = stands_on(read_crates(text), args.crate)
     place = workplace(CLONE)
-    (place / "crates").mkdir(parents=True, exist_ok=True)
+    (place / "tree" / "crates").mkdir(parents=True, exist_ok=True)
     signal.signal(signal.SIGTERM, lambda *_: sys.exit(128 + signal.SIGTERM))
     with only_one(place):
         since = time.time()
+        put_back(place)
         copy_crates(CLONE, place, needs)
         (place / "all_crates.txt").write_text(text, encoding="utf-8")
         print(f"ltm: proving {len(needs)} crates, {jobs} at a time, in {place}", file=sys.stderr)
         Proof(CLONE, place, needs, jobs, args.crate).run()
         if args.crate == PROGRAM:
-            install(place / "crates" / PROGRAM / "out" / PROGRAM, since)
+            install(place / "tree" / "crates" / PROGRAM / "out" / PROGRAM, since)
             print(f"ltm: proved and built: {BUILT}", file=sys.stderr)
     return 0

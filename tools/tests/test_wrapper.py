@@ -24,7 +24,7 @@ PROVES = """#!/bin/bash
 echo "$@ in ${{PWD##*/}}" >>"$MADE/log"
 case $1 in
     version) echo made-kit ;;
-    all) sed -n 's/:.*//p' crates.txt | while read -r name; do echo "== $name"; echo "logic=proved"; done ;;
+    all) ls crates | while read -r name; do grep -q "^$name:" crates.txt || exit 1; echo "== $name"; echo "logic=proved"; done || exit 2 ;;
     lib) echo "logic=proved" ;;
     run) mkdir -p out; printf '#!/bin/bash\\necho proved program: "$@"\\n' >out/ltm; chmod +x out/ltm; echo a run ;;
 esac
