@@ -1,12 +1,6 @@
-#!/usr/bin/env python3
-"""Makes a case for `ltm` of a network in the General Modeling Network Specification (GMNS).
+"""`ltm-tools from-gmns`: makes a case of a network in the General Modeling Network Specification (GMNS).
 
-    tools/from_gmns.py NETWORK CASE [--jam 150] [--period 60] [--horizon 120] [--step MS] [..]
-
-NETWORK is a folder with `link.csv`, `demand.csv` and, where zones are not nodes of the same id, `node.csv`.
-CASE is a folder, made where it is not there; `setup.csv`, `links.csv` and `demand.csv` are written into it.
-What the case cannot carry is named, a line each, on the error output; then nothing is written and the
-status is 1. The rest of a case follows from these files: `ltm routes` writes its `splits.csv`.
+What the case cannot carry is named, a line each, on the error output; then nothing is written and the status is 1.
 
     link.csv     link_id, from_node_id, to_node_id, length, lanes, free_speed, capacity;
                  a link whose field `directed` is 0 or false is a road in both directions
@@ -15,21 +9,37 @@ status is 1. The rest of a case follows from these files: `ltm routes` writes it
 
 Each link gets a triangular diagram: the free speed in whole km/h, the jam density of its lanes, and the
 wave speed, in whole km/h, with which the top of the triangle is nearest to the capacity.
-
-This program stands beside the proved one. Nothing is proved of it: `ltm` reads what it writes as it reads
-any case, and refuses what is no case. It needs Python 3 and its standard library alone.
 """
 import argparse
-import csv
 import os
-import re
 import sys
 from fractions import Fraction
 
+from .case import Case, Demand, Link as CaseLink, Setup
+from .errors import Fault
+from .files import read_table
+from .formats import (
+    MINUTE_MS as MINUTE,
+    MOST_DEMAND_ROWS,
+    MOST_DESTINATIONS,
+    MOST_LINKS,
+    MOST_OUT,
+    MOST_SLOTS,
+    MOST_UNITS,
+    NAME_RULE,
+    is_name,
+    short_vehicles,
+)
+
+NAME = "from-gmns"
+SUMMARY = "make a case of a network in GMNS form"
+EXAMPLES = """example:
+  ltm-tools from-gmns examples/from_gmns/gmns /tmp/town --period 30 --horizon 30
+  ./ltm /tmp/town routes >/tmp/town/splits.csv
+  ./ltm /tmp/town load"""
+
 METRES = {"m": Fraction(1), "km": Fraction(1000), "mi": Fraction(1609344, 1000), "ft": Fraction(3048, 10000)}
 KMH = {"kmh": Fraction(1), "mph": Fraction(1609344, 1000000)}
-MINUTE = 60_000
-MOST = {"links": 4000, "a side": 4, "destinations": 64, "rows": 10_000, "slots": 10_000}
 
 
 class Network:
@@ -69,17 +79,12 @@ def nearest(number):
     return max(1, (2 * number.numerator + number.denominator) // (2 * number.denominator))
 
 
-def rows_of(folder, name, wanted):
+def rows_of(folder: str, name: str, wanted: list[str]) -> list[dict[str, str]] | None:
     """The records of a file, each as a dictionary, and none where the file is not there."""
     path = os.path.join(folder, name)
     if not os.path.exists(path):
         return None
-    with open(path, newline="", encoding="utf-8-sig") as file:
-        reader = csv.DictReader(file)
-        missing = [field for field in wanted if field not in (reader.fieldnames or [])]
-        if missing:
-            raise SystemExit(f"{path}: no field {', '.join(missing)}")
-        return list(reader)
+    return [row.fields for row in read_table(path, wanted)]
 
 
 def number_in(row, field, network, what, default=None):
@@ -136,8 +141,8 @@ def check_names(network):
     seen = set()
     for link in network.links:
         for kind, name in (("link", link.name), ("node", link.tail), ("node", link.head)):
-            if not re.fullmatch(r"[A-Za-z0-9_-]{1,32}", name):
-                network.fault(f"{kind} {name!r}: a name is 1 to 32 letters, digits, _ or -")
+            if not is_name(name):
+                network.fault(f"{kind} {name!r}: a name is {NAME_RULE}")
         if link.name in seen:
             network.fault(f"link {link.name}: the name stands twice")
         if link.tail == link.head:
@@ -151,9 +156,9 @@ def check_nodes(network):
         for link in network.links:
             names.setdefault(getattr(link, end), []).append(link.name)
         for node, links in names.items():
-            if len(links) > MOST["a side"]:
+            if len(links) > MOST_OUT:
                 network.fault(f"node {node}: {len(links)} links lead {side} it, and at most 4 may: {', '.join(links)}")
-    if len(network.links) > MOST["links"]:
+    if len(network.links) > MOST_LINKS:
         network.fault(f"there are {len(network.links)} links, and at most 4000 may be")
 
 
@@ -171,7 +176,7 @@ def read_zones(network, folder):
 def read_demand(network, folder):
     rows = rows_of(folder, "demand.csv", ["o_zone_id", "d_zone_id", "volume"])
     if rows is None:
-        raise SystemExit(f"{folder}: no demand.csv")
+        raise Fault(f"{folder}: no demand.csv")
     for row in rows:
         ends = (row["o_zone_id"] or "").strip(), (row["d_zone_id"] or "").strip()
         text = (row["volume"] or "").strip()
@@ -208,13 +213,13 @@ def demand_rows(network):
     rows = [(ends, (2000 * volume.numerator + volume.denominator) // (2 * volume.denominator)) for ends, volume in amounts.items()]
     rows = [(ends, units) for ends, units in rows if units > 0]
     for ends, units in rows:
-        if units > 1_000_000_000:
+        if units > MOST_UNITS:
             network.fault(f"demand from node {ends[0]} to {ends[1]}: more than 1000000 vehicles")
     destinations = list(dict.fromkeys(ends[1] for ends, _ in rows))
-    if len(destinations) > MOST["destinations"]:
-        past = ", ".join(destinations[MOST["destinations"]:])
+    if len(destinations) > MOST_DESTINATIONS:
+        past = ", ".join(destinations[MOST_DESTINATIONS:])
         network.fault(f"there are {len(destinations)} destinations, and at most 64 may be; past these are the nodes {past}")
-    if len(rows) > MOST["rows"]:
+    if len(rows) > MOST_DEMAND_ROWS:
         network.fault(f"there are {len(rows)} pairs of origin and destination, and at most 10000 may be")
     return rows, destinations
 
@@ -230,64 +235,59 @@ def step_of(network, args):
     if MINUTE % step:
         network.fault(f"a step of {step} ms does not divide a minute")
     slots = args.horizon * MINUTE // step
-    if slots > MOST["slots"]:
+    if slots > MOST_SLOTS:
         network.fault(f"a horizon of {args.horizon} minutes has {slots} slots of {step} ms, and at most 10000 may be")
     if args.period > args.horizon:
         network.fault(f"the demand's period of {args.period} minutes is longer than the horizon of {args.horizon}")
     return step, slots
 
 
-def units_text(units):
-    whole, part = divmod(units, 1000)
-    return str(whole) if part == 0 else f"{whole}.{part:03}"
-
-
-def write_case(folder, network, rows, step, slots, args):
-    os.makedirs(folder, exist_ok=True)
-
-    def write(name, header, records):
-        with open(os.path.join(folder, name), "w", encoding="ascii", newline="\n") as file:
-            for record in [header, *records]:
-                file.write(",".join(str(field) for field in record) + "\n")
-
-    write("setup.csv", ["step_ms", "slots", "origin_capacity"], [[step, slots, args.origin_capacity]])
-    write("links.csv", ["link", "from", "to", "length_m", "free_kmh", "wave_kmh", "jam_per_km"],
-          [[link.name, link.tail, link.head, link.length, link.free, link.wave, link.jam] for link in network.links])
+def case_of(network, rows, step, slots, args) -> Case:
+    links = [CaseLink(link.name, link.tail, link.head, link.length, link.free, link.wave, link.jam) for link in network.links]
     to_slot = args.period * MINUTE // step
-    write("demand.csv", ["origin", "destination", "from_slot", "to_slot", "vehicles"],
-          [[*ends, 0, to_slot, units_text(units)] for ends, units in rows])
+    demand = [Demand(*ends, 0, to_slot, units) for ends, units in rows]
+    return Case(Setup(step, slots, args.origin_capacity * 1000), links, demand)
 
 
-def parse_args():
-    parser = argparse.ArgumentParser(description=__doc__, formatter_class=argparse.RawDescriptionHelpFormatter)
+def above(least: int, most: int | None = None):
+    """The type of an option that is a whole number from `least` on, and up to `most`."""
+
+    def read(text: str) -> int:
+        number = int(text)
+        if number < least or (most is not None and number > most):
+            raise argparse.ArgumentTypeError(f"{text} is not {least}" + (f" to {most}" if most is not None else " or more"))
+        return number
+
+    read.__name__ = "whole number"
+    return read
+
+
+def density(text: str) -> Fraction:
+    number = Fraction(text)
+    if number <= 0:
+        raise argparse.ArgumentTypeError(f"{text} is not above 0")
+    return number
+
+
+def add_arguments(parser: argparse.ArgumentParser) -> None:
     parser.add_argument("network", help="the folder of link.csv, demand.csv and node.csv")
     parser.add_argument("case", help="the folder to write the case into")
-    parser.add_argument("--jam", type=Fraction, default=Fraction(150), help="jam density of a lane, vehicles/km (150)")
-    parser.add_argument("--period", type=int, default=60, help="the minutes over which the demand sets out (60)")
-    parser.add_argument("--horizon", type=int, default=120, help="the minutes that are loaded (120)")
-    parser.add_argument("--step", type=int, help="the step in ms; without it the longest that every link allows")
-    parser.add_argument("--least-step", type=int, default=1000, help="the shortest step to propose, in ms (1000)")
-    parser.add_argument("--origin-capacity", type=int, default=32, help="the most vehicles that leave an origin in a step (32)")
+    parser.add_argument("--jam", type=density, default=Fraction(150), help="jam density of a lane, vehicles/km (150)")
+    parser.add_argument("--period", type=above(1), default=60, help="the minutes over which the demand sets out (60)")
+    parser.add_argument("--horizon", type=above(1), default=120, help="the minutes that are loaded (120)")
+    parser.add_argument("--step", type=above(1, MINUTE), help="the step in ms; without it the longest that every link allows")
+    parser.add_argument("--least-step", type=above(1), default=1000, help="the shortest step to propose, in ms (1000)")
+    parser.add_argument("--origin-capacity", type=above(1, 32), default=32, help="the most vehicles that leave an origin in a step (32)")
     parser.add_argument("--length-unit", choices=METRES, default="m", help="the unit of length (m)")
     parser.add_argument("--speed-unit", choices=KMH, default="kmh", help="the unit of free_speed (kmh)")
     parser.add_argument("--capacity", choices=["lane", "link"], default="lane", help="whether capacity is that of a lane or of all lanes of a link, in vehicles an hour (lane)")
-    args = parser.parse_args()
-    for name in ("period", "horizon", "least_step", "origin_capacity"):
-        if getattr(args, name) < 1:
-            parser.error(f"--{name.replace('_', '-')} is at least 1")
-    if args.step is not None and not 1 <= args.step <= MINUTE:
-        parser.error("--step is 1 to 60000")
-    if args.origin_capacity > 32 or args.jam <= 0:
-        parser.error("--origin-capacity is at most 32, and --jam above 0")
-    return args
 
 
-def main():
-    args = parse_args()
+def run(args: argparse.Namespace) -> int:
     network = Network()
     rows = rows_of(args.network, "link.csv", ["link_id", "from_node_id", "to_node_id", "length", "free_speed", "capacity"])
     if rows is None:
-        raise SystemExit(f"{args.network}: no link.csv")
+        raise Fault(f"{args.network}: no link.csv")
     for row in rows:
         read_link(row, network, args)
     check_names(network)
@@ -300,16 +300,13 @@ def main():
         for fault in network.faults:
             print(f"cannot be carried: {fault}", file=sys.stderr)
         return 1
-    write_case(args.case, network, demand, step, slots, args)
+    case_of(network, demand, step, slots, args).write(args.case)
     nodes = {end for link in network.links for end in (link.tail, link.head)}
     total = sum(units for _, units in demand)
     off = max((abs(link.capacity() / link.wanted - 1) for link in network.links), default=Fraction(0))
     print(f"{len(network.links)} links, {len(nodes)} nodes, {len(destinations)} destinations")
-    print(f"{units_text(total)} vehicles over {args.period} minutes, {slots} slots of {step} ms")
+    print(f"{short_vehicles(total)} vehicles over {args.period} minutes, {slots} slots of {step} ms")
     print(f"capacities are kept within {float(off * 100):.1f} percent")
     if network.inner:
         print(f"{float(network.inner):g} vehicles stay within a zone and are left out")
     return 0
-
-
-sys.exit(main())
