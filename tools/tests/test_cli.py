@@ -55,7 +55,9 @@ class Command(FolderTest):
         (network / "link.csv").write_bytes(b"")
         self.assertFault(self.run_tool("from-gmns", network, "case"), "link.csv")
         (network / "link.csv").write_bytes("link_id,from_node_id,to_node_id,length,free_speed,capacity\nStraße,1,2,100,50,900\n".encode("latin-1"))
-        self.assertFault(self.run_tool("from-gmns", network, "case"), "Latin-1")
+        done = self.run_tool("from-gmns", network, "case")  # read as the Latin-1 that it is: it is the name that is wrong
+        self.assertEqual((done.returncode, done.stdout), (1, ""), done.stderr)
+        self.assertRegex(done.stderr, r"^cannot be carried: link 'Straße': .*\n.*--rename.*\n$")
 
     @unittest.skipIf(os.geteuid() == 0, "root may read each folder")
     def test_a_folder_without_rights(self) -> None:
