@@ -25,9 +25,9 @@ fn are(found: Option<Four<(Name, u32)>>, want: &[(&str, u32)]) -> bool {
 #[test]
 fn cuts_at_the_first_space(rt: HostRuntime) {
     let (first, rest) = cut(b"a  b");
-    assert!(rt; first == b"a" && rest == Some(b" b".as_slice()));
+    assert!(rt; first == b"a".as_slice() && rest == Some(b" b".as_slice()));
     let (whole, none) = cut(b"ab");
-    assert!(rt; whole == b"ab" && none.is_none());
+    assert!(rt; whole == b"ab".as_slice() && none.is_none());
 }
 
 #[test]
