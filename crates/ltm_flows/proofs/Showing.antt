@@ -15,8 +15,10 @@ use Rattle.ltm_loading.specs.Loading.{IsFront, IsLoading}
 use Rattle.ltm_loading.specs.LoadingTotals.{HaveTotals}
 use Rattle.ltm_loading.specs.Ranges.{TotalsSmall}
 use Rattle.ltm_loading.specs.LoadingLaws.{NeverFall}
-use Rattle.ltm_loading.specs.Totals.{departed, arrived, entered_link, left_link, on_links}
+use Rattle.ltm_loading.specs.Totals.{generated, departed, arrived, entered_link, left_link, on_links}
 use Rattle.ltm_flows.specs.declared.loading.Loading.{Loading}
+use Rattle.ltm_flows.specs.declared.in_all.Totals.{Totals}
+use Rattle.ltm_flows.specs.InAll.{AreTotals, AreSums}
 use Rattle.ltm_loading.specs.Shaped.{IsShaped}
 use Rattle.ltm_flows.specs.Shown.{links_of, nodes_of, curves_of, last_of, ShowsCounts}
 
@@ -82,17 +84,21 @@ shown_entered s v c l h i x = at_last s v c l h (up_of i) (omega (arith, h.links
 pub shown_left : (s : Setting) (v : ℕ) (c : Counts) (l : Loading) → ShowsCounts s v c l → (i : ℕ) → i < links_of l → total_at (curves_of l) (down_of i) (last_of l) ≡ left_link s c i s.slots
 shown_left s v c l h i x = at_last s v c l h (down_of i) (omega (arith, h.links))
 
-pub shown_on_links : (s : Setting) (v : ℕ) (c : Counts) (l : Loading) → ShowsCounts s v c l →
-    sum_below (links_of l) (λ i. total_at (curves_of l) (up_of i) (last_of l) - total_at (curves_of l) (down_of i) (last_of l)) ≡ on_links s c s.slots
-shown_on_links s v c l h =
-    sum_below-same (links_of l) (λ i. total_at (curves_of l) (up_of i) (last_of l) - total_at (curves_of l) (down_of i) (last_of l)) (λ i. entered_link s c i s.slots - left_link s c i s.slots)
-    (λ i x. omega (arith, shown_entered s v c l h i x, shown_left s v c l h i x))
-    ∙ ap (λ (n : ℕ). sum_below n (λ i. entered_link s c i s.slots - left_link s c i s.slots)) h.links
-
-pub shown_departed : (s : Setting) (v : ℕ) (c : Counts) (l : Loading) → ShowsCounts s v c l → sum_below (nodes_of l) (λ u. total_at (curves_of l) (2 * links_of l + u) (last_of l)) ≡ departed s c s.slots
-shown_departed s v c l h =
-    sum_below-same (nodes_of l) (λ u. total_at (curves_of l) (2 * links_of l + u) (last_of l)) (λ u. total s.destinations (c (dep_of s u)) s.slots)
-    (λ u x.
-    let at : 2 * links_of l + u ≡ dep_of s u = omega (arith, h.links) in
-    ap (λ (g : ℕ). total_at (curves_of l) g (last_of l)) at ∙ at_last s v c l h (dep_of s u) (omega (arith, h.nodes)))
-    ∙ ap (λ (n : ℕ). sum_below n (λ u. total s.destinations (c (dep_of s u)) s.slots)) h.nodes
+-- sums of totals that are those of a setting's counts are its totals
+pub sums_are_totals : (s : Setting) (c : Counts) (totals : ℕ → ℕ → ℕ) (links nodes k produced : ℕ) (t : Totals) → links ≡ s.links → nodes ≡ s.nodes → produced ≡ generated s k → ((g : ℕ) → g < groups s → totals g k ≡ total s.destinations (c g) k) →
+    AreSums totals links nodes k produced t → AreTotals s c k t
+sums_are_totals s c totals links nodes k produced t l n made same sums =
+    let on : sum_below links (λ i. totals (up_of i) k - totals (down_of i) k) ≡ on_links s c k =
+    sum_below-same links (λ i. totals (up_of i) k - totals (down_of i) k) (λ i. entered_link s c i k - left_link s c i k) (λ i x. omega (arith, same (up_of i) (omega (arith, l)), same (down_of i) (omega (arith, l))))
+    ∙ ap (λ (z : ℕ). sum_below z (λ i. entered_link s c i k - left_link s c i k)) l in
+    let gone : sum_below nodes (λ u. totals (2 * links + u) k) ≡ departed s c k =
+    sum_below-same nodes (λ u. totals (2 * links + u) k) (λ u. total s.destinations (c (dep_of s u)) k)
+    (λ u x. let at : 2 * links + u ≡ dep_of s u = omega (arith, l) in ap (λ (g : ℕ). totals g k) at ∙ same (dep_of s u) (omega (arith, n)))
+    ∙ ap (λ (z : ℕ). sum_below z (λ u. total s.destinations (c (dep_of s u)) k)) n in
+    let at : 2 * links + nodes ≡ arr_of s = omega (arith, l, n) in
+    record {
+      generated = sums.generated ∙ made;
+      arrived = sums.arrived ∙ (ap (λ (g : ℕ). totals g k) at ∙ same (arr_of s) (omega arith));
+      on_links = sums.on_links ∙ on;
+      waiting = omega (arith, sums.waiting, made, gone);
+    }

@@ -1,18 +1,21 @@
 -- The counts of a node are written group after group.
-use Rattle.std.proofs.Common.{◌≡◌, ◌≢◌, ℕ, ◌+◌, ◌<◌, ◌≤◌, List, length, slice_index, cond, nat_lt, arith, refl, inl, inr, ap, sym, ◌∙◌}
+use Rattle.std.proofs.Common.{◌≡◌, ◌≢◌, ℕ, ◌+◌, ◌*◌, ◌<◌, ◌≤◌, List, length, slice_index, cond, nat_lt, arith, refl, inl, inr, ap, sym, ◌∙◌, subst}
+use Rattle.std.proofs.Math.Nat.{add-mul}
 use Rattle.std.proofs.lemmas.Bool.{cases_lt, cases_eq}
 use Rattle.std.proofs.lemmas.Bool.Decides.{nat_tests}
 use Rattle.ltm_curve.specs.Counts.{Counts}
 use Rattle.ltm_curve.specs.declared.curves.Curves.{Curves}
 use Rattle.ltm_curve.specs.Table.{counts_of, SetsRow}
 use Rattle.ltm_node.specs.Shape.{counts_width}
-use Rattle.ltm_node.specs.Outputs.{Outputs, left_after, entered_after, arrived_after}
+use Rattle.ltm_node.specs.declared.shape.NodeShape.{NodeShape}
+use Rattle.ltm_node.specs.Outputs.{Outputs, left_after, entered_after, arrived_after, arrived_after_place}
 use Rattle.ltm_loading.specs.Setting.{Setting, IsSetting}
 use Rattle.ltm_loading.specs.Groups.{down_of, dep_of, arr_of, groups}
 use Rattle.ltm_loading.specs.Pairs.{arms_of, arm_group, shape_at}
-use Rattle.ltm_loading.specs.NextPair.{Applies}
+use Rattle.ltm_loading.specs.NextPair.{IsOf, Applies}
+use Rattle.ltm_loading.specs.NodeGroups.{group_count, node_group, GroupsByRow, GroupsAreSet}
 use Rattle.ltm_loading.specs.ByPlace.{CountsByPlace}
-use Rattle.ltm_flows.specs.Applying.{out_group, SetsGroups, SetsSink}
+use Rattle.ltm_flows.specs.Applying.{out_group, in_row, SetsGroups, SetsSink}
 use Rattle.ltm_loading.specs.Shaped.{IsShaped}
 
 pub sets_none : (s : Setting) (k : ℕ) (group : ℕ → ℕ) (value : ℕ → ℕ → ℕ) (old : Counts) → SetsGroups s k 0 group value old old
@@ -122,3 +125,22 @@ applies_holds s u k o old left entered new law v x shape width arms outs sink = 
       sink.others g d y z (λ e. none (inr (inr e)))
       ∙ (outs.others g d y z (λ j l e. none (inr (inl (j, l, e)))) ∙ arms.others g d y z (λ i l e. none (inl (i, l, e))));
 }
+
+-- and so are the groups of a node in the order of its row, with the sink
+pub groups_apply : (s : Setting) (u k : ℕ) (o : Outputs) (old written new : Counts) → GroupsByRow → GroupsAreSet → IsSetting s → u < s.nodes → o.shape ≡ shape_at s u → length o.row ≡ counts_width o.shape →
+    SetsGroups s k (group_count s u) (node_group s u) (in_row s o.row) old written → SetsSink s u k (arrived_after o) written new → Applies s u k o.row old new
+groups_apply s u k o old written new by_row set v x shape width groups sink =
+    let last : arrived_after o ≡ slice_index o.row (group_count s u * s.destinations) =
+    ap (λ (z : NodeShape). slice_index o.row (arrived_after_place z)) shape ∙ ap (λ (z : ℕ). slice_index o.row z) (sym (add-mul (arms_of s u) (s.outs u) s.destinations)) in
+    record {
+      given = (by_row s new u k).1 o.row (width ∙ ap counts_width shape) (record {
+        groups = λ i d l m.
+            let there : node_group s u i < arr_of s = set.there s u i v x l in
+            sym (sink.others (node_group s u i) d (omega (arith, there)) m (λ e. omega (arith, e.0, there)) ∙ groups.here i d l m);
+        arrived = sym (sink.here ∙ last);
+      });
+      later = λ g d j y z w ne. sink.later g d j y z w ne ∙ groups.later g d j y z w ne;
+      others = λ g d y z none.
+          sink.others g d y z (λ e. none (inr (inr e)))
+          ∙ groups.others g d y z (λ i l e. none (subst (λ (h : ℕ). IsOf s u h d) e (set.set s u i d l)));
+    }

@@ -1,5 +1,5 @@
 -- What of a node's counts is written.
-use Rattle.std.specs.Prelude.{◌≡◌, ◌≢◌, ℕ, ◌+◌, ◌<◌, ◌≤◌, Some}
+use Rattle.std.specs.Prelude.{◌≡◌, ◌≢◌, ℕ, ◌+◌, ◌*◌, ◌<◌, ◌≤◌, List, Some, slice_index}
 use Rattle.ltm_curve.specs.Counts.{Counts}
 use Rattle.ltm_loading.specs.Setting.{Setting}
 use Rattle.ltm_loading.specs.Groups.{up_of, arr_of, groups}
@@ -8,6 +8,10 @@ use Rattle.ltm_loading.specs.Pairs.{arrived_by}
 -- the group of what has entered an out-link
 abbrev pub out_group : Setting → ℕ → ℕ → ℕ
 out_group s u j = up_of (s.out_link u j)
+
+-- the counts of the groups of a node in its row
+abbrev pub in_row : Setting → List ℕ → ℕ → ℕ → ℕ
+in_row s row i d = slice_index row (i * s.destinations + d)
 
 -- what has been counted of some groups at a boundary, and what moves
 abbrev pub with_moves : Counts → ℕ → (ℕ → ℕ) → (ℕ → ℕ → ℕ) → ℕ → ℕ → ℕ

@@ -1,71 +1,44 @@
 //! The counts of a node are written into the curves of a loading.
-ghost use Rattle.std.specs.Prelude.{◌≡◌, ◌≤◌, ◌<◌, ◌+◌, ◌^◌, ℕ, length, slice_index, None};
+ghost use Rattle.std.specs.Prelude.{◌≡◌, ◌≤◌, ◌<◌, ◌+◌, ◌^◌, ℕ, slice_index, None};
 ghost use Rattle.ltm_curve.specs.Table.{counts_of};
-ghost use Rattle.ltm_node.specs.Outputs.{left_after, entered_after, arrived_after};
-ghost use Rattle.ltm_loading.specs.Setting.{IsSetting};
-ghost use Rattle.ltm_loading.specs.Pairs.{arms_of, arm_group, shape_at};
+ghost use Rattle.ltm_node.specs.Outputs.{arrived_after};
 ghost use Rattle.ltm_loading.specs.NextPair.{Applies};
-ghost use Rattle.ltm_setting.specs.Setting.{setting_of};
-ghost use Rattle.ltm_flows.specs.Applying.{out_group, SetsGroups, SetsSink};
+ghost use Rattle.ltm_loading.specs.NodeGroups.{group_count, node_group};
+ghost use Rattle.ltm_loading.specs.Pairs.{shape_at};
 ghost use Rattle.ltm_loading.specs.Shaped.{IsShaped};
+ghost use Rattle.ltm_setting.specs.Setting.{setting_of};
+ghost use Rattle.ltm_flows.specs.Applying.{in_row, SetsGroups, SetsSink};
 
 use ltm_curve::Curves;
-use ltm_loading::{counts_by_place, down_of, up_of};
+use ltm_loading::{groups_are_set, groups_by_row};
 use ltm_node::NodeOutputs;
 use ltm_scenario::Scenario;
-use ltm_setting::{arr_of, dep_of, in_links, is_setting, link_count, out_links, own, slot_count};
+use ltm_setting::{arr_of, is_setting, node_groups, own, slot_count};
 use ltm_units::{NodeId, Pair};
 
-/// Writes what has left each arm: each in-link, then the origin.
-fn write_arms(
+/// Writes the counts of each group of a node.
+fn write_groups(
     scenario: &Scenario,
     curves: &mut Curves,
     node: NodeId,
     boundary: u32,
     outputs: &NodeOutputs,
 )
-    requires setting { IsSetting (setting_of scenario.now) }
     requires node { node.0 < (setting_of scenario.now).nodes }
     requires boundary { boundary ≤ (setting_of scenario.now).slots }
     requires shape { IsShaped (setting_of scenario.now) curves.old }
     requires outputs { outputs.now.shape ≡ shape_at (setting_of scenario.now) node.0 }
     requires small { (i : ℕ) → slice_index outputs.now.row i < 2 ^ 31 }
     ensures shape { IsShaped (setting_of scenario.now) curves.new }
-    ensures sets { SetsGroups (setting_of scenario.now) boundary (arms_of (setting_of scenario.now) node.0)
-        (arm_group (setting_of scenario.now) node.0) (left_after outputs.now) (counts_of curves.old) (counts_of curves.new) }
+    ensures sets { SetsGroups (setting_of scenario.now) boundary (group_count (setting_of scenario.now) node.0)
+        (node_group (setting_of scenario.now) node.0) (in_row (setting_of scenario.now) outputs.now.row)
+        (counts_of curves.old) (counts_of curves.new) }
 {
-    let _links = link_count(scenario);
-    let links = in_links(scenario, node);
-    for (arm, link) in links.iter().enumerate() {
-        curves.set_row(down_of(*link), boundary, outputs.left_row(arm as u32));
-    }
-    if !out_links(scenario, node).is_empty() {
-        let origin = outputs.left_row(links.len() as u32);
-        curves.set_row(dep_of(scenario, node), boundary, origin);
-    }
-}
-
-/// Writes what has entered each out-link.
-fn write_outs(
-    scenario: &Scenario,
-    curves: &mut Curves,
-    node: NodeId,
-    boundary: u32,
-    outputs: &NodeOutputs,
-)
-    requires setting { IsSetting (setting_of scenario.now) }
-    requires node { node.0 < (setting_of scenario.now).nodes }
-    requires boundary { boundary ≤ (setting_of scenario.now).slots }
-    requires shape { IsShaped (setting_of scenario.now) curves.old }
-    requires outputs { outputs.now.shape ≡ shape_at (setting_of scenario.now) node.0 }
-    requires small { (i : ℕ) → slice_index outputs.now.row i < 2 ^ 31 }
-    ensures shape { IsShaped (setting_of scenario.now) curves.new }
-    ensures sets { SetsGroups (setting_of scenario.now) boundary ((setting_of scenario.now).outs node.0)
-        (out_group (setting_of scenario.now) node.0) (entered_after outputs.now) (counts_of curves.old) (counts_of curves.new) }
-{
-    let _links = link_count(scenario);
-    for (out, link) in out_links(scenario, node).iter().enumerate() {
-        curves.set_row(up_of(*link), boundary, outputs.entered_row(out as u32));
+    is_setting(scenario);
+    groups_are_set();
+    let groups = node_groups(scenario, node);
+    for (place, group) in groups.as_slice().iter().enumerate() {
+        curves.set_row(*group, boundary, outputs.group_row(place as u32));
     }
 }
 
@@ -97,11 +70,11 @@ pub fn apply(scenario: &Scenario, curves: &mut Curves, pair: Pair, outputs: &Nod
         (counts_of curves.old) (counts_of curves.new) }
 {
     is_setting(scenario);
-    counts_by_place();
+    groups_by_row();
+    groups_are_set();
     let _slots = slot_count(scenario);
     let _shape = outputs.shape();
     let boundary = pair.slot + 1;
-    write_arms(scenario, curves, pair.node, boundary, outputs);
-    write_outs(scenario, curves, pair.node, boundary, outputs);
+    write_groups(scenario, curves, pair.node, boundary, outputs);
     write_sink(scenario, curves, pair.node, boundary, outputs.arrived());
 }

@@ -3,7 +3,9 @@
 //! In each slot the step of every node is made from what is counted by the beginning of the slot, and its counts are
 //! written at the end of the slot. The order of the nodes is of no matter, since a link takes at least a slot to pass. It
 //! stands on `ltm_inputs` and `ltm_node`. A loading takes the memory of its counts once; a pair of node and
-//! slot takes none. Change it here when the order of work changes, or what a loading is summed up to.
+//! slot takes none. `apply`, for a caller that has solved a node with its counts, and `totals`, which is what a `Loading`
+//! tells of itself, are for callers outside this repository. Change it here when the order of work changes, or what a
+//! loading is summed up to.
 #![tactic(auto)]
 
 mod applying;
@@ -13,6 +15,7 @@ mod in_all;
 mod loading;
 mod moves;
 mod summing;
+mod sums;
 mod tables;
 
 pub use applying::apply;

@@ -12,9 +12,10 @@ ghost use Rattle.ltm_setting.specs.Setting.{setting_of};
 ghost use Rattle.ltm_loading.specs.Shaped.{IsShaped};
 
 use crate::in_all::Totals;
+use crate::sums::sum_up;
 use crate::tables::{free_times, generated_by_boundary, renew_generated, write_free_times};
 use ltm_curve::{Changed, Curves, TotalCurves};
-use ltm_loading::{down_of, never_fall, totals_small, up_of};
+use ltm_loading::{arr_behind, down_of, never_fall, totals_small, up_of};
 use ltm_scenario::Scenario;
 use ltm_setting::{is_setting, link_count, node_count, step};
 use ltm_units::{LinkId, Millis, NoMemory, Units};
@@ -74,7 +75,7 @@ impl Loading {
       SameLoading,
     };
     ghost use Rattle.ltm_flows.specs.InAll.{AreTotals};
-    ghost use Rattle.ltm_flows.specs.Counted.{arrived_of, entered_of, left_of, on_links_of, departed_of, SumsUp};
+    ghost use Rattle.ltm_flows.specs.Counted.{arrived_of, entered_of, left_of, SumsUp};
 
     /// The loading of a scenario, from its finished curves, of which the totals are kept.
     pub fn create(
@@ -236,7 +237,8 @@ impl Loading {
         ensures shown { (s : Setting) (version : ℕ) (c : Counts) → ShowsCounts s version c self.now
             → result.0 ≡ arrived s c boundary }
     {
-        Units(self.curves.total(2 * self.links + self.nodes, boundary))
+        let group = arr_behind(self.links, self.nodes);
+        Units(self.curves.total(group, boundary))
     }
 
     /// What has entered a link by the last boundary.
@@ -259,32 +261,6 @@ impl Loading {
         Units(self.curves.total(down_of(link), self.curves.slots()))
     }
 
-    /// What is on the links at the last boundary.
-    fn on_links(&self) -> u64
-        ensures { result ≡ on_links_of self.now }
-    {
-        let last = self.curves.slots();
-        let mut sum = 0;
-        for link in 0..self.links {
-            let entered = self.curves.total(up_of(LinkId(link)), last);
-            let left = self.curves.total(down_of(LinkId(link)), last);
-            sum += entered.saturating_sub(left);
-        }
-        sum
-    }
-
-    /// What has left the origins by the last boundary.
-    fn departed(&self) -> u64
-        ensures { result ≡ departed_of self.now }
-    {
-        let last = self.curves.slots();
-        let mut sum = 0;
-        for node in 0..self.nodes {
-            sum += self.curves.total(2 * self.links + node, last);
-        }
-        sum
-    }
-
     /// What the loading comes to in all at the last boundary.
     pub fn totals(&self) -> Totals
         ensures counted { SumsUp self.now result }
@@ -292,12 +268,7 @@ impl Loading {
             → AreTotals s c s.slots result }
     {
         let last = self.slots();
-        let generated = self.generated(last);
-        Totals {
-            generated,
-            arrived: self.arrived(last),
-            on_links: Units(self.on_links()),
-            waiting: Units(generated.0.saturating_sub(self.departed())),
-        }
+        let generated = self.generated(last).0;
+        sum_up(&self.curves, self.links, self.nodes, last, generated)
     }
 }

@@ -9,17 +9,6 @@ use Rattle.ltm_loading.specs.Pairs.{grid, arms_of}
 use Rattle.ltm_inputs.specs.Parts.{link_at}
 use Rattle.ltm_inputs.proofs.Lists.{grid-same, grid-more, list_below-same}
 
--- a node with out-links, and one without
-pub some_out : (empty : Bool) (n m : ℕ) → empty ≡ false → empty ≡ (n == 0) → n ≡ m → 0 < m
-some_out empty n m is told count = grind (arith, nat_tests)
-
-pub no_out : (empty : Bool) (n m : ℕ) → empty ≡ true → empty ≡ (n == 0) → n ≡ m → m ≡ 0
-no_out empty n m is told count = grind (arith, nat_tests)
-
--- the link that a loop is at
-pub link_item : (links : List LinkId) (i : ℕ) → i < length links → (get_or links i (record { 0 = 0 })).0 ≡ link_at links i
-link_item links i l = sym (get_or-map (λ (link : LinkId). link.0) links i (record { 0 = 0 }) 0 l)
-
 -- a table of the arms, from that of the in-links
 pub arms_alone : (n w : ℕ) (s : Setting) (u : ℕ) (f g : ℕ → ℕ → ℕ) → n ≡ s.ins u → s.outs u ≡ 0 → ((i d : ℕ) → i < s.ins u → d < w → g i d ≡ f i d) → grid n w g ≡ grid (arms_of s u) w f
 arms_alone n w s u f g ins none same =

@@ -1,80 +1,49 @@
 //! What has been counted at a node by the beginning of a slot.
-ghost use Rattle.std.specs.Prelude.{◌≡◌, ℕ, ◌+◌, ◌*◌, ◌<◌, ◌≤◌, All, length};
+ghost use Rattle.std.specs.Prelude.{◌≡◌, ℕ, ◌*◌, ◌<◌, ◌≤◌, All, length, slice_index};
 ghost use Rattle.ltm_curve.specs.Table.{groups_of, destinations_of, slots_of, counts_of, HasShape};
-ghost use Rattle.ltm_loading.specs.Groups.{up_of, groups};
-ghost use Rattle.ltm_loading.specs.Pairs.{arms_of, arrived_by, grid};
+ghost use Rattle.ltm_loading.specs.Groups.{groups};
+ghost use Rattle.ltm_loading.specs.NodeGroups.{group_count, node_group};
+ghost use Rattle.ltm_loading.specs.Pairs.{arrived_by, grid};
 ghost use Rattle.ltm_setting.specs.Setting.{setting_of};
-ghost use Rattle.ltm_inputs.specs.Parts.{link_at, left_part, entered_part};
 
 use crate::numbers::put_numbers;
 use ltm_curve::Curves;
-use ltm_loading::up_of;
+use ltm_loading::groups_are_set;
 use ltm_scenario::Scenario;
-use ltm_setting::{arr_of, dep_of, in_links, link_count, out_links, own};
-use ltm_units::{LinkId, Pair};
+use ltm_setting::{arr_of, is_setting, node_groups, own};
+use ltm_units::Pair;
 
-/// The end of a link at which units enter it.
-const ENTERED: u32 = 0;
-
-/// The end of a link at which units leave it.
-const LEFT: u32 = 1;
-
-/// Writes what has been counted at one end of some links.
+/// Writes the counts of some groups at a boundary, one group after another.
 #[inline]
-fn put_links(curves: &Curves, links: &[LinkId], end: u32, boundary: u32, into: &mut [u64])
-    requires links { All (λ link. link.0 ≤ 4000) links.now }
-    requires end { end ≤ 1 }
-    requires groups { All (λ link. up_of link.0 + end < groups_of curves.now) links.now }
+fn put_groups(curves: &Curves, groups: &[u32], boundary: u32, into: &mut [u64])
+    requires groups { All (λ group. group < groups_of curves.now) groups.now }
     requires boundary { boundary ≤ slots_of curves.now }
-    requires room { length into.old ≡ length links.now * destinations_of curves.now }
-    ensures { into.new ≡ grid (length links.now) (destinations_of curves.now)
-        (λ i d. counts_of curves.now (up_of (link_at links.now i) + end) d boundary) }
+    requires room { length into.old ≡ length groups.now * destinations_of curves.now }
+    ensures { into.new ≡ grid (length groups.now) (destinations_of curves.now)
+        (λ i d. counts_of curves.now (slice_index groups.now i) d boundary) }
 {
     let destinations = curves.destinations() as usize;
     let mut place = 0;
-    for link in links {
-        let row = curves.row(up_of(*link) + end, boundary);
+    for group in groups {
+        let row = curves.row(*group, boundary);
         put_numbers(row, &mut into[place..place + destinations]);
         place += destinations;
     }
 }
 
-/// Writes what has left each arm of a node by the beginning of a slot.
-pub(crate) fn put_left(scenario: &Scenario, curves: &Curves, pair: Pair, into: &mut [u64])
+/// Writes what has left each arm of a node and what has entered each out-link by the beginning of a slot.
+pub(crate) fn put_flows_counted(scenario: &Scenario, curves: &Curves, pair: Pair, into: &mut [u64])
     requires node { pair.node.0 < (setting_of scenario.now).nodes }
     requires slot { pair.slot ≤ (setting_of scenario.now).slots }
     requires curves { HasShape curves.now (groups (setting_of scenario.now)) (setting_of scenario.now).destinations (setting_of scenario.now).slots }
-    requires room { length into.old ≡ arms_of (setting_of scenario.now) pair.node.0 * (setting_of scenario.now).destinations }
-    ensures { into.new ≡ left_part (setting_of scenario.now) (counts_of curves.now) pair.node.0 pair.slot }
+    requires room { length into.old ≡ group_count (setting_of scenario.now) pair.node.0 * (setting_of scenario.now).destinations }
+    ensures { into.new ≡ grid (group_count (setting_of scenario.now) pair.node.0) (setting_of scenario.now).destinations
+        (λ i d. counts_of curves.now (node_group (setting_of scenario.now) pair.node.0 i) d pair.slot) }
 {
-    let _few = link_count(scenario);
-    let links = in_links(scenario, pair.node);
-    let (of_links, of_origin) = into.split_at_mut(links.len() * curves.destinations() as usize);
-    put_links(curves, links, LEFT, pair.slot, of_links);
-    if !out_links(scenario, pair.node).is_empty() {
-        put_numbers(
-            curves.row(dep_of(scenario, pair.node), pair.slot),
-            of_origin,
-        );
-    }
-}
-
-/// Writes what has entered each out-link of a node by the beginning of a slot.
-pub(crate) fn put_entered(scenario: &Scenario, curves: &Curves, pair: Pair, into: &mut [u64])
-    requires node { pair.node.0 < (setting_of scenario.now).nodes }
-    requires slot { pair.slot ≤ (setting_of scenario.now).slots }
-    requires curves { HasShape curves.now (groups (setting_of scenario.now)) (setting_of scenario.now).destinations (setting_of scenario.now).slots }
-    requires room { length into.old ≡ (setting_of scenario.now).outs pair.node.0 * (setting_of scenario.now).destinations }
-    ensures { into.new ≡ entered_part (setting_of scenario.now) (counts_of curves.now) pair.node.0 pair.slot }
-{
-    let _few = link_count(scenario);
-    put_links(
-        curves,
-        out_links(scenario, pair.node),
-        ENTERED,
-        pair.slot,
-        into,
-    );
+    is_setting(scenario);
+    groups_are_set();
+    let groups = node_groups(scenario, pair.node);
+    put_groups(curves, groups.as_slice(), pair.slot, into);
 }
 
 /// What has arrived at a node by the beginning of a slot: 0 at a node that is no destination.

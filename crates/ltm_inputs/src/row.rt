@@ -8,11 +8,12 @@ ghost use Rattle.ltm_sending.specs.Front.{IsAtFront};
 ghost use Rattle.ltm_inputs.specs.Parts.{limit_parts, uncounted_parts};
 
 use crate::capacities::put_capacity;
-use crate::counts::{arrived, put_entered, put_left};
+use crate::counts::{arrived, put_flows_counted};
 use crate::numbers::put_zeros;
 use crate::sending::put_supply;
 use crate::weights::put_weights;
 use ltm_curve::Curves;
+use ltm_loading::groups_by_row;
 use ltm_node::NodeShape;
 use ltm_scenario::Scenario;
 use ltm_units::Pair;
@@ -57,10 +58,9 @@ pub(crate) fn put_counts(
     requires room { length into.old ≡ counts_width shape }
     ensures { into.new ≡ count_row (setting_of scenario.now) (counts_of curves.now) pair.node.0 pair.slot }
 {
+    groups_by_row();
     let (flows, come) = into.split_at_mut(shape.arrived_after_place());
-    let (left, entered) = flows.split_at_mut(shape.counts_begin());
-    put_left(scenario, curves, pair, left);
-    put_entered(scenario, curves, pair, entered);
+    put_flows_counted(scenario, curves, pair, flows);
     come[0] = arrived(scenario, curves, pair);
 }
 

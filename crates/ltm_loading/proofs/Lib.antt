@@ -23,3 +23,4 @@ pub mod PairSums
 pub mod DifferingLaws
 pub mod OneRoad
 pub mod Uncounted
+pub mod NodeGroups

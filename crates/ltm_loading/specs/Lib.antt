@@ -16,3 +16,4 @@ pub mod Reads
 pub mod Differing
 pub mod OneRoad
 pub mod Uncounted
+pub mod NodeGroups

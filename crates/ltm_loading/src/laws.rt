@@ -21,6 +21,7 @@ ghost use Rattle.ltm_loading.specs.Ranges.{
 ghost use Rattle.ltm_loading.specs.NextPair.{NextPair, NextSlot};
 ghost use Rattle.ltm_loading.specs.Uncounted.{StepByMoves, UncountedInRange};
 ghost use Rattle.ltm_loading.specs.ByPlace.{InputsByPlace, CountsByPlace};
+ghost use Rattle.ltm_loading.specs.NodeGroups.{GroupsByRow, GroupsAreSet};
 ghost use Rattle.ltm_loading.specs.Ready.{LinksAreReady, OriginsAreReady};
 ghost use Rattle.ltm_loading.specs.Reads.{
   InputsReadOnly,
@@ -112,6 +113,17 @@ pub fn counts_small()
 /// A number that the node step of a pair at the front gives is at most 160,000 units for each slot up to the pair's.
 pub fn outputs_small()
     ensures { OutputsSmall }
+{}
+
+/// In the row of a node's counts those of each group of the node stand together, in the order of its groups, and what has
+/// arrived stands last; no other row of that width has them so.
+pub fn groups_by_row()
+    ensures { GroupsByRow }
+{}
+
+/// The groups of a node are different groups, and with what has arrived at the node they are what its pairs set.
+pub fn groups_are_set()
+    ensures { GroupsAreSet }
 {}
 
 /// The inputs of a pair are the same for counts that agree at all that the pair reads, up to its slot.

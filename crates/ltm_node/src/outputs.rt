@@ -116,6 +116,19 @@ impl NodeOutputs {
         &self.counts[from..from + self.shape.destinations as usize]
     }
 
+    /// The counts of one of the groups of the node by the end of the slot, for each destination, by its place in the row:
+    /// what has left an arm, or behind all arms what has entered an out-link.
+    #[inline]
+    pub fn group_row(&self, place: u32) -> &[u64]
+        requires { place < self.now.shape.arms + self.now.shape.outs }
+        ensures count { length result.now ≡ self.now.shape.destinations }
+        ensures counts { (d : ℕ) → d < self.now.shape.destinations
+            → slice_index result.now d ≡ slice_index self.now.row (place * self.now.shape.destinations + d) }
+    {
+        let from = self.shape.group_after_place(place);
+        &self.counts[from..from + self.shape.destinations as usize]
+    }
+
     /// What has arrived at the node by the end of the slot.
     #[inline]
     pub fn arrived(&self) -> u64

@@ -205,6 +205,18 @@ impl NodeShape {
         self.weights_begin() + destination as usize * self.outs as usize
     }
 
+    /// Where the counts of an arm, or behind all arms of an out-link, begin in the row of the outputs.
+    #[inline]
+    #[tactic(auto, using(crate::proofs::Groups::group_within))]
+    pub(crate) fn group_after_place(self, place: u32) -> usize
+        requires fits { counts_width self < 2 ^ 63 }
+        requires place { place < self.arms + self.outs }
+        ensures place { result ≡ place * self.destinations }
+        ensures within { result + self.destinations < counts_width self }
+    {
+        place as usize * self.destinations as usize
+    }
+
     /// Where the count that has left an arm for a destination stands in the row of the outputs. The place behind an arm's last
     /// destination, where its counts end, may be asked for too.
     #[inline]

@@ -1,3 +1,5 @@
 pub mod InForce
 pub mod AreSettings
 pub mod Totals
+pub mod Links
+pub mod GroupLists

@@ -5,6 +5,7 @@ ghost use Rattle.ltm_loading.specs.Groups.{dep_of, arr_of, groups};
 ghost use Rattle.ltm_setting.specs.Setting.{setting_of};
 
 use crate::readers::{link_count, node_count};
+use ltm_loading::{arr_behind, dep_behind};
 use ltm_scenario::Scenario;
 use ltm_units::NodeId;
 
@@ -17,7 +18,7 @@ pub fn dep_of(scenario: &Scenario, node: NodeId) -> u32
     ensures small { result ≤ 16000 }
 {
     let _nodes = node_count(scenario);
-    2 * link_count(scenario) + node.0
+    dep_behind(link_count(scenario), node)
 }
 
 /// The group of what has arrived.
@@ -26,7 +27,7 @@ pub fn arr_of(scenario: &Scenario) -> u32
     ensures group { result ≡ arr_of (setting_of scenario.now) }
     ensures small { result ≤ 16000 }
 {
-    2 * link_count(scenario) + node_count(scenario)
+    arr_behind(link_count(scenario), node_count(scenario))
 }
 
 /// How many groups there are.

@@ -2,13 +2,14 @@
 //!
 //! A loading is defined over a `Setting`, a record of numbers, and knows no tables and no names. The word `setting_of`
 //! makes one of a scenario's data, and the calls here read each of its numbers from the tables of a `Scenario`, on which
-//! this crate stands. Each costs an access or two and takes no memory. What is read is a setting whatever the scenario
+//! this crate stands, and list the groups of a node in the order of its row (`NodeGroups`). Each costs an access or two and takes no memory. What is read is a setting whatever the scenario
 //! (`is_setting`), so every law of loadings holds of it. Change it here where a loading is to read something more.
 #![tactic(auto)]
 
 mod groups;
 mod laws;
 mod readers;
+mod row_groups;
 
 pub use groups::{arr_of, dep_of, group_count};
 pub use laws::{is_setting, loadings_of_scenarios, scenarios_are_settings};
@@ -17,3 +18,4 @@ pub use readers::{
     node_count, origin_capacity, out_links, own, produced, produced_total, slot_count, step, tail,
     weights,
 };
+pub use row_groups::{NodeGroups, node_groups};

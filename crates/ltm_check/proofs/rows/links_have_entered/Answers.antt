@@ -3,7 +3,7 @@ use Rattle.std.proofs.lemmas.Bool.{cases_lt}
 use Rattle.ltm_curve.specs.Table.{counts_of}
 use Rattle.ltm_loading.specs.Groups.{up_of}
 use Rattle.ltm_setting.specs.Setting.{setting_of}
-use Rattle.ltm_inputs.proofs.Arms.{link_item}
+use Rattle.ltm_setting.proofs.Links.{link_item}
 use Rattle.ltm_check.specs.Moves.{enters}
 use Rattle.ltm_check.proofs.rows.links_have_entered.Goals as goal
 

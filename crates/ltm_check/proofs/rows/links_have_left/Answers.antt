@@ -4,7 +4,7 @@ use Rattle.ltm_curve.specs.Table.{counts_of}
 use Rattle.ltm_loading.specs.Groups.{down_of, dep_of}
 use Rattle.ltm_loading.specs.Pairs.{arm_group}
 use Rattle.ltm_setting.specs.Setting.{setting_of}
-use Rattle.ltm_inputs.proofs.Arms.{link_item}
+use Rattle.ltm_setting.proofs.Links.{link_item}
 use Rattle.ltm_flows.proofs.Writing.{pick_first}
 use Rattle.ltm_check.specs.Moves.{leaves}
 use Rattle.ltm_check.proofs.rows.links_have_left.Goals as goal

@@ -5,7 +5,7 @@ use Rattle.ltm_node.specs.Outputs.{left_after, left_after_place}
 use Rattle.ltm_loading.specs.Pairs.{arms_of, arm_group}
 use Rattle.ltm_loading.specs.Groups.{dep_of, groups}
 use Rattle.ltm_setting.specs.Setting.{setting_of}
-use Rattle.ltm_inputs.proofs.Arms.{some_out}
+use Rattle.ltm_setting.proofs.Links.{some_out}
 use Rattle.ltm_flows.proofs.Writing.{sets_none, sets_next}
 use Rattle.ltm_desk.specs.Counted.{counted_row, counted}
 use Rattle.ltm_desk.specs.Waking.{row_differs}

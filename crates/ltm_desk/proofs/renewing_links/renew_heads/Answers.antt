@@ -5,7 +5,7 @@ use Rattle.ltm_node.specs.Outputs.{entered_after, entered_after_place}
 use Rattle.ltm_loading.specs.Groups.{up_of, groups}
 use Rattle.ltm_units.specs.Sums.{sum_below}
 use Rattle.ltm_setting.specs.Setting.{setting_of}
-use Rattle.ltm_inputs.proofs.Arms.{link_item}
+use Rattle.ltm_setting.proofs.Links.{link_item}
 use Rattle.ltm_flows.specs.Applying.{out_group}
 use Rattle.ltm_flows.proofs.Writing.{sets_next, still_shaped, out_there, out_apart}
 use Rattle.ltm_desk.specs.Counted.{counted_row, counted}

@@ -5,7 +5,7 @@ use Rattle.ltm_node.specs.Outputs.{left_after, left_after_place}
 use Rattle.ltm_loading.specs.Groups.{down_of, dep_of, groups}
 use Rattle.ltm_loading.specs.Pairs.{arms_of, arm_group}
 use Rattle.ltm_setting.specs.Setting.{setting_of}
-use Rattle.ltm_inputs.proofs.Arms.{link_item}
+use Rattle.ltm_setting.proofs.Links.{link_item}
 use Rattle.ltm_flows.proofs.Writing.{sets_next, still_shaped, arm_there, arm_apart, pick_first}
 use Rattle.ltm_desk.proofs.Wakings.{IsArm, arms_value, arms_cells, arms_wake}
 use Rattle.ltm_desk.specs.Counted.{counted_row, counted}

@@ -1,21 +1,16 @@
-use Rattle.std.proofs.Common.{◌∙◌, ◌≡◌, ◌+◌, ◌*◌, ℕ, arith, ap}
+use Rattle.std.proofs.Common.{◌∙◌, ◌≡◌, ◌<◌, ℕ, arith, ap, subst}
 use Rattle.ltm_curve.specs.declared.curves.Curves.{Curves}
-use Rattle.ltm_curve.specs.Table.{total_of}
-use Rattle.ltm_loading.specs.Groups.{arr_of}
+use Rattle.ltm_curve.specs.Table.{counts_of, total_of}
+use Rattle.ltm_loading.specs.Totals.{generated}
 use Rattle.ltm_setting.specs.Setting.{setting_of}
-use Rattle.ltm_flows.proofs.Showing.{shaped_total}
+use Rattle.ltm_flows.specs.InAll.{AreSums}
+use Rattle.ltm_flows.proofs.Showing.{shaped_total, sums_are_totals}
 use Rattle.ltm_flows.proofs.at_end.totals_at_end.Goals as goal
 
 pub returns : goal.returns
 returns c =
     let s = setting_of c.args.scenario.now in
     let curves : Curves = c.args.curves.now in
-    let group : c.arr_of.result ≡ arr_of s = c.arr_of.ensures.group in
-    record {
-      generated = c.generated_at_end-generated.ensures;
-      arrived = c.total-arrived.ensures.total
-          ∙ (ap (λ (g : ℕ). total_of curves g c.slot_count-last.result) group
-          ∙ (ap (λ (k : ℕ). total_of curves (arr_of s) k) c.slot_count-last.ensures.value ∙ shaped_total s curves (arr_of s) s.slots c.requires));
-      on_links = c.on_links_at_end.ensures;
-      waiting = omega (arith, c.saturating_sub.ensures, c.generated_at_end-generated.ensures, c.departed_at_end-departed.ensures);
-    }
+    let sums = subst (λ (k : ℕ). AreSums (total_of curves) c.link_count-links.result c.node_count-nodes.result k c.generated_at_end-generated.result c.sum_up.result) c.slot_count.ensures.value c.sum_up.ensures in
+    sums_are_totals s (counts_of curves) (total_of curves) c.link_count-links.result c.node_count-nodes.result s.slots c.generated_at_end-generated.result c.sum_up.result c.link_count-links.ensures.value c.node_count-nodes.ensures.value c.generated_at_end-generated.ensures
+    (λ g x. shaped_total s curves g s.slots c.requires) sums

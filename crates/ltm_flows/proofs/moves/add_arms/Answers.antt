@@ -5,7 +5,7 @@ use Rattle.ltm_node.specs.Outputs.{left_after}
 use Rattle.ltm_loading.specs.Groups.{down_of, dep_of}
 use Rattle.ltm_loading.specs.Pairs.{arms_of, arm_group}
 use Rattle.ltm_setting.specs.Setting.{setting_of}
-use Rattle.ltm_inputs.proofs.Arms.{some_out, link_item}
+use Rattle.ltm_setting.proofs.Links.{some_out, link_item}
 use Rattle.ltm_flows.specs.Applying.{with_moves, SetsGroups}
 use Rattle.ltm_flows.proofs.Adding.{adds_next, shaped_by, sum_small}
 use Rattle.ltm_flows.proofs.Writing.{sets_none, arm_there, arm_apart, pick_first, pick_second}

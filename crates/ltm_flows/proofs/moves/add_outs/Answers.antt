@@ -3,7 +3,7 @@ use Rattle.ltm_curve.specs.Table.{counts_of}
 use Rattle.ltm_node.specs.declared.shape.NodeShape.{NodeShape}
 use Rattle.ltm_node.specs.Outputs.{entered_after}
 use Rattle.ltm_setting.specs.Setting.{setting_of}
-use Rattle.ltm_inputs.proofs.Arms.{link_item}
+use Rattle.ltm_setting.proofs.Links.{link_item}
 use Rattle.ltm_flows.specs.Applying.{out_group}
 use Rattle.ltm_flows.proofs.Adding.{adds_next, shaped_by, sum_small}
 use Rattle.ltm_flows.proofs.Writing.{sets_none, out_there, out_apart}

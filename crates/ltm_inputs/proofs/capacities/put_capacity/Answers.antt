@@ -4,7 +4,7 @@ use Rattle.std.proofs.Math.ListN.{length-set}
 use Rattle.ltm_loading.specs.Pairs.{arms_of, arm_capacity}
 use Rattle.ltm_loading.proofs.Picks.{pick_first, pick_second}
 use Rattle.ltm_setting.specs.Setting.{setting_of}
-use Rattle.ltm_inputs.proofs.Arms.{some_out, no_out}
+use Rattle.ltm_setting.proofs.Links.{some_out, no_out}
 use Rattle.ltm_inputs.proofs.Filling.{set_next}
 use Rattle.ltm_inputs.proofs.capacities.put_capacity.Goals as goal
 

@@ -6,7 +6,7 @@ use Rattle.ltm_curve.specs.Table.{counts_of}
 use Rattle.ltm_loading.specs.Flows.{link_sending}
 use Rattle.ltm_setting.specs.Setting.{setting_of}
 use Rattle.ltm_inputs.specs.Parts.{link_at}
-use Rattle.ltm_inputs.proofs.Arms.{link_item}
+use Rattle.ltm_setting.proofs.Links.{link_item}
 use Rattle.ltm_inputs.proofs.Filling.{row_fits, filled_more}
 use Rattle.ltm_inputs.proofs.sending.put_links.Goals as goal
 

@@ -7,7 +7,8 @@ use Rattle.ltm_loading.specs.Pairs.{arms_of, sending, grid}
 use Rattle.ltm_loading.proofs.Picks.{pick_first, pick_second}
 use Rattle.ltm_setting.specs.Setting.{setting_of}
 use Rattle.ltm_inputs.specs.Parts.{link_at}
-use Rattle.ltm_inputs.proofs.Arms.{some_out, no_out, arms_alone, arms_origin}
+use Rattle.ltm_setting.proofs.Links.{some_out, no_out}
+use Rattle.ltm_inputs.proofs.Arms.{arms_alone, arms_origin}
 use Rattle.ltm_inputs.proofs.Filling.{nothing_behind}
 use Rattle.ltm_inputs.proofs.sending.put_sending.Goals as goal
 

@@ -3,7 +3,7 @@ use Rattle.ltm_curve.proofs.Lists.{list_from}
 use Rattle.ltm_curve.specs.Table.{counts_of}
 use Rattle.ltm_loading.specs.Flows.{receiving}
 use Rattle.ltm_setting.specs.Setting.{setting_of}
-use Rattle.ltm_inputs.proofs.Arms.{link_item}
+use Rattle.ltm_setting.proofs.Links.{link_item}
 use Rattle.ltm_inputs.proofs.Filling.{set_next}
 use Rattle.ltm_inputs.proofs.sending.put_supply_of.Goals as goal
 
