@@ -198,6 +198,19 @@ core_refuses d v batch u l log f same is table shown e back cause = (
 pub core_stays : (d : CoreData) (next : ScenarioData) → IsCore d → next ≡ d.scenario → IsCore (record d { scenario = next })
 core_stays d next is same = subst (λ (z : ScenarioData). IsCore (record d { scenario = z })) (sym same) is
 
+-- where a scenario that was refused a batch is put back the core is the one that it was
+pub core_same : (d v : CoreData) (next : ScenarioData) → d ≡ v → next ≡ d.scenario → record d { scenario = next } ≡ v
+core_same d v next same back = ap (λ (z : ScenarioData). record d { scenario = z }) back ∙ same
+
+looks_same : (d : CoreData) → LooksAs d d
+looks_same d = record { log = refl; scenario = refl; commits = refl; stopped = refl; shown = record { version = refl; step = refl; links = refl; nodes = refl; shape = record { same_groups = refl; same_slots = refl }; totals = refl; free = λ i. refl; generated = λ k x. refl }; desk = refl; repair = refl }
+
+pub refused_tells : (d v : CoreData) (next : ScenarioData) (batch : List Edit) (e : List Edit × EditFault) → d ≡ v → IsCore d → next ≡ d.scenario → e.0 ≡ batch → (e.1.cause ≢ NoMemory → edited_all d.scenario batch ≡ Err e.1) →
+    TellsAccept v batch (Err e) (record d { scenario = next })
+refused_tells d v next batch e same is back at fault =
+    subst (λ (z : CoreData). TellsAccept v batch (Err e) z) (sym (core_same d v next same back))
+    (subst (λ (z : CoreData). TellsAccept z batch (Err e) z) same (at, looks_same d, λ apart. ap (λ (z : ScenarioData). edited_all z batch) is.scenario ∙ fault apart))
+
 -- the core with more room, where no memory is left for the rest
 pub core_roomy : (d : CoreData) (u : Table) (l : Loading) (log : Log) → IsCore d → TableSeenAs d.table u → SeenAs d.shown l → log ≡ d.log → IsCore (record d { log = log; table = u; shown = l })
 core_roomy d u l log is table shown same = subst (λ (z : Log). IsCore (record d { log = z; table = u; shown = l })) (sym same) (core_looks d u l is table shown)

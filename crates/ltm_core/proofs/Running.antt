@@ -23,7 +23,7 @@ use Rattle.ltm_repair.specs.Events.{CoreEvent, GiveBack, Stay}
 use Rattle.ltm_repair.specs.Runs.{CoreRun}
 use Rattle.ltm_repair.specs.Kept.{RestIsLoading, ShownIsLoading}
 use Rattle.ltm_repair.specs.Work.{RepairsOneBatch}
-use Rattle.ltm_repair.specs.Making.{AnswersAreEvents}
+use Rattle.ltm_repair.specs.Making.{settle_event, AnswersAreEvents}
 use Rattle.ltm_core.specs.declared.answers.Committed.{Committed}
 use Rattle.ltm_core.specs.declared.answers.Committed.TheVariants.{Ok as Done, Stale}
 use Rattle.ltm_core.specs.declared.answers.Recomputed.{Recomputed}
@@ -36,7 +36,7 @@ use Rattle.ltm_core.specs.Settling.{setting_at}
 use Rattle.ltm_core.specs.Laws.{RunLaws}
 use Rattle.ltm_core.specs.Cores.{CoreData, desk_in, repair_of, IsResting, claims_of, left_of, undone_of, IsCore}
 use Rattle.ltm_core.specs.CoreAnswers.{TellsCommit, TellsRecompute, TellsGiveBack, TellsAccept, TellsPublish, TellsSettle}
-use Rattle.ltm_core.specs.Runs.{Does, IsRun, CallsAreEvents, commit_event, recompute_events, accept_event, publish_event, settle_event, setting_in, RepairsBatch, HoldsOfRuns, HoldsOfCore}
+use Rattle.ltm_core.specs.Runs.{Does, IsRun, CallsAreEvents, commit_event, recompute_events, accept_event, publish_event, setting_in, RepairsBatch, HoldsOfRuns, HoldsOfCore}
 use Rattle.ltm_core.proofs.Cores.{core_now}
 use Rattle.ltm_core.proofs.Claimings.{claim_kept_or_not}
 

@@ -12,8 +12,8 @@ use Rattle.ltm_loading.specs.Differing.{unlike, row_of, differing as how_many_di
 use Rattle.ltm_setting.specs.Setting.{setting_of}
 use Rattle.ltm_flows.specs.Shown.{version_of, curves_of}
 use Rattle.ltm_repair.specs.Answers.{AnswersClaim}
-use Rattle.ltm_repair.specs.Making.{claim_event}
-use Rattle.ltm_repair.specs.Events.{CoreEvent, Accepted, Look, Claim, GiveBack, Commit, Accept, Publish, Settle, Stay, Happens}
+use Rattle.ltm_repair.specs.Making.{claim_event, settle_event}
+use Rattle.ltm_repair.specs.Events.{CoreEvent, Accepted, Look, Claim, GiveBack, Commit, Accept, Publish, Stay, Happens}
 use Rattle.ltm_repair.specs.Runs.{in_all, look_in, claim_in, give_back_in, commit_in, batch_in, work_in, commits_of, commits_in, AcceptsNothing}
 use Rattle.ltm_core.specs.declared.answers.Claimed.{Claimed}
 use Rattle.ltm_core.specs.declared.answers.Committed.{Committed}
@@ -55,10 +55,6 @@ accept_event (Err refused) = Stay
 abbrev pub publish_event : Published → CoreEvent
 publish_event (Shown version) = Publish
 publish_event NotAtRest = Stay
-
-abbrev pub settle_event : Option ℕ → CoreEvent
-settle_event (Some n) = Settle n
-settle_event None = Stay
 
 pub record CallsAreEvents : Type 0 where
   pub claim : (d e : CoreData) (answer : Claimed) → AnswersClaim (repair_of d) (answer_in answer) (repair_of e) → Does d (claim_event (answer_in answer)) e

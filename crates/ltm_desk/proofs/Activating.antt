@@ -1,11 +1,9 @@
 -- Pairs are made active in steps.
 use Rattle.std.proofs.Common.{◌≡◌, ℕ, ◌+◌, ◌<◌, ◌≤◌, ◌==◌, ◌&&◌, ◌||◌, not, nat_le, nat_lt, Bool, true, false, refl, ap, sym, ◌∙◌, arith, inl, inr}
 use Rattle.std.proofs.lemmas.Bool.{cases_lt, cases_eq, lt-ltb, le-ltb, eq-eqb, ne_eqb}
-use Rattle.ltm_loading.specs.Setting.{Setting}
 use Rattle.ltm_frontier.specs.declared.frontier.Frontier.{Frontier}
 use Rattle.ltm_frontier.specs.Frontier.{nodes_of, slots_of, is_active, is_claimed, in_slots, Activates}
 use Rattle.ltm_pairs.specs.Changes.{some_below}
-use Rattle.ltm_desk.specs.Ready.{HasPairs}
 use Rattle.ltm_desk.proofs.Bools.{or_false, and_on, twice, one_more}
 
 pub act_none : (f : Frontier) → Activates f f (λ w v. false)
@@ -49,9 +47,6 @@ act_next a b c n f g first next same =
     act_as a c (λ w v. some_below n (f w v) || g w v) (λ w v. some_below (n + 1) (f w v))
     (act_both a b c (λ w v. some_below n (f w v)) g first next)
     (λ w v x y. ap (λ z. some_below n (f w v) || z) (same w v) ∙ sym (one_more n (f w v)))
-
-pub pairs_stay : (s : Setting) (a b : Frontier) (f : ℕ → ℕ → Bool) → HasPairs s a → Activates a b f → HasPairs s b
-pairs_stay s a b f has acts = record { nodes = acts.size.nodes ∙ has.nodes; slots = acts.size.slots ∙ has.slots }
 
 -- ---- all pairs from a slot on, node after node
 node_more : (u t n from slots : ℕ) → t < slots → ((nat_lt u n && nat_le from t) || ((u == n) && (nat_le from t && nat_lt t slots))) ≡ (nat_lt u (n + 1) && nat_le from t)

@@ -19,10 +19,6 @@ pub or_three : (a b c : Bool) → ((a || b) || c) ≡ (a || (b || c))
 or_three true b c = refl
 or_three false b c = refl
 
-pub or_self : (a : Bool) → (a || a) ≡ a
-or_self true = refl
-or_self false = refl
-
 -- marks added twice, but for what is claimed
 pub twice : (x p q n : Bool) → ((x || (p && n)) || (q && n)) ≡ (x || ((p || q) && n))
 twice true p q n = refl
@@ -31,10 +27,6 @@ twice false true true false = refl
 twice false true false true = refl
 twice false true false false = refl
 twice false false q n = refl
-
-pub and_or : (a b c : Bool) → (a && (b || c)) ≡ ((a && b) || (a && c))
-and_or true b c = refl
-and_or false b c = refl
 
 pub same_below : (n : ℕ) (f g : ℕ → Bool) → ((k : ℕ) → k < n → f k ≡ g k) → some_below n f ≡ some_below n g
 same_below zero f g h = refl
@@ -99,10 +91,6 @@ or_right false b h = h
 
 pub and_true : (a b : Bool) → a ≡ true → b ≡ true → (a && b) ≡ true
 and_true a b h k = rw (h, k) refl
-
-pub not_true : (a : Bool) → not a ≡ true → a ≡ false
-not_true true h = absurd (cc)
-not_true false h = refl
 
 -- numbers that differ
 pub differ : (a b : ℕ) → a ≢ b → not (a == b) ≡ true

@@ -1,5 +1,5 @@
 -- Outputs as the counts at a slot's end.
-use Rattle.std.proofs.Common.{◌≡◌, ℕ, ◌+◌, ◌^◌, ◌<◌, List, length, slice_index, refl, ap, sym, ◌∙◌, subst, arith}
+use Rattle.std.proofs.Common.{◌≡◌, ℕ, zero, suc, ◌+◌, ◌^◌, ◌<◌, List, [], ◌∷◌, length, slice_index, Fits, w64, refl, ap, sym, ◌∙◌, subst, arith}
 use Rattle.std.proofs.lemmas.List.{ext_get_or}
 use Rattle.ltm_curve.specs.Counts.{Counts}
 use Rattle.ltm_curve.specs.First.{list_below}
@@ -29,6 +29,58 @@ sums_are c g t xs moves long each =
 
 pub sum_at : (c : Counts) (g t d : ℕ) (moves : List ℕ) → d < length moves → slice_index (counted_row Moved c g t moves) d ≡ c g d t + slice_index moves d
 sum_at c g t d moves l = index-list_below (length moves) (λ e. c g e t + slice_index moves e) d l
+
+-- a few numbers and what moves, added one by one
+pub sum_fits : (c : Counts) (g t n a d : ℕ) (before moves : List ℕ) → d < n → length moves ≡ n → ((e : ℕ) → e < n → slice_index before e ≡ c g e t) → ((e : ℕ) → e < length moves → c g e t + slice_index moves e < 2 ^ 31) →
+    a ≡ slice_index before d → Fits w64 (a + slice_index moves d)
+sum_fits c g t n a d before moves l long stands small at = omega (arith, at, stands d l, small d (omega (arith, l, long)))
+
+pub sums_small : (c : Counts) (g t n : ℕ) (xs moves : List ℕ) → xs ≡ counted_row Moved c g t moves → n ≡ length moves → ((e : ℕ) → e < length moves → c g e t + slice_index moves e < 2 ^ 31) → (d : ℕ) → d < n → slice_index xs d < 2 ^ 31
+sums_small c g t n xs moves is long small d l =
+    let within : d < length moves = omega (arith, l, long) in
+    omega (arith, ap (λ (z : List ℕ). slice_index z d) is, sum_at c g t d moves within, small d within)
+
+each_of_one : (f : ℕ → ℕ) (a : ℕ) → a ≡ f 0 → (d : ℕ) → d < 1 → slice_index (a ∷ []) d ≡ f d
+each_of_one f a first zero l = first
+each_of_one f a first (suc d) l = absurd (omega arith)
+
+each_of_two : (f : ℕ → ℕ) (a b : ℕ) → a ≡ f 0 → b ≡ f 1 → (d : ℕ) → d < 2 → slice_index (a ∷ b ∷ []) d ≡ f d
+each_of_two f a b first second zero l = first
+each_of_two f a b first second (suc zero) l = second
+each_of_two f a b first second (suc (suc d)) l = absurd (omega arith)
+
+each_of_four : (f : ℕ → ℕ) (a b x y : ℕ) → a ≡ f 0 → b ≡ f 1 → x ≡ f 2 → y ≡ f 3 → (d : ℕ) → d < 4 → slice_index (a ∷ b ∷ x ∷ y ∷ []) d ≡ f d
+each_of_four f a b x y first second third fourth zero l = first
+each_of_four f a b x y first second third fourth (suc zero) l = second
+each_of_four f a b x y first second third fourth (suc (suc zero)) l = third
+each_of_four f a b x y first second third fourth (suc (suc (suc zero))) l = fourth
+each_of_four f a b x y first second third fourth (suc (suc (suc (suc d)))) l = absurd (omega arith)
+
+-- a count that was read and what moves
+read_sum : (c : Counts) (g t n a d : ℕ) (before moves : List ℕ) → d < n → ((e : ℕ) → e < n → slice_index before e ≡ c g e t) → a ≡ slice_index before d → a + slice_index moves d ≡ c g d t + slice_index moves d
+read_sum c g t n a d before moves l stands at = omega (arith, at, stands d l)
+
+pub one_sum : (c : Counts) (g t n a : ℕ) (before moves : List ℕ) → length moves ≡ 1 → length moves ≡ n → ((e : ℕ) → e < n → slice_index before e ≡ c g e t) → a ≡ slice_index before 0 →
+    (a + slice_index moves 0) ∷ [] ≡ counted_row Moved c g t moves
+one_sum c g t n a before moves long wide stands first =
+    sums_are c g t ((a + slice_index moves 0) ∷ []) moves (sym long)
+    (λ d l. each_of_one (λ e. c g e t + slice_index moves e) (a + slice_index moves 0) (read_sum c g t n a 0 before moves (omega (arith, long, wide)) stands first) d (omega (arith, l, long)))
+
+pub two_sums : (c : Counts) (g t n a b : ℕ) (before moves : List ℕ) → length moves ≡ 2 → length moves ≡ n → ((e : ℕ) → e < n → slice_index before e ≡ c g e t) → a ≡ slice_index before 0 → b ≡ slice_index before 1 →
+    (a + slice_index moves 0) ∷ (b + slice_index moves 1) ∷ [] ≡ counted_row Moved c g t moves
+two_sums c g t n a b before moves long wide stands first second =
+    sums_are c g t ((a + slice_index moves 0) ∷ (b + slice_index moves 1) ∷ []) moves (sym long)
+    (λ d l. each_of_two (λ e. c g e t + slice_index moves e) (a + slice_index moves 0) (b + slice_index moves 1) (read_sum c g t n a 0 before moves (omega (arith, long, wide)) stands first)
+    (read_sum c g t n b 1 before moves (omega (arith, long, wide)) stands second) d (omega (arith, l, long)))
+
+pub four_sums : (c : Counts) (g t n a b x y : ℕ) (before moves : List ℕ) → length moves ≡ 4 → length moves ≡ n → ((e : ℕ) → e < n → slice_index before e ≡ c g e t) →
+    a ≡ slice_index before 0 → b ≡ slice_index before 1 → x ≡ slice_index before 2 → y ≡ slice_index before 3 →
+    (a + slice_index moves 0) ∷ (b + slice_index moves 1) ∷ (x + slice_index moves 2) ∷ (y + slice_index moves 3) ∷ [] ≡ counted_row Moved c g t moves
+four_sums c g t n a b x y before moves long wide stands first second third fourth =
+    sums_are c g t ((a + slice_index moves 0) ∷ (b + slice_index moves 1) ∷ (x + slice_index moves 2) ∷ (y + slice_index moves 3) ∷ []) moves (sym long)
+    (λ d l. each_of_four (λ e. c g e t + slice_index moves e) (a + slice_index moves 0) (b + slice_index moves 1) (x + slice_index moves 2) (y + slice_index moves 3)
+    (read_sum c g t n a 0 before moves (omega (arith, long, wide)) stands first) (read_sum c g t n b 1 before moves (omega (arith, long, wide)) stands second)
+    (read_sum c g t n x 2 before moves (omega (arith, long, wide)) stands third) (read_sum c g t n y 3 before moves (omega (arith, long, wide)) stands fourth) d (omega (arith, l, long)))
 
 arm_counted : (given : Given) (s : Setting) (old now : Counts) (u t n g d : ℕ) (o : Outputs) (xs : List ℕ) → o.shape ≡ shape_at s u → n < arms_of s u → d < s.destinations → g ≡ arm_group s u n → d < length xs →
     now g d t ≡ old g d t → slice_index xs d ≡ left_after o n d → slice_index (counted_row given now g t xs) d ≡ left_after (counted given s old u t o) n d

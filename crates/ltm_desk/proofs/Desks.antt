@@ -61,13 +61,6 @@ pub claimed_past : (s : Setting) (t : Table) (u v : ℕ) → (s.nodes ≤ u) ⊎
 unfolding desk_at
 claimed_past s t u v past = past_pair s None (claim_of t) u v past
 
--- what is active or claimed is a pair
-pub active_pair : (s : Setting) (t : Table) (u v : ℕ) → (desk_at s t).active u v ≡ true → (u < s.nodes) × (v < s.slots)
-active_pair s t u v on = elim (cases_pairs s u v) [
-  | inl in_range ↦ in_range
-  | inr past ↦ let off : (desk_at s t).active u v ≡ false = active_past s t u v past in absurd (cc)
-]
-
 pub claimed_pair : (s : Setting) (t : Table) (u v : ℕ) → (desk_at s t).claimed u v ≢ None → (u < s.nodes) × (v < s.slots)
 claimed_pair s t u v some = elim (cases_pairs s u v) [
   | inl in_range ↦ in_range

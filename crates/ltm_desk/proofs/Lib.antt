@@ -4,7 +4,6 @@ pub mod Activating
 pub mod Noting
 pub mod Placings
 pub mod Listing
-pub mod Windows
 pub mod Wakings
 pub mod Renewals
 pub mod Counted

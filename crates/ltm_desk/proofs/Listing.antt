@@ -13,8 +13,8 @@ use Rattle.ltm_index.specs.Chains.{list_from, behind}
 use Rattle.ltm_frontier.specs.declared.frontier.Frontier.{Frontier}
 use Rattle.ltm_frontier.specs.Frontier.{is_pair, Activates}
 use Rattle.ltm_desk.specs.Desks.{place_of}
-use Rattle.ltm_desk.proofs.Bools.{or_false, and_false, same_tests}
-use Rattle.ltm_desk.proofs.Activating.{act_no, act_both, act_as}
+use Rattle.ltm_desk.proofs.Bools.{or_false, same_tests}
+use Rattle.ltm_desk.proofs.Activating.{act_both, act_as}
 
 -- a slot stands in a list
 abbrev pub stands : List ℕ → ℕ → Bool
@@ -29,13 +29,6 @@ pub record Marked (a b : Frontier) (u from : ℕ) (all : List ℕ) (at : Option 
   pub passed : List ℕ
   pub whole : passed ++ list_from all at ≡ all
   pub acts : Activates a b (listed u from passed)
-
-pub marked_none : (a : Frontier) (u from : ℕ) (all rest : List ℕ) (at : Option ℕ) → rest ≡ all → rest ≡ list_from all at → Marked a a u from all at
-marked_none a u from all rest at is from_here = record {
-  passed = [];
-  whole = sym from_here ∙ is;
-  acts = act_no a (listed u from []) (λ w v x y. rw (and_false (w == u)) (and_false (nat_le from v)));
-}
 
 both_or : (n a p q : Bool) → ((n && (a && p)) || (n && (a && q))) ≡ (n && (a && (p || q)))
 both_or false a p q = refl

@@ -7,11 +7,7 @@ use Rattle.ltm_loading.specs.Setting.{Setting, IsSetting}
 use Rattle.ltm_loading.specs.Flows.{position}
 use Rattle.ltm_index.specs.declared.read_index.ReadIndex.{ReadIndex}
 use Rattle.ltm_index.specs.Lists.{links_of as links_in, entry_of, Places}
-use Rattle.ltm_desk.specs.Ready.{HasLists}
 use Rattle.ltm_desk.specs.Placing.{PlacesAt, PlacesPair}
-
-pub places_none : (s : Setting) (c : Counts) (x : ReadIndex) (u t : ℕ) → HasLists s x → PlacesPair s c x x u t 0
-places_none s c x u t lists = record { lists = lists; placed = λ i l. absurd (omega arith); others = λ l v m h. refl }
 
 pub places_next : (s : Setting) (c : Counts) (old mid new : ReadIndex) (u t n l k : ℕ) → IsSetting s → u < s.nodes → n < s.ins u → PlacesPair s c old mid u t n →
     PlacesAt mid new l t k → s.in_link u n ≡ l → k ≡ position s c l t → PlacesPair s c old new u t (n + 1)

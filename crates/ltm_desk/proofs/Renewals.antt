@@ -16,8 +16,9 @@ use Rattle.ltm_loading.proofs.Same.{last_within-same}
 use Rattle.ltm_flows.specs.Applying.{out_group, SetsGroups}
 use Rattle.ltm_loading.specs.Shaped.{IsShaped}
 use Rattle.ltm_flows.proofs.Writing.{arm_there, arm_apart, out_there, arm_not_out, arm_not_come}
+use Rattle.ltm_frontier.specs.Frontier.{is_pair}
 use Rattle.ltm_pairs.specs.Changes.{some_below}
-use Rattle.ltm_desk.specs.Waking.{row_differs, out_differs, sink_differs, is_cell, PutsCells, changes_outs, wakes_later, wakes_listed, wakes_head, wakes_heads}
+use Rattle.ltm_desk.specs.Waking.{row_differs, out_differs, sink_differs, PutsCells, changes_outs, wakes_later, wakes_listed, wakes_head, wakes_heads}
 use Rattle.ltm_desk.proofs.Bools.{same_below}
 use Rattle.ltm_desk.proofs.Noting.{puts_as}
 use Rattle.ltm_desk.proofs.Wakings.{arm_origin}
@@ -102,8 +103,8 @@ pub outs_cells_unset : (s : Setting) (u k : ℕ) (o : Outputs) (old arms : Count
     PutsCells a b (changes_outs s arms u k o (s.outs u)) → PutsCells a b (changes_outs s old u k o (s.outs u))
 outs_cells_unset s u k o old arms a b is x sets puts =
     puts_as a b (changes_outs s arms u k o (s.outs u)) (changes_outs s old u k o (s.outs u)) puts
-    (λ g y. same_below (s.outs u) (λ j. out_differs s arms u k o j && is_cell (up_of (s.out_link u j)) k g y) (λ j. out_differs s old u k o j && is_cell (up_of (s.out_link u j)) k g y)
-    (λ j l. ap (λ z. z && is_cell (up_of (s.out_link u j)) k g y) (out_unset s u k o old arms j is x sets l)))
+    (λ g y. same_below (s.outs u) (λ j. out_differs s arms u k o j && is_pair (up_of (s.out_link u j)) k g y) (λ j. out_differs s old u k o j && is_pair (up_of (s.out_link u j)) k g y)
+    (λ j l. ap (λ z. z && is_pair (up_of (s.out_link u j)) k g y) (out_unset s u k o old arms j is x sets l)))
 
 pub outs_wake_unset : (s : Setting) (u k : ℕ) (o : Outputs) (old arms : Counts) (places : ℕ → ℕ → ℕ) (w v : ℕ) → IsSetting s → u < s.nodes → 0 < k → k ≤ s.slots →
     SetsGroups s k (arms_of s u) (arm_group s u) (left_after o) old arms → wakes_heads s arms places u k o (s.outs u) w v ≡ wakes_heads s old places u k o (s.outs u) w v

@@ -32,18 +32,15 @@ abbrev pub sink_differs : Setting → Counts → Option ℕ → ℕ → ℕ → 
 sink_differs s c None k arrived = false
 sink_differs s c (Some d) k arrived = not (c (arr_of s) d k == arrived)
 
--- ---- which cells change
-abbrev pub is_cell : ℕ → ℕ → ℕ → ℕ → Bool
-is_cell group boundary g k = (g == group) && (k == boundary)
-
+-- ---- which cells change: a cell is a pair of a group and a boundary
 abbrev pub changes_arms : Setting → Counts → ℕ → ℕ → Outputs → ℕ → ℕ → ℕ → Bool
-changes_arms s c u k o arms g b = some_below arms (λ i. arm_differs s c u k o i && is_cell (arm_group s u i) k g b)
+changes_arms s c u k o arms g b = some_below arms (λ i. arm_differs s c u k o i && is_pair (arm_group s u i) k g b)
 
 abbrev pub changes_outs : Setting → Counts → ℕ → ℕ → Outputs → ℕ → ℕ → ℕ → Bool
-changes_outs s c u k o outs g b = some_below outs (λ j. out_differs s c u k o j && is_cell (up_of (s.out_link u j)) k g b)
+changes_outs s c u k o outs g b = some_below outs (λ j. out_differs s c u k o j && is_pair (up_of (s.out_link u j)) k g b)
 
 abbrev pub changes_sink : Setting → Counts → ℕ → ℕ → Outputs → ℕ → ℕ → Bool
-changes_sink s c u k o g b = sink_differs s c (s.own u) k (arrived_after o) && is_cell (arr_of s) k g b
+changes_sink s c u k o g b = sink_differs s c (s.own u) k (arrived_after o) && is_pair (arr_of s) k g b
 
 abbrev pub changes : Setting → Counts → ℕ → ℕ → Outputs → ℕ → ℕ → Bool
 changes s c u k o g b = changes_arms s c u k o (arms_of s u) g b || (changes_outs s c u k o (s.outs u) g b || changes_sink s c u k o g b)

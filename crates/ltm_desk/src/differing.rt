@@ -11,9 +11,10 @@ ghost use Rattle.ltm_loading.specs.Pairs.{arrived_by};
 ghost use Rattle.ltm_setting.specs.Setting.{setting_of};
 ghost use Rattle.ltm_loading.specs.Shaped.{IsShaped};
 ghost use Rattle.ltm_flows.specs.Applying.{SetsSink};
+ghost use Rattle.ltm_frontier.specs.Frontier.{is_pair};
 ghost use Rattle.ltm_desk.specs.declared.given.Given.TheVariants.{Moved};
 ghost use Rattle.ltm_desk.specs.Counted.{counted_number, counted_row};
-ghost use Rattle.ltm_desk.specs.Waking.{row_differs, sink_differs, is_cell, PutsCells};
+ghost use Rattle.ltm_desk.specs.Waking.{row_differs, sink_differs, PutsCells};
 
 use crate::given::Given;
 use ltm_curve::{Changed, Curves};
@@ -40,7 +41,7 @@ fn renew_row(
     requires cells { HasCells changed.old (groups_of curves.old) (slots_of curves.old) }
     ensures value { result ≡ row_differs (destinations_of curves.old) (counts_of curves.old) group boundary (slice_index counts.now) }
     ensures sets { SetsRow curves.old curves.new group boundary counts.now }
-    ensures cells { PutsCells changed.old changed.new (λ g k. result && is_cell group boundary g k) }
+    ensures cells { PutsCells changed.old changed.new (λ g k. result && is_pair group boundary g k) }
 {
     if same_numbers(curves.row(group, boundary), counts) {
         return false;
@@ -66,7 +67,7 @@ fn renew_counts(
     requires cells { HasCells changed.old (groups_of curves.old) (slots_of curves.old) }
     ensures value { result ≡ row_differs (destinations_of curves.old) (counts_of curves.old) group boundary (slice_index counts.now) }
     ensures sets { SetsRow curves.old curves.new group boundary counts.now }
-    ensures cells { PutsCells changed.old changed.new (λ g k. result && is_cell group boundary g k) }
+    ensures cells { PutsCells changed.old changed.new (λ g k. result && is_pair group boundary g k) }
 {
     renew_row(curves, changed, group, boundary, counts)
 }
@@ -103,7 +104,7 @@ fn renew_in(
         (slice_index (counted_row Moved (counts_of curves.old) group slot moves.now)) }
     ensures sets { SetsRow curves.old curves.new group (slot + 1)
         (counted_row Moved (counts_of curves.old) group slot moves.now) }
-    ensures cells { PutsCells changed.old changed.new (λ g k. result && is_cell group (slot + 1) g k) }
+    ensures cells { PutsCells changed.old changed.new (λ g k. result && is_pair group (slot + 1) g k) }
 {
     let counts = &mut room[..moves.len()];
     write_sums(curves.row(group, slot), moves, counts);
@@ -128,7 +129,7 @@ fn renew_many(
         (slice_index (counted_row Moved (counts_of curves.old) group slot moves.now)) }
     ensures sets { SetsRow curves.old curves.new group (slot + 1)
         (counted_row Moved (counts_of curves.old) group slot moves.now) }
-    ensures cells { PutsCells changed.old changed.new (λ g k. result && is_cell group (slot + 1) g k) }
+    ensures cells { PutsCells changed.old changed.new (λ g k. result && is_pair group (slot + 1) g k) }
 {
     let _most = curves.destinations();
     if moves.len() == 4 {
@@ -169,7 +170,7 @@ fn renew_moves(
         (slice_index (counted_row Moved (counts_of curves.old) group slot moves.now)) }
     ensures sets { SetsRow curves.old curves.new group (slot + 1)
         (counted_row Moved (counts_of curves.old) group slot moves.now) }
-    ensures cells { PutsCells changed.old changed.new (λ g k. result && is_cell group (slot + 1) g k) }
+    ensures cells { PutsCells changed.old changed.new (λ g k. result && is_pair group (slot + 1) g k) }
 {
     let before = curves.row(group, slot);
     if moves.len() == 2 {
@@ -205,7 +206,7 @@ pub(crate) fn renew(
         (slice_index (counted_row given (counts_of curves.old) group slot numbers.now)) }
     ensures sets { SetsRow curves.old curves.new group (slot + 1)
         (counted_row given (counts_of curves.old) group slot numbers.now) }
-    ensures cells { PutsCells changed.old changed.new (λ g k. result && is_cell group (slot + 1) g k) }
+    ensures cells { PutsCells changed.old changed.new (λ g k. result && is_pair group (slot + 1) g k) }
 {
     match given {
         Given::Counted => return renew_counts(curves, changed, group, slot + 1, numbers),
@@ -246,7 +247,7 @@ pub(crate) fn renew_sink(
     ensures sets { SetsSink (setting_of scenario.now) pair.node.0 (pair.slot + 1)
         (counted_number given (arrived_by (setting_of scenario.now) (counts_of curves.old) ((setting_of scenario.now).own pair.node.0) pair.slot) arrived)
         (counts_of curves.old) (counts_of curves.new) }
-    ensures cells { PutsCells changed.old changed.new (λ g k. result && is_cell (arr_of (setting_of scenario.now)) (pair.slot + 1) g k) }
+    ensures cells { PutsCells changed.old changed.new (λ g k. result && is_pair (arr_of (setting_of scenario.now)) (pair.slot + 1) g k) }
 {
     let Some(destination) = own(scenario, pair.node) else {
         return false;

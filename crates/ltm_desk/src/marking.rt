@@ -31,8 +31,8 @@ use ltm_scenario::Scenario;
 use ltm_setting::{delays, head, is_setting, link_count, slot_count, tail};
 use ltm_units::{LinkId, NodeId, Pair};
 
-/// Marks a pair, unless its slot is below one.
-fn mark_from(frontier: &mut Frontier, pair: Pair, from: u32)
+/// Marks a pair, unless its slot is before one.
+fn mark_not_before(frontier: &mut Frontier, pair: Pair, from: u32)
     requires node { pair.node.0 < nodes_of frontier.old }
     requires slot { pair.slot < slots_in frontier.old }
     ensures { Activates frontier.old frontier.new (λ w v. nat_le from v && is_pair pair.node.0 pair.slot w v) }
@@ -60,7 +60,7 @@ fn mark_list(
     slots_stand_by_entry(index);
     let mut at = index.next_reader(link, boundary, None);
     while let Some(slot) = at {
-        mark_from(frontier, Pair { node, slot }, from);
+        mark_not_before(frontier, Pair { node, slot }, from);
         at = index.next_reader(link, boundary, Some(slot));
     }
 }

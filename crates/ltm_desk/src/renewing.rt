@@ -19,7 +19,7 @@ ghost use Rattle.ltm_desk.specs.Counted.{counted};
 ghost use Rattle.ltm_desk.specs.Desks.{place_of};
 ghost use Rattle.ltm_desk.specs.Ready.{HasPairs, HasLists};
 ghost use Rattle.ltm_rows.specs.Rows.{ForgetsRow, HasRows};
-ghost use Rattle.ltm_desk.specs.Waking.{arm_differs, any_differs, is_cell, PutsCells, changes, wakes_others, wakes, ForgetsIf};
+ghost use Rattle.ltm_desk.specs.Waking.{arm_differs, any_differs, PutsCells, changes, wakes_others, wakes, ForgetsIf};
 
 use crate::differing::{renew, renew_sink};
 use crate::given::Given;
@@ -79,7 +79,7 @@ fn renew_origin(
         (counted given (setting_of scenario.now) (counts_of curves.old) pair.node.0 pair.slot outputs.now) ((setting_of scenario.now).ins pair.node.0))
         (counts_of curves.old) (counts_of curves.new) }
     ensures stays { (setting_of scenario.now).outs pair.node.0 ≡ 0 → counts_of curves.new ≡ counts_of curves.old }
-    ensures cells { PutsCells changed.old changed.new (λ g k. result && is_cell (dep_of (setting_of scenario.now) pair.node.0) (pair.slot + 1) g k) }
+    ensures cells { PutsCells changed.old changed.new (λ g k. result && is_pair (dep_of (setting_of scenario.now) pair.node.0) (pair.slot + 1) g k) }
 {
     is_setting(scenario);
     if out_links(scenario, pair.node).is_empty() {

@@ -10,7 +10,7 @@ ghost use Rattle.ltm_loading.specs.Shaped.{IsShaped};
 ghost use Rattle.ltm_node.specs.Outputs.{left_after, entered_after};
 ghost use Rattle.ltm_setting.specs.Setting.{setting_of};
 ghost use Rattle.ltm_flows.specs.Applying.{out_group, SetsGroups};
-ghost use Rattle.ltm_frontier.specs.Frontier.{Activates};
+ghost use Rattle.ltm_frontier.specs.Frontier.{Activates, is_pair};
 ghost use Rattle.ltm_pairs.specs.Changes.{some_below};
 ghost use Rattle.ltm_desk.specs.Counted.{counted_row, counted};
 ghost use Rattle.ltm_desk.specs.Desks.{place_of};
@@ -19,7 +19,6 @@ ghost use Rattle.ltm_desk.specs.Waking.{
   row_differs,
   arm_differs,
   out_differs,
-  is_cell,
   PutsCells,
   changes_arms,
   changes_outs,
@@ -64,7 +63,7 @@ fn renew_tail(
         (slice_index (counted_row given (counts_of curves.old) (down_of link.0) slot numbers.now)) }
     ensures sets { SetsRow curves.old curves.new (down_of link.0) (slot + 1)
         (counted_row given (counts_of curves.old) (down_of link.0) slot numbers.now) }
-    ensures cells { PutsCells changed.old changed.new (λ g k. result && is_cell (down_of link.0) (slot + 1) g k) }
+    ensures cells { PutsCells changed.old changed.new (λ g k. result && is_pair (down_of link.0) (slot + 1) g k) }
     ensures wakes { Activates frontier.old frontier.new (λ w v. result && wakes_tail (setting_of scenario.now) link.0 (slot + 1) w v) }
 {
     let _links = link_count(scenario);
@@ -101,7 +100,7 @@ fn renew_head(
         (slice_index (counted_row given (counts_of curves.old) (up_of link.0) slot numbers.now)) }
     ensures sets { SetsRow curves.old curves.new (up_of link.0) (slot + 1)
         (counted_row given (counts_of curves.old) (up_of link.0) slot numbers.now) }
-    ensures cells { PutsCells changed.old changed.new (λ g k. result && is_cell (up_of link.0) (slot + 1) g k) }
+    ensures cells { PutsCells changed.old changed.new (λ g k. result && is_pair (up_of link.0) (slot + 1) g k) }
     ensures wakes { Activates frontier.old frontier.new
         (λ w v. result && wakes_head (setting_of scenario.now) (counts_of curves.old) (place_of index.now) link.0 (slot + 1)
         (sum_below (setting_of scenario.now).destinations (slice_index

@@ -187,8 +187,8 @@ impl Table {
         self.frontier.mark(pair);
     }
 
-    /// Makes room for so many slots, and where there was none for at least half more slots than there was room for. Nothing
-    /// else that is seen changes, also with want of memory.
+    /// Makes room for so many slots, and for more where `wide_room` says so. Nothing else that is seen changes, also with want
+    /// of memory.
     pub fn reserve(&mut self, slots: u32) -> Result<(), NoMemory>
         requires { slots ≤ 10000 }
         ensures seen { SeenAs self.old self.new }

@@ -65,15 +65,6 @@ impl Claims {
         self.count
     }
 
-    /// Whether a pair of the node is claimed.
-    #[inline]
-    pub fn has_node(&self, node: u32) -> bool
-        requires { node < width self.now }
-        ensures { result ≡ has_node self.now node }
-    {
-        self.nodes.is_marked(node as usize, 0)
-    }
-
     /// Whether the pair is claimed.
     #[inline]
     pub fn has(&self, node: u32, slot: u32) -> bool

@@ -32,6 +32,6 @@ CountsDifferences old new =
     new.commits ≡ differing (setting_at old.log (settled_of old.log)) (setting_in old) before after
 
 -- whether a pair was claimed and committed, so that fewer are left; else none was left
-abbrev pub TellsTurn : CoreData → ℕ → Bool → CoreData → ℕ → Type 0
-TellsTurn old before true new after = Works old before new after × (undone_of new < undone_of old)
-TellsTurn old before false new after = Works old before new after × IsResting new
+abbrev pub TellsStep : CoreData → ℕ → Bool → CoreData → ℕ → Type 0
+TellsStep old before true new after = Works old before new after × (undone_of new < undone_of old)
+TellsStep old before false new after = Works old before new after × IsResting new

@@ -2,7 +2,7 @@
 ghost use Rattle.std.specs.Prelude.{◌≡◌, ◌+◌, min};
 ghost use Rattle.ltm_core.specs.Cores.{IsNoneOut, IsResting};
 ghost use Rattle.ltm_core.specs.CoreAnswers.{IsKeptClaim, CommitsDone};
-ghost use Rattle.ltm_workers.specs.Draining.{Works, TellsTurn, CountsLeft, CountsDifferences};
+ghost use Rattle.ltm_workers.specs.Draining.{Works, TellsStep, CountsLeft, CountsDifferences};
 
 use crate::bench::Bench;
 use ltm_core::{Claim, Committed, Core, Recomputed, Scratch, calls_are_events, runs_of_cores};
@@ -24,7 +24,7 @@ pub(crate) fn finish(core: &mut Core, claim: Claim, steps: &mut Steps) -> Scratc
 /// Computes a pair anew, where there is one; whether there was one.
 fn work_once(core: &mut Core, scratch: &mut Scratch, steps: &mut Steps) -> bool
     requires { IsNoneOut core.old }
-    ensures { TellsTurn core.old steps.old result core.new steps.new }
+    ensures { TellsStep core.old steps.old result core.new steps.new }
 {
     calls_are_events();
     runs_of_cores();

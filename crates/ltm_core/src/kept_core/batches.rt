@@ -171,8 +171,8 @@ impl Core {
     /// refused and its cause. Claims are void; a pair is then active exactly where it was active or claimed, is touched, or
     /// is new: of a slot by which the horizon is longer. What is shown stays.
     ///
-    /// Each amount is at most 1,000,000,000 units. All memory is taken first: where there is no room for a longer horizon,
-    /// room for at least half more slots. Where the horizon may not be reached, which no memory could change, none is taken.
+    /// Each amount is at most 1,000,000,000 units. All memory is taken first. Where the horizon may not be reached, which no
+    /// memory could change, none is taken.
     pub fn accept(&mut self, batch: Batch) -> Result<(), (Batch, EditFault)>
         requires amounts { HaveAmounts batch }
         ensures answer { TellsAccept self.old batch result self.new }

@@ -11,9 +11,9 @@ loop-at-preserved c =
     record {
       stands = c.next_reader-at-in-Some.ensures.stands;
       within = c.next_reader-at-in-Some.ensures.within;
-      marked = marked_next c.args.frontier.now c.loop-at.frontier c.mark_from.new.frontier c.args.node.0 c.args.from all (behind c.in-Some.slot all) c.in-Some.slot c.next_reader-at-in-Some.result
+      marked = marked_next c.args.frontier.now c.loop-at.frontier c.mark_not_before.new.frontier c.args.node.0 c.args.from all (behind c.in-Some.slot all) c.in-Some.slot c.next_reader-at-in-Some.result
           (subst (λ (o : Option ℕ). Marked c.args.frontier.now c.loop-at.frontier c.args.node.0 c.args.from all o) c.in-Some.is c.loop-at.invariant.marked)
-          c.mark_from.ensures refl c.next_reader-at-in-Some.ensures.left;
+          c.mark_not_before.ensures refl c.next_reader-at-in-Some.ensures.left;
     }
 
 pub returns : goal.returns

@@ -1,10 +1,14 @@
-use Rattle.std.proofs.Common.{rules, ◌≡◌, length, refl, ap, sym, ◌∙◌}
+use Rattle.std.proofs.Common.{◌≡◌, ℕ, length, refl, ap, sym, subst, ◌∙◌}
+use Rattle.std.proofs.lemmas.Bool.{false≢true}
 use Rattle.ltm_scenario.specs.Edits.{horizon_after}
 use Rattle.ltm_setting.specs.Setting.{setting_of}
-use Rattle.ltm_flows.specs.Shown.{loading_room}
+use Rattle.ltm_flows.specs.Shown.{SameLoading, loading_room}
+use Rattle.ltm_desk.specs.Growing.{HasRoom}
+use Rattle.ltm_core.specs.Cores.{CoreData}
+use Rattle.ltm_core.specs.Reaching.{MayReach}
 use Rattle.ltm_core.proofs.Logs.{put_log, same_log, same_length, few_more}
 use Rattle.ltm_core.proofs.Cores.{core_setting}
-use Rattle.ltm_core.proofs.Batches.{core_after_batch, core_tells_accept, core_roomy, core_stays, reach_there, no_memory_tells, kept_log, ok_room}
+use Rattle.ltm_core.proofs.Batches.{core_after_batch, core_tells_accept, core_roomy, core_stays, core_same, refused_tells, reach_there, no_memory_tells, kept_log, ok_room}
 use Rattle.ltm_core.proofs.kept_core.Core.accept.Goals as goal
 
 pub take_batch-requires-clause-ready : goal.take_batch-requires-clause-ready
@@ -29,7 +33,7 @@ invariant_of-self c = (core_stays _ c.refuse.new.scenario c.self.invariant.0 c.r
 
 pub invariant_of-self-in-Ok : goal.invariant_of-self-in-Ok
 invariant_of-self-in-Ok c =
-    let asked : c.horizon-slots.result ≡ horizon_after c.self.inside.scenario.setup.slots c.args.batch = search rules in (
+    let asked : c.horizon-slots.result ≡ horizon_after c.self.inside.scenario.setup.slots c.args.batch = rw c.setup.ensures.setup at c.horizon-slots.ensures in (
       core_after_batch c.repair_laws.ensures _ c.args.batch c.take_batch.new.scenario c.reserve_all.new.table c.take_batch.new.table c.reserve_all.new.shown _ c.take_batch.result c.self.invariant.0
           c.reserve_all.ensures.table (record { same = c.reserve_all.ensures.shown; shows = c.reserve_all.ensures.shows; room = c.reserve_all.ensures.no_less }) c.take_batch.ensures.ok
           (ok_room c.take_batch.result (loading_room c.reserve_all.new.shown) c.horizon-slots.result _ (setting_of c.take_batch.new.scenario).slots c.in-Ok.ensures.shown_room asked c.take_batch.ensures.slots)
@@ -46,7 +50,7 @@ invariant_of-self-in-Ok c =
 
 pub returns-in-Ok-clause-answer : goal.returns-in-Ok-clause-answer
 returns-in-Ok-clause-answer c =
-    let asked : c.horizon-slots.result ≡ horizon_after c.self.inside.scenario.setup.slots c.args.batch = search rules in
+    let asked : c.horizon-slots.result ≡ horizon_after c.self.inside.scenario.setup.slots c.args.batch = rw c.setup.ensures.setup at c.horizon-slots.ensures in
     core_tells_accept c.repair_laws.ensures _ _ c.args.batch c.take_batch.new.scenario c.reserve_all.new.table c.take_batch.new.table c.reserve_all.new.shown _ c.take_batch.result c.self.view_is c.self.invariant.0
     c.reserve_all.ensures.table (record { same = c.reserve_all.ensures.shown; shows = c.reserve_all.ensures.shows; room = c.reserve_all.ensures.no_less }) c.take_batch.ensures.ok
     (ok_room c.take_batch.result (loading_room c.reserve_all.new.shown) c.horizon-slots.result _ (setting_of c.take_batch.new.scenario).slots c.in-Ok.ensures.shown_room asked c.take_batch.ensures.slots)
@@ -61,10 +65,32 @@ returns-in-Ok-clause-answer c =
 
 pub returns-in-Ok-clause-beyond : goal.returns-in-Ok-clause-beyond
 returns-in-Ok-clause-beyond c =
-    let asked : c.horizon-slots.result ≡ horizon_after c.self.inside.scenario.setup.slots c.args.batch = search rules in
+    let asked : c.horizon-slots.result ≡ horizon_after c.self.inside.scenario.setup.slots c.args.batch = rw c.setup.ensures.setup at c.horizon-slots.ensures in
     λ no. absurd (no (reach_there _ _ c.args.batch c.horizon-slots.result c.self.view_is asked (c.if-not-may_reach.ensures.0 refl)))
 
 pub returns-in-Err-clause-beyond : goal.returns-in-Err-clause-beyond
 returns-in-Err-clause-beyond c =
-    let asked : c.horizon-slots.result ≡ horizon_after c.self.inside.scenario.setup.slots c.args.batch = search rules in
+    let asked : c.horizon-slots.result ≡ horizon_after c.self.inside.scenario.setup.slots c.args.batch = rw c.setup.ensures.setup at c.horizon-slots.ensures in
     λ no. absurd (no (reach_there _ _ c.args.batch c.horizon-slots.result c.self.view_is asked (c.if-not-may_reach.ensures.0 refl)))
+
+pub refuse-requires-clause-beyond : goal.refuse-requires-clause-beyond
+refuse-requires-clause-beyond c =
+    let asked : c.horizon-slots.result ≡ horizon_after c.self.inside.scenario.setup.slots c.args.batch = rw c.setup.ensures.setup at c.horizon-slots.ensures in
+    λ may. absurd (false≢true (sym c.if-not-may_reach.true ∙ c.may_reach.ensures.1 (subst (λ (n : ℕ). MayReach c.self.inside.scenario n) (sym asked) may)))
+
+pub returns-then-not-may_reach-clause-answer : goal.returns-then-not-may_reach-clause-answer
+returns-then-not-may_reach-clause-answer c = refused_tells _ _ c.refuse.new.scenario c.args.batch c.refuse.result c.self.view_is c.self.invariant.0 c.refuse.ensures.same c.refuse.ensures.back c.refuse.ensures.cause
+
+pub returns-then-not-may_reach-clause-beyond : goal.returns-then-not-may_reach-clause-beyond
+returns-then-not-may_reach-clause-beyond c = λ no. core_same _ _ c.refuse.new.scenario c.self.view_is c.refuse.ensures.same
+
+pub take_batch-requires-clause-room : goal.take_batch-requires-clause-room
+take_batch-requires-clause-room c =
+    let asked : c.horizon-slots.result ≡ horizon_after c.self.inside.scenario.setup.slots c.args.batch = rw c.setup.ensures.setup at c.horizon-slots.ensures in
+    subst (λ (n : ℕ). HasRoom c.reserve_all.new.table n) asked c.in-Ok.ensures.table_room
+
+pub returns-in-Ok-clause-shown : goal.returns-in-Ok-clause-shown
+returns-in-Ok-clause-shown c = subst (λ (z : CoreData). SameLoading z.shown c.reserve_all.new.shown) c.self.view_is c.reserve_all.ensures.shown
+
+pub returns-in-Err-clause-shown : goal.returns-in-Err-clause-shown
+returns-in-Err-clause-shown c = subst (λ (z : CoreData). SameLoading z.shown c.reserve_all.new.shown) c.self.view_is c.reserve_all.ensures.shown
