@@ -259,6 +259,8 @@ def run(args: argparse.Namespace) -> int:
     jobs = args.jobs if args.jobs is not None else lanes()
     if jobs < 1:
         raise Fault("--jobs is 1 or more")
+    if not (CLONE / "crates.txt").is_file():
+        raise Fault(f"this proves a clone of the repository, and {CLONE} is none")
     text = read_text(CLONE / "crates.txt")
     needs = stands_on(read_crates(text), args.crate)
     place = workplace(CLONE)
