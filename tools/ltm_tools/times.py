@@ -164,11 +164,16 @@ def text(path: Path, trips: list[Trip], start: int, by_link: bool) -> str:
     rows: list[list[Cell]] = []
     for trip in trips:
         parts = [*map(span, trip.parts), *[""] * (1 + len(path.links) - len(trip.parts))]
-        arrives = "none" if trip.total is None else clock_text(start + trip.departs + trip.total)
+        arrives = "none" if trip.total is None else clock_text(to_seconds(start + trip.departs + trip.total, path.free_ms))
         late = None if trip.total is None else trip.total - path.free_ms
         rows.append([clock_text(start + trip.departs), arrives, span(trip.total), span(late), *(parts if by_link else parts[:1])])
     ends = f"from {path.links[0].tail} to {path.links[-1].head}, {len(path.links)} link{'s' * (len(path.links) != 1)}"
     return f"{ends}, {span(path.free_ms)} on empty roads; times in minutes and seconds\n" + text_table(header, rows)
+
+
+def to_seconds(moment: int, free_ms: int) -> int:
+    """A moment to the nearest second, where the path takes a minute or more."""
+    return (moment + 500) // 1000 * 1000 if free_ms >= MINUTE_MS else moment
 
 
 def span(ms: int | None) -> str:
