@@ -16,7 +16,7 @@ from . import libraries
 from .errors import Fault
 
 # modules, in the order in which they are told
-COMMANDS = ("inspect_case", "explain", "gmns", "sumo", "demand", "splits", "signals", "pictures", "prove")
+COMMANDS = ("inspect_case", "explain", "gmns", "sumo", "demand", "splits", "signals", "queues", "times", "compare", "page", "geojson", "pictures", "prove")
 
 PROGRAM = "ltm-tools"
 INTERRUPTED = 130

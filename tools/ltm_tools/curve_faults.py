@@ -5,10 +5,9 @@ from dataclasses import dataclass
 
 from .case import Case
 from .files import Record, records, shown
-from .formats import CURVES
+from .formats import CURVES, MOST_COUNT
 
 COUNT = re.compile(r"[0-9]{1,15}", re.ASCII)
-MOST_COUNT = 281_474_976_710_656
 FIELDS = ("kind", "name", "destination", "counts")
 
 

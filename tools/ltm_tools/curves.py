@@ -1,33 +1,40 @@
 """Curve files, as `ltm curves` writes them: cumulative counts by link, node, destination and boundary.
 
 Counts are thousandths of a vehicle at each boundary, the first before slot 0. They are numpy arrays of int64 where numpy is
-installed, and else lists of int.
+installed, and else lists of int. The text of each record is kept as it was read, and becomes numbers when it is asked for: so
+a file takes about its own size in memory, and one link of a large file costs next to nothing.
 """
-import csv
+from __future__ import annotations
+
 import os
 import sys
-from collections.abc import Iterable, Sequence
-from typing import Any
+from collections.abc import Iterable, Iterator, Sequence
+from typing import TYPE_CHECKING, Any
 
 from .case_files import fetch, read_setup
 from .errors import Fault
-from .formats import CURVES
+from .files import bytes_text, records
+from .formats import CURVES, MOST_COUNT
 
 try:
     import numpy
 except ImportError:
     numpy = None  # type: ignore[assignment]
 
+if TYPE_CHECKING:
+    import pandas
+
 Counts = Any  # list[int], or an array of int64
 KINDS = ("up", "down", "dep", "arr")
+MARK = b"\xef\xbb\xbf"
+DIGITS_AND_SPACE = b"0123456789 "
+COUNT_DIGITS = 15
 
 
 class Curves:
-    """The counts of a curve file. `step_ms` is the length of a slot, `boundaries` how many counts each curve has.
+    """The counts of a curve file. `step_ms` is the length of a slot, `boundaries` how many counts each curve has."""
 
-    The texts of all counts are kept as they are read, and become numbers when they are asked for."""
-
-    def __init__(self, step_ms: int, boundaries: int, texts: dict[tuple[str, str], dict[str, str]]) -> None:
+    def __init__(self, step_ms: int, boundaries: int, texts: dict[tuple[str, str], dict[str, bytes]]) -> None:
         self.step_ms, self.boundaries = step_ms, boundaries
         self._texts = texts
 
@@ -40,18 +47,18 @@ class Curves:
     @classmethod
     def read(cls, path: str | os.PathLike[str], step_ms: int, boundaries: int) -> "Curves":
         """The curves of a file, with as many counts each as there are boundaries."""
-        csv.field_size_limit(1 << 30)
         try:
             if os.fspath(path) == "-":
-                texts = _texts_of(sys.stdin, "the input", boundaries)
-            else:
-                with open(path, encoding="utf-8-sig", errors="surrogateescape", newline="") as file:
-                    texts = _texts_of(file, path, boundaries)
+                return cls.of_lines(sys.stdin.buffer, "the input", step_ms, boundaries)
+            with open(path, "rb") as file:
+                return cls.of_lines(file, os.fspath(path), step_ms, boundaries)
         except OSError as error:
             raise Fault(f"{path}: {error.strerror or error}") from None
-        except csv.Error as error:
-            raise Fault(f"{path}: {error}") from None
-        return cls(step_ms, boundaries, texts)
+
+    @classmethod
+    def of_lines(cls, lines: Iterable[bytes], place: str, step_ms: int, boundaries: int) -> "Curves":
+        """The curves that the lines of a curve file tell; `place` is what a Fault calls it."""
+        return cls(step_ms, boundaries, _texts_of(_fields(lines, place), place, boundaries))
 
     @property
     def links(self) -> list[str]:
@@ -75,8 +82,7 @@ class Curves:
 
     def on_link(self, link: str, destination: str | None = None) -> Counts:
         """What stands on a link at each boundary."""
-        entered, left = self.up(link, destination), self.down(link, destination)
-        return entered - left if numpy is not None else [a - b for a, b in zip(entered, left)]
+        return less(self.up(link, destination), self.down(link, destination))
 
     def departed(self, node: str, destination: str | None = None) -> Counts:
         """What has left the origin of a node by each boundary."""
@@ -89,51 +95,114 @@ class Curves:
     def counts(self, kind: str, name: str, destination: str | None = None) -> Counts:
         """The counts of a kind and name: of one destination, or the sums over all."""
         if not self._texts:  # a case without destinations has a file of the header alone
-            return _zeros(self.boundaries)
+            return zeros(self.boundaries)
         texts = self._texts.get((kind, name))
         if texts is None:
             raise Fault(f"the curve file has no `{kind}` of {name}")
-        if destination is None:
-            return _sum(_numbers(text, kind, name) for text in texts.values())
-        if destination not in texts:
+        if destination is not None and destination not in texts:
             raise Fault(f"the curve file has no `{kind}` of {name} for {destination}")
-        return _numbers(texts[destination], kind, name)
+        chosen = texts.values() if destination is None else [texts[destination]]
+        return total([self._numbers(text, kind, name) for text in chosen])
+
+    def _numbers(self, text: bytes, kind: str, name: str) -> Counts:
+        counts = _counts_of(text)
+        if counts is None or len(counts) != self.boundaries or greatest(counts) > MOST_COUNT:
+            raise Fault(f"the curve file's `{kind}` of {name} has a count that is no number, or one that is too large")
+        return counts
+
+    def to_pandas(self, kinds: Sequence[str] = KINDS, by_destination: bool = False) -> "pandas.DataFrame":
+        """A table of the counts, in thousandths of a vehicle: a row for each boundary, its index the milliseconds since the
+        start; a column for each kind and name, and for each destination where that is asked for."""
+        try:
+            import pandas
+        except ImportError:
+            raise Fault("this needs pandas for Python: apt-get install python3-pandas, which /usr/bin/python3 has then") from None
+        columns: dict[tuple[str, ...], Counts] = {}
+        for (kind, name), texts in self._texts.items():
+            if kind not in kinds:
+                continue
+            if by_destination:
+                columns.update({(kind, name, end): self.counts(kind, name, end) for end in texts})
+            else:
+                columns[kind, name] = self.counts(kind, name)
+        frame = pandas.DataFrame(columns, index=pandas.RangeIndex(0, self.boundaries * self.step_ms, self.step_ms, name="ms"))
+        if columns:
+            frame.columns.names = ["kind", "name", "destination"][: 2 + by_destination]
+        return frame
 
 
-def _texts_of(lines: Iterable[str], path: str | os.PathLike[str], boundaries: int) -> dict[tuple[str, str], dict[str, str]]:
-    rows = csv.reader(lines)
-    if tuple(next(rows, ())) != CURVES:
-        raise Fault(f"{path}: the curve file does not begin with {','.join(CURVES)}")
-    texts: dict[tuple[str, str], dict[str, str]] = {}
-    for number, row in enumerate(filter(None, rows), 2):
-        if len(row) != len(CURVES) or row[0] not in KINDS:
-            raise Fault(f"{path} row {number}: it is no record of a curve file")
-        kind, name, destination, counts = row
-        if counts.count(" ") + 1 != boundaries:
-            raise Fault(f"{path} row {number}: it has {counts.count(' ') + 1} counts, and the case has {boundaries} boundaries")
-        texts.setdefault((kind, name), {})[destination] = counts
-    return texts
-
-
-def _numbers(text: str, kind: str, name: str) -> Counts:
-    try:
-        if numpy is not None:
-            return numpy.array(text.split(" "), dtype=numpy.int64)
-        return [int(count) for count in text.split(" ")]
-    except (ValueError, OverflowError):
-        raise Fault(f"the curve file's `{kind}` of {name} has a count that is no number") from None
-
-
-def _sum(curves: Iterable[Counts]) -> Counts:
-    if numpy is not None:
-        return sum(curves)
-    return [sum(counts) for counts in zip(*curves)]
-
-
-def _zeros(boundaries: int) -> Counts:
+def zeros(boundaries: int) -> Counts:
+    """A curve that counts nothing."""
     return numpy.zeros(boundaries, dtype=numpy.int64) if numpy is not None else [0] * boundaries
 
 
-def vehicles(counts: Sequence[int] | Counts) -> Counts:
+def less(one: Counts, other: Counts) -> Counts:
+    """One curve less another, boundary by boundary."""
+    return one - other if is_array(one) else [a - b for a, b in zip(one, other)]
+
+
+def total(curves: Sequence[Counts]) -> Counts:
+    """The sum of curves, boundary by boundary."""
+    if len(curves) == 1:
+        return curves[0]
+    return sum(curves) if is_array(curves[0]) else [sum(counts) for counts in zip(*curves)]
+
+
+def greatest(counts: Counts) -> int:
+    """The greatest count."""
+    return int(counts.max()) if is_array(counts) else max(counts)
+
+
+def is_array(counts: Counts) -> bool:
+    """Whether these counts are a numpy array, and not a list."""
+    return numpy is not None and isinstance(counts, numpy.ndarray)
+
+
+def vehicles(counts: Counts) -> Counts:
     """Counts in vehicles, for a picture: floating point, never for a result."""
-    return counts / 1000 if numpy is not None and isinstance(counts, numpy.ndarray) else [count / 1000 for count in counts]
+    return counts / 1000 if is_array(counts) else [count / 1000 for count in counts]
+
+
+def _counts_of(text: bytes) -> Counts | None:
+    """The counts of a field, or None where one is no row of at most 15 digits."""
+    if text.translate(None, DIGITS_AND_SPACE):
+        return None
+    if numpy is not None and text:
+        counts = numpy.fromstring(text, dtype=numpy.int64, sep=" ")  # type: ignore[call-overload]
+        return counts if len(counts) == text.count(b" ") + 1 else None
+    words = text.split(b" ")
+    return [int(word) for word in words] if all(0 < len(word) <= COUNT_DIGITS for word in words) else None
+
+
+def _fields(lines: Iterable[bytes], place: str) -> Iterator[list[bytes]]:
+    """The fields of each record. Where there are quotes, or line ends other than a newline, the general reader cuts them."""
+    kept = list(lines)
+    if any(b'"' in line or b"\r" in line for line in kept):
+        for record in records(b"".join(kept)):
+            yield [field.encode("utf-8", "surrogateescape") for field in record.fields]
+        return
+    kept.reverse()
+    first = True
+    while kept:  # each line is let go once its fields are cut
+        line = kept.pop().rstrip(b"\n")
+        if first:
+            line, first = line.removeprefix(MARK), False
+        if line:
+            yield line.split(b",")
+
+
+def _texts_of(rows: Iterator[list[bytes]], place: str, boundaries: int) -> dict[tuple[str, str], dict[str, bytes]]:
+    if [bytes_text(field) for field in next(rows, [])] != list(CURVES):
+        raise Fault(f"{place}: the curve file does not begin with {','.join(CURVES)}")
+    texts: dict[tuple[str, str], dict[str, bytes]] = {}
+    for number, row in enumerate(rows, 2):
+        if len(row) != len(CURVES) or bytes_text(row[0]) not in KINDS:
+            raise Fault(f"{place} row {number}: it is no record of a curve file")
+        kind, name, destination = map(bytes_text, row[:3])
+        if row[3].count(b" ") + 1 != boundaries:
+            raise Fault(f"{place} row {number}: it has {row[3].count(b' ') + 1} counts, and the case has {boundaries} boundaries")
+        group = texts.setdefault((kind, name), {})
+        if destination in group:
+            raise Fault(f"{place} row {number}: `{kind}` of {name} for {destination} stands there twice")
+        group[destination] = row[3]
+    return texts

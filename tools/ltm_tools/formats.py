@@ -11,6 +11,7 @@ from .errors import Fault
 # files, in bytes
 MOST_FILE_BYTES = 16_777_216
 MOST_CURVES_BYTES = 268_435_456
+MOST_COUNT = 281_474_976_710_656  # of a curve file, in thousandths of a vehicle
 
 # names and whole numbers
 NAME = re.compile(r"[A-Za-z0-9_-]{1,32}", re.ASCII)

@@ -1,0 +1,170 @@
+"""`ltm-tools compare`: two cases side by side."""
+from __future__ import annotations
+
+import argparse
+from collections.abc import Callable, Mapping, Sequence
+
+from . import delay
+from .curves import Counts
+from .delay import Report
+from .formats import MINUTE_MS, clock_text
+from .listing import Cell, TimeUnit, add_format_arguments, csv_text, json_text, seconds, text_table, time_unit, vehicles
+from .files import write_text
+from .loaded import Loaded, add_start_argument, loaded
+from .program import add_program_argument
+from .times import as_list, at, minutes
+
+NAME = "compare"
+SUMMARY = "tell what two cases differ in: vehicle time, delay by link, arrivals by time, the links that changed most"
+EXAMPLES = """\
+    ltm-tools compare examples/corridor WIDER --start 7:00
+    ltm-tools compare examples/corridor WIDER --format csv --table links -o links.csv
+
+Each change is the second case's number less the first's. Times are vehicle time: 2.5 vehicle hours are one vehicle for two and a
+half hours, or five for half an hour. `spent` is all time on links and at origins; `queued` is the part of it in queues of links,
+and `waited` that at origins; together they are the delay. CSV has one table, and JSON all; their times are vehicle seconds.
+"""
+TABLES = ("totals", "links", "origins", "arrivals")
+Pairs = dict[str, tuple[int | None, int | None]]
+
+
+class Comparison:
+    """Two loadings side by side: pairs of numbers by name, None where a case does not have it."""
+
+    def __init__(self, one: Loaded, other: Loaded) -> None:
+        self.both = (one, other)
+        self.reports = tuple(delay.report(curves, case) for case, curves in self.both)
+        self.arrived = tuple(arrivals(loading) for loading in self.both)
+
+    def times(self) -> Pairs:
+        """Vehicle times of all, in units times ms."""
+        return {name: self.pair(lambda report: getattr(report, name)) for name in ("spent", "delay", "queued", "waited")}
+
+    def pair(self, number: Callable[[Report], int]) -> tuple[int, int]:
+        """A number of each report."""
+        return number(self.reports[0]), number(self.reports[1])
+
+    def amounts(self) -> Pairs:
+        """Totals at the end of the horizon, in units."""
+        ends = [end_totals(loading, list(arrived)) for loading, arrived in zip(self.both, self.arrived)]
+        return {name: (ends[0][name], ends[1][name]) for name in ends[0]}
+
+    def links(self) -> Pairs:
+        """The delay of each link, in units times ms."""
+        return paired(*({name: link.queued for name, link in report.links.items()} for report in self.reports))
+
+    def origins(self) -> Pairs:
+        """What was waited at each origin, in units times ms."""
+        return paired(*({name: node.waited for name, node in report.origins.items()} for report in self.reports))
+
+    def arrivals(self, every_ms: int) -> dict[int, tuple[int | None, int | None]]:
+        """What has arrived by each moment, in units."""
+        ends = [case.setup.horizon_ms for case, _ in self.both]
+        moments = [*range(0, max(ends), every_ms), max(ends)]
+        return {moment: tuple(at(counts, case.setup.step_ms, moment) if moment <= end else None  # type: ignore[misc]
+                              for (case, _), counts, end in zip(self.both, self.arrived, ends)) for moment in moments}
+
+
+def arrivals(loading: Loaded) -> list[int]:
+    """What has arrived at all destinations, by boundary."""
+    case, curves = loading
+    ends = [curves.arrived(name) for name in case.destinations]
+    return as_list(delay.total(ends)) if ends else [0] * curves.boundaries
+
+
+def end_totals(loading: Loaded, arrived: Sequence[int]) -> dict[str, int]:
+    """The totals at the end of the horizon, as `ltm load` tells them."""
+    case, curves = loading
+    generated = sum(row.units for row in case.standing_demand())
+    on_links = sum(last(curves.up(link.name)) - last(curves.down(link.name)) for link in case.links)
+    return {"generated": generated, "arrived": arrived[-1], "on_links": on_links,
+            "waiting": generated - sum(last(curves.departed(node)) for node in case.nodes)}
+
+
+def last(counts: Counts) -> int:
+    """The count at the end of the horizon."""
+    return int(counts[-1])
+
+
+def paired(one: Mapping[str, int], other: Mapping[str, int]) -> Pairs:
+    """The numbers of both by name, those of the first in its order, and then those that only the second has."""
+    return {name: (one.get(name), other.get(name)) for name in dict.fromkeys((*one, *other))}
+
+
+def change(pair: tuple[int | None, int | None]) -> int:
+    """The second number less the first, where 0 stands for what is not there."""
+    return (pair[1] or 0) - (pair[0] or 0)
+
+
+def most_changed(pairs: Pairs, count: int | None = None) -> Pairs:
+    """Those that changed, the greatest change first."""
+    changed = sorted((name for name in pairs if change(pairs[name])), key=lambda name: -abs(change(pairs[name])))
+    return {name: pairs[name] for name in changed[:count]}
+
+
+def add_arguments(parser: argparse.ArgumentParser) -> None:
+    parser.add_argument("case", metavar="CASE", help="the folder of a case")
+    parser.add_argument("other", metavar="OTHER", help="the folder of another, as with some works")
+    for name, text in (("curves", "CASE"), ("other-curves", "OTHER")):
+        parser.add_argument(f"--{name}", metavar="FILE", help=f"a curve file of {text} (else the program makes it)")
+    add_program_argument(parser)
+    add_start_argument(parser)
+    parser.add_argument("--every", metavar="MINUTES", type=minutes, default=5 * MINUTE_MS, help="arrivals every so many minutes (5)")
+    parser.add_argument("--links", metavar="N", type=int, default=10, help="in text, how many links that changed most (10)")
+    parser.add_argument("--table", choices=TABLES, default="links", help="which table in CSV (links)")
+    add_format_arguments(parser)
+
+
+def run(args: argparse.Namespace) -> int:
+    found = Comparison(loaded(args.case, args.curves, args.program), loaded(args.other, args.other_curves, args.program))
+    if args.format == "text":
+        write_text(args.output, text(found, args))
+        return 0
+    tables = {name: (header, rows) for name, header, rows in all_tables(found, args)}
+    if args.format == "csv":
+        write_text(args.output, csv_text(*tables[args.table]))
+    else:
+        parts = [f'"{name}": {json_text(*table).rstrip()}' for name, table in tables.items()]
+        write_text(args.output, "{\n" + ",\n".join(parts) + "\n}\n")
+    return 0
+
+
+def exact(name: str, pair: tuple[int | None, int | None], shown: Callable[[int], Cell]) -> list[Cell]:
+    """A name with both numbers and their change."""
+    return [name, *(None if number is None else shown(number) for number in pair), shown(change(pair))]
+
+
+def all_tables(found: Comparison, args: argparse.Namespace) -> list[tuple[str, list[str], list[list[Cell]]]]:
+    """The tables for programs, each with its name and header: times in vehicle seconds, amounts in vehicles, moments in ms."""
+    header = ["name", "one", "other", "change"]
+    totals = [exact(f"{name}_seconds", pair, seconds) for name, pair in found.times().items()]
+    totals += [exact(name, pair, vehicles) for name, pair in found.amounts().items()]
+    moments: list[list[Cell]] = [[args.start + moment, *exact("", pair, vehicles)[1:]] for moment, pair in found.arrivals(args.every).items()]
+    return [("totals", header, totals),
+            ("links", header, [exact(name, pair, seconds) for name, pair in found.links().items()]),
+            ("origins", header, [exact(name, pair, seconds) for name, pair in found.origins().items()]),
+            ("arrivals", ["ms", *header[1:]], moments)]
+
+
+def text(found: Comparison, args: argparse.Namespace) -> str:
+    """All tables for people."""
+    unit = time_unit(*(number for pair in found.times().values() for number in pair if number is not None))
+    header = ["", "one", "other", "change"]
+    lines = [f"one is {args.case}, other is {args.other}; time in {unit.name}, amounts in vehicles\n\n"]
+    rows = [exact(name, pair, unit.show) for name, pair in found.times().items()]
+    rows += [exact(name, pair, vehicles) for name, pair in found.amounts().items()]
+    lines.append(text_table(header, rows))
+    lines += pieces("queued on links", found.links(), args.links, unit, "link")
+    lines += pieces("waited at origins", found.origins(), args.links, unit, "origin")
+    moments = [[clock_text(args.start + moment), *exact("", pair, vehicles)[1:]] for moment, pair in found.arrivals(args.every).items()]
+    lines.append("\narrived by\n" + text_table(["clock", *header[1:]], moments))
+    return "".join(lines)
+
+
+def pieces(title: str, pairs: Pairs, count: int, unit: TimeUnit, what: str) -> list[str]:
+    """The part of the text on the links, or the origins, that changed most."""
+    changed, shown = most_changed(pairs), most_changed(pairs, count)
+    if not changed:
+        return [f"\n{title}: no change\n"]
+    told = f"the {len(shown)} of {len(changed)} that changed most" if len(shown) < len(changed) else f"{len(changed)} changed"
+    return [f"\n{title}: {told}\n", text_table([what, "one", "other", "change"], [exact(name, pair, unit.show) for name, pair in shown.items()])]

@@ -1,0 +1,106 @@
+"""Tables of results: text for people, CSV and JSON for programs.
+
+A cell is a text, a whole number, an exact Decimal, or None where there is nothing to tell. In CSV and JSON a Decimal stands with
+all its digits.
+"""
+from __future__ import annotations
+
+import argparse
+import csv
+import io
+import json
+from collections.abc import Sequence
+from decimal import Decimal
+from typing import NamedTuple
+
+from .files import write_text
+from .formats import HOUR_MS, UNITS
+
+Cell = str | int | Decimal | None
+FORMATS = ("text", "csv", "json")
+
+
+def add_format_arguments(parser: argparse.ArgumentParser) -> None:
+    """The options `--format` and `--output`, for commands that write a table."""
+    parser.add_argument("--format", choices=FORMATS, default="text", help="text for people (the default), csv or json for programs")
+    parser.add_argument("-o", "--output", metavar="FILE", default="-", help="the file to write (else the standard output)")
+
+
+def vehicles(units: int) -> Decimal:
+    """Thousandths as vehicles, with three decimals."""
+    return Decimal(units).scaleb(-3)
+
+
+def seconds(time: int) -> Decimal:
+    """Units times milliseconds as vehicle seconds, with six decimals."""
+    return Decimal(time).scaleb(-6)
+
+
+class TimeUnit(NamedTuple):
+    """What vehicle time is shown in: its name, and how many units times milliseconds it has."""
+
+    name: str
+    size: int
+
+    def show(self, time: int) -> Decimal:
+        """Units times milliseconds in this unit, to the nearest hundredth."""
+        return rounded(time, self.size, 2)
+
+
+SECONDS, HOURS = TimeUnit("vehicle seconds", UNITS * 1000), TimeUnit("vehicle hours", UNITS * HOUR_MS)
+
+
+def time_unit(*times: int) -> TimeUnit:
+    """The unit for a table with these times: hours where the greatest has ten, else seconds."""
+    return HOURS if max(map(abs, times), default=0) >= 10 * HOURS.size else SECONDS
+
+
+def percent(part: int, whole: int) -> Decimal:
+    """A share in percent, to the nearest tenth."""
+    return rounded(100 * part, whole, 1)
+
+
+def rounded(top: int, bottom: int, decimals: int) -> Decimal:
+    """A fraction to the nearest number with so many decimals, halves away from 0."""
+    scaled = (2 * abs(top) * 10**decimals + bottom) // (2 * bottom)
+    return Decimal(-scaled if top < 0 else scaled).scaleb(-decimals)
+
+
+def write_table(args: argparse.Namespace, header: Sequence[str], rows: Sequence[Sequence[Cell]], text: str) -> None:
+    """Writes a table in the form that `args.format` asks for, to the file `args.output`: `text` for people, else header and rows."""
+    if args.format == "csv":
+        write_text(args.output, csv_text(header, rows))
+    elif args.format == "json":
+        write_text(args.output, json_text(header, rows))
+    else:
+        write_text(args.output, text)
+
+
+def csv_text(header: Sequence[str], rows: Sequence[Sequence[Cell]]) -> str:
+    """The table as CSV: a header, and a line for each row."""
+    file = io.StringIO()
+    writer = csv.writer(file, lineterminator="\n")
+    writer.writerow(header)
+    writer.writerows(["" if cell is None else format(cell, "f") if isinstance(cell, Decimal) else cell for cell in row] for row in rows)
+    return file.getvalue()
+
+
+def json_text(header: Sequence[str], rows: Sequence[Sequence[Cell]]) -> str:
+    """The table as JSON: an array with an object for each row, a line each."""
+    lines = ["{" + ", ".join(f"{json.dumps(name)}: {json_cell(cell)}" for name, cell in zip(header, row)) + "}" for row in rows]
+    return "[\n" + ",\n".join(lines) + "\n]\n" if lines else "[]\n"
+
+
+def json_cell(cell: Cell) -> str:
+    return format(cell, "f") if isinstance(cell, Decimal) else json.dumps(cell)
+
+
+def text_table(header: Sequence[str], rows: Sequence[Sequence[Cell]]) -> str:
+    """The table as text in columns: numbers and times to the right, names to the left."""
+    shown = [["" if cell is None else format(cell, "f") if isinstance(cell, Decimal) else str(cell) for cell in row] for row in rows]
+    widths = [max(map(len, column)) for column in zip(header, *shown)]
+    right = [bool(rows) and all(cell is None or not isinstance(cell, str) or cell[:1].isdigit() for cell in column) for column in zip(*rows)] or [False] * len(header)
+    right[0] = False
+    lines = ["  ".join(cell.rjust(width) if to_right else cell.ljust(width) for cell, width, to_right in zip(row, widths, right)).rstrip()
+             for row in (list(header), *shown)]
+    return "".join(line + "\n" for line in lines)

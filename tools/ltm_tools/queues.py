@@ -1,0 +1,121 @@
+"""`ltm-tools queues`: where queues stand, and when."""
+from __future__ import annotations
+
+import argparse
+from collections.abc import Iterator
+from typing import NamedTuple
+
+from . import delay
+from .case import Case
+from .curves import Counts, Curves, is_array
+from .formats import clock_text, units_of
+from .listing import Cell, add_format_arguments, percent, seconds, text_table, time_unit, vehicles, write_table
+from .loaded import add_case_arguments, add_start_argument, loaded
+
+try:
+    import numpy
+except ImportError:
+    numpy = None  # type: ignore[assignment]
+
+NAME = "queues"
+SUMMARY = "list where queues stand, from when to when, how long they grow and what delay they bring"
+EXAMPLES = """\
+    ltm-tools queues examples/corridor --start 7:00
+    ltm-tools queues examples/corridor --least 10 --format csv -o queues.csv
+
+A queue of a link is who could have left it in free flow and has not; of an origin, who has set out and waits. Each line is a time
+through which at least LEAST vehicles stand there: from the first moment with so many to the last, `...` where the horizon ends
+first. `share` is the worst queue in percent of what the link stores. `delay` is the vehicle time in that queue.
+"""
+HEADER = ("kind", "name", "from", "to", "worst", "at", "share", "delay")
+FIELDS = ("kind", "name", "from_ms", "to_ms", "lasts", "worst", "worst_ms", "storage", "delay")
+LEAST_UNITS = 1000
+
+
+class Queue(NamedTuple):
+    """A queue: of a link or of an origin; its first and last boundary; whether it lasts beyond the horizon; its worst in units, with
+    the first boundary that has it; what the link stores, None for an origin; and its delay in units times ms."""
+
+    kind: str
+    name: str
+    first: int
+    last: int
+    lasts: bool
+    worst: int
+    at: int
+    storage: int | None
+    delay: int
+
+
+def queues(curves: Curves, case: Case, least: int = LEAST_UNITS) -> list[Queue]:
+    """All queues of at least so many units, of links in the order of `links.csv`, and then of origins by node number."""
+    found = []
+    for link in case.links:
+        found += _queues("link", link.name, delay.queue(curves, link), least, link.storage_units, curves.step_ms)
+    for node, rows in delay.demand_of(case).items():
+        counts = delay.less(delay.produced(rows, curves.boundaries), curves.departed(node))
+        found += _queues("origin", node, counts, least, None, curves.step_ms)
+    return found
+
+
+def _queues(kind: str, name: str, counts: Counts, least: int, storage: int | None, step_ms: int) -> Iterator[Queue]:
+    for first, last in spans(counts, least):
+        part = counts[first : last + 1]
+        worst, at = delay.most(part)
+        yield Queue(kind, name, first, last, last == len(counts) - 1, worst, first + at, storage, delay.whole(part) * step_ms)
+
+
+def spans(counts: Counts, least: int) -> Iterator[tuple[int, int]]:
+    """The first and last boundary of each longest row of counts of at least so much."""
+    if is_array(counts):
+        edges = numpy.flatnonzero(numpy.diff(numpy.concatenate(([0], (counts >= least).astype(numpy.int8), [0]))))
+        yield from ((int(first), int(end) - 1) for first, end in zip(edges[::2], edges[1::2]))
+        return
+    first = None
+    for k, count in enumerate([*counts, least - 1]):
+        if count >= least and first is None:
+            first = k
+        elif count < least and first is not None:
+            yield first, k - 1
+            first = None
+
+
+def add_arguments(parser: argparse.ArgumentParser) -> None:
+    add_case_arguments(parser)
+    add_start_argument(parser)
+    parser.add_argument("--least", metavar="VEHICLES", default="1", help="how many vehicles make a queue (1; with 0.001 every queue is told)")
+    parser.add_argument("--sort", choices=("delay", "worst", "from", "case"), default="delay", help="the order of lines (delay)")
+    add_format_arguments(parser)
+
+
+ORDERS = {"delay": lambda queue: -queue.delay, "worst": lambda queue: -queue.worst, "from": lambda queue: queue.first, "case": lambda queue: 0}
+
+
+def run(args: argparse.Namespace) -> int:
+    least = max(1, units_of(args.least))
+    case, curves = loaded(args.case, args.curves, args.program)
+    found = sorted(queues(curves, case, least), key=ORDERS[args.sort])
+    write_table(args, FIELDS, [fields(queue, curves.step_ms, args.start) for queue in found], text(found, case, curves, args.start, least))
+    return 0
+
+
+def fields(queue: Queue, step_ms: int, start: int) -> list[Cell]:
+    """A queue for programs: times in ms since midnight, amounts in vehicles, the delay in vehicle seconds."""
+    return [queue.kind, queue.name, start + queue.first * step_ms, start + queue.last * step_ms, int(queue.lasts), vehicles(queue.worst),
+            start + queue.at * step_ms, None if queue.storage is None else vehicles(queue.storage), seconds(queue.delay)]
+
+
+def text(found: list[Queue], case: Case, curves: Curves, start: int, least: int) -> str:
+    """The table for people, with what all queues bring below it."""
+    def when(k: int) -> str:
+        return clock_text(start + k * curves.step_ms)
+
+    told = delay.report(curves, case)
+    unit = time_unit(told.delay)
+    rows = [[queue.kind, queue.name, when(queue.first), "..." if queue.lasts else when(queue.last), vehicles(queue.worst), when(queue.at),
+             None if queue.storage is None else f"{percent(queue.worst, queue.storage)} %", unit.show(queue.delay)] for queue in found]
+    lines = [f"queues of at least {vehicles(least)} vehicles: {len(found)}; the delay is in {unit.name}\n",
+             text_table(HEADER, rows) if rows else "",
+             f"delay of these {unit.show(sum(queue.delay for queue in found))}, of all {unit.show(told.delay)}: "
+             f"{unit.show(told.queued)} in queues of links, {unit.show(told.waited)} at origins\n"]
+    return "".join(lines)

@@ -1,0 +1,83 @@
+"""A headless Chromium, driven over the WebDriver protocol by Python's own library."""
+import base64
+import json
+import shutil
+import socket
+import subprocess
+import time
+import unittest
+import urllib.error
+import urllib.request
+from typing import Any
+
+CHROMIUM, DRIVER = shutil.which("chromium"), shutil.which("chromedriver")
+needs_browser = unittest.skipUnless(CHROMIUM and DRIVER, "chromium and chromium-driver are not there")
+
+
+class Browser:
+    """A window of 1400 by 900; `close` ends it."""
+
+    def __init__(self) -> None:
+        with socket.socket() as free:
+            free.bind(("127.0.0.1", 0))
+            port = free.getsockname()[1]
+        self.process = subprocess.Popen([str(DRIVER), f"--port={port}"], stdout=subprocess.DEVNULL, stderr=subprocess.DEVNULL)
+        self.base, self.session = f"http://127.0.0.1:{port}", ""
+        try:
+            self.begin()
+        except BaseException:
+            self.close()
+            raise
+
+    def begin(self) -> None:
+        for _ in range(200):
+            try:
+                self.call("GET", "/status")
+                break
+            except OSError:
+                time.sleep(0.05)
+        chrome = {"binary": CHROMIUM, "args": ["--headless=new", "--no-sandbox", "--disable-gpu", "--window-size=1400,900"]}
+        wanted = {"browserName": "chrome", "goog:loggingPrefs": {"browser": "ALL"}, "goog:chromeOptions": chrome}
+        self.session = "/session/" + self.call("POST", "/session", {"capabilities": {"alwaysMatch": wanted}})["sessionId"]
+
+    def call(self, method: str, path: str, body: object = None) -> Any:
+        data = None if body is None else json.dumps(body).encode()
+        request = urllib.request.Request(self.base + path, data, {"Content-Type": "application/json"}, method=method)
+        try:
+            with urllib.request.urlopen(request, timeout=60) as answer:
+                return json.load(answer)["value"]
+        except urllib.error.HTTPError as error:
+            raise AssertionError(json.load(error)["value"]["message"]) from None
+
+    def open(self, path: object) -> None:
+        self.call("POST", self.session + "/url", {"url": f"file://{path}"})
+
+    def run(self, script: str, *args: object) -> Any:
+        """What a script returns."""
+        return self.call("POST", self.session + "/execute/sync", {"script": script, "args": args})
+
+    def click(self, x: float, y: float) -> None:
+        """A click of the mouse at a point of the window."""
+        steps = [{"type": "pointerMove", "duration": 0, "x": round(x), "y": round(y)}, {"type": "pointerDown", "button": 0}, {"type": "pointerUp", "button": 0}]
+        self.call("POST", self.session + "/actions", {"actions": [{"type": "pointer", "id": "mouse", "parameters": {"pointerType": "mouse"}, "actions": steps}]})
+
+    def press(self, selector: str, keys: str) -> None:
+        """Keys into an element."""
+        element = next(iter(self.call("POST", self.session + "/element", {"using": "css selector", "value": selector}).values()))
+        self.call("POST", f"{self.session}/element/{element}/value", {"text": keys})
+
+    def console(self) -> list[str]:
+        """What stands on the console."""
+        return [line["message"] for line in self.call("POST", self.session + "/se/log", {"type": "browser"})]
+
+    def picture(self, path: str) -> None:
+        with open(path, "wb") as file:
+            file.write(base64.b64decode(self.call("GET", self.session + "/screenshot")))
+
+    def close(self) -> None:
+        try:
+            if self.session:
+                self.call("DELETE", self.session)
+        finally:
+            self.process.terminate()
+            self.process.wait()

@@ -1,0 +1,132 @@
+"""Queues and delay: against numbers worked by hand, and against the exact answers of an engine that was written without this one."""
+import unittest
+from pathlib import Path
+from unittest import mock
+
+from support import BUILT, EXAMPLES, FolderTest, needs_program
+from ltm_tools import curves as curve_files
+from ltm_tools import delay
+from ltm_tools.case import Case, Demand
+from ltm_tools.curves import Curves
+from ltm_tools.errors import Fault
+from ltm_tools.loaded import loaded
+
+DATA = Path(__file__).resolve().parent / "data" / "delay"
+WITH_CURVES = sorted(path.parent.name for path in DATA.glob("*/curves.csv"))
+LARGE = ("large_16", "large_40")
+
+# docs/MODEL.md, a worked corridor: totals by boundary
+PRODUCED = [0, 700, 1400, 2100, 2800, 3500, 4200, 4900, 5600, 6300, 7000, 7000, 7000, 7000, 7000, 7000, 7000]
+
+
+def read(name: str) -> tuple[Case, Curves]:
+    return Case.read(DATA / name), Curves.of_case(DATA / name)
+
+
+class ByHand(unittest.TestCase):
+    def test_ready(self) -> None:
+        up = [0, 500, 1000, 1000, 1000]
+        self.assertEqual(list(delay.ready(up, 1000, 2000)), [0, 0, 0, 500, 1000])
+        # 2500 ms: at boundary 3 the moment 500 ms is looked at, at 4 the moment 1500 ms
+        self.assertEqual(list(delay.ready(up, 1000, 2500)), [0, 0, 0, 250, 750])
+        # 1 unit in a slot is only whole at its end
+        self.assertEqual(list(delay.ready([0, 1, 1, 1], 1000, 1001)), [0, 0, 0, 1])
+        # a free-flow time beyond the horizon
+        self.assertEqual(list(delay.ready([0, 7, 7], 1000, 9000)), [0, 0, 0])
+
+    def test_produced(self) -> None:
+        self.assertEqual(list(delay.produced([Demand("n1", "n3", 0, 10, 7000)], 17)), PRODUCED)
+        # floor(10 * k / 3) is 0, 3, 6, 10, and two rows add up
+        rows = [Demand("n1", "n3", 1, 4, 10), Demand("n1", "n2", 2, 3, 5)]
+        self.assertEqual(list(delay.produced(rows, 6)), [0, 0, 3, 11, 15, 15])
+
+    def test_spillback(self) -> None:
+        case, curves = read("spillback")
+        told = delay.report(curves, case)
+        self.assertEqual(told.links["a"], delay.Delay(30_500_000, 20_700_000, 1800, 8))
+        self.assertEqual(told.links["b"], delay.Delay(5_400_000, 0, 0, 0))
+        self.assertEqual(told.origins, {"n1": delay.Wait(29_000_000, 3200, 10)})
+        # 80.5 produced less 15.6 arrived, boundary by boundary
+        self.assertEqual((told.spent, told.queued, told.waited, told.delay), (64_900_000, 20_700_000, 29_000_000, 49_700_000))
+        self.assertEqual(list(delay.waiting(curves, case, "n1"))[:9], [0, 200, 400, 600, 800, 1000, 1200, 1700, 2200])
+        self.assertEqual(list(delay.waiting(curves, case, "n2")), [0] * 17)
+        # a(4): 2 slots before, 1000 had entered, and 400 have left
+        self.assertEqual(list(delay.queue(curves, case.link("a")))[:5], [0, 0, 0, 300, 600])
+
+    def test_texts(self) -> None:
+        self.assertEqual(delay.seconds_text(64_900_000), "64.900000")
+        self.assertEqual(delay.seconds_text(1), "0.000001")
+        self.assertEqual(delay.seconds_text(-1_500_000), "-1.500000")
+        self.assertEqual(delay.seconds_text(4_500_000_000_000_000_000_001), "4500000000000000.000001")
+
+    def test_what_is_no_loading(self) -> None:
+        for counts in ([0, 2, 1], [1, 1], [0, 32_001]):
+            for form in (counts, curve_files.total([counts])):
+                self.assertRaises(Fault, delay.check, form, "x")
+        delay.check([0, 0, 32_000, 32_000], "x")
+
+
+class Exact(unittest.TestCase):
+    """Against `delay.out`, and against what a session answers about a moment."""
+
+    def reports(self) -> None:
+        self.assertGreaterEqual(len(WITH_CURVES), 10)
+        for name in WITH_CURVES:
+            with self.subTest(name):
+                case, curves = read(name)
+                told = "".join(line + "\n" for line in delay.report(curves, case).lines())
+                self.assertEqual(told, (DATA / name / "delay.out").read_text())
+
+    def test_reports(self) -> None:
+        self.reports()
+
+    def test_reports_without_numpy(self) -> None:
+        with mock.patch.object(curve_files, "numpy", None), mock.patch.object(delay, "numpy", None):
+            self.reports()
+
+    def test_moments(self) -> None:
+        asked = 0
+        for path in sorted(DATA.glob("*/answers.out")):
+            case, curves = read(path.parent.name)
+            for line in path.read_text().splitlines():
+                words = line.split()
+                asked += self.moment(case, curves, words)
+        self.assertGreaterEqual(asked, 10)
+
+    def moment(self, case: Case, curves: Curves, words: list[str]) -> int:
+        """`version 0 link NAME slot N in G out A queue Q`, or `version 0 node NAME slot N produced P left L waiting W`."""
+        if words[2] == "link" and words[-2] == "queue":
+            counts = delay.queue(curves, case.link(words[3]))
+        elif words[2] == "node":
+            counts = delay.waiting(curves, case, words[3])
+        else:
+            return 0
+        self.assertEqual(delay.vehicles_text(int(counts[int(words[5])])), words[-1], words)
+        return 1
+
+    @needs_program
+    def test_large(self) -> None:
+        for name in LARGE:
+            told = "".join(line + "\n" for line in delay.report(loaded(str(DATA / name), None, str(BUILT)).curves, Case.read(DATA / name)).lines())
+            self.assertEqual(told, (DATA / name / "delay.out").read_text())
+
+
+@needs_program
+class Program(FolderTest):
+    """What is worked out agrees with what the program tells of the same loading."""
+
+    def test_laws(self) -> None:
+        for name in ("spillback", "incident", "corridor", "evening", "merge"):
+            with self.subTest(name):
+                case, curves = loaded(str(EXAMPLES / name), None, str(BUILT))
+                told = delay.report(curves, case)
+                for link in case.links:
+                    up, down = curves.up(link.name), curves.down(link.name)
+                    self.assertTrue(all(0 <= q <= on <= link.storage_units for q, on in zip(delay.queue(curves, link), delay.less(up, down))))
+                generated = delay.produced(case.standing_demand(), curves.boundaries)
+                arrived = delay.total([curves.arrived(end) for end in case.destinations])
+                self.assertEqual(told.spent, delay.whole(delay.less(generated, arrived)) * curves.step_ms)
+
+
+if __name__ == "__main__":
+    unittest.main()

@@ -1,0 +1,200 @@
+"""The page: what stands in the file, and in headless Chromium that it shows what the curves say."""
+import json
+import os
+import random
+import re
+import unittest
+from pathlib import Path
+
+from browser import Browser, needs_browser
+from support import FolderTest
+from test_delay import DATA, read
+from ltm_tools import cli, delay, layout
+from ltm_tools.case import Case, Demand, Limit, Link, Setup, Split
+from ltm_tools.curves import Curves
+from ltm_tools.errors import Fault
+from ltm_tools.node_places import geojson, read_places
+from ltm_tools.page import find_d3
+
+try:
+    find_d3()
+    NO_D3 = ""
+except Fault as fault:
+    NO_D3 = str(fault)
+needs_d3 = unittest.skipIf(NO_D3, NO_D3)
+RIGHT = "\ue014"  # the key in WebDriver
+
+
+def write_page(folder: Path, *words: str) -> Path:
+    """A page in a folder, of the spillback case and what these words say."""
+    path = folder / "page.html"
+    assert cli.run(["page", *words, "-o", str(path)]) == 0
+    return path
+
+
+def with_curves(name: str, other: bool = False) -> list[str]:
+    return [str(DATA / name), "--other-curves" if other else "--curves", str(DATA / name / "curves.csv")]
+
+
+@needs_d3
+class Files(FolderTest):
+    def test_stands_alone(self) -> None:
+        text = write_page(self.folder, *with_curves("spillback"), "--title", "a <b> & c").read_text()
+        self.assertEqual(re.findall(r'(?:src|href)="?[^"> ]+', text.split("<script>")[0]), [])
+        self.assertIn("<title>a &lt;b&gt; &amp; c</title>", text)
+        told = json.loads(text.partition('id="data">')[2].partition("</script>")[0])
+        self.assertEqual(told["title"], "a <b> & c")
+        self.assertEqual([link["name"] for link in told["cases"][0]["links"]], ["a", "b"])
+
+    def test_no_d3(self) -> None:
+        (self.folder / "d3.js").write_text("// https://d3js.org v3.5.17 Copyright\n")
+        self.assertRaisesRegex(Fault, "is not d3.min.js of version 5 to 7", find_d3, str(self.folder / "d3.js"))
+
+
+class Drawing(unittest.TestCase):
+    def test_lengths(self) -> None:
+        """A square of roads of 100 m, and one diagonal of 141 m: it can be drawn exactly."""
+        links = [("a", "b", 100.0), ("b", "c", 100.0), ("c", "d", 100.0), ("d", "a", 100.0), ("a", "c", 141.4)]
+        at = layout.places("abcd", links)
+        for tail, head, length in links:
+            self.assertLess(abs(((at[tail][0] - at[head][0]) ** 2 + (at[tail][1] - at[head][1]) ** 2) ** 0.5 - length), 25)
+        self.assertEqual(at, layout.places("abcd", links))
+
+    def test_parts_do_not_overlap(self) -> None:
+        at = layout.places("abcde", [("a", "b", 100.0), ("c", "d", 50.0)])
+        self.assertLess(max(at["a"][0], at["b"][0]), min(at["c"][0], at["d"][0]))
+        self.assertLess(max(at["c"][0], at["d"][0]), at["e"][0])
+
+    def test_bends(self) -> None:
+        at = {"a": (0.0, 0.0), "b": (1.0, 0.0), "c": (2.0, 0.01), "d": (1.0, 1.0)}
+        self.assertEqual(layout.bends(at, [("a", "b"), ("a", "c"), ("a", "d")]), [0.0, 0.12, 0.0])
+
+
+class Places(FolderTest):
+    def test_places(self) -> None:
+        folder = self.case(nodes="name,x,y,crs\nn2,11.5,48.1,EPSG:4326\nn1,11.25,48,epsg:4326\n")
+        case = Case.read(folder)
+        places = read_places(folder, case)
+        assert places is not None
+        self.assertEqual(places.of, {"n1": (11.25, 48.0), "n2": (11.5, 48.1)})
+        told = json.loads(geojson(case, places, {"a": {"most": 1.5}}))
+        self.assertEqual(told["features"][0]["geometry"], {"type": "LineString", "coordinates": [[11.25, 48.0], [11.5, 48.1]]})
+        self.assertEqual(told["features"][0]["properties"]["most"], 1.5)
+        self.assertNotIn("crs", told)
+        self.assertIsNone(read_places(DATA / "spillback", case))
+
+    def test_faults(self) -> None:
+        for text, fault in (("name,x,y\nn1,0,0\n", "the node n2 has no place"), ("name,x\n", "no field y"), ("name,x,y\nn1,0,0\nn1,1,1\n", "has a place already"),
+                            ("name,x,y,crs\nn1,0,0,UTM\n", "EPSG:25832"), ("name,x,y,crs\nn1,0,0,EPSG:25832\nn2,0,1,\n", "the same projection")):
+            folder = self.case(nodes=text)
+            self.assertRaisesRegex(Fault, fault, read_places, folder, Case.read(folder))
+
+
+class GeoJson(FolderTest):
+    def test_command(self) -> None:
+        folder = self.folder / "case"
+        Case.read(DATA / "spillback").write(folder)
+        (folder / "nodes.csv").write_text("name,x,y,crs\nn1,0,0,EPSG:25832\nn2,20,0,EPSG:25832\nn3,40,0,EPSG:25832\n")
+        words = ["geojson", str(folder), "--curves", str(DATA / "spillback" / "curves.csv"), "--start", "7:00", "-o", str(folder / "links.json")]
+        self.assertEqual(cli.run([*words, "--at", "7:00:08"]), 0)
+        told = json.loads((folder / "links.json").read_text())
+        self.assertEqual(told["crs"]["properties"]["name"], "urn:ogc:def:crs:EPSG::25832")
+        a = told["features"][0]["properties"]
+        # docs/MODEL.md: by boundary 8 3400 have entered and 1200 left; 3000 could have left
+        self.assertEqual((a["on_link"], a["queue"], a["entered"], a["left"], a["queued"], a["most_queue_ms"]), (2.2, 1.8, 5.0, 2.8, 20.7, 8000))
+        self.assertEqual(cli.run([*words, "--at", "6:59"]), 1)
+
+
+@needs_d3
+@needs_browser
+class InABrowser(FolderTest):
+    browser: Browser
+
+    @classmethod
+    def setUpClass(cls) -> None:
+        cls.browser = Browser()
+
+    @classmethod
+    def tearDownClass(cls) -> None:
+        cls.browser.close()
+
+    def text(self, selector: str) -> str:
+        return str(self.browser.run("return document.querySelector(arguments[0]).textContent", selector))
+
+    def test_what_a_user_does(self) -> None:
+        self.browser.open(write_page(self.folder, *with_curves("spillback"), "--start", "7:00", "--least", "0.001"))
+        # it opens at the moment with most in queues, 8 s
+        self.assertEqual(self.text("#clock"), "7:00:08")
+        self.browser.press("#time", RIGHT * 2)
+        self.assertEqual(self.text("#clock"), "7:00:10")
+        self.browser.click(*self.browser.run("return ltm.middle('a')"))
+        self.assertEqual(self.text("#link h2"), "Link a from n1 to n2, 20 m")
+        self.assertEqual(self.browser.run("return document.querySelectorAll('#link svg path[stroke]:not(.domain)').length"), 5)  # four curves, and the storage
+        rows = self.browser.run("return [...document.querySelectorAll('#list tbody tr')].map(row => [...row.cells].map(cell => cell.textContent))")
+        self.assertEqual(rows, [["n1 (origin)", "7:00:01", "…", "3.200", "7:00:10", "", "29.00"], ["a", "7:00:03", "…", "1.800", "7:00:08", "60.0 %", "20.70"]])
+        self.browser.run("document.querySelector('#list tbody tr').click()")
+        self.assertEqual(self.text("#link h2"), "Origin n1 who has set out, and who has found room on a link")
+        self.assertEqual(self.browser.console(), [])
+
+    def test_two_cases(self) -> None:
+        self.browser.open(write_page(self.folder, str(DATA / "base"), str(DATA / "base_signals"), *with_curves("base")[1:], *with_curves("base_signals", True)[1:]))
+        self.assertEqual(self.browser.run("return [...document.querySelectorAll('#switch button')].map(each => each.textContent)"), ["base", "base_signals"])
+        shown = []
+        for place in (1, 0):
+            self.browser.run("document.querySelectorAll('#switch button')[arguments[0]].click()", place)
+            shown.append((self.browser.run("return ltm.state.at"), self.text("#totals dd")))
+        one, other = ((DATA / name / "delay.out").read_text().split()[3] for name in ("base", "base_signals"))
+        self.assertEqual(shown, [(1, f"{float(other):.2f}"), (0, f"{float(one):.2f}")])
+        self.assertNotEqual(one, other)
+        self.assertEqual(self.browser.console(), [])
+
+    def test_numbers(self) -> None:
+        """Queues, waiting and vehicles on links, each at every boundary, are those of the module `delay`."""
+        for name in ("grid", "cross", "star", "spill_cross", "spillback"):
+            case, curves = read(name)
+            self.browser.open(write_page(self.folder, *with_curves(name)))
+            told = self.browser.run("const one = ltm.cases[0], ks = d3.range(one.slots + 1), of = (rows, f) => rows.map((_, row) => ks.map(k => f(one, row, k)));"
+                                    "return [of(one.links, ltm.queue), of(one.links, ltm.standing), of(one.origins, ltm.waiting)]")
+            self.assertEqual(told[0], [list(delay.queue(curves, link)) for link in case.links])
+            self.assertEqual(told[1], [list(curves.on_link(link.name)) for link in case.links])
+            self.assertEqual(told[2], [list(delay.waiting(curves, case, node)) for node in delay.demand_of(case)])
+            self.assertEqual(self.browser.console(), [])
+
+    def test_large(self) -> None:
+        """2,000 links and 700 slots: under 20 MB, and in a browser that has nothing else to do in two seconds."""
+        path = write_page(self.folder, *large(self.folder))
+        self.assertLess(path.stat().st_size, 20_000_000)
+        self.browser.open(path)
+        took = min(self.opened(path) for _ in range(3))
+        self.assertLess(took, 2000)
+        print(f"opened in {took:.0f} ms, {path.stat().st_size} bytes")
+        self.assertEqual(self.browser.console(), [])
+
+    def opened(self, path: Path) -> float:
+        self.browser.open(path)
+        return float(self.browser.run("return ltm.opened"))
+
+
+def large(folder: Path) -> list[str]:
+    """A ring of 2,000 links with curves of 700 slots, made by chance; they are shown, and are no loading."""
+    pick, links, slots = random.Random(3), 2000, 700
+    case = Case(Setup(10_000, slots, 32_000), [Link(f"l{k}", f"n{k}", f"n{(k + 1) % links}", 300, 54, 18, 150) for k in range(links)],
+                [Demand("n0", "n7", 0, 700, 1000)], [Split(f"n{k}", "n7", 0, {f"l{k}": 1}) for k in range(links) if k != 7], [Limit("l0", 0, 1, 500)])
+    case.write(folder / "large")
+    with open(folder / "large" / "curves.csv", "w", encoding="ascii") as file:
+        file.write("kind,name,destination,counts\n")
+        for link in case.links:
+            for kind in ("up", "down"):
+                counts = [0]
+                for _ in range(slots):
+                    counts.append(counts[-1] + pick.randrange(0, 9000))
+                file.write(f"{kind},{link.name},n7,{' '.join(map(str, counts))}\n")
+        for node in case.nodes:
+            file.write(f"dep,{node},n7,{' '.join(['0'] * (slots + 1))}\n")
+        file.write(f"arr,n7,n7,{' '.join(['0'] * (slots + 1))}\n")
+    assert Curves.of_case(folder / "large").boundaries == slots + 1
+    return [str(folder / "large"), "--curves", str(folder / "large" / "curves.csv")]
+
+
+if __name__ == "__main__":
+    unittest.main()

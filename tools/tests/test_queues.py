@@ -1,0 +1,64 @@
+"""The table of queues, on numbers worked by hand."""
+import csv
+import io
+import json
+import unittest
+from contextlib import redirect_stdout
+from unittest import mock
+
+from test_delay import DATA, read
+from ltm_tools import cli, curves, delay
+from ltm_tools import queues as module
+from ltm_tools.queues import Queue, queues, spans
+
+
+def run(*words: str) -> str:
+    with redirect_stdout(io.StringIO()) as written:
+        status = cli.run(["queues", str(DATA / "spillback"), "--curves", str(DATA / "spillback" / "curves.csv"), *words])
+    assert status == 0
+    return written.getvalue()
+
+
+class Spans(unittest.TestCase):
+    def test_spans(self) -> None:
+        for counts in ([0, 2, 5, 1, 3, 3], curves.zeros(6) + [0, 2, 5, 1, 3, 3] if curves.numpy else [0, 2, 5, 1, 3, 3]):
+            self.assertEqual(list(spans(counts, 2)), [(1, 2), (4, 5)])
+            self.assertEqual(list(spans(counts, 6)), [])
+            self.assertEqual(list(spans(counts, 0)), [(0, 5)])
+
+
+class Spillback(unittest.TestCase):
+    """On `a` the queue is 300 at boundary 3 and 600, 900 .. 1800 at 8, and from then on 1800; n1 waits from boundary 1 on, 3200 at 10."""
+
+    def test_all_queues(self) -> None:
+        found = self.of_all()
+        self.assertEqual(found, [Queue("link", "a", 3, 16, True, 1800, 8, 3000, 20_700_000), Queue("origin", "n1", 1, 16, True, 3200, 10, None, 29_000_000)])
+        with mock.patch.object(curves, "numpy", None), mock.patch.object(delay, "numpy", None), mock.patch.object(module, "numpy", None):
+            self.assertEqual(self.of_all(), found)
+
+    def of_all(self) -> list[Queue]:
+        case, found = read("spillback")
+        return queues(found, case, 1)
+
+    def test_least(self) -> None:
+        # 1000 and more wait at n1 from boundary 5 on: 29.0 less 0.2 + 0.4 + 0.6 + 0.8 = 27.0 vehicle seconds
+        case, found = read("spillback")
+        self.assertEqual(queues(found, case, 1000)[1], Queue("origin", "n1", 5, 16, True, 3200, 10, None, 27_000_000))
+        self.assertEqual([queue.name for queue in queues(found, case, 1801)], ["n1"])
+
+    def test_text(self) -> None:
+        lines = run("--least", "0.001", "--start", "7:00").splitlines()
+        self.assertEqual(lines[2].split(), ["origin", "n1", "7:00:01", "...", "3.200", "7:00:10", "29.00"])
+        self.assertEqual(lines[3].split(), ["link", "a", "7:00:03", "...", "1.800", "7:00:08", "60.0", "%", "20.70"])
+        self.assertEqual(lines[4], "delay of these 49.70, of all 49.70: 20.70 in queues of links, 29.00 at origins")
+
+    def test_csv_and_json(self) -> None:
+        rows = list(csv.DictReader(io.StringIO(run("--least", "0.001", "--format", "csv", "--start", "7:00"))))
+        self.assertEqual(rows[1], {"kind": "link", "name": "a", "from_ms": "25203000", "to_ms": "25216000", "lasts": "1", "worst": "1.800", "worst_ms": "25208000",
+                                   "storage": "3.000", "delay": "20.700000"})
+        told = json.loads(run("--least", "0.001", "--format", "json"))
+        self.assertEqual([(row["name"], row["delay"], row["storage"]) for row in told], [("n1", 29.0, None), ("a", 20.7, 3.0)])
+
+
+if __name__ == "__main__":
+    unittest.main()
