@@ -13,7 +13,8 @@ use Rattle.ltm_casefile.specs.declared.faults.CaseFault.TheVariants.{Folder, Too
 use Rattle.ltm_casefile.specs.declared.setup.Opened.{Opened}
 use Rattle.ltm_casefile.specs.Case.{CaseTexts, texts_of, signals_of, parts_of, opened_of, has_signals, is_of_each, is_signals, asks_for}
 use Rattle.ltm_casefile.specs.Setup.{setup_of}
-use Rattle.ltm_casefile.specs.Faults.{doc_of, Agrees, NotGiven, HasRisen, WasAsked}
+use Rattle.ltm_casefile.specs.Folder.{doc_of}
+use Rattle.ltm_casefile.specs.Faults.{Agrees, NotGiven, HasRisen, WasAsked}
 
 -- what holds of the file that was not given may be weakened
 pub not_given : (P Q : Doc → Type 0) (e : CaseFault) → ((d : Doc) → P d → Q d) → NotGiven P e → NotGiven Q e
@@ -27,23 +28,23 @@ pub risen_since : (before mid now : Doc → ℕ) (e : CaseFault) → ((d : Doc) 
 risen_since before mid now e later rose = not_given (λ d. Rose (mid d) (now d)) (λ d. Rose (before d) (now d)) e (λ d h. omega (arith, later d)) rose
 
 -- the setup that was opened is the one of the files
-pub is_opened : (files : Files) (texts : CaseTexts) (opened : Opened) → texts_of files ≡ Ok texts → setup_of (records_of texts.setup) ≡ Ok opened → opened_of files ≡ Ok opened
-is_opened files texts opened there is = ap (λ r. r >>= λ t. setup_of (records_of t.setup)) there ∙ is
+pub is_opened : (files : Files) (texts : CaseTexts) (opened : Opened) → texts_of files ≡ Ok texts → setup_of (records_of texts.roads.setup) ≡ Ok opened → opened_of files ≡ Ok opened
+is_opened files texts opened there is = ap (λ r. r >>= λ t. setup_of (records_of t.roads.setup)) there ∙ is
 
 -- what the signals make of the parts
-parts_from : (files : Files) (texts : CaseTexts) (opened : Opened) → texts_of files ≡ Ok texts → setup_of (records_of texts.setup) ≡ Ok opened → parts_of files ≡ (signals_of files opened.has_signals >>= λ signals. Ok (record { scenario = opened.scenario; texts = texts; signals = signals }))
+parts_from : (files : Files) (texts : CaseTexts) (opened : Opened) → texts_of files ≡ Ok texts → setup_of (records_of texts.roads.setup) ≡ Ok opened → parts_of files ≡ (signals_of files opened.has_signals >>= λ signals. Ok (record { scenario = opened.scenario; texts = texts; signals = signals }))
 unfolding parts_of
 parts_from files texts opened there is = rw (there, is) refl
 
 -- a fault of the signals is the fault of the parts
-pub signals_fault : (files : Files) (texts : CaseTexts) (opened : Opened) (e : CaseFault) → texts_of files ≡ Ok texts → setup_of (records_of texts.setup) ≡ Ok opened → Agrees (signals_of files opened.has_signals) e → Agrees (parts_of files) e
+pub signals_fault : (files : Files) (texts : CaseTexts) (opened : Opened) (e : CaseFault) → texts_of files ≡ Ok texts → setup_of (records_of texts.roads.setup) ≡ Ok opened → Agrees (signals_of files opened.has_signals) e → Agrees (parts_of files) e
 signals_fault files texts opened (Folder f) there is said = tt
 signals_fault files texts opened (TooLong f) there is said = parts_from files texts opened there is ∙ ap (λ r. r >>= λ signals. Ok (record { scenario = opened.scenario; texts = texts; signals = signals })) said
 signals_fault files texts opened (Bad f row cause) there is said = parts_from files texts opened there is ∙ ap (λ r. r >>= λ signals. Ok (record { scenario = opened.scenario; texts = texts; signals = signals })) said
 signals_fault files texts opened NoMemory there is said = tt
 
 -- the signals are asked for where the setup has them
-pub signals_asked : (files : Files) (texts : CaseTexts) (opened : Opened) (e : CaseFault) → texts_of files ≡ Ok texts → setup_of (records_of texts.setup) ≡ Ok opened → WasAsked (λ d. is_signals d && opened.has_signals) e → WasAsked (asks_for files) e
+pub signals_asked : (files : Files) (texts : CaseTexts) (opened : Opened) (e : CaseFault) → texts_of files ≡ Ok texts → setup_of (records_of texts.roads.setup) ≡ Ok opened → WasAsked (λ d. is_signals d && opened.has_signals) e → WasAsked (asks_for files) e
 signals_asked files texts opened e there is asked =
     let same : has_signals (opened_of files) ≡ opened.has_signals = ap has_signals (is_opened files texts opened there is) in
     not_given (λ d. (is_signals d && opened.has_signals) ≡ true) (λ d. asks_for files d ≡ true) e
@@ -63,7 +64,7 @@ signals_false d has none is signals =
     let e : true ≡ false = sym (ap (λ x. is_signals x && has) signals ∙ is) ∙ none in cc
 
 -- no other file was asked for
-pub others_stay : (files : Files) (texts : CaseTexts) (opened : Opened) (before mid now : Doc → ℕ) → texts_of files ≡ Ok texts → setup_of (records_of texts.setup) ≡ Ok opened → ((d : Doc) → is_of_each d ≡ false → mid d ≡ before d) → ((d : Doc) → (d ≡ doc.Signals → ⊥) → now d ≡ mid d) → (opened.has_signals ≡ false → (d : Doc) → now d ≡ mid d) → (d : Doc) → asks_for files d ≡ false → now d ≡ before d
+pub others_stay : (files : Files) (texts : CaseTexts) (opened : Opened) (before mid now : Doc → ℕ) → texts_of files ≡ Ok texts → setup_of (records_of texts.roads.setup) ≡ Ok opened → ((d : Doc) → is_of_each d ≡ false → mid d ≡ before d) → ((d : Doc) → (d ≡ doc.Signals → ⊥) → now d ≡ mid d) → (opened.has_signals ≡ false → (d : Doc) → now d ≡ mid d) → (d : Doc) → asks_for files d ≡ false → now d ≡ before d
 others_stay files texts opened before mid now there is first then unasked d none =
     let same : has_signals (opened_of files) ≡ opened.has_signals = ap has_signals (is_opened files texts opened there is) in
     let each : is_of_each d ≡ false = left_false (is_of_each d) (is_signals d && has_signals (opened_of files)) none in
@@ -76,18 +77,18 @@ others_stay files texts opened before mid now there is first then unasked d none
     late ∙ first d each
 
 -- ---- the same, where the folder tells its files
-pub told_fault : (told mid : Option Files) (texts : CaseTexts) (bytes : List ℕ) (opened : Opened) (e : CaseFault) → mid ≡ told → IfSome told (λ files. texts_of files ≡ Ok texts) → bytes ≡ texts.setup → setup_of (records_of bytes) ≡ Ok opened → IfSome mid (λ files. Agrees (signals_of files opened.has_signals) e) → IfSome told (λ files. Agrees (parts_of files) e)
+pub told_fault : (told mid : Option Files) (texts : CaseTexts) (bytes : List ℕ) (opened : Opened) (e : CaseFault) → mid ≡ told → IfSome told (λ files. texts_of files ≡ Ok texts) → bytes ≡ texts.roads.setup → setup_of (records_of bytes) ≡ Ok opened → IfSome mid (λ files. Agrees (signals_of files opened.has_signals) e) → IfSome told (λ files. Agrees (parts_of files) e)
 told_fault None mid texts bytes opened e keeps there is opens said = tt
 told_fault (Some files) mid texts bytes opened e keeps there is opens said =
     signals_fault files texts opened e there (ap (λ b. setup_of (records_of b)) (sym is) ∙ opens)
     (subst (λ o. IfSome o (λ fs. Agrees (signals_of fs opened.has_signals) e)) keeps said)
 
-pub told_asked : (told : Option Files) (texts : CaseTexts) (bytes : List ℕ) (opened : Opened) (e : CaseFault) → IfSome told (λ files. texts_of files ≡ Ok texts) → bytes ≡ texts.setup → setup_of (records_of bytes) ≡ Ok opened → WasAsked (λ d. is_signals d && opened.has_signals) e → IfSome told (λ files. WasAsked (asks_for files) e)
+pub told_asked : (told : Option Files) (texts : CaseTexts) (bytes : List ℕ) (opened : Opened) (e : CaseFault) → IfSome told (λ files. texts_of files ≡ Ok texts) → bytes ≡ texts.roads.setup → setup_of (records_of bytes) ≡ Ok opened → WasAsked (λ d. is_signals d && opened.has_signals) e → IfSome told (λ files. WasAsked (asks_for files) e)
 told_asked None texts bytes opened e there is opens asked = tt
 told_asked (Some files) texts bytes opened e there is opens asked =
     signals_asked files texts opened e there (ap (λ b. setup_of (records_of b)) (sym is) ∙ opens) asked
 
-pub told_others : (told : Option Files) (texts : CaseTexts) (bytes : List ℕ) (opened : Opened) (before mid now : Doc → ℕ) → IfSome told (λ files. texts_of files ≡ Ok texts) → bytes ≡ texts.setup → setup_of (records_of bytes) ≡ Ok opened → ((d : Doc) → is_of_each d ≡ false → mid d ≡ before d) → ((d : Doc) → (d ≡ doc.Signals → ⊥) → now d ≡ mid d) → (opened.has_signals ≡ false → (d : Doc) → now d ≡ mid d) → IfSome told (λ files. (d : Doc) → asks_for files d ≡ false → now d ≡ before d)
+pub told_others : (told : Option Files) (texts : CaseTexts) (bytes : List ℕ) (opened : Opened) (before mid now : Doc → ℕ) → IfSome told (λ files. texts_of files ≡ Ok texts) → bytes ≡ texts.roads.setup → setup_of (records_of bytes) ≡ Ok opened → ((d : Doc) → is_of_each d ≡ false → mid d ≡ before d) → ((d : Doc) → (d ≡ doc.Signals → ⊥) → now d ≡ mid d) → (opened.has_signals ≡ false → (d : Doc) → now d ≡ mid d) → IfSome told (λ files. (d : Doc) → asks_for files d ≡ false → now d ≡ before d)
 told_others None texts bytes opened before mid now there is opens first then unasked = tt
 told_others (Some files) texts bytes opened before mid now there is opens first then unasked =
     others_stay files texts opened before mid now there (ap (λ b. setup_of (records_of b)) (sym is) ∙ opens) first then unasked

@@ -1,10 +1,9 @@
 -- What the definitions of a case tell is never the network's want of memory.
 use Rattle.std.proofs.Common.{◌≡◌, ℕ, ◌+◌, ◌==◌, List, [], ◌∷◌, Bool, true, false, Result, Ok, Err, Option, Some, None, refl, subst}
-use Rattle.std.specs.Prelude.{IfErr, if◌then◌else◌, is_some, not, nat_le, nat_lt, length, sum}
+use Rattle.std.specs.Prelude.{option_and_then, IfErr, if◌then◌else◌, is_some, not, nat_le, nat_lt, length, sum}
 use Rattle.std.specs.List.{list_all}
 use Rattle.ltm_units.specs.Results.{refuse, found}
 use Rattle.ltm_io.specs.Folder.{Files}
-use Rattle.ltm_io.specs.declared.doc.Doc.TheVariants as doc
 use Rattle.ltm_network.specs.Network as network
 use Rattle.ltm_network.specs.Network.{NetworkData, find_node, find_link}
 use Rattle.ltm_network.specs.Names.{same}
@@ -46,8 +45,9 @@ use Rattle.ltm_casefile.specs.Links as links
 use Rattle.ltm_casefile.specs.Demand.{demand_record, demand_ends, demand_row, place_of, with_demand_record, demand_added}
 use Rattle.ltm_casefile.specs.Splits.{split_record, split_ends, with_split_record, split_added}
 use Rattle.ltm_casefile.specs.Signals.{signal_record, with_signal_record, signal_added}
-use Rattle.ltm_casefile.specs.Tables.{table_added, rows_added, row_added, heads, file_of}
-use Rattle.ltm_casefile.specs.Case.{sized, texts_of, signals_of, with_file, with_signals, filled, sound, whole, CaseTexts, CaseParts, parts_of, built, case_of}
+use Rattle.ltm_casefile.specs.Folder.{sized, doc_of, text_of}
+use Rattle.ltm_casefile.specs.Tables.{table_added, rows_added, row_added, heads, file_of, with_file}
+use Rattle.ltm_casefile.specs.Case.{texts_of, signals_of, with_signals, filled, sound, whole, CaseTexts, CaseParts, parts_of, built, case_of}
 use Rattle.ltm_casefile.specs.Roads.{RoadTexts, road_texts_of, roads_filled, roads_in, unsplit_case_of}
 use Rattle.ltm_casefile.specs.Faults.{Says, IsNoWant, HidesNoMemory}
 
@@ -301,36 +301,49 @@ sized_hides f (Some bytes) = chosen _
     chosen true = fine HidesNoMemory bytes
     chosen false = wrong HidesNoMemory _ tt
 
+text_hides : (files : Files) (f : File) → Hides (text_of files f)
+text_hides files f = sized_hides f (option_and_then files (doc_of f))
+
+road_texts_hide : (files : Files) → Hides (road_texts_of files)
+unfolding road_texts_of
+road_texts_hide files =
+    then_hides (text_of files file.Setup) _ (text_hides files file.Setup) (λ setup.
+    then_hides (text_of files file.Links) _ (text_hides files file.Links) (λ links.
+    then_hides (text_of files file.Demand) _ (text_hides files file.Demand) (λ demand. fine HidesNoMemory (record { setup = setup; links = links; demand = demand }))))
+
 texts_hide : (files : Files) → Hides (texts_of files)
 unfolding texts_of
 texts_hide files =
-    then_hides (sized file.Setup (files doc.Setup)) _ (sized_hides file.Setup (files doc.Setup)) (λ setup.
-    then_hides (sized file.Links (files doc.Links)) _ (sized_hides file.Links (files doc.Links)) (λ links.
-    then_hides (sized file.Demand (files doc.Demand)) _ (sized_hides file.Demand (files doc.Demand)) (λ demand.
-    then_hides (sized file.Splits (files doc.Splits)) _ (sized_hides file.Splits (files doc.Splits)) (λ splits. fine HidesNoMemory (record { setup = setup; links = links; demand = demand; splits = splits })))))
+    then_hides (road_texts_of files) _ (road_texts_hide files) (λ roads.
+    then_hides (text_of files file.Splits) _ (text_hides files file.Splits) (λ splits. fine HidesNoMemory (record { roads = roads; splits = splits })))
 
 signals_hide : (files : Files) (asked : Bool) → Hides (signals_of files asked)
-signals_hide files true = then_hides (sized file.Signals (files doc.Signals)) _ (sized_hides file.Signals (files doc.Signals)) (λ bytes. fine _ _)
+signals_hide files true = then_hides (text_of files file.Signals) _ (text_hides files file.Signals) (λ bytes. fine _ _)
 signals_hide files false = fine HidesNoMemory None
 
 parts_hide : (files : Files) → Hides (parts_of files)
 unfolding parts_of
 parts_hide files =
     then_hides (texts_of files) _ (texts_hide files) (λ texts.
-    then_hides (setup_of (records_of texts.setup)) _ (setup_hides (records_of texts.setup)) (λ opened.
+    then_hides (setup_of (records_of texts.roads.setup)) _ (setup_hides (records_of texts.roads.setup)) (λ opened.
     then_hides (signals_of files opened.has_signals) _ (signals_hide files opened.has_signals) (λ signals. fine _ _)))
 
 with_signals_hides : (s : ScenarioData) (signals : Option (List ℕ)) → Hides (with_signals s signals)
 with_signals_hides s None = fine HidesNoMemory s
 with_signals_hides s (Some bytes) = table_hides table.Signals s (records_of bytes)
 
+roads_filled_hides : (s : ScenarioData) (texts : RoadTexts) → Hides (roads_filled s texts)
+unfolding roads_filled
+roads_filled_hides s texts =
+    then_hides (with_file table.Links s texts.links) _ (table_hides table.Links s (records_of texts.links)) (λ linked.
+    table_hides table.Demand linked (records_of texts.demand))
+
 filled_hides : (s : ScenarioData) (texts : CaseTexts) (signals : Option (List ℕ)) → Hides (filled s texts signals)
 unfolding filled
 filled_hides s texts signals =
-    then_hides (with_file table.Links s texts.links) _ (table_hides table.Links s (records_of texts.links)) (λ linked.
-    then_hides (with_file table.Demand linked texts.demand) _ (table_hides table.Demand linked (records_of texts.demand)) (λ demanded.
+    then_hides (roads_filled s texts.roads) _ (roads_filled_hides s texts.roads) (λ demanded.
     then_hides (with_file table.Splits demanded texts.splits) _ (table_hides table.Splits demanded (records_of texts.splits)) (λ split.
-    with_signals_hides split signals)))
+    with_signals_hides split signals))
 
 sound_hides : (s : ScenarioData) (c : Checked) → Hides (sound s c)
 sound_hides s (Ok x) = fine HidesNoMemory s
@@ -344,19 +357,6 @@ pub case_hides : (files : Files) → IfErr (case_of files) HidesNoMemory
 case_hides files = told HidesNoMemory (case_of files) (then_hides (parts_of files) (λ parts. built parts) (parts_hide files) built_hides)
 
 -- ---- the roads
-road_texts_hide : (files : Files) → Hides (road_texts_of files)
-unfolding road_texts_of
-road_texts_hide files =
-    then_hides (sized file.Setup (files doc.Setup)) _ (sized_hides file.Setup (files doc.Setup)) (λ setup.
-    then_hides (sized file.Links (files doc.Links)) _ (sized_hides file.Links (files doc.Links)) (λ links.
-    then_hides (sized file.Demand (files doc.Demand)) _ (sized_hides file.Demand (files doc.Demand)) (λ demand. fine HidesNoMemory (record { setup = setup; links = links; demand = demand }))))
-
-roads_filled_hides : (s : ScenarioData) (texts : RoadTexts) → Hides (roads_filled s texts)
-unfolding roads_filled
-roads_filled_hides s texts =
-    then_hides (with_file table.Links s texts.links) _ (table_hides table.Links s (records_of texts.links)) (λ linked.
-    table_hides table.Demand linked (records_of texts.demand))
-
 roads_in_hides : (texts : RoadTexts) → Hides (roads_in texts)
 unfolding roads_in
 roads_in_hides texts = then_hides (setup_of (records_of texts.setup)) _ (setup_hides (records_of texts.setup)) (λ opened. roads_filled_hides opened.scenario texts)

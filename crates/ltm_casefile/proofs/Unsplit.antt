@@ -23,8 +23,7 @@ use Rattle.ltm_casefile.specs.Rows.{at_row, rows_from, below_header}
 use Rattle.ltm_casefile.specs.Links.{link_record, with_link_record, link_added}
 use Rattle.ltm_casefile.specs.Links as links
 use Rattle.ltm_casefile.specs.Demand.{demand_record, demand_ends, demand_row, with_demand_record, demand_added}
-use Rattle.ltm_casefile.specs.Tables.{table_added, rows_added, row_added, heads, file_of}
-use Rattle.ltm_casefile.specs.Case.{with_file}
+use Rattle.ltm_casefile.specs.Tables.{table_added, rows_added, row_added, heads, file_of, with_file}
 use Rattle.ltm_casefile.specs.Roads.{RoadTexts, roads_filled}
 
 -- a step that ends well, ends with these split rows

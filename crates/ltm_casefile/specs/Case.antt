@@ -1,5 +1,5 @@
 -- The scenario that the files of a folder describe, or the first fault.
-use Rattle.std.specs.Prelude.{ℕ, Bool, true, false, nat_le, ◌&&◌, ◌||◌, if◌then◌else◌, List, length, Option, Some, None, Result, Ok, Err}
+use Rattle.std.specs.Prelude.{ℕ, Bool, true, false, ◌&&◌, ◌||◌, if◌then◌else◌, List, Option, Some, None, Result, Ok, Err}
 use Rattle.ltm_io.specs.declared.doc.Doc.{Doc}
 use Rattle.ltm_io.specs.declared.doc.Doc.TheVariants as doc
 use Rattle.ltm_io.specs.Folder.{Files}
@@ -12,42 +12,29 @@ use Rattle.ltm_records.specs.Left.{records_of}
 use Rattle.ltm_casefile.specs.declared.faults.CaseCause.{CaseCause}
 use Rattle.ltm_casefile.specs.declared.faults.CaseCause.TheVariants.{NoSplit, CellsOver}
 use Rattle.ltm_casefile.specs.declared.faults.CaseFault.{CaseFault}
-use Rattle.ltm_casefile.specs.declared.faults.CaseFault.TheVariants.{Folder, TooLong, Bad}
-use Rattle.ltm_casefile.specs.declared.faults.File.{File}
+use Rattle.ltm_casefile.specs.declared.faults.CaseFault.TheVariants.{Bad}
 use Rattle.ltm_casefile.specs.declared.faults.File.TheVariants as file
 use Rattle.ltm_casefile.specs.declared.setup.Opened.{Opened}
-use Rattle.ltm_casefile.specs.declared.tables.Table.{Table}
 use Rattle.ltm_casefile.specs.declared.tables.Table.TheVariants as table
 use Rattle.ltm_casefile.specs.Setup.{setup_of}
-use Rattle.ltm_casefile.specs.Tables.{table_added}
-
--- the bytes of a file that is there and has at most 16,777,216 of them
-abbrev pub sized : File → Option (List ℕ) → Result (List ℕ) CaseFault
-sized f None = Err (Folder f)
-sized f (Some bytes) = if nat_le (length bytes) 16777216 then Ok bytes else Err (TooLong f)
+use Rattle.ltm_casefile.specs.Folder.{text_of}
+use Rattle.ltm_casefile.specs.Tables.{with_file}
+use Rattle.ltm_casefile.specs.Roads.{RoadTexts, road_texts_of, roads_filled, is_of_roads}
 
 -- the bytes of the files that each case has
 pub record CaseTexts : Type 0 where
-  pub setup : List ℕ
-  pub links : List ℕ
-  pub demand : List ℕ
+  pub roads : RoadTexts
   pub splits : List ℕ
 
 unfoldable pub texts_of : Files → Result CaseTexts CaseFault
 texts_of files =
-    sized file.Setup (files doc.Setup) >>= λ setup.
-    sized file.Links (files doc.Links) >>= λ links.
-    sized file.Demand (files doc.Demand) >>= λ demand.
-    sized file.Splits (files doc.Splits) >>= λ splits.
-    Ok (record { setup = setup; links = links; demand = demand; splits = splits })
+    road_texts_of files >>= λ roads.
+    text_of files file.Splits >>= λ splits.
+    Ok (record { roads = roads; splits = splits })
 
 -- the bytes of the signals, where the setup asks for them
 abbrev pub signals_of : Files → Bool → Result (Option (List ℕ)) CaseFault
-signals_of files asked = if asked then (sized file.Signals (files doc.Signals) >>= λ bytes. Ok (Some bytes)) else Ok None
-
--- the scenario with what a file says
-abbrev pub with_file : Table → ScenarioData → List ℕ → Result ScenarioData CaseFault
-with_file t s bytes = table_added t s (records_of bytes)
+signals_of files asked = if asked then (text_of files file.Signals >>= λ bytes. Ok (Some bytes)) else Ok None
 
 abbrev pub with_signals : ScenarioData → Option (List ℕ) → Result ScenarioData CaseFault
 with_signals s None = Ok s
@@ -56,8 +43,7 @@ with_signals s (Some bytes) = with_file table.Signals s bytes
 -- the scenario with what the files say, in their order
 unfoldable pub filled : ScenarioData → CaseTexts → Option (List ℕ) → Result ScenarioData CaseFault
 filled s texts signals =
-    with_file table.Links s texts.links >>= λ linked.
-    with_file table.Demand linked texts.demand >>= λ demanded.
+    roads_filled s texts.roads >>= λ demanded.
     with_file table.Splits demanded texts.splits >>= λ split.
     with_signals split signals
 
@@ -82,13 +68,13 @@ pub record CaseParts : Type 0 where
 
 -- what the setup opens, once the files are there that each case has
 abbrev pub opened_of : Files → Result Opened CaseFault
-opened_of files = texts_of files >>= λ texts. setup_of (records_of texts.setup)
+opened_of files = texts_of files >>= λ texts. setup_of (records_of texts.roads.setup)
 
 -- the files are there, then the setup says what comes with them
 unfoldable pub parts_of : Files → Result CaseParts CaseFault
 parts_of files =
     texts_of files >>= λ texts.
-    setup_of (records_of texts.setup) >>= λ opened.
+    setup_of (records_of texts.roads.setup) >>= λ opened.
     signals_of files opened.has_signals >>= λ signals.
     Ok (record { scenario = opened.scenario; texts = texts; signals = signals })
 
@@ -100,13 +86,13 @@ abbrev pub case_of : Files → Result ScenarioData CaseFault
 case_of files = parts_of files >>= λ parts. built parts
 
 -- ---- which files a case has
--- the files that each case has
+-- the files that each case has: those of the roads, and the splits
+abbrev pub is_splits : Doc → Bool
+is_splits doc.Splits = true
+is_splits other = false
+
 abbrev pub is_of_each : Doc → Bool
-is_of_each doc.Setup = true
-is_of_each doc.Links = true
-is_of_each doc.Demand = true
-is_of_each doc.Splits = true
-is_of_each other = false
+is_of_each d = is_of_roads d || is_splits d
 
 abbrev pub is_signals : Doc → Bool
 is_signals doc.Signals = true

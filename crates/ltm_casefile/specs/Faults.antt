@@ -1,24 +1,13 @@
 -- What is behind a fault of a case.
-use Rattle.std.specs.Prelude.{◌≡◌, ℕ, Bool, true, Option, Some, None, IsSomeAnd, Result, Err}
+use Rattle.std.specs.Prelude.{◌≡◌, ℕ, Bool, true, IsSomeAnd, Result, Err}
 use Rattle.ltm_io.specs.declared.doc.Doc.{Doc}
-use Rattle.ltm_io.specs.declared.doc.Doc.TheVariants as doc
 use Rattle.ltm_io.specs.Faults.{Rose}
 use Rattle.ltm_network.specs.declared.network.NetworkFault.TheVariants as network
 use Rattle.ltm_casefile.specs.declared.faults.CaseCause.{CaseCause}
 use Rattle.ltm_casefile.specs.declared.faults.CaseCause.TheVariants.{Network}
-use Rattle.ltm_casefile.specs.declared.faults.File.{File}
-use Rattle.ltm_casefile.specs.declared.faults.File.TheVariants as file
 use Rattle.ltm_casefile.specs.declared.faults.CaseFault.{CaseFault}
 use Rattle.ltm_casefile.specs.declared.faults.CaseFault.TheVariants.{Folder, TooLong, Bad, NoMemory}
-
--- the file of a folder
-abbrev pub doc_of : File → Option Doc
-doc_of file.Setup = Some doc.Setup
-doc_of file.Links = Some doc.Links
-doc_of file.Demand = Some doc.Demand
-doc_of file.Splits = Some doc.Splits
-doc_of file.Signals = Some doc.Signals
-doc_of file.Whole = None
+use Rattle.ltm_casefile.specs.Folder.{doc_of}
 
 -- a fault that lies in the files is the one of the definition; that a folder did not give a file, or memory was not
 -- found, does not lie in them

@@ -1,11 +1,11 @@
 -- The fields of a record, each of its kind, or the cause that names the field. Fields are counted from 1.
-use Rattle.std.specs.Prelude.{ℕ, ◌-◌, ◌==◌, not, List, length, Option, Some, None, option_and_then, if◌then◌else◌, Result}
+use Rattle.std.specs.Prelude.{ℕ, ◌-◌, ◌==◌, not, List, length, option_and_then, Result}
 use Rattle.ltm_units.specs.declared.names.Name.{Name}
 use Rattle.ltm_units.specs.declared.quantities.Units.{Units}
 use Rattle.ltm_units.specs.Results.{refuse, found}
 use Rattle.ltm_records.specs.Fields.{Fields, field as text_at, name_at, whole_at, vehicles_at}
 use Rattle.ltm_records.specs.Weights.{weights_of}
-use Rattle.ltm_scenario.specs.Weights.{NamedWeight, are_weights}
+use Rattle.ltm_scenario.specs.Weights.{NamedWeight, as_weights}
 use Rattle.ltm_casefile.specs.declared.faults.CaseCause.{CaseCause}
 use Rattle.ltm_casefile.specs.declared.faults.CaseCause.TheVariants.{Width, Field}
 
@@ -21,10 +21,6 @@ number_in fields field = found (whole_at fields (field - 1)) (Field field)
 abbrev pub amount_in : Fields → ℕ → Result Units CaseCause
 amount_in fields field = found (vehicles_at fields (field - 1)) (Field field)
 
--- the weights, where no name stands twice
-abbrev pub apart : List NamedWeight → Option (List NamedWeight)
-apart weights = if are_weights weights then Some weights else None
-
 -- one to four weights, each with the name of a link, no name twice
 abbrev pub weights_in : Fields → ℕ → Result (List NamedWeight) CaseCause
-weights_in fields field = found (option_and_then apart (weights_of (text_at fields (field - 1)))) (Field field)
+weights_in fields field = found (option_and_then as_weights (weights_of (text_at fields (field - 1)))) (Field field)

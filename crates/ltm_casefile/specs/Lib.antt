@@ -3,6 +3,7 @@ pub mod Causes
 pub mod Demand
 pub mod Faults
 pub mod Fields
+pub mod Folder
 pub mod Links
 pub mod Roads
 pub mod Rows

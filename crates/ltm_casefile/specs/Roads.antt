@@ -10,7 +10,8 @@ use Rattle.ltm_casefile.specs.declared.faults.CaseFault.{CaseFault}
 use Rattle.ltm_casefile.specs.declared.faults.File.TheVariants as file
 use Rattle.ltm_casefile.specs.declared.tables.Table.TheVariants as table
 use Rattle.ltm_casefile.specs.Setup.{setup_of}
-use Rattle.ltm_casefile.specs.Case.{sized, with_file}
+use Rattle.ltm_casefile.specs.Folder.{text_of}
+use Rattle.ltm_casefile.specs.Tables.{with_file}
 
 -- the bytes of the files that say the roads and who travels on them
 pub record RoadTexts : Type 0 where
@@ -20,9 +21,9 @@ pub record RoadTexts : Type 0 where
 
 unfoldable pub road_texts_of : Files → Result RoadTexts CaseFault
 road_texts_of files =
-    sized file.Setup (files doc.Setup) >>= λ setup.
-    sized file.Links (files doc.Links) >>= λ links.
-    sized file.Demand (files doc.Demand) >>= λ demand.
+    text_of files file.Setup >>= λ setup.
+    text_of files file.Links >>= λ links.
+    text_of files file.Demand >>= λ demand.
     Ok (record { setup = setup; links = links; demand = demand })
 
 -- a scenario without links, with what links and demand say

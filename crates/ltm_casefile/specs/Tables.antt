@@ -2,6 +2,7 @@
 use Rattle.std.specs.Prelude.{ℕ, Bool, List, Result}
 use Rattle.ltm_scenario.specs.Data.{ScenarioData}
 use Rattle.ltm_records.specs.Fields.{Fields}
+use Rattle.ltm_records.specs.Left.{records_of}
 use Rattle.ltm_casefile.specs.declared.faults.CaseCause.{CaseCause}
 use Rattle.ltm_casefile.specs.declared.faults.CaseFault.{CaseFault}
 use Rattle.ltm_casefile.specs.declared.faults.File.{File}
@@ -39,3 +40,7 @@ rows_added t row s rows = rows_from (file_of t) (row_added t) row s rows
 -- what a file's records make of a scenario
 unfoldable pub table_added : Table → ScenarioData → List Fields → Result ScenarioData CaseFault
 table_added t s rows = below_header (file_of t) (heads t) (λ _. rows_added t 2 s) rows
+
+-- the scenario with what a file says
+abbrev pub with_file : Table → ScenarioData → List ℕ → Result ScenarioData CaseFault
+with_file t s bytes = table_added t s (records_of bytes)

@@ -10,6 +10,7 @@ ghost use Rattle.ltm_casefile.specs.Faults.{Agrees, Says, HasRisen, WasAsked, Hi
 use crate::faults::{CaseCause, CaseFault, File};
 use crate::fetch::{FileText, Texts};
 use crate::fetch_case::{Parts, fetch_parts};
+use crate::roads::fill_roads;
 use crate::tables::Table;
 use ltm_io::Folder;
 use ltm_scenario::{Scenario, ScenarioFault};
@@ -41,11 +42,7 @@ fn fill(
     ensures ok { OnOk result (filled scenario.old texts.now signals.now ≡ Ok scenario.new) }
     ensures fault { IfErr result (Says (filled scenario.old texts.now signals.now)) }
 {
-    match Table::Links.add_to(alloc, scenario, &texts.links) {
-        Ok(()) => {}
-        Err(fault) => return Err(fault),
-    }
-    match Table::Demand.add_to(alloc, scenario, &texts.demand) {
+    match fill_roads(alloc, scenario, &texts.roads) {
         Ok(()) => {}
         Err(fault) => return Err(fault),
     }

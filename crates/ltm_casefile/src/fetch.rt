@@ -1,10 +1,11 @@
 //! Fetches the files of a case, as bytes.
-ghost use Rattle.std.specs.Prelude.{◌≡◌, ◌&&◌, ◌≢◌, ◌≤◌, ℕ, length, Ok, Err, IfOk, IfErr, IfSome, Some, None, true, false};
-ghost use Rattle.ltm_io.specs.Folder.{Files};
+ghost use Rattle.std.specs.Prelude.{◌≡◌, ◌&&◌, ◌≤◌, ℕ, length, Ok, Err, IfOk, IfErr, IfSome, IsSome, Some, None, true, false};
 ghost use Rattle.ltm_io.specs.declared.doc.Doc.{Doc};
 ghost use Rattle.ltm_casefile.specs.declared.faults.File.{File};
-ghost use Rattle.ltm_casefile.specs.Case.{sized, texts_of, signals_of, is_of_each, is_signals};
-ghost use Rattle.ltm_casefile.specs.Faults.{doc_of, Agrees, HasRisen, WasAsked, HidesNoMemory};
+ghost use Rattle.ltm_casefile.specs.Folder.{doc_of, text_of};
+ghost use Rattle.ltm_casefile.specs.Case.{texts_of, signals_of, is_of_each, is_signals};
+ghost use Rattle.ltm_casefile.specs.Roads.{road_texts_of, is_of_roads};
+ghost use Rattle.ltm_casefile.specs.Faults.{Agrees, HasRisen, WasAsked, HidesNoMemory};
 
 use crate::faults::{CaseFault, File};
 use ltm_io::{Doc, Fetched, Folder};
@@ -13,6 +14,22 @@ use std::marker::Model;
 
 /// The most bytes that a file of a case may have.
 const MOST: u64 = 16_777_216;
+
+impl File {
+    /// The file of the folder; None for the whole case.
+    fn doc(self) -> Option<Doc>
+        ensures { result ≡ doc_of self }
+    {
+        match self {
+            File::Setup => Some(Doc::Setup),
+            File::Links => Some(Doc::Links),
+            File::Demand => Some(Doc::Demand),
+            File::Splits => Some(Doc::Splits),
+            File::Signals => Some(Doc::Signals),
+            File::Whole => None,
+        }
+    }
+}
 
 /// The bytes of a file of a case, at most 16,777,216 of them.
 #[derive(Drop)]
@@ -39,21 +56,51 @@ impl FileText {
     }
 }
 
-/// The bytes of the files that each case has.
-pub struct Texts {
+/// The bytes of the files that say the roads and who travels on them.
+pub struct RoadTexts {
     pub setup: FileText,
     pub links: FileText,
     pub demand: FileText,
-    pub splits: FileText,
 }
 
 // By hand, so that letting go of texts is one call, and not their parts one by one wherever that may happen.
-impl Drop for Texts {
+impl Drop for RoadTexts {
     fn drop(self) {
-        let Texts {
+        let RoadTexts {
             setup: _setup,
             links: _links,
             demand: _demand,
+        } = self;
+    }
+}
+
+impl Model for RoadTexts {
+    ghost use Rattle.ltm_casefile.specs.Roads.{RoadTexts as RoadTextsData};
+
+    ghost Value = { RoadTextsData };
+
+    ghost view = { λ t. record { setup = t.setup; links = t.links; demand = t.demand } };
+}
+
+impl RoadTexts {
+    pub fn setup(&self) -> &[u8]
+        ensures { result.now ≡ self.now.setup }
+    {
+        self.setup.bytes()
+    }
+}
+
+/// The bytes of the files that each case has.
+pub struct Texts {
+    pub roads: RoadTexts,
+    pub splits: FileText,
+}
+
+// By hand, as above.
+impl Drop for Texts {
+    fn drop(self) {
+        let Texts {
+            roads: _roads,
             splits: _splits,
         } = self;
     }
@@ -64,34 +111,32 @@ impl Model for Texts {
 
     ghost Value = { CaseTexts };
 
-    ghost view = { λ t. record { setup = t.setup; links = t.links; demand = t.demand; splits = t.splits } };
+    ghost view = { λ t. record { roads = t.roads; splits = t.splits } };
 }
 
 impl Texts {
     pub fn setup(&self) -> &[u8]
-        ensures { result.now ≡ self.now.setup }
+        ensures { result.now ≡ self.now.roads.setup }
     {
-        self.setup.bytes()
+        self.roads.setup()
     }
 }
 
 /// The bytes of one file of the folder.
-pub fn fetch<F: Folder>(
-    alloc: Global,
-    folder: &mut F,
-    doc: Doc,
-    file: File,
-) -> Result<FileText, CaseFault>
-    requires { doc_of file ≡ Some doc }
+fn fetch<F: Folder>(alloc: Global, folder: &mut F, file: File) -> Result<FileText, CaseFault>
+    requires { IsSome (doc_of file) }
     ensures keeps { F.told folder.new ≡ F.told folder.old }
     ensures later { (d : Doc) → F.faults folder.old d ≤ F.faults folder.new d }
-    ensures others { (d : Doc) → d ≢ doc → F.faults folder.new d ≡ F.faults folder.old d }
-    ensures ok { IfOk result (λ v. IfSome (F.told folder.old) (λ files. sized file (files doc) ≡ Ok v)) }
-    ensures fault { IfErr result (λ e. IfSome (F.told folder.old) (λ files. Agrees (sized file (files doc)) e)) }
+    ensures others { (d : Doc) → (doc_of file ≡ Some d → ⊥) → F.faults folder.new d ≡ F.faults folder.old d }
+    ensures ok { IfOk result (λ v. IfSome (F.told folder.old) (λ files. text_of files file ≡ Ok v)) }
+    ensures fault { IfErr result (λ e. IfSome (F.told folder.old) (λ files. Agrees (text_of files file) e)) }
     ensures risen { IfErr result (HasRisen (F.faults folder.old) (F.faults folder.new)) }
     ensures given { (f : File) → result ≡ Err (CaseFault.Folder f) → f ≡ file }
     ensures memory { IfErr result HidesNoMemory }
 {
+    let Some(doc) = file.doc() else {
+        unreachable!();
+    };
     let mut bytes = Vec::new(alloc);
     match folder.fetch(doc, &mut bytes, MOST) {
         Fetched::Found => Ok(FileText { bytes }),
@@ -99,6 +144,28 @@ pub fn fetch<F: Folder>(
         Fetched::Failed => Err(CaseFault::Folder(file)),
         Fetched::NoMemory => Err(CaseFault::NoMemory),
     }
+}
+
+/// The bytes of the files that say the roads, fetched in order.
+#[tactic(auto, unfolding(crate::specs::Roads::road_texts_of))]
+pub fn fetch_road_texts<F: Folder>(alloc: Global, folder: &mut F) -> Result<RoadTexts, CaseFault>
+    ensures keeps { F.told folder.new ≡ F.told folder.old }
+    ensures later { (d : Doc) → F.faults folder.old d ≤ F.faults folder.new d }
+    ensures others { (d : Doc) → is_of_roads d ≡ false → F.faults folder.new d ≡ F.faults folder.old d }
+    ensures ok { IfOk result (λ t. IfSome (F.told folder.old) (λ files. road_texts_of files ≡ Ok t)) }
+    ensures fault { IfErr result (λ e. IfSome (F.told folder.old) (λ files. Agrees (road_texts_of files) e)) }
+    ensures risen { IfErr result (HasRisen (F.faults folder.old) (F.faults folder.new)) }
+    ensures asked { IfErr result (WasAsked is_of_roads) }
+    ensures memory { IfErr result HidesNoMemory }
+{
+    let setup = fetch(alloc, folder, File::Setup)?;
+    let links = fetch(alloc, folder, File::Links)?;
+    let demand = fetch(alloc, folder, File::Demand)?;
+    Ok(RoadTexts {
+        setup,
+        links,
+        demand,
+    })
 }
 
 /// The bytes of the files that each case has, fetched in order.
@@ -113,16 +180,9 @@ pub fn fetch_texts<F: Folder>(alloc: Global, folder: &mut F) -> Result<Texts, Ca
     ensures asked { IfErr result (WasAsked is_of_each) }
     ensures memory { IfErr result HidesNoMemory }
 {
-    let setup = fetch(alloc, folder, Doc::Setup, File::Setup)?;
-    let links = fetch(alloc, folder, Doc::Links, File::Links)?;
-    let demand = fetch(alloc, folder, Doc::Demand, File::Demand)?;
-    let splits = fetch(alloc, folder, Doc::Splits, File::Splits)?;
-    Ok(Texts {
-        setup,
-        links,
-        demand,
-        splits,
-    })
+    let roads = fetch_road_texts(alloc, folder)?;
+    let splits = fetch(alloc, folder, File::Splits)?;
+    Ok(Texts { roads, splits })
 }
 
 /// The bytes of the signals, fetched where they are asked for.
@@ -133,7 +193,7 @@ pub fn fetch_signals<F: Folder>(
 ) -> Result<Option<FileText>, CaseFault>
     ensures keeps { F.told folder.new ≡ F.told folder.old }
     ensures later { (d : Doc) → F.faults folder.old d ≤ F.faults folder.new d }
-    ensures others { (d : Doc) → d ≢ Doc.Signals → F.faults folder.new d ≡ F.faults folder.old d }
+    ensures others { (d : Doc) → (d ≡ Doc.Signals → ⊥) → F.faults folder.new d ≡ F.faults folder.old d }
     ensures unasked { asked ≡ false → (d : Doc) → F.faults folder.new d ≡ F.faults folder.old d }
     ensures ok { IfOk result (λ v. IfSome (F.told folder.old) (λ files. signals_of files asked ≡ Ok v)) }
     ensures fault { IfErr result (λ e. IfSome (F.told folder.old) (λ files. Agrees (signals_of files asked) e)) }
@@ -144,6 +204,6 @@ pub fn fetch_signals<F: Folder>(
     if !asked {
         return Ok(None);
     }
-    let text = fetch(alloc, folder, Doc::Signals, File::Signals)?;
+    let text = fetch(alloc, folder, File::Signals)?;
     Ok(Some(text))
 }

@@ -59,7 +59,7 @@ pub fn read_split_weights(row: &ByteRecord, field: u32) -> Result<Weights, CaseC
     let Some(entries) = read_weights(text_at(row, (field - 1) as usize)) else {
         return Err(CaseCause::Field(field));
     };
-    match Weights::of(entries.as_slice()) {
+    match Weights::of(entries) {
         Some(weights) => Ok(weights),
         None => Err(CaseCause::Field(field)),
     }

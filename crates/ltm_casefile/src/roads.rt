@@ -3,70 +3,24 @@ ghost use Rattle.std.specs.Prelude.{◌≡◌, ◌≤◌, ◌⊎◌, ℕ, [], Ok
 ghost use Rattle.ltm_io.specs.Folder.{Files};
 ghost use Rattle.ltm_io.specs.Faults.{Rose};
 ghost use Rattle.ltm_io.specs.declared.doc.Doc.{Doc};
-ghost use Rattle.ltm_records.specs.Left.{records_of};
 ghost use Rattle.ltm_casefile.specs.Faults.{Agrees, Says, HasRisen, WasAsked, HidesNoMemory};
-ghost use Rattle.ltm_casefile.specs.Roads.{road_texts_of, roads_filled, roads_in, unsplit_case_of, is_of_roads};
+ghost use Rattle.ltm_casefile.specs.Roads.{roads_filled, roads_in, unsplit_case_of, is_of_roads};
 
-use crate::faults::{CaseFault, File};
-use crate::fetch::{FileText, fetch};
+use crate::faults::CaseFault;
+use crate::fetch::{RoadTexts, fetch_road_texts};
 use crate::setup::open_setup;
 use crate::tables::Table;
-use ltm_io::{Doc, Folder};
+use ltm_io::Folder;
 use ltm_scenario::Scenario;
 use std::alloc::Global;
-use std::marker::Model;
-
-/// The bytes of the files that say the roads and who travels on them.
-struct RoadTexts {
-    setup: FileText,
-    links: FileText,
-    demand: FileText,
-}
-
-// By hand, so that letting go of texts is one call, and not their parts one by one wherever that may happen.
-impl Drop for RoadTexts {
-    fn drop(self) {
-        let RoadTexts {
-            setup: _setup,
-            links: _links,
-            demand: _demand,
-        } = self;
-    }
-}
-
-impl Model for RoadTexts {
-    ghost use Rattle.ltm_casefile.specs.Roads.{RoadTexts as RoadTextsData};
-
-    ghost Value = { RoadTextsData };
-
-    ghost view = { λ t. record { setup = t.setup; links = t.links; demand = t.demand } };
-}
-
-/// The bytes of these files, fetched in order.
-#[tactic(auto, unfolding(crate::specs::Roads::road_texts_of))]
-fn fetch_road_texts<F: Folder>(alloc: Global, folder: &mut F) -> Result<RoadTexts, CaseFault>
-    ensures keeps { F.told folder.new ≡ F.told folder.old }
-    ensures later { (d : Doc) → F.faults folder.old d ≤ F.faults folder.new d }
-    ensures others { (d : Doc) → is_of_roads d ≡ false → F.faults folder.new d ≡ F.faults folder.old d }
-    ensures ok { IfOk result (λ t. IfSome (F.told folder.old) (λ files. road_texts_of files ≡ Ok t)) }
-    ensures fault { IfErr result (λ e. IfSome (F.told folder.old) (λ files. Agrees (road_texts_of files) e)) }
-    ensures risen { IfErr result (HasRisen (F.faults folder.old) (F.faults folder.new)) }
-    ensures asked { IfErr result (WasAsked is_of_roads) }
-    ensures memory { IfErr result HidesNoMemory }
-{
-    let setup = fetch(alloc, folder, Doc::Setup, File::Setup)?;
-    let links = fetch(alloc, folder, Doc::Links, File::Links)?;
-    let demand = fetch(alloc, folder, Doc::Demand, File::Demand)?;
-    Ok(RoadTexts {
-        setup,
-        links,
-        demand,
-    })
-}
 
 /// Adds the links and the demand to a scenario without links.
 #[tactic(auto, unfolding(crate::specs::Roads::roads_filled))]
-fn fill_roads(alloc: Global, scenario: &mut Scenario, texts: &RoadTexts) -> Result<(), CaseFault>
+pub fn fill_roads(
+    alloc: Global,
+    scenario: &mut Scenario,
+    texts: &RoadTexts,
+) -> Result<(), CaseFault>
     requires { scenario.old.splits ≡ [] }
     ensures ok { OnOk result (roads_filled scenario.old texts.now ≡ Ok scenario.new) }
     ensures fault { IfErr result (Says (roads_filled scenario.old texts.now)) }
@@ -88,7 +42,7 @@ fn build_roads(alloc: Global, texts: &RoadTexts) -> Result<Scenario, CaseFault>
     ensures unsplit { IfOk result (λ scenario. scenario.splits ≡ []) }
     ensures fault { IfErr result (Says (roads_in texts.now)) }
 {
-    let opened = open_setup(alloc, texts.setup.bytes())?;
+    let opened = open_setup(alloc, texts.setup())?;
     let mut scenario = opened.scenario;
     fill_roads(alloc, &mut scenario, texts)?;
     Ok(scenario)

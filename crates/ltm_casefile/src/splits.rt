@@ -13,7 +13,7 @@ use crate::fields::{check_width, read_name, read_number, read_split_weights};
 use csv::ByteRecord;
 use ltm_records::{has, width};
 use ltm_scenario::{Scenario, Weights};
-use ltm_splits::{SplitFault, are_zero};
+use ltm_splits::SplitFault;
 use ltm_units::{Name, NoMemory, NodeId};
 
 /// What a record of splits says.
@@ -97,12 +97,11 @@ fn set_split(scenario: &mut Scenario, row: &SplitRecord) -> Result<(), StepFault
     ensures cause { IfErr result (Tells (with_split_record scenario.old row.now)) }
 {
     let (node, end) = find_ends(scenario, row)?;
-    let weights = scenario.weights_at(node, row.weights.pairs())?;
-    if are_zero(&weights) {
+    let Some(weights) = scenario.weights_at(node, row.weights.pairs()) else {
         return Err(StepFault::Cause(CaseCause::ZeroWeight));
-    }
+    };
     let destination = add_destination(scenario, end)?;
-    match scenario.set_split(node, destination, row.from, &weights) {
+    match scenario.set_split(node, destination, row.from, weights.as_slice()) {
         Ok(()) => return Ok(()),
         Err(SplitFault::NoMemory) => return Err(StepFault::NoMemory),
         Err(_) => return Err(StepFault::Cause(CaseCause::TooManyRows)),

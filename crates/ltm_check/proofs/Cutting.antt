@@ -11,7 +11,7 @@ use Rattle.csv.specs.declared.parser.State.TheVariants as st
 use Rattle.csv.specs.declared.parser.Action.{Action}
 use Rattle.csv.specs.declared.parser.Action.TheVariants as act
 use Rattle.ltm_records.specs.Fields.{Fields}
-use Rattle.ltm_check.proofs.Fuel.{behind_next, shrinks_more, last}
+use Rattle.ltm_records.proofs.Fuel.{behind_next, shrinks_more, last}
 use Rattle.ltm_check.specs.Pieces.{IsUnquoted, CutAtLineEnd}
 
 abbrev is_unquoted : List ℕ → Bool

@@ -9,8 +9,10 @@ use Rattle.std.proofs.lemmas.List.Splits.{slice_split-cons_yes, slice_split-cons
 use Rattle.ltm_units.proofs.Digits.{digit_bounds}
 use Rattle.ltm_curve.specs.First.{list_below}
 use Rattle.ltm_curve.proofs.Lists.{length-list_below, index-list_below}
-use Rattle.ltm_check.specs.CountsTold.{is_space, count_told, each_told, counts_told}
-use Rattle.ltm_check.specs.Text.{texts_below, further_count, counts_text}
+use Rattle.ltm_records.specs.Pieces.{is_space}
+use Rattle.ltm_check.specs.CountsTold.{count_told, each_told, counts_told}
+use Rattle.ltm_units.specs.Texts.{texts_below}
+use Rattle.ltm_check.specs.Text.{further_count, counts_text}
 use Rattle.ltm_check.proofs.DigitsBack.{decimal_digits, decimal_told}
 
 -- ---- a text that is cut at its last mark

@@ -1,4 +1,3 @@
-mod Pieces
 mod Alike
 mod Reading
 mod Arms
@@ -9,7 +8,6 @@ mod Joined
 mod RowsWritten
 mod ReadBack
 mod Telling
-mod Fuel
 mod Cutting
 mod Reaching
 mod Rest

@@ -28,7 +28,8 @@ use Rattle.ltm_setting.specs.Setting.{setting_of}
 use Rattle.ltm_check.specs.Due.{record_count, record_place, group_at, destination_at, link_groups, node_groups_end, kind_of, name_of}
 use Rattle.ltm_check.specs.CountsTold.{counts_told}
 use Rattle.ltm_check.specs.File.{counts_in, or_no_counts, counts_at, fault_of, told, told_by, AreRightBelow, IsCurveFile}
-use Rattle.ltm_check.specs.Text.{texts_below, further_count, counts_text, due_text, record_text, header_text, group_text, curves_file}
+use Rattle.ltm_units.specs.Texts.{texts_below}
+use Rattle.ltm_check.specs.Text.{further_count, counts_text, due_text, record_text, header_text, group_text, curves_file}
 use Rattle.ltm_check.specs.ReadBack.{AreNamed, CanBeTold, WrittenIsRead}
 use Rattle.ltm_check.proofs.DigitsBack.{decimal_digits}
 use Rattle.ltm_check.proofs.Joined.{text_told}

@@ -11,7 +11,7 @@ use Rattle.csv.specs.Writing.{default_writer, needs_byte, field_text, fields_tex
 use Rattle.csv.specs.declared.parser.State.TheVariants as st
 use Rattle.csv.proofs.RoundTrip.{rows_text, read-write}
 use Rattle.ltm_records.specs.Fields.{Fields}
-use Rattle.ltm_check.specs.Text.{texts_below}
+use Rattle.ltm_units.specs.Texts.{texts_below}
 
 -- a field that calls for no quotes
 abbrev pub IsPlain : List ℕ → Type 0

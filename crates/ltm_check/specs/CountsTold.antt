@@ -1,18 +1,12 @@
 -- The counts that a field of a curve file tells: decimal numbers with one space between two.
-use Rattle.std.specs.Prelude.{ℕ, ◌==◌, ◌^◌, ◌&&◌, Bool, nat_le, List, [], ◌∷◌, length, Option, Some, None, if◌then◌else◌}
-use Rattle.std.specs.List.{list_all, slice_split}
-use Rattle.ltm_units.specs.Numbers.{is_digit, value}
-
-abbrev pub is_space : ℕ → Bool
-is_space b = b == 32
-
--- 1 to 15 digits
-abbrev pub is_numeral : List ℕ → Bool
-is_numeral text = nat_le 1 (length text) && nat_le (length text) 15 && list_all is_digit text
+use Rattle.std.specs.Prelude.{ℕ, ◌==◌, List, [], ◌∷◌, length, Option, Some, None, if◌then◌else◌}
+use Rattle.std.specs.List.{slice_split}
+use Rattle.ltm_units.specs.Numbers.{number_told}
+use Rattle.ltm_records.specs.Pieces.{is_space}
 
 -- the count that a text tells: 1 to 15 digits with a value of at most 2^48
 abbrev pub count_told : List ℕ → Option ℕ
-count_told text = if is_numeral text && nat_le (value text) (2 ^ 48) then Some (value text) else None
+count_told = number_told 15 281474976710656
 
 abbrev pub onto : Option ℕ → Option (List ℕ) → Option (List ℕ)
 onto (Some count) (Some counts) = Some (count ∷ counts)
@@ -31,8 +25,3 @@ if_many many (Some counts) = if length counts == many then Some counts else None
 -- so many counts, with one space between two
 abbrev pub counts_told : ℕ → List ℕ → Option (List ℕ)
 counts_told many text = if_many many (each_told (slice_split is_space text))
-
--- the pieces of what stands behind a space, if there is one
-abbrev pub pieces_behind : Option (List ℕ) → List (List ℕ)
-pieces_behind (Some text) = slice_split is_space text
-pieces_behind None = []

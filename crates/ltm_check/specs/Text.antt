@@ -1,17 +1,13 @@
 -- The text of a curve file.
-use Rattle.std.specs.Prelude.{ℕ, zero, suc, ◌+◌, List, [], ◌++◌, codes}
+use Rattle.std.specs.Prelude.{ℕ, ◌+◌, List, ◌++◌, codes}
 use Rattle.std.specs.Fmt.{decimal}
+use Rattle.ltm_units.specs.Texts.{texts_below}
 use Rattle.ltm_curve.specs.Counts.{Counts}
 use Rattle.ltm_scenario.specs.Data.{ScenarioData}
 use Rattle.ltm_scenario.specs.Reads.{destination_name}
 use Rattle.ltm_loading.specs.Groups.{groups}
 use Rattle.ltm_setting.specs.Setting.{setting_of}
 use Rattle.ltm_check.specs.Due.{kind_of, name_of}
-
--- the texts of the numbers below n, in order
-abbrev pub texts_below : ℕ → (ℕ → List ℕ) → List ℕ
-texts_below zero text = []
-texts_below (suc n) text = texts_below n text ++ text n
 
 -- a count behind another, as ` 500`
 unfoldable pub further_count : ℕ → List ℕ

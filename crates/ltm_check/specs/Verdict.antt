@@ -4,7 +4,7 @@ use Rattle.ltm_curve.specs.Counts.{Counts}
 use Rattle.ltm_loading.specs.Setting.{Setting, IsSetting}
 use Rattle.ltm_loading.specs.Groups.{groups}
 use Rattle.ltm_loading.specs.Pairs.{MeetsStep}
-use Rattle.ltm_loading.specs.Loading.{NothingLeavesSinks, IsLoading}
+use Rattle.ltm_loading.specs.Loading.{OriginsWithoutOutsAreEmpty, IsLoading}
 use Rattle.ltm_loading.specs.NextPair.{IsFrontTo}
 use Rattle.ltm_units.specs.declared.places.Pair.{Pair}
 use Rattle.ltm_check.specs.Kept.{AreKept}
@@ -14,7 +14,7 @@ use Rattle.ltm_check.specs.declared.faults.Checked.TheVariants.{Yes, Start, No}
 -- nothing is counted at the start, and nothing ever leaves the origin of a node without out-links
 pub record StartsRight (s : Setting) (c : Counts) : Type 0 where
   pub empty : (g d : ℕ) → g < groups s → d < s.destinations → c g d 0 ≡ 0
-  pub no_origin : NothingLeavesSinks s c
+  pub no_origin : OriginsWithoutOutsAreEmpty s c
 
 -- of the nodes of a slot the first whose counts at the slot's end are not its node step
 pub record IsFirstWrongNode (s : Setting) (c : Counts) (slot node : ℕ) : Type 0 where

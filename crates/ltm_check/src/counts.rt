@@ -1,14 +1,22 @@
 //! The counts of a record, read into curves.
 ghost use Rattle.std.specs.Prelude.{◌≡◌, ◌<◌, ◌+◌, Some, None, IsTrue, IsFalse, List, ℕ};
 ghost use Rattle.ltm_curve.specs.Table.{groups_of, destinations_of, slots_of, SameShape};
-ghost use Rattle.ltm_check.specs.CountsTold.{counts_told};
+ghost use Rattle.ltm_check.specs.CountsTold.{count_told, counts_told};
 ghost use Rattle.ltm_check.specs.Kept.{PutsCounts};
 
-use crate::numerals::{cut, read_count};
 use ltm_curve::Curves;
+use ltm_records::cut;
+use ltm_units::read_number;
 
 /// The greatest count that curves hold. No count of a loading is as great.
 const GREATEST: u64 = 2_147_483_647;
+
+/// The count that a text tells: 1 to 15 digits with a value of at most 2^48.
+fn read_count(text: &[u8]) -> Option<u64>
+    ensures { result ≡ count_told text.now }
+{
+    read_number(text, 15, 281_474_976_710_656)
+}
 
 /// Reads one count for each boundary, and puts them into the curves as those of a group and a destination; a count that is
 /// too great for curves is put as the greatest that they hold. Whether the text tells so many counts; where it does not,

@@ -15,7 +15,6 @@ mod faults;
 mod file;
 mod kept;
 mod meets;
-mod numerals;
 mod piece;
 mod read;
 mod record;

@@ -1,7 +1,7 @@
 //! The start of a loading: nothing is counted, and nothing ever leaves the origin of a node without out-links.
 ghost use Rattle.std.specs.Prelude.{◌≡◌, ◌<◌, ◌≤◌, ◌↔◌, ℕ, IsTrue, All};
 ghost use Rattle.ltm_curve.specs.Table.{counts_of, groups_of, destinations_of, slots_of};
-ghost use Rattle.ltm_loading.specs.Loading.{NothingLeavesSinks};
+ghost use Rattle.ltm_loading.specs.Loading.{OriginsWithoutOutsAreEmpty};
 ghost use Rattle.ltm_setting.specs.Setting.{setting_of};
 ghost use Rattle.ltm_loading.specs.Shaped.{IsShaped};
 ghost use Rattle.ltm_check.specs.Verdict.{StartsRight};
@@ -55,7 +55,7 @@ fn stays_empty(curves: &Curves, group: u32) -> bool
 /// Whether nothing ever leaves the origin of a node without out-links.
 fn sinks_send_nothing(scenario: &Scenario, curves: &Curves) -> bool
     requires { IsShaped (setting_of scenario.now) curves.now }
-    ensures { IsTrue result ↔ NothingLeavesSinks (setting_of scenario.now) (counts_of curves.now) }
+    ensures { IsTrue result ↔ OriginsWithoutOutsAreEmpty (setting_of scenario.now) (counts_of curves.now) }
 {
     for node in 0..node_count(scenario) {
         let sends = !out_links(scenario, NodeId(node)).is_empty();

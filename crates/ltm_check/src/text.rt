@@ -5,38 +5,28 @@ ghost use Rattle.ltm_curve.specs.Table.{counts_of, groups_of, destinations_of, s
 ghost use Rattle.ltm_loading.specs.Groups.{groups};
 ghost use Rattle.ltm_setting.specs.Setting.{setting_of};
 ghost use Rattle.ltm_loading.specs.Shaped.{IsShaped};
-ghost use Rattle.ltm_check.specs.Text.{texts_below, further_count, counts_text, due_text, record_text, header_text, group_text, curves_file};
+ghost use Rattle.ltm_units.specs.Texts.{texts_below};
+ghost use Rattle.ltm_check.specs.Text.{further_count, counts_text, due_text, record_text, header_text, group_text, curves_file};
 
 use crate::due::{kind_of, name_of, name_of_destination};
-use itoa::Buffer;
 use ltm_curve::Curves;
 use ltm_scenario::Scenario;
 use ltm_setting::{destination_count, slot_count};
-use ltm_units::NoMemory;
+use ltm_units::{NoMemory, push_number, push_text};
 use std::alloc::Global;
 
-/// Appends the whole text, or nothing.
-fn push_text(into: &mut Vec<u8>, text: &[u8]) -> Result<(), NoMemory>
-    ensures ok { OnOk result (into.new.items ≡ into.old.items ++ text.now) }
-    ensures err { OnErr result (into.new.items ≡ into.old.items) }
-{
-    into.extend_from_slice(text)?;
-    Ok(())
-}
-
+#[tactic(auto, unfolding(ltm_units::specs::Texts::number_piece))]
 fn push_count(into: &mut Vec<u8>, count: u64) -> Result<(), NoMemory>
     ensures { OnOk result (into.new.items ≡ into.old.items ++ decimal count) }
 {
-    let mut digits = Buffer::new();
-    push_text(into, digits.format(count).as_bytes())
+    push_number(into, b"", u128::from(count))
 }
 
-#[tactic(auto, unfolding(crate::specs::Text::further_count))]
+#[tactic(auto, unfolding(crate::specs::Text::further_count, ltm_units::specs::Texts::number_piece))]
 fn push_further(into: &mut Vec<u8>, count: u64) -> Result<(), NoMemory>
     ensures { OnOk result (into.new.items ≡ into.old.items ++ further_count count) }
 {
-    push_text(into, b" ")?;
-    push_count(into, count)
+    push_number(into, b" ", u128::from(count))
 }
 
 /// Appends the counts of a group and a destination at the boundaries behind the first.

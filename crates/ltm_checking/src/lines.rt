@@ -1,26 +1,10 @@
 //! The lines of a check.
-ghost use Rattle.std.specs.Prelude.{◌≡◌, ◌++◌, OnOk, IfOk, codes};
-ghost use Rattle.std.specs.Fmt.{decimal};
+ghost use Rattle.std.specs.Prelude.{◌≡◌, ◌++◌, OnOk, IfOk};
 ghost use Rattle.ltm_checking.specs.Lines.{yes_line, no_start_line, no_step_line, cause_words, bad_curves_line, long_curves_line};
 
-use itoa::Buffer;
 use ltm_check::CurvesCause;
-use ltm_units::{Name, NoMemory};
+use ltm_units::{Name, NoMemory, push_number, push_text};
 use std::alloc::Global;
-
-fn push(into: &mut Vec<u8>, text: &[u8]) -> Result<(), NoMemory>
-    ensures { OnOk result (into.new.items ≡ into.old.items ++ text.now) }
-{
-    into.extend_from_slice(text)?;
-    Ok(())
-}
-
-fn push_number(into: &mut Vec<u8>, number: u32) -> Result<(), NoMemory>
-    ensures { OnOk result (into.new.items ≡ into.old.items ++ decimal number) }
-{
-    let mut digits = Buffer::new();
-    push(into, digits.format(number).as_bytes())
-}
 
 /// The line that says yes.
 #[tactic(auto, unfolding(crate::specs::Lines::yes_line))]
@@ -28,7 +12,7 @@ pub(crate) fn yes_text(alloc: Global) -> Result<Vec<u8>, NoMemory>
     ensures { IfOk result (λ line. line.items ≡ yes_line) }
 {
     let mut line = Vec::new(alloc);
-    push(&mut line, b"loading yes\n")?;
+    push_text(&mut line, b"loading yes\n")?;
     Ok(line)
 }
 
@@ -38,7 +22,7 @@ pub fn no_start_text(alloc: Global) -> Result<Vec<u8>, NoMemory>
     ensures { IfOk result (λ line. line.items ≡ no_start_line) }
 {
     let mut line = Vec::new(alloc);
-    push(&mut line, b"loading no start\n")?;
+    push_text(&mut line, b"loading no start\n")?;
     Ok(line)
 }
 
@@ -48,11 +32,10 @@ pub fn no_step_text(alloc: Global, node: &Name, slot: u32) -> Result<Vec<u8>, No
     ensures { IfOk result (λ line. line.items ≡ no_step_line node.now slot) }
 {
     let mut line = Vec::new(alloc);
-    push(&mut line, b"loading no node ")?;
-    push(&mut line, node.bytes())?;
-    push(&mut line, b" slot ")?;
-    push_number(&mut line, slot)?;
-    push(&mut line, b"\n")?;
+    push_text(&mut line, b"loading no node ")?;
+    push_text(&mut line, node.bytes())?;
+    push_number(&mut line, b" slot ", u128::from(slot))?;
+    push_text(&mut line, b"\n")?;
     Ok(line)
 }
 
@@ -61,18 +44,11 @@ fn push_cause(into: &mut Vec<u8>, cause: CurvesCause) -> Result<(), NoMemory>
     ensures { OnOk result (into.new.items ≡ into.old.items ++ cause_words cause) }
 {
     match cause {
-        CurvesCause::Header => push(into, b"Header"),
-        CurvesCause::Width => push(into, b"Width"),
-        CurvesCause::Field(place) => push_field(into, place),
-        CurvesCause::Rows => push(into, b"Rows"),
+        CurvesCause::Header => push_text(into, b"Header"),
+        CurvesCause::Width => push_text(into, b"Width"),
+        CurvesCause::Field(place) => push_number(into, b"Field ", u128::from(place)),
+        CurvesCause::Rows => push_text(into, b"Rows"),
     }
-}
-
-fn push_field(into: &mut Vec<u8>, place: u32) -> Result<(), NoMemory>
-    ensures { OnOk result (into.new.items ≡ into.old.items ++ (codes "Field " ++ decimal place)) }
-{
-    push(into, b"Field ")?;
-    push_number(into, place)
 }
 
 /// The line of a file that is no curve file of the case, as `bad curves row 6 Rows`.
@@ -81,11 +57,10 @@ pub fn bad_curves_text(alloc: Global, row: u32, cause: CurvesCause) -> Result<Ve
     ensures { IfOk result (λ line. line.items ≡ bad_curves_line row cause) }
 {
     let mut line = Vec::new(alloc);
-    push(&mut line, b"bad curves row ")?;
-    push_number(&mut line, row)?;
-    push(&mut line, b" ")?;
+    push_number(&mut line, b"bad curves row ", u128::from(row))?;
+    push_text(&mut line, b" ")?;
     push_cause(&mut line, cause)?;
-    push(&mut line, b"\n")?;
+    push_text(&mut line, b"\n")?;
     Ok(line)
 }
 
@@ -95,6 +70,6 @@ pub fn long_curves_text(alloc: Global) -> Result<Vec<u8>, NoMemory>
     ensures { IfOk result (λ line. line.items ≡ long_curves_line) }
 {
     let mut line = Vec::new(alloc);
-    push(&mut line, b"too long curves\n")?;
+    push_text(&mut line, b"too long curves\n")?;
     Ok(line)
 }

@@ -30,7 +30,7 @@ use Rattle.ltm_core.specs.Laws.{RepairLaws}
 use Rattle.ltm_core.specs.Cores.{CoreData, desk_in, repair_of, IsNoneOut, IsAlike, IsLog, IsCore}
 use Rattle.ltm_core.specs.CoreAnswers.{AcceptsBatch, LooksAs, TellsAccept}
 use Rattle.ltm_core.specs.Taking.{TakesBatch}
-use Rattle.ltm_core.specs.Reaching.{MayReach}
+use Rattle.ltm_scenario.specs.Horizon.{MayReach}
 use Rattle.ltm_core.proofs.Logs.{version_batch, settled_batch, earlier_scenario, last_scenario, accepted_now, holds_more, opening_batch}
 use Rattle.ltm_core.proofs.Cores.{core_now, after_event, none_there}
 use Rattle.ltm_core.proofs.Showings.{shown_low}

@@ -1,6 +1,5 @@
 pub mod Logs
 pub mod Widths
-pub mod Reaching
 pub mod Cores
 pub mod Claimings
 pub mod Committings

@@ -4,7 +4,6 @@ pub mod Settling
 pub mod Cores
 pub mod CoreAnswers
 pub mod Taking
-pub mod Reaching
 pub mod Laws
 pub mod Runs
 pub mod Producing

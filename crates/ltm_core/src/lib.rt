@@ -9,7 +9,6 @@
 mod answers;
 mod claim;
 mod entry;
-mod horizons;
 mod kept_core;
 mod laws;
 mod producing;

@@ -47,16 +47,12 @@ pub record SetsTotal (old new : TotalCurves) (group boundary total : ℕ) : Type
   pub here : total_at new group boundary ≡ total
   pub others : (g k : ℕ) → IsTotal old g k → (g ≢ group) ⊎ (k ≢ boundary) → total_at new g k ≡ total_at old g k
 
--- a cell that comes before a group at a boundary
-abbrev pub ComesBefore : ℕ → ℕ → ℕ → ℕ → Type 0
-ComesBefore boundary group g k = (k < boundary) ⊎ ((k ≡ boundary) × (g < group))
-
--- the totals of curves in all cells that come before a group at a boundary
-pub record TotalsBefore (t : TotalCurves) (c : Curves) (boundary group : ℕ) : Type 0 where
+-- the totals of curves at all boundaries before one
+pub record TotalsBefore (t : TotalCurves) (c : Curves) (boundary : ℕ) : Type 0 where
   pub shape : HasTotals t (groups_of c) (slots_of c)
-  pub totals : (g k : ℕ) → g < groups_of c → k ≤ slots_of c → ComesBefore boundary group g k → total_at t g k ≡ total_of c g k
+  pub totals : (g k : ℕ) → g < groups_of c → k ≤ slots_of c → k < boundary → total_at t g k ≡ total_of c g k
 
--- the totals of curves in all cells but the changed ones that do not come before a group at a boundary
-pub record TotalsBut (t : TotalCurves) (c : Curves) (changed : Changed) (boundary group : ℕ) : Type 0 where
+-- the totals of curves in all cells but the changed ones from a boundary on
+pub record TotalsBut (t : TotalCurves) (c : Curves) (changed : Changed) (boundary : ℕ) : Type 0 where
   pub shape : HasTotals t (groups_of c) (slots_of c)
-  pub totals : (g k : ℕ) → g < groups_of c → k ≤ slots_of c → (is_changed changed g k ≡ false) ⊎ ComesBefore boundary group g k → total_at t g k ≡ total_of c g k
+  pub totals : (g k : ℕ) → g < groups_of c → k ≤ slots_of c → (is_changed changed g k ≡ false) ⊎ (k < boundary) → total_at t g k ≡ total_of c g k

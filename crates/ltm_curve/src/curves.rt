@@ -1,8 +1,9 @@
 //! A table of cumulative counts.
 //!
 //! All counts of one boundary lie side by side, group after group, so that a loading walks through memory in order and
-//! further boundaries can be added at the end. Only `place`, `row_number` and the words `counts_of` and `place` of
-//! `specs/Table.antt` know this; no contract does. A count is kept in 32 bits, since twice as many then lie in a cache. With
+//! further boundaries can be added at the end. The words `counts_of` and `place` of `specs/Table.antt` say so, and here
+//! `place`, `row_number`, `start` and what takes a whole boundary at once (`carry`, `reserve`, `lengthen`, `totals_at`,
+//! `only_counts_at`) rest on it; no contract does. A count is kept in 32 bits, since twice as many then lie in a cache. With
 //! two destinations or more the totals of the groups lie in a dense table of their own, in the same order, so that looking
 //! back at totals reads few numbers; with one the count is the total.
 ghost use Rattle.std.specs.Prelude.{◌≡◌, ℕ, ◌+◌, ◌*◌, ◌^◌, ◌<◌, ◌≤◌, length, sum, replicate, slice_index, IfOk};

@@ -9,10 +9,7 @@ impl Curves {
     ghost use Rattle.ltm_curve.specs.Table.{groups_of, slots_of, total_of};
 
     /// The total of a group `rest` milliseconds past a boundary, interpolated and rounded down.
-    ///
-    /// A caller that asks slot after slot for the total some fixed time ago finds boundary and rest once, and moves the
-    /// boundary on.
-    pub fn past(&self, group: u32, boundary: u32, rest: Millis, step: Millis) -> u64
+    fn past(&self, group: u32, boundary: u32, rest: Millis, step: Millis) -> u64
         requires group { group < groups_of self.now }
         requires rest { rest.0 < step.0 }
         requires boundary { boundary ≤ slots_of self.now }

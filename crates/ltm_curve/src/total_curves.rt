@@ -2,7 +2,8 @@
 //!
 //! It holds the total of each group at each boundary and no count by destination, so it is small. Totals are kept in 32 bits,
 //! boundary by boundary; but those of the last group, which in a loading gathers what has arrived from everywhere, may need
-//! more, and lie in a table of their own. Only `place` and the word `total_at` of `specs/TotalCurves.antt` know this.
+//! more, and lie in a table of their own. The word `total_at` of `specs/TotalCurves.antt` says so, and here `place`
+//! and what takes a whole boundary at once (`reserve`, `lengthen`, `copy_narrow`, `copy_changed_narrow`) rest on it.
 ghost use Rattle.std.specs.Prelude.{◌≡◌, ℕ, ◌+◌, ◌*◌, ◌^◌, ◌<◌, ◌≤◌, length, slice_index, IfOk};
 ghost use Rattle.std.specs.Vec.{vec_capacity};
 ghost use Rattle.ltm_curve.specs.Table.{groups_of, slots_of, total_of};

@@ -15,12 +15,10 @@ use Rattle.ltm_repair.specs.Desk.{Desk}
 use Rattle.ltm_repair.specs.Facts.{IsSound}
 use Rattle.ltm_repair.specs.Index.{IndexIsCurrent}
 use Rattle.ltm_repair.specs.Moves.{Commits}
-use Rattle.ltm_desk.specs.declared.claim_rows.ClaimRows.{ClaimRows}
-use Rattle.ltm_desk.specs.declared.layout.Part.TheVariants.{All}
-use Rattle.ltm_desk.specs.declared.rows.KeptRows.{KeptRows}
+use Rattle.ltm_rows.specs.declared.claim_rows.ClaimRows.{ClaimRows}
+use Rattle.ltm_rows.specs.declared.rows.KeptRows.{KeptRows}
 use Rattle.ltm_desk.specs.declared.table.Table.{Table}
-use Rattle.ltm_desk.specs.Layouts.{LiesAs}
-use Rattle.ltm_desk.specs.Claims.{WritesClaim}
+use Rattle.ltm_rows.specs.Claims.{HasClaims, WritesClaim}
 use Rattle.ltm_desk.specs.Desks.{desk_at, place_of, changed_at}
 use Rattle.ltm_desk.specs.Ready.{ClaimsArePlaced, IsReady}
 use Rattle.ltm_desk.specs.Searching.{IsFound}
@@ -36,7 +34,7 @@ use Rattle.ltm_desk.proofs.Committing.{commits_desk, commits_ready, commits_cell
 
 -- ---- the rows beside claims
 -- what is written beside a claim that is gone is nothing to the desk
-same_without : (s : Setting) (c : Table) (k : ClaimRows) (u : ℕ) (row : List ℕ) → LiesAs s All k.places → WritesClaim k c.claims u row → ((y : ℕ) → is_claimed c.frontier u y ≡ false) →
+same_without : (s : Setting) (c : Table) (k : ClaimRows) (u : ℕ) (row : List ℕ) → HasClaims s k → WritesClaim k c.claims u row → ((y : ℕ) → is_claimed c.frontier u y ≡ false) →
     desk_at s (record c { claims = k }) ≡ desk_at s c
 same_without s c k u row has writes off =
     let e : Table = record c { claims = k } in
@@ -47,7 +45,7 @@ same_without s c k u row has writes off =
           claim_off e w y none ∙ sym (claim_off c w y none)
     ])
 
-ready_without : (s : Setting) (c : Table) (k : ClaimRows) → IsReady s c → LiesAs s All k.places → desk_at s (record c { claims = k }) ≡ desk_at s c → IsReady s (record c { claims = k })
+ready_without : (s : Setting) (c : Table) (k : ClaimRows) → IsReady s c → HasClaims s k → desk_at s (record c { claims = k }) ≡ desk_at s c → IsReady s (record c { claims = k })
 ready_without s c k ready has same = record {
   fits = record {
     curves = ready.fits.curves;

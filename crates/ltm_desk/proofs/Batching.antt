@@ -27,24 +27,23 @@ use Rattle.ltm_repair.proofs.Index.{index_stays_current}
 use Rattle.ltm_repair.proofs.KeepsBatch.{accept_keeps}
 use Rattle.ltm_pairs.specs.Reaches.{lies_in_one}
 use Rattle.ltm_desk.specs.declared.table.Table.{Table}
-use Rattle.ltm_desk.specs.declared.claim_rows.ClaimRows.{ClaimRows}
-use Rattle.ltm_desk.specs.declared.layout.Layout.{Layout}
-use Rattle.ltm_desk.specs.declared.layout.Part.{Part}
-use Rattle.ltm_desk.specs.declared.layout.Part.TheVariants.{All, Amounts, Weights}
-use Rattle.ltm_desk.specs.declared.rows.KeptRows.{KeptRows}
-use Rattle.ltm_desk.specs.Layouts.{LiesAs}
-use Rattle.ltm_desk.specs.Starts.{part_width}
-use Rattle.ltm_desk.specs.Claims.{claim_row}
-use Rattle.ltm_desk.specs.Rows.{kept_row}
+use Rattle.ltm_rows.specs.declared.claim_rows.ClaimRows.{ClaimRows}
+use Rattle.ltm_rows.specs.declared.layout.Layout.{Layout}
+use Rattle.ltm_rows.specs.declared.layout.Part.{Part}
+use Rattle.ltm_rows.specs.declared.layout.Part.TheVariants.{All, Amounts, Weights}
+use Rattle.ltm_rows.specs.declared.rows.KeptRows.{KeptRows}
+use Rattle.ltm_rows.specs.Layouts.{LiesAs}
+use Rattle.ltm_rows.specs.Starts.{part_width}
+use Rattle.ltm_rows.specs.Claims.{claim_row, HasClaims}
+use Rattle.ltm_rows.specs.Rows.{kept_row, HasRows}
 use Rattle.ltm_desk.specs.Pairs.{of_cells}
 use Rattle.ltm_desk.specs.Desks.{filled, kept_of, desk_at, place_of, changed_at}
-use Rattle.ltm_desk.specs.Ready.{FitsTable, IsReady, HasRows}
+use Rattle.ltm_desk.specs.Ready.{FitsTable, IsReady}
 use Rattle.ltm_desk.specs.Growing.{horizon_of, at_horizon, HasRoom, Lengthens}
 use Rattle.ltm_desk.specs.Batches.{LeadsTo, touches, TakesIn, TablesFit}
 use Rattle.ltm_desk.proofs.Bools.{or_false, or_right}
-use Rattle.ltm_desk.proofs.KeptPlaces.{stays_kept, none_kept}
+use Rattle.ltm_rows.proofs.KeptPlaces.{rows_at, stays_kept, none_kept}
 use Rattle.ltm_desk.proofs.Desks.{of_pair, past_pair, cases_pairs, active_is, claimed_is, active_past, claimed_past, claim_off}
-use Rattle.ltm_desk.proofs.Keeping.{rows_at}
 use Rattle.ltm_desk.proofs.Standing.{same_place}
 use Rattle.ltm_desk.proofs.ChangedCells.{cell_of, no_cell, cases_cells}
 
@@ -79,7 +78,7 @@ lies_same r s part p same lies = record {
 }
 
 rows_same : (r s : Setting) (before slots : ℕ) (k : KeptRows) → SameNetwork r s → before ≡ slots → HasRows r before k → HasRows s slots k
-rows_same r s before slots k same at has = record { amounts = lies_same r s Amounts k.narrow same has.amounts; weights = lies_same r s Weights k.wide same has.weights; same_slots = has.same_slots ∙ at }
+rows_same r s before slots k same at has = record { amounts = lies_same r s Amounts _ same has.amounts; weights = lies_same r s Weights _ same has.weights; same_slots = has.same_slots ∙ at }
 
 filled_same : (r s : Setting) (c : Counts) (u v : ℕ) (row : List ℕ) → SameNetwork r s → filled r c u v row ≡ filled s c u v row
 filled_same r s c u v row same = rw (same.ins, same.in_link, same.outs, same.out_link, same.destinations, same.own, same.nodes, same.links) refl
@@ -106,7 +105,7 @@ fits_same r s t same fits =
     record {
       curves = record { same_groups = fits.curves.same_groups ∙ all; same_destinations = fits.curves.same_destinations ∙ same.destinations; same_slots = refl };
       kept = rows_same r n r.slots (horizon_of t) t.kept there slots fits.kept;
-      claims = lies_same r n All t.claims.places there fits.claims;
+      claims = lies_same r n All _ there fits.claims;
       frontier = record { nodes = fits.frontier.nodes ∙ same.nodes; slots = fits.frontier.slots ∙ slots };
       index = record { links = fits.index.links ∙ same.links; slots = fits.index.slots ∙ slots };
       changed = record { same_groups = fits.changed.same_groups ∙ all; same_slots = fits.changed.same_slots ∙ slots };
@@ -312,7 +311,7 @@ fits_then before after edits t g m f e is =
         same_slots = is.grows.curves.same_slots;
       };
       kept = rows_at s r.slots s.slots t.kept g.kept rows is.grows.kept.places is.grows.kept_slots;
-      claims = subst (λ (z : ClaimRows). LiesAs s All z.places) (sym is.grows.claims) (lies_same r s All t.claims.places network is.ready.fits.claims);
+      claims = subst (λ (z : ClaimRows). HasClaims s z) (sym is.grows.claims) (lies_same r s All _ network is.ready.fits.claims);
       frontier = record {
         nodes = is.news.size.nodes ∙ (is.marks.size.nodes ∙ (is.voids.size.nodes ∙ (is.grows.pairs.nodes ∙ (is.ready.fits.frontier.nodes ∙ network.nodes))));
         slots = is.news.size.slots ∙ (is.marks.size.slots ∙ (is.voids.size.slots ∙ is.grows.pair_slots));

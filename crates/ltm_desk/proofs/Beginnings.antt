@@ -17,19 +17,18 @@ use Rattle.ltm_repair.specs.Desk.{IsOther, IsSettled, IsIdle}
 use Rattle.ltm_repair.specs.Facts.{IsSound}
 use Rattle.ltm_repair.specs.State.{RepairState}
 use Rattle.ltm_repair.proofs.Opening.{opening_is_repair}
-use Rattle.ltm_desk.specs.declared.layout.Part.TheVariants.{All}
-use Rattle.ltm_desk.specs.declared.rows.KeptRows.{KeptRows}
+use Rattle.ltm_rows.specs.declared.rows.KeptRows.{KeptRows}
 use Rattle.ltm_desk.specs.declared.table.Table.{Table}
-use Rattle.ltm_desk.specs.Layouts.{LiesAs}
-use Rattle.ltm_desk.specs.Rows.{PutsRow}
+use Rattle.ltm_rows.specs.Claims.{HasClaims}
+use Rattle.ltm_rows.specs.Rows.{PutsRow, HasRows}
 use Rattle.ltm_desk.specs.Pairs.{of_cells}
 use Rattle.ltm_desk.specs.Desks.{uncounted, desk_at, changed_at}
-use Rattle.ltm_desk.specs.Ready.{IsReady, IsOpened, HasRows, HasLists}
+use Rattle.ltm_desk.specs.Ready.{IsReady, IsOpened, HasLists}
 use Rattle.ltm_desk.specs.Placing.{StandsAt, PlacesPair, KeepsPair, KeepsSlots}
 use Rattle.ltm_desk.proofs.Bools.{and_false}
-use Rattle.ltm_desk.proofs.KeptPlaces.{put_kept, put_other}
+use Rattle.ltm_rows.proofs.KeptPlaces.{put_kept, put_other, rows_lie}
 use Rattle.ltm_desk.proofs.Desks.{cases_pairs, kept_is, active_past, claimed_past, idle_here}
-use Rattle.ltm_desk.proofs.Keeping.{kept_whole, rows_lie}
+use Rattle.ltm_desk.proofs.Keeping.{kept_whole}
 use Rattle.ltm_desk.proofs.Listing.{place_is}
 
 -- ---- pair after pair
@@ -76,7 +75,7 @@ pub record Opens (s : Setting) (t : Table) : Type 0 where
   pub shape : IsShaped s t.curves
   pub loading : IsLoading s (counts_of t.curves)
   pub keeps : KeepsSlots s (counts_of t.curves) t.kept t.index s.slots 0
-  pub claims : LiesAs s All t.claims.places
+  pub claims : HasClaims s t.claims
   pub nodes : nodes_in t.frontier ≡ s.nodes
   pub slots : slots_in t.frontier ≡ s.slots
   pub idle : AllIdle t.frontier

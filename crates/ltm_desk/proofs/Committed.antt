@@ -26,13 +26,13 @@ use Rattle.ltm_repair.specs.Moves.{Forgets}
 use Rattle.ltm_repair.specs.Index.{IsPlaced, PlaceStays}
 use Rattle.ltm_repair.proofs.Making.{changed_are_forgotten}
 use Rattle.ltm_pairs.specs.Waking.{ReadersWake, ReadersKeepPositions}
-use Rattle.ltm_desk.specs.declared.rows.KeptRows.{KeptRows}
+use Rattle.ltm_rows.specs.declared.rows.KeptRows.{KeptRows}
 use Rattle.ltm_desk.specs.declared.table.Table.{Table}
-use Rattle.ltm_desk.specs.Rows.{nodes_of, slots_of, row_of, has_row, kept_row, PutsRow, ForgetsIf}
+use Rattle.ltm_rows.specs.Rows.{nodes_of, slots_of, row_of, has_row, kept_row, PutsRow}
 use Rattle.ltm_desk.specs.Desks.{uncounted, filled, kept_of, desk_at, place_of}
 use Rattle.ltm_desk.specs.Ready.{HasLists, IsReady}
-use Rattle.ltm_desk.specs.Waking.{any_differs, changes, PutsCells, wakes}
-use Rattle.ltm_desk.proofs.KeptPlaces.{put_kept, put_other, none_kept, some_kept}
+use Rattle.ltm_desk.specs.Waking.{any_differs, changes, PutsCells, wakes, ForgetsIf}
+use Rattle.ltm_rows.proofs.KeptPlaces.{put_kept, put_other, none_kept, some_kept}
 use Rattle.ltm_desk.proofs.Keeping.{kept_whole, same_kept_of, long_row, counts_stay, counts_same, counts_differ, slot_same, forgets_rows, forgets_others, forgets_none, forgets_one}
 use Rattle.ltm_desk.proofs.Reading.{SetsOutputs}
 use Rattle.ltm_desk.proofs.Desks.{of_pair, past_pair, same_of_pairs}

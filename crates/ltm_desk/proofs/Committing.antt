@@ -25,16 +25,17 @@ use Rattle.ltm_repair.proofs.KeepsCommit.{commit_keeps}
 use Rattle.ltm_repair.proofs.Index.{index_stays_current}
 use Rattle.ltm_pairs.specs.Changes.{differs_at}
 use Rattle.ltm_pairs.specs.Readers.{reads_commit}
-use Rattle.ltm_desk.specs.declared.rows.KeptRows.{KeptRows}
+use Rattle.ltm_rows.specs.declared.rows.KeptRows.{KeptRows}
 use Rattle.ltm_desk.specs.declared.table.Table.{Table}
-use Rattle.ltm_desk.specs.Claims.{claim_row}
+use Rattle.ltm_rows.specs.Claims.{claim_row}
 use Rattle.ltm_desk.specs.Pairs.{of_pairs, of_cells}
 use Rattle.ltm_desk.specs.Desks.{desk_at, place_of, changed_at}
 use Rattle.ltm_desk.specs.Ready.{IsReady}
 use Rattle.ltm_desk.specs.Waking.{any_differs, changes, wakes}
 use Rattle.ltm_desk.specs.Committing.{readers, rewritten}
 use Rattle.ltm_desk.proofs.Bools.{or_left, and_false}
-use Rattle.ltm_desk.proofs.Keeping.{rows_left, rows_lie}
+use Rattle.ltm_desk.proofs.Keeping.{rows_left}
+use Rattle.ltm_rows.proofs.KeptPlaces.{rows_lie}
 use Rattle.ltm_desk.proofs.Noting.{cells_stay}
 use Rattle.ltm_desk.proofs.Reading.{SetsOutputs, ArePlaced, wakes_are_readers, early, early_reads}
 use Rattle.ltm_desk.proofs.Desks.{of_pair, past_pair, cases_pairs, claimed_is, claim_same, claim_off, claimed_row, same_claim, idle_here}

@@ -16,7 +16,7 @@ use Rattle.ltm_frontier.specs.Frontier.{is_claimed, claims_of}
 use Rattle.ltm_repair.specs.Counting.{claims_out}
 use Rattle.ltm_repair.specs.Answers.{HasClaimAt, IsNoneClaimed}
 use Rattle.ltm_desk.specs.declared.table.Table.{Table}
-use Rattle.ltm_desk.specs.Claims.{claim_row}
+use Rattle.ltm_rows.specs.Claims.{claim_row}
 use Rattle.ltm_desk.specs.Cells.{count_cells}
 use Rattle.ltm_desk.specs.Desks.{desk_at, changed_at}
 use Rattle.ltm_desk.specs.Ready.{IsReady}

@@ -9,7 +9,7 @@ use Rattle.ltm_loading.specs.Setting.{Setting}
 use Rattle.ltm_frontier.specs.Frontier.{is_active, is_claimed}
 use Rattle.ltm_repair.specs.Desk.{IsIdle}
 use Rattle.ltm_desk.specs.declared.table.Table.{Table}
-use Rattle.ltm_desk.specs.Claims.{claim_row}
+use Rattle.ltm_rows.specs.Claims.{claim_row}
 use Rattle.ltm_desk.specs.Pairs.{of_pairs, of_cells}
 use Rattle.ltm_desk.specs.Desks.{kept_of, claim_of, desk_at, changed_at}
 use Rattle.ltm_desk.specs.Dropping.{SameWorkAs}

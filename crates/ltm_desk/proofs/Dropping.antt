@@ -22,9 +22,9 @@ use Rattle.ltm_repair.proofs.Fronts.{idle_front}
 use Rattle.ltm_repair.proofs.Index.{index_stays_current}
 use Rattle.ltm_sending.specs.Front.{IsAtFront}
 use Rattle.ltm_desk.specs.declared.table.Table.{Table}
-use Rattle.ltm_desk.specs.Rows.{kept_row}
+use Rattle.ltm_rows.specs.Rows.{kept_row, HasRows}
 use Rattle.ltm_desk.specs.Desks.{uncounted, desk_at, place_of}
-use Rattle.ltm_desk.specs.Ready.{HasRows, IsReady}
+use Rattle.ltm_desk.specs.Ready.{IsReady}
 use Rattle.ltm_desk.specs.Placing.{PlacesPair}
 use Rattle.ltm_desk.specs.Dropping.{DropsOne, DropsAt, IsWork, NoneActive, SameWorkAs}
 use Rattle.ltm_desk.proofs.Desks.{active_is, kept_is, claim_same, same_active, same_claims}

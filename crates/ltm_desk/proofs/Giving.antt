@@ -11,11 +11,11 @@ use Rattle.ltm_repair.proofs.Cases.{cases_pair}
 use Rattle.ltm_repair.proofs.Keeps.{give_back_keeps}
 use Rattle.ltm_repair.proofs.Index.{index_stays_current}
 use Rattle.ltm_desk.specs.declared.table.Table.{Table}
-use Rattle.ltm_desk.specs.Claims.{claim_row}
+use Rattle.ltm_rows.specs.Claims.{claim_row}
 use Rattle.ltm_desk.specs.Desks.{desk_at, place_of}
 use Rattle.ltm_desk.specs.Ready.{IsReady}
 use Rattle.ltm_desk.proofs.Bools.{or_false, or_right, and_false}
-use Rattle.ltm_desk.proofs.KeptPlaces.{same_some}
+use Rattle.ltm_rows.proofs.KeptPlaces.{same_some}
 use Rattle.ltm_desk.proofs.Desks.{cases_pairs, active_is, claimed_is, claimed_past, claim_same, claim_on, claim_off, claimed_pair, same_active, same_claim}
 use Rattle.ltm_desk.proofs.Dropping.{pair_test, other_test, and_not}
 

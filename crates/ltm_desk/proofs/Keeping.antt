@@ -26,18 +26,14 @@ use Rattle.ltm_loading.proofs.Setters.{counts_set_only_holds, of_group}
 use Rattle.ltm_loading.proofs.Same.{pair_row_same}
 use Rattle.ltm_loading.proofs.OneSetter.{set_by_one_pair_holds}
 use Rattle.ltm_pairs.specs.Changes.{some_below}
-use Rattle.ltm_desk.specs.declared.layout.Layout.{Layout}
-use Rattle.ltm_desk.specs.declared.layout.Part.TheVariants.{Amounts, Weights}
-use Rattle.ltm_desk.specs.declared.rows.KeptRows.{KeptRows}
-use Rattle.ltm_desk.specs.Layouts.{LiesAs}
+use Rattle.ltm_rows.specs.declared.rows.KeptRows.{KeptRows}
 use Rattle.ltm_desk.specs.declared.table.Table.{Table}
-use Rattle.ltm_desk.specs.Rows.{nodes_of, slots_of, amounts_of, weights_of, row_of, has_row, kept_row, SamePlaces, ForgetsRow, ForgetsIf}
-use Rattle.ltm_desk.specs.Parts.{without_counts}
+use Rattle.ltm_rows.specs.Rows.{nodes_of, slots_of, amounts_of, weights_of, row_of, has_row, kept_row, SamePlaces, ForgetsRow, HasRows}
+use Rattle.ltm_rows.specs.Parts.{without_counts}
 use Rattle.ltm_desk.specs.Desks.{uncounted, filled, kept_of}
-use Rattle.ltm_desk.specs.Ready.{HasRows}
-use Rattle.ltm_desk.specs.Waking.{arm_differs, out_differs, sink_differs, any_differs}
+use Rattle.ltm_desk.specs.Waking.{arm_differs, out_differs, sink_differs, any_differs, ForgetsIf}
 use Rattle.ltm_desk.proofs.Bools.{none_below, one_below, differ, do_not_differ}
-use Rattle.ltm_desk.proofs.KeptPlaces.{length_row, some_kept, none_kept}
+use Rattle.ltm_rows.proofs.KeptPlaces.{is_same_places, rows_lie, length_row, some_kept, none_kept}
 use Rattle.ltm_desk.proofs.Reading.{SetsOutputs}
 
 -- ---- a row without its middle, and with it
@@ -263,9 +259,9 @@ pub forgets_off : (b : Bool) (k : KeptRows) (u t : ℕ) → b ≡ false → Forg
 forgets_off true k u t off = absurd (cc)
 forgets_off false k u t off = refl
 
-pub forgets_rows : (b : Bool) (old new : KeptRows) (u t : ℕ) → ForgetsIf b old new u t → SamePlaces old new × (new.slots ≡ old.slots)
+pub forgets_rows : (b : Bool) (old new : KeptRows) (u t : ℕ) → ForgetsIf b old new u t → SamePlaces old new × (slots_of new ≡ slots_of old)
 forgets_rows true old new u t is = (is.places, is.slots)
-forgets_rows false old new u t is = (record { narrow = ap (λ (z : KeptRows). z.narrow) is; wide = ap (λ (z : KeptRows). z.wide) is }, ap (λ (z : KeptRows). z.slots) is)
+forgets_rows false old new u t is = (is_same_places old new is, ap slots_of is)
 
 pub forgets_others : (b : Bool) (old new : KeptRows) (u t w v : ℕ) → ForgetsIf b old new u t → w < nodes_of old → v < slots_of old → (u ≡ w → t ≡ v → ⊥) → kept_row new w v ≡ kept_row old w v
 forgets_others true old new u t w v is x l other = is.others w v x l other
@@ -278,17 +274,6 @@ forgets_none false old new u t off is = ap (λ (z : KeptRows). kept_row z u t) i
 pub forgets_one : (b : Bool) (old new : KeptRows) (u t : ℕ) → b ≡ true → ForgetsIf b old new u t → u < nodes_of old → t < slots_of old → kept_row new u t ≡ None
 forgets_one true old new u t on is x l = is.gone x l
 forgets_one false old new u t on is x l = absurd (cc)
-
--- ---- rows that lie where they lay have the widths that they had
-pub rows_at : (s : Setting) (before slots : ℕ) (old new : KeptRows) → HasRows s before old → SamePlaces old new → new.slots ≡ slots → HasRows s slots new
-rows_at s before slots old new has places same = record {
-  amounts = subst (λ (z : Layout). LiesAs s Amounts z) (sym places.narrow) has.amounts;
-  weights = subst (λ (z : Layout). LiesAs s Weights z) (sym places.wide) has.weights;
-  same_slots = same;
-}
-
-pub rows_lie : (s : Setting) (slots : ℕ) (old new : KeptRows) → HasRows s slots old → SamePlaces old new → new.slots ≡ old.slots → HasRows s slots new
-rows_lie s slots old new has places same = rows_at s slots slots old new has places (same ∙ has.same_slots)
 
 pub rows_left : (s : Setting) (slots : ℕ) (b : Bool) (old new : KeptRows) (u t : ℕ) → HasRows s slots old → ForgetsIf b old new u t → HasRows s slots new
 rows_left s slots b old new u t has is = let size = forgets_rows b old new u t is in rows_lie s slots old new has size.0 size.1

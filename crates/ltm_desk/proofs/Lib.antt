@@ -1,11 +1,5 @@
 pub mod Bools
-pub mod RowPlaces
-pub mod KeptPlaces
-pub mod ClaimPlaces
 pub mod Smalls
-pub mod PartRows
-pub mod SameRows
-pub mod Startings
 pub mod Activating
 pub mod Noting
 pub mod Placings

@@ -1,11 +1,12 @@
 -- Cells are noted in steps.
-use Rattle.std.proofs.Common.{◌≡◌, ℕ, ◌+◌, ◌<◌, ◌==◌, ◌&&◌, ◌||◌, not, Bool, true, false, refl, ap, sym, ◌∙◌, arith, inl, inr, subst}
-use Rattle.std.proofs.lemmas.Bool.{cases_eq, eq-eqb, ne_eqb}
+use Rattle.std.proofs.Common.{◌≡◌, ◌≢◌, ℕ, ◌+◌, ◌<◌, ◌==◌, ◌&&◌, ◌||◌, not, List, Bool, true, false, length, slice_index, refl, ap, sym, ◌∙◌, arith, inl, inr, subst}
+use Rattle.std.proofs.lemmas.Bool.{cases_Bool, cases_eq, eq-eqb, ne_eqb}
+use Rattle.std.proofs.lemmas.List.{ext_get_or}
 use Rattle.ltm_curve.specs.Cells.{is_changed, IsCell, HasCells, PutsCell}
 use Rattle.ltm_curve.specs.declared.changed.Changed.{Changed}
 use Rattle.ltm_pairs.specs.Changes.{some_below}
 use Rattle.ltm_desk.specs.Waking.{is_cell, PutsCells}
-use Rattle.ltm_desk.proofs.Bools.{or_false, or_three, or_right, and_false, one_more, same_below}
+use Rattle.ltm_desk.proofs.Bools.{or_false, or_three, or_right, and_false, one_more, one_below, none_below, differ, do_not_differ}
 
 cell_of : (a b : Changed) (f : ℕ → ℕ → Bool) (g k : ℕ) → PutsCells a b f → IsCell a g k → IsCell b g k
 cell_of a b f g k puts cell = record {
@@ -60,8 +61,17 @@ puts_one a b group boundary put = record {
 pub cells_stay : (a b : Changed) (f : ℕ → ℕ → Bool) (groups slots : ℕ) → HasCells a groups slots → PutsCells a b f → HasCells b groups slots
 cells_stay a b f groups slots has puts = record { same_groups = puts.shape.same_groups ∙ has.same_groups; same_slots = puts.shape.same_slots ∙ has.same_slots }
 
--- rows that are the same differ from others alike
-pub differs_same : (n m : ℕ) (f : ℕ → ℕ) (h row : ℕ → ℕ) → n ≡ m → ((d : ℕ) → d < m → f d ≡ h d) → some_below n (λ d. not (f d == row d)) ≡ some_below m (λ d. not (h d == row d))
-differs_same n m f h row e same =
-    ap (λ (z : ℕ). some_below z (λ d. not (f d == row d))) e
-    ∙ same_below m (λ d. not (f d == row d)) (λ d. not (h d == row d)) (λ d l. ap (λ z. not (z == row d)) (same d l))
+-- a row differs from another one where they are not equal
+pub row_unlike : (n : ℕ) (xs : List ℕ) (f : ℕ → ℕ) (ys : List ℕ) → length xs ≡ n → length ys ≡ n → ((d : ℕ) → d < n → slice_index xs d ≡ f d) → xs ≢ ys → some_below n (λ d. not (f d == slice_index ys d)) ≡ true
+row_unlike n xs f ys long wide is apart = elim (cases_Bool (some_below n (λ d. not (f d == slice_index ys d)))) [
+  | inl some ↦ some
+  | inr none ↦ absurd (apart (ext_get_or 0 xs ys (long ∙ sym wide) (λ i l. elim (cases_eq (f i) (slice_index ys i)) [
+    | inl same ↦ is i (omega (arith, l, long)) ∙ same
+    | inr other ↦
+        let on : some_below n (λ d. not (f d == slice_index ys d)) ≡ true = one_below n (λ d. not (f d == slice_index ys d)) i (omega (arith, l, long)) (differ (f i) (slice_index ys i) other) in
+        absurd (cc)
+  ])))
+]
+
+pub row_like : (n : ℕ) (xs : List ℕ) (f : ℕ → ℕ) (ys : List ℕ) → ((d : ℕ) → d < n → slice_index xs d ≡ f d) → xs ≡ ys → some_below n (λ d. not (f d == slice_index ys d)) ≡ false
+row_like n xs f ys is same = none_below n (λ d. not (f d == slice_index ys d)) (λ d l. do_not_differ (f d) (slice_index ys d) (sym (is d l) ∙ ap (λ (z : List ℕ). slice_index z d) same))

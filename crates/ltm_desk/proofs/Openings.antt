@@ -18,7 +18,7 @@ use Rattle.ltm_loading.proofs.Uncounted.{uncounted_parts}
 use Rattle.ltm_loading.proofs.Same.{AgreeAt, pair_row_same, position_same}
 use Rattle.ltm_inputs.specs.Idle.{IsIdle}
 use Rattle.ltm_index.specs.declared.read_index.ReadIndex.{ReadIndex}
-use Rattle.ltm_desk.specs.declared.rows.KeptRows.{KeptRows}
+use Rattle.ltm_rows.specs.declared.rows.KeptRows.{KeptRows}
 use Rattle.ltm_desk.specs.Desks.{uncounted}
 use Rattle.ltm_desk.specs.Placing.{KeepsPair, KeepsSlots}
 use Rattle.ltm_desk.specs.Openings.{StaysTo}

@@ -12,19 +12,17 @@ use Rattle.ltm_index.specs.Lists.{slots_of as slots_listed, SameLists}
 use Rattle.ltm_repair.specs.Desk.{Desk}
 use Rattle.ltm_repair.specs.Facts.{IsSound}
 use Rattle.ltm_repair.specs.Index.{IndexIsCurrent}
-use Rattle.ltm_desk.specs.declared.claim_rows.ClaimRows.{ClaimRows}
-use Rattle.ltm_desk.specs.declared.layout.Part.TheVariants.{All}
+use Rattle.ltm_rows.specs.declared.claim_rows.ClaimRows.{ClaimRows}
 use Rattle.ltm_desk.specs.declared.table.Table.{Table}
-use Rattle.ltm_desk.specs.Layouts.{LiesAs}
-use Rattle.ltm_desk.specs.Claims.{claim_row}
-use Rattle.ltm_desk.specs.Rows.{slots_of as slots_kept, SameRows}
+use Rattle.ltm_rows.specs.Claims.{claim_row, HasClaims}
+use Rattle.ltm_rows.specs.Rows.{slots_of as slots_kept, SameRows}
 use Rattle.ltm_desk.specs.Pairs.{of_pairs, of_cells}
 use Rattle.ltm_desk.specs.Desks.{kept_of, desk_at, place_of, changed_at, claim_of}
 use Rattle.ltm_desk.specs.Ready.{FitsTable, ClaimsArePlaced, IsReady}
 use Rattle.ltm_desk.specs.Growing.{SeenAs}
-use Rattle.ltm_desk.proofs.KeptPlaces.{stays_kept}
+use Rattle.ltm_rows.proofs.KeptPlaces.{rows_lie, stays_kept}
 use Rattle.ltm_desk.proofs.Desks.{same_pairs, claim_same}
-use Rattle.ltm_desk.proofs.Keeping.{same_kept_of, rows_lie}
+use Rattle.ltm_desk.proofs.Keeping.{same_kept_of}
 use Rattle.ltm_desk.proofs.Standing.{same_place}
 
 -- each part is as before
@@ -48,7 +46,7 @@ parts_fit s a b same fits = record {
     same_slots = same.shape.slots ∙ fits.curves.same_slots;
   };
   kept = rows_lie s s.slots a.kept b.kept fits.kept same.kept.places same.kept_slots;
-  claims = subst (λ (z : ClaimRows). LiesAs s All z.places) (sym same.claims) fits.claims;
+  claims = subst (λ (z : ClaimRows). HasClaims s z) (sym same.claims) fits.claims;
   frontier = record { nodes = same.pairs.nodes ∙ fits.frontier.nodes; slots = same.pair_slots ∙ fits.frontier.slots };
   index = record { links = same.lists.links ∙ fits.index.links; slots = same.list_slots ∙ fits.index.slots };
   changed = record { same_groups = same.cells.shape.same_groups ∙ fits.changed.same_groups; same_slots = same.cells.shape.same_slots ∙ fits.changed.same_slots };

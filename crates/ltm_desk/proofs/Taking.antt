@@ -18,22 +18,16 @@ use Rattle.ltm_repair.specs.Index.{IsPlaced}
 use Rattle.ltm_repair.proofs.Cases.{cases_option, cases_pair}
 use Rattle.ltm_repair.proofs.Keeps.{take_keeps}
 use Rattle.ltm_repair.proofs.Index.{index_stays_current}
-use Rattle.ltm_desk.specs.declared.claim_rows.ClaimRows.{ClaimRows}
-use Rattle.ltm_desk.specs.declared.layout.Layout.{Layout}
-use Rattle.ltm_desk.specs.declared.layout.Part.TheVariants.{All}
+use Rattle.ltm_rows.specs.declared.claim_rows.ClaimRows.{ClaimRows}
 use Rattle.ltm_desk.specs.declared.table.Table.{Table}
-use Rattle.ltm_desk.specs.Layouts.{LiesAs}
-use Rattle.ltm_desk.specs.Claims.{claim_row, WritesClaim}
+use Rattle.ltm_rows.proofs.ClaimPlaces.{claims_stay}
+use Rattle.ltm_rows.specs.Claims.{claim_row, WritesClaim}
 use Rattle.ltm_desk.specs.Desks.{desk_at, place_of}
 use Rattle.ltm_desk.specs.Ready.{IsReady}
 use Rattle.ltm_desk.specs.Searching.{IsFound}
 use Rattle.ltm_desk.proofs.Bools.{or_false, or_right, and_false, and_both}
 use Rattle.ltm_desk.proofs.Desks.{active_is, claimed_is, claim_same, claim_on, claim_off, claimed_row, same_active, same_claim}
 use Rattle.ltm_desk.proofs.Dropping.{pair_test, other_test, and_not}
-
--- a row written in its place leaves the sizes
-pub claims_stay : (s : Setting) (a b : ClaimRows) (u : ℕ) (row : List ℕ) → LiesAs s All a.places → WritesClaim a b u row → LiesAs s All b.places
-claims_stay s a b u row has writes = subst (λ (z : Layout). LiesAs s All z) (sym writes.places) has
 
 -- a claimed pair is of a slot
 claimed_slot : (f : Frontier) (w v : ℕ) → w < nodes_in f → is_claimed f w v ≡ true → v < slots_in f

@@ -13,9 +13,9 @@ use Rattle.ltm_index.specs.declared.read_index.ReadIndex.{ReadIndex}
 use Rattle.ltm_index.specs.Lists.{entry_of}
 use Rattle.ltm_repair.specs.Desk.{Desk}
 use Rattle.ltm_desk.specs.declared.table.Table.{Table}
-use Rattle.ltm_desk.specs.Claims.{claim_row}
-use Rattle.ltm_desk.specs.Parts.{without_counts}
-use Rattle.ltm_desk.specs.Rows.{kept_row}
+use Rattle.ltm_rows.specs.Claims.{claim_row}
+use Rattle.ltm_rows.specs.Parts.{without_counts}
+use Rattle.ltm_rows.specs.Rows.{kept_row}
 use Rattle.ltm_desk.specs.Pairs.{of_pairs, of_cells}
 
 -- what a pair reads but for the counts of its node

@@ -6,7 +6,7 @@ use Rattle.ltm_loading.specs.Setting.{Setting, IsSetting}
 use Rattle.ltm_frontier.specs.Frontier.{slots_of as slots_in, slot_room, SamePairs}
 use Rattle.ltm_index.specs.Lists.{slots_of as slots_listed, room_of as index_room, SameLists}
 use Rattle.ltm_desk.specs.declared.table.Table.{Table}
-use Rattle.ltm_desk.specs.Rows.{nodes_of, slots_of as slots_kept, row_room, has_row, SameRows}
+use Rattle.ltm_rows.specs.Rows.{nodes_of, slots_of as slots_kept, row_room, has_row, SameRows}
 use Rattle.ltm_desk.specs.Desks.{desk_at, changed_at}
 use Rattle.ltm_desk.specs.Ready.{FitsTable, IsReady}
 

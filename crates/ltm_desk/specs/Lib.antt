@@ -1,8 +1,3 @@
-pub mod Starts
-pub mod Layouts
-pub mod Rows
-pub mod Claims
-pub mod Parts
 pub mod Pairs
 pub mod Desks
 pub mod Cells

@@ -6,10 +6,10 @@ use Rattle.ltm_loading.specs.Flows.{position}
 use Rattle.ltm_loading.specs.Pairs.{pair_row}
 use Rattle.ltm_index.specs.declared.read_index.ReadIndex.{ReadIndex}
 use Rattle.ltm_index.specs.Lists.{links_of, entry_of, SameSize}
-use Rattle.ltm_desk.specs.declared.rows.KeptRows.{KeptRows}
-use Rattle.ltm_desk.specs.Rows.{kept_row}
+use Rattle.ltm_rows.specs.declared.rows.KeptRows.{KeptRows}
+use Rattle.ltm_rows.specs.Rows.{kept_row, HasRows}
 use Rattle.ltm_desk.specs.Desks.{uncounted}
-use Rattle.ltm_desk.specs.Ready.{HasRows, HasLists}
+use Rattle.ltm_desk.specs.Ready.{HasLists}
 
 -- the slot stands in the list of its position of each of the first in-links of a node
 abbrev pub StandsAt : Setting → Counts → ReadIndex → ℕ → ℕ → ℕ → Type 0

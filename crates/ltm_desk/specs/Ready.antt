@@ -12,18 +12,10 @@ use Rattle.ltm_index.specs.Lists.{links_of, slots_of as slots_listed}
 use Rattle.ltm_repair.specs.Desk.{Desk, IsSettled, IsIdle}
 use Rattle.ltm_repair.specs.Facts.{IsSound}
 use Rattle.ltm_repair.specs.Index.{IsPlaced, IndexIsCurrent}
-use Rattle.ltm_desk.specs.declared.layout.Part.TheVariants.{All, Amounts, Weights}
-use Rattle.ltm_desk.specs.declared.rows.KeptRows.{KeptRows}
 use Rattle.ltm_desk.specs.declared.table.Table.{Table}
-use Rattle.ltm_desk.specs.Layouts.{LiesAs}
-use Rattle.ltm_desk.specs.Rows.{slots_of}
+use Rattle.ltm_rows.specs.Claims.{HasClaims}
+use Rattle.ltm_rows.specs.Rows.{HasRows}
 use Rattle.ltm_desk.specs.Desks.{desk_at, place_of, changed_at}
-
--- rows of each node for so many slots, as wide as the amounts and the weights of its inputs
-pub record HasRows (s : Setting) (slots : ℕ) (k : KeptRows) : Type 0 where
-  pub amounts : LiesAs s Amounts k.narrow
-  pub weights : LiesAs s Weights k.wide
-  pub same_slots : slots_of k ≡ slots
 
 -- the pairs of the setting
 pub record HasPairs (s : Setting) (f : Frontier) : Type 0 where
@@ -39,7 +31,7 @@ pub record HasLists (s : Setting) (x : ReadIndex) : Type 0 where
 pub record FitsTable (s : Setting) (t : Table) : Type 0 where
   pub curves : IsShaped s t.curves
   pub kept : HasRows s s.slots t.kept
-  pub claims : LiesAs s All t.claims.places
+  pub claims : HasClaims s t.claims
   pub frontier : HasPairs s t.frontier
   pub index : HasLists s t.index
   pub changed : HasCells t.changed (groups s) s.slots

@@ -1,6 +1,6 @@
 -- Which cells change and which pairs wake where the outputs of a pair are set, told from the counts as they stand before
 -- and from the index.
-use Rattle.std.specs.Prelude.{◌≡◌, ℕ, ◌-◌, ◌==◌, ◌&&◌, ◌||◌, not, nat_le, Bool, false, Option, Some, None}
+use Rattle.std.specs.Prelude.{◌≡◌, ℕ, ◌-◌, ◌==◌, ◌&&◌, ◌||◌, not, nat_le, Bool, true, false, Option, Some, None}
 use Rattle.ltm_units.specs.Sums.{sum_below}
 use Rattle.ltm_curve.specs.Counts.{Counts, total}
 use Rattle.ltm_curve.specs.First.{last_within}
@@ -11,6 +11,8 @@ use Rattle.ltm_loading.specs.Setting.{Setting}
 use Rattle.ltm_loading.specs.Groups.{up_of, arr_of}
 use Rattle.ltm_loading.specs.Pairs.{arms_of, arm_group}
 use Rattle.ltm_frontier.specs.Frontier.{is_pair}
+use Rattle.ltm_rows.specs.declared.rows.KeptRows.{KeptRows}
+use Rattle.ltm_rows.specs.Rows.{ForgetsRow}
 use Rattle.ltm_pairs.specs.Windows.{reads_ago}
 use Rattle.ltm_pairs.specs.Changes.{some_below}
 
@@ -94,3 +96,9 @@ wakes_others s c places u k o w v = wakes_tails s c u k o (s.ins u) w v || wakes
 -- and the node's own next slot
 abbrev pub wakes : Setting → Counts → (ℕ → ℕ → ℕ) → ℕ → ℕ → Outputs → ℕ → ℕ → Bool
 wakes s c places u k o w v = wakes_others s c places u k o w v || (any_differs s c u k o && is_pair u k w v)
+
+-- ---- what is forgotten
+-- what is kept of a pair is forgotten, or nothing changes
+abbrev pub ForgetsIf : Bool → KeptRows → KeptRows → ℕ → ℕ → Type 0
+ForgetsIf true old new u t = ForgetsRow old new u t
+ForgetsIf false old new u t = new ≡ old

@@ -14,11 +14,11 @@ ghost use Rattle.ltm_repair.specs.Index.{IsPlaced};
 ghost use Rattle.ltm_desk.specs.Searching.{AnswersSearch, FitsFound, IsFound, Finds, answer_of};
 
 use crate::found::Found;
-use crate::parts::parts_of;
 use crate::places::place_pair;
 use crate::table::Table;
 use ltm_inputs::{count_in, uncounted_of};
 use ltm_node::NodeInputs;
+use ltm_rows::parts_of;
 use ltm_scenario::Scenario;
 use ltm_setting::{is_setting, node_count, slot_count};
 use ltm_units::{NodeId, Pair};

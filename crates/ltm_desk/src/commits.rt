@@ -6,12 +6,12 @@ ghost use Rattle.ltm_repair.specs.Moves.{Commits};
 ghost use Rattle.ltm_desk.specs.Committing.{readers, rewritten};
 
 use crate::given::Given;
-use crate::parts::parts_of;
 use crate::renewing::renew_pair;
 use crate::table::Table;
 use ltm_loading::{counts_by_place, in_range, inputs_by_place, outputs_small};
 use ltm_node::{Solved, no_arrivals, same_shape};
 use ltm_pairs::readers_wake;
+use ltm_rows::parts_of;
 use ltm_scenario::Scenario;
 use ltm_setting::{is_setting, slot_count};
 use ltm_units::Pair;

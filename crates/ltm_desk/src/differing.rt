@@ -15,9 +15,9 @@ ghost use Rattle.ltm_desk.specs.declared.given.Given.TheVariants.{Moved};
 ghost use Rattle.ltm_desk.specs.Counted.{counted_number, counted_row};
 ghost use Rattle.ltm_desk.specs.Waking.{row_differs, sink_differs, is_cell, PutsCells};
 
-use crate::comparing::differs;
 use crate::given::Given;
 use ltm_curve::{Changed, Curves};
+use ltm_rows::same_numbers;
 use ltm_scenario::Scenario;
 use ltm_setting::{arr_of, own};
 use ltm_units::Pair;
@@ -42,7 +42,7 @@ fn renew_row(
     ensures sets { SetsRow curves.old curves.new group boundary counts.now }
     ensures cells { PutsCells changed.old changed.new (λ g k. result && is_cell group boundary g k) }
 {
-    if !differs(curves.row(group, boundary), counts) {
+    if same_numbers(curves.row(group, boundary), counts) {
         return false;
     }
     curves.set_row(group, boundary, counts);

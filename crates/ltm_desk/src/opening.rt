@@ -11,9 +11,7 @@ ghost use Rattle.ltm_sending.specs.Front.{IsAtFront};
 ghost use Rattle.ltm_desk.specs.Placing.{KeepsSlots};
 ghost use Rattle.ltm_desk.specs.Openings.{StaysTo};
 
-use crate::parts::parts_of;
 use crate::places::place_pair;
-use crate::rows::KeptRows;
 use crate::table::WIDEST;
 use ltm_curve::Curves;
 use ltm_flows::{fresh, move_pair};
@@ -23,6 +21,7 @@ use ltm_loading::{
 };
 use ltm_node::{NodeInputs, NodeOutputs, nothing_moves};
 use ltm_pairs::ReadIndex;
+use ltm_rows::{KeptRows, parts_of};
 use ltm_scenario::Scenario;
 use ltm_setting::{is_setting, link_count, node_count, slot_count};
 use ltm_units::{NoMemory, NodeId, Pair};

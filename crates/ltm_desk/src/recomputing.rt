@@ -9,12 +9,12 @@ ghost use Rattle.ltm_desk.specs.Recomputing.{RecomputesPair, Recomputes};
 
 use crate::found::Found;
 use crate::given::Given;
-use crate::parts::parts_of;
 use crate::renewing::renew_pair;
 use crate::table::Table;
 use ltm_loading::{counts_by_place, outputs_small, step_by_moves};
 use ltm_node::{NodeInputs, NodeOutputs, no_arrivals, same_shape, write_step};
 use ltm_pairs::readers_wake;
+use ltm_rows::parts_of;
 use ltm_scenario::Scenario;
 use ltm_setting::{is_setting, slot_count};
 use ltm_units::Pair;

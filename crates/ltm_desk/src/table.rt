@@ -15,13 +15,12 @@ ghost use Rattle.ltm_repair.specs.Moves.{GivesBack};
 ghost use Rattle.ltm_desk.specs.Cells.{count_cells};
 
 use crate::batches::{mark_from, mark_touched};
-use crate::claim_rows::ClaimRows;
 use crate::opening::Opening;
 use crate::room::wide_room;
-use crate::rows::KeptRows;
 use ltm_curve::{Changed, Curves};
 use ltm_frontier::Frontier;
 use ltm_pairs::ReadIndex;
+use ltm_rows::{ClaimRows, KeptRows};
 use ltm_scenario::{Edit, Scenario};
 use ltm_setting::{group_count, is_setting, node_count, slot_count};
 use ltm_units::{NoMemory, Pair};
@@ -60,7 +59,7 @@ impl Table {
     ghost use Rattle.ltm_desk.specs.Desks.{desk_at, changed_at, curves_of, cells_of};
     ghost use Rattle.ltm_desk.specs.Ready.{FitsTable, IsReady, IsOpened};
     ghost use Rattle.ltm_desk.specs.Growing.{horizon_of, at_horizon, HasRoom, SeenAs, Lengthens};
-    ghost use Rattle.ltm_desk.specs.Rows.{slots_of as slots_kept};
+    ghost use Rattle.ltm_rows.specs.Rows.{slots_of as slots_kept};
     ghost use Rattle.ltm_desk.specs.Batches.{LeadsTo, TakesIn};
 
     /// The table of the loading of a scenario, at rest.

@@ -5,7 +5,8 @@ use Rattle.ltm_editors.specs.declared.call.Verdict.{Verdict}
 use Rattle.ltm_editors.specs.declared.call.Verdict.TheVariants.{Accepted, Refused}
 use Rattle.ltm_editing.specs.declared.fault.LineCause.{LineCause}
 use Rattle.ltm_editing.specs.declared.fault.LineCause.TheVariants.{NotJson, NotCommand, NotEdit}
-use Rattle.ltm_report.specs.Pieces.{number_piece, newline}
+use Rattle.ltm_units.specs.Texts.{number_piece}
+use Rattle.ltm_report.specs.Pieces.{newline}
 use Rattle.ltm_report.specs.Answers.{accepted_line}
 use Rattle.ltm_report.specs.EditFaults.{edit_fault_line}
 

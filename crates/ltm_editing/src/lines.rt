@@ -1,31 +1,14 @@
 //! The lines that editors write.
 ghost use Rattle.std.specs.Prelude.{◌≡◌, ◌++◌, ◌+◌, ◌≤◌, ◌<◌, ◌^◌, IfOk, OnOk, length, codes};
-ghost use Rattle.std.specs.Fmt.{decimal};
-ghost use Rattle.ltm_report.specs.Pieces.{number_piece, newline};
+ghost use Rattle.ltm_units.specs.Texts.{number_piece};
+ghost use Rattle.ltm_report.specs.Pieces.{newline};
 ghost use Rattle.ltm_editing.specs.Lines.{place_piece, verdict_line, call_line, call_lines, cause_words, long_edits_line, bad_script_line};
 
 use crate::fault::LineCause;
-use itoa::Buffer;
 use ltm_editors::{Call, Verdict};
 use ltm_report::{accepted_text, edit_fault_text};
-use ltm_units::NoMemory;
+use ltm_units::{NoMemory, push_number, push_text};
 use std::alloc::Global;
-
-fn push(into: &mut Vec<u8>, text: &[u8]) -> Result<(), NoMemory>
-    ensures { OnOk result (into.new.items ≡ into.old.items ++ text.now) }
-{
-    into.extend_from_slice(text)?;
-    Ok(())
-}
-
-#[tactic(auto, unfolding(ltm_report::specs::Pieces::number_piece))]
-fn push_number(into: &mut Vec<u8>, words: &[u8], number: u128) -> Result<(), NoMemory>
-    ensures { OnOk result (into.new.items ≡ into.old.items ++ number_piece words.now number) }
-{
-    let mut digits = Buffer::new();
-    push(into, words)?;
-    push(into, digits.format(number).as_bytes())
-}
 
 /// Says at which place of the history a call stands, and whose it is.
 #[tactic(auto, unfolding(crate::specs::Lines::place_piece))]
@@ -34,7 +17,7 @@ fn push_place(into: &mut Vec<u8>, place: u64, editor: u32) -> Result<(), NoMemor
 {
     push_number(into, b"call ", u128::from(place))?;
     push_number(into, b" editor ", u128::from(editor))?;
-    push(into, b" ")
+    push_text(into, b" ")
 }
 
 /// Says what a call was answered.
@@ -74,9 +57,9 @@ fn push_cause(into: &mut Vec<u8>, cause: LineCause) -> Result<(), NoMemory>
     ensures { OnOk result (into.new.items ≡ into.old.items ++ cause_words cause) }
 {
     match cause {
-        LineCause::NotJson => push(into, b"NotJson"),
+        LineCause::NotJson => push_text(into, b"NotJson"),
         LineCause::NotCommand(place) => push_number(into, b"NotCommand ", u128::from(place)),
-        LineCause::NotEdit => push(into, b"NotEdit"),
+        LineCause::NotEdit => push_text(into, b"NotEdit"),
     }
 }
 
@@ -87,7 +70,7 @@ pub fn long_edits_text(alloc: Global, editor: u32) -> Result<Vec<u8>, NoMemory>
 {
     let mut line = Vec::new(alloc);
     push_number(&mut line, b"too long edits", u128::from(editor))?;
-    push(&mut line, b"\n")?;
+    push_text(&mut line, b"\n")?;
     Ok(line)
 }
 
@@ -104,8 +87,8 @@ pub fn bad_script_text(
     let mut text = Vec::new(alloc);
     push_number(&mut text, b"bad script edits", u128::from(editor))?;
     push_number(&mut text, b" line ", u128::from(line))?;
-    push(&mut text, b" ")?;
+    push_text(&mut text, b" ")?;
     push_cause(&mut text, cause)?;
-    push(&mut text, b"\n")?;
+    push_text(&mut text, b"\n")?;
     Ok(text)
 }

@@ -5,21 +5,16 @@ use Rattle.ltm_curve.specs.declared.curves.Curves.{Curves}
 use Rattle.ltm_curve.specs.Table.{counts_of}
 use Rattle.ltm_node.specs.Shape.{width}
 use Rattle.ltm_loading.specs.Setting.{Setting}
-use Rattle.ltm_loading.specs.Groups.{dep_of}
 use Rattle.ltm_loading.specs.Pairs.{shape_at}
-use Rattle.ltm_loading.specs.Loading.{IsFront}
+use Rattle.ltm_loading.specs.Loading.{IsFront, OriginsWithoutOutsAreEmpty}
 use Rattle.ltm_loading.specs.NextPair.{IsOf, IsFrontTo}
 use Rattle.ltm_loading.specs.Shaped.{IsShaped}
-
--- nothing leaves the origin of a node without out-links
-abbrev pub NoOrigins : Setting → Counts → Type 0
-NoOrigins s c = (u d k : ℕ) → u < s.nodes → s.outs u ≡ 0 → d < s.destinations → k ≤ s.slots → c (dep_of s u) d k ≡ 0
 
 -- all slots before one are done
 pub record IsWorking (s : Setting) (c : Curves) (slot : ℕ) : Type 0 where
   pub shape : IsShaped s c
   pub front : IsFront s (counts_of c) slot
-  pub no_origins : NoOrigins s (counts_of c)
+  pub no_origins : OriginsWithoutOutsAreEmpty s (counts_of c)
 
 -- the counts of the later nodes stand at the end of a slot as at its beginning
 abbrev pub AreCarried : Setting → Counts → ℕ → ℕ → Type 0
@@ -30,7 +25,7 @@ AreCarried s c slot nodes =
 pub record IsWorkingAt (s : Setting) (c : Curves) (slot nodes : ℕ) : Type 0 where
   pub shape : IsShaped s c
   pub front : IsFrontTo s (counts_of c) slot nodes
-  pub no_origins : NoOrigins s (counts_of c)
+  pub no_origins : OriginsWithoutOutsAreEmpty s (counts_of c)
   pub carried : AreCarried s (counts_of c) slot nodes
 
 -- there is room for the inputs of each node

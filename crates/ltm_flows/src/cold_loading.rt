@@ -129,12 +129,14 @@ fn load_slot(scenario: &Scenario, curves: &mut Curves, slot: u32, room: &mut Roo
     }
 }
 
-/// Carries all counts on to the end of a slot.
-fn begin_slot(scenario: &Scenario, curves: &mut Curves, slot: u32)
+/// Carries all counts on to the end of a slot. No count up to the slot's beginning changes. Takes no memory.
+pub fn begin_slot(scenario: &Scenario, curves: &mut Curves, slot: u32)
     requires setting { IsSetting (setting_of scenario.now) }
     requires slot { slot < (setting_of scenario.now).slots }
     requires working { IsWorking (setting_of scenario.now) curves.old slot }
     ensures working { IsWorkingAt (setting_of scenario.now) curves.new slot 0 }
+    ensures stays { (g d k : ℕ) → g < groups (setting_of scenario.now) → d < (setting_of scenario.now).destinations → k ≤ slot
+        → counts_of curves.new g d k ≡ counts_of curves.old g d k }
 {
     inputs_read_only();
     counts_set_only();

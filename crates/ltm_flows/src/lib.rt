@@ -17,7 +17,7 @@ mod tables;
 
 pub use applying::apply;
 pub use at_end::totals_at_end;
-pub use cold_loading::{cold, fresh, move_pair};
+pub use cold_loading::{begin_slot, cold, fresh, move_pair};
 pub use in_all::Totals;
 pub use loading::Loading;
 pub use ltm_inputs::{inputs_of, shape_of, widest};

@@ -1,4 +1,4 @@
-//! The inputs of a pair of node and slot: read at once, or from those with 0 for each count.
+//! The inputs of a pair of node and slot: those with 0 for each count, and its counts written in.
 ghost use Rattle.std.specs.Prelude.{◌≡◌, ◌<◌, ◌≤◌, length, take};
 ghost use Rattle.ltm_curve.specs.Table.{counts_of};
 ghost use Rattle.ltm_node.specs.Shape.{width};
@@ -10,66 +10,15 @@ ghost use Rattle.ltm_setting.specs.Setting.{setting_of};
 ghost use Rattle.ltm_sending.specs.Front.{IsAtFront};
 ghost use Rattle.ltm_inputs.specs.Parts.{ArePositions};
 
-use crate::flows::put_flows_and_limits;
 use crate::row::put_counts;
 use crate::shapes::shape_of;
+use crate::uncounted::uncounted_of;
 use ltm_curve::Curves;
 use ltm_loading::in_range;
 use ltm_node::{NodeInputs, NodeShape};
 use ltm_scenario::Scenario;
 use ltm_setting::is_setting;
 use ltm_units::Pair;
-
-/// Writes the row of a pair, from its first number to its last, and its positions.
-fn put_row(
-    scenario: &Scenario,
-    curves: &Curves,
-    pair: Pair,
-    shape: NodeShape,
-    row: &mut [u64],
-    positions: &mut [u32],
-)
-    requires node { pair.node.0 < (setting_of scenario.now).nodes }
-    requires ready { IsAtFront (setting_of scenario.now) curves.now pair.slot }
-    requires shape { shape ≡ shape_at (setting_of scenario.now) pair.node.0 }
-    requires few_arms { shape.arms ≤ 5 }
-    requires few_outs { shape.outs ≤ 4 }
-    requires few_destinations { shape.destinations ≤ 64 }
-    requires room { length row.old ≡ width shape }
-    requires places { (setting_of scenario.now).ins pair.node.0 ≤ length positions.old }
-    ensures row { row.new ≡ pair_row (setting_of scenario.now) (counts_of curves.now) pair.node.0 pair.slot }
-    ensures positions { ArePositions (setting_of scenario.now) (counts_of curves.now) pair.node.0 pair.slot positions.new }
-{
-    let (sending, others) = row.split_at_mut(shape.counts_begin());
-    let (counts, limits) = others.split_at_mut(shape.counts_width());
-    put_counts(scenario, curves, pair, shape, counts);
-    put_flows_and_limits(scenario, curves, pair, shape, sending, positions, limits);
-}
-
-/// Writes the row of a pair at the front of a room, and its positions.
-#[inline]
-fn put_front(
-    scenario: &Scenario,
-    curves: &Curves,
-    pair: Pair,
-    shape: NodeShape,
-    room: &mut [u64],
-    positions: &mut [u32],
-)
-    requires node { pair.node.0 < (setting_of scenario.now).nodes }
-    requires ready { IsAtFront (setting_of scenario.now) curves.now pair.slot }
-    requires shape { shape ≡ shape_at (setting_of scenario.now) pair.node.0 }
-    requires few_arms { shape.arms ≤ 5 }
-    requires few_outs { shape.outs ≤ 4 }
-    requires few_destinations { shape.destinations ≤ 64 }
-    requires room { width shape ≤ length room.old }
-    requires places { (setting_of scenario.now).ins pair.node.0 ≤ length positions.old }
-    ensures row { take (width shape) room.new ≡ pair_row (setting_of scenario.now) (counts_of curves.now) pair.node.0 pair.slot }
-    ensures positions { ArePositions (setting_of scenario.now) (counts_of curves.now) pair.node.0 pair.slot positions.new }
-{
-    let row = &mut room[..shape.width()];
-    put_row(scenario, curves, pair, shape, row, positions);
-}
 
 /// Reads the inputs of a pair of node and slot at the front of a loading, ready for `solve`, and for each in-link the
 /// position of the slot: the last boundary by which no more has entered the link than may have left it by the slot's end.
@@ -92,11 +41,8 @@ pub fn inputs_of(
     ensures room { into.new.room ≡ into.old.room }
     ensures solvable { IsSolvable into.new }
 {
-    is_setting(scenario);
-    in_range();
-    let shape = shape_of(scenario, pair.node);
-    into.reshape(shape);
-    put_front(scenario, curves, pair, shape, into.numbers_mut(), positions);
+    uncounted_of(scenario, curves, pair, into, positions);
+    count_in(scenario, curves, pair, into);
 }
 
 /// Writes the counts into the row of a pair that has 0 for each.

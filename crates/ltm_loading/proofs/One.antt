@@ -7,7 +7,7 @@ use Rattle.ltm_node.proofs.StepLaws.{one_step_holds}
 use Rattle.ltm_loading.specs.Setting.{Setting, IsSetting}
 use Rattle.ltm_loading.specs.Groups.{up_of}
 use Rattle.ltm_loading.specs.Pairs.{arms_of, shape_at, arm_group, arrived_by, pair_row, pair_inputs, count_row, pair_outputs, MeetsStep}
-use Rattle.ltm_loading.specs.Loading.{IsFront, NothingLeavesSinks}
+use Rattle.ltm_loading.specs.Loading.{IsFront, OriginsWithoutOutsAreEmpty}
 use Rattle.ltm_loading.specs.LoadingLaws.{OneFront, OneLoading}
 use Rattle.ltm_loading.proofs.Rows.{next_counts}
 use Rattle.ltm_loading.proofs.GroupKinds.{Kind, is_up, is_down, is_dep, is_arr, kind_of}
@@ -44,9 +44,9 @@ record AreFronts (s : Setting) (a b : Counts) (slot t : ℕ) : Type 0 where
   within : slot ≤ s.slots
   before : t < slot
   front : IsFront s a slot
-  sinks : NothingLeavesSinks s a
+  sinks : OriginsWithoutOutsAreEmpty s a
   other_front : IsFront s b slot
-  other_sinks : NothingLeavesSinks s b
+  other_sinks : OriginsWithoutOutsAreEmpty s b
   agree : AgreeTo s a b t
 
 -- each group at the next boundary is set by one pair
@@ -84,7 +84,7 @@ agree_next s a b slot t h = record {
   ];
 }
 
-agree : (s : Setting) (a b : Counts) (slot t : ℕ) → IsSetting s → slot ≤ s.slots → IsFront s a slot → NothingLeavesSinks s a → IsFront s b slot → NothingLeavesSinks s b → t ≤ slot → AgreeTo s a b t
+agree : (s : Setting) (a b : Counts) (slot t : ℕ) → IsSetting s → slot ≤ s.slots → IsFront s a slot → OriginsWithoutOutsAreEmpty s a → IsFront s b slot → OriginsWithoutOutsAreEmpty s b → t ≤ slot → AgreeTo s a b t
 agree s a b slot zero v y f nf g ng l = record {
   same = λ h d k x m low. let e : 0 ≡ k = omega arith in subst (λ (z : ℕ). a h d z ≡ b h d z) e (f.empty h d x m ∙ sym (g.empty h d x m));
 }
@@ -93,7 +93,7 @@ agree s a b slot (suc t) v y f nf g ng l =
     let before : AgreeTo s a b t = agree s a b slot t v y f nf g ng (omega arith) in
     subst (λ (k : ℕ). AgreeTo s a b k) e (agree_next s a b slot t (record { valid = v; within = y; before = omega arith; front = f; sinks = nf; other_front = g; other_sinks = ng; agree = before }))
 
-pub fronts_agree : (s : Setting) (a b : Counts) (slot : ℕ) → IsSetting s → slot ≤ s.slots → IsFront s a slot → NothingLeavesSinks s a → IsFront s b slot → NothingLeavesSinks s b → AgreeTo s a b slot
+pub fronts_agree : (s : Setting) (a b : Counts) (slot : ℕ) → IsSetting s → slot ≤ s.slots → IsFront s a slot → OriginsWithoutOutsAreEmpty s a → IsFront s b slot → OriginsWithoutOutsAreEmpty s b → AgreeTo s a b slot
 fronts_agree s a b slot v y f nf g ng = agree s a b slot slot v y f nf g ng (omega arith)
 
 pub one_front_holds : OneFront

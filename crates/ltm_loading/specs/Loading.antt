@@ -12,10 +12,10 @@ pub record IsFront (s : Setting) (c : Counts) (slot : ℕ) : Type 0 where
   pub steps : (u t : ℕ) → u < s.nodes → t < slot → MeetsStep s c u t
 
 -- nothing ever leaves the origin of a node without out-links
-abbrev pub NothingLeavesSinks : Setting → Counts → Type 0
-NothingLeavesSinks s c = (u d k : ℕ) → u < s.nodes → s.outs u ≡ 0 → d < s.destinations → k ≤ s.slots → c (dep_of s u) d k ≡ 0
+abbrev pub OriginsWithoutOutsAreEmpty : Setting → Counts → Type 0
+OriginsWithoutOutsAreEmpty s c = (u d k : ℕ) → u < s.nodes → s.outs u ≡ 0 → d < s.destinations → k ≤ s.slots → c (dep_of s u) d k ≡ 0
 
 -- a loading is a whole front, and nothing leaves the origin of a node without out-links
 pub record IsLoading (s : Setting) (c : Counts) : Type 0 where
   pub front : IsFront s c s.slots
-  pub no_origin : NothingLeavesSinks s c
+  pub no_origin : OriginsWithoutOutsAreEmpty s c

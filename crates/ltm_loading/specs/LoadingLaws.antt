@@ -6,7 +6,7 @@ use Rattle.ltm_curve.specs.First.{first_units}
 use Rattle.ltm_loading.specs.Setting.{Setting, IsSetting}
 use Rattle.ltm_loading.specs.Groups.{up_of, down_of, dep_of, arr_of, groups}
 use Rattle.ltm_loading.specs.Flows.{link_goal, origin_goal}
-use Rattle.ltm_loading.specs.Loading.{IsFront, NothingLeavesSinks, IsLoading}
+use Rattle.ltm_loading.specs.Loading.{IsFront, OriginsWithoutOutsAreEmpty, IsLoading}
 use Rattle.ltm_loading.specs.Totals.{generated, departed, arrived, on_links, waiting}
 
 -- no count falls
@@ -56,7 +56,7 @@ OneLoading =
 abbrev pub OneFront : Type 0
 OneFront =
     (s : Setting) (a b : Counts) (slot : ℕ) → IsSetting s → slot ≤ s.slots →
-    IsFront s a slot → NothingLeavesSinks s a → IsFront s b slot → NothingLeavesSinks s b →
+    IsFront s a slot → OriginsWithoutOutsAreEmpty s a → IsFront s b slot → OriginsWithoutOutsAreEmpty s b →
     (g d k : ℕ) → g < groups s → d < s.destinations → k ≤ slot → a g d k ≡ b g d k
 
 -- no more has left a link than has entered it

@@ -11,8 +11,9 @@ use Rattle.ltm_scenario.specs.declared.edit.EditCause.TheVariants.{UnknownName, 
 use Rattle.ltm_scenario.specs.Data.{ScenarioData}
 use Rattle.ltm_scenario.specs.Reads.{destination_of, has_no_out_link, has_split}
 use Rattle.ltm_scenario.specs.IsScenario.{IsScenario}
-use Rattle.ltm_scenario.specs.Build.{with_demand, with_entry_limit, are_slots, ◌>>=◌}
+use Rattle.ltm_scenario.specs.Build.{with_demand, with_limit_at, are_slots, ◌>>=◌}
 use Rattle.ltm_units.specs.Results.{refuse, found}
+use Rattle.ltm_scenario.specs.declared.side.Side.TheVariants.{Entry}
 use Rattle.ltm_scenario.specs.Edits.{cause_of_demand, caused, demand_row, demand_edited, limited_link, limit_edited, at_place, edited_all}
 use Rattle.ltm_make.specs.Names.{name_of_node, name_of_link}
 use Rattle.ltm_make.specs.Branches.{number}
@@ -53,16 +54,16 @@ row_found s nodes width last h l pos has =
 pub batch_accepted : (s : ScenarioData) (nodes width j last : ℕ) → IsLaid nodes width s → IsNetwork s.network → j < length s.network.links → last < nodes → 0 < last →
     has_split s.splits (number s.network last) 0 ≡ true → length s.demand < 10000 → IsOk (edited_all s (two_edits j last))
 batch_accepted s nodes width j last h net l in_grid pos has few =
-    let first : ScenarioData = with_entry_limit s j 5 15 1000 in
-    let laid : IsLaid nodes width (with_entry_limit s j 5 15 1000) = record { grid = h.grid; slots = h.slots; along = h.along; ends = h.ends } in
-    let limit : limit_edited s (name_of_link j) 5 15 1000 ≡ Ok (with_entry_limit s j 5 15 1000) =
-    ap (λ (r : Result ℕ EditCause). r >>= λ link. Ok (with_entry_limit s link 5 15 1000)) (limited s nodes width j h net l) in
-    let row = row_found (with_entry_limit s j 5 15 1000) nodes width last laid in_grid pos has in
-    let set = row_is_set (with_entry_limit s j 5 15 1000) (last_row (number s.network last)) (ap (λ (n : ℕ). nat_lt 0 10 && nat_le 10 n) h.slots) few in
-    let demand : demand_edited (with_entry_limit s j 5 15 1000) (name_of_node last) (name_of_node 0) 0 10 30000 ≡ Ok (record (with_entry_limit s j 5 15 1000) { demand = edited_rows s.demand (last_row (number s.network last)) }) =
-    ap (λ (r : Result DemandRow EditCause). r >>= λ x. caused cause_of_demand (with_demand (with_entry_limit s j 5 15 1000) x)) row
+    let first : ScenarioData = with_limit_at s Entry j 5 15 1000 in
+    let laid : IsLaid nodes width (with_limit_at s Entry j 5 15 1000) = record { grid = h.grid; slots = h.slots; along = h.along; ends = h.ends } in
+    let limit : limit_edited s Entry (name_of_link j) 5 15 1000 ≡ Ok (with_limit_at s Entry j 5 15 1000) =
+    ap (λ (r : Result ℕ EditCause). r >>= λ link. Ok (with_limit_at s Entry link 5 15 1000)) (limited s nodes width j h net l) in
+    let row = row_found (with_limit_at s Entry j 5 15 1000) nodes width last laid in_grid pos has in
+    let set = row_is_set (with_limit_at s Entry j 5 15 1000) (last_row (number s.network last)) (ap (λ (n : ℕ). nat_lt 0 10 && nat_le 10 n) h.slots) few in
+    let demand : demand_edited (with_limit_at s Entry j 5 15 1000) (name_of_node last) (name_of_node 0) 0 10 30000 ≡ Ok (record (with_limit_at s Entry j 5 15 1000) { demand = edited_rows s.demand (last_row (number s.network last)) }) =
+    ap (λ (r : Result DemandRow EditCause). r >>= λ x. caused cause_of_demand (with_demand (with_limit_at s Entry j 5 15 1000) x)) row
     ∙ ap (caused cause_of_demand) set in
-    let whole : edited_all s (two_edits j last) ≡ Ok (record (with_entry_limit s j 5 15 1000) { demand = edited_rows s.demand (last_row (number s.network last)) }) =
+    let whole : edited_all s (two_edits j last) ≡ Ok (record (with_limit_at s Entry j 5 15 1000) { demand = edited_rows s.demand (last_row (number s.network last)) }) =
     ap (λ (r : Result ScenarioData EditCause). at_place 1 r >>= λ next. at_place 2 (demand_edited next (name_of_node last) (name_of_node 0) 0 10 30000) >>= λ end. Ok end) limit
     ∙ ap (λ (r : Result ScenarioData EditCause). at_place 2 r >>= λ end. Ok end) demand in
     subst IsOk (sym whole) refl

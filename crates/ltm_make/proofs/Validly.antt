@@ -11,7 +11,7 @@ use Rattle.ltm_network.proofs.Counted.{has_places}
 use Rattle.ltm_splits.specs.Rows.{SplitRow, is_of}
 use Rattle.ltm_scenario.specs.Data.{ScenarioData}
 use Rattle.ltm_scenario.specs.Reads.{destination_node, has_split}
-use Rattle.ltm_scenario.specs.Cells.{arms_of, width_of, width, widths, cells_of, cells_over, cells}
+use Rattle.ltm_scenario.specs.Cells.{arms_of, width_of, width, widths, cells_of, cells_with, cells}
 use Rattle.ltm_scenario.specs.Valid.{leads_on, is_demand_split, is_split_begun, is_split_led, IsValid}
 use Rattle.ltm_scenario.specs.IsScenario.{IsScenario}
 use Rattle.ltm_make.proofs.Counting.{is_same}
@@ -73,7 +73,7 @@ few_widths s net two =
     )
 
 few_cells : (s : ScenarioData) → IsScenario s → IsCovered s → cells s ≤ 54000000
-unfolding cells cells_over
+unfolding cells cells_with
 few_cells s is h =
     let by : cells_of s.setup.slots (widths s) (length s.network.links) (length s.network.nodes) (length s.destinations) ≡ cells_of 60 (widths s) (length s.network.links) (length s.network.nodes) 2 =
     ap (λ (n : ℕ). cells_of n (widths s) (length s.network.links) (length s.network.nodes) (length s.destinations)) h.slots

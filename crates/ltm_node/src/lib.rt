@@ -2,8 +2,9 @@
 //!
 //! An arm is an in-link or the origin of the node. It stands on `ltm_shares`, which shares out what the out-links can
 //! take. A call of `solve` takes no memory. Where no out-link is short it makes one pass over what the arms send, in 64
-//! bits; else it makes at most one round for each arm, and a second pass. Change it here when the node step or the layout
-//! of its row changes.
+//! bits; else it makes at most one round for each arm, and a second pass. `shape_as` and the writers of single numbers
+//! (`set_sending` and so on) are for callers outside this repository: a loading writes whole parts of the row in place.
+//! Change it here when the node step or the layout of its row changes.
 #![tactic(auto)]
 
 mod inputs;

@@ -8,8 +8,7 @@ use Rattle.ltm_repair.specs.Facts.{IsSound, IsClaim}
 use Rattle.ltm_repair.specs.Moves.{Sets}
 use Rattle.ltm_pairs.specs.Changes.{ChangesNode}
 use Rattle.ltm_pairs.specs.Readers.{ReadersAreAll, PositionsStay}
-use Rattle.ltm_pairs.specs.Dependents.{DependentsAreAll}
-use Rattle.ltm_pairs.specs.Waking.{ReadersWake, ReadersKeepPositions, DependentsWake}
+use Rattle.ltm_pairs.specs.Waking.{ReadersWake, ReadersKeepPositions}
 
 both_true : (a b : Bool) → a && b ≡ true → a ≡ true
 both_true true b h = refl
@@ -24,12 +23,6 @@ pub readers_wake : ReadersAreAll → ReadersWake
 readers_wake readers s d e u t row is sound claimed step = record {
   later = λ w v h. let l : t + 1 ≤ v = leb-true (t + 1) v (both_true (nat_le (t + 1) v) _ h) in omega arith;
   quiet = λ w v x l h. readers s d.counts e.counts u (t + 1) w v is (sets_change s d e u t row sound claimed step) x l h;
-}
-
-pub dependents_wake : DependentsAreAll → DependentsWake
-dependents_wake dependents s d e u t row changed is sound claimed step are = record {
-  later = λ w v h. let l : t + 1 ≤ v = leb-true (t + 1) v (both_true (nat_le (t + 1) v) _ h) in omega arith;
-  quiet = λ w v x l h. dependents s d.counts e.counts u (t + 1) w v changed is (sets_change s d e u t row sound claimed step) are x l h;
 }
 
 pub readers_keep_positions : PositionsStay → ReadersKeepPositions

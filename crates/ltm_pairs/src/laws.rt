@@ -3,7 +3,7 @@ ghost use Rattle.ltm_pairs.specs.Touched.{EditsKeep, TouchedHoldsReaders, BatchT
 ghost use Rattle.ltm_pairs.specs.Readers.{ReadersAreAll, PositionsStay};
 ghost use Rattle.ltm_pairs.specs.Dependents.{DependentsAreAll};
 ghost use Rattle.ltm_pairs.specs.OneRoad.{ReadersOnOneRoad};
-ghost use Rattle.ltm_pairs.specs.Waking.{ReadersWake, ReadersKeepPositions, DependentsWake};
+ghost use Rattle.ltm_pairs.specs.Waking.{ReadersWake, ReadersKeepPositions};
 
 use ltm_demand::production_stays;
 use ltm_limits::{limits_are_lengthened, limits_are_set, limits_stay_whole};
@@ -77,13 +77,6 @@ pub fn readers_wake()
 {
     readers_are_all();
     positions_stay();
-}
-
-/// To wake all that depends on the arms that changed wakes each pair whose inputs changed.
-pub fn dependents_wake()
-    ensures { DependentsWake }
-{
-    dependents_are_all();
 }
 
 /// The readers of a commit on one road, worked by hand: `reads_commit` gives the same.

@@ -1,7 +1,8 @@
 //! Which pairs of node and slot read what an edit or a commit changes.
 //!
 //! It stands on `ltm_setting` and `ltm_loading` for what a pair reads, and on `ltm_repair` for what a commit is. A call
-//! costs a look-up of a name or a few accesses for each link of a node, and takes no memory. Change it here when an edit
+//! costs a look-up of a name or a few accesses for each link of a node, and takes no memory. `dependents`, which sees no
+//! counts, is for callers outside this repository: the core here sees them, and marks by `reads_commit`. Change it here when an edit
 //! gets a further kind, or when a pair is to read something that it did not read before.
 #![tactic(auto)]
 
@@ -16,8 +17,8 @@ pub use arm_set::ArmSet;
 pub use commits::dependents;
 pub use edits::touched;
 pub use laws::{
-    added_slots_are_new, batch_touches_readers, dependents_are_all, dependents_wake, edits_keep,
-    positions_stay, readers_are_all, readers_on_one_road, readers_wake, touched_holds_readers,
+    added_slots_are_new, batch_touches_readers, dependents_are_all, edits_keep, positions_stay,
+    readers_are_all, readers_on_one_road, readers_wake, touched_holds_readers,
 };
 pub use ltm_index::{ReadIndex, slots_stand_by_entry};
 pub use spread::Spread;

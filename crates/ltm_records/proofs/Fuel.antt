@@ -23,7 +23,7 @@ shrinks cfg s fields field (c ∷ rest) q h = elim (chosen (is_end (step cfg s c
 ]
 
 -- and shorter, where there was a byte
-shrinks_more : (cfg : Config) (s : State) (c : ℕ) (rest : List ℕ) (q : Read) → next_record cfg s [] [] (c ∷ rest) ≡ Some q → length q.2 ≤ length rest
+pub shrinks_more : (cfg : Config) (s : State) (c : ℕ) (rest : List ℕ) (q : Read) → next_record cfg s [] [] (c ∷ rest) ≡ Some q → length q.2 ≤ length rest
 unfolding next_record
 shrinks_more cfg s c rest q h = elim (chosen (is_end (step cfg s c).1) _ _ (Some q) h) [
   | inl e ↦ let same : rest ≡ q.2 = cc in omega (arith, ap length same)
@@ -31,7 +31,7 @@ shrinks_more cfg s c rest q h = elim (chosen (is_end (step cfg s c).1) _ _ (Some
 ]
 
 -- at the end of a text stands at most one record, and none behind it
-last : (cfg : Config) (s : State) (q : Read) → next_record cfg s [] [] [] ≡ Some q → (q.1 ≡ st.StartRecord) × (q.2 ≡ [])
+pub last : (cfg : Config) (s : State) (q : Read) → next_record cfg s [] [] [] ≡ Some q → (q.1 ≡ st.StartRecord) × (q.2 ≡ [])
 unfolding next_record
 last cfg s q h = elim (chosen (ends_at_end s) (Some ([] ++ ([] ∷ []), st.StartRecord, [])) None (Some q) h) [
   | inl e ↦ (cc, cc)

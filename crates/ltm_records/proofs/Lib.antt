@@ -1,5 +1,4 @@
 mod Few
-mod Fuel
-mod Padding
-mod Pieces
+pub mod Fuel
+pub mod Pieces
 mod Taking

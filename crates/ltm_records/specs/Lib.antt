@@ -1,5 +1,4 @@
 pub mod Fields
 pub mod Left
+pub mod Pieces
 pub mod Weights
-pub mod WeightsBack
-pub mod WeightsLie

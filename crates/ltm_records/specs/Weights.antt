@@ -3,13 +3,11 @@ use Rattle.std.specs.Prelude.{ℕ, ◌==◌, Bool, nat_le, List, [], ◌∷◌, 
 use Rattle.std.specs.List.{slice_split, before_first, after_first}
 use Rattle.ltm_units.specs.Words.{is_name}
 use Rattle.ltm_units.specs.Numbers.{whole}
+use Rattle.ltm_records.specs.Pieces.{is_space}
 
 -- a name with its weight
 abbrev pub Entry : Type 0
 Entry = List ℕ × ℕ
-
-abbrev pub is_space : ℕ → Bool
-is_space b = b == 32
 
 abbrev pub is_equals : ℕ → Bool
 is_equals b = b == 61
@@ -39,8 +37,3 @@ at_most_four None = None
 -- the pieces between spaces are one to four entries
 abbrev pub weights_of : List ℕ → Option (List Entry)
 weights_of text = at_most_four (entries_of (slice_split is_space text))
-
--- the pieces of what stands behind a space, if there is one
-abbrev pub pieces_behind : Option (List ℕ) → List (List ℕ)
-pieces_behind (Some text) = slice_split is_space text
-pieces_behind None = []

@@ -7,7 +7,7 @@ use Rattle.ltm_node.specs.Step.{IsNodeStep}
 use Rattle.ltm_loading.specs.Setting.{Setting}
 use Rattle.ltm_loading.specs.Groups.{groups}
 use Rattle.ltm_loading.specs.Pairs.{shape_at, pair_row, pair_outputs}
-use Rattle.ltm_loading.specs.Loading.{NothingLeavesSinks}
+use Rattle.ltm_loading.specs.Loading.{OriginsWithoutOutsAreEmpty}
 use Rattle.ltm_loading.specs.NextPair.{IsOf}
 use Rattle.ltm_repair.specs.Desk.{Desk, IsSettled, IsIdle, IsIdleBefore}
 
@@ -31,7 +31,7 @@ pub record CountsAreSteps (s : Setting) (d : Desk) : Type 0 where
   pub steps : (u t : ℕ) → u < s.nodes → t < s.slots → (row : List ℕ) → d.kept u t ≡ Some row → IsStepOf s d.counts u t row
   pub unset : (u t : ℕ) → u < s.nodes → t < s.slots → d.kept u t ≡ None →
       IsUnset s d.counts u t ⊎ ((row : List ℕ) × IsStepOf s d.counts u t row)
-  pub sinks : NothingLeavesSinks s d.counts
+  pub sinks : OriginsWithoutOutsAreEmpty s d.counts
 
 -- each pair that is not settled is active or claimed, and none is both
 pub record UnsettledAreActive (s : Setting) (d : Desk) : Type 0 where

@@ -1,6 +1,7 @@
 -- The lines that tell what was done: a batch accepted, a settle.
 use Rattle.std.specs.Prelude.{ℕ, List, ◌++◌, codes}
-use Rattle.ltm_report.specs.Pieces.{number_piece, newline}
+use Rattle.ltm_units.specs.Texts.{number_piece}
+use Rattle.ltm_report.specs.Pieces.{newline}
 
 unfoldable pub accepted_piece : ℕ → List ℕ
 accepted_piece version = number_piece (codes "accepted version ") version

@@ -5,7 +5,8 @@ use Rattle.ltm_casefile.specs.declared.faults.File.TheVariants.{Setup, Links, De
 use Rattle.ltm_casefile.specs.declared.faults.CaseCause.{CaseCause}
 use Rattle.ltm_casefile.specs.declared.faults.CaseFault.{CaseFault}
 use Rattle.ltm_casefile.specs.declared.faults.CaseFault.TheVariants.{Bad}
-use Rattle.ltm_report.specs.Pieces.{number_piece, newline}
+use Rattle.ltm_units.specs.Texts.{number_piece}
+use Rattle.ltm_report.specs.Pieces.{newline}
 use Rattle.ltm_report.specs.Causes.{cause_words}
 
 unfoldable pub file_word : File → List ℕ

@@ -9,7 +9,7 @@ use Rattle.ltm_network.specs.declared.network.NetworkFault.{NetworkFault}
 use Rattle.ltm_network.specs.declared.network.NetworkFault.TheVariants.{TwiceNamed, SelfLoop, TooManyLinks, TooManyOut, TooManyIn, NoMemory}
 use Rattle.ltm_casefile.specs.declared.faults.CaseCause.{CaseCause}
 use Rattle.ltm_casefile.specs.declared.faults.CaseCause.TheVariants as cause
-use Rattle.ltm_report.specs.Pieces.{number_piece}
+use Rattle.ltm_units.specs.Texts.{number_piece}
 
 -- the field of `links.csv` in which a diagram's field stands
 unfoldable pub field_word : Field → List ℕ

@@ -2,7 +2,8 @@
 use Rattle.std.specs.Prelude.{ℕ, List, ◌++◌, codes}
 use Rattle.ltm_script.specs.declared.command.CommandFault.{CommandFault}
 use Rattle.ltm_script.specs.declared.command.CommandFault.TheVariants as fault
-use Rattle.ltm_report.specs.Pieces.{number_piece, newline}
+use Rattle.ltm_units.specs.Texts.{number_piece}
+use Rattle.ltm_report.specs.Pieces.{newline}
 
 -- why a line is no command, as `NotCommand 2`
 unfoldable pub command_fault_words : CommandFault → List ℕ

@@ -3,7 +3,8 @@ use Rattle.std.specs.Prelude.{ℕ, List, ◌++◌, codes}
 use Rattle.ltm_scenario.specs.declared.edit.EditCause.{EditCause}
 use Rattle.ltm_scenario.specs.declared.edit.EditCause.TheVariants as cause
 use Rattle.ltm_scenario.specs.declared.edit.EditFault.{EditFault}
-use Rattle.ltm_report.specs.Pieces.{number_piece, newline}
+use Rattle.ltm_units.specs.Texts.{number_piece}
+use Rattle.ltm_report.specs.Pieces.{newline}
 use Rattle.ltm_report.specs.Causes.{diagram_words}
 
 -- why an edit is refused; of a fault of a diagram its own words

@@ -1,6 +1,7 @@
 -- The lines of one link: what entered and what left it.
 use Rattle.std.specs.Prelude.{ℕ, List, ◌++◌, codes}
-use Rattle.ltm_report.specs.Pieces.{amount_piece, version_piece, newline}
+use Rattle.ltm_units.specs.Texts.{amount_piece}
+use Rattle.ltm_report.specs.Pieces.{version_piece, newline}
 
 -- the link's name, as `link a`
 unfoldable pub name_piece : List ℕ → List ℕ

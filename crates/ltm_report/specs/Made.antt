@@ -1,6 +1,7 @@
 -- The lines of a made case: its size, and the work of its repair.
 use Rattle.std.specs.Prelude.{ℕ, List, ◌++◌, codes}
-use Rattle.ltm_report.specs.Pieces.{number_piece, newline}
+use Rattle.ltm_units.specs.Texts.{number_piece}
+use Rattle.ltm_report.specs.Pieces.{newline}
 
 unfoldable pub nodes_piece : ℕ → List ℕ
 nodes_piece nodes = number_piece (codes "case nodes ") nodes

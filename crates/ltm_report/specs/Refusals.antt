@@ -1,6 +1,7 @@
 -- The lines that refuse a question or the rest of a script.
 use Rattle.std.specs.Prelude.{ℕ, List, ◌++◌, codes}
-use Rattle.ltm_report.specs.Pieces.{number_piece, newline}
+use Rattle.ltm_units.specs.Texts.{number_piece}
+use Rattle.ltm_report.specs.Pieces.{newline}
 
 -- no link has the name that was asked for
 unfoldable pub unknown_link_line : List ℕ

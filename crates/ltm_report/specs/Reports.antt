@@ -1,5 +1,6 @@
 -- What is reported of a setting's loading at its last boundary.
-use Rattle.std.specs.Prelude.{ℕ, zero, suc, ◌≡◌, List, [], ◌++◌, length}
+use Rattle.std.specs.Prelude.{ℕ, ◌≡◌, List, ◌++◌, length}
+use Rattle.ltm_units.specs.Texts.{texts_below}
 use Rattle.ltm_curve.specs.Counts.{Counts}
 use Rattle.ltm_network.specs.Network.{link_name}
 use Rattle.ltm_scenario.specs.Data.{ScenarioData}
@@ -29,11 +30,6 @@ load_link_report name link s c = load_link_line name (entered_link s c link s.sl
 -- the same, under a version
 unfoldable pub link_report : ℕ → List ℕ → ℕ → Setting → Counts → List ℕ
 link_report version name link s c = link_line version name (entered_link s c link s.slots) (left_link s c link s.slots)
-
--- the texts of the numbers below n, in order
-abbrev pub texts_below : ℕ → (ℕ → List ℕ) → List ℕ
-texts_below zero text = []
-texts_below (suc n) text = texts_below n text ++ text n
 
 -- the line of a link by its number
 abbrev pub link_report_of : ScenarioData → Counts → ℕ → List ℕ

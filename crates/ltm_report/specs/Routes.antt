@@ -1,6 +1,7 @@
 -- The lines of routes: a record of `splits.csv` for each, and its time.
 use Rattle.std.specs.Prelude.{ℕ, List, [], ◌∷◌, ◌++◌, codes}
-use Rattle.ltm_report.specs.Pieces.{number_piece, newline}
+use Rattle.ltm_units.specs.Texts.{number_piece}
+use Rattle.ltm_report.specs.Pieces.{newline}
 
 -- the header of `splits.csv`
 unfoldable pub splits_header_line : List ℕ

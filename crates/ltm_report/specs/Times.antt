@@ -1,6 +1,7 @@
 -- The line of a travel time.
 use Rattle.std.specs.Prelude.{ℕ, List, ◌++◌, codes, Option, Some, None}
-use Rattle.ltm_report.specs.Pieces.{number_piece, version_piece, newline}
+use Rattle.ltm_units.specs.Texts.{number_piece}
+use Rattle.ltm_report.specs.Pieces.{version_piece, newline}
 use Rattle.ltm_report.specs.Links.{name_piece}
 
 -- milliseconds, or `none` where those before have not left by the end

@@ -1,6 +1,7 @@
 -- The line of a loading's totals.
 use Rattle.std.specs.Prelude.{ℕ, List, ◌++◌, codes}
-use Rattle.ltm_report.specs.Pieces.{amount_piece, version_piece, newline}
+use Rattle.ltm_units.specs.Texts.{amount_piece}
+use Rattle.ltm_report.specs.Pieces.{version_piece, newline}
 
 -- what came and what arrived
 unfoldable pub came_piece : ℕ → ℕ → List ℕ

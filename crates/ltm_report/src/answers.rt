@@ -3,8 +3,7 @@
 ghost use Rattle.std.specs.Prelude.{◌≡◌, ◌++◌, ◌+◌, ◌≤◌, OnOk, OnErr, IsOk, vec_len, vec_capacity};
 ghost use Rattle.ltm_report.specs.Answers.{accepted_piece, accepted_line, settled_piece, recomputed_piece, settled_line, answer_room};
 
-use crate::room::{append, append_number};
-use ltm_units::NoMemory;
+use ltm_units::{NoMemory, append, append_number};
 
 /// How many bytes of room [`accepted_text`] and [`settled_text`] need at most.
 pub const ANSWER_ROOM: usize = 128;

@@ -3,9 +3,9 @@ ghost use Rattle.std.specs.Prelude.{◌≡◌, ◌++◌, OnOk, OnErr};
 ghost use Rattle.ltm_report.specs.CaseFaults.{file_word, place_piece, bad_case_line, too_long_line, case_fault_line, IsBad};
 
 use crate::causes::push_cause;
-use crate::pieces::{push_newline, push_number, push_text};
+use crate::pieces::push_newline;
 use ltm_casefile::{CaseCause, CaseFault, File};
-use ltm_units::NoMemory;
+use ltm_units::{NoMemory, push_number, push_text};
 use std::alloc::Global;
 
 #[tactic(auto, unfolding(crate::specs::CaseFaults::file_word))]

@@ -2,11 +2,10 @@
 ghost use Rattle.std.specs.Prelude.{◌≡◌, ◌++◌, OnOk};
 ghost use Rattle.ltm_report.specs.Causes.{field_word, free_time_words, times_words, diagram_words, network_word, no_split_words, cause_words};
 
-use crate::pieces::{push_number, push_text};
 use ltm_casefile::CaseCause;
 use ltm_diagram::{DiagramFault, Field};
 use ltm_network::NetworkFault;
-use ltm_units::{Name, NoMemory};
+use ltm_units::{Name, NoMemory, push_number, push_text};
 
 #[tactic(auto, unfolding(crate::specs::Causes::field_word))]
 fn word_of_field(field: Field) -> &'static [u8]

@@ -2,9 +2,9 @@
 ghost use Rattle.std.specs.Prelude.{◌≡◌, ◌++◌, OnOk, OnErr};
 ghost use Rattle.ltm_report.specs.CommandFaults.{command_fault_words, command_fault_line};
 
-use crate::pieces::{push_newline, push_number, push_text};
+use crate::pieces::push_newline;
 use ltm_script::CommandFault;
-use ltm_units::NoMemory;
+use ltm_units::{NoMemory, push_number, push_text};
 use std::alloc::Global;
 
 #[tactic(auto, unfolding(crate::specs::CommandFaults::command_fault_words))]

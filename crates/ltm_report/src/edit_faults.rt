@@ -3,9 +3,9 @@ ghost use Rattle.std.specs.Prelude.{◌≡◌, ◌++◌, OnOk, OnErr};
 ghost use Rattle.ltm_report.specs.EditFaults.{edit_cause_words, refused_edit_piece, edit_fault_line};
 
 use crate::causes::push_diagram;
-use crate::pieces::{push_newline, push_number, push_text};
+use crate::pieces::push_newline;
 use ltm_scenario::{EditCause, EditFault};
-use ltm_units::NoMemory;
+use ltm_units::{NoMemory, push_number, push_text};
 use std::alloc::Global;
 
 #[tactic(auto, unfolding(crate::specs::EditFaults::edit_cause_words))]

@@ -1,7 +1,7 @@
 //! - **What it is**: the lines that the program writes: the totals and the links of a loading, travel times, the answers to
 //!   the lines of a script, routes, the size of a made case, and the refusals. Each ends with one newline byte; amounts of
 //!   traffic stand in vehicles with three decimals, times in milliseconds.
-//! - **On what it stands**: `ltm_units` and `itoa` for numbers as text; `ltm_flows` for the loadings of which it tells; and the
+//! - **On what it stands**: `ltm_units` for the pieces of lines; `ltm_flows` for the loadings of which it tells; and the
 //!   faults of `ltm_casefile`, `ltm_scenario`, `ltm_script`, `ltm_network` and `ltm_diagram` that it names.
 //! - **What a call costs**: the length of its line, which it appends whole, or not at all where memory was not found. What
 //!   was done is told without memory where room was taken before ([`ANSWER_ROOM`]).
@@ -18,7 +18,6 @@ mod load;
 mod made;
 mod pieces;
 mod refusals;
-mod room;
 mod routes;
 mod times;
 mod totals;

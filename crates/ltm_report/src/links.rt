@@ -7,9 +7,9 @@ ghost use Rattle.ltm_flows.specs.Counted.{entered_of, left_of};
 ghost use Rattle.ltm_report.specs.Links.{name_piece, through_piece, load_link_line, link_line};
 ghost use Rattle.ltm_report.specs.Reports.{load_link_report, link_report};
 
-use crate::pieces::{push_amount, push_newline, push_text, push_version};
+use crate::pieces::{push_newline, push_version};
 use ltm_flows::Loading;
-use ltm_units::{LinkId, Name, NoMemory, Units};
+use ltm_units::{LinkId, Name, NoMemory, Units, push_text, push_vehicles};
 use std::alloc::Global;
 
 #[tactic(auto, unfolding(crate::specs::Links::name_piece))]
@@ -21,30 +21,19 @@ pub(crate) fn push_name(into: &mut Vec<u8>, name: &Name) -> Result<(), NoMemory>
 }
 
 #[tactic(auto, unfolding(crate::specs::Links::through_piece))]
-fn push_through(
-    alloc: Global,
-    into: &mut Vec<u8>,
-    entered: Units,
-    gone: Units,
-) -> Result<(), NoMemory>
+fn push_through(into: &mut Vec<u8>, entered: Units, gone: Units) -> Result<(), NoMemory>
     ensures { OnOk result (into.new.items ≡ into.old.items ++ through_piece entered.0 gone.0) }
 {
-    push_amount(alloc, into, b" in ", entered)?;
-    push_amount(alloc, into, b" out ", gone)
+    push_vehicles(into, b" in ", entered)?;
+    push_vehicles(into, b" out ", gone)
 }
 
 #[tactic(auto, unfolding(crate::specs::Links::load_link_line))]
-fn push_link(
-    alloc: Global,
-    into: &mut Vec<u8>,
-    name: &Name,
-    entered: Units,
-    gone: Units,
-) -> Result<(), NoMemory>
+fn push_link(into: &mut Vec<u8>, name: &Name, entered: Units, gone: Units) -> Result<(), NoMemory>
     ensures { OnOk result (into.new.items ≡ into.old.items ++ load_link_line name.now entered.0 gone.0) }
 {
     push_name(into, name)?;
-    push_through(alloc, into, entered, gone)?;
+    push_through(into, entered, gone)?;
     push_newline(into)
 }
 
@@ -59,7 +48,7 @@ pub(crate) fn load_link_line_text(
     ensures err { OnErr result (into.new.items ≡ into.old.items) }
 {
     let mut line = Vec::new(alloc);
-    push_link(alloc, &mut line, name, entered, gone)?;
+    push_link(&mut line, name, entered, gone)?;
     push_text(into, line.as_slice())
 }
 
@@ -98,7 +87,7 @@ fn link_line_text(
     let mut line = Vec::new(alloc);
     push_version(&mut line, version)?;
     push_text(&mut line, b" ")?;
-    push_link(alloc, &mut line, name, entered, gone)?;
+    push_link(&mut line, name, entered, gone)?;
     push_text(into, line.as_slice())
 }
 

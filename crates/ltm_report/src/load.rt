@@ -3,7 +3,8 @@ ghost use Rattle.std.specs.Prelude.{◌≡◌, ◌++◌, ◌<◌, IfOk, OnOk, le
 ghost use Rattle.ltm_curve.specs.Table.{counts_of};
 ghost use Rattle.ltm_loading.specs.Shaped.{IsShaped};
 ghost use Rattle.ltm_setting.specs.Setting.{setting_of};
-ghost use Rattle.ltm_report.specs.Reports.{totals_report, link_report_of, texts_below, IsReport};
+ghost use Rattle.ltm_units.specs.Texts.{texts_below};
+ghost use Rattle.ltm_report.specs.Reports.{totals_report, link_report_of, IsReport};
 
 use crate::links::load_link_line_text;
 use crate::totals::totals_line_text;

@@ -2,8 +2,8 @@
 ghost use Rattle.std.specs.Prelude.{◌≡◌, ◌++◌, OnOk, OnErr};
 ghost use Rattle.ltm_report.specs.Made.{nodes_piece, links_piece, pairs_piece, size_line, first_recomputed_piece, solved_piece, spent_piece, work_line};
 
-use crate::pieces::{push_newline, push_number, push_text};
-use ltm_units::NoMemory;
+use crate::pieces::push_newline;
+use ltm_units::{NoMemory, push_number, push_text};
 use std::alloc::Global;
 
 #[tactic(auto, unfolding(crate::specs::Made::nodes_piece))]

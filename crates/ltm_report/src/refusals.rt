@@ -2,8 +2,8 @@
 ghost use Rattle.std.specs.Prelude.{◌≡◌, ◌++◌, OnOk, OnErr};
 ghost use Rattle.ltm_report.specs.Refusals.{unknown_link_line, unknown_time_line, time_slots_line, long_piece, long_script_line, too_many_line};
 
-use crate::pieces::{push_newline, push_number, push_text};
-use ltm_units::NoMemory;
+use crate::pieces::push_newline;
+use ltm_units::{NoMemory, push_number, push_text};
 use std::alloc::Global;
 
 /// Appends that no link has the name that was asked for.

@@ -2,8 +2,8 @@
 ghost use Rattle.std.specs.Prelude.{◌≡◌, ◌++◌, OnOk, OnErr};
 ghost use Rattle.ltm_report.specs.Routes.{splits_header_line, entry_piece, further_entries, entries, key_piece, route_row_line, ends_piece, route_time_piece, route_time_line};
 
-use crate::pieces::{push_newline, push_number, push_text};
-use ltm_units::{Millis, Name, NoMemory};
+use crate::pieces::push_newline;
+use ltm_units::{Millis, Name, NoMemory, push_number, push_text};
 use std::alloc::Global;
 
 /// Appends the header of `splits.csv`.

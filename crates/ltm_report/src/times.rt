@@ -3,8 +3,8 @@ ghost use Rattle.std.specs.Prelude.{◌≡◌, ◌++◌, OnOk, OnErr, option_map
 ghost use Rattle.ltm_report.specs.Times.{time_words, slot_piece, time_line};
 
 use crate::links::push_name;
-use crate::pieces::{push_newline, push_number, push_text, push_version};
-use ltm_units::{Millis, Name, NoMemory};
+use crate::pieces::{push_newline, push_version};
+use ltm_units::{Millis, Name, NoMemory, push_number, push_text};
 use std::alloc::Global;
 
 #[tactic(auto, unfolding(crate::specs::Times::time_words))]

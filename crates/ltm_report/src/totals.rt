@@ -6,35 +6,25 @@ ghost use Rattle.ltm_flows.specs.Shown.{ShowsCounts};
 ghost use Rattle.ltm_report.specs.Totals.{came_piece, stays_piece, totals_line};
 ghost use Rattle.ltm_report.specs.Reports.{totals_report, counted_totals};
 
-use crate::pieces::{push_amount, push_newline, push_text, push_version};
+use crate::pieces::{push_newline, push_version};
 use ltm_flows::{Loading, Totals};
-use ltm_units::{NoMemory, Units};
+use ltm_units::{NoMemory, Units, push_text, push_vehicles};
 use std::alloc::Global;
 
 #[tactic(auto, unfolding(crate::specs::Totals::came_piece))]
-fn push_came(
-    alloc: Global,
-    into: &mut Vec<u8>,
-    generated: Units,
-    arrived: Units,
-) -> Result<(), NoMemory>
+fn push_came(into: &mut Vec<u8>, generated: Units, arrived: Units) -> Result<(), NoMemory>
     ensures { OnOk result (into.new.items ≡ into.old.items ++ came_piece generated.0 arrived.0) }
 {
-    push_amount(alloc, into, b" generated ", generated)?;
-    push_amount(alloc, into, b" arrived ", arrived)
+    push_vehicles(into, b" generated ", generated)?;
+    push_vehicles(into, b" arrived ", arrived)
 }
 
 #[tactic(auto, unfolding(crate::specs::Totals::stays_piece))]
-fn push_stays(
-    alloc: Global,
-    into: &mut Vec<u8>,
-    on_links: Units,
-    waiting: Units,
-) -> Result<(), NoMemory>
+fn push_stays(into: &mut Vec<u8>, on_links: Units, waiting: Units) -> Result<(), NoMemory>
     ensures { OnOk result (into.new.items ≡ into.old.items ++ stays_piece on_links.0 waiting.0) }
 {
-    push_amount(alloc, into, b" on_links ", on_links)?;
-    push_amount(alloc, into, b" waiting ", waiting)
+    push_vehicles(into, b" on_links ", on_links)?;
+    push_vehicles(into, b" waiting ", waiting)
 }
 
 /// Appends totals under a version, as `version 0 generated 1.000 arrived 0.500 on_links 0.500 waiting 0.000`.
@@ -51,8 +41,8 @@ pub fn totals_line_text(
 {
     let mut line = Vec::new(alloc);
     push_version(&mut line, version)?;
-    push_came(alloc, &mut line, totals.generated, totals.arrived)?;
-    push_stays(alloc, &mut line, totals.on_links, totals.waiting)?;
+    push_came(&mut line, totals.generated, totals.arrived)?;
+    push_stays(&mut line, totals.on_links, totals.waiting)?;
     push_newline(&mut line)?;
     push_text(into, line.as_slice())
 }

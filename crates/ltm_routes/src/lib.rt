@@ -3,6 +3,7 @@
 //! - **On what it stands**: `ltm_scenario`, of which it reads the network and the diagrams, and to which it adds split rows.
 //! - **What a call costs**: the routes to a destination cost about `(links + nodes) log nodes` steps, and memory for a heap and
 //!   two tables; `verify` passes over the links and nodes once and takes no memory.
+//! - **For callers outside**: `verify` and `set_routes`; the program finds all routes first, and then writes or sets them.
 //! - **When to change it here**: when routes go by another time, or when traffic is shared among them in another way.
 #![tactic(auto)]
 

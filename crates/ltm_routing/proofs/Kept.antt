@@ -10,7 +10,8 @@ use Rattle.ltm_scenario.specs.Valid.{IsValid}
 use Rattle.ltm_scenario.specs.Build.{◌>>=◌}
 use Rattle.ltm_casefile.specs.declared.faults.CaseFault.{CaseFault}
 use Rattle.ltm_casefile.specs.declared.tables.Table.TheVariants as table
-use Rattle.ltm_casefile.specs.Case.{with_file, whole}
+use Rattle.ltm_casefile.specs.Tables.{with_file}
+use Rattle.ltm_casefile.specs.Case.{whole}
 use Rattle.ltm_casefile.specs.Roads.{unsplit_case_of}
 use Rattle.ltm_routes.specs.Split.{RoutesData, AreAllRoutes, route_splits, with_splits, KeepsRest}
 use Rattle.ltm_routing.specs.declared.lines.RouteLines.{RouteLines}

@@ -22,7 +22,7 @@ use Rattle.ltm_casefile.specs.declared.tables.Table.TheVariants as table
 use Rattle.ltm_casefile.specs.Splits.{split_added}
 use Rattle.ltm_casefile.specs.Rows.{rows_from}
 use Rattle.ltm_casefile.specs.Tables.{table_added}
-use Rattle.ltm_casefile.specs.Case.{with_file}
+use Rattle.ltm_casefile.specs.Tables.{with_file}
 use Rattle.ltm_report.specs.Routes.{splits_header_line, entry_piece, further_entries, entries, key_piece, route_row_line}
 use Rattle.ltm_routes.specs.Split.{RoutesData, rows_to, routes_to, lists_below, route_splits, with_splits}
 use Rattle.ltm_routing.specs.declared.lines.RouteLines.TheVariants as lines

@@ -13,78 +13,64 @@ use Rattle.ltm_casefile.specs.declared.faults.File.TheVariants as file
 use Rattle.ltm_casefile.specs.declared.setup.Opened.{Opened}
 use Rattle.ltm_casefile.specs.declared.tables.Table.TheVariants as table
 use Rattle.ltm_casefile.specs.Setup.{setup_of}
-use Rattle.ltm_casefile.specs.Case.{sized, CaseTexts, texts_of, with_file, filled, whole, CaseParts, opened_of, parts_of, built, case_of, has_signals, asks_for}
+use Rattle.ltm_casefile.specs.Folder.{sized}
+use Rattle.ltm_casefile.specs.Tables.{with_file}
+use Rattle.ltm_casefile.specs.Case.{CaseTexts, texts_of, filled, whole, CaseParts, opened_of, parts_of, built, case_of, has_signals, asks_for}
 use Rattle.ltm_casefile.specs.Roads.{RoadTexts, road_texts_of, roads_filled, roads_in, unsplit_case_of}
 use Rattle.ltm_routing.specs.File.{with_splits_file}
 use Rattle.ltm_routing.proofs.Cases.{went_well}
 
--- the bytes of the three files
-record AreTexts (files : Files) (texts : RoadTexts) : Type 0 where
-  setup : sized file.Setup (files doc.Setup) ≡ Ok texts.setup
-  links : sized file.Links (files doc.Links) ≡ Ok texts.links
-  demand : sized file.Demand (files doc.Demand) ≡ Ok texts.demand
-
-texts_there : (files : Files) (texts : RoadTexts) → road_texts_of files ≡ Ok texts → AreTexts files texts
-unfolding road_texts_of
-texts_there files texts is =
-    let a = went_well (sized file.Setup (files doc.Setup)) _ texts is in
-    let b = went_well (sized file.Links (files doc.Links)) _ texts a.2 in
-    let c = went_well (sized file.Demand (files doc.Demand)) _ texts b.2 in
-    let same : record { setup = a.0; links = b.0; demand = c.0 } ≡ texts = cc in
-    subst (AreTexts files) same (record { setup = a.1; links = b.1; demand = c.1 })
-
--- what they say
-record AreFilled (texts : RoadTexts) (opened : Opened) (linked roads : ScenarioData) : Type 0 where
+-- what the texts of the roads say
+record AreFilled (texts : RoadTexts) (opened : Opened) (roads : ScenarioData) : Type 0 where
   opens : setup_of (records_of texts.setup) ≡ Ok opened
-  links : with_file table.Links opened.scenario texts.links ≡ Ok linked
-  demand : with_file table.Demand linked texts.demand ≡ Ok roads
+  fills : roads_filled opened.scenario texts ≡ Ok roads
 
-roads_there : (texts : RoadTexts) (roads : ScenarioData) → roads_in texts ≡ Ok roads → (opened : Opened) × (linked : ScenarioData) × AreFilled texts opened linked roads
-unfolding roads_in roads_filled
+roads_there : (texts : RoadTexts) (roads : ScenarioData) → roads_in texts ≡ Ok roads → (opened : Opened) × AreFilled texts opened roads
+unfolding roads_in
 roads_there texts roads is =
     let a = went_well (setup_of (records_of texts.setup)) _ roads is in
-    let b = went_well (with_file table.Links a.0.scenario texts.links) _ roads a.2 in
-    (a.0, b.0, record { opens = a.1; links = b.1; demand = b.2 })
+    (a.0, record { opens = a.1; fills = a.2 })
 
 abbrev case_texts : RoadTexts → List ℕ → CaseTexts
-case_texts texts splits = record { setup = texts.setup; links = texts.links; demand = texts.demand; splits = splits }
-
-abbrev with_splits_text : List ℕ → List ℕ → List ℕ → List ℕ → Result CaseTexts CaseFault
-with_splits_text setup links demand splits = Ok (record { setup = setup; links = links; demand = demand; splits = splits })
+case_texts texts splits = record { roads = texts; splits = splits }
 
 fits : (text : List ℕ) → length text ≤ 16777216 → sized file.Splits (Some text) ≡ Ok text
 fits text short = let small : nat_le (length text) 16777216 ≡ true = grind (arith, nat_tests) in ap (λ b. cond b (Ok text) (Err (fault.TooLong file.Splits))) small
 
-texts_are : (files : Files) (texts : RoadTexts) (text : List ℕ) → AreTexts files texts → length text ≤ 16777216 → texts_of (with_splits_file files text) ≡ Ok (case_texts texts text)
+-- the texts of the roads do not depend on the splits
+same_roads : (files : Files) (text : List ℕ) → road_texts_of (with_splits_file files text) ≡ road_texts_of files
+unfolding road_texts_of
+same_roads files text = refl
+
+texts_are : (files : Files) (texts : RoadTexts) (text : List ℕ) → road_texts_of files ≡ Ok texts → length text ≤ 16777216 → texts_of (with_splits_file files text) ≡ Ok (case_texts texts text)
 unfolding texts_of
-texts_are files texts text are short = rw (are.setup, are.links, are.demand, fits text short) refl
+texts_are files texts text are short = rw (same_roads files text, are, fits text short) refl
 
-opened_is : (files : Files) (texts : CaseTexts) (opened : Opened) → texts_of files ≡ Ok texts → setup_of (records_of texts.setup) ≡ Ok opened → opened_of files ≡ Ok opened
-opened_is files texts opened there is = ap (λ r. r >>= λ t. setup_of (records_of t.setup)) there ∙ is
+opened_is : (files : Files) (texts : CaseTexts) (opened : Opened) → texts_of files ≡ Ok texts → setup_of (records_of texts.roads.setup) ≡ Ok opened → opened_of files ≡ Ok opened
+opened_is files texts opened there is = ap (λ r. r >>= λ t. setup_of (records_of t.roads.setup)) there ∙ is
 
-parts_are : (files : Files) (texts : CaseTexts) (opened : Opened) → texts_of files ≡ Ok texts → setup_of (records_of texts.setup) ≡ Ok opened → opened.has_signals ≡ false
+parts_are : (files : Files) (texts : CaseTexts) (opened : Opened) → texts_of files ≡ Ok texts → setup_of (records_of texts.roads.setup) ≡ Ok opened → opened.has_signals ≡ false
     → parts_of files ≡ Ok (record { scenario = opened.scenario; texts = texts; signals = None })
 unfolding parts_of
 parts_are files texts opened there is none = rw (there, is, none) refl
 
-filled_is : (texts : RoadTexts) (text : List ℕ) (opened : Opened) (linked roads split : ScenarioData) → AreFilled texts opened linked roads → with_file table.Splits roads text ≡ Ok split
+filled_is : (texts : RoadTexts) (text : List ℕ) (opened : Opened) (roads split : ScenarioData) → AreFilled texts opened roads → with_file table.Splits roads text ≡ Ok split
     → filled opened.scenario (case_texts texts text) None ≡ Ok split
 unfolding filled
-filled_is texts text opened linked roads split are read = rw (are.links, are.demand, read) refl
+filled_is texts text opened roads split are read = rw (are.fills, read) refl
 
 pub whole_case : (files : Files) (text : List ℕ) (roads split : ScenarioData) → unsplit_case_of files ≡ Ok roads → with_file table.Splits roads text ≡ Ok split → whole split ≡ Ok split
     → length text ≤ 16777216 → asks_for (with_splits_file files text) doc.Signals ≡ false → case_of (with_splits_file files text) ≡ Ok split
 whole_case files text roads split said read valid short unasked =
     let a = went_well (road_texts_of files) roads_in roads said in
     let texts : RoadTexts = a.0 in
-    let are : AreTexts files texts = texts_there files texts a.1 in
     let b = roads_there texts roads a.2 in
     let opened : Opened = b.0 in
-    let there : texts_of (with_splits_file files text) ≡ Ok (case_texts texts text) = texts_are files texts text are short in
-    let opens : setup_of (records_of texts.setup) ≡ Ok opened = b.2.opens in
+    let there : texts_of (with_splits_file files text) ≡ Ok (case_texts texts text) = texts_are files texts text a.1 short in
+    let opens : setup_of (records_of texts.setup) ≡ Ok opened = b.1.opens in
     let none : opened.has_signals ≡ false = sym (ap has_signals (opened_is (with_splits_file files text) (case_texts texts text) opened there opens)) ∙ unasked in
     ap (λ (r : Result CaseParts CaseFault). r >>= λ parts. built parts) (parts_are (with_splits_file files text) (case_texts texts text) opened there opens none)
-    ∙ ap (λ (r : Result ScenarioData CaseFault). r >>= λ s. whole s) (filled_is texts text opened b.1 roads split b.2 read)
+    ∙ ap (λ (r : Result ScenarioData CaseFault). r >>= λ s. whole s) (filled_is texts text opened roads split b.1 read)
     ∙ valid
 
 -- the same, where the folder tells its files

@@ -9,7 +9,8 @@ use Rattle.ltm_scenario.specs.Data.{ScenarioData}
 use Rattle.ltm_scenario.specs.IsScenario.{IsScenario}
 use Rattle.ltm_scenario.specs.Valid.{IsValid}
 use Rattle.ltm_casefile.specs.declared.tables.Table.TheVariants as table
-use Rattle.ltm_casefile.specs.Case.{case_of, asks_for, with_file, whole}
+use Rattle.ltm_casefile.specs.Tables.{with_file}
+use Rattle.ltm_casefile.specs.Case.{case_of, asks_for, whole}
 use Rattle.ltm_casefile.specs.Roads.{unsplit_case_of}
 use Rattle.ltm_routes.specs.Split.{RoutesData, AreAllRoutes, route_splits, with_splits}
 use Rattle.ltm_routing.specs.declared.lines.RouteLines.TheVariants as lines

@@ -3,10 +3,11 @@ use Rattle.std.proofs.Common.{◌≡◌, ℕ, ◌+◌, List, [], ◌∷◌, Ok, 
 use Rattle.ltm_scenario.specs.declared.edit.Edit.{Edit}
 use Rattle.ltm_scenario.specs.declared.edit.EditCause.{EditCause}
 use Rattle.ltm_scenario.specs.declared.setup.Setup.{Setup}
+use Rattle.ltm_scenario.specs.declared.side.Side.TheVariants.{Entry, Exit}
 use Rattle.ltm_scenario.specs.Data.{ScenarioData}
 use Rattle.ltm_scenario.specs.Shape.{SameShape}
 use Rattle.ltm_scenario.specs.Valid.{IsValid}
-use Rattle.ltm_scenario.specs.Build.{with_entry_limit, with_exit_limit}
+use Rattle.ltm_scenario.specs.Build.{with_limit_at}
 use Rattle.ltm_scenario.specs.Edits.{weights_at, with_diagram, edited, edited_from, at_place, slots_after, horizon_after}
 use Rattle.ltm_scenario.specs.Makes.{Makes, demand, entry, split, diagram, exit, horizon}
 use Rattle.ltm_scenario.proofs.Keeps.{split_kept, demand_kept, entry_kept, exit_kept, diagrams_kept, horizon_kept}
@@ -39,13 +40,13 @@ unfolding Keeps
 kept_by_edit s next edit (demand origin destination from to amount row said) =
     (alike s next refl refl refl, λ valid. demand_kept s row valid said.is_split)
 kept_by_edit s next edit (entry name from to amount link said) =
-    (alike s next refl refl refl, λ valid. entry_kept s (with_entry_limit s link from to amount.0).entry valid)
+    (alike s next refl refl refl, λ valid. entry_kept s (with_limit_at s Entry link from to amount.0).entry valid)
 kept_by_edit s next edit (split node destination from weights key said) =
     (alike s next refl refl refl, λ valid. split_kept s key (weights_at s key.node.0 weights) valid said.closed)
 kept_by_edit s next edit (diagram name new link named sets) =
     (alike s next refl refl refl, λ valid. diagrams_kept s (with_diagram s link new).diagrams valid)
 kept_by_edit s next edit (exit name from to amount link said) =
-    (alike s next refl refl refl, λ valid. exit_kept s (with_exit_limit s link from to amount.0).exit valid)
+    (alike s next refl refl refl, λ valid. exit_kept s (with_limit_at s Exit link from to amount.0).exit valid)
 kept_by_edit s next edit (horizon slots said) =
     (record { step = refl; slots = omega (arith, said.longer); origin_capacity = refl; network = refl; destinations = refl }, λ valid. horizon_kept s slots valid said.small)
 

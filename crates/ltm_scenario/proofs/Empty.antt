@@ -7,7 +7,7 @@ use Rattle.ltm_limits.proofs.Stays.{limits_whole}
 use Rattle.std.specs.List.Sorted.{IsStrictlySortedBy}
 use Rattle.ltm_demand.specs.Rows.{IsDemandRow}
 use Rattle.ltm_demand.specs.Kept.{AreDemandRows}
-use Rattle.ltm_splits.specs.WeightsLie.{AreWeights}
+use Rattle.ltm_splits.specs.Weights.{AreWeights}
 use Rattle.ltm_scenario.specs.declared.setup.Setup.{Setup}
 use Rattle.ltm_scenario.specs.declared.setup.SetupFault.{SetupFault}
 use Rattle.ltm_scenario.specs.declared.setup.SetupFault.TheVariants.{Range}

@@ -10,8 +10,8 @@ use Rattle.ltm_splits.specs.Rows.{SplitsData}
 use Rattle.ltm_scenario.specs.declared.tables.Tables.TheInside.{Inside}
 use Rattle.ltm_scenario.specs.declared.tables.undo.Undo.TheVariants.{Horizon}
 use Rattle.ltm_scenario.specs.Data.{ScenarioData}
-use Rattle.ltm_scenario.specs.Cells.{widths, cells, cells_over}
-use Rattle.ltm_scenario.specs.Horizon.{setup_over, with_slots, with_fewer_slots}
+use Rattle.ltm_scenario.specs.Cells.{widths, cells, cells_with, most_cells}
+use Rattle.ltm_scenario.specs.Horizon.{setup_over, with_slots, with_fewer_slots, MayReach}
 use Rattle.ltm_scenario.specs.State.{KeepsRoom}
 use Rattle.ltm_scenario.specs.IsScenario.{IsScenario}
 use Rattle.ltm_scenario.specs.Tables.{scenario_in, state_in, AreTables}
@@ -19,8 +19,8 @@ use Rattle.ltm_scenario.specs.Undo.{Undoes}
 use Rattle.ltm_scenario.proofs.Undoing.{undoes_by}
 use Rattle.ltm_scenario.proofs.Rooms.{room_stays}
 
-pub longer_cells : (s : ScenarioData) (slots : ℕ) → cells (with_slots s slots) ≡ cells_over s slots
-unfolding cells cells_over widths
+pub longer_cells : (s : ScenarioData) (slots : ℕ) → cells (with_slots s slots) ≡ cells_with s slots
+unfolding cells cells_with widths
 longer_cells s slots = refl
 
 -- rows within a horizon are within a longer one

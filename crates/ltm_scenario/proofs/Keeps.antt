@@ -18,7 +18,7 @@ use Rattle.ltm_scenario.specs.Horizon.{with_slots}
 use Rattle.ltm_scenario.specs.Valid.{IsValid, is_small, has_start, leads_on, all_lead_on, is_demand_split, is_split_begun, is_split_led}
 use Rattle.ltm_scenario.specs.Edits.{is_open}
 use Rattle.ltm_scenario.proofs.Kept.{split_exact, All-edited}
-use Rattle.ltm_scenario.proofs.Shapes.{cells_with}
+use Rattle.ltm_scenario.proofs.Shapes.{cells_rest_on}
 
 -- ---- tests
 or_right : (a b b' : Bool) → (b ≡ true → b' ≡ true) → (a || b) ≡ true → (a || b') ≡ true
@@ -98,6 +98,11 @@ start_of_row starts n d (x ∷ xs) all has =
       | false ↦ λ apart more. start_of_row starts n d xs (and_second (starts x.0.node.0 x.0.destination) _ all) more
     ] refl has
 
+-- what the cells rest on stays, and so do they
+still_small : (s next : ScenarioData) → next.setup ≡ s.setup → next.network ≡ s.network → next.destinations ≡ s.destinations → is_small s ≡ true → is_small next ≡ true
+still_small s next setup network destinations small =
+    ap (λ n. nat_le n (most_cells s)) (cells_rest_on s.setup s.network s.destinations next setup network destinations ∙ sym (cells_rest_on s.setup s.network s.destinations s refl refl refl)) ∙ small
+
 -- ---- one more split row
 abbrev with_rows : ScenarioData → List SplitRow → ScenarioData
 with_rows s rows = record s { splits = rows }
@@ -137,7 +142,7 @@ split_kept s key weights valid closed =
       splits_are_led = all_stays (is_split_led next) key weights s.splits
           (all_weaker (is_split_led s) (is_split_led next) (λ row. all_lead_stays s key weights row.0.node.0 row.0.destination row.1) s.splits valid.splits_are_led)
           (all_lead_stays s key weights key.node.0 key.destination weights (not_true _ parts.1));
-      small = ap (λ n. nat_le n most_cells) (cells_with s.setup s.network s.destinations next refl refl refl ∙ sym (cells_with s.setup s.network s.destinations s refl refl refl)) ∙ valid.small;
+      small = still_small s next refl refl refl valid.small;
     }
 
 -- ---- one more demand row
@@ -146,7 +151,7 @@ demand_kept s row valid split = record {
   demand_is_split = list_all-from_AllPass (is_demand_split s) (edited_rows s.demand row) (All-edited (λ r. is_demand_split s r ≡ true) s.demand row (AllPass-from_list_all (is_demand_split s) s.demand valid.demand_is_split) split);
   splits_are_begun = valid.splits_are_begun;
   splits_are_led = valid.splits_are_led;
-  small = ap (λ n. nat_le n most_cells) (cells_with s.setup s.network s.destinations (record s { demand = edited_rows s.demand row }) refl refl refl ∙ sym (cells_with s.setup s.network s.destinations s refl refl refl)) ∙ valid.small;
+  small = still_small s (record s { demand = edited_rows s.demand row }) refl refl refl valid.small;
 }
 
 -- ---- what no rule looks at
@@ -155,7 +160,7 @@ entry_kept s entry valid = record {
   demand_is_split = valid.demand_is_split;
   splits_are_begun = valid.splits_are_begun;
   splits_are_led = valid.splits_are_led;
-  small = ap (λ n. nat_le n most_cells) (cells_with s.setup s.network s.destinations (record s { entry = entry }) refl refl refl ∙ sym (cells_with s.setup s.network s.destinations s refl refl refl)) ∙ valid.small;
+  small = still_small s (record s { entry = entry }) refl refl refl valid.small;
 }
 
 pub exit_kept : (s : ScenarioData) (exit : List (List ℕ)) → IsValid s → IsValid (record s { exit = exit })
@@ -163,7 +168,7 @@ exit_kept s exit valid = record {
   demand_is_split = valid.demand_is_split;
   splits_are_begun = valid.splits_are_begun;
   splits_are_led = valid.splits_are_led;
-  small = ap (λ n. nat_le n most_cells) (cells_with s.setup s.network s.destinations (record s { exit = exit }) refl refl refl ∙ sym (cells_with s.setup s.network s.destinations s refl refl refl)) ∙ valid.small;
+  small = still_small s (record s { exit = exit }) refl refl refl valid.small;
 }
 
 pub diagrams_kept : (s : ScenarioData) (diagrams : List Rattle.ltm_diagram.specs.declared.diagram.Diagram.Diagram) → IsValid s → IsValid (record s { diagrams = diagrams })
@@ -171,7 +176,7 @@ diagrams_kept s diagrams valid = record {
   demand_is_split = valid.demand_is_split;
   splits_are_begun = valid.splits_are_begun;
   splits_are_led = valid.splits_are_led;
-  small = ap (λ n. nat_le n most_cells) (cells_with s.setup s.network s.destinations (record s { diagrams = diagrams }) refl refl refl ∙ sym (cells_with s.setup s.network s.destinations s refl refl refl)) ∙ valid.small;
+  small = still_small s (record s { diagrams = diagrams }) refl refl refl valid.small;
 }
 
 -- ---- the horizon

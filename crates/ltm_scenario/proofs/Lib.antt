@@ -12,6 +12,7 @@ pub mod Making
 pub mod Parts
 pub mod Places
 pub mod Ranges
+pub mod Reaching
 pub mod Rooms
 pub mod Shapes
 pub mod Undoing

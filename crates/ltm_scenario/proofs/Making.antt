@@ -16,14 +16,15 @@ use Rattle.ltm_splits.specs.Rows.{SplitRow, SplitsData, put_in, key_of}
 use Rattle.ltm_scenario.specs.declared.edit.Edit.TheVariants.{Demand, Limit, Split, Diagram as NewDiagram, Exit, Horizon}
 use Rattle.ltm_scenario.specs.declared.edit.EditCause.{EditCause}
 use Rattle.ltm_scenario.specs.declared.edit.EditCause.TheVariants.{UnknownName, UnknownDestination, NoOrigin, SameEnds, BadSlots, OpenSplit, ZeroWeight, Diagram as BadDiagram}
+use Rattle.ltm_scenario.specs.declared.side.Side.TheVariants.{Entry as AtEntry, Exit as AtExit}
 use Rattle.ltm_scenario.specs.Weights.{NamedWeight}
 use Rattle.ltm_scenario.specs.Data.{ScenarioData, demand_of, splits_of}
 use Rattle.ltm_scenario.specs.Reads.{destination_of, has_no_out_link, has_split}
-use Rattle.ltm_scenario.specs.Build.{with_demand, with_split, with_entry_limit, with_exit_limit, are_slots, ◌>>=◌}
+use Rattle.ltm_scenario.specs.Build.{with_demand, with_split, with_limit_at, are_slots, ◌>>=◌}
 use Rattle.ltm_scenario.specs.Edits.{caused, cause_of_demand, cause_of_split, cause_of_horizon, demand_row, limited_link, split_key, split_row, weights_at, is_open, is_out_link, diagram_edited, with_diagram}
 use Rattle.ltm_scenario.specs.declared.faults.HorizonFault.{HorizonFault}
 use Rattle.ltm_scenario.specs.declared.faults.HorizonFault.TheVariants.{BadSlots as HorizonSlots, CellsOver}
-use Rattle.ltm_scenario.specs.Cells.{cells_over, most_cells}
+use Rattle.ltm_scenario.specs.Cells.{cells_with, most_cells}
 use Rattle.ltm_scenario.specs.Horizon.{with_slots, with_horizon, is_longer}
 use Rattle.ltm_scenario.specs.Makes.{IsRowSaid, IsLinkSaid, IsSplitSaid, IsHorizonSaid, Makes, EditsMake, demand, entry, split, diagram, exit, horizon}
 use Rattle.ltm_scenario.proofs.Kept.{with_row_rows, with_split_row_rows}
@@ -136,11 +137,11 @@ chosen false r fault x is = cc
 horizon_said : (s next : ScenarioData) (slots : ℕ) → with_horizon s slots ≡ Ok next → IsHorizonSaid s slots × (with_slots s slots ≡ next)
 unfolding with_horizon
 horizon_said s next slots is =
-    let a = chosen (is_longer s slots) (if nat_le (cells_over s slots) most_cells then Ok (with_slots s slots) else Err (CellsOver (cells_over s slots))) HorizonSlots next is in
-    let b = chosen (nat_le (cells_over s slots) most_cells) (Ok (with_slots s slots)) (CellsOver (cells_over s slots)) next a.1 in
+    let a = chosen (is_longer s slots) (if nat_le (cells_with s slots) (most_cells s) then Ok (with_slots s slots) else Err (CellsOver (cells_with s slots))) HorizonSlots next is in
+    let b = chosen (nat_le (cells_with s slots) (most_cells s)) (Ok (with_slots s slots)) (CellsOver (cells_with s slots)) next a.1 in
     let same : with_slots s slots ≡ next = cc (b.1) in
     let longer = a.0 in
-    (record { longer = grind (longer, arith, nat_tests); within = grind (longer, arith, nat_tests); small = ap (λ n. nat_le n most_cells) (longer_cells s slots) ∙ b.0 }, same)
+    (record { longer = grind (longer, arith, nat_tests); within = grind (longer, arith, nat_tests); small = ap (λ n. nat_le n (most_cells s)) (longer_cells s slots) ∙ b.0 }, same)
 
 -- ---- each kind
 pub makes : EditsMake
@@ -150,8 +151,8 @@ makes s next (Demand origin destination from to amount) is =
     let same : next ≡ record s { demand = edited_rows s.demand r.0 } = with_demand_is s next r.0 (uncaused cause_of_demand (with_demand s r.0) next r.2) in
     subst (λ (z : ScenarioData). Makes s z (Demand origin destination from to amount)) (sym same) (demand origin destination from to amount r.0 (row_said s origin destination from to amount.0 r.0 r.1))
 makes s next (Limit name from to amount) is =
-    let l = bound (limited_link s name from to) (λ link. Ok (with_entry_limit s link from to amount.0)) next is in
-    let same : with_entry_limit s l.0 from to amount.0 ≡ next = cc (l.2) in
+    let l = bound (limited_link s name from to) (λ link. Ok (with_limit_at s AtEntry link from to amount.0)) next is in
+    let same : with_limit_at s AtEntry l.0 from to amount.0 ≡ next = cc (l.2) in
     subst (λ (z : ScenarioData). Makes s z (Limit name from to amount)) same (entry name from to amount l.0 (link_said s name from to l.0 l.1))
 makes s next (Split node destination from weights) is =
     let k = bound (split_key s node destination from weights) (λ key. split_row s key (weights_at s key.node.0 weights) >>= λ row. caused cause_of_split (with_split s row.0 row.1)) next is in
@@ -168,8 +169,8 @@ makes s next (NewDiagram name new) is =
     subst (λ (z : ScenarioData). Makes s z (NewDiagram name new)) same
     (diagram name new l.0 (was_found (find_link s.network name) UnknownName l.0 l.1) (ap is_ok (uncaused BadDiagram (limits_of new s.setup.step.0) d.0 d.1)))
 makes s next (Exit name from to amount) is =
-    let l = bound (limited_link s name from to) (λ link. Ok (with_exit_limit s link from to amount.0)) next is in
-    let same : with_exit_limit s l.0 from to amount.0 ≡ next = cc (l.2) in
+    let l = bound (limited_link s name from to) (λ link. Ok (with_limit_at s AtExit link from to amount.0)) next is in
+    let same : with_limit_at s AtExit l.0 from to amount.0 ≡ next = cc (l.2) in
     subst (λ (z : ScenarioData). Makes s z (Exit name from to amount)) same (exit name from to amount l.0 (link_said s name from to l.0 l.1))
 makes s next (Horizon slots) is =
     let said = horizon_said s next slots (uncaused cause_of_horizon (with_horizon s slots) next is) in

@@ -4,7 +4,8 @@ use Rattle.std.proofs.lemmas.Bool.Decides.{nat_tests}
 use Rattle.ltm_demand.specs.declared.row.DemandRow.{DemandRow}
 use Rattle.ltm_demand.specs.Rows.{DemandData, OriginRoom, IsNoLess, CanRestore, room_at, own_rows, amount_at}
 use Rattle.ltm_scenario.specs.declared.tables.undo.Undo.{Undo}
-use Rattle.ltm_scenario.specs.declared.tables.undo.Undo.TheVariants.{Demand, Entry, Exit, NewSplit, OldSplit, Diagram, Horizon}
+use Rattle.ltm_scenario.specs.declared.tables.undo.Undo.TheVariants.{Demand, Limit, NewSplit, OldSplit, Diagram, Horizon}
+use Rattle.ltm_scenario.specs.declared.side.Side.TheVariants.{Entry, Exit}
 use Rattle.ltm_scenario.specs.Data.{ScenarioData, demand_of}
 use Rattle.ltm_scenario.specs.State.{ScenarioState, KeepsRoom}
 use Rattle.ltm_scenario.specs.Undo.{undone, Fits, CanUndo, Undoes}
@@ -44,8 +45,8 @@ still_restores d room more row h can = record {
 fits_in_room : (s : ScenarioData) (a1 : List OriginRoom) (a2 a3 : ℕ) (b1 : List OriginRoom) (b2 b3 : ℕ) (undo : Undo) → ((o : ℕ) → IsNoLess (room_at a1 o) (room_at b1 o)) → a2 ≤ b2 → a3 ≤ b3 →
     Fits (record { scenario = s; demand_room = a1; entry_places = a2; exit_places = a3 }) undo → Fits (record { scenario = s; demand_room = b1; entry_places = b2; exit_places = b3 }) undo
 fits_in_room s a1 a2 a3 b1 b2 b3 (Demand row) h1 h2 h3 fits = still_restores (demand_of s) a1 b1 row h1 fits
-fits_in_room s a1 a2 a3 b1 b2 b3 (Entry link from was) h1 h2 h3 fits = (fits.0, fits.1, omega (arith, fits.2))
-fits_in_room s a1 a2 a3 b1 b2 b3 (Exit link from was) h1 h2 h3 fits = (fits.0, fits.1, omega (arith, fits.2))
+fits_in_room s a1 a2 a3 b1 b2 b3 (Limit Entry link from was) h1 h2 h3 fits = (fits.0, fits.1, omega (arith, fits.2))
+fits_in_room s a1 a2 a3 b1 b2 b3 (Limit Exit link from was) h1 h2 h3 fits = (fits.0, fits.1, omega (arith, fits.2))
 fits_in_room s a1 a2 a3 b1 b2 b3 (NewSplit key) h1 h2 h3 fits = tt
 fits_in_room s a1 a2 a3 b1 b2 b3 (OldSplit key was) h1 h2 h3 fits = fits
 fits_in_room s a1 a2 a3 b1 b2 b3 (Diagram link diagram limits) h1 h2 h3 fits = fits

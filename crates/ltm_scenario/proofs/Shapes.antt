@@ -4,7 +4,7 @@ use Rattle.std.specs.List.{range_with_len}
 use Rattle.ltm_network.specs.Network.{NetworkData, in_links, out_links}
 use Rattle.ltm_scenario.specs.declared.setup.Setup.{Setup}
 use Rattle.ltm_scenario.specs.Data.{ScenarioData}
-use Rattle.ltm_scenario.specs.Cells.{arms_of, width_of, widths, cells_of, cells_over, cells}
+use Rattle.ltm_scenario.specs.Cells.{arms_of, width_of, widths, cells_of, cells_with, cells}
 use Rattle.ltm_scenario.specs.Shape.{SameShape}
 
 -- the cells by what they rest on
@@ -14,11 +14,11 @@ cells_by setup network destinations =
     (length network.links) (length network.nodes) (length destinations)
 
 cells_are : (s : ScenarioData) → cells s ≡ cells_by s.setup s.network s.destinations
-unfolding cells cells_over widths cells_by
+unfolding cells cells_with widths cells_by
 cells_are s = refl
 
-pub cells_with : (setup : Setup) (network : NetworkData) (destinations : List ℕ) (s : ScenarioData) → s.setup ≡ setup → s.network ≡ network → s.destinations ≡ destinations → cells s ≡ cells_by setup network destinations
-cells_with setup network destinations s a b c = cells_are s ∙ (λ i. cells_by (a i) (b i) (c i))
+pub cells_rest_on : (setup : Setup) (network : NetworkData) (destinations : List ℕ) (s : ScenarioData) → s.setup ≡ setup → s.network ≡ network → s.destinations ≡ destinations → cells s ≡ cells_by setup network destinations
+cells_rest_on setup network destinations s a b c = cells_are s ∙ (λ i. cells_by (a i) (b i) (c i))
 
 -- the cells by what they rest on, of the setup the horizon alone
 by_slots : (a b : Setup) (network : NetworkData) (destinations : List ℕ) → a.slots ≡ b.slots → cells_by a network destinations ≡ cells_by b network destinations
@@ -27,6 +27,6 @@ by_slots a b network destinations same = ap (λ n. cells_by (record b { slots = 
 
 pub same_cells : (old new : ScenarioData) → SameShape old new → new.setup.slots ≡ old.setup.slots → cells new ≡ cells old
 same_cells old new same slots =
-    cells_with new.setup old.network old.destinations new refl same.network same.destinations
+    cells_rest_on new.setup old.network old.destinations new refl same.network same.destinations
     ∙ by_slots new.setup old.setup old.network old.destinations slots
     ∙ sym (cells_are old)

@@ -17,7 +17,8 @@ use Rattle.ltm_splits.specs.Rows as splits
 use Rattle.ltm_splits.specs.Rows.{SplitRow, SplitsData, put_back, row_of}
 use Rattle.ltm_scenario.specs.declared.tables.Tables.TheInside.{Inside}
 use Rattle.ltm_scenario.specs.declared.tables.undo.Undo.{Undo}
-use Rattle.ltm_scenario.specs.declared.tables.undo.Undo.TheVariants.{Demand, Entry, Exit, NewSplit, OldSplit, Diagram, Horizon}
+use Rattle.ltm_scenario.specs.declared.tables.undo.Undo.TheVariants.{Demand, Limit, NewSplit, OldSplit, Diagram, Horizon}
+use Rattle.ltm_scenario.specs.declared.side.Side.TheVariants.{Entry, Exit}
 use Rattle.ltm_scenario.specs.Data.{ScenarioData}
 use Rattle.ltm_scenario.specs.Diagrams.{DiagramsState}
 use Rattle.ltm_scenario.specs.State.{ScenarioState}
@@ -55,9 +56,9 @@ demand_restored t next row are is done =
     )
 
 -- ---- limits
-pub entry_restored : (t : Inside) (next : LimitsState) (link from : ℕ) (was : Vec ℕ) → AreTables t → IsScenario (undone (scenario_in t) (Entry link from was)) → next.limits ≡ with_values t.entry.limits link from was.items → next.slots ≡ t.entry.slots → (scenario_in (record t { entry = next }) ≡ undone (scenario_in t) (Entry link from was)) × AreTables (record t { entry = next })
+pub entry_restored : (t : Inside) (next : LimitsState) (link from : ℕ) (was : Vec ℕ) → AreTables t → IsScenario (undone (scenario_in t) (Limit Entry link from was)) → next.limits ≡ with_values t.entry.limits link from was.items → next.slots ≡ t.entry.slots → (scenario_in (record t { entry = next }) ≡ undone (scenario_in t) (Limit Entry link from was)) × AreTables (record t { entry = next })
 entry_restored t next link from was are is done slots =
-    let same : scenario_in (record t { entry = next }) ≡ undone (scenario_in t) (Entry link from was) = ap (λ ls. record (scenario_in t) { entry = ls }) done in (
+    let same : scenario_in (record t { entry = next }) ≡ undone (scenario_in t) (Limit Entry link from was) = ap (λ ls. record (scenario_in t) { entry = ls }) done in (
       same,
       record {
         scenario = subst IsScenario (sym same) is;
@@ -69,9 +70,9 @@ entry_restored t next link from was are is done slots =
       },
     )
 
-pub exit_restored : (t : Inside) (next : LimitsState) (link from : ℕ) (was : Vec ℕ) → AreTables t → IsScenario (undone (scenario_in t) (Exit link from was)) → next.limits ≡ with_values t.exit.limits link from was.items → next.slots ≡ t.exit.slots → (scenario_in (record t { exit = next }) ≡ undone (scenario_in t) (Exit link from was)) × AreTables (record t { exit = next })
+pub exit_restored : (t : Inside) (next : LimitsState) (link from : ℕ) (was : Vec ℕ) → AreTables t → IsScenario (undone (scenario_in t) (Limit Exit link from was)) → next.limits ≡ with_values t.exit.limits link from was.items → next.slots ≡ t.exit.slots → (scenario_in (record t { exit = next }) ≡ undone (scenario_in t) (Limit Exit link from was)) × AreTables (record t { exit = next })
 exit_restored t next link from was are is done slots =
-    let same : scenario_in (record t { exit = next }) ≡ undone (scenario_in t) (Exit link from was) = ap (λ ls. record (scenario_in t) { exit = ls }) done in (
+    let same : scenario_in (record t { exit = next }) ≡ undone (scenario_in t) (Limit Exit link from was) = ap (λ ls. record (scenario_in t) { exit = ls }) done in (
       same,
       record {
         scenario = subst IsScenario (sym same) is;
@@ -87,25 +88,24 @@ exit_restored t next link from was are is done slots =
 as_many : (from to count n places : ℕ) → from ≤ to → count ≡ to - from → to * n ≤ places → (from + count) * n ≤ places
 as_many from to count n places order is fits = subst (λ k. k * n ≤ places) (let e : to ≡ from + count = omega arith in e) fits
 
-pub entry_undoes : (t : Inside) (next : LimitsState) (link from to : ℕ) (was : Vec ℕ) → AreTables t → AreTables (record t { entry = next }) → link < length t.network.links → from ≤ to → to ≤ t.setup.slots → with_values next.limits link from was.items ≡ t.entry.limits → vec_len was ≡ to - from → to * length t.entry.limits ≤ next.places → Undoes (state_in t) (state_in (record t { entry = next })) (Entry link from was)
+pub entry_undoes : (t : Inside) (next : LimitsState) (link from to : ℕ) (was : Vec ℕ) → AreTables t → AreTables (record t { entry = next }) → link < length t.network.links → from ≤ to → to ≤ t.setup.slots → with_values next.limits link from was.items ≡ t.entry.limits → vec_len was ≡ to - from → to * length t.entry.limits ≤ next.places → Undoes (state_in t) (state_in (record t { entry = next })) (Limit Entry link from was)
 entry_undoes t next link from to was are are_next inside order within back count places =
     let long : length next.limits ≡ length t.entry.limits = are_next.scenario.entry.for_each ∙ sym are.scenario.entry.for_each in
-    undoes_by (state_in t) (state_in (record t { entry = next })) (Entry link from was) are.scenario
+    undoes_by (state_in t) (state_in (record t { entry = next })) (Limit Entry link from was) are.scenario
     (ap (λ ls. record (scenario_in t) { entry = ls }) back)
     (omega (arith, are_next.scenario.entry.for_each), omega arith, as_many from to (vec_len was) (length next.limits) next.places order count (subst (λ n. to * n ≤ next.places) (sym long) places))
 
-pub exit_undoes : (t : Inside) (next : LimitsState) (link from to : ℕ) (was : Vec ℕ) → AreTables t → AreTables (record t { exit = next }) → link < length t.network.links → from ≤ to → to ≤ t.setup.slots → with_values next.limits link from was.items ≡ t.exit.limits → vec_len was ≡ to - from → to * length t.exit.limits ≤ next.places → Undoes (state_in t) (state_in (record t { exit = next })) (Exit link from was)
+pub exit_undoes : (t : Inside) (next : LimitsState) (link from to : ℕ) (was : Vec ℕ) → AreTables t → AreTables (record t { exit = next }) → link < length t.network.links → from ≤ to → to ≤ t.setup.slots → with_values next.limits link from was.items ≡ t.exit.limits → vec_len was ≡ to - from → to * length t.exit.limits ≤ next.places → Undoes (state_in t) (state_in (record t { exit = next })) (Limit Exit link from was)
 exit_undoes t next link from to was are are_next inside order within back count places =
     let long : length next.limits ≡ length t.exit.limits = are_next.scenario.exit.for_each ∙ sym are.scenario.exit.for_each in
-    undoes_by (state_in t) (state_in (record t { exit = next })) (Exit link from was) are.scenario
+    undoes_by (state_in t) (state_in (record t { exit = next })) (Limit Exit link from was) are.scenario
     (ap (λ ls. record (scenario_in t) { exit = ls }) back)
     (omega (arith, are_next.scenario.exit.for_each), omega arith, as_many from to (vec_len was) (length next.limits) next.places order count (subst (λ n. to * n ≤ next.places) (sym long) places))
 
 -- ---- splits
 pub split_undoes : (t : Inside) (next : SplitsData) (key : SplitKey) (weights : List ℕ) (undo : Undo) → AreTables t → IsSplitNote t.splits.rows key undo → put_back next.rows key (row_of t.splits.rows key) ≡ t.splits.rows → row_of next.rows key ≡ Some weights → Undoes (state_in t) (state_in (record t { splits = next })) undo
 split_undoes t next key weights (Demand row) are note back stands = absurd note
-split_undoes t next key weights (Entry link from was) are note back stands = absurd note
-split_undoes t next key weights (Exit link from was) are note back stands = absurd note
+split_undoes t next key weights (Limit side link from was) are note back stands = absurd note
 split_undoes t next key weights (NewSplit at) are note back stands =
     undoes_by (state_in t) (state_in (record t { splits = next })) (NewSplit at) are.scenario
     (ap (λ (rs : List SplitRow). record (scenario_in t) { splits = rs }) (ap (splits.taken_out next.rows) note.0 ∙ ap (put_back next.rows key) (sym note.1) ∙ back))

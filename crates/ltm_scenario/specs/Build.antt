@@ -20,6 +20,8 @@ use Rattle.ltm_scenario.specs.declared.faults.LinkFault.{LinkFault}
 use Rattle.ltm_scenario.specs.declared.faults.LinkFault.TheVariants.{Network, Diagram as BadDiagram}
 use Rattle.ltm_scenario.specs.declared.faults.DestinationFault.{DestinationFault}
 use Rattle.ltm_scenario.specs.declared.faults.DestinationFault.TheVariants.{TooMany}
+use Rattle.ltm_scenario.specs.declared.side.Side.{Side}
+use Rattle.ltm_scenario.specs.declared.side.Side.TheVariants.{Entry, Exit}
 use Rattle.ltm_scenario.specs.Data.{ScenarioData, demand_of, splits_of}
 use Rattle.ltm_scenario.specs.Reads.{destination_of}
 
@@ -77,14 +79,20 @@ are_slots s from to = nat_lt from to && nat_le to s.setup.slots
 abbrev pub as_limit : ℕ → ℕ
 as_limit amount = min amount 32000
 
-abbrev pub with_entry_limit : ScenarioData → ℕ → ℕ → ℕ → ℕ → ScenarioData
-with_entry_limit s link from to amount = record s { entry = with_limit s.entry link from to (as_limit amount) }
+-- the entry limits, or the exit limits
+abbrev pub limits_at : ScenarioData → Side → List (List ℕ)
+limits_at s Entry = s.entry
+limits_at s Exit = s.exit
 
-abbrev pub with_exit_limit : ScenarioData → ℕ → ℕ → ℕ → ℕ → ScenarioData
-with_exit_limit s link from to amount = record s { exit = with_limit s.exit link from to (as_limit amount) }
+abbrev pub with_limits_at : ScenarioData → Side → List (List ℕ) → ScenarioData
+with_limits_at s Entry limits = record s { entry = limits }
+with_limits_at s Exit limits = record s { exit = limits }
+
+abbrev pub with_limit_at : ScenarioData → Side → ℕ → ℕ → ℕ → ℕ → ScenarioData
+with_limit_at s side link from to amount = with_limits_at s side (with_limit (limits_at s side) link from to (as_limit amount))
 
 abbrev pub with_exit : ScenarioData → ℕ → ℕ → ℕ → ℕ → Result ScenarioData DemandFault
-with_exit s link from to amount = if are_slots s from to then Ok (with_exit_limit s link from to amount) else Err BadSlots
+with_exit s link from to amount = if are_slots s from to then Ok (with_limit_at s Exit link from to amount) else Err BadSlots
 
 -- no split row stands at the node
 abbrev pub HasNoSplitAt : ScenarioData → ℕ → Type 0

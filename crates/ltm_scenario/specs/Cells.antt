@@ -30,11 +30,12 @@ cells_of slots widths links nodes destinations =
     slots * widths + 2 * (slots + 1) * (2 * links + nodes + 1) * destinations + 2 * links * slots
 
 -- what a loading of the scenario would keep over that many slots
-unfoldable pub cells_over : ScenarioData → ℕ → ℕ
-cells_over s slots = cells_of slots (widths s) (length s.network.links) (length s.network.nodes) (length s.destinations)
+unfoldable pub cells_with : ScenarioData → ℕ → ℕ
+cells_with s slots = cells_of slots (widths s) (length s.network.links) (length s.network.nodes) (length s.destinations)
 
 unfoldable pub cells : ScenarioData → ℕ
-cells s = cells_over s s.setup.slots
+cells s = cells_with s s.setup.slots
 
-abbrev pub most_cells : ℕ
-most_cells = 54000000
+-- the most cells that the case may have
+abbrev pub most_cells : ScenarioData → ℕ
+most_cells s = 54000000

@@ -21,12 +21,14 @@ use Rattle.ltm_scenario.specs.declared.edit.EditCause.{EditCause}
 use Rattle.ltm_scenario.specs.declared.edit.EditCause.TheVariants.{UnknownName, UnknownDestination, NoOrigin, SameEnds, BadSlots, OpenSplit, ZeroWeight, TooManyRows, Diagram as BadDiagram, CellsOver, NoMemory}
 use Rattle.ltm_scenario.specs.declared.faults.HorizonFault.{HorizonFault}
 use Rattle.ltm_scenario.specs.declared.faults.HorizonFault.TheVariants.{BadSlots as HorizonSlots, CellsOver as HorizonCells, NoMemory as HorizonMemory}
+use Rattle.ltm_scenario.specs.declared.side.Side.{Side}
+use Rattle.ltm_scenario.specs.declared.side.Side.TheVariants.{Entry as AtEntry, Exit as AtExit}
 use Rattle.ltm_scenario.specs.Weights.{NamedWeight}
 use Rattle.ltm_scenario.specs.Data.{ScenarioData}
 use Rattle.ltm_scenario.specs.Reads.{destination_of, has_no_out_link, has_split}
 use Rattle.ltm_scenario.specs.Valid.{all_lead_on}
 use Rattle.ltm_scenario.specs.Horizon.{with_horizon}
-use Rattle.ltm_scenario.specs.Build.{with_demand, with_split, with_entry_limit, with_exit_limit, are_slots, ◌>>=◌}
+use Rattle.ltm_scenario.specs.Build.{with_demand, with_split, with_limit_at, are_slots, ◌>>=◌}
 
 abbrev pub cause_of_demand : DemandFault → EditCause
 cause_of_demand DemandSlots = BadSlots
@@ -74,11 +76,8 @@ limited_link s name from to =
     refuse (not (are_slots s from to)) BadSlots >>= λ _.
     Ok link
 
-abbrev pub limit_edited : ScenarioData → List ℕ → ℕ → ℕ → ℕ → Result ScenarioData EditCause
-limit_edited s name from to amount = limited_link s name from to >>= λ link. Ok (with_entry_limit s link from to amount)
-
-abbrev pub exit_edited : ScenarioData → List ℕ → ℕ → ℕ → ℕ → Result ScenarioData EditCause
-exit_edited s name from to amount = limited_link s name from to >>= λ link. Ok (with_exit_limit s link from to amount)
+abbrev pub limit_edited : ScenarioData → Side → List ℕ → ℕ → ℕ → ℕ → Result ScenarioData EditCause
+limit_edited s side name from to amount = limited_link s name from to >>= λ link. Ok (with_limit_at s side link from to amount)
 
 -- ---- splits
 -- the name is that of an out-link of the node
@@ -140,10 +139,10 @@ horizon_edited s slots = caused cause_of_horizon (with_horizon s slots)
 -- ---- one edit, and a batch
 abbrev pub edited : ScenarioData → Edit → Result ScenarioData EditCause
 edited s (Demand origin destination from to amount) = demand_edited s origin destination from to amount.0
-edited s (Limit link from to amount) = limit_edited s link from to amount.0
+edited s (Limit link from to amount) = limit_edited s AtEntry link from to amount.0
 edited s (Split node destination from weights) = split_edited s node destination from weights
 edited s (NewDiagram link diagram) = diagram_edited s link diagram
-edited s (Exit link from to amount) = exit_edited s link from to amount.0
+edited s (Exit link from to amount) = limit_edited s AtExit link from to amount.0
 edited s (Horizon slots) = horizon_edited s slots
 
 abbrev pub at_place : {A : Type 0} → ℕ → Result A EditCause → Result A EditFault

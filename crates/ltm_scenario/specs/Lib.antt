@@ -17,5 +17,4 @@ pub mod Tables
 pub mod Undo
 pub mod Valid
 pub mod Weights
-pub mod WeightsBack
 pub mod Timed

@@ -10,11 +10,12 @@ use Rattle.ltm_splits.specs.declared.keys.SplitKey.{SplitKey}
 use Rattle.ltm_splits.specs.Rows.{put_in}
 use Rattle.ltm_scenario.specs.declared.edit.Edit.{Edit}
 use Rattle.ltm_scenario.specs.declared.edit.Edit.TheVariants.{Demand, Limit, Split, Diagram as NewDiagram, Exit, Horizon}
+use Rattle.ltm_scenario.specs.declared.side.Side.TheVariants.{Entry as AtEntry, Exit as AtExit}
 use Rattle.ltm_scenario.specs.Weights.{NamedWeight}
 use Rattle.ltm_scenario.specs.Data.{ScenarioData}
 use Rattle.ltm_scenario.specs.Reads.{destination_of}
 use Rattle.ltm_scenario.specs.Valid.{is_demand_split, is_small}
-use Rattle.ltm_scenario.specs.Build.{with_entry_limit, with_exit_limit}
+use Rattle.ltm_scenario.specs.Build.{with_limit_at}
 use Rattle.ltm_scenario.specs.Horizon.{with_slots}
 use Rattle.ltm_scenario.specs.Edits.{edited, weights_at, is_open, with_diagram}
 
@@ -58,13 +59,13 @@ pub data Makes (s : ScenarioData) : ScenarioData → Edit → Type 0 where
   demand : (origin destination : List ℕ) (from to : ℕ) (amount : Units) (row : DemandRow) → IsRowSaid s origin destination from to amount.0 row →
       Makes s (record s { demand = edited_rows s.demand row }) (Demand origin destination from to amount)
   entry : (name : List ℕ) (from to : ℕ) (amount : Units) (link : ℕ) → IsLinkSaid s name from to link →
-      Makes s (with_entry_limit s link from to amount.0) (Limit name from to amount)
+      Makes s (with_limit_at s AtEntry link from to amount.0) (Limit name from to amount)
   split : (node destination : List ℕ) (from : ℕ) (weights : List NamedWeight) (key : SplitKey) → IsSplitSaid s node destination from weights key →
       Makes s (record s { splits = put_in s.splits key (weights_at s key.node.0 weights) }) (Split node destination from weights)
   diagram : (name : List ℕ) (new : Diagram) (link : ℕ) → find_link s.network name ≡ Some link → IsOk (limits_of new s.setup.step.0) →
       Makes s (with_diagram s link new) (NewDiagram name new)
   exit : (name : List ℕ) (from to : ℕ) (amount : Units) (link : ℕ) → IsLinkSaid s name from to link →
-      Makes s (with_exit_limit s link from to amount.0) (Exit name from to amount)
+      Makes s (with_limit_at s AtExit link from to amount.0) (Exit name from to amount)
   horizon : (slots : ℕ) → IsHorizonSaid s slots → Makes s (with_slots s slots) (Horizon slots)
 
 abbrev pub EditsMake : Type 0

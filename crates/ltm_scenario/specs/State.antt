@@ -2,6 +2,8 @@
 use Rattle.std.specs.Prelude.{ℕ, ◌≤◌, List}
 use Rattle.ltm_demand.specs.Rows as demand
 use Rattle.ltm_demand.specs.Rows.{DemandState, OriginRoom}
+use Rattle.ltm_scenario.specs.declared.side.Side.{Side}
+use Rattle.ltm_scenario.specs.declared.side.Side.TheVariants.{Entry, Exit}
 use Rattle.ltm_scenario.specs.Data.{ScenarioData, demand_of}
 
 -- the data, and beside them what can be written again without memory: further demand rows, entry and exit limits
@@ -14,6 +16,11 @@ pub record ScenarioState : Type 0 where
 -- the demand as its crate sees it, with its room
 abbrev pub demand_state : ScenarioState → DemandState
 demand_state s = record { demand = demand_of s.scenario; room = s.demand_room }
+
+-- how many entry limits, or exit limits, can be written again without memory
+abbrev pub places_at : ScenarioState → Side → ℕ
+places_at s Entry = s.entry_places
+places_at s Exit = s.exit_places
 
 -- the room is no less than it was
 pub record KeepsRoom (old new : ScenarioState) : Type 0 where

@@ -4,19 +4,19 @@ use Rattle.ltm_limits.specs.Limits.{with_values}
 use Rattle.ltm_diagram.specs.Limits.{limits_of}
 use Rattle.ltm_demand.specs.Rows.{CanRestore, edited as edited_rows}
 use Rattle.ltm_splits.specs.Rows.{taken_out, put_in, row_of}
-use Rattle.ltm_splits.specs.WeightsLie.{AreWeights}
+use Rattle.ltm_splits.specs.Weights.{AreWeights}
 use Rattle.ltm_scenario.specs.declared.tables.undo.Undo.{Undo}
-use Rattle.ltm_scenario.specs.declared.tables.undo.Undo.TheVariants.{Demand, Entry, Exit, NewSplit, OldSplit, Diagram, Horizon}
+use Rattle.ltm_scenario.specs.declared.tables.undo.Undo.TheVariants.{Demand, Limit, NewSplit, OldSplit, Diagram, Horizon}
 use Rattle.ltm_scenario.specs.Data.{ScenarioData}
 use Rattle.ltm_scenario.specs.Horizon.{with_fewer_slots}
-use Rattle.ltm_scenario.specs.State.{ScenarioState, demand_state}
+use Rattle.ltm_scenario.specs.Build.{limits_at, with_limits_at}
+use Rattle.ltm_scenario.specs.State.{ScenarioState, demand_state, places_at}
 use Rattle.ltm_scenario.specs.IsScenario.{IsScenario}
 
 -- what undoing makes of a scenario
 abbrev pub undone : ScenarioData → Undo → ScenarioData
 undone s (Demand row) = record s { demand = edited_rows s.demand row }
-undone s (Entry link from was) = record s { entry = with_values s.entry link from was.items }
-undone s (Exit link from was) = record s { exit = with_values s.exit link from was.items }
+undone s (Limit side link from was) = with_limits_at s side (with_values (limits_at s side) link from was.items)
 undone s (NewSplit key) = record s { splits = taken_out s.splits key }
 undone s (OldSplit key was) = record s { splits = put_in s.splits key was.items }
 undone s (Diagram link diagram limits) = record s { diagrams = slice_set s.diagrams link diagram }
@@ -25,8 +25,7 @@ undone s (Horizon slots) = with_fewer_slots s slots
 -- what undoing asks of the tables, so that it needs no memory
 abbrev pub Fits : ScenarioState → Undo → Type 0
 Fits s (Demand row) = CanRestore (demand_state s) row
-Fits s (Entry link from was) = (link < length s.scenario.entry) × (from + vec_len was ≤ s.scenario.setup.slots) × ((from + vec_len was) * length s.scenario.entry ≤ s.entry_places)
-Fits s (Exit link from was) = (link < length s.scenario.exit) × (from + vec_len was ≤ s.scenario.setup.slots) × ((from + vec_len was) * length s.scenario.exit ≤ s.exit_places)
+Fits s (Limit side link from was) = let links = length (limits_at s.scenario side) in (link < links) × (from + vec_len was ≤ s.scenario.setup.slots) × ((from + vec_len was) * links ≤ places_at s side)
 Fits s (NewSplit key) = Unit {0}
 Fits s (OldSplit key was) = IsSome (row_of s.scenario.splits key) × AreWeights was.items
 Fits s (Diagram link diagram limits) = (link < length s.scenario.diagrams) × (limits_of diagram s.scenario.setup.step.0 ≡ Ok limits)

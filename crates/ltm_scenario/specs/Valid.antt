@@ -36,7 +36,7 @@ is_split_led s row = all_lead_on s row.0.node.0 row.0.destination row.1
 
 -- 4. the cells are few
 abbrev pub is_small : ScenarioData → Bool
-is_small s = nat_le (cells s) most_cells
+is_small s = nat_le (cells s) (most_cells s)
 
 pub record IsValid (s : ScenarioData) : Type 0 where
   pub demand_is_split : list_all (is_demand_split s) s.demand ≡ true

@@ -1,5 +1,5 @@
 -- Weights by the names of out-links.
-use Rattle.std.specs.Prelude.{ℕ, ◌-◌, ◌&&◌, not, Bool, true, nat_le, List, [], ◌∷◌, ◌++◌, length, replicate, slice_index_or}
+use Rattle.std.specs.Prelude.{ℕ, ◌&&◌, not, Bool, true, nat_le, List, [], ◌∷◌, length, Option, Some, None, if◌then◌else◌}
 use Rattle.std.specs.List.{list_any}
 use Rattle.ltm_network.specs.Names.{same}
 
@@ -19,6 +19,6 @@ are_apart (w ∷ ws) = not (is_named w.0 ws) && are_apart ws
 abbrev pub are_weights : List NamedWeight → Bool
 are_weights weights = nat_le 1 (length weights) && nat_le (length weights) 4 && are_apart weights
 
--- the weights in four places, the rest of which repeat the first
-abbrev pub padded : List NamedWeight → List NamedWeight
-padded weights = weights ++ replicate (4 - length weights) (slice_index_or weights 0 ([], 0))
+-- the weights, where they are such
+abbrev pub as_weights : List NamedWeight → Option (List NamedWeight)
+as_weights weights = if are_weights weights then Some weights else None

@@ -2,7 +2,7 @@
 ghost use Rattle.std.specs.Prelude.{◌≡◌, ℕ, ◌+◌, ◌*◌, ◌<◌, ◌≤◌, List, [], All, length, map};
 ghost use Rattle.std.specs.List.{list_all, zip};
 ghost use Rattle.ltm_scenario.specs.Reads.{has_split};
-ghost use Rattle.ltm_scenario.specs.Cells.{width, widths, cells, cells_over, cells_of};
+ghost use Rattle.ltm_scenario.specs.Cells.{width, widths, cells, cells_with, cells_of, most_cells};
 ghost use Rattle.ltm_scenario.specs.Valid.{has_start, leads_on};
 ghost use Rattle.ltm_scenario.specs.Check.{no_split, first_over, demand_row_checked, weight_checked, split_row_checked, cells_checked, checked};
 ghost use Rattle.ltm_scenario.specs.IsScenario.{IsDemandOf, IsSplitOf};
@@ -13,22 +13,26 @@ use ltm_demand::DemandRow;
 use ltm_splits::SplitKey;
 use ltm_units::{LinkId, NodeId};
 
-/// The most cells of a case.
-pub const MOST_CELLS: u128 = 54_000_000;
-
 impl Tables {
     /// How many cells a loading has: the numbers that its pairs read, the counts of two sets of curves, and the limits.
     #[tactic(auto, unfolding(crate::specs::Cells::cells))]
     pub fn cells(&self) -> u128
         ensures { result ≡ cells self.now.scenario }
     {
-        self.cells_over(self.setup().slots)
+        self.cells_with(self.setup().slots)
+    }
+
+    /// The most cells that the case may have: the same for every case.
+    pub fn most_cells(&self) -> u128
+        ensures { result ≡ most_cells self.now.scenario }
+    {
+        54_000_000
     }
 
     /// How many it would have over that many slots.
-    #[tactic(auto, unfolding(crate::specs::Cells::cells_over))]
-    pub fn cells_over(&self, slots: u32) -> u128
-        ensures { result ≡ cells_over self.now.scenario slots }
+    #[tactic(auto, unfolding(crate::specs::Cells::cells_with))]
+    pub fn cells_with(&self, slots: u32) -> u128
+        ensures { result ≡ cells_with self.now.scenario slots }
     {
         let network = self.network();
         cells_of(
@@ -158,7 +162,7 @@ impl Tables {
         ensures { result ≡ cells_checked self.now.scenario }
     {
         let cells = self.cells();
-        if cells <= MOST_CELLS {
+        if cells <= self.most_cells() {
             return Ok(());
         }
         Err(ScenarioFault::CellsOver(cells))

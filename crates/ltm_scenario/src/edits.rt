@@ -2,7 +2,7 @@
 ghost use Rattle.std.specs.Prelude.{◌≡◌, ◌≢◌, ℕ, ◌+◌, ◌<◌, ◌≤◌, ◌^◌, List, [], All, length, map, Ok, Err, OnOk, OnErr, IfOk, IfErr, sum, ◌==◌, false, true};
 ghost use Rattle.ltm_scenario.specs.Reads.{has_no_out_link};
 ghost use Rattle.ltm_scenario.specs.Build.{are_slots};
-ghost use Rattle.ltm_scenario.specs.Edits.{demand_row, demand_edited, limited_link, limit_edited, exit_edited, diagram_edited, horizon_edited, edited, edited_from, cause_of_demand, cause_of_horizon, amount_of, HaveAmounts};
+ghost use Rattle.ltm_scenario.specs.Edits.{demand_row, demand_edited, limited_link, limit_edited, diagram_edited, horizon_edited, edited, edited_from, cause_of_demand, cause_of_horizon, amount_of, HaveAmounts};
 ghost use Rattle.ltm_scenario.specs.State.{KeepsRoom};
 ghost use Rattle.ltm_scenario.specs.Undo.{Undoes};
 ghost use Rattle.ltm_scenario.specs.IsScenario.{IsDemandOf};
@@ -11,6 +11,7 @@ mod split;
 
 use crate::edit::{Edit, EditCause, EditFault};
 use crate::faults::HorizonFault;
+use crate::side::Side;
 use crate::tables::Tables;
 use crate::tables::undo::Undo;
 use ltm_demand::{DemandFault, DemandRow};
@@ -86,7 +87,7 @@ impl Tables {
                 from,
                 to,
                 amount,
-            } => return self.edit_entry(&link, from, to, amount),
+            } => return self.edit_limit(Side::Entry, &link, from, to, amount),
             Edit::Split {
                 node,
                 destination,
@@ -99,7 +100,7 @@ impl Tables {
                 from,
                 to,
                 amount,
-            } => return self.edit_exit(&link, from, to, amount),
+            } => return self.edit_limit(Side::Exit, &link, from, to, amount),
             Edit::Horizon { slots } => return self.edit_horizon(slots),
         }
     }
@@ -204,49 +205,26 @@ impl Tables {
         Ok(link.0)
     }
 
-    fn edit_entry(
+    fn edit_limit(
         &mut self,
+        side: Side,
         name: &Name,
         from: u32,
         to: u32,
         amount: Units,
     ) -> Result<Undo, EditCause>
-        ensures ok { OnOk result (limit_edited self.old.scenario name.now from to amount.0 ≡ Ok self.new.scenario) }
+        ensures ok { OnOk result (limit_edited self.old.scenario side name.now from to amount.0 ≡ Ok self.new.scenario) }
         ensures undo { IfOk result (Undoes self.old self.new) }
         ensures err { OnErr result (self.new.scenario ≡ self.old.scenario) }
         ensures cause { IfErr result (λ e. e ≢ EditCause.NoMemory
-            → limit_edited self.old.scenario name.now from to amount.0 ≡ Err e) }
+            → limit_edited self.old.scenario side name.now from to amount.0 ≡ Err e) }
         ensures room { KeepsRoom self.old self.new }
     {
         let link = match self.limited_link(name, from, to) {
             Ok(link) => link,
             Err(cause) => return Err(cause),
         };
-        match self.change_entry(link, from, to, amount) {
-            Ok(undo) => return Ok(undo),
-            Err(_) => return Err(EditCause::NoMemory),
-        }
-    }
-
-    fn edit_exit(
-        &mut self,
-        name: &Name,
-        from: u32,
-        to: u32,
-        amount: Units,
-    ) -> Result<Undo, EditCause>
-        ensures ok { OnOk result (exit_edited self.old.scenario name.now from to amount.0 ≡ Ok self.new.scenario) }
-        ensures undo { IfOk result (Undoes self.old self.new) }
-        ensures err { OnErr result (self.new.scenario ≡ self.old.scenario) }
-        ensures cause { IfErr result (λ e. e ≢ EditCause.NoMemory
-            → exit_edited self.old.scenario name.now from to amount.0 ≡ Err e) }
-        ensures room { KeepsRoom self.old self.new }
-    {
-        let link = match self.limited_link(name, from, to) {
-            Ok(link) => link,
-            Err(cause) => return Err(cause),
-        };
-        match self.change_exit(link, from, to, amount) {
+        match self.change_limit(side, link, from, to, amount) {
             Ok(undo) => return Ok(undo),
             Err(_) => return Err(EditCause::NoMemory),
         }

@@ -17,6 +17,7 @@ mod faults;
 mod laws;
 mod scenario;
 mod setup;
+mod side;
 mod tables;
 mod weights;
 

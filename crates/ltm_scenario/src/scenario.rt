@@ -1,5 +1,5 @@
 //! The scenario.
-ghost use Rattle.std.specs.Prelude.{◌≡◌, ◌≢◌, ℕ, ◌<◌, ◌≤◌, ◌↔◌, length, map, slice_get, Some, Ok, Err, IsOk, OnOk, OnErr, IfOk, IfErr, IfSome};
+ghost use Rattle.std.specs.Prelude.{◌≡◌, ◌≢◌, ℕ, ◌<◌, ◌≤◌, ◌↔◌, length, map, slice_get, Some, Ok, Err, IsOk, IsTrue, OnOk, OnErr, IfOk, IfErr, IfSome};
 ghost use Rattle.ltm_limits.specs.Limits.{limit_at};
 ghost use Rattle.ltm_diagram.specs.Limits.{limits_of};
 ghost use Rattle.ltm_diagram.specs.Delays.{AreDelays};
@@ -12,7 +12,7 @@ ghost use Rattle.ltm_scenario.specs.Cells.{cells};
 ghost use Rattle.ltm_scenario.specs.Valid.{IsValid};
 ghost use Rattle.ltm_scenario.specs.Check.{checked};
 ghost use Rattle.ltm_scenario.specs.Build.{with_link, with_destination, with_demand, with_split, with_exit, HasNoSplitAt};
-ghost use Rattle.ltm_scenario.specs.Horizon.{with_horizon};
+ghost use Rattle.ltm_scenario.specs.Horizon.{with_horizon, MayReach};
 ghost use Rattle.ltm_scenario.specs.Edits.{edited_all, horizon_after, HaveAmounts};
 ghost use Rattle.ltm_scenario.specs.Shape.{SameShape};
 ghost use Rattle.ltm_scenario.specs.IsScenario.{IsScenario, IsDemandOf, IsSplitOf};
@@ -22,7 +22,7 @@ mod rows;
 use crate::batch::Batch;
 use crate::edit::{EditCause, EditFault};
 use crate::faults::{DestinationFault, HorizonFault, LinkFault, ScenarioFault};
-use crate::setup::{Setup, SetupFault};
+use crate::setup::{MOST_SLOTS, Setup, SetupFault};
 use crate::tables::Tables;
 use ltm_demand::{Demand, DemandFault, DemandRow};
 use ltm_diagram::{Delays, Diagram, Limits};
@@ -166,6 +166,24 @@ impl Scenario {
         }
     }
 
+    /// Whether the scenario may have that horizon: no shorter than its own, of at most 10,000 slots, and with no more cells
+    /// than it may have. It takes no memory, and costs next to nothing where it is the present one, else a pass over the
+    /// nodes.
+    #[tactic(auto, using(crate::proofs::Reaching::may_stay, crate::proofs::Reaching::may_grow))]
+    pub fn may_reach(&self, slots: u32) -> bool
+        requires { IsValid self.now }
+        ensures { IsTrue result ↔ MayReach self.now slots }
+    {
+        let now = self.setup().slots;
+        if slots == now {
+            return true;
+        }
+        if slots < now || slots > MOST_SLOTS {
+            return false;
+        }
+        self.tables.cells_with(slots) <= self.tables.most_cells()
+    }
+
     /// Whether the case is valid, or the first broken rule: demand rows in order of origin and destination, then split
     /// rows in order of node, destination and first slot, then the number of cells. It takes no memory.
     #[tactic(auto, using(crate::proofs::Validity::valid_is_checked))]
@@ -188,7 +206,7 @@ impl Scenario {
     /// with its cause. A valid scenario stays valid; its shape stays, but that the horizon may grow, and its cells with it.
     ///
     /// Each amount is at most 1,000,000,000 units. It costs about what the edits touch.
-    #[tactic(auto, using(crate::proofs::Batches::batch_keeps_valid, crate::proofs::Batches::batch_keeps_shape, crate::proofs::Batches::shape_stays, crate::proofs::Batches::batch_sets_horizon, crate::proofs::Shapes::same_cells))]
+    #[tactic(auto, using(crate::proofs::Batches::batch_keeps_valid, crate::proofs::Batches::batch_keeps_shape, crate::proofs::Batches::shape_stays, crate::proofs::Batches::batch_sets_horizon, crate::proofs::Shapes::same_cells, crate::proofs::Reaching::batch_reaches))]
     pub fn accept(&mut self, batch: &Batch) -> Result<(), EditFault>
         requires valid { IsValid self.old }
         requires amounts { HaveAmounts batch.now }
@@ -203,11 +221,15 @@ impl Scenario {
         ensures valid { IsValid self.new }
         ensures shape { SameShape self.old self.new }
         ensures horizon { OnOk result (self.new.setup.slots ≡ horizon_after self.old.setup.slots batch.now) }
+        ensures reach { OnOk result (MayReach self.old (horizon_after self.old.setup.slots batch.now)) }
         ensures cells { self.new.setup.slots ≡ self.old.setup.slots → cells self.new ≡ cells self.old }
     {
         let edits = batch.edits();
         match self.tables.accept_from(1, edits) {
-            Ok(()) => return Ok(()),
+            Ok(()) => {
+                let _after = self.setup();
+                return Ok(());
+            }
             Err(fault) => return Err(fault),
         }
     }

@@ -3,6 +3,9 @@ ghost use Rattle.std.specs.Prelude.{◌≡◌, ◌&&◌};
 
 use ltm_units::{Millis, Units};
 
+/// The most slots of a horizon.
+pub const MOST_SLOTS: u32 = 10_000;
+
 /// How long a slot is, how many there are, and what leaves an origin in one.
 #[derive(Clone, Copy, Debug, PartialEq, Eq)]
 pub struct Setup {
@@ -31,7 +34,7 @@ impl Setup {
         if !(1..=60_000).contains(&self.step.0) {
             return Err(SetupFault::Range(1));
         }
-        if !(1..=10_000).contains(&self.slots) {
+        if !(1..=MOST_SLOTS).contains(&self.slots) {
             return Err(SetupFault::Range(2));
         }
         if !(1..=32_000).contains(&self.origin_capacity.0) {

@@ -1,48 +1,38 @@
 //! Weights by the names of out-links.
-ghost use Rattle.std.specs.Prelude.{◌≡◌, Some, None, true, if◌then◌else◌};
-ghost use Rattle.ltm_scenario.specs.Weights.{are_weights, are_apart, is_named};
+ghost use Rattle.std.specs.Prelude.{◌≡◌, true};
+ghost use Rattle.ltm_scenario.specs.Weights.{are_weights, as_weights, are_apart, is_named};
 
-use ltm_units::Name;
+use ltm_units::{Four, Name};
 use std::marker::Model;
 
 /// One to four weights, each with the name of an out-link, no name twice. Contracts see the list of the pairs.
 #[derive(Clone, Copy)]
 pub struct Weights {
-    pairs: [(Name, u32); 4],
-    count: u8,
+    pairs: Four<(Name, u32)>,
 }
 
 impl Model for Weights {
-    ghost use Rattle.std.specs.Prelude.{◌≡◌, ◌≤◌, true, List, length, take};
-    ghost use Rattle.ltm_scenario.specs.Weights.{NamedWeight, are_weights, padded};
+    ghost use Rattle.std.specs.Prelude.{◌≡◌, true, List};
+    ghost use Rattle.ltm_scenario.specs.Weights.{NamedWeight, are_weights};
 
     ghost Value = { List NamedWeight };
 
-    ghost use Rattle.ltm_scenario.specs.WeightsBack.{gives_back};
+    ghost view = { λ w. w.pairs };
 
-    ghost view = { λ w. take w.count w.pairs };
+    ghost invariant = { λ w. are_weights w.pairs ≡ true };
 
-    ghost invariant = { λ w. (are_weights (take w.count w.pairs) ≡ true) × (w.count ≤ 4) × (w.pairs ≡ padded (take w.count w.pairs)) };
-
-    ghost inverse = { λ weights. record { pairs = padded weights; count = length weights } };
-
-    ghost inverse_ok = { gives_back };
+    ghost inverse = { λ weights. record { pairs = weights } };
 }
 
 impl Weights {
-    /// The weights, where the list has one to four pairs with distinct names.
-    pub fn of(pairs: &[(Name, u32)]) -> Option<Weights>
-        ensures { result ≡ (if are_weights pairs.now then Some pairs.now else None) }
+    /// The weights, where no name stands twice.
+    pub fn of(pairs: Four<(Name, u32)>) -> Option<Weights>
+        ensures { result ≡ as_weights pairs }
     {
-        if !are_valid(pairs) {
+        if !are_apart(pairs.as_slice()) {
             return None;
         }
-        let mut places = [pairs[0]; 4];
-        places[..pairs.len()].copy_from_slice(pairs);
-        Some(Weights {
-            pairs: places,
-            count: pairs.len() as u8,
-        })
+        Some(Weights { pairs })
     }
 
     /// The names with their weights.
@@ -50,14 +40,8 @@ impl Weights {
         ensures pairs { result.now ≡ self.now }
         ensures valid { are_weights self.now ≡ true }
     {
-        &self.pairs[..self.count as usize]
+        self.pairs.as_slice()
     }
-}
-
-fn are_valid(pairs: &[(Name, u32)]) -> bool
-    ensures { result ≡ are_weights pairs.now }
-{
-    !pairs.is_empty() && pairs.len() <= 4 && are_apart(pairs)
 }
 
 /// Whether no name stands twice.

@@ -9,8 +9,8 @@ use Rattle.std.specs.Prelude.{String, string_bytes, option_and_then}
 use Rattle.std.specs.declared.alloc.Global.{Global}
 use Rattle.serde_json.specs.View.{view, members_view}
 use Rattle.serde_json.specs.declared.value.Value.{Value}
-use Rattle.ltm_scenario.specs.Weights.{NamedWeight, are_weights, are_apart}
-use Rattle.ltm_script.specs.Weights.{weight_of, weights_of, before, as_weights}
+use Rattle.ltm_scenario.specs.Weights.{NamedWeight, are_weights, are_apart, as_weights}
+use Rattle.ltm_script.specs.Weights.{weight_of, weights_of, before}
 
 -- a list of weights before others, where the others are weights
 abbrev pub joined : List NamedWeight → Option (List NamedWeight) → Option (List NamedWeight)

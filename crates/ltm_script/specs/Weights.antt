@@ -1,8 +1,8 @@
 -- The weights that an object's members are.
-use Rattle.std.specs.Prelude.{ℕ, List, [], ◌∷◌, codes, Option, Some, None, option_and_then, if◌then◌else◌}
+use Rattle.std.specs.Prelude.{ℕ, List, [], ◌∷◌, codes, Option, Some, None, option_and_then}
 use Rattle.serde_json.specs.Data.{Data, Members, no_members, member}
 use Rattle.serde_json.specs.Find.{get, as_object}
-use Rattle.ltm_scenario.specs.Weights.{NamedWeight, are_weights}
+use Rattle.ltm_scenario.specs.Weights.{NamedWeight, as_weights}
 use Rattle.ltm_script.specs.Members.{◌>>=◌, name_of, whole_of}
 
 -- a name with a whole number
@@ -19,10 +19,6 @@ before None ws = None
 abbrev pub weights_of : Members → Option (List NamedWeight)
 weights_of no_members = Some []
 weights_of (member key d ms) = before (weight_of key d) (weights_of ms)
-
--- one to four
-abbrev pub as_weights : List NamedWeight → Option (List NamedWeight)
-as_weights ws = if are_weights ws then Some ws else None
 
 abbrev pub weights_in : Data → Option (List NamedWeight)
 weights_in d = option_and_then (λ ms. option_and_then as_weights (weights_of ms)) (option_and_then as_object (get (codes "weights") d))

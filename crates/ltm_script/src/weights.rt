@@ -1,11 +1,12 @@
 //! The weights of a split.
 ghost use Rattle.std.specs.Prelude.{◌≡◌, option_and_then};
 ghost use Rattle.serde_json.specs.View.{view, members_view};
-ghost use Rattle.ltm_script.specs.Weights.{weight_of, weights_of, as_weights, weights_in};
+ghost use Rattle.ltm_scenario.specs.Weights.{as_weights};
+ghost use Rattle.ltm_script.specs.Weights.{weight_of, weights_of, weights_in};
 
 use crate::members::read_whole;
 use ltm_scenario::Weights;
-use ltm_units::Name;
+use ltm_units::{Four, Name};
 use serde_json::{Map, Value};
 
 /// The most weights of a split.
@@ -34,7 +35,7 @@ fn read_members(members: &Map<String, Value>, filler: Name) -> Option<Weights>
         places[count] = read_weight(name.as_str(), value)?;
         count += 1;
     }
-    Weights::of(&places[..count])
+    Weights::of(Four::of(&places[..count])?)
 }
 
 /// The weights of an edit.

@@ -2,8 +2,9 @@
 //! may leave a link end, at the front of a loading.
 //!
 //! All is read from a scenario and from the curves of a loading that are done up to the slot; nothing is changed and no
-//! memory is taken. A call costs a few totals of a boundary; where something leaves for one of several destinations, also
-//! a search for the boundary at which it ends and one pass over the destinations. It stands on `ltm_setting` and
+//! memory is taken. A call costs a few totals of a boundary, and where a position is told one more for each slot that units
+//! wait to leave; where something leaves for one of several destinations, also one pass over the destinations. `receive` is
+//! for callers outside this repository; the loading asks `link_takes`, for curves of a kind. It stands on `ltm_setting` and
 //! `ltm_curve`. Change it here where a sending or receiving flow is to be found in another way; what it is stands in
 //! `ltm_loading`. (Sending and receiving of a link: Yperman 2007, after Newell 1993. Composition by destination, origins
 //! and whole units are this engine's own.)

@@ -17,7 +17,7 @@ use Rattle.ltm_diagram.specs.Limits.{limits_of}
 use Rattle.ltm_diagram.specs.InRange.{AreInRange, LimitsInRange}
 use Rattle.ltm_demand.specs.declared.row.DemandRow.{DemandRow}
 use Rattle.ltm_demand.specs.Produced.{by_end}
-use Rattle.ltm_splits.specs.WeightsLie.{AreWeights}
+use Rattle.ltm_splits.specs.Weights.{AreWeights}
 use Rattle.ltm_splits.specs.Rows.{row_in_force}
 use Rattle.ltm_scenario.specs.Data.{ScenarioData}
 use Rattle.ltm_scenario.specs.IsScenario.{IsScenario}

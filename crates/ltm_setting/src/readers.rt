@@ -220,29 +220,6 @@ pub fn produced_total(scenario: &Scenario, node: NodeId, boundary: u32) -> u64
     scenario.demand().origin_by_end(node, boundary - 1).0
 }
 
-/// Writes what a node has produced of each destination by a boundary, in units: nothing by boundary 0.
-#[tactic(auto, unfolding(crate::specs::Setting::setting_of))]
-pub fn produced_row(scenario: &Scenario, node: NodeId, boundary: u32, into: &mut [u64])
-    requires { length into.old ≡ (setting_of scenario.now).destinations }
-    ensures { (d : ℕ) → d < (setting_of scenario.now).destinations → slice_index into.new d ≡ (setting_of scenario.now).produced node.0 d boundary }
-{
-    if boundary == 0 {
-        into.fill(0);
-        return;
-    }
-    put_row(scenario.demand().row_by_end(node, boundary - 1), into);
-}
-
-/// Writes a row, and zeros behind its end.
-#[inline]
-fn put_row(row: &[u64], into: &mut [u64])
-    ensures { (d : ℕ) → d < length into.old → slice_index into.new d ≡ slice_index row.now d }
-{
-    let count = row.len().min(into.len());
-    into[..count].copy_from_slice(&row[..count]);
-    into[count..].fill(0);
-}
-
 /// The weights in force at a node for a destination in a slot, one for each out-link in order; none where no split row is
 /// in force, and then all are 0. Their sum and the first two out-links that have one are read from them.
 #[inline]

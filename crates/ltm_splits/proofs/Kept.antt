@@ -8,7 +8,7 @@ use Rattle.std.proofs.lemmas.Bool.{cases_lt}
 use Rattle.std.proofs.lemmas.List.{get_or_past, set-get_or}
 use Rattle.ltm_splits.specs.declared.keys.SplitKey.{SplitKey}
 use Rattle.ltm_splits.specs.Rows.{SplitRow, SplitsData, IsOrdered, HaveWeights, key_of, with_rows, row_of, put_in, taken_out, put_back}
-use Rattle.ltm_splits.specs.WeightsLie.{AreWeights}
+use Rattle.ltm_splits.specs.Weights.{AreWeights}
 use Rattle.ltm_splits.specs.Table.{Entry, rows_of_all, entries_at, with_entries}
 use Rattle.ltm_splits.proofs.Pairs.{put_all, take_all, row_all}
 use Rattle.ltm_splits.proofs.Sorted.{split_total, there, weights_put, weights_take, ordered_put, ordered_take, back_new, back_old, length_put_new, length_put_old, length_take, take_absent}

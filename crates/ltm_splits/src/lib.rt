@@ -20,4 +20,4 @@ pub use keys::{SplitFault, SplitKey};
 pub use laws::{rows_stay, rules_of_rows};
 pub use rows::Rows;
 pub use splits::Splits;
-pub use weights::{Weights, are_zero};
+pub use weights::Weights;

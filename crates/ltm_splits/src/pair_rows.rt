@@ -5,7 +5,7 @@ ghost use Rattle.std.specs.Map.{lookup, remove_entry};
 ghost use Rattle.std.specs.BTreeMap.{insert_entry, is_at};
 ghost use Rattle.std.specs.Ordering.{nat_cmp};
 ghost use Rattle.ltm_splits.specs.Entries.{IsRising, IsAt, IsGap, IsCount, entry_in_force};
-ghost use Rattle.ltm_splits.specs.WeightsLie.{AreWeights};
+ghost use Rattle.ltm_splits.specs.Weights.{AreWeights};
 
 use crate::row_list::RowList;
 use crate::weights::Weights;

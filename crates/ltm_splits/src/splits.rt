@@ -1,12 +1,12 @@
 //! The table of split rows.
 ghost use Rattle.std.specs.Prelude.{◌≡◌, ◌≢◌, ◌≤◌, ◌<◌, [], Ok, Err, Some, None, IsTrue, IsSome, IsNone, IfSome, IfOk, IfErr, OnOk, OnErr, is_some, if◌then◌else◌, length};
 ghost use Rattle.std.specs.Option.{option_copied};
-ghost use Rattle.ltm_splits.specs.WeightsLie.{AreWeights};
+ghost use Rattle.ltm_splits.specs.Weights.{AreWeights};
 
 use crate::keys::{SplitFault, SplitKey};
 use crate::node_table::NodeTable;
 use crate::rows::Rows;
-use crate::weights::{Weights, are_zero, fit_32_bits};
+use crate::weights::Weights;
 use ltm_units::{NoMemory, NodeId};
 use std::alloc::Global;
 use std::marker::Model;
@@ -103,16 +103,14 @@ impl Splits {
         if from >= self.slots {
             return Err(SplitFault::BadSlots);
         }
-        if are_zero(weights) {
+        let Some(weights) = Weights::of(weights) else {
             return Err(SplitFault::ZeroWeight);
-        }
+        };
         let key = SplitKey {
             node,
             destination,
             from,
         };
-        fit_32_bits(weights);
-        let weights = Weights::of(weights);
         if self.replace(key, weights) {
             return Ok(());
         }
@@ -208,7 +206,10 @@ impl Splits {
             destination,
             from,
         };
-        let _stood = self.replace(key, Weights::of(weights));
+        let Some(weights) = Weights::of(weights) else {
+            unreachable!();
+        };
+        let _stood = self.replace(key, weights);
     }
 
     /// Takes out the row with that key, as to undo a `set`, and leaves all others. No memory is taken.

@@ -1,43 +1,43 @@
 //! The weights of a row, as they lie in a table.
-ghost use Rattle.std.specs.Prelude.{◌≡◌, ◌==◌, ◌<◌, ◌^◌, All, sum};
+ghost use Rattle.std.specs.Prelude.{◌≡◌, ◌==◌, ◌<◌, ◌≤◌, ◌^◌, All, Some, None, length, sum, if◌then◌else◌};
 ghost use Rattle.std.specs.List.{list_all};
-ghost use Rattle.ltm_splits.specs.WeightsLie.{AreWeights};
+ghost use Rattle.ltm_splits.specs.Weights.{AreWeights};
 
+use ltm_units::Four;
 use std::marker::Model;
 
 /// One weight per out-link in order of link number: at most four, and not all of them 0.
 #[derive(Clone, Copy)]
 pub struct Weights {
-    values: [u32; 4],
-    len: u8,
+    values: Four<u32>,
 }
 
 impl Model for Weights {
-    ghost use Rattle.std.specs.Prelude.{◌≡◌, ℕ, ◌≤◌, List, length, take};
-    ghost use Rattle.ltm_splits.specs.WeightsLie.{padded, AreWeights};
-    ghost use Rattle.ltm_splits.specs.WeightsBack.{laid, gives_back};
+    ghost use Rattle.std.specs.Prelude.{ℕ, List};
+    ghost use Rattle.ltm_splits.specs.Weights.{AreWeights};
 
     ghost Value = { List ℕ };
 
-    ghost view = { λ w. take w.len w.values };
+    ghost view = { λ w. w.values };
 
-    ghost invariant = { λ w. AreWeights (take w.len w.values) × (w.len ≤ 4) × (w.values ≡ padded (take w.len w.values)) };
+    ghost invariant = { λ w. AreWeights w.values };
 
-    ghost inverse = { laid };
-
-    ghost inverse_ok = { gives_back };
+    ghost inverse = { λ weights. record { values = weights } };
 }
 
 impl Weights {
-    pub(crate) fn of(weights: &[u32]) -> Weights
-        requires { AreWeights weights.now }
-        ensures { result ≡ weights.now }
+    /// The weights, where they are not all 0: then they have no sum, and no row has them.
+    pub fn of(weights: &[u32]) -> Option<Weights>
+        requires { length weights.now ≤ 4 }
+        ensures { result ≡ (if sum weights.now == 0 then None else Some weights.now) }
     {
-        let mut values = [0u32; 4];
-        values[..weights.len()].copy_from_slice(weights);
-        Weights {
-            values,
-            len: weights.len() as u8,
+        if are_zero(weights) {
+            return None;
+        }
+        fit_32_bits(weights);
+        match Four::of(weights) {
+            Some(values) => Some(Weights { values }),
+            None => unreachable!(),
         }
     }
 
@@ -47,17 +47,17 @@ impl Weights {
         ensures weights { result.now ≡ self.now }
         ensures some { AreWeights self.now }
     {
-        &self.values[..self.len as usize]
+        self.values.as_slice()
     }
 }
 
 /// Each weight fits 32 bits. The function does nothing but read them.
-pub fn fit_32_bits(weights: &[u32])
+fn fit_32_bits(weights: &[u32])
     ensures { All (λ weight. weight < 2 ^ 32) weights.now }
 {}
 
-/// Whether the weights are all 0: then they have no sum, and no row has them.
-pub fn are_zero(weights: &[u32]) -> bool
+/// Whether the weights are all 0.
+fn are_zero(weights: &[u32]) -> bool
     ensures { result ≡ (sum weights.now == 0) }
 {
     is_each_zero(weights)

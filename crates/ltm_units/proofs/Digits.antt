@@ -1,7 +1,7 @@
 -- The value of digits, one more at a time.
-use Rattle.std.proofs.Common.{inl, inr, ℕ, suc, ◌≡◌, ◌+◌, ◌-◌, ◌*◌, ◌^◌, ◌<◌, ◌≤◌, true, false, List, [], ◌∷◌, ◌++◌, length, take, get_or, arith, ap, ◌∙◌, length-append, add-one}
+use Rattle.std.proofs.Common.{inl, inr, ℕ, suc, ◌≡◌, ◌+◌, ◌-◌, ◌*◌, ◌^◌, ◌<◌, ◌≤◌, true, false, List, [], ◌∷◌, ◌++◌, length, take, drop, get_or, arith, ap, ◌∙◌, append_assoc, length-append, add-one}
 use Rattle.std.proofs.Math.Nat.{pow-suc}
-use Rattle.std.proofs.lemmas.List.{take_more}
+use Rattle.std.proofs.lemmas.List.{take_more, append-nil, take-append-drop}
 use Rattle.std.proofs.lemmas.List.Folds.{list_all_at}
 use Rattle.std.proofs.lemmas.Bool.{cases_Bool}
 use Rattle.std.proofs.lemmas.Grind.{common_steps}
@@ -34,4 +34,19 @@ digit_at xs i all h = elim (cases_Bool (is_digit (get_or xs i 0))) [
 pub digit_bounds : (xs : List ℕ) (i : ℕ) → list_all is_digit xs ≡ true → i < length xs → (48 ≤ get_or xs i 0) × (get_or xs i 0 ≤ 57)
 digit_bounds xs i all h = let d = digit_at xs i all h in grind (arith, common_steps, d)
 
-pub ruleset steps = (value-more, digit_bounds)
+-- more digits have no smaller value
+value-append-le : (xs ys : List ℕ) → value xs ≤ value (xs ++ ys)
+value-append-le xs [] = omega (arith, ap value (append-nil xs))
+value-append-le xs (y ∷ ys) =
+    let one = value-append xs y in
+    let more = value-append-le (xs ++ y ∷ []) ys in
+    let same : value ((xs ++ y ∷ []) ++ ys) ≡ value (xs ++ y ∷ ys) = ap value (append_assoc xs (y ∷ []) ys) in
+    omega arith
+
+-- so if the digits so far and one more do not fit, the whole does not
+pub value-grows : (xs : List ℕ) (i : ℕ) → i < length xs → value (take i xs) * 10 + (get_or xs i 0 - 48) ≤ value xs
+value-grows xs i h =
+    let same : value (take (i + 1) xs ++ drop (i + 1) xs) ≡ value xs = ap value (take-append-drop (i + 1) xs) in
+    omega (arith, value-append-le (take (i + 1) xs) (drop (i + 1) xs), value-more xs i h)
+
+pub ruleset steps = (value-more, value-grows, digit_bounds)

@@ -1,7 +1,6 @@
 -- What the numbers in texts are.
-use Rattle.std.specs.Prelude.{ℕ, zero, suc, ◌≡◌, ◌+◌, ◌-◌, ◌*◌, ◌/◌, ◌%◌, ◌^◌, ◌==◌, ◌<◌, ◌&&◌, ◌||◌, Bool, true, false, not, nat_le, nat_lt, List, [], ◌∷◌, ◌++◌, length, take, slice_index, Option, Some, None, Result, Ok, Err, if◌then◌else◌}
+use Rattle.std.specs.Prelude.{ℕ, zero, suc, ◌≡◌, ◌+◌, ◌-◌, ◌*◌, ◌^◌, ◌==◌, ◌<◌, ◌&&◌, ◌||◌, Bool, true, false, not, nat_le, nat_lt, List, [], ◌∷◌, length, take, slice_index, Option, Some, None, Result, Ok, Err, if◌then◌else◌}
 use Rattle.std.specs.List.{list_all, list_any, before_first, after_first}
-use Rattle.std.specs.Fmt.{decimal}
 use Rattle.ltm_units.specs.declared.numbers.NumberFault.{NumberFault}
 use Rattle.ltm_units.specs.declared.numbers.NumberFault.TheVariants.{Empty, BadByte, TooManyDecimals, TooLarge}
 use Rattle.ltm_units.specs.declared.quantities.Units.{Units}
@@ -14,9 +13,14 @@ abbrev pub value : List ℕ → ℕ
 value [] = 0
 value (d ∷ ds) = (d - 48) * 10 ^ length ds + value ds
 
+-- the number that a text tells: one digit or more, no more than so many, with a value of at most so much
+abbrev pub number_told : ℕ → ℕ → List ℕ → Option ℕ
+number_told most_digits most text =
+    if nat_le 1 (length text) && nat_le (length text) most_digits && list_all is_digit text && nat_le (value text) most then Some (value text) else None
+
 -- 1 to 10 digits with a value below 2^32
 abbrev pub whole : List ℕ → Option ℕ
-whole text = if nat_le 1 (length text) && nat_le (length text) 10 && list_all is_digit text && nat_lt (value text) (2 ^ 32) then Some (value text) else None
+whole = number_told 10 4294967295
 
 abbrev pub is_point : ℕ → Bool
 is_point b = b == 46
@@ -59,7 +63,3 @@ checked text None = sized (before_first is_point text) (after_first is_point tex
 -- the amount that a text tells, or the first fault
 abbrev pub vehicles : List ℕ → Result Units NumberFault
 vehicles text = if length text == 0 then Err Empty else checked text (bad_place text)
-
--- whole vehicles, a point and three digits
-unfoldable pub vehicles_text : ℕ → List ℕ
-vehicles_text n = decimal (n / 1000) ++ 46 ∷ (48 + n % 1000 / 100) ∷ (48 + n % 100 / 10) ∷ (48 + n % 10) ∷ []

@@ -1,10 +1,9 @@
 //! The numbers that texts tell.
-ghost use Rattle.std.specs.Prelude.{◌≡◌, ℕ, ◌<◌, ◌≤◌, ◌+◌, ◌++◌, ◌^◌, ◌↔◌, ◌==◌, ◌&&◌, ◌||◌, not, min, length, drop, true, Err, IfOk, OnOk, OnErr, OnSome, position};
+ghost use Rattle.std.specs.Prelude.{◌≡◌, ℕ, ◌<◌, ◌≤◌, ◌+◌, ◌^◌, ◌↔◌, ◌==◌, ◌&&◌, ◌||◌, not, min, nat_lt, true, Some, None, Err, IfOk, IfSome, position, if◌then◌else◌};
 ghost use Rattle.std.specs.List.{list_all};
-ghost use Rattle.ltm_units.specs.Numbers.{is_digit, is_point, value, whole, vehicles, vehicles_text, bad_place, sized, IsFirstBad};
+ghost use Rattle.ltm_units.specs.Numbers.{is_digit, is_point, value, number_told, whole, vehicles, bad_place, sized, IsFirstBad};
 
-use crate::{NoMemory, Units};
-use std::alloc::Global;
+use crate::Units;
 
 /// Why a text tells no amount of vehicles.
 #[derive(Clone, Copy, Debug, PartialEq, Eq)]
@@ -21,17 +20,28 @@ pub enum NumberFault {
 
 const CAP: u64 = 1 << 40;
 
-/// The value of digits, up to a cap.
+/// The value of digits, where it fits.
 #[tactic(auto, using(crate::proofs::Digits::steps))]
+fn value_of(digits: &[u8]) -> Option<u64>
+    requires { list_all is_digit digits.now ≡ true }
+    ensures { result ≡ (if nat_lt (value digits.now) (2 ^ 64) then Some (value digits.now) else None) }
+{
+    let mut sum: u64 = 0;
+    for d in digits {
+        sum = sum.checked_mul(10)?.checked_add(u64::from(*d - b'0'))?;
+    }
+    Some(sum)
+}
+
+/// The value of digits, up to a cap.
 fn capped(digits: &[u8]) -> u64
     requires { list_all is_digit digits.now ≡ true }
     ensures { result ≡ min (value digits.now) (2 ^ 40) }
 {
-    let mut sum: u64 = 0;
-    for d in digits {
-        sum = (sum * 10 + u64::from(*d - b'0')).min(CAP);
+    match value_of(digits) {
+        Some(sum) => sum.min(CAP),
+        None => CAP,
     }
-    sum
 }
 
 fn are_digits(text: &[u8]) -> bool
@@ -40,18 +50,25 @@ fn are_digits(text: &[u8]) -> bool
     text.iter().all(|b| *b >= 48 && *b <= 57)
 }
 
+/// The number that a text tells: one or more digits, no more than so many, with a value of at most `most`.
+pub fn read_number(text: &[u8], most_digits: usize, most: u64) -> Option<u64>
+    ensures number { result ≡ number_told most_digits most text.now }
+    ensures small { IfSome result (λ number. number ≤ most) }
+{
+    if text.is_empty() || text.len() > most_digits || !are_digits(text) {
+        return None;
+    }
+    let number = value_of(text)?;
+    if number <= most { Some(number) } else { None }
+}
+
 /// A whole number of 1 to 10 digits, where it is below 2^32.
 pub fn read_whole(text: &[u8]) -> Option<u32>
     ensures { result ≡ whole text.now }
 {
-    if text.is_empty() || text.len() > 10 || !are_digits(text) {
-        return None;
-    }
-    let n = capped(text);
-    if n <= 0xffff_ffff {
-        Some(n as u32)
-    } else {
-        None
+    match read_number(text, 10, 4_294_967_295) {
+        Some(number) => Some(number as u32),
+        None => None,
     }
 }
 
@@ -137,26 +154,4 @@ pub fn read_vehicles(text: &[u8]) -> Result<Units, NumberFault>
     ensures bad_byte { (place : ℕ) → (result ≡ Err (NumberFault.BadByte place)) ↔ IsFirstBad text.now place }
 {
     tell(text)
-}
-
-/// Appends an amount as whole vehicles, a point and three digits; without memory it appends nothing.
-#[tactic(auto, unfolding(crate::specs::Numbers::vehicles_text))]
-pub fn write_vehicles(alloc: Global, amount: Units, into: &mut Vec<u8>) -> Result<(), NoMemory>
-    ensures ok { OnOk result (into.new.items ≡ into.old.items ++ vehicles_text amount.0) }
-    ensures err { OnErr result (into.new.items ≡ into.old.items) }
-{
-    let n = amount.0;
-    let whole = n / 1000;
-    let front = format!(in alloc; "{whole}")?;
-    let back: [u8; 4] = [
-        b'.',
-        48 + (n % 1000 / 100) as u8,
-        48 + (n % 100 / 10) as u8,
-        48 + (n % 10) as u8,
-    ];
-    let mut text: Vec<u8> = Vec::new(alloc);
-    text.extend_from_slice(front.as_bytes())?;
-    text.extend_from_slice(&back)?;
-    into.extend_from_slice(text.as_slice())?;
-    Ok(())
 }

@@ -2,7 +2,7 @@
 use Rattle.std.specs.Prelude.{ℕ, zero, suc, ◌≡◌, List, [], ◌++◌, codes}
 use Rattle.ltm_curve.specs.Counts.{Counts}
 use Rattle.ltm_loading.specs.Setting.{Setting}
-use Rattle.ltm_report.specs.Pieces.{number_piece}
+use Rattle.ltm_units.specs.Texts.{number_piece}
 use Rattle.ltm_report.specs.Totals.{totals_line}
 use Rattle.ltm_report.specs.Reports.{totals_report}
 use Rattle.ltm_session.specs.Analysts.{Analysts}

@@ -2,22 +2,18 @@
 ghost use Rattle.std.specs.Prelude.{◌≡◌, ◌++◌, OnOk};
 ghost use Rattle.ltm_viewing.specs.Lines.{teller, viewer_line};
 
-use itoa::Buffer;
 use ltm_flows::Totals;
 use ltm_report::totals_line_text;
-use ltm_units::NoMemory;
+use ltm_units::{NoMemory, push_number, push_text};
 use std::alloc::Global;
 
 /// Appends which viewer tells it.
-#[tactic(auto, unfolding(crate::specs::Lines::teller, ltm_report::specs::Pieces::number_piece))]
+#[tactic(auto, unfolding(crate::specs::Lines::teller))]
 fn push_teller(into: &mut Vec<u8>, viewer: u32) -> Result<(), NoMemory>
     ensures { OnOk result (into.new.items ≡ into.old.items ++ teller viewer) }
 {
-    let mut digits = Buffer::new();
-    into.extend_from_slice(b"viewer ")?;
-    into.extend_from_slice(digits.format(viewer).as_bytes())?;
-    into.extend_from_slice(b" ")?;
-    Ok(())
+    push_number(into, b"viewer ", u128::from(viewer))?;
+    push_text(into, b" ")
 }
 
 /// Appends the line of a viewer, as `viewer 1 version 0 generated 1.000 arrived 0.500 on_links 0.500 waiting 0.000`.

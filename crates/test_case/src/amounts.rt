@@ -1,5 +1,8 @@
 //! Amounts as texts, names, and shares.
-use ltm_units::{Name, NumberFault, Units, read_vehicles, read_whole, share_of, write_vehicles};
+use ltm_units::{
+    Four, Name, NumberFault, Units, push_number, push_text, push_vehicles, read_number,
+    read_vehicles, read_whole, share_of,
+};
 use std::alloc::Global;
 use std::collections::BTreeMap;
 
@@ -44,27 +47,66 @@ fn reads_whole_numbers(rt: HostRuntime) {
     }
 }
 
-/// Writes an amount behind what stands there.
-fn write(alloc: Global, amount: u64, text: &mut Vec<u8>) -> bool {
-    text.push(b'=').is_ok() && write_vehicles(alloc, Units(amount), text).is_ok()
+// Zeros in front count as digits, and the number of digits and the value are bounded apart.
+#[test]
+fn reads_numbers(rt: HostRuntime) {
+    let cases: [(&str, usize, u64, Option<u64>); 7] = [
+        ("18446744073709551615", 20, u64::MAX, Some(u64::MAX)),
+        ("18446744073709551616", 20, u64::MAX, None),
+        ("99999999999999999999", 20, u64::MAX, None),
+        ("0400", 4, 400, Some(400)),
+        ("0400", 3, 400, None),
+        ("401", 3, 400, None),
+        ("4 0", 3, 400, None),
+    ];
+    for (text, most_digits, most, want) in cases {
+        assert!(rt;
+            read_number(text.as_bytes(), most_digits, most) == want,
+            "at {text}"
+        );
+    }
+}
+
+/// Writes an amount, a number and a word one behind another.
+fn write(amount: u64, text: &mut Vec<u8>) -> bool {
+    push_vehicles(text, b"=", Units(amount)).is_ok()
+        && push_number(text, b" #", u128::from(amount)).is_ok()
+        && push_text(text, b".").is_ok()
 }
 
 fn is_written(alloc: Global, amount: u64, want: &str) -> bool {
     let mut text: Vec<u8> = Vec::new(alloc);
-    let wrote = write(alloc, amount, &mut text);
+    let wrote = write(amount, &mut text);
     wrote && text.as_slice() == want.as_bytes()
 }
 
 #[test]
 fn writes_amounts(rt: HostRuntime) {
     for (amount, want) in [
-        (5, "=0.005"),
-        (1000, "=1.000"),
-        (7250, "=7.250"),
-        (1_234_560, "=1234.560"),
+        (5, "=0.005 #5."),
+        (1000, "=1.000 #1000."),
+        (7250, "=7.250 #7250."),
+        (1_234_560, "=1234.560 #1234560."),
     ] {
         assert!(rt; is_written(rt.alloc(), amount, want), "at {amount}");
     }
+}
+
+/// Four numbers and one more.
+fn filled() -> Option<(Four<u32>, Option<Four<u32>>)> {
+    let four = Four::one(7).with(7)?.with(20)?.with(300)?;
+    Some((four, four.with(4000)))
+}
+
+#[test]
+fn has_one_to_four_values(rt: HostRuntime) {
+    let none: [u32; 0] = [];
+    let Some((four, fifth)) = filled() else {
+        panic!(rt; "no four");
+    };
+    assert!(rt; four.as_slice() == [7, 7, 20, 300].as_slice() && fifth.is_none());
+    assert!(rt; Four::of(&none).is_none() && Four::of(&[1, 2, 3, 4, 5]).is_none());
+    assert!(rt; Four::of(&[1, 2, 3]).is_some_and(|three| three.as_slice() == [1, 2, 3].as_slice()));
 }
 
 /// Whether both names are put in.

@@ -2,7 +2,7 @@
 use crate::cases::{diagram, name};
 use ltm_diagram::Diagram;
 use ltm_scenario::{Edit, Weights};
-use ltm_units::Units;
+use ltm_units::{Four, Units};
 use std::alloc::Global;
 
 /// An edit. Slots run from the first number up to, and without, the second.
@@ -37,7 +37,7 @@ fn split(node: &str, destination: &str, from: u32, link: &str, weight: u32) -> O
         node: name(node)?,
         destination: name(destination)?,
         from,
-        weights: Weights::of(&[(name(link)?, weight)])?,
+        weights: Weights::of(Four::one((name(link)?, weight)))?,
     })
 }
 

@@ -1,13 +1,13 @@
 //! Records of a file, and their fields.
 use csv::ByteRecord;
 use ltm_records::{
-    Entries, Records, has, name_at, read_weights, text_at, vehicles_at, whole_at, width,
+    Records, cut, has, name_at, read_weights, text_at, vehicles_at, whole_at, width,
 };
-use ltm_units::{Name, Units};
+use ltm_units::{Four, Name, Units};
 use std::alloc::Global;
 
 /// Whether the entries are those of the list; no list stands for no entries.
-fn are(found: Option<Entries>, want: &[(&str, u32)]) -> bool {
+fn are(found: Option<Four<(Name, u32)>>, want: &[(&str, u32)]) -> bool {
     let Some(entries) = found else {
         return want.is_empty();
     };
@@ -20,6 +20,14 @@ fn are(found: Option<Entries>, want: &[(&str, u32)]) -> bool {
         }
     }
     true
+}
+
+#[test]
+fn cuts_at_the_first_space(rt: HostRuntime) {
+    let (first, rest) = cut(b"a  b");
+    assert!(rt; first == b"a".as_slice() && rest == Some(b" b".as_slice()));
+    let (whole, none) = cut(b"ab");
+    assert!(rt; whole == b"ab".as_slice() && none.is_none());
 }
 
 #[test]

@@ -37,7 +37,7 @@ fn ask_times(rt: &impl Abort, curves: &Curves)
         curves.at(1, 1000, step),
         curves.at(1, 1500, step),
         curves.at(1, 2000, step),
-        curves.past(1, 1, Millis(250), step),
+        curves.at(1, 1250, step),
     ];
     assert_eq!(rt; told, [0, 0, 133, 400, 600, 800, 500]);
 }

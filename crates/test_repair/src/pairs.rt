@@ -4,7 +4,7 @@ ghost use Rattle.std.specs.Prelude.{◌≡◌, []};
 use ltm_diagram::{Delay, Diagram};
 use ltm_pairs::{ArmSet, Spread, dependents, readers_ago, touched};
 use ltm_scenario::{Edit, Scenario, Setup, Weights};
-use ltm_units::{Millis, Name, NodeId, Pair, Reach, Units};
+use ltm_units::{Four, Millis, Name, NodeId, Pair, Reach, Units};
 use std::alloc::Global;
 use std::process::Abort;
 
@@ -84,7 +84,7 @@ fn exit(rt: &impl Abort, link: &str, from: u32, to: u32) -> Edit {
 }
 
 fn split(rt: &impl Abort, from: u32) -> Edit {
-    let Some(weights) = Weights::of(&[(named(rt, "b"), 1)]) else {
+    let Some(weights) = Weights::of(Four::one((named(rt, "b"), 1))) else {
         panic!(rt; "no weights");
     };
     Edit::Split {

@@ -8,11 +8,10 @@ ghost use Rattle.ltm_curve.specs.Counts.{Counts};
 ghost use Rattle.ltm_loading.specs.Setting.{Setting};
 ghost use Rattle.ltm_flows.specs.Shown.{ShowsCounts, SameLoading, loading_room};
 ghost use Rattle.ltm_desk.specs.Growing.{SeenAs as TableSeenAs, HasRoom as TableHasRoom};
-ghost use Rattle.ltm_core.specs.Reaching.{MayReach};
+ghost use Rattle.ltm_scenario.specs.Horizon.{MayReach};
 ghost use Rattle.ltm_core.specs.Taking.{TakesBatch};
 
 use super::Core;
-use crate::horizons::may_reach;
 use crate::laws::repair_laws;
 use ltm_desk::{Table, tables_fit, wide_room};
 use ltm_flows::Loading;
@@ -146,10 +145,7 @@ fn refuse(scenario: &mut Scenario, batch: Batch) -> (Batch, EditFault)
     ensures cause { result.1.cause ≢ EditCause.NoMemory → edited_all scenario.old batch ≡ Err result.1 }
 {
     match scenario.accept(&batch) {
-        Ok(()) => {
-            let _after = scenario.setup();
-            unreachable!()
-        }
+        Ok(()) => unreachable!(),
         Err(fault) => (batch, fault),
     }
 }
@@ -169,7 +165,7 @@ fn no_memory(batch: Batch) -> Result<(), (Batch, EditFault)>
 
 impl Core {
     ghost use Rattle.ltm_core.specs.CoreAnswers.{TellsAccept};
-    ghost use Rattle.ltm_core.specs.Reaching.{MayReach};
+    ghost use Rattle.ltm_scenario.specs.Horizon.{MayReach};
 
     /// Makes all edits of a batch in order, or changes nothing but room and gives the batch back with the first edit that is
     /// refused and its cause. Claims are void; a pair is then active exactly where it was active or claimed, is touched, or
@@ -185,7 +181,7 @@ impl Core {
     {
         repair_laws();
         let slots = batch.horizon(self.scenario.setup().slots);
-        if !may_reach(&self.scenario, slots) {
+        if !self.scenario.may_reach(slots) {
             return Err(refuse(&mut self.scenario, batch));
         }
         match reserve_all(

@@ -44,8 +44,8 @@ impl TotalCurves {
     fn copy_row(&mut self, curves: &Curves, boundary: u32)
         requires small { AreNarrow curves.now }
         requires boundary { boundary ≤ slots_of curves.now }
-        requires before { TotalsBefore self.old curves.now boundary 0 }
-        ensures { TotalsBefore self.new curves.now (boundary + 1) 0 }
+        requires before { TotalsBefore self.old curves.now boundary }
+        ensures { TotalsBefore self.new curves.now (boundary + 1) }
     {
         self.copy_narrow(curves, boundary);
         self.copy_total(curves, self.narrow, boundary);
@@ -93,8 +93,8 @@ impl TotalCurves {
         requires small { AreNarrow curves.now }
         requires cells { HasCells changed.now (groups_of curves.now) (slots_of curves.now) }
         requires boundary { boundary ≤ slots_of curves.now }
-        requires but { TotalsBut self.old curves.now changed.now boundary 0 }
-        ensures { TotalsBut self.new curves.now changed.now (boundary + 1) 0 }
+        requires but { TotalsBut self.old curves.now changed.now boundary }
+        ensures { TotalsBut self.new curves.now changed.now (boundary + 1) }
     {
         self.copy_changed_narrow(curves, changed, boundary);
         self.copy_total(curves, self.narrow, boundary);

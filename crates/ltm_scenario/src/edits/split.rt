@@ -1,5 +1,5 @@
 //! Edits of a split row.
-ghost use Rattle.std.specs.Prelude.{◌≡◌, ◌≢◌, ℕ, ◌<◌, ◌==◌, List, length, Ok, Err, OnOk, OnErr, IfOk, IfErr, false};
+ghost use Rattle.std.specs.Prelude.{◌≡◌, ◌≢◌, ℕ, ◌<◌, ◌≤◌, ◌==◌, List, length, take, sum, Some, None, Ok, Err, OnOk, OnErr, IfOk, IfErr, IfSome, false, if◌then◌else◌};
 ghost use Rattle.std.specs.List.{list_all};
 ghost use Rattle.ltm_network.specs.Network.{out_links};
 ghost use Rattle.ltm_scenario.specs.Reads.{destination_node};
@@ -11,8 +11,8 @@ use crate::edit::EditCause;
 use crate::tables::Tables;
 use crate::tables::undo::Undo;
 use crate::weights::Weights;
-use ltm_splits::{SplitFault, SplitKey, are_zero};
-use ltm_units::{Name, NoMemory, NodeId};
+use ltm_splits::{SplitFault, SplitKey, Weights as RowWeights};
+use ltm_units::{Name, NodeId};
 
 fn cause_of_split(fault: SplitFault) -> EditCause
     ensures { result ≡ cause_of_split fault }
@@ -58,15 +58,11 @@ impl Tables {
             Ok(key) => key,
             Err(cause) => return Err(cause),
         };
-        let weights = match self.weights_at(key.node, weights.pairs()) {
-            Ok(weights) => weights,
-            Err(_) => return Err(EditCause::NoMemory),
-        };
-        match self.check_split_edit(key, &weights) {
-            Ok(()) => {}
+        let row = match self.split_row(key, weights.pairs()) {
+            Ok(row) => row,
             Err(cause) => return Err(cause),
-        }
-        match self.change_split(key, &weights) {
+        };
+        match self.change_split(key, row.as_slice()) {
             Ok(undo) => return Ok(undo),
             Err(fault) => return Err(cause_of_split(fault)),
         }
@@ -130,37 +126,53 @@ impl Tables {
         }
     }
 
-    /// A weight for each out-link of the node, in order of link number.
-    pub fn weights_at(&self, node: NodeId, weights: &[(Name, u32)]) -> Result<Vec<u32>, NoMemory>
+    /// A weight for each out-link of the node, in order of link number, and how many these are.
+    fn named_row(&self, node: NodeId, weights: &[(Name, u32)]) -> ([u32; 4], usize)
         requires { node.0 < length self.now.scenario.network.nodes }
-        ensures weights { IfOk result (λ row. row.items ≡ weights_at self.now.scenario node.0 weights.now) }
-        ensures each { IfOk result (λ row. length row.items ≡ length (out_links self.now.scenario.network node.0)) }
+        ensures row { take result.1 result.0 ≡ weights_at self.now.scenario node.0 weights.now }
+        ensures each { result.1 ≡ length (out_links self.now.scenario.network node.0) }
+        ensures few { result.1 ≤ 4 }
     {
         let network = self.network();
         let links = network.out_links(node);
-        let mut row = Vec::new(self.allocator());
+        let mut row = [0u32; 4];
+        let mut count: usize = 0;
         'each: for link in links {
             let name = network.link_name(*link);
-            row.push(weight_of(weights, &name))?;
+            row[count] = weight_of(weights, &name);
+            count += 1;
         }
-        Ok(row)
+        (row, count)
     }
 
-    /// Whether the weights are not all 0 and lead on.
+    /// A weight for each out-link of the node, in order of link number, where they are not all 0.
+    pub fn weights_at(&self, node: NodeId, weights: &[(Name, u32)]) -> Option<RowWeights>
+        requires { node.0 < length self.now.scenario.network.nodes }
+        ensures weights { let row = weights_at self.now.scenario node.0 weights.now in
+            result ≡ (if sum row == 0 then None else Some row) }
+        ensures each { IfSome result (λ row. length row ≡ length (out_links self.now.scenario.network node.0)) }
+    {
+        let (row, count) = self.named_row(node, weights);
+        RowWeights::of(&row[..count])
+    }
+
+    /// The weights of the row, where they are not all 0 and lead on.
     #[tactic(auto, unfolding(crate::specs::Edits::split_row))]
-    fn check_split_edit(&self, key: SplitKey, weights: &[u32]) -> Result<(), EditCause>
+    fn split_row(&self, key: SplitKey, weights: &[(Name, u32)]) -> Result<RowWeights, EditCause>
         requires node { key.node.0 < length self.now.scenario.network.nodes }
         requires destination { key.destination < length self.now.scenario.destinations }
-        ensures ok { OnOk result (split_row self.now.scenario key weights.now ≡ Ok (key, weights.now)) }
-        ensures cause { IfErr result (λ e. split_row self.now.scenario key weights.now ≡ Err e) }
+        ensures ok { IfOk result (λ row. split_row self.now.scenario key (weights_at self.now.scenario key.node.0 weights.now) ≡ Ok (key, row)) }
+        ensures cause { IfErr result (λ e. split_row self.now.scenario key (weights_at self.now.scenario key.node.0 weights.now) ≡ Err e) }
+        ensures row { IfOk result (λ row. row ≡ weights_at self.now.scenario key.node.0 weights.now) }
+        ensures each { IfOk result (λ row. length row ≡ length (out_links self.now.scenario.network key.node.0)) }
     {
-        if are_zero(weights) {
+        let Some(row) = self.weights_at(key.node, weights) else {
             return Err(EditCause::ZeroWeight);
-        }
-        if self.is_open(key, weights) {
+        };
+        if self.is_open(key, row.as_slice()) {
             return Err(EditCause::OpenSplit);
         }
-        Ok(())
+        Ok(row)
     }
 
     /// Whether the row would leave some split open.

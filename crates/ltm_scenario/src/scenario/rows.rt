@@ -1,5 +1,5 @@
 //! What a row of demand or of splits asks of a scenario before it is set.
-ghost use Rattle.std.specs.Prelude.{◌≡◌, ◌<◌, length, IfOk};
+ghost use Rattle.std.specs.Prelude.{◌≡◌, ◌<◌, ◌==◌, length, sum, Some, None, IfSome, if◌then◌else◌};
 ghost use Rattle.std.specs.List.{list_all};
 ghost use Rattle.ltm_network.specs.Network.{out_links};
 ghost use Rattle.ltm_scenario.specs.Reads.{has_no_out_link};
@@ -7,7 +7,8 @@ ghost use Rattle.ltm_scenario.specs.Build.{are_slots};
 ghost use Rattle.ltm_scenario.specs.Edits.{is_out_link, weights_at};
 
 use crate::scenario::Scenario;
-use ltm_units::{Name, NoMemory, NodeId};
+use ltm_splits::Weights as RowWeights;
+use ltm_units::{Name, NodeId};
 
 impl Scenario {
     /// Whether the slots `from` to `to - 1` are some, and all of them are within the horizon.
@@ -32,11 +33,12 @@ impl Scenario {
         self.tables.are_out_links(node, weights)
     }
 
-    /// A weight for each out-link of the node, in order of link number: that of the link's name, 0 where it is not named.
-    pub fn weights_at(&self, node: NodeId, weights: &[(Name, u32)]) -> Result<Vec<u32>, NoMemory>
+    /// A weight for each out-link of the node, in order of link number: that of the link's name, 0 where it is not named. None
+    /// where they are all 0.
+    pub fn weights_at(&self, node: NodeId, weights: &[(Name, u32)]) -> Option<RowWeights>
         requires { node.0 < length self.now.network.nodes }
-        ensures weights { IfOk result (λ row. row.items ≡ weights_at self.now node.0 weights.now) }
-        ensures each { IfOk result (λ row. length row.items ≡ length (out_links self.now.network node.0)) }
+        ensures weights { let row = weights_at self.now node.0 weights.now in result ≡ (if sum row == 0 then None else Some row) }
+        ensures each { IfSome result (λ row. length row ≡ length (out_links self.now.network node.0)) }
     {
         self.tables.weights_at(node, weights)
     }

@@ -1,13 +1,14 @@
 //! Changes of one table, each of which gives what undoes it.
 ghost use Rattle.std.specs.Prelude.{◌≡◌, ◌≢◌, ℕ, ◌<◌, ◌≤◌, length, true, Ok, Err, OnOk, OnErr, IfOk, IfErr};
 ghost use Rattle.ltm_diagram.specs.Limits.{limits_of};
-ghost use Rattle.ltm_scenario.specs.Build.{with_demand, with_split, with_entry_limit, with_exit_limit, are_slots};
+ghost use Rattle.ltm_scenario.specs.Build.{with_demand, with_split, with_limit_at, are_slots};
 ghost use Rattle.ltm_scenario.specs.Edits.{with_diagram};
 ghost use Rattle.ltm_scenario.specs.State.{KeepsRoom};
 ghost use Rattle.ltm_scenario.specs.SplitNote.{IsSplitNote};
 ghost use Rattle.ltm_scenario.specs.Undo.{Undoes};
 ghost use Rattle.ltm_scenario.specs.IsScenario.{IsDemandOf, IsSplitOf};
 
+use crate::side::Side;
 use crate::tables::Tables;
 use crate::tables::undo::Undo;
 use ltm_demand::{DemandFault, DemandRow};
@@ -35,9 +36,10 @@ impl Tables {
         }
     }
 
-    #[tactic(auto, using(crate::proofs::Undoing::entry_undoes))]
-    pub fn change_entry(
+    #[tactic(auto, using(crate::proofs::Undoing::entry_undoes, crate::proofs::Undoing::exit_undoes))]
+    pub fn change_limit(
         &mut self,
+        side: Side,
         link: u32,
         from: u32,
         to: u32,
@@ -45,35 +47,31 @@ impl Tables {
     ) -> Result<Undo, NoMemory>
         requires link { link < length self.old.scenario.network.links }
         requires slots { are_slots self.old.scenario from to ≡ true }
-        ensures ok { OnOk result (self.new.scenario ≡ with_entry_limit self.old.scenario link from to amount.0) }
+        ensures ok { OnOk result (self.new.scenario ≡ with_limit_at self.old.scenario side link from to amount.0) }
         ensures undo { IfOk result (Undoes self.old self.new) }
         ensures err { OnErr result (self.new.scenario ≡ self.old.scenario) }
         ensures room { KeepsRoom self.old self.new }
     {
-        match self.entry.set(link, from, to, amount.0.min(32_000) as u16) {
-            Ok(was) => return Ok(Undo::Entry { link, from, was }),
-            Err(fault) => return Err(fault),
-        }
-    }
-
-    #[tactic(auto, using(crate::proofs::Undoing::exit_undoes))]
-    pub fn change_exit(
-        &mut self,
-        link: u32,
-        from: u32,
-        to: u32,
-        amount: Units,
-    ) -> Result<Undo, NoMemory>
-        requires link { link < length self.old.scenario.network.links }
-        requires slots { are_slots self.old.scenario from to ≡ true }
-        ensures ok { OnOk result (self.new.scenario ≡ with_exit_limit self.old.scenario link from to amount.0) }
-        ensures undo { IfOk result (Undoes self.old self.new) }
-        ensures err { OnErr result (self.new.scenario ≡ self.old.scenario) }
-        ensures room { KeepsRoom self.old self.new }
-    {
-        match self.exit.set(link, from, to, amount.0.min(32_000) as u16) {
-            Ok(was) => return Ok(Undo::Exit { link, from, was }),
-            Err(fault) => return Err(fault),
+        let limit = amount.0.min(32_000) as u16;
+        match side {
+            Side::Entry => match self.entry.set(link, from, to, limit) {
+                Ok(was) => return Ok(Undo::Limit {
+                    side,
+                    link,
+                    from,
+                    was,
+                }),
+                Err(fault) => return Err(fault),
+            },
+            Side::Exit => match self.exit.set(link, from, to, limit) {
+                Ok(was) => return Ok(Undo::Limit {
+                    side,
+                    link,
+                    from,
+                    was,
+                }),
+                Err(fault) => return Err(fault),
+            },
         }
     }
 

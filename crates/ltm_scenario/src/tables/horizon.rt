@@ -1,17 +1,14 @@
 //! A longer horizon of all tables, and the way back. Neither takes memory.
 ghost use Rattle.std.specs.Prelude.{◌≡◌, ◌<◌, ◌≤◌, true, Ok, Err, OnOk, OnErr, IfOk, IfErr};
-ghost use Rattle.ltm_scenario.specs.Cells.{cells_over, most_cells};
+ghost use Rattle.ltm_scenario.specs.Cells.{cells_with, most_cells};
 ghost use Rattle.ltm_scenario.specs.Horizon.{with_slots, with_horizon};
 ghost use Rattle.ltm_scenario.specs.State.{KeepsRoom};
 ghost use Rattle.ltm_scenario.specs.Undo.{undone, CanUndo, Undoes};
 
-use crate::check::MOST_CELLS;
 use crate::faults::HorizonFault;
+use crate::setup::MOST_SLOTS;
 use crate::tables::Tables;
 use crate::tables::undo::Undo;
-
-/// The most slots of a horizon.
-const MOST_SLOTS: u32 = 10_000;
 
 impl Tables {
     /// Raises the horizon, and gives what undoes it.
@@ -36,11 +33,11 @@ impl Tables {
         ensures most { OnOk result (slots ≤ 10000) }
         ensures cause { IfErr result (λ e. with_horizon self.now.scenario slots ≡ Err e) }
     {
-        if slots <= self.setup.slots || slots > MOST_SLOTS {
+        if slots <= self.setup().slots || slots > MOST_SLOTS {
             return Err(HorizonFault::BadSlots);
         }
-        let cells = self.cells_over(slots);
-        if cells > MOST_CELLS {
+        let cells = self.cells_with(slots);
+        if cells > self.most_cells() {
             return Err(HorizonFault::CellsOver(cells));
         }
         Ok(())

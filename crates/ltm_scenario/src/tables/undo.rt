@@ -9,6 +9,7 @@ ghost use Rattle.std.specs.Prelude.{◌≡◌};
 ghost use Rattle.ltm_scenario.specs.State.{KeepsRoom};
 ghost use Rattle.ltm_scenario.specs.Undo.{undone, CanUndo};
 
+use crate::side::Side;
 use crate::tables::Tables;
 use ltm_demand::DemandRow;
 use ltm_diagram::{Diagram, Limits};
@@ -19,14 +20,9 @@ use ltm_splits::SplitKey;
 pub enum Undo {
     /// The row with the amount that stood at its key.
     Demand(DemandRow),
-    /// The entry limits of a link from a slot on.
-    Entry {
-        link: u32,
-        from: u32,
-        was: Vec<u16>,
-    },
-    /// The exit limits of a link from a slot on.
-    Exit {
+    /// The entry limits, or exit limits, of a link from a slot on.
+    Limit {
+        side: Side,
         link: u32,
         from: u32,
         was: Vec<u16>,
@@ -54,8 +50,12 @@ impl Tables {
     {
         match undo {
             Undo::Demand(row) => self.restore_demand(row),
-            Undo::Entry { link, from, was } => self.restore_entry(link, from, was),
-            Undo::Exit { link, from, was } => self.restore_exit(link, from, was),
+            Undo::Limit {
+                side,
+                link,
+                from,
+                was,
+            } => self.restore_limit(side, link, from, was),
             Undo::NewSplit(key) => self.take_out_split(key),
             Undo::OldSplit(key, was) => self.restore_split(key, was),
             Undo::Diagram {
@@ -75,24 +75,17 @@ impl Tables {
         self.demand.restore(row);
     }
 
-    #[tactic(auto, using(crate::proofs::Undoing::entry_restored))]
-    fn restore_entry(&mut self, link: u32, from: u32, was: Vec<u16>)
-        requires { CanUndo self.old (Undo.Entry link from was) }
-        ensures scenario { self.new.scenario ≡ undone self.old.scenario (Undo.Entry link from was) }
+    #[tactic(auto, using(crate::proofs::Undoing::entry_restored, crate::proofs::Undoing::exit_restored))]
+    fn restore_limit(&mut self, side: Side, link: u32, from: u32, was: Vec<u16>)
+        requires { CanUndo self.old (Undo.Limit side link from was) }
+        ensures scenario { self.new.scenario ≡ undone self.old.scenario (Undo.Limit side link from was) }
         ensures room { KeepsRoom self.old self.new }
     {
         let mut values = was;
-        self.entry.exchange(link, from, &mut values);
-    }
-
-    #[tactic(auto, using(crate::proofs::Undoing::exit_restored))]
-    fn restore_exit(&mut self, link: u32, from: u32, was: Vec<u16>)
-        requires { CanUndo self.old (Undo.Exit link from was) }
-        ensures scenario { self.new.scenario ≡ undone self.old.scenario (Undo.Exit link from was) }
-        ensures room { KeepsRoom self.old self.new }
-    {
-        let mut values = was;
-        self.exit.exchange(link, from, &mut values);
+        match side {
+            Side::Entry => return self.entry.exchange(link, from, &mut values),
+            Side::Exit => return self.exit.exchange(link, from, &mut values),
+        }
     }
 
     #[tactic(auto, using(crate::proofs::Undoing::splits_restored))]

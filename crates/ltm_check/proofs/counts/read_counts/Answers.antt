@@ -1,6 +1,6 @@
 use Rattle.std.proofs.Common.{◌+◌, ℕ, List, [], ◌∷◌, ◌++◌, length-append, option_map, arith, subst, sym, ◌∙◌}
 use Rattle.ltm_curve.specs.Table.{slots_of, Sets}
-use Rattle.ltm_check.specs.CountsTold.{pieces_behind}
+use Rattle.ltm_records.specs.Pieces.{pieces_behind}
 use Rattle.ltm_check.proofs.Reading.{told_more, told_next, puts_next}
 use Rattle.ltm_check.proofs.counts.read_counts.Goals as goal
 

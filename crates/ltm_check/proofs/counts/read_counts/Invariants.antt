@@ -1,7 +1,8 @@
 use Rattle.std.proofs.Common.{◌≡◌, ◌+◌, ◌≤◌, ℕ, List, length, option_map}
 use Rattle.std.specs.List.{slice_split}
 use Rattle.ltm_curve.specs.Table.{slots_of}
-use Rattle.ltm_check.specs.CountsTold.{is_space, each_told, pieces_behind}
+use Rattle.ltm_records.specs.Pieces.{is_space, pieces_behind}
+use Rattle.ltm_check.specs.CountsTold.{each_told}
 use Rattle.ltm_check.proofs.Reading.{before, PutsFirst}
 use Rattle.ltm_check.proofs.counts.read_counts.Given as goal
 

@@ -1,6 +1,7 @@
 use Rattle.std.proofs.Common.{◌≡◌, ◌++◌, ◌+◌}
 use Rattle.ltm_curve.specs.Table.{counts_of}
-use Rattle.ltm_check.specs.Text.{texts_below, further_count}
+use Rattle.ltm_units.specs.Texts.{texts_below}
+use Rattle.ltm_check.specs.Text.{further_count}
 use Rattle.ltm_check.proofs.text.push_further_counts.Given as goal
 
 abbrev pub invariant-loop-slot : goal.invariant-loop-slot

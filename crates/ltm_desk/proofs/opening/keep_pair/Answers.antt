@@ -1,9 +1,9 @@
 use Rattle.std.proofs.Common.{List, ℕ, ap, sym, ◌∙◌, subst, arith}
 use Rattle.ltm_curve.specs.Table.{counts_of}
 use Rattle.ltm_setting.specs.Setting.{setting_of}
-use Rattle.ltm_desk.specs.declared.layout.Part.TheVariants.{Amounts, Weights}
-use Rattle.ltm_desk.specs.Starts.{part_width}
-use Rattle.ltm_desk.specs.Rows.{PutsRow}
+use Rattle.ltm_rows.specs.declared.layout.Part.TheVariants.{Amounts, Weights}
+use Rattle.ltm_rows.specs.Starts.{part_width}
+use Rattle.ltm_rows.specs.Rows.{PutsRow}
 use Rattle.ltm_desk.proofs.Keeping.{parts_are, kept_uncounted}
 use Rattle.ltm_desk.proofs.Beginnings.{keeps_next}
 use Rattle.ltm_desk.proofs.opening.keep_pair.Goals as goal

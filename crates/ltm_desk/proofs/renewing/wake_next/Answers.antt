@@ -3,7 +3,7 @@ use Rattle.std.proofs.lemmas.Bool.{ne_eqb}
 use Rattle.ltm_frontier.specs.Frontier.{is_pair}
 use Rattle.ltm_desk.proofs.Bools.{and_false}
 use Rattle.ltm_desk.proofs.Activating.{act_no}
-use Rattle.ltm_desk.proofs.KeptPlaces.{forgets_past}
+use Rattle.ltm_rows.proofs.KeptPlaces.{forgets_past}
 use Rattle.ltm_desk.proofs.renewing.wake_next.Goals as goal
 
 pub returns-then-slot-slot_count-clause-wakes : goal.returns-then-slot-slot_count-clause-wakes

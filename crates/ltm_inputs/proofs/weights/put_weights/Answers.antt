@@ -1,4 +1,4 @@
-use Rattle.std.proofs.Common.{◌≡◌, ℕ, ◌*◌, ap, arith, ◌∙◌}
+use Rattle.std.proofs.Common.{◌≡◌, ℕ, ◌*◌, ap, arith}
 use Rattle.ltm_setting.specs.Setting.{setting_of}
 use Rattle.ltm_inputs.proofs.Filling.{filled_more, written_one}
 use Rattle.ltm_inputs.proofs.weights.put_weights.Goals as goal

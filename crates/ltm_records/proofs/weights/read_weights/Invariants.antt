@@ -1,5 +1,6 @@
 use Rattle.std.proofs.Common.{◌≡◌, ◌≤◌, length, option_map}
-use Rattle.ltm_records.specs.Weights.{at_most_four, entries_of, pieces_behind, weights_of}
+use Rattle.ltm_records.specs.Pieces.{pieces_behind}
+use Rattle.ltm_records.specs.Weights.{at_most_four, entries_of, weights_of}
 use Rattle.ltm_records.proofs.Pieces.{before}
 use Rattle.ltm_records.proofs.weights.read_weights.Given as goal
 

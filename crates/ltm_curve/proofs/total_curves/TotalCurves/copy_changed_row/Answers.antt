@@ -1,14 +1,10 @@
-use Rattle.std.proofs.Common.{◌≡◌, ◌≢◌, ℕ, ◌+◌, true, inl, inr, arith, ap, sym, ◌∙◌}
+use Rattle.std.proofs.Common.{◌≡◌, ℕ, ◌+◌, true, inl, inr, arith, ap, sym, ◌∙◌}
 use Rattle.std.proofs.lemmas.Bool.{cases_Bool, cases_eq, cases_lt}
 use Rattle.ltm_curve.specs.Table.{groups_of, total_of}
 use Rattle.ltm_curve.specs.Cells.{is_changed}
-use Rattle.ltm_curve.specs.TotalCurves.{total_at, IsTotal, ComesBefore}
+use Rattle.ltm_curve.specs.TotalCurves.{total_at, IsTotal}
 use Rattle.ltm_curve.specs.declared.total_curves.TotalCurves.{TotalCurves}
 use Rattle.ltm_curve.proofs.total_curves.TotalCurves.copy_changed_row.Goals as goal
-
--- what comes before the next boundary comes before this one, but at it
-earlier : (boundary g k : ℕ) → k ≢ boundary → ComesBefore (boundary + 1) 0 g k → ComesBefore boundary 0 g k
-earlier boundary g k apart before = elim before [ inl less ↦ inl (omega (arith, less, apart)) | inr at ↦ absurd (omega (arith, at.1)) ]
 
 pub returns : goal.returns
 returns c =
@@ -43,7 +39,7 @@ returns c =
                 c.copy_total.ensures.others g j is (inr apart)
                 ∙ elim (c.copy_changed_narrow.ensures.others g j old_is) [
                   | inl now ↦ now
-                  | inr stays ↦ stays ∙ c.requires.but.totals g j x y (elim either [ inl off ↦ inl off | inr before ↦ inr (earlier k g j apart before) ])
+                  | inr stays ↦ stays ∙ c.requires.but.totals g j x y (elim either [ inl off ↦ inl off | inr before ↦ inr (omega (arith, before, apart)) ])
                 ]
           ];
     }

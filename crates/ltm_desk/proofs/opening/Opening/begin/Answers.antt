@@ -4,7 +4,7 @@ use Rattle.ltm_node.specs.Inputs.{Inputs}
 use Rattle.ltm_node.specs.Outputs.{Outputs}
 use Rattle.ltm_setting.specs.Setting.{setting_of}
 use Rattle.ltm_flows.proofs.Progress.{working_start}
-use Rattle.ltm_desk.specs.Ready.{HasRows}
+use Rattle.ltm_rows.specs.Rows.{HasRows}
 use Rattle.ltm_desk.proofs.Beginnings.{keeps_first}
 use Rattle.ltm_desk.proofs.Dropping.{most_wide}
 use Rattle.ltm_desk.proofs.opening.Opening.begin.Goals as goal

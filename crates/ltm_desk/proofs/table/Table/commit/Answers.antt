@@ -10,10 +10,9 @@ use Rattle.ltm_setting.specs.Setting.{setting_of}
 use Rattle.ltm_inputs.proofs.Whole.{solvable_inputs}
 use Rattle.ltm_flows.proofs.Steps.{none_arrived}
 use Rattle.ltm_repair.specs.Facts.{IsClaim}
-use Rattle.ltm_desk.specs.declared.layout.Part.TheVariants.{Amounts, Weights}
-use Rattle.ltm_desk.specs.Starts.{part_width}
-use Rattle.ltm_desk.specs.Rows.{PutsRow}
-use Rattle.ltm_desk.specs.Ready.{HasRows}
+use Rattle.ltm_rows.specs.declared.layout.Part.TheVariants.{Amounts, Weights}
+use Rattle.ltm_rows.specs.Starts.{part_width}
+use Rattle.ltm_rows.specs.Rows.{PutsRow, HasRows}
 use Rattle.ltm_desk.specs.Desks.{uncounted, desk_at}
 use Rattle.ltm_desk.proofs.Keeping.{parts_are, rows_left}
 use Rattle.ltm_desk.proofs.Desks.{claimed_on}

@@ -1,6 +1,6 @@
 use Rattle.std.proofs.Common.{refl, sym, ◌∙◌, arith}
 use Rattle.ltm_setting.specs.Setting.{setting_of}
-use Rattle.ltm_desk.specs.Claims.{claim_row}
+use Rattle.ltm_rows.specs.Claims.{claim_row}
 use Rattle.ltm_desk.proofs.Giving.{held, not_held}
 use Rattle.ltm_desk.proofs.table.Table.holds.Goals as goal
 

@@ -1,9 +1,9 @@
 use Rattle.std.proofs.Common.{◌≡◌, ℕ, List, true, false, ap, sym, ◌∙◌, arith}
 use Rattle.std.specs.Prelude.{Some}
 use Rattle.ltm_setting.specs.Setting.{setting_of}
-use Rattle.ltm_desk.specs.declared.layout.Part.TheVariants.{Amounts}
-use Rattle.ltm_desk.specs.Starts.{part_width}
-use Rattle.ltm_desk.specs.Parts.{joined}
+use Rattle.ltm_rows.specs.declared.layout.Part.TheVariants.{Amounts}
+use Rattle.ltm_rows.specs.Starts.{part_width}
+use Rattle.ltm_rows.specs.Parts.{joined}
 use Rattle.ltm_desk.specs.Desks.{uncounted}
 use Rattle.ltm_desk.proofs.Keeping.{parts_are}
 use Rattle.ltm_desk.proofs.Dropping.{at_front, placed_ready, placed_now, indexed_desk, most_wide, settled_here, work_here}

@@ -6,13 +6,12 @@ use Rattle.ltm_loading.specs.Pairs.{pair_row, pair_inputs}
 use Rattle.ltm_loading.specs.Uncounted.{moved_on, outputs_at}
 use Rattle.ltm_setting.specs.Setting.{setting_of}
 use Rattle.ltm_flows.proofs.Steps.{none_moves_in}
-use Rattle.ltm_desk.specs.declared.claim_rows.ClaimRows.{ClaimRows}
-use Rattle.ltm_desk.specs.declared.layout.Part.TheVariants.{Amounts, Weights}
-use Rattle.ltm_desk.specs.Starts.{part_width}
-use Rattle.ltm_desk.specs.Claims.{WritesClaim}
-use Rattle.ltm_desk.specs.Rows.{PutsRow}
-use Rattle.ltm_desk.specs.Ready.{HasRows}
-use Rattle.ltm_desk.proofs.ClaimPlaces.{with_claim}
+use Rattle.ltm_rows.specs.declared.claim_rows.ClaimRows.{ClaimRows}
+use Rattle.ltm_rows.specs.declared.layout.Part.TheVariants.{Amounts, Weights}
+use Rattle.ltm_rows.specs.Starts.{part_width}
+use Rattle.ltm_rows.specs.Claims.{WritesClaim}
+use Rattle.ltm_rows.specs.Rows.{PutsRow, HasRows}
+use Rattle.ltm_rows.proofs.ClaimPlaces.{with_claim}
 use Rattle.ltm_desk.proofs.Keeping.{pair_long, parts_are, kept_uncounted, rows_left}
 use Rattle.ltm_desk.proofs.Dropping.{at_front, most_wide}
 use Rattle.ltm_desk.proofs.Taking.{one_claimed, found_active, found_inputs, claimed_found, found_placed, takes_desk, takes_ready}

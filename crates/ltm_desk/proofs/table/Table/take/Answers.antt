@@ -4,7 +4,7 @@ use Rattle.ltm_node.specs.Shape.{width}
 use Rattle.ltm_loading.specs.Pairs.{pair_row}
 use Rattle.ltm_setting.specs.Setting.{setting_of}
 use Rattle.ltm_repair.specs.Moves.{TakesClaim}
-use Rattle.ltm_desk.specs.Claims.{WritesClaim}
+use Rattle.ltm_rows.specs.Claims.{WritesClaim}
 use Rattle.ltm_desk.specs.Desks.{desk_at}
 use Rattle.ltm_desk.proofs.Desks.{changed_same}
 use Rattle.ltm_desk.proofs.Dropping.{at_front}

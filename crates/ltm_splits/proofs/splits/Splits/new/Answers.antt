@@ -2,7 +2,7 @@ use Rattle.std.proofs.Common.{◌≡◌, List, [], length, refl, sym, subst}
 use Rattle.std.proofs.lemmas.List.Elements.{All-nil}
 use Rattle.std.specs.List.Sorted.{IsStrictlySortedBy}
 use Rattle.ltm_splits.specs.Rows.{IsOrdered, HaveWeights}
-use Rattle.ltm_splits.specs.WeightsLie.{AreWeights}
+use Rattle.ltm_splits.specs.Weights.{AreWeights}
 use Rattle.ltm_splits.specs.Table.{Entry, rows_of_all}
 use Rattle.ltm_splits.proofs.splits.Splits.new.Goals as goal
 

@@ -1,0 +1,27 @@
+-- What a folder gives of the files of a case.
+use Rattle.std.specs.Prelude.{ℕ, nat_le, if◌then◌else◌, List, length, Option, Some, None, option_and_then, Result, Ok, Err}
+use Rattle.ltm_io.specs.declared.doc.Doc.{Doc}
+use Rattle.ltm_io.specs.declared.doc.Doc.TheVariants as doc
+use Rattle.ltm_io.specs.Folder.{Files}
+use Rattle.ltm_casefile.specs.declared.faults.CaseFault.{CaseFault}
+use Rattle.ltm_casefile.specs.declared.faults.CaseFault.TheVariants.{Folder, TooLong}
+use Rattle.ltm_casefile.specs.declared.faults.File.{File}
+use Rattle.ltm_casefile.specs.declared.faults.File.TheVariants as file
+
+-- the file of a folder
+abbrev pub doc_of : File → Option Doc
+doc_of file.Setup = Some doc.Setup
+doc_of file.Links = Some doc.Links
+doc_of file.Demand = Some doc.Demand
+doc_of file.Splits = Some doc.Splits
+doc_of file.Signals = Some doc.Signals
+doc_of file.Whole = None
+
+-- the bytes of a file that is there and has at most 16,777,216 of them
+abbrev pub sized : File → Option (List ℕ) → Result (List ℕ) CaseFault
+sized f None = Err (Folder f)
+sized f (Some bytes) = if nat_le (length bytes) 16777216 then Ok bytes else Err (TooLong f)
+
+-- the same of a file that is one of the folder's
+abbrev pub text_of : Files → File → Result (List ℕ) CaseFault
+text_of files f = sized f (option_and_then files (doc_of f))

@@ -1,5 +1,0 @@
-use Rattle.std.proofs.Common.{◌≡◌, ℕ, ◌<◌, slice_index}
-use Rattle.ltm_desk.proofs.narrow.same_narrow.Given as goal
-
-abbrev pub invariant-loop-place : goal.invariant-loop-place
-invariant-loop-place l = (i : ℕ) → i < l.place → slice_index l.numbers i ≡ slice_index l.others i

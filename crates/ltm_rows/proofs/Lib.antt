@@ -1,0 +1,5 @@
+pub mod RowPlaces
+pub mod KeptPlaces
+pub mod ClaimPlaces
+pub mod PartRows
+pub mod Startings

@@ -1,0 +1,6 @@
+use Rattle.std.proofs.Common.{◌≡◌, ◌↔◌, ℕ, ◌<◌, slice_index}
+use Rattle.std.specs.Prelude.{IsFalse}
+use Rattle.ltm_rows.proofs.comparing.same_in_all.Given as goal
+
+abbrev pub invariant-loop-place : goal.invariant-loop-place
+invariant-loop-place l = IsFalse l.any ↔ ((i : ℕ) → i < l.place → slice_index l.numbers i ≡ slice_index l.others i)

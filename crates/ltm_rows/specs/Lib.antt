@@ -1,0 +1,5 @@
+pub mod Starts
+pub mod Layouts
+pub mod Rows
+pub mod Claims
+pub mod Parts

@@ -1,0 +1,98 @@
+-- The rows that are kept of pairs of node and slot.
+use Rattle.std.specs.Prelude.{◌≡◌, ℕ, ◌<◌, List, ◌++◌, Bool, true, Option, Some, None, if◌then◌else◌}
+use Rattle.ltm_loading.specs.Setting.{Setting}
+use Rattle.ltm_marks.specs.Marks.{is_marked}
+use Rattle.ltm_rows.specs.declared.layout.Part.TheVariants.{Amounts, Weights}
+use Rattle.ltm_rows.specs.declared.rows.KeptRows.{KeptRows}
+use Rattle.ltm_rows.specs.Layouts.{nodes_in, width_in, row_in, LiesAs}
+
+-- for how many nodes there are rows
+abbrev pub nodes_of : KeptRows → ℕ
+nodes_of k = nodes_in k.narrow
+
+-- for how many slots there are rows
+abbrev pub slots_of : KeptRows → ℕ
+slots_of k = k.slots
+
+-- for how many slots there is room
+abbrev pub row_room : KeptRows → ℕ
+row_room k = k.room
+
+-- how many amounts a row of the node has
+abbrev pub amounts_width : KeptRows → ℕ → ℕ
+amounts_width k u = width_in k.narrow u
+
+-- how many weights a row of the node has
+abbrev pub weights_width : KeptRows → ℕ → ℕ
+weights_width k u = width_in k.wide u
+
+-- the amounts in the place of a pair
+unfoldable pub amounts_of : KeptRows → ℕ → ℕ → List ℕ
+amounts_of k u t = row_in k.narrow k.amounts.items u t
+
+-- the weights in the place of a pair
+unfoldable pub weights_of : KeptRows → ℕ → ℕ → List ℕ
+weights_of k u t = row_in k.wide k.weights.items u t
+
+-- the row in the place of a pair
+abbrev pub row_of : KeptRows → ℕ → ℕ → List ℕ
+row_of k u t = amounts_of k u t ++ weights_of k u t
+
+-- whether a row was put there
+abbrev pub has_row : KeptRows → ℕ → ℕ → Bool
+has_row k u t = is_marked k.there u t
+
+-- the row of a pair, if one was put there
+abbrev pub kept_row : KeptRows → ℕ → ℕ → Option (List ℕ)
+kept_row k u t = if has_row k u t then Some (row_of k u t) else None
+
+-- rows of each node for so many slots, as wide as the amounts and the weights of its inputs
+pub record HasRows (s : Setting) (slots : ℕ) (k : KeptRows) : Type 0 where
+  pub amounts : LiesAs s Amounts k.narrow
+  pub weights : LiesAs s Weights k.wide
+  pub same_slots : slots_of k ≡ slots
+
+-- rows lie where they lay
+pub record SamePlaces (old new : KeptRows) : Type 0 where
+  pub narrow : new.narrow ≡ old.narrow
+  pub wide : new.wide ≡ old.wide
+
+-- every row stays, and none is put
+pub record SameRows (old new : KeptRows) : Type 0 where
+  pub places : SamePlaces old new
+  pub rows : (w v : ℕ) → w < nodes_of old → v < slots_of old → row_of new w v ≡ row_of old w v
+  pub there : (w v : ℕ) → has_row new w v ≡ has_row old w v
+
+-- the amounts of one pair are written in their place, and nothing else changes
+pub record PutsAmounts (old new : KeptRows) (u t : ℕ) (amounts : List ℕ) : Type 0 where
+  pub places : SamePlaces old new
+  pub slots : new.slots ≡ old.slots
+  pub here : amounts_of new u t ≡ amounts
+  pub others : (w v : ℕ) → w < nodes_of old → v < slots_of old → (u ≡ w → t ≡ v → ⊥) → amounts_of new w v ≡ amounts_of old w v
+  pub weights : new.weights ≡ old.weights
+  pub there : new.there ≡ old.there
+
+-- the weights of one pair are written in their place, and nothing else changes
+pub record PutsWeights (old new : KeptRows) (u t : ℕ) (weights : List ℕ) : Type 0 where
+  pub places : SamePlaces old new
+  pub slots : new.slots ≡ old.slots
+  pub here : weights_of new u t ≡ weights
+  pub others : (w v : ℕ) → w < nodes_of old → v < slots_of old → (u ≡ w → t ≡ v → ⊥) → weights_of new w v ≡ weights_of old w v
+  pub amounts : new.amounts ≡ old.amounts
+  pub there : new.there ≡ old.there
+
+-- one row is put in its place, and no other changes
+pub record PutsRow (old new : KeptRows) (u t : ℕ) (row : List ℕ) : Type 0 where
+  pub places : SamePlaces old new
+  pub slots : new.slots ≡ old.slots
+  pub here : row_of new u t ≡ row
+  pub there : has_row new u t ≡ true
+  pub others : (w v : ℕ) → w < nodes_of old → v < slots_of old → (u ≡ w → t ≡ v → ⊥) → row_of new w v ≡ row_of old w v
+  pub others_there : (w v : ℕ) → w < nodes_of old → v < slots_of old → (u ≡ w → t ≡ v → ⊥) → has_row new w v ≡ has_row old w v
+
+-- the row of one pair is there no more, if there is such a pair, and no other changes
+pub record ForgetsRow (old new : KeptRows) (u t : ℕ) : Type 0 where
+  pub places : SamePlaces old new
+  pub slots : new.slots ≡ old.slots
+  pub gone : u < nodes_of old → t < slots_of old → kept_row new u t ≡ None
+  pub others : (w v : ℕ) → w < nodes_of old → v < slots_of old → (u ≡ w → t ≡ v → ⊥) → kept_row new w v ≡ kept_row old w v

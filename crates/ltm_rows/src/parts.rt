@@ -1,0 +1,33 @@
+//! The inputs of a pair without its counts.
+ghost use Rattle.std.specs.Prelude.{◌≡◌, ◌+◌, length};
+ghost use Rattle.ltm_node.specs.Solvable.{IsSolvable};
+ghost use Rattle.ltm_rows.specs.declared.layout.Part.TheVariants.{Amounts, Weights};
+ghost use Rattle.ltm_rows.specs.Starts.{part_width};
+ghost use Rattle.ltm_rows.specs.Parts.{joined, without_counts, AreNarrow};
+
+use ltm_node::NodeInputs;
+
+/// What is kept of a pair: what its arms send, and supplies and capacities, which are its amounts; and its weights.
+#[derive(Clone, Copy)]
+pub struct Parts<'a> {
+    pub sends: &'a [u64],
+    pub limits: &'a [u64],
+    pub weights: &'a [u64],
+}
+
+/// What of a pair's inputs is kept.
+#[inline]
+pub fn parts_of(inputs: &NodeInputs) -> Parts<'_>
+    ensures row { joined result ≡ without_counts inputs.now.shape inputs.now.row }
+    ensures amounts { length result.sends.now + length result.limits.now ≡ part_width Amounts inputs.now.shape }
+    ensures weights { length result.weights.now ≡ part_width Weights inputs.now.shape }
+    ensures narrow { IsSolvable inputs.now → AreNarrow result }
+{
+    let shape = inputs.shape();
+    let row = inputs.row();
+    Parts {
+        sends: &row[..shape.counts_begin()],
+        limits: &row[shape.supplies_begin()..shape.weights_begin()],
+        weights: &row[shape.weights_begin()..],
+    }
+}

@@ -1,8 +1,0 @@
-use Rattle.std.proofs.Common.{◌≡◌, map, take}
-use Rattle.ltm_units.specs.declared.places.LinkId.{LinkId}
-use Rattle.ltm_network.specs.Network.{link_name}
-use Rattle.ltm_scenario.specs.Edits.{weight_of}
-use Rattle.ltm_scenario.proofs.tables.Tables.weights_at.Given as goal
-
-abbrev pub invariant-each : goal.invariant-each
-invariant-each l = l.row.items ≡ map (λ (link : LinkId). weight_of l.weights (link_name l.network link.0)) (take l.link-index l.links)

@@ -1,0 +1,209 @@
+"""Reading and writing the files of cases and of other tools, with a Fault that names file, row and field.
+
+`records` cuts bytes into records as the program does (the `csv` crate of Rust): bytes are kept as they are. `read_table` reads
+the tables of other tools: UTF-8, fields by the names of a header, in any order.
+"""
+import codecs
+import csv
+import io
+import os
+import sys
+from collections.abc import Iterable, Iterator, Sequence
+from dataclasses import dataclass
+from fractions import Fraction
+from typing import NamedTuple
+
+from .errors import Fault
+
+
+class Record(NamedTuple):
+    """A record of a file: the line where it begins, counted from 1, and its fields."""
+
+    line: int
+    fields: list[str]
+
+
+def read_bytes(path: str | os.PathLike[str]) -> bytes:
+    """The bytes of a file, or of the standard input where the path is `-`."""
+    try:
+        if os.fspath(path) == "-":
+            return sys.stdin.buffer.read()
+        with open(path, "rb") as file:
+            return file.read()
+    except OSError as error:
+        raise Fault(f"{path}: {error.strerror or error}") from None
+
+
+def decoded(data: bytes, path: str | os.PathLike[str]) -> str:
+    """The text of bytes in UTF-8, with or without its mark; a Fault with advice for any other encoding."""
+    if data.startswith((codecs.BOM_UTF16_LE, codecs.BOM_UTF16_BE)):
+        raise Fault(f"{path}: this is UTF-16 and not UTF-8: iconv -f utf-16 -t utf-8 {path} >NEW turns it into UTF-8")
+    try:
+        return data.decode("utf-8-sig")
+    except UnicodeDecodeError as error:
+        line = data.count(b"\n", 0, error.start) + 1
+        raise Fault(
+            f"{path}: line {line} has the byte 0x{data[error.start]:02x}, which is not UTF-8 and may be Latin-1: "
+            f"iconv -f latin1 -t utf-8 {path} >NEW turns it into UTF-8"
+        ) from None
+
+
+def read_text(path: str | os.PathLike[str]) -> str:
+    """The text of a file in UTF-8, or of the standard input where the path is `-`."""
+    return decoded(read_bytes(path), path)
+
+
+def bytes_text(data: bytes) -> str:
+    """Bytes as text that keeps each of them: UTF-8 where they are, and else a mark for a byte that is none."""
+    return data.decode("utf-8", "surrogateescape")
+
+
+def shown(text: str) -> str:
+    """A text in double quotes as a person can read it in one line: bytes that are no text as \\xfc, and long ones cut."""
+    parts = []
+    for sign in text[:61]:
+        code = ord(sign)
+        if 0xDC80 <= code <= 0xDCFF:
+            parts.append(f"\\x{code - 0xDC00:02x}")
+        elif sign in '"\\':
+            parts.append("\\" + sign)
+        else:
+            parts.append(sign if sign.isprintable() else sign.encode("unicode_escape").decode("ascii"))
+    return '"' + "".join(parts[:60]) + ('"..' if len(parts) > 60 else '"')
+
+
+def records(data: bytes) -> Iterator[Record]:
+    """The records of a file as the program reads them.
+
+    A mark of UTF-8 at the start is taken off; `\\r`, `\\n` and any row of them end a record; quotes stand round a field from its
+    first byte on, a quote in it is written twice, and what comes after the closing quote is kept as it is.
+    """
+    text = bytes_text(data.removeprefix(codecs.BOM_UTF8))
+    if '"' not in text:
+        yield from _plain_records(text)
+    else:
+        yield from _quoted_records(text)
+
+
+def _plain_records(text: str) -> Iterator[Record]:
+    for line, row in enumerate(text.replace("\r\n", "\n").replace("\r", "\n").split("\n"), 1):
+        if row:
+            yield Record(line, row.split(","))
+
+
+def _quoted_records(text: str) -> Iterator[Record]:
+    """The same, sign by sign. A field is at its start, plain, in quotes, or behind its closing quote."""
+    fields: list[str] = []
+    field: list[str] = []
+    state, began, line, last = "start", 1, 1, ""
+    for sign in text:
+        ends_line = sign == "\r" or (sign == "\n" and last != "\r")
+        last = sign
+        if state == "quoted":
+            if sign == '"':
+                state = "closed"
+            else:
+                field.append(sign)
+        elif sign in "\r\n":
+            if fields or state != "start":
+                yield Record(began, [*fields, "".join(field)])
+            fields, field, state = [], [], "start"
+            began = line + 1 if ends_line else line
+        elif sign == ",":
+            fields.append("".join(field))
+            field, state = [], "start"
+        elif sign == '"' and state in ("start", "closed"):
+            if state == "closed":
+                field.append(sign)
+            state = "quoted"
+        else:
+            field.append(sign)
+            state = "plain"
+        line += ends_line
+    if fields or state != "start":
+        yield Record(began, [*fields, "".join(field)])
+
+
+@dataclass(frozen=True, slots=True)
+class Row:
+    """A row of a table, with its fields by name; `place` is as `net/link.csv row 7`, the header being row 1."""
+
+    place: str
+    fields: dict[str, str]
+
+    def fault(self, field: str, rule: str) -> Fault:
+        """A Fault that names the row, the field, and the text that stands there."""
+        return Fault(f"{self.place}: {field} is {shown(self.fields.get(field, ''))}: {rule}")
+
+    def text(self, field: str, default: str | None = None) -> str:
+        """The field without blanks around it, or the default where it is empty or not there."""
+        text = self.fields.get(field, "").strip()
+        if text:
+            return text
+        if default is None:
+            raise self.fault(field, "it is wanted")
+        return default
+
+    def number(self, field: str, default: int | Fraction | None = None) -> Fraction:
+        """The exact number of a field, as `12`, `0.5` or `1.2e3`."""
+        text = self.fields.get(field, "").strip()
+        if text == "" and default is not None:
+            return Fraction(default)
+        try:
+            if "/" in text:
+                raise ValueError
+            return Fraction(text)
+        except (ValueError, ZeroDivisionError):
+            raise self.fault(field, "a number is wanted") from None
+
+    def whole(self, field: str, default: int | None = None) -> int:
+        """The whole number of a field."""
+        number = self.number(field, default)
+        if number.denominator != 1:
+            raise self.fault(field, "a whole number is wanted")
+        return number.numerator
+
+
+def read_table(path: str | os.PathLike[str], wanted: Sequence[str] = ()) -> list[Row]:
+    """The rows of a table with a header, in UTF-8; a Fault where a wanted field is missing from the header."""
+    csv.field_size_limit(1 << 30)
+    reader = csv.reader(io.StringIO(read_text(path), newline=""), skipinitialspace=True)
+    try:
+        rows = [(reader.line_num, row) for row in reader if row]
+    except csv.Error as error:
+        raise Fault(f"{path}: line {reader.line_num}: {error}") from None
+    if not rows:
+        raise Fault(f"{path}: the file is empty, and a header with {', '.join(wanted) or 'fields'} is wanted")
+    names = [name.strip() for name in rows[0][1]]
+    missing = [name for name in wanted if name not in names]
+    if missing:
+        raise Fault(f"{path}: no field {', '.join(missing)} in the header; it has {', '.join(names)}")
+    return [Row(f"{path} row {number}", dict(zip(names, row))) for number, (_, row) in enumerate(rows[1:], 2)]
+
+
+def write_text(path: str | os.PathLike[str], text: str) -> None:
+    """Writes a file in UTF-8, or to the standard output where the path is `-`."""
+    try:
+        if os.fspath(path) == "-":
+            sys.stdout.write(text)
+            return
+        with open(path, "w", encoding="utf-8", newline="\n") as file:
+            file.write(text)
+    except OSError as error:
+        raise Fault(f"{path}: {error.strerror or error}") from None
+
+
+def write_records(path: str | os.PathLike[str], header: Sequence[str], rows: Iterable[Sequence[object]]) -> None:
+    """Writes a file of records as a case has them: fields of plain text with commas between, a line each."""
+    lines = [",".join(str(field) for field in row) for row in (header, *rows)]
+    write_text(path, "".join(line + "\n" for line in lines))
+
+
+def make_folder(path: str | os.PathLike[str]) -> None:
+    """Makes the folder, and those above it, where it is not there."""
+    try:
+        os.makedirs(path, exist_ok=True)
+    except FileExistsError:
+        raise Fault(f"{path}: a file stands there, and a folder is wanted") from None
+    except OSError as error:
+        raise Fault(f"{path}: {error.strerror or error}") from None

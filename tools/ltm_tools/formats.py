@@ -1,0 +1,173 @@
+"""The kinds and limits of all fields and files of a case, and texts of amounts and of times.
+
+Each limit is that of the program (docs/FORMATS.md, docs/MODEL.md); no other module writes one down again.
+"""
+import re
+from decimal import Decimal
+from fractions import Fraction
+
+from .errors import Fault
+
+# files, in bytes
+MOST_FILE_BYTES = 16_777_216
+MOST_CURVES_BYTES = 268_435_456
+
+# names and whole numbers
+NAME = re.compile(r"[A-Za-z0-9_-]{1,32}", re.ASCII)
+NAME_RULE = "1 to 32 ASCII letters, digits, _ or -"
+WHOLE = re.compile(r"[0-9]{1,10}", re.ASCII)
+WHOLE_BELOW = 2**32
+WHOLE_RULE = "1 to 10 digits with a value below 4294967296"
+VEHICLES = re.compile(r"[0-9]+(?:\.[0-9]{1,3})?", re.ASCII)
+VEHICLES_RULE = "digits, or digits, a point and 1 to 3 digits, at most 1000000 vehicles"
+WEIGHTS_RULE = "1 to 4 entries NAME=NUMBER with one space between two, and no name twice"
+
+# amounts, in thousandths of a vehicle
+UNITS = 1000  # in a vehicle
+MOST_UNITS = 1_000_000_000  # of a row of demand, and of any field with vehicles
+MOST_SLOT_UNITS = 32_000  # that pass a link or leave an origin in a slot
+
+# time
+MOST_STEP_MS = 60_000
+MOST_SLOTS = 10_000
+MINUTE_MS = 60_000
+HOUR_MS = 3_600_000
+
+# the diagram of a link
+MOST_LENGTH_M = 1_000_000
+MOST_KMH = 1_000
+MOST_JAM_PER_KM = 10_000
+
+# the network and its tables
+MOST_LINKS = 4_000
+MOST_OUT = 4  # links out of a node
+MOST_IN = 4  # links into a node
+MOST_DESTINATIONS = 64
+MOST_DEMAND_ROWS = 10_000
+MOST_SPLIT_ROWS = 50_000
+MOST_WEIGHTS = 4  # of a split row
+MOST_CELLS = 54_000_000
+MOST_CELLS_ASKED = 2_000_000_000  # in the column `cells`
+
+# scripts and batches
+MOST_EDITS = 32  # of a batch
+MOST_LINES = 100_000  # of a script
+MOST_LINE_BYTES = 65_536  # of a line of a script
+MOST_EDITOR_LINES = 10_000  # of a file of edits
+MOST_WORKERS = 64
+MOST_EDITORS = 8
+
+# the files of a case, in the order in which they are read: the fields of each header
+SETUP = ("step_ms", "slots", "origin_capacity")
+SETUP_MORE = ("signals",)  # may stand behind these three, each or not, in this order
+SETUP_LATER = ("signals", "limits", "cells")  # what these tools read there: the program of today knows `signals` alone
+LINKS = ("link", "from", "to", "length_m", "free_kmh", "wave_kmh", "jam_per_km")
+DEMAND = ("origin", "destination", "from_slot", "to_slot", "vehicles")
+SPLITS = ("node", "destination", "from_slot", "weights")
+SIGNALS = ("link", "from_slot", "to_slot", "vehicles")
+HEADERS = {"setup": SETUP, "links": LINKS, "demand": DEMAND, "splits": SPLITS, "signals": SIGNALS, "limits": SIGNALS}
+CURVES = ("kind", "name", "destination", "counts")
+
+
+def is_name(text: str) -> bool:
+    """Whether the text can name a link or a node."""
+    return NAME.fullmatch(text) is not None
+
+
+def whole_of(text: str) -> int | None:
+    """The whole number that a field of a case tells, or None where it is not of that kind."""
+    if WHOLE.fullmatch(text) is None or int(text) >= WHOLE_BELOW:
+        return None
+    return int(text)
+
+
+def units_or_none(text: str) -> int | None:
+    """The amount that a field of a case tells, in thousandths of a vehicle, or None where it is not of that kind."""
+    if VEHICLES.fullmatch(text) is None:
+        return None
+    whole, _, part = text.partition(".")
+    front = whole.lstrip("0") or "0"
+    if len(front) > 7:
+        return None
+    units = int(front) * UNITS + int((part + "000")[:3])
+    return units if units <= MOST_UNITS else None
+
+
+def units_of(text: str) -> int:
+    """The amount that a text tells in vehicles, as `7`, `7.2` or `7.225`, in thousandths of a vehicle."""
+    units = units_or_none(text)
+    if units is None:
+        raise Fault(f"{text!r} is no number of vehicles: {VEHICLES_RULE}")
+    return units
+
+
+def exact_units(vehicles: int | str | Decimal | Fraction) -> int:
+    """Vehicles as thousandths, where they are exactly that: `"1.25"`, `Decimal("1.25")` and `Fraction(5, 4)` give 1250."""
+    if isinstance(vehicles, str):
+        return units_of(vehicles)
+    exact = Fraction(vehicles) * UNITS
+    if exact.denominator != 1:
+        raise Fault(f"{vehicles} vehicles are no whole number of thousandths")
+    return exact.numerator
+
+
+def weights_or_none(text: str) -> dict[str, int] | None:
+    """The weights by link that a field of a case tells, or None where it is not of that kind."""
+    weights: dict[str, int] = {}
+    entries = text.split(" ")
+    for entry in entries:
+        name, equals, number = entry.partition("=")
+        weight = whole_of(number)
+        if not equals or weight is None or not is_name(name) or name in weights:
+            return None
+        weights[name] = weight
+    return weights if len(entries) <= MOST_WEIGHTS else None
+
+
+def vehicles_text(units: int) -> str:
+    """Thousandths as vehicles with three decimals, as the program prints them: 1250 is `1.250`."""
+    sign = "-" if units < 0 else ""
+    return f"{sign}{abs(units) // UNITS}.{abs(units) % UNITS:03}"
+
+
+def short_vehicles(units: int) -> str:
+    """Thousandths as vehicles without zeros at the end, for files: 1250 is `1.25`, and 7000 is `7`."""
+    return vehicles_text(units).rstrip("0").rstrip(".")
+
+
+def weights_text(weights: dict[str, int]) -> str:
+    """Weights as a field of `splits.csv`: `a=1 b=3`."""
+    return " ".join(f"{name}={weight}" for name, weight in weights.items())
+
+
+def count_text(number: int) -> str:
+    """A whole number with commas between thousands: `54,000,000`."""
+    return f"{number:,}"
+
+
+def counted(number: int, what: str) -> str:
+    """A number of things: `1 link`, `4,000 links`."""
+    return f"{count_text(number)} {what}{'s' * (number != 1)}"
+
+
+CLOCK = re.compile(r"([0-9]{1,3}):([0-5][0-9])(?::([0-5][0-9])(?:\.([0-9]{1,3}))?)?", re.ASCII)
+
+
+def clock_ms(text: str) -> int:
+    """Milliseconds since midnight of a clock time, as `7:45`, `07:45:30` or `07:45:30.5`."""
+    found = CLOCK.fullmatch(text.strip())
+    if found is None:
+        raise Fault(f"{text!r} is no clock time, as 7:45 or 07:45:30")
+    hours, minutes, seconds, part = found.groups()
+    return int(hours) * HOUR_MS + int(minutes) * MINUTE_MS + int(seconds or 0) * 1000 + int(((part or "") + "000")[:3])
+
+
+def clock_text(ms: int) -> str:
+    """A moment or a span in milliseconds as a clock tells it: `7:45`, with seconds and thousandths only where there are some."""
+    minutes, rest = divmod(ms, MINUTE_MS)
+    text = f"{minutes // 60}:{minutes % 60:02}"
+    if rest:
+        text += f":{rest // 1000:02}"
+    if rest % 1000:
+        text += f".{rest % 1000:03}".rstrip("0")
+    return text

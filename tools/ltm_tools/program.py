@@ -1,0 +1,73 @@
+"""The proved program `ltm`: where it is, and running it in the folder of a case."""
+import argparse
+import os
+import shutil
+import subprocess
+import sys
+from collections.abc import Sequence
+from pathlib import Path
+from typing import IO
+
+from .errors import Fault
+
+CLONE = Path(__file__).resolve().parents[2]
+BUILT = CLONE / "crates" / "ltm" / "out" / "ltm"
+HOW = "./ltm --prove in a clone of the repository makes it, and --program FILE or the variable LTM names one"
+
+
+def add_program_argument(parser: argparse.ArgumentParser) -> None:
+    """The option `--program`, for commands that run the program."""
+    parser.add_argument("--program", metavar="FILE", help="the program ltm (else $LTM, the one built in the clone, or ltm on the path)")
+
+
+def find_program(program: str | os.PathLike[str] | None = None) -> Path:
+    """The absolute path of the program: the one named, else that of the variable LTM, else the one built in the clone, else one beside
+    this command, else `ltm` on the path; a Fault that says how to have it where there is none."""
+    named = program or os.environ.get("LTM")
+    if named:
+        path = Path(named).absolute()
+        if not path.is_file() or not os.access(path, os.X_OK):
+            raise Fault(f"{named} is no program that can be run: {HOW}")
+        return path
+    for path in (BUILT, Path(sys.argv[0]).resolve().with_name("ltm")):  # the second where ./ltm --install put both side by side
+        if path.is_file() and os.access(path, os.X_OK):
+            return path
+    found = shutil.which("ltm")
+    if found is None:
+        raise Fault(f"the program ltm is not built: {HOW}")
+    return Path(found).absolute()
+
+
+def check_folder(folder: str | os.PathLike[str]) -> None:
+    """A Fault where the folder of a case is none, or may not be entered."""
+    if not os.path.isdir(folder):
+        raise Fault(f"{folder} is no folder")
+    if not os.access(folder, os.X_OK):
+        raise Fault(f"{folder} may not be entered")
+
+
+def start(folder: str | os.PathLike[str], words: Sequence[str], program: str | os.PathLike[str] | None = None,
+          stdin: int | IO[bytes] = subprocess.DEVNULL) -> "subprocess.Popen[bytes]":
+    """The program with these words, started in a folder, its output a pipe."""
+    path = find_program(program)
+    check_folder(folder)
+    try:
+        return subprocess.Popen([str(path), *words], cwd=folder, stdin=stdin, stdout=subprocess.PIPE)
+    except OSError as error:
+        raise Fault(f"{path}: {error.strerror or error}") from None
+
+
+def output(folder: str | os.PathLike[str], *words: str, program: str | os.PathLike[str] | None = None, script: bytes | None = None) -> bytes:
+    """What the program writes with these words in a folder, `script` on its standard input; a Fault where its status is not 0."""
+    with start(folder, words, program, subprocess.DEVNULL if script is None else subprocess.PIPE) as process:
+        written, _ = process.communicate(script)
+    if process.returncode:
+        raise Fault(refusal(folder, words, process.returncode, written))
+    return written
+
+
+def refusal(folder: str | os.PathLike[str], words: Sequence[str], status: int, written: bytes) -> str:
+    """One line for a run that ended with another status than 0."""
+    lines = written.decode("utf-8", "backslashreplace").splitlines()
+    told = lines[-1] if lines else "it wrote nothing"
+    return f"{folder}: ltm {' '.join(words)} ended with status {status}: {told}"

@@ -1,0 +1,162 @@
+"""A session of the program over a pipe: a line to it, and a line back.
+
+    with Session("examples/closures", workers=2) as session:
+        session.edit(edits.limit("west_north", 60, 90, 0))
+        version, recomputed = session.settle()
+        print(vehicles_text(session.totals().arrived))
+
+Amounts come back as whole thousandths of a vehicle, times as whole milliseconds.
+"""
+import json
+import os
+import subprocess
+from types import TracebackType
+from typing import NamedTuple
+
+from .edits import Edit
+from .errors import Fault
+from .formats import MOST_EDITS, MOST_LINE_BYTES, MOST_WORKERS, UNITS
+from .program import start
+
+
+class Refused(Fault):
+    """The session refused a line. `cause` is its word for why, as `UnknownName`; `edit` is the first edit that is refused, counted
+    from 1, and 0 where it is no edit."""
+
+    def __init__(self, answer: str, cause: str, edit: int = 0) -> None:
+        self.cause, self.edit = cause, edit
+        super().__init__(answer)
+
+
+class Settled(NamedTuple):
+    """What a settle tells: the accepted batches, and how many pairs of node and slot were worked out anew."""
+
+    version: int
+    recomputed: int
+
+
+class Totals(NamedTuple):
+    """The totals at the end of the horizon, in thousandths of a vehicle."""
+
+    version: int
+    generated: int
+    arrived: int
+    on_links: int
+    waiting: int
+
+
+class Passed(NamedTuple):
+    """What has entered and left a link by the end of the horizon, in thousandths of a vehicle."""
+
+    version: int
+    entered: int
+    left: int
+
+
+class LinkTime(NamedTuple):
+    """How long a link takes whoever enters in a slot, in ms; None where those before have not left by the end."""
+
+    version: int
+    ms: int | None
+
+
+class Session:
+    """A session of a case. It is a context manager; `close` ends it, and a Fault tells what went wrong."""
+
+    def __init__(self, folder: str | os.PathLike[str], workers: int = 0, program: str | os.PathLike[str] | None = None) -> None:
+        if not 0 <= workers <= MOST_WORKERS:
+            raise Fault(f"a session has 0 to {MOST_WORKERS} workers, and not {workers}")
+        self.folder = folder
+        self.words = ["session", str(workers)]
+        self.process = start(folder, self.words, program, subprocess.PIPE)
+
+    def __enter__(self) -> "Session":
+        return self
+
+    def __exit__(self, kind: type[BaseException] | None, error: BaseException | None, trace: TracebackType | None) -> None:
+        if kind is None:
+            self.close()
+        else:
+            self._let_go()
+
+    def close(self) -> None:
+        """Ends the session; a Fault where the program tells one."""
+        assert self.process.stdin is not None and self.process.stdout is not None
+        try:
+            self.process.stdin.close()
+        except BrokenPipeError:
+            pass
+        rest = self.process.stdout.read().decode("utf-8", "backslashreplace").strip()
+        status = self.process.wait()
+        self._let_go()
+        if status:
+            raise Fault(f"{self.folder}: ltm {' '.join(self.words)} ended with status {status}" + (f": {rest}" if rest else ""))
+
+    def _let_go(self) -> None:
+        """Closes both pipes, at which the program ends, and waits for that."""
+        for pipe in (self.process.stdin, self.process.stdout):
+            if pipe is not None:
+                try:
+                    pipe.close()
+                except OSError:
+                    pass
+        self.process.wait()
+
+    def ask(self, **command: object) -> list[str]:
+        """The words of the answer to a command of a script, as `ask(do="totals")`; Refused where it is refused."""
+        assert self.process.stdin is not None and self.process.stdout is not None
+        line = json.dumps(command).encode("ascii")
+        if len(line) > MOST_LINE_BYTES:
+            raise Fault(f"a line of {len(line)} bytes is too long for a session: at most {MOST_LINE_BYTES}")
+        try:
+            self.process.stdin.write(line + b"\n")
+            self.process.stdin.flush()
+        except BrokenPipeError:
+            pass  # it has ended, and its last line says why
+        answer = self.process.stdout.readline().decode("utf-8", "backslashreplace").strip()
+        words = answer.split()
+        if not words or words[:2] in (["bad", "case"], ["too", "long"], ["too", "many"]):
+            self._let_go()
+            raise Fault(f"{self.folder}: ltm {' '.join(self.words)} ended with status {self.process.returncode}: {answer or 'no answer'}")
+        if words[0] == "refused":
+            raise _refused(answer, words)
+        return words
+
+    def edit(self, *edits: Edit) -> int:
+        """Makes a batch of edits, whole or not at all: the number of accepted batches. See the module `edits`."""
+        if not 1 <= len(edits) <= MOST_EDITS:
+            raise Fault(f"a batch has 1 to {MOST_EDITS} edits, and not {len(edits)}")
+        return int(self.ask(do="edit", edits=edits)[2])
+
+    def settle(self) -> Settled:
+        """Works out anew what the edits change, and shows it."""
+        words = self.ask(do="settle")
+        return Settled(int(words[2]), int(words[4]))
+
+    def totals(self) -> Totals:
+        """The totals of the loading that is shown."""
+        words = self.ask(do="totals")
+        return Totals(int(words[1]), *(_units(words[place]) for place in (3, 5, 7, 9)))
+
+    def link(self, name: str) -> Passed:
+        """What has entered and left a link in the loading that is shown."""
+        words = self.ask(do="link", link=name)
+        return Passed(int(words[1]), _units(words[5]), _units(words[7]))
+
+    def time(self, name: str, slot: int) -> LinkTime:
+        """How long a link takes whoever enters it in a slot, in the loading that is shown."""
+        words = self.ask(do="time", link=name, slot=slot)
+        return LinkTime(int(words[1]), None if words[7] == "none" else int(words[7]))
+
+
+def _units(text: str) -> int:
+    """Thousandths of an amount with three decimals, of any size."""
+    whole, _, part = text.partition(".")
+    return int(whole) * UNITS + int(part)
+
+
+def _refused(answer: str, words: list[str]) -> Refused:
+    """`refused edit P CAUSE ..`, `refused link CAUSE`, `refused command NotCommand P` and the like."""
+    if words[1] == "edit":
+        return Refused(answer, " ".join(words[3:]), int(words[2]))
+    return Refused(answer, words[2], int(words[3]) if len(words) > 3 else 0)

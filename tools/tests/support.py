@@ -1,0 +1,49 @@
+"""What several tests use: folders that are made and let go, cases as texts, and a program that is made for a test."""
+import os
+import stat
+import sys
+import tempfile
+import unittest
+from pathlib import Path
+
+TOOLS = Path(__file__).resolve().parents[1]
+CLONE = TOOLS.parent
+EXAMPLES = CLONE / "examples"
+BUILT = Path(os.environ.get("LTM") or CLONE / "crates" / "ltm" / "out" / "ltm")
+needs_program = unittest.skipUnless(os.access(BUILT, os.X_OK), "the program ltm is not built")
+
+# the smallest case, as examples/one_road has it
+ROAD = {
+    "setup": "step_ms,slots,origin_capacity\n1000,4,1\n",
+    "links": "link,from,to,length_m,free_kmh,wave_kmh,jam_per_km\na,n1,n2,20,36,18,150\n",
+    "demand": "origin,destination,from_slot,to_slot,vehicles\nn1,n2,0,2,1\n",
+    "splits": "node,destination,from_slot,weights\nn1,n2,0,a=1\n",
+}
+
+
+class FolderTest(unittest.TestCase):
+    """A test with an empty folder of its own, `self.folder`."""
+
+    def setUp(self) -> None:
+        made = tempfile.TemporaryDirectory()
+        self.addCleanup(made.cleanup)
+        self.folder = Path(made.name)
+
+    def case(self, **files: str | bytes | None) -> Path:
+        """The smallest case in a folder, with these files in place of its own; None takes one out."""
+        folder = self.folder / "case"
+        folder.mkdir(exist_ok=True)
+        for name, text in {**ROAD, **files}.items():
+            path = folder / f"{name}.csv"
+            if text is None:
+                path.unlink(missing_ok=True)
+            else:
+                path.write_bytes(text.encode() if isinstance(text, str) else text)
+        return folder
+
+    def program(self, body: str) -> Path:
+        """A program in Python in place of `ltm`."""
+        path = self.folder / "made_program"
+        path.write_text(f"#!{sys.executable}\nimport sys\n{body}\n")
+        path.chmod(path.stat().st_mode | stat.S_IXUSR)
+        return path

@@ -1,0 +1,124 @@
+"""The command line: what is wrong is one line and status 1, never a traceback."""
+import os
+import subprocess
+import sys
+import unittest
+from pathlib import Path
+from unittest import mock
+
+from support import CLONE, EXAMPLES, FolderTest, TOOLS
+from ltm_tools import cli, libraries
+from ltm_tools.errors import Fault
+
+LOADING = """kind,name,destination,counts
+up,-a,n2,0 500 1000 1000 1000
+down,-a,n2,0 0 0 500 1000
+dep,n1,n2,0 500 1000 1000 1000
+dep,n2,n2,0 0 0 0 0
+arr,n2,n2,0 0 0 500 1000
+"""
+
+
+def has(*names: str) -> bool:
+    return subprocess.run([libraries.DEBIAN_PYTHON, "-c", libraries.PROBE, *names], capture_output=True).returncode == 0 if os.path.exists(libraries.DEBIAN_PYTHON) else False
+
+
+class Command(FolderTest):
+    def run_tool(self, *words: "str | Path", **more: object) -> "subprocess.CompletedProcess[str]":
+        return subprocess.run([sys.executable, TOOLS / "ltm-tools", *words], cwd=self.folder, capture_output=True, text=True, timeout=60, **more)  # type: ignore[call-overload, no-any-return]
+
+    def assertFault(self, done: "subprocess.CompletedProcess[str]", part: str) -> None:
+        self.assertEqual((done.returncode, done.stdout), (1, ""), done.stderr)
+        self.assertEqual(len(done.stderr.splitlines()), 1, done.stderr)
+        self.assertIn(part, done.stderr)
+
+    def test_help_names_every_command(self) -> None:
+        told = self.run_tool("--help").stdout
+        for module in cli.commands():
+            self.assertIn(module.NAME, told)
+            one = self.run_tool(module.NAME, "--help")
+            self.assertEqual(one.returncode, 0)
+            self.assertIn(module.SUMMARY.split()[0], one.stdout)
+            self.assertIn(module.EXAMPLES.splitlines()[-1], one.stdout)
+
+    def test_words_that_are_wrong(self) -> None:
+        self.assertFault(self.run_tool(), "required: COMMAND")
+        self.assertFault(self.run_tool("inspekt"), "invalid choice: 'inspekt'")
+        self.assertFault(self.run_tool("inspect"), "required: folder")
+        self.assertFault(self.run_tool("inspect", "case", "--lnks"), "unrecognized arguments: --lnks")
+
+    def test_files_that_are_wrong(self) -> None:
+        self.assertFault(self.run_tool("inspect", "nowhere"), "nowhere is no folder")
+        network = self.folder / "network"
+        network.mkdir()
+        self.assertFault(self.run_tool("from-gmns", network, "case"), "link.csv")
+        (network / "link.csv").write_bytes(b"")
+        self.assertFault(self.run_tool("from-gmns", network, "case"), "link.csv")
+        (network / "link.csv").write_bytes("link_id,from_node_id,to_node_id,length,free_speed,capacity\nStraße,1,2,100,50,900\n".encode("latin-1"))
+        done = self.run_tool("from-gmns", network, "case")  # read as the Latin-1 that it is: it is the name that is wrong
+        self.assertEqual((done.returncode, done.stdout), (1, ""), done.stderr)
+        self.assertRegex(done.stderr, r"^cannot be carried: link 'Straße': .*\n.*--rename.*\n$")
+
+    @unittest.skipIf(os.geteuid() == 0, "root may read each folder")
+    def test_a_folder_without_rights(self) -> None:
+        folder = self.case()
+        folder.chmod(0)
+        self.addCleanup(folder.chmod, 0o755)
+        self.assertFault(self.run_tool("inspect", folder), "may not be entered")
+
+    def test_files_that_are_no_text(self) -> None:
+        done = self.run_tool("inspect", self.case(links=b"link\xff\n"))
+        self.assertIn('"link\\xff"', done.stdout)
+
+    def test_a_reader_that_has_gone(self) -> None:
+        read, write = os.pipe()
+        os.close(read)
+        done = subprocess.run([sys.executable, TOOLS / "ltm-tools", "inspect", EXAMPLES / "merge"], stdout=write, stderr=subprocess.PIPE, text=True)
+        os.close(write)
+        self.assertEqual((done.returncode, done.stderr), (1, ""))
+
+    def test_a_folder_whose_name_begins_with_a_dash(self) -> None:
+        self.case().rename(self.folder / "-case")
+        self.assertIn("takes the case", self.run_tool("inspect", "--", "-case").stdout)
+        self.assertFault(self.run_tool("inspect", "-case"), "required: folder")
+
+    def test_the_clone_stays_as_it_is(self) -> None:
+        self.run_tool("inspect", self.case())
+        self.assertFalse((TOOLS / "ltm_tools" / "__pycache__").exists())
+
+
+class Libraries(unittest.TestCase):
+    def test_a_library_that_is_missing_is_named(self) -> None:
+        with mock.patch.object(libraries, "_debian_has", return_value=False), self.assertRaisesRegex(Fault, "apt-get install python3-matplotlib"):
+            with mock.patch.object(libraries, "missing", return_value=["matplotlib"]):
+                libraries.need(["matplotlib"])
+
+    def test_debian_s_python_runs_what_this_one_cannot(self) -> None:
+        with mock.patch.object(libraries, "missing", return_value=["matplotlib"]), mock.patch.object(libraries, "_debian_has", return_value=True), \
+                mock.patch("os.execve") as run, mock.patch.object(sys, "argv", ["ltm-tools", "plot", "link"]), mock.patch.dict(os.environ):
+            os.environ.pop(libraries.TRIED, None)
+            with self.assertRaises(Fault):  # since execve, which is made for the test, comes back
+                libraries.need(["matplotlib"])
+            python, words, environment = run.call_args.args
+            self.assertEqual((python, words[3:], environment[libraries.TRIED]), ("/usr/bin/python3", [str(TOOLS), "plot", "link"], "1"))
+            os.environ[libraries.TRIED] = "1"
+            with self.assertRaises(Fault):
+                libraries.need(["matplotlib"])
+            self.assertEqual(run.call_count, 1)
+
+
+@unittest.skipUnless(has("matplotlib"), "there is no matplotlib for /usr/bin/python3")
+class Pictures(FolderTest):
+    def test_a_link_whose_name_begins_with_a_dash(self) -> None:
+        """By the Python that runs the tests, whichever that is."""
+        case = self.case(links="link,from,to,length_m,free_kmh,wave_kmh,jam_per_km\n-a,n1,n2,20,36,18,150\n", curves=LOADING)
+        picture = self.folder / "link.png"
+        for words in (["link", case, "-a", picture], ["path", case, "-a", picture], ["arrivals", case, picture]):
+            done = subprocess.run([sys.executable, TOOLS / "ltm-tools", "plot", words[0], "--", *words[1:]], capture_output=True, text=True, cwd=CLONE)
+            self.assertEqual((done.returncode, done.stderr), (0, ""))
+            self.assertEqual(picture.read_bytes()[:8], b"\x89PNG\r\n\x1a\n")
+            picture.unlink()
+
+
+if __name__ == "__main__":
+    unittest.main()

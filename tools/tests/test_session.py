@@ -1,0 +1,73 @@
+"""A session over a pipe, with a program that is made for the test and with the proved one."""
+import unittest
+
+from support import BUILT, EXAMPLES, FolderTest, needs_program
+from ltm_tools import edits
+from ltm_tools.errors import Fault
+from ltm_tools.session import Refused, Session
+
+# answers each line by the next of these lines, and writes what it was asked into asked.txt where it runs
+ANSWERS = """
+answers = {answers!r}
+with open("asked.txt", "w") as asked:
+    for line, answer in zip(sys.stdin, answers):
+        asked.write(line)
+        asked.flush()
+        print(answer, flush=True)
+sys.exit({status})
+"""
+
+
+class Made(FolderTest):
+    def session(self, *answers: str, status: int = 0) -> Session:
+        return Session(self.case(), program=self.program(ANSWERS.format(answers=answers, status=status)))
+
+    def test_answers_become_numbers(self) -> None:
+        with self.session("accepted version 3", "settled version 3 recomputed 42", "version 3 generated 7.000 arrived 6.050 on_links 1.000 waiting 0.001",
+                          "version 3 link a in 7.000 out 6.999", "version 3 link a slot 2 time 2500", "version 3 link a slot 9 time none") as session:
+            self.assertEqual(session.edit(edits.limit("a", 60, 90, 1250), edits.limit("a", 60, 90)), 3)
+            self.assertEqual(session.settle(), (3, 42))
+            self.assertEqual(session.totals(), (3, 7000, 6050, 1000, 1))
+            self.assertEqual(session.link("a"), (3, 7000, 6999))
+            self.assertEqual(session.time("a", 2), (3, 2500))
+            self.assertEqual(session.time("a", 9), (3, None))
+        self.assertEqual((self.folder / "case" / "asked.txt").read_text().splitlines()[0],
+                         '{"do": "edit", "edits": [{"kind": "limit", "link": "a", "from": 60, "to": 90, "vehicles": "1.25"}, '
+                         '{"kind": "limit", "link": "a", "from": 60, "to": 90, "vehicles": "32"}]}')
+
+    def test_refusals(self) -> None:
+        with self.session("refused edit 2 Diagram StepTooLong 1440 7200", "refused link UnknownName", "refused command NotCommand 1") as session:
+            for cause, edit in (("Diagram StepTooLong 1440 7200", 2), ("UnknownName", 0), ("NotCommand", 1)):
+                with self.assertRaises(Refused) as caught:
+                    session.edit(edits.horizon(9))
+                self.assertEqual((caught.exception.cause, caught.exception.edit), (cause, edit))
+
+    def test_a_session_that_ends(self) -> None:
+        with self.assertRaisesRegex(Fault, "status 6: bad case links row 2 NoCapacity"):
+            with self.session("bad case links row 2 NoCapacity", status=6) as session:
+                session.totals()
+        with self.assertRaisesRegex(Fault, "status 9: no answer"):
+            with self.session(status=9) as session:
+                session.totals()
+
+    def test_no_program(self) -> None:
+        with self.assertRaisesRegex(Fault, "nowhere is no program that can be run"):
+            Session(self.case(), program=self.folder / "nowhere")
+        with self.assertRaisesRegex(Fault, "is no folder"):
+            Session(self.folder / "nowhere", program=self.program(""))
+
+
+@needs_program
+class Proved(unittest.TestCase):
+    def test_the_worked_session(self) -> None:
+        """The session of the first example of README, by its stored output."""
+        with Session(EXAMPLES / "spillback", program=BUILT) as session:
+            self.assertEqual(session.edit(edits.diagram("b", 20, 36, 18, 150)), 1)
+            self.assertEqual(session.settle().version, 1)
+            self.assertEqual(session.totals(), (1, 7000, 6000, 1000, 0))
+            with self.assertRaises(Refused):
+                session.link("nowhere")
+
+
+if __name__ == "__main__":
+    unittest.main()

@@ -1,0 +1,308 @@
+"""`./ltm`, with an `rt` and a program that are made for the test, in a small clone and a clean environment."""
+import os
+import shutil
+import signal
+import subprocess
+import time
+import unittest
+from pathlib import Path
+
+from support import CLONE, FolderTest, TOOLS
+from ltm_tools.errors import Fault
+from ltm_tools.proof_plan import Plan, read_costs, read_crates, stands_on
+
+# `rt try`: says what it was called with, and answers as the test wants
+ANSWERS = """#!/bin/bash
+printf '%s\\n' "$PWD" "$@" >"$MADE/called"
+cat >"$MADE/stdin"
+{body}
+"""
+ENDED = "echo 'checked: ended status={0}' >&2; echo 'run=ended status={0} runners=1 races=unchecked proved=no' >&2; exit {0}"
+
+# `rt` for a proof: crates.txt of the folder says which crates `all check` proves
+PROVES = """#!/bin/bash
+echo "$@ in ${{PWD##*/}}" >>"$MADE/log"
+case $1 in
+    version) echo made-kit ;;
+    all) ls crates | while read -r name; do grep -q "^$name:" crates.txt || exit 1; echo "== $name"; echo "logic=proved"; done || exit 2 ;;
+    lib) echo "logic=proved" ;;
+    run) mkdir -p out; printf '#!/bin/bash\\necho proved program: "$@"\\n' >out/ltm; chmod +x out/ltm; echo a run ;;
+esac
+{body}
+"""
+CRATES = "# the crates\nltm: ltm_a ltm_b ltm_c ltm_d\n" + "".join(f"ltm_{name}: ltm_low csv\n" for name in "abcd") + "\n# below\nltm_low:\nltm_low_tests: ltm_low\n"
+COSTS = "| crate | proof | tests | edits | crate | proof | tests | edits |\n|---|---|---|---|---|---|---|---|\n| ltm | 120 | 300 | | low | 60 | | |\n" + "".join(
+    f"| {name} | 60 | | 2 (90) | | | | |\n" for name in "abcd")
+
+
+class Clone(FolderTest):
+    """A clone with a program crate, three below it and one of tests; `rt` stands in a folder of its own."""
+
+    def setUp(self) -> None:
+        super().setUp()
+        self.top, self.made = self.folder / "clone", self.folder / "made"
+        self.top.mkdir()
+        (self.made / "bin").mkdir(parents=True)
+        shutil.copy(CLONE / "ltm", self.top / "ltm")
+        (self.top / "tools").mkdir()
+        shutil.copy(TOOLS / "ltm-tools", self.top / "tools" / "ltm-tools")
+        shutil.copytree(TOOLS / "ltm_tools", self.top / "tools" / "ltm_tools", ignore=shutil.ignore_patterns("__pycache__"))
+        (self.top / "crates.txt").write_text(CRATES)
+        (self.top / "CONTRIBUTING.md").write_text(COSTS)
+        for crate in ("ltm", "ltm_a", "ltm_b", "ltm_c", "ltm_d", "ltm_low", "ltm_low_tests"):
+            (self.top / "crates" / crate / "src").mkdir(parents=True)
+            (self.top / "crates" / crate / "src" / "lib.rt").write_text(f"// {crate}\n")
+        self.built = self.top / "crates" / "ltm" / "out" / "ltm"
+        self.case()
+
+    def rt(self, text: str, body: str = "") -> None:
+        path = self.made / "bin" / "rt"
+        path.write_text(text.format(body=body))
+        path.chmod(0o755)
+
+    def build(self, body: str, age: float = 0.0) -> None:
+        """A program in place of the proved one, older than the sources by so many seconds."""
+        self.built.parent.mkdir()
+        self.built.write_text(f"#!/bin/bash\n{body}\n")
+        self.built.chmod(0o755)
+        past = time.time() - 1000
+        for path in self.top.glob("crates/*/src/lib.rt"):
+            os.utime(path, (past, past))
+        os.utime(self.built, (past + 1 - age, past + 1 - age))
+
+    def environment(self) -> dict[str, str]:
+        python = Path(shutil.which("python3") or "/usr/bin/python3").resolve().parent
+        return {"PATH": f"{self.made / 'bin'}:{python}:/usr/bin:/bin", "MADE": str(self.made), "HOME": str(self.made)}
+
+    def run_ltm(self, *words: str, script: str = "") -> "subprocess.CompletedProcess[str]":
+        return subprocess.run([str(self.top / "ltm"), *words], cwd=self.folder, env=self.environment(), input=script, capture_output=True, text=True, timeout=60)
+
+    def called(self) -> list[str]:
+        return (self.made / "called").read_text().splitlines()
+
+
+@unittest.skipUnless(shutil.which("rt") is None or "/usr/bin" not in (shutil.which("rt") or ""), "rt lies in /usr/bin")
+class NotProved(Clone):
+    def test_no_rt(self) -> None:
+        done = self.run_ltm("case", "load")
+        self.assertEqual((done.returncode, done.stdout), (1, ""))
+        self.assertIn("the command rt of the Rattle kit is not on the path", done.stderr)
+        self.assertEqual(self.run_ltm("--prove").returncode, 1)
+
+    def test_rt_answers(self) -> None:
+        self.rt(ANSWERS, "echo version 0 generated 1.000;" + ENDED.format(0))
+        done = self.run_ltm("case", "load")
+        self.assertEqual((done.returncode, done.stdout), (0, "version 0 generated 1.000\n"))
+        first, second = done.stderr.splitlines()
+        self.assertIn("the program is not proved yet", first)
+        self.assertIn("index out of range", first + second)
+        self.assertIn("./ltm --prove", second)
+        data = [word for file in ("setup", "links", "demand", "splits") for word in ("--data", f"{file}.csv={self.folder / 'case' / file}.csv")]
+        self.assertEqual(self.called(), [str(self.top / "crates" / "ltm"), "try", *data, "--", "load"])
+
+    def test_the_script_is_handed_on_whole(self) -> None:
+        self.rt(ANSWERS, 'cat "$MADE/stdin";' + ENDED.format(0))
+        done = self.run_ltm("case", "session", "0", script='{"do": "totals"}\n{"do": "link", "link": "a", "slot": 1}')
+        self.assertEqual((done.returncode, done.stdout), (0, '{"do": "totals"}\n{"do": "link", "link": "a", "slot": 1}'))
+        self.assertIn("the whole script is read before it is answered", done.stderr)
+        self.assertIn("ltm: line 2 of the script: passed over: slot\n", done.stderr)
+
+    def test_a_refusal_keeps_its_status(self) -> None:
+        self.case(links="link\n")
+        self.rt(ANSWERS, "echo bad case links row 1 Header;" + ENDED.format(6))
+        done = self.run_ltm("case", "load")
+        self.assertEqual((done.returncode, done.stdout), (6, "bad case links row 1 Header\n"))
+        self.assertIn("ltm: links.csv, line 1: the header is to be exactly link,from,to", done.stderr)
+
+    def test_rt_fails(self) -> None:
+        for body in ("echo half of an output; echo 'run=no-answer proved=no' >&2; exit 6", "echo half; exit 2", "echo half; kill -9 $$"):
+            self.rt(ANSWERS, body)
+            done = self.run_ltm("case", "curves")
+            self.assertEqual((done.returncode, done.stdout), (1, ""), body)
+            self.assertIn("rt try gave no answer", done.stderr)
+            self.assertIn("more than 1 MiB", done.stderr)
+            self.assertIn("./ltm --prove", done.stderr)
+
+    def test_words_that_are_none(self) -> None:
+        self.rt(ANSWERS, "exit 1")
+        done = self.run_ltm("case", "lod")
+        self.assertEqual((done.returncode, done.stdout), (2, ""))
+        self.assertIn("'lod' is no command: load is one", done.stderr)
+        self.assertFalse((self.made / "called").exists())
+
+    def test_a_source_that_is_newer(self) -> None:
+        self.build("echo old", age=10)
+        self.rt(ANSWERS, "echo new;" + ENDED.format(0))
+        done = self.run_ltm("case", "load")
+        self.assertEqual((done.returncode, done.stdout), (0, "new\n"))
+        self.assertIn("a source is newer than the proved program", done.stderr)
+        self.assertNotEqual(self.run_ltm("--install", str(self.folder / "bin")).returncode, 0)
+
+    def test_folders(self) -> None:
+        self.assertEqual(self.run_ltm("nowhere", "load").returncode, 2)
+        self.assertEqual(self.run_ltm().returncode, 2)
+        self.assertIn("a folder of that name is ./-x", self.run_ltm("-x", "load").stderr)
+
+
+class Proved(Clone):
+    def test_it_answers_at_once(self) -> None:
+        self.rt(ANSWERS, "exit 1")
+        self.build('pwd; echo "$@"; cat')
+        done = self.run_ltm("case", "session", "4", script="a line\n")
+        self.assertEqual((done.returncode, done.stdout, done.stderr), (0, f"{self.folder / 'case'}\nsession 4\na line\n", ""))
+        self.assertFalse((self.made / "called").exists())
+
+    def test_line_by_line(self) -> None:
+        self.build("while read -r line; do echo answer to $line; done")
+        with subprocess.Popen([self.top / "ltm", "case", "session", "0"], cwd=self.folder, env=self.environment(), stdin=subprocess.PIPE, stdout=subprocess.PIPE, text=True) as session:
+            for line in ("one", "two"):
+                print(line, file=session.stdin, flush=True)
+                self.assertEqual(session.stdout.readline(), f"answer to {line}\n")
+            session.stdin.close()
+        self.assertEqual(session.returncode, 0)
+
+    def test_a_refusal_is_explained(self) -> None:
+        self.case(splits=None)
+        self.build("exit 3")
+        done = self.run_ltm("case", "load")
+        self.assertEqual((done.returncode, done.stdout), (3, ""))
+        self.assertIn("ltm: splits.csv is not there\n", done.stderr)
+        self.built.write_text("#!/bin/bash\necho bad case links row 1 Header\nexit 6\n")
+        self.case(links="link\n", splits="")
+        self.assertIn("ltm: links.csv, line 1: the header", self.run_ltm("case", "load").stderr)
+
+    def test_a_script_in_a_file(self) -> None:
+        self.build("cat >/dev/null")
+        (self.folder / "script").write_text('{"do": "edit", "edits": [{"kind": "limit", "link": "a", "from": 0, "to": 1, "vehicles": 0}]}\n')
+        with open(self.folder / "script", "rb") as script:
+            done = subprocess.run([self.top / "ltm", "case", "session", "0"], cwd=self.folder, env=self.environment(), stdin=script, capture_output=True, text=True)
+        self.assertIn('ltm: line 1 of the script, edit 1: the member vehicles is 0, and a text with vehicles', done.stderr)
+        self.assertIn('0 as the text "0"', done.stderr)
+
+    def test_an_output_whose_reader_has_gone(self) -> None:
+        self.build("for i in {1..20000}; do echo a line of output || exit 5; done 2>/dev/null")
+        done = subprocess.run(["bash", "-c", "set -o pipefail; clone/ltm case load | head -n 1"], cwd=self.folder, env=self.environment(), capture_output=True, text=True, timeout=60)
+        self.assertEqual(done.stdout, "a line of output\n")
+        self.assertNotIn("Traceback", done.stderr)
+
+    def test_install(self) -> None:
+        self.build('echo installed: "$@"')
+        self.assertEqual(self.run_ltm("--install", str(self.folder / "bin")).returncode, 0)
+        done = subprocess.run([self.folder / "bin" / "ltm", "load"], capture_output=True, text=True)
+        self.assertEqual(done.stdout, "installed: load\n")
+        done = subprocess.run([self.folder / "bin" / "ltm-tools", "inspect", self.folder / "case"], env=self.environment(), capture_output=True, text=True)
+        self.assertIn("network     1 link, 2 nodes, 1 destination", done.stdout)
+
+    def test_what_is_told(self) -> None:
+        self.rt(PROVES)
+        self.build("exit 0")
+        self.assertRegex(self.run_ltm("--version").stdout, r"^ltm, commit .*; proved; made-kit\n$")
+        told = self.run_ltm("--help").stdout
+        for word in ("load", "curves", "check", "routes", "session N", "view V", "editors K", "try START NODES", "--prove", "--install DIR", "docs/FORMATS.md"):
+            self.assertIn(word, told)
+
+
+class Proving(Clone):
+    def prove(self) -> "subprocess.CompletedProcess[str]":
+        return self.run_ltm("--prove", "--jobs", "4")
+
+    def log(self) -> list[str]:
+        return (self.made / "log").read_text().splitlines()
+
+    def test_it_proves_what_the_program_stands_on(self) -> None:
+        """The four crates are proved side by side: 60 seconds, 60 more, and the program's 120 at twice the speed: 3 minutes."""
+        self.rt(PROVES, '[ $1 = all ] && cp crates.txt "$MADE/listed"; true')
+        done = self.prove()
+        self.assertEqual(done.returncode, 0, done.stderr)
+        self.assertIn("proving 6 crates, 4 at a time", done.stderr)
+        self.assertIn("0 of 6 crates proved, 6 left, 0 minutes gone, about 3 more", done.stderr)
+        self.assertIn("6 of 6 crates proved, 0 left", done.stderr)
+        self.assertEqual((self.made / "listed").read_text(), "".join(f"ltm_{name}: ltm_low csv\n" for name in "abcd") + "ltm_low:\n")
+        self.assertEqual([line.split(" in ")[0] for line in self.log()], ["all check --jobs 4", "run --jobs 4 -- try 1 4"])
+        self.assertEqual(self.run_ltm("case", "load").stdout, "proved program: load\n")
+        self.assertIn("proved and built already", self.prove().stderr)
+
+    def test_it_goes_on(self) -> None:
+        self.rt(PROVES, 'if [ $1 = run ] && [ ! -e "$MADE/second" ]; then touch "$MADE/second"; rm out/ltm; exit 1; fi')
+        done = self.prove()
+        self.assertEqual(done.returncode, 1)
+        self.assertIn("rt run --jobs 4 -- try 1 4 ended with status 1", done.stderr)
+        self.assertIn("    a run\n", done.stderr)
+        self.assertFalse(self.built.exists())
+        before = len(self.log())
+        done = self.prove()
+        self.assertEqual(done.returncode, 0)
+        self.assertIn("5 of 6 crates proved, 1 left, 0 minutes gone, about 1 more", done.stderr)
+        self.assertEqual([line.split()[0] for line in self.log()[before:]], ["run"])
+
+    def test_a_change_is_proved_anew(self) -> None:
+        self.rt(PROVES)
+        self.prove()
+        (self.top / "crates" / "ltm_a" / "src" / "lib.rt").write_text("// changed\n")
+        self.assertIn("4 of 6 crates proved, 2 left", self.prove().stderr)
+
+    def test_a_crate_that_is_not_proved(self) -> None:
+        self.rt(PROVES, 'if [ $1 = all ]; then echo "== ltm_b"; echo "goal open"; exit 1; fi')
+        done = self.prove()
+        self.assertEqual(done.returncode, 1)
+        self.assertIn("    goal open\n", done.stderr)
+        self.assertFalse(self.built.exists())
+
+    def test_an_interrupt_ends_what_it_started(self) -> None:
+        self.rt(PROVES, 'if [ $1 = all ]; then echo $$ >"$MADE/pid"; exec sleep 60; fi')
+        proof = subprocess.Popen([self.top / "ltm", "--prove", "--jobs", "4"], cwd=self.folder, env=self.environment(), stderr=subprocess.PIPE, text=True, start_new_session=True)
+        for _ in range(200):
+            time.sleep(0.05)
+            if (self.made / "pid").exists() and (self.made / "pid").read_text().strip():
+                break
+        os.killpg(proof.pid, signal.SIGINT)
+        _, told = proof.communicate(timeout=20)
+        self.assertNotEqual(proof.returncode, 0, told)
+        with self.assertRaises(ProcessLookupError):
+            os.kill(int((self.made / "pid").read_text()), 0)
+
+
+class Plans(unittest.TestCase):
+    """How long a proof takes, by hand: a crate of 60 seconds, four of 60 on it, and a program of 120 on these."""
+
+    def plan(self, lanes: int) -> Plan:
+        needs = stands_on(read_crates(CRATES))
+        costs = read_costs(COSTS)
+        return Plan(needs, {name: float(costs[name.removeprefix("ltm_")]) for name in needs}, lanes)
+
+    def test_side_by_side_and_then_alone(self) -> None:
+        self.assertEqual([(lanes, self.plan(lanes).length()) for lanes in (1, 2, 4)], [(1, 420), (2, 300), (4, 180)])
+        self.assertEqual([self.plan(lanes).tail for lanes in (1, 2, 4)], [["ltm"]] * 3)
+
+    def test_a_long_chain_gets_all_processors(self) -> None:
+        needs = {"a": [], "b": ["a"], "c": ["b"], "side": [], "ltm": ["c", "side"]}
+        costs = dict.fromkeys(needs, 100.0)
+        self.assertEqual(Plan(needs, costs, 4).tail, ["b", "c", "ltm"])
+        self.assertEqual(Plan(needs, costs, 4).length(), 100 + 3 * 50)
+
+    def test_the_scale_is_what_was_shown(self) -> None:
+        plan = self.plan(4)
+        self.assertEqual(plan.seconds_left((), (), 0, 0), 180)
+        low = ["ltm_low"]
+        # the first crate took 600 seconds in place of 60, so 10 times as long: weighed with 240 seconds at 1 that is (240 + 6000) / 840
+        self.assertAlmostEqual(plan.scale((), low, 600, 600), 6240 / 840)
+        self.assertAlmostEqual(plan.seconds_left((), low, 600, 600), 120 * 6240 / 840)
+        # 60 seconds on, the next may be nearly done, and the rest takes no less than that
+        self.assertAlmostEqual(plan.seconds_left((), low, 600, 660), 120 * (240 + 6600) / 900 - 60)
+        # nothing is done after 120 seconds, so it is twice as slow as the table
+        self.assertAlmostEqual(plan.scale((), (), 0, 120), (240 + 240) / 360)
+        # what was kept says nothing of the pace
+        self.assertEqual(plan.seconds_left(low, low, 0, 0), 120)
+
+    def test_crates_that_stand_on_one_another(self) -> None:
+        with self.assertRaisesRegex(Fault, "stands on itself"):
+            stands_on({"ltm": ["a"], "a": ["b"], "b": ["a"]})
+
+    def test_the_crates_of_this_clone(self) -> None:
+        needs = stands_on(read_crates((CLONE / "crates.txt").read_text()))
+        self.assertEqual([name for name in needs if name.endswith("_tests")], [])
+        self.assertTrue(all(place > max((list(needs).index(need) for need in lower), default=-1) for place, lower in enumerate(needs.values())))
+
+
+if __name__ == "__main__":
+    unittest.main()
