@@ -128,6 +128,7 @@ class NotProved(Clone):
         done = self.run_ltm("case", "lod")
         self.assertEqual((done.returncode, done.stdout), (2, ""))
         self.assertIn("'lod' is no command: load is one", done.stderr)
+        self.assertIn("'-x' is no command", self.run_ltm("case", "-x").stderr)
         self.assertFalse((self.made / "called").exists())
 
     def test_a_source_that_is_newer(self) -> None:
