@@ -1,312 +1,281 @@
-"""`ltm-tools from-gmns`: makes a case of a network in the General Modeling Network Specification (GMNS).
+"""Makes a case of a network in the General Modeling Network Specification (GMNS).
 
-What the case cannot carry is named, a line each, on the error output; then nothing is written and the status is 1.
+NETWORK is a folder with `link.csv`, and `node.csv`, `demand.csv`, `config.csv` and `geometry.csv` where they are there. CASE is a
+folder, made where it is not there; `setup.csv`, `links.csv` and `demand.csv` are written into it, and what has become of each link
+and node of the network. What the case cannot carry is named, a line each, on the error output, with what to do; then nothing is
+written and the status is 1. `ltm routes`, or `ltm-tools splits`, gives the case its `splits.csv`.
 
-    link.csv     link_id, from_node_id, to_node_id, length, lanes, free_speed, capacity;
+    link.csv     link_id, from_node_id, to_node_id, and length, lanes, free_speed, capacity, facility_type where they are there;
                  a link whose field `directed` is 0 or false is a road in both directions
-    node.csv     node_id, zone_id; the first node of a zone stands for the zone
-    demand.csv   o_zone_id, d_zone_id, volume: the vehicles of the whole period, spread over it evenly
+    node.csv     node_id, zone_id; the first node of a zone stands for it (--zone-nodes)
+    demand.csv   o_zone_id, d_zone_id, volume: vehicles of the whole period, spread over it evenly, or over a --profile
 
-Each link gets a triangular diagram: the free speed in whole km/h, the jam density of its lanes, and the
-wave speed, in whole km/h, with which the top of the triangle is nearest to the capacity.
+Each link gets a triangular diagram: the free speed in whole km/h, the jam density of its lanes, and the wave speed, in whole km/h,
+with which the top of the triangle is nearest to the capacity.
 """
-import argparse
-import os
-import sys
-from fractions import Fraction
+from __future__ import annotations
 
-from .case import Case, Demand, Link as CaseLink, Setup
+import argparse
+from collections.abc import Iterable
+from fractions import Fraction
+from pathlib import Path
+
+from .case import Case, Demand, Setup
+from .demand_files import Amounts, exists, read_amounts, read_profile, whole_units
+from .ends import joined, most_used
 from .errors import Fault
-from .files import read_table
-from .formats import (
-    MINUTE_MS as MINUTE,
-    MOST_DEMAND_ROWS,
-    MOST_DESTINATIONS,
-    MOST_LINKS,
-    MOST_OUT,
-    MOST_SLOTS,
-    MOST_UNITS,
-    NAME_RULE,
-    is_name,
-    short_vehicles,
-)
+from .formats import MINUTE_MS, MOST_DESTINATIONS, clock_ms, short_vehicles
+from .gmns_net import KMH, METRES, Read, Units, read_gmns
+from .importing import (Carried, Refused, above_0, add_network_arguments, carried, changes_table, check_cells, check_destinations, least_routes,
+                        longest_step, routes_table, slots_of, steps_table, write)
+from .network import Network, Node, least_times, top
+from .places import UNITS
+from .profiles import Part, by_profile
 
 NAME = "from-gmns"
-SUMMARY = "make a case of a network in GMNS form"
-EXAMPLES = """example:
-  ltm-tools from-gmns examples/from_gmns/gmns /tmp/town --period 30 --horizon 30
-  ./ltm /tmp/town routes >/tmp/town/splits.csv
-  ./ltm /tmp/town load"""
-
-METRES = {"m": Fraction(1), "km": Fraction(1000), "mi": Fraction(1609344, 1000), "ft": Fraction(3048, 10000)}
-KMH = {"kmh": Fraction(1), "mph": Fraction(1609344, 1000000)}
-
-
-class Network:
-    """The links by name, with what stands for each zone, and what cannot be carried."""
-
-    def __init__(self):
-        self.links = []
-        self.zones = {}
-        self.demand = {}
-        self.inner = Fraction(0)
-        self.faults = []
-
-    def fault(self, text):
-        self.faults.append(text)
-
-
-class Link:
-    def __init__(self, name, tail, head, length, free, wave, jam, capacity):
-        self.name, self.tail, self.head = name, tail, head
-        self.length, self.free, self.wave, self.jam = length, free, wave, jam
-        self.wanted = capacity
-
-    def capacity(self):
-        """The top of the triangle, in vehicles an hour."""
-        return Fraction(self.jam * self.free * self.wave, self.free + self.wave)
-
-    def longest_step(self):
-        """The longest step in ms at which the link can be driven, felt and passed."""
-        free_ms = -(-self.length * 3600 // self.free)
-        wave_ms = -(-self.length * 3600 // self.wave)
-        passed_ms = (32_001 * (self.free + self.wave) * 3600 - 1) // (self.jam * self.free * self.wave)
-        return min(free_ms, wave_ms, passed_ms, MINUTE)
-
-
-def nearest(number):
-    """The nearest whole number, halves upwards, and at least 1."""
-    return max(1, (2 * number.numerator + number.denominator) // (2 * number.denominator))
-
-
-def rows_of(folder: str, name: str, wanted: list[str]) -> list[dict[str, str]] | None:
-    """The records of a file, each as a dictionary, and none where the file is not there."""
-    path = os.path.join(folder, name)
-    if not os.path.exists(path):
-        return None
-    return [row.fields for row in read_table(path, wanted)]
-
-
-def number_in(row, field, network, what, default=None):
-    """The number in a field; none, with a fault, where there is none above 0."""
-    text = (row.get(field) or "").strip()
-    if text == "" and default is not None:
-        return Fraction(default)
-    try:
-        number = Fraction(text)
-    except (ValueError, ZeroDivisionError):
-        number = Fraction(0)
-    if number <= 0:
-        network.fault(f"{what}: {field} is {text!r}, and a number above 0 is wanted")
-        return None
-    return number
-
-
-def wave_of(capacity, free, jam):
-    """The whole wave speed with which the triangle's top is nearest to a capacity; none where no top is so high."""
-    if capacity >= free * jam:
-        return None
-    exact = capacity * free / (free * jam - capacity)
-    below = max(1, exact.numerator // exact.denominator)
-    return min((below, below + 1), key=lambda wave: abs(Fraction(jam * free * wave, free + wave) - capacity))
-
-
-def read_link(row, network, args):
-    name = (row["link_id"] or "").strip()
-    what = f"link {name}"
-    length = number_in(row, "length", network, what)
-    lanes = number_in(row, "lanes", network, what, default=1)
-    speed = number_in(row, "free_speed", network, what)
-    capacity = number_in(row, "capacity", network, what)
-    if None in (length, lanes, speed, capacity):
-        return
-    metres = nearest(length * METRES[args.length_unit])
-    free = nearest(speed * KMH[args.speed_unit])
-    jam = nearest(args.jam * lanes)
-    whole = capacity * lanes if args.capacity == "lane" else capacity
-    wave = wave_of(whole, free, jam)
-    if wave is None or wave > 1000:
-        network.fault(f"{what}: a capacity of {float(whole):g} an hour is too much for {free} km/h and {jam} vehicles/km")
-        return
-    if metres > 1_000_000 or free > 1000 or jam > 10_000:
-        network.fault(f"{what}: {metres} m, {free} km/h and {jam} vehicles/km, and at most 1000000, 1000 and 10000 are allowed")
-        return
-    ends = (row["from_node_id"] or "").strip(), (row["to_node_id"] or "").strip()
-    network.links.append(Link(name, *ends, metres, free, wave, jam, whole))
-    if (row.get("directed") or "1").strip().lower() in ("0", "false", "f", "no"):
-        network.links.append(Link(name + "_r", *reversed(ends), metres, free, wave, jam, whole))
-
-
-def check_names(network):
-    seen = set()
-    for link in network.links:
-        for kind, name in (("link", link.name), ("node", link.tail), ("node", link.head)):
-            if not is_name(name):
-                network.fault(f"{kind} {name!r}: a name is {NAME_RULE}")
-        if link.name in seen:
-            network.fault(f"link {link.name}: the name stands twice")
-        if link.tail == link.head:
-            network.fault(f"link {link.name}: it ends where it begins")
-        seen.add(link.name)
-
-
-def check_nodes(network):
-    for side, end in (("out of", "tail"), ("into", "head")):
-        names = {}
-        for link in network.links:
-            names.setdefault(getattr(link, end), []).append(link.name)
-        for node, links in names.items():
-            if len(links) > MOST_OUT:
-                network.fault(f"node {node}: {len(links)} links lead {side} it, and at most 4 may: {', '.join(links)}")
-    if len(network.links) > MOST_LINKS:
-        network.fault(f"there are {len(network.links)} links, and at most 4000 may be")
-
-
-def read_zones(network, folder):
-    """Each zone's node: the first of node.csv, or the node of the same id."""
-    nodes = {end for link in network.links for end in (link.tail, link.head)}
-    for row in rows_of(folder, "node.csv", ["node_id", "zone_id"]) or []:
-        zone, node = (row["zone_id"] or "").strip(), (row["node_id"] or "").strip()
-        if zone and node in nodes:
-            network.zones.setdefault(zone, node)
-    for node in nodes:
-        network.zones.setdefault(node, node)
-
-
-def read_demand(network, folder):
-    rows = rows_of(folder, "demand.csv", ["o_zone_id", "d_zone_id", "volume"])
-    if rows is None:
-        raise Fault(f"{folder}: no demand.csv")
-    for row in rows:
-        ends = (row["o_zone_id"] or "").strip(), (row["d_zone_id"] or "").strip()
-        text = (row["volume"] or "").strip()
-        try:
-            volume = Fraction(text or "0")
-        except (ValueError, ZeroDivisionError):
-            volume = Fraction(-1)
-        if volume < 0:
-            network.fault(f"demand from {ends[0]} to {ends[1]}: volume is {text!r}")
-            continue
-        if ends[0] == ends[1]:
-            network.inner += volume
-        elif volume > 0:
-            network.demand[ends] = network.demand.get(ends, Fraction(0)) + volume
-
-
-def demand_rows(network):
-    """Origin, destination and thousandths of a vehicle, by node."""
-    tails = {link.tail for link in network.links}
-    amounts = {}
-    for (origin, destination), volume in network.demand.items():
-        unknown = [zone for zone in (origin, destination) if zone not in network.zones]
-        if unknown:
-            network.fault(f"demand from {origin} to {destination}: no node on a link stands for zone {' or '.join(unknown)}")
-            continue
-        ends = network.zones[origin], network.zones[destination]
-        if ends[0] == ends[1]:
-            network.inner += volume
-            continue
-        if ends[0] not in tails:
-            network.fault(f"demand from {origin} to {destination}: no link leads out of node {ends[0]}")
-            continue
-        amounts[ends] = amounts.get(ends, Fraction(0)) + volume
-    rows = [(ends, (2000 * volume.numerator + volume.denominator) // (2 * volume.denominator)) for ends, volume in amounts.items()]
-    rows = [(ends, units) for ends, units in rows if units > 0]
-    for ends, units in rows:
-        if units > MOST_UNITS:
-            network.fault(f"demand from node {ends[0]} to {ends[1]}: more than 1000000 vehicles")
-    destinations = list(dict.fromkeys(ends[1] for ends, _ in rows))
-    if len(destinations) > MOST_DESTINATIONS:
-        past = ", ".join(destinations[MOST_DESTINATIONS:])
-        network.fault(f"there are {len(destinations)} destinations, and at most 64 may be; past these are the nodes {past}")
-    if len(rows) > MOST_DEMAND_ROWS:
-        network.fault(f"there are {len(rows)} pairs of origin and destination, and at most 10000 may be")
-    return rows, destinations
-
-
-def step_of(network, args):
-    """The step: as it was asked for, or the longest that every link allows and that divides a minute."""
-    longest = min((link.longest_step() for link in network.links), default=MINUTE)
-    step = args.step or max(n for n in range(1, longest + 1) if MINUTE % n == 0)
-    least = args.step or args.least_step
-    for link in network.links:
-        if link.longest_step() < least:
-            network.fault(f"link {link.name}: {link.length} m at {link.free} and {link.wave} km/h allow a step of at most {link.longest_step()} ms, and {least} ms are asked for")
-    if MINUTE % step:
-        network.fault(f"a step of {step} ms does not divide a minute")
-    slots = args.horizon * MINUTE // step
-    if slots > MOST_SLOTS:
-        network.fault(f"a horizon of {args.horizon} minutes has {slots} slots of {step} ms, and at most 10000 may be")
-    if args.period > args.horizon:
-        network.fault(f"the demand's period of {args.period} minutes is longer than the horizon of {args.horizon}")
-    return step, slots
-
-
-def case_of(network, rows, step, slots, args) -> Case:
-    links = [CaseLink(link.name, link.tail, link.head, link.length, link.free, link.wave, link.jam) for link in network.links]
-    to_slot = args.period * MINUTE // step
-    demand = [Demand(*ends, 0, to_slot, units) for ends, units in rows]
-    return Case(Setup(step, slots, args.origin_capacity * 1000), links, demand)
-
-
-def above(least: int, most: int | None = None):
-    """The type of an option that is a whole number from `least` on, and up to `most`."""
-
-    def read(text: str) -> int:
-        number = int(text)
-        if number < least or (most is not None and number > most):
-            raise argparse.ArgumentTypeError(f"{text} is not {least}" + (f" to {most}" if most is not None else " or more"))
-        return number
-
-    read.__name__ = "whole number"
-    return read
-
-
-def density(text: str) -> Fraction:
-    number = Fraction(text)
-    if number <= 0:
-        raise argparse.ArgumentTypeError(f"{text} is not above 0")
-    return number
+SUMMARY = "make a case of a GMNS network"
+EXAMPLES = """\
+  ltm-tools from-gmns town CASE --period 30 --horizon 30     the network as it is
+  ltm-tools from-gmns city CASE --steps                      what a fit to each of some steps would change
+  ltm-tools from-gmns city CASE --fit 5s --rename --profile morning.csv
+  then in CASE: ltm routes >splits.csv; ltm load             or ltm-tools splits CASE --routes counted.csv
+"""
 
 
 def add_arguments(parser: argparse.ArgumentParser) -> None:
-    parser.add_argument("network", help="the folder of link.csv, demand.csv and node.csv")
+    """The arguments of the command."""
+    parser.add_argument("network", help="the folder of link.csv and node.csv")
     parser.add_argument("case", help="the folder to write the case into")
-    parser.add_argument("--jam", type=density, default=Fraction(150), help="jam density of a lane, vehicles/km (150)")
-    parser.add_argument("--period", type=above(1), default=60, help="the minutes over which the demand sets out (60)")
-    parser.add_argument("--horizon", type=above(1), default=120, help="the minutes that are loaded (120)")
-    parser.add_argument("--step", type=above(1, MINUTE), help="the step in ms; without it the longest that every link allows")
-    parser.add_argument("--least-step", type=above(1), default=1000, help="the shortest step to propose, in ms (1000)")
-    parser.add_argument("--origin-capacity", type=above(1, 32), default=32, help="the most vehicles that leave an origin in a step (32)")
-    parser.add_argument("--length-unit", choices=METRES, default="m", help="the unit of length (m)")
-    parser.add_argument("--speed-unit", choices=KMH, default="kmh", help="the unit of free_speed (kmh)")
-    parser.add_argument("--capacity", choices=["lane", "link"], default="lane", help="whether capacity is that of a lane or of all lanes of a link, in vehicles an hour (lane)")
+    add_network_arguments(parser)
+    reading = parser.add_argument_group("what the network's fields mean")
+    reading.add_argument("--jam", type=above_0, default=Fraction(150), help="jam density of a lane, vehicles/km (150)")
+    reading.add_argument("--length-unit", choices=METRES, help="the unit of length (m, or what config.csv says)")
+    reading.add_argument("--speed-unit", choices=KMH, help="the unit of free_speed (kmh, or what config.csv says)")
+    reading.add_argument("--places", choices=UNITS, help="the unit of places, for links without a length (degrees where they can be)")
+    reading.add_argument("--capacity", choices=["lane", "link"], default="lane",
+                         help="whether capacity is that of a lane or of all lanes of a link, in vehicles an hour (lane)")
+    reading.add_argument("--encoding", help="the encoding of all files (UTF-8, else by what they hold)")
+    demand = parser.add_argument_group("demand")
+    demand.add_argument("--demand", metavar="FILE", help="the table of origins and destinations (demand.csv of the network, where it is there)")
+    demand.add_argument("--period", type=int, default=60, metavar="MINUTES", help="the minutes over which the demand sets out evenly (60)")
+    demand.add_argument("--profile", metavar="FILE", help="from,to,share: when the demand sets out, in place of --period")
+    demand.add_argument("--start", metavar="CLOCK", help="the clock time of slot 0, as 7:00 (the profile's first)")
+    demand.add_argument("--horizon", type=int, default=120, metavar="MINUTES", help="the minutes that are loaded (120)")
+    demand.add_argument("--zone-nodes", choices=["first", "even"], default="first",
+                        help="of a zone with several nodes: the first stands for it, or all in even parts, or in parts by a field zone_share (first)")
+    demand.add_argument("--destinations", type=int, metavar="N", help="keep the N destinations with most vehicles, and let other trips end at the nearest one")
+    demand.add_argument("--leave-out-unreached", action="store_true", help="leave out demand to which no way leads, and tell how much")
 
 
 def run(args: argparse.Namespace) -> int:
-    network = Network()
-    rows = rows_of(args.network, "link.csv", ["link_id", "from_node_id", "to_node_id", "length", "free_speed", "capacity"])
-    if rows is None:
-        raise Fault(f"{args.network}: no link.csv")
-    for row in rows:
-        read_link(row, network, args)
-    check_names(network)
-    check_nodes(network)
-    read_zones(network, args.network)
-    read_demand(network, args.network)
-    demand, destinations = demand_rows(network)
-    step, slots = step_of(network, args)
-    if network.faults:
-        for fault in network.faults:
-            print(f"cannot be carried: {fault}", file=sys.stderr)
+    """Makes the case."""
+    check_arguments(args)
+    try:
+        return make(args)
+    except Refused as refused:
+        refused.tell()
         return 1
-    case_of(network, demand, step, slots, args).write(args.case)
-    nodes = {end for link in network.links for end in (link.tail, link.head)}
-    total = sum(units for _, units in demand)
-    off = max((abs(link.capacity() / link.wanted - 1) for link in network.links), default=Fraction(0))
-    print(f"{len(network.links)} links, {len(nodes)} nodes, {len(destinations)} destinations")
-    print(f"{short_vehicles(total)} vehicles over {args.period} minutes, {slots} slots of {step} ms")
-    print(f"capacities are kept within {float(off * 100):.1f} percent")
-    if network.inner:
-        print(f"{float(network.inner):g} vehicles stay within a zone and are left out")
+
+
+def check_arguments(args: argparse.Namespace) -> None:
+    """That numbers are in their limits."""
+    for name in ("period", "horizon", "origin_capacity"):
+        if getattr(args, name) < 1:
+            raise Fault(f"--{name.replace('_', '-')} is at least 1")
+    if args.origin_capacity > 32:
+        raise Fault("--origin-capacity is at most 32")
+    if args.destinations is not None and not 1 <= args.destinations <= MOST_DESTINATIONS:
+        raise Fault(f"--destinations is 1 to {MOST_DESTINATIONS}")
+
+
+def make(args: argparse.Namespace) -> int:
+    """Reads the network and its demand, fits, and writes."""
+    read = read_gmns(Path(args.network), Units(args.length_unit, args.speed_unit, args.places, args.capacity, args.jam, args.encoding))
+    if read.faults:
+        raise Refused(read.faults)
+    raw = read.network
+    place_zones(read, args)
+    amounts = amounts_of(args)
+    volumes = by_node(raw, amounts, args, read)
+    if args.destinations is not None:
+        volumes = fewer_ends(raw, volumes, args.destinations, read)
+    raw.ends = {node for ends in volumes for node in ends}
+    if args.steps:
+        print(*steps_table(raw), sep="\n")
+        return 0
+    check_destinations(end for _, end in volumes)
+    made = carried(raw, args)
+    case, slots_of_demand = case_of(made, volumes, args, read)
+    cells = check_cells(case)
+    write(args.case, case, made)
+    tell(args, made, case, slots_of_demand, cells, read, amounts, volumes)
     return 0
+
+
+def place_zones(read: Read, args: argparse.Namespace) -> None:
+    """The nodes of each zone, with shares; each node stands for itself where no zone has its name."""
+    network, nodes = read.network, set(read.network.used_nodes())
+    shares: dict[str, dict[str, Fraction]] = {}
+    has_shares = read.nodes is not None and "zone_share" in read.nodes.fields
+    for row in read.nodes.rows if read.nodes is not None else []:
+        zone, node = row.text("zone_id", ""), row.text("node_id", "")
+        if zone and node in nodes:
+            shares.setdefault(zone, {})[node] = row.number("zone_share", 0) if has_shares else Fraction(1)
+    several = [zone for zone, of in shares.items() if len(of) > 1]
+    if several and not has_shares:
+        read.notes.append(f"{len(several)} zones have several nodes; " + ("the first stands for each (--zone-nodes even shares them)"
+                          if args.zone_nodes == "first" else "each has an even part"))
+    for zone, of in shares.items():
+        if not has_shares and args.zone_nodes == "first":
+            of = dict(list(of.items())[:1])
+        whole = sum(of.values(), Fraction(0))
+        if whole <= 0:
+            raise Fault(f"zone {zone}: the zone_share of its nodes sum to {whole}; a number above 0 is wanted")
+        network.origins[zone] = network.destinations[zone] = {node: part / whole for node, part in of.items() if part}
+    for node in nodes:
+        network.origins.setdefault(node, {node: Fraction(1)})
+        network.destinations.setdefault(node, {node: Fraction(1)})
+    part_centroids(network, read, [zone for zone, of in shares.items() if of])
+
+
+def part_centroids(network: Network, read: Read, zones: list[str]) -> None:
+    """Parts each node of connectors alone into one where trips begin and one where they end, so that no route leads through it."""
+    parted = 0
+    for zone in zones:
+        for node in list(network.origins[zone]):
+            ins, outs = network.ins[node], network.outs[node]
+            if not ins or len({network.roads[name].head for name in outs}) < 2 or not all(is_connector(network, name) for name in ins + outs):
+                continue
+            end = f"{node}_end"
+            network.add_node(Node(end, network.nodes[node].x, network.nodes[node].y))
+            for name in list(ins):
+                network.move_head(name, end)
+            network.destinations[zone] = {end if one == node else one: share for one, share in network.destinations[zone].items()}
+            network.destinations[node] = {end: Fraction(1)}
+            parted += 1
+    if parted:
+        read.notes.append(f"{parted} zone nodes of connectors alone are parted, so that no route leads through them: trips to ZONE end at ZONE_end")
+
+
+def is_connector(network: Network, name: str) -> bool:
+    """Whether a road is a connector of a zone, by its kind."""
+    return any(word in network.roads[name].kind.lower() for word in ("connector", "centroid"))
+
+
+def amounts_of(args: argparse.Namespace) -> Amounts:
+    """The table of demand; an empty one where there is none."""
+    path = Path(args.network) / "demand.csv"
+    if args.demand is not None:
+        path = exists(args.demand)
+    elif not path.exists():
+        return Amounts({}, Fraction(0), ("there is no demand.csv: demand.csv of the case has no rows; ltm-tools demand gives it some",))
+    return read_amounts(path, args.encoding)
+
+
+def by_node(raw: Network, amounts: Amounts, args: argparse.Namespace, read: Read) -> dict[tuple[str, str], Fraction]:
+    """The demand by nodes; Refused with all zones that have no node and all pairs without a route."""
+    faults: list[str] = []
+    volumes: dict[tuple[str, str], Fraction] = {}
+    left_out = Fraction(0)
+    reached: dict[str, set[str]] = {}
+    for (origin, destination), volume in amounts.volumes.items():
+        unknown = [zone for zone, of in ((origin, raw.origins), (destination, raw.destinations)) if zone not in of]
+        if unknown:
+            faults.append(f"demand from {origin} to {destination}: no node on a link stands for zone {' or '.join(unknown)}")
+            continue
+        for start, share in raw.origins[origin].items():
+            for end, part in raw.destinations[destination].items():
+                if start == end:
+                    amounts.inner += volume * share * part
+                    continue
+                if end not in reached:
+                    reached[end] = set(least_times(raw, end))
+                if start in reached[end]:
+                    volumes[start, end] = volumes.get((start, end), Fraction(0)) + volume * share * part
+                elif args.leave_out_unreached:
+                    left_out += volume * share * part
+                else:
+                    faults.append(f"demand from {origin} to {destination}: " + (f"no route leads from node {start} to node {end}" if raw.outs[start]
+                                  else f"no link leads out of node {start}"))
+    if faults:
+        advice = [] if all("stands for zone" in fault for fault in faults) else ["--leave-out-unreached leaves out demand without a route, and tells how much"]
+        if any("stands for zone" in fault for fault in faults):
+            advice.append("node.csv says which node stands for a zone, in its fields node_id and zone_id")
+        raise Refused(faults, advice)
+    if left_out:
+        read.notes.append(f"{float(left_out):g} vehicles have no route and are left out")
+    return volumes
+
+
+def fewer_ends(raw: Network, volumes: dict[tuple[str, str], Fraction], most: int, read: Read) -> dict[tuple[str, str], Fraction]:
+    """The demand with trips to other than the most used destinations ending at the nearest of these."""
+    units: dict[str, int] = {}
+    for (_, end), volume in volumes.items():
+        units[end] = units.get(end, 0) + whole_units(volume, f"demand to {end}")
+    kept = most_used(units, most)
+    near = joined(raw, kept, [end for end in units if end not in kept])
+    made: dict[tuple[str, str], Fraction] = {}
+    moved = inner = time = Fraction(0)
+    reached = {end: set(least_times(raw, end)) for end in kept}
+    for (start, end), volume in volumes.items():
+        node = near[end].node if end in near else end
+        if end not in kept and (end not in near or start == node or start not in reached[node]):
+            inner += volume
+            continue
+        if end != node:
+            moved += volume
+            time += volume * near[end].time
+        made[start, node] = made.get((start, node), Fraction(0)) + volume
+    whole = sum(volumes.values(), Fraction(0))
+    read.notes.append(f"{len(kept)} of {len(units)} destinations are kept; {float(moved / whole) * 100:.1f} % of the vehicles end at another node, in the mean"
+                      f" {float(time / moved) / 1000 if moved else 0:.0f} s away, and {float(inner):g} vehicles have no way left and are left out")
+    return made
+
+
+def case_of(made: Carried, volumes: dict[tuple[str, str], Fraction], args: argparse.Namespace, read: Read) -> tuple[Case, int]:
+    """The case, and the slot with which its demand ends."""
+    slots = slots_of(args.horizon * MINUTE_MS, made.step)
+    parts = parts_of(args, made.step, read)
+    if parts[-1].to_slot > slots:
+        raise Fault(f"the demand's period of {parts[-1].to_slot * made.step // MINUTE_MS} minutes is longer than the horizon of {args.horizon};"
+                    f" give --horizon {-(-parts[-1].to_slot * made.step // MINUTE_MS)} or more")
+    setup = Setup(made.step, slots, args.origin_capacity * 1000)
+    units = {(made.node(start), made.node(end)): whole_units(volume, f"demand from node {start} to node {end}") for (start, end), volume in volumes.items()}
+    rows: Iterable[Demand] = by_profile({ends: amount for ends, amount in units.items() if amount}, parts)
+    return Case(setup, made.links, list(rows)), parts[-1].to_slot
+
+
+def parts_of(args: argparse.Namespace, step: int, read: Read) -> list[Part]:
+    """When demand sets out: by the profile, or evenly over the period."""
+    if args.profile is not None:
+        start = clock_ms(args.start) if args.start is not None else None
+        parts, _, notes = read_profile(exists(args.profile), start_ms=start, step_ms=step, encoding=args.encoding)
+        read.notes += notes
+        return sorted(parts, key=lambda part: part.to_slot)
+    if args.period > args.horizon:
+        raise Fault(f"the demand's period of {args.period} minutes is longer than the horizon of {args.horizon}; give --horizon {args.period} or more")
+    return [Part(0, max(1, args.period * MINUTE_MS // step), Fraction(1))]
+
+
+def tell(args: argparse.Namespace, made: Carried, case: Case, last: int, cells: str, read: Read, amounts: Amounts,
+         volumes: dict[tuple[str, str], Fraction]) -> None:
+    """What was made, set, left out and changed."""
+    total = sum(row.units for row in case.demand)
+    off = max((abs(top(link) / road.capacity - 1) for link, road in zip(made.links, made.network.roads.values())), default=Fraction(0))
+    print(f"{len(case.links)} links, {len(case.nodes)} nodes, {len(case.destinations)} destinations")
+    print(f"{short_vehicles(total)} vehicles over {last * made.step // MINUTE_MS} minutes, {case.setup.slots} slots of {made.step} ms")
+    print(f"capacities are kept within {float(off * 100):.1f} percent")
+    if amounts.inner:
+        print(f"{float(amounts.inner):g} vehicles stay within a zone and are left out")
+    for line in (*read.told(), *amounts.notes):
+        print(line)
+    if made.fit is None:
+        print(f"the longest step that changes nothing is {longest_step(made.raw)} ms")
+    print(*changes_table(made), sep="\n", end="\n" if made.fit else "")
+    pairs = [(start, end, whole_units(volume, "demand")) for (start, end), volume in volumes.items()]
+    if made.fit is not None:
+        print(*routes_table(made, least_routes(made.raw, pairs)), sep="\n")
+    renamed = sum(name != source for names in (made.link_names, made.node_names) for source, name in names.items())
+    if renamed:
+        print(f"{renamed} names are made, and stand in source_links.csv and source_nodes.csv")
+    print(cells)

@@ -1,0 +1,241 @@
+"""Cases of small GMNS networks, as they come: units, missing fields, encodings, zones, names; and each refusal says what to do."""
+import unittest
+
+import commands
+from support import EXAMPLES, FolderTest
+
+from ltm_tools.case import Case
+
+
+class GmnsTest(FolderTest):
+    """Makes networks in `self.folder/net` and cases in `self.folder/case`."""
+
+    def net(self, link: str, node: str | None = None, demand: str | None = None, encoding: str = "utf-8", **more: str) -> None:
+        folder = self.folder / "net"
+        folder.mkdir(exist_ok=True)
+        for name, text in {"link": link, "node": node, "demand": demand, **more}.items():
+            if text is not None:
+                (folder / f"{name}.csv").write_text(text, encoding=encoding)
+
+    def make(self, *words: str) -> tuple[int, str, str]:
+        return commands.run("from-gmns", str(self.folder / "net"), str(self.folder / "case"), *words)
+
+    def made(self, *words: str) -> Case:
+        status, _, err = self.make(*words)
+        self.assertEqual((status, err), (0, ""))
+        return Case.read(self.folder / "case")
+
+    def links(self, *words: str) -> dict[str, tuple[int, int, int]]:
+        return {link.name: (link.length_m, link.free_kmh, link.jam_per_km) for link in self.made(*words).links}
+
+    def refused(self, *words: str) -> str:
+        status, _, err = self.make(*words)
+        self.assertEqual(status, 1)
+        self.assertFalse((self.folder / "case").exists())
+        self.assertNotIn("Traceback", err)
+        return err
+
+
+PLAIN = "link_id,from_node_id,to_node_id,length,lanes,free_speed,capacity\na,1,2,1000,1,60,1000\nb,2,3,1000,1,60,1000\n"
+
+
+class AsItWas(GmnsTest):
+    def test_the_example_gives_the_case_that_it_gave(self) -> None:
+        _, out, _ = commands.run("from-gmns", str(EXAMPLES / "from_gmns" / "gmns"), str(self.folder / "case"), "--period", "30", "--horizon", "30")
+        for line in ("13 links, 6 nodes, 3 destinations", "1650 vehicles over 30 minutes, 60 slots of 30000 ms", "capacities are kept within 5.9 percent",
+                     "35 vehicles stay within a zone and are left out"):
+            self.assertIn(line + "\n", out)
+        text = (self.folder / "case" / "links.csv").read_text()
+        self.assertIn("104_r,5,4,820,70,7,300\n", text)
+        self.assertIn("1,3,0,60,420\n", (self.folder / "case" / "demand.csv").read_text())
+
+    def test_a_link_too_short_for_the_step_is_named(self) -> None:
+        self.net(PLAIN.replace("1000,1,60", "990,1,60"))
+        # 990 m at 60 km/h take 59.4 s
+        self.assertIn("cannot be carried: link a: 990 m at 60 and 8 km/h allow a step of at most 59400 ms, and 60000 ms are asked for\n",
+                      self.refused("--step", "60000"))
+
+
+class Fields(GmnsTest):
+    def test_any_order_more_columns_semicolons_decimal_commas_and_latin_1(self) -> None:
+        self.net("name;lanes;TO_NODE_ID;length;from_node_id;free_speed;capacity;link_id\nStraße;2;2;999,6;1;50,4;900;a\nWeg;1;3;500;2;50;900;b\n", encoding="latin-1")
+        self.assertEqual(self.links(), {"a": (1000, 50, 300), "b": (500, 50, 150)})
+
+    def test_utf_16_and_the_note_of_it(self) -> None:
+        self.net(PLAIN, encoding="utf-16")
+        status, out, _ = self.make()
+        self.assertEqual(status, 0)
+        self.assertIn("link.csv is read as UTF-16", out)
+
+    def test_lengths_by_geometry_in_degrees(self) -> None:
+        # 0.01 degrees of longitude at the equator on a sphere of 6371008.8 m: 6371008.8 * pi / 18000 = 1111.95 m
+        self.net('link_id,from_node_id,to_node_id,lanes,free_speed,geometry\na,1,2,1,60,"LINESTRING (0 0, 0.005 0, 0.01 0)"\nb,2,3,1,60,"LINESTRING (0.01 0, 0.03 0)"\n')
+        self.assertEqual(self.links(), {"a": (1112, 60, 150), "b": (2224, 60, 150)})
+
+    def test_lengths_by_places_of_nodes(self) -> None:
+        self.net("link_id,from_node_id,to_node_id,lanes,free_speed\na,1,2,1,60\nb,2,3,1,60\n", "node_id,x_coord,y_coord\n1,1000,1000\n2,1300,1400\n3,1300,2400\n")
+        self.assertEqual(self.links(), {"a": (500, 60, 150), "b": (1000, 60, 150)})
+
+    def test_without_length_and_places_it_is_refused(self) -> None:
+        self.net("link_id,from_node_id,to_node_id\na,1,2\n")
+        self.assertIn("cannot be carried: link a: no length, and no geometry or places of its nodes to work it out; give the field length\n", self.refused())
+
+    def test_units_by_arguments_and_by_config(self) -> None:
+        self.net(PLAIN.replace("1000,1,60", "0.5,1,30"), config="dataset_name,long_length,speed\nx,mi,mph\n")
+        self.assertEqual(self.links()["a"], (805, 48, 150))
+        self.assertEqual(self.links("--length-unit", "km", "--speed-unit", "kmh")["a"], (500, 30, 150))
+
+    def test_miles_are_known_by_the_places(self) -> None:
+        rows = "".join(f"l{number},{number},{number + 1},0.691,1,60,900\n" for number in range(1, 6))
+        nodes = "".join(f"{number},{number / 100},0\n" for number in range(1, 7))
+        self.net("link_id,from_node_id,to_node_id,length,lanes,free_speed,capacity\n" + rows, "node_id,x_coord,y_coord\n" + nodes)
+        self.assertEqual(self.links()["l1"][0], 1112)
+
+    def test_capacity_lanes_and_speed_by_kind(self) -> None:
+        self.net("link_id,from_node_id,to_node_id,length,facility_type\na,1,2,3000,motorway\nb,2,3,1000,residential\n")
+        case = self.made()
+        self.assertEqual([(link.free_kmh, link.jam_per_km) for link in case.links], [(110, 300), (30, 150)])
+        self.assertIn("2 links get their capacity by their kind", self.make()[1])
+
+    def test_two_ways_by_directed(self) -> None:
+        for text, names in (("0", {"a", "a_r"}), ("false", {"a", "a_r"}), ("1", {"a"}), ("TRUE", {"a"}), ("", {"a"})):
+            self.net(f"link_id,from_node_id,to_node_id,length,lanes,free_speed,capacity,directed\na,1,2,1000,1,60,900,{text}\n")
+            self.assertEqual(set(self.links()), names)
+
+    def test_ids_that_were_written_as_decimals(self) -> None:
+        self.net(PLAIN.replace("a,1,2", "a,1.0,2.0").replace("b,2,3", "b,2.0,3.0"), demand="o_zone_id,d_zone_id,volume\n1,3,7\n")
+        self.assertEqual([(row.origin, row.destination, row.units) for row in self.made().demand], [("1", "3", 7000)])
+
+    def test_links_that_are_not_for_cars_are_left_out_and_told(self) -> None:
+        self.net("link_id,from_node_id,to_node_id,length,facility_type,allowed_uses\na,1,2,900,primary,auto\nf,1,2,900,footway,\nw,1,2,900,primary,\"bike,ped\"\n")
+        self.assertEqual(set(self.links()), {"a"})
+        self.assertIn("2 links are not for cars and are left out", self.make()[1])
+
+    def test_faults_name_link_field_and_text(self) -> None:
+        self.net(PLAIN.replace("b,2,3,1000,1,60", "b,2,3,1000,1,fast"))
+        self.assertEqual(self.refused(), "cannot be carried: link b: free_speed is 'fast', and a number above 0 is wanted\n")
+
+    def test_a_missing_file_or_field_is_one_line(self) -> None:
+        self.net("a,b\n1,2\n")
+        self.assertEqual(len(self.refused().splitlines()), 1)
+        (self.folder / "net" / "link.csv").unlink()
+        self.assertIn("no link.csv", self.refused())
+        self.net("")
+        self.assertIn("the file is empty", self.refused())
+
+
+class Names(GmnsTest):
+    ODD = PLAIN.replace("a,1,2", "a[0],1,2+3").replace("b,2,3", "b[0],2+3,3")
+
+    def test_odd_names_are_refused_with_what_to_do(self) -> None:
+        self.net(self.ODD)
+        err = self.refused()
+        self.assertIn("cannot be carried: link 'a[0]': a name is 1 to 32 ASCII letters, digits, _ or -\n", err)
+        self.assertTrue(err.endswith("give --rename, which makes names and lists both\n"))
+
+    def test_renamed_with_a_map(self) -> None:
+        self.net(self.ODD + "a_0_,3,4,1000,1,60,1000\n")
+        self.assertEqual([(link.name, link.tail, link.head) for link in self.made("--rename").links],
+                         [("a_0__2", "1", "2_3"), ("b_0_", "2_3", "3"), ("a_0_", "3", "4")])
+        self.assertIn("a[0],1,2+3,a_0__2\n", (self.folder / "case" / "source_links.csv").read_text())
+        self.assertIn("2+3,2_3\n", (self.folder / "case" / "source_nodes.csv").read_text())
+
+
+class Zones(GmnsTest):
+    NODES = "node_id,zone_id,zone_share\n1,A,3\n2,A,1\n3,B,1\n"
+    DEMAND = "o_zone_id,d_zone_id,volume\nA,B,10\nA,A,5\n"
+
+    def amounts(self, *words: str) -> dict[tuple[str, str], int]:
+        return {(row.origin, row.destination): row.units for row in self.made(*words).demand}
+
+    def test_a_network_without_demand_and_zones(self) -> None:
+        self.net(PLAIN)
+        self.assertEqual(self.amounts(), {})
+        self.net(PLAIN, "node_id\n1\n2\n3\n", "o_zone_id,d_zone_id,volume\n1,3,2.5\n")
+        self.assertEqual(self.amounts(), {("1", "3"): 2500})
+
+    def test_shares_the_first_node_or_even_parts(self) -> None:
+        self.net(PLAIN, self.NODES, self.DEMAND)
+        self.assertEqual(self.amounts(), {("1", "3"): 7500, ("2", "3"): 2500})
+        self.net(PLAIN, self.NODES.replace(",zone_share", "").replace(",3\n", "\n").replace(",1\n", "\n"), self.DEMAND)
+        self.assertEqual(self.amounts(), {("1", "3"): 10_000})
+        self.assertEqual(self.amounts("--zone-nodes", "even"), {("1", "3"): 5000, ("2", "3"): 5000})
+
+    def test_no_route_leads_through_a_zone_of_connectors(self) -> None:
+        link = "link_id,from_node_id,to_node_id,length,facility_type,directed\nc1,Z,1,500,connector,0\nc2,Z,2,500,connector,0\nr,1,2,5000,primary,0\nx,0,1,700,primary,0\n"
+        self.net(link, "node_id,zone_id\nZ,9\n0,8\n2,7\n", "o_zone_id,d_zone_id,volume\n8,9,4\n9,8,4\n8,7,1\n")
+        case = self.made()
+        self.assertEqual({(link.tail, link.head) for link in case.links if link.name in ("c1", "c1_r")}, {("Z", "1"), ("1", "Z_end")})
+        self.assertEqual([(row.origin, row.destination) for row in case.demand], [("0", "Z_end"), ("Z", "0"), ("0", "2")])
+
+    def test_demand_without_a_route_is_refused_or_left_out(self) -> None:
+        self.net(PLAIN, demand="o_zone_id,d_zone_id,volume\n1,3,2\n3,1,4\n1,7,1\n")
+        err = self.refused()
+        self.assertIn("cannot be carried: demand from 3 to 1: no link leads out of node 3\n", err)
+        self.assertIn("cannot be carried: demand from 1 to 7: no node on a link stands for zone 7\n", err)
+        self.net(PLAIN, demand="o_zone_id,d_zone_id,volume\n1,3,2\n3,1,4\n")
+        self.assertEqual(self.amounts("--leave-out-unreached"), {("1", "3"): 2000})
+
+    def test_fewer_destinations(self) -> None:
+        rows = "".join(f"l{number},{number},{number + 1},1000,1,60,900\n" for number in range(1, 70))
+        demand = "o_zone_id,d_zone_id,volume\n" + "".join(f"1,{number},{number}\n" for number in range(2, 71))
+        self.net("link_id,from_node_id,to_node_id,length,lanes,free_speed,capacity\n" + rows, demand=demand)
+        self.assertIn("give --destinations 64", self.refused())
+        case = self.made("--destinations", "2", "--horizon", "60")
+        # 70 and 69 have most; whoever wants less far drives on to 69
+        self.assertEqual({row.destination: row.units for row in case.demand}, {"69": 1000 * (69 * 70 // 2 - 1), "70": 70_000})
+
+
+class Fitted(GmnsTest):
+    SHORT = PLAIN + "c,3,4,30,1,60,1000\nd,4,5,1000,1,60,1000\n"
+
+    def test_without_a_fit_it_says_what_each_step_would_change(self) -> None:
+        self.net(self.SHORT, demand="o_zone_id,d_zone_id,volume\n1,5,10\n")
+        err = self.refused("--least-step", "5s")
+        # 30 m at 60 km/h take 1.8 s
+        self.assertIn("link c: 30 m at 60 and 8 km/h allow a step of at most 1800 ms, and 5000 ms are asked for", err)
+        self.assertIn("the longest step that changes no link is 1800 ms", err)
+        self.assertRegex(err, r"\n  5000 +3 +1 ")
+
+    def test_with_a_fit_it_tells_the_changes_and_lists_them(self) -> None:
+        self.net(self.SHORT, demand="o_zone_id,d_zone_id,volume\n1,5,10\n")
+        status, out, _ = self.make("--fit", "5s")
+        self.assertEqual(status, 0)
+        self.assertEqual(len(Case.read(self.folder / "case").links), 3)
+        self.assertIn("  merged ", out)
+        self.assertIn("length 3.0 km becomes 3.0 km (+0.00 %)", out)
+        self.assertIn("free-flow times of the 1 most used routes: +0.00 % in the mean", out)
+        self.assertIn("merged,c,", (self.folder / "case" / "changes.csv").read_text())
+
+    def test_five_arms(self) -> None:
+        self.net("link_id,from_node_id,to_node_id,length,lanes,free_speed,capacity,directed\n" + "".join(f"r{number},{number},0,900,1,50,900,0\n" for number in range(1, 6)),
+                 demand="o_zone_id,d_zone_id,volume\n1,5,10\n")
+        err = self.refused()
+        self.assertIn("cannot be carried: node 0: 5 links lead out of it, and at most 4 may: r1_r, r2_r, r3_r, r4_r, r5_r\n", err)
+        self.assertIn("--fit STEP", err)
+        self.assertEqual(len(self.made("--fit", "5s").links), 12)
+
+    def test_more_cells_than_may_be_are_told_with_what_fits(self) -> None:
+        rows = "".join(f"l{number},{number},{number + 1},1000,1,60,900\n" for number in range(1, 1500))
+        self.net("link_id,from_node_id,to_node_id,length,lanes,free_speed,capacity\n" + rows, demand="o_zone_id,d_zone_id,volume\n1,1500,10\n")
+        err = self.refused("--fit", "2s", "--horizon", "120")
+        self.assertRegex(err, r"[0-9,]+ cells, and at most 54,000,000 may be: --horizon [0-9]+ at this step or --fit [0-9]+ at this horizon")
+        horizon = err.split("--horizon ")[1].split()[0]
+        self.assertEqual(self.make("--fit", "2s", "--horizon", horizon, "--period", "10")[0], 0)
+
+
+class InTime(GmnsTest):
+    def test_a_profile_adds_up_to_the_vehicle(self) -> None:
+        self.net(PLAIN, demand="o_zone_id,d_zone_id,volume\n1,3,10\n")
+        profile = self.folder / "profile.csv"
+        profile.write_text("from,to,share\n7:00,7:15,1\n7:15,7:30,1\n7:30,7:45,1\n")
+        rows = self.made("--profile", str(profile), "--step", "30s").demand
+        self.assertEqual([(row.from_slot, row.to_slot, row.units) for row in rows], [(0, 30, 3334), (30, 60, 3333), (60, 90, 3333)])
+
+    def test_a_period_longer_than_the_horizon(self) -> None:
+        self.net(PLAIN, demand="o_zone_id,d_zone_id,volume\n1,3,10\n")
+        self.assertIn("the demand's period of 60 minutes is longer than the horizon of 30; give --horizon 60 or more", self.refused("--horizon", "30"))
+
+
+if __name__ == "__main__":
+    unittest.main()
