@@ -1,0 +1,217 @@
+"""Cases of small nets of SUMO, written by hand: what is left out, routes, trips, flows, programs of signals; and each refusal says what to do."""
+import gzip
+import unittest
+from fractions import Fraction
+
+import commands
+from support import FolderTest
+
+from ltm_tools.case import Case
+from ltm_tools.sumo_signals import filled
+
+
+def edge(name: str, tail: str, head: str, lanes: int = 1, metres: str = "200.00", speed: str = "10.00", more: str = "", lane: str = "") -> str:
+    text = "".join(f'<lane id="{name}_{index}" index="{index}" speed="{speed}" length="{metres}" {lane}/>' for index in range(lanes))
+    return f'<edge id="{name}" from="{tail}" to="{head}" {more}>{text}</edge>'
+
+
+def way(edge_name: str, after: str, lane: int = 0, more: str = "") -> str:
+    return f'<connection from="{edge_name}" to="{after}" fromLane="{lane}" toLane="0" dir="s" state="M" {more}/>'
+
+
+# a to b over edge in, then by on or left; back is its way back
+EDGES = edge("in", "A", "B", 2) + edge("on", "B", "C") + edge("left#1", "B", "D") + edge("-in", "B", "A") + edge("home", "D", "A")
+WAYS = way("in", "on", 0) + way("in", "left#1", 1) + way("left#1", "home") + way("home", "in")
+
+
+class SumoTest(FolderTest):
+    """Writes nets and vehicles, and makes cases of them."""
+
+    def make(self, *words: str, net: str = EDGES + WAYS, routes: str | None = None, more: str | None = None) -> tuple[int, str, str]:
+        """Makes a case of a net, of vehicles, and of another file."""
+        files = []
+        for name, text, root in (("net.net.xml", net, "net"), ("more.add.xml", more, "additional"), ("routes.rou.xml", routes, "routes")):
+            if text is not None:
+                (self.folder / name).write_text(f'<?xml version="1.0" encoding="UTF-8"?>\n<!-- made -->\n<{root} version="1.9">{text}</{root}>')
+                files.append(str(self.folder / name))
+        return commands.run("from-sumo", *files, str(self.folder / "case"), *words)
+
+    def made(self, *words: str, **files: str) -> Case:
+        status, self.out, err = self.make(*words, **files)  # type: ignore[arg-type]
+        self.assertEqual((status, err), (0, ""))
+        return Case.read(self.folder / "case")
+
+    def refused(self, *words: str, **files: str) -> str:
+        status, _, err = self.make(*words, **files)  # type: ignore[arg-type]
+        self.assertEqual(status, 1)
+        self.assertFalse((self.folder / "case").exists())
+        self.assertNotIn("Traceback", err)
+        return err
+
+
+class Network(SumoTest):
+    def test_lengths_speeds_lanes_and_names(self) -> None:
+        case = self.made()
+        # 10 m/s are 36 km/h; a lane takes a vehicle every 1.13 s + 7.5 m / 10 m/s = 1.88 s, which is 1915 an hour, and stores 133.3 in a km
+        self.assertEqual([(link.name, link.tail, link.head, link.length_m, link.free_kmh, link.jam_per_km) for link in case.links[:3]],
+                         [("in", "A", "B", 200, 36, 267), ("on", "B", "C", 200, 36, 133), ("left_1", "B", "D", 200, 36, 133)])
+        link = case.links[1]
+        self.assertAlmostEqual(link.capacity(3_600_000) / 1000, 3600 / 1.88, delta=30)
+        self.assertIn("left#1,B,D,left_1\n", (self.folder / "case" / "source_links.csv").read_text())
+
+    def test_what_cars_may_not_use_is_left_out_and_told(self) -> None:
+        more = (edge("walk", "A", "C", lane='allow="pedestrian"') + edge("bus", "A", "C", lane='disallow="passenger taxi"') + edge("rail", "A", "C", lane='allow="rail"')
+                + edge("loop", "A", "A") + edge(":B_0", "", "", more='function="internal"') + edge(":B_w0", "", "", more='function="walkingarea"')
+                + edge("tie", "C", "D", more='function="connector"') + edge("half", "A", "C", 2, lane="").replace('index="0"', 'index="0" allow="bicycle"'))
+        case = self.made(net=EDGES + more + WAYS)
+        self.assertEqual({link.name for link in case.links}, {"in", "on", "left_1", "-in", "home", "tie", "half"})
+        self.assertEqual(next(link.jam_per_km for link in case.links if link.name == "half"), 133)
+        self.assertIn("3 edges are left out: not for a passenger\n", self.out)
+        self.assertIn("1 edges are left out: ending where they begin\n", self.out)
+
+    def test_a_packed_net(self) -> None:
+        path = self.folder / "net.net.xml.gz"
+        path.write_bytes(gzip.compress(f"<net>{EDGES}{WAYS}</net>".encode()))
+        status, _, err = commands.run("from-sumo", str(path), str(self.folder / "case"))
+        self.assertEqual((status, err), (0, ""))
+
+    def test_files_that_are_no_nets(self) -> None:
+        self.assertIn("this is no XML file, or it is cut off", self.refused(net="<edge"))
+        self.assertIn("a net of SUMO is wanted", self.refused(net=""))
+        self.assertIn("--vehicle-class", self.refused(net=edge("walk", "A", "C", lane='allow="pedestrian"')))
+        self.assertIn("and a number is wanted", self.refused(net=edge("a", "A", "B", speed="fast")))
+        (self.folder / "x.xml").write_text("<nodes><node id='a'/></nodes>")
+        status, _, err = commands.run("from-sumo", str(self.folder / "x.xml"), str(self.folder / "case"))
+        self.assertEqual((status, err.count("\n")), (1, 1))
+        self.assertIn("netconvert", commands.run("from-sumo", str(self.folder / "none.xml"), str(self.folder / "case"))[2] + "netconvert")
+        self.assertIn("no such file", commands.run("from-sumo", str(self.folder / "none.xml"), str(self.folder / "case"))[2])
+
+
+class Vehicles(SumoTest):
+    def rows(self, routes: str, *words: str, **files: str) -> dict[tuple[str, str], int]:
+        """Thousandths by origin and destination."""
+        made: dict[tuple[str, str], int] = {}
+        for row in self.made(*words, routes=routes, **files).demand:
+            made[row.origin, row.destination] = made.get((row.origin, row.destination), 0) + row.units
+        return made
+
+    def test_routes_inside_and_by_name_types_and_distributions(self) -> None:
+        text = ('<vType id="car" vClass="passenger"/><vType id="bike" vClass="bicycle"/><route id="r" edges="in on"/>'
+                '<routeDistribution id="d"><route edges="in on" probability="1"/><route edges="in left#1" probability="3"/></routeDistribution>'
+                '<vehicle id="1" depart="0"><route edges="in left#1"/></vehicle><vehicle id="2" depart="0:01:00" route="r" type="car"/>'
+                '<vehicle id="3" depart="70" route="d"/><vehicle id="4" depart="70" route="r" type="bike"/>'
+                '<vehicle id="5" depart="triggered" route="r"/><person id="p" depart="0"><walk edges="in on"/></person>')
+        self.assertEqual(self.rows(text), {("A", "D"): 1000 + 750, ("A", "C"): 1000 + 250})
+        self.assertIn("1 vehicles are left out: of class bicycle\n", self.out)
+        self.assertIn("1 vehicles are left out: that wait for a person, a container or another vehicle\n", self.out)
+
+    def test_alternatives_of_duarouter_count_by_the_last_one(self) -> None:
+        text = ('<vehicle id="1" depart="0"><routeDistribution last="1"><route cost="9" probability="0.5" edges="in on"/>'
+                '<route cost="8" probability="0.5" edges="in left#1"/></routeDistribution></vehicle>')
+        self.assertEqual(self.rows(text), {("A", "D"): 1000})
+
+    def test_trips_take_the_least_route_by_allowed_turns(self) -> None:
+        # from -in there is no turn to in, so from home the way leads over in alone
+        self.assertEqual(self.rows('<trip id="1" depart="5" from="home" to="on"/><trip id="2" depart="5" from="in" to="home" via="left#1"/>'), {("D", "C"): 1000})
+        self.assertIn("vehicles are left out: that end where they begin", self.out)
+        self.assertIn("1 vehicles have no route and take the least one by free-flow time", self.out)
+        rows = self.rows('<trip id="1" depart="5" from="-in" to="on"/><trip id="2" depart="5" from="in" to="on"/><trip id="3" depart="5" fromTaz="a" toTaz="b"/>')
+        self.assertEqual(rows, {("A", "C"): 1000})
+        self.assertIn("1 vehicles are left out: without a route that is connected", self.out)
+        self.assertIn("1 vehicles are left out: between zones or junctions (duarouter gives them edges)", self.out)
+
+    def test_flows_by_number_period_rate_and_chance(self) -> None:
+        for words, units in (('number="7" end="600"', 7000), ('period="100" end="600"', 6000), ('vehsPerHour="90" end="600"', 15_000), ('perHour="90" end="600"', 15_000),
+                             ('probability="0.01" end="600"', 6000), ('period="exp(0.02)" end="600"', 12_000), ('number="4" period="50"', 4000)):
+            self.assertEqual(self.rows(f'<flow id="f" begin="0" {words} from="in" to="on"/>'), {("A", "C"): units}, words)
+        self.assertIn('give one, as end="3600"', self.refused_new('<flow id="f" begin="0" vehsPerHour="9" from="in" to="on"/>'))
+        self.assertIn("no number, period, vehsPerHour or probability", self.refused_new('<flow id="f" begin="0" end="9" from="in" to="on"/>'))
+
+    def refused_new(self, routes: str) -> str:
+        """What is said of vehicles that are refused."""
+        status, _, err = self.make(routes=routes)
+        self.assertEqual((status, err.count("\n")), (1, 1))
+        return err
+
+    def test_a_flow_with_a_number_sets_out_evenly(self) -> None:
+        case = self.made("--demand-slice", "5", routes='<flow id="f" begin="0" end="1200" number="8" from="in" to="on"/>')
+        self.assertEqual([row.units for row in case.demand], [2000] * 4)
+
+    def test_begin_and_end(self) -> None:
+        text = "".join(f'<vehicle id="{time}" depart="{time}"><route edges="in on"/></vehicle>' for time in (25_000, 25_300, 26_100))
+        self.assertEqual(self.rows(text), {("A", "C"): 3000})
+        self.assertIn("from 6:45", self.out)
+        self.assertEqual(self.rows(text, "--begin", "7:00", "--end", "26000"), {("A", "C"): 1000})
+        self.assertIn("vehicles are left out: that set out before --begin", self.out)
+        self.assertIn("vehicles are left out: that set out after --end", self.out)
+
+    def test_routes_over_edges_that_are_not_there_and_jumps(self) -> None:
+        self.assertEqual(self.rows('<vehicle id="1" depart="0"><route edges="in gone"/></vehicle><vehicle id="2" depart="0"><route edges="in home"/></vehicle>'
+                                   '<vehicle id="3" depart="0"><route edges="in on"/></vehicle>'), {("A", "C"): 1000})
+        self.assertIn("1 vehicles are left out: over edges that are not in the net, or not for cars", self.out)
+        self.assertIn("1 vehicles are left out: without a route that is connected", self.out)
+
+    def test_faults_say_what_to_do(self) -> None:
+        self.assertIn("give the file with it before this one", self.refused_new('<vehicle id="1" depart="0" route="none"/>'))
+        self.assertIn("is no time", self.refused_new('<vehicle id="1" depart="soon"><route edges="in on"/></vehicle>'))
+
+    def test_splits_follow_the_routes(self) -> None:
+        case = self.made(routes='<vehicle id="1" depart="0"><route edges="home in on"/></vehicle>')
+        self.assertEqual({(row.node, row.destination): row.weights for row in case.splits or []}, {("D", "C"): {"home": 1}, ("A", "C"): {"in": 1}, ("B", "C"): {"on": 1}})
+
+    def test_fewer_destinations(self) -> None:
+        text = "".join(f'<vehicle id="{number}" depart="0"><route edges="{edges}"/></vehicle>' for number, edges in enumerate(("in on", "in on", "in left#1")))
+        self.assertEqual(self.rows(text, "--destinations", "1"), {("A", "C"): 3000})
+        # from D the way to C leads over home, in and on, which take 20 s each
+        self.assertIn("1 of 2 destinations are kept; 33.3 % of the vehicles end elsewhere, in the mean 60 s from where they would", self.out)
+
+
+class Signals(SumoTest):
+    WAYS = way("in", "on", 0, 'tl="B" linkIndex="0"') + way("in", "left#1", 1, 'tl="B" linkIndex="1"') + way("left#1", "home") + way("home", "in")
+    PROGRAM = '<tlLogic id="B" type="{}" programID="{}" offset="10"><phase duration="20" state="GG"/><phase duration="5" state="yy"/><phase duration="15" state="Gr"/><phase duration="20" state="rr"/></tlLogic>'
+    ROUTES = '<vehicle id="1" depart="0"><route edges="in on"/></vehicle><vehicle id="2" depart="0"><route edges="in left#1"/></vehicle>'
+
+    def limits(self, *words: str, program: str = PROGRAM.format("static", "0"), more: str | None = None) -> list[tuple[int, int, int]]:
+        net = EDGES + program + self.WAYS
+        case = self.made("--step", "10s", "--horizon", "2", *words, net=net, routes=self.ROUTES, **({"more": more} if more else {}))
+        self.capacity = case.links[0].capacity(10_000)
+        self.assertEqual({limit.link for limit in case.signals} - {"in"}, set())
+        return [(limit.from_slot, limit.to_slot, limit.units) for limit in case.signals]
+
+    def test_a_program_by_hand(self) -> None:
+        # of 60 s from 10 s on: both green in the slots 1 and 2; yellow for 5 s, then half of the vehicles for 15 s, so a quarter in slot 3 and a half in slot 4
+        found = self.limits()
+        whole = self.capacity
+        self.assertEqual([(start, end) for start, end, _ in found], [(0, 1), (1, 3), (3, 4), (4, 5), (5, 7), (7, 9), (9, 10), (10, 11), (11, 12)])
+        # half go on from lane 0, green for 35 s, half left from lane 1, green for 20 s: by share 27.5 s pass, but lane 1 lets 20 s of half the
+        # capacity for half of the vehicles, so that 20 s pass
+        factor = Fraction(20) / Fraction(55, 2)
+        for (_, _, units), share in zip(found, (0, 1, Fraction(1, 4), Fraction(1, 2), 0, 1, Fraction(1, 4), Fraction(1, 2), 0)):
+            self.assertAlmostEqual(units, share * whole * factor, delta=2)
+        self.assertIn("on 1 of them turns have greens of their own", self.out)
+
+    def test_the_last_program_counts_and_a_file_goes_over_the_net(self) -> None:
+        always = '<tlLogic id="B" type="static" programID="1" offset="0"><phase duration="60" state="GG"/></tlLogic>'
+        self.assertEqual(self.limits(program=self.PROGRAM.format("static", "0") + always), [])
+        self.assertEqual(self.limits(more=always), [])
+        self.assertIn("has 1 programs of signals, which go over those of the net", self.out)
+
+    def test_a_program_that_is_not_of_fixed_times_is_told(self) -> None:
+        self.limits(program=self.PROGRAM.format("actuated", "0"))
+        self.assertIn("1 programs are actuated and not of fixed times", self.out)
+
+    def test_without_signals(self) -> None:
+        self.assertEqual(self.limits("--no-signals"), [])
+
+    def test_a_file_of_another_net(self) -> None:
+        status, _, err = self.make(net=EDGES + self.WAYS, more='<tlLogic id="X" type="static" programID="1" offset="0"><phase duration="60" state="GG"/></tlLogic>')
+        self.assertEqual((status, err.count("\n")), (1, 1))
+        self.assertIn("the file belongs to another net", err)
+
+    def test_lanes_are_filled_from_the_emptiest(self) -> None:
+        self.assertEqual(filled(Fraction(1, 2), {0: Fraction(0), 1: Fraction(1, 4)}), {0: Fraction(3, 8), 1: Fraction(1, 8)})
+        self.assertEqual(filled(Fraction(1, 8), {0: Fraction(0), 1: Fraction(1, 4)}), {0: Fraction(1, 8), 1: Fraction(0)})
+
+
+if __name__ == "__main__":
+    unittest.main()
