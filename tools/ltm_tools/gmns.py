@@ -104,11 +104,12 @@ def make(args: argparse.Namespace) -> int:
         print(*steps_table(raw), sep="\n")
         return 0
     check_destinations(end for _, end in volumes)
-    made = carried(raw, args)
+    routes = least_routes(raw, [(start, end, whole_units(volume, "demand")) for (start, end), volume in volumes.items()]) if args.fit else []
+    made = carried(raw, args, routes)
     case, slots_of_demand = case_of(made, volumes, args, read)
     cells = check_cells(case)
     write(args.case, case, made)
-    tell(args, made, case, slots_of_demand, cells, read, amounts, volumes)
+    tell(made, case, slots_of_demand, cells, [*read.told(), *amounts.notes], amounts.inner, routes)
     return 0
 
 
@@ -257,24 +258,21 @@ def parts_of(args: argparse.Namespace, step: int, read: Read) -> list[Part]:
     return [Part(0, max(1, args.period * MINUTE_MS // step), Fraction(1))]
 
 
-def tell(args: argparse.Namespace, made: Carried, case: Case, last: int, cells: str, read: Read, amounts: Amounts,
-         volumes: dict[tuple[str, str], Fraction]) -> None:
+def tell(made: Carried, case: Case, last: int, cells: str, notes: list[str], inner: Fraction, routes: list[tuple[tuple[str, ...], int]]) -> None:
     """What was made, set, left out and changed."""
     total = sum(row.units for row in case.demand)
     off = max((abs(top(link) / road.capacity - 1) for link, road in zip(made.links, made.network.roads.values())), default=Fraction(0))
     print(f"{len(case.links)} links, {len(case.nodes)} nodes, {len(case.destinations)} destinations")
     print(f"{short_vehicles(total)} vehicles over {last * made.step // MINUTE_MS} minutes, {case.setup.slots} slots of {made.step} ms")
     print(f"capacities are kept within {float(off * 100):.1f} percent")
-    if amounts.inner:
-        print(f"{float(amounts.inner):g} vehicles stay within a zone and are left out")
-    for line in (*read.told(), *amounts.notes):
+    if inner:
+        print(f"{float(inner):g} vehicles stay within a zone and are left out")
+    for line in notes:
         print(line)
     if made.fit is None:
         print(f"the longest step that changes nothing is {longest_step(made.raw)} ms")
-    print(*changes_table(made), sep="\n", end="\n" if made.fit else "")
-    pairs = [(start, end, whole_units(volume, "demand")) for (start, end), volume in volumes.items()]
-    if made.fit is not None:
-        print(*routes_table(made, least_routes(made.raw, pairs)), sep="\n")
+    else:
+        print(*changes_table(made), *routes_table(made, routes), sep="\n")
     renamed = sum(name != source for names in (made.link_names, made.node_names) for source, name in names.items())
     if renamed:
         print(f"{renamed} names are made, and stand in source_links.csv and source_nodes.csv")

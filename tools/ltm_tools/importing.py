@@ -3,11 +3,12 @@ from __future__ import annotations
 
 import argparse
 import sys
-from collections.abc import Iterable
+from collections.abc import Iterable, Iterator
 from dataclasses import dataclass
 from fractions import Fraction
 from pathlib import Path
 
+from .balance import MOST_ROUTES, Used, balance
 from .case import Case, Link
 from .passages import Roads
 from .errors import Fault
@@ -102,6 +103,7 @@ def add_network_arguments(parser: argparse.ArgumentParser) -> None:
     group = parser.add_argument_group("step and fit")
     group.add_argument("--fit", type=step_argument, metavar="STEP", help="fit the network to a step, as 5000 (ms) or 5s: merge, contract, shift and lengthen links that"
                        " are too short, and split nodes of more than 4 links on a side; all is told, and listed in changes.csv")
+    group.add_argument("--no-balance", action="store_true", help="with --fit: do not change other links so that the times of used routes stay as they were")
     group.add_argument("--step", type=step_argument, help="the step, of a network that is left as it is; without it the longest that every link allows")
     group.add_argument("--least-step", type=step_argument, default=1000, metavar="STEP", help="the shortest step to propose (1000)")
     group.add_argument("--steps", action="store_true", help="tell what a fit to each of some steps would change, and write nothing")
@@ -109,12 +111,15 @@ def add_network_arguments(parser: argparse.ArgumentParser) -> None:
     group.add_argument("--origin-capacity", type=int, default=32, metavar="N", help="the most vehicles that leave an origin in a step (32)")
 
 
-def carried(raw: Network, args: argparse.Namespace) -> Carried:
-    """The network as a case can carry it; Refused with all that is wrong, and what to do."""
+def carried(raw: Network, args: argparse.Namespace, routes: Iterable[tuple[tuple[str, ...], int]] = ()) -> Carried:
+    """The network as a case can carry it; Refused with all that is wrong, and what to do. With a fit the times of used routes, told by
+    roads of the source and how many drive them, are kept as near as may be."""
     if not raw.roads:
         raise Fault("the network has no links")
     step, fit = (args.fit, Fit(raw, args.fit)) if args.fit else (step_of(raw, args), None)
     network = fit.run() if fit else raw
+    if fit and not args.no_balance:
+        balance(fit, used_routes(fit, routes))
     faults = arm_faults(network)
     if len(network.roads) > MOST_LINKS:
         faults.append(f"there are {len(network.roads)} links, and at most {MOST_LINKS} may be: cut out a smaller area, or leave out small roads")
@@ -128,6 +133,15 @@ def carried(raw: Network, args: argparse.Namespace) -> Carried:
         link = diagram(road, step if fit else None)
         links.append(Link(link_names[road.name], node_names[road.tail], node_names[road.head], link.length_m, link.free_kmh, link.wave_kmh, link.jam_per_km))
     return Carried(network, raw, links, step, fit, source_of(raw, network, fit, link_names, node_names), link_names, node_names)
+
+
+def used_routes(fit: Fit, routes: Iterable[tuple[tuple[str, ...], int]]) -> Iterator[Used]:
+    """Routes over the roads of a fitted network."""
+    same = {name: name for names in (fit.network.roads, fit.network.nodes) for name in names}
+    source = source_of(fit.raw, fit.network, fit, same, same)
+    roads = Roads.of(diagram(road, fit.step) for road in fit.network.roads.values())
+    for names, units in routes:
+        yield Used(source.route(names, roads), sum((fit.raw.roads[name].time for name in names), Fraction(0)), units)
 
 
 def source_of(raw: Network, network: Network, fit: Fit | None, link_names: dict[str, str], node_names: dict[str, str]) -> Source:
@@ -240,11 +254,14 @@ def routes_table(made: Carried, routes: Iterable[tuple[tuple[str, ...], int]], c
             f" ({worst[1][0]} to {worst[1][-1]}, {float(worst[2]) / 1000:.1f} s becomes {worst[3] / 1000:.1f} s)"]
 
 
-def least_routes(raw: Network, pairs: Iterable[tuple[str, str, int]], count: int = 20) -> list[tuple[tuple[str, ...], int]]:
+def least_routes(raw: Network, pairs: Iterable[tuple[str, str, int]], count: int = MOST_ROUTES) -> list[tuple[tuple[str, ...], int]]:
     """The least routes of the pairs of nodes with most demand."""
+    times: dict[str, dict[str, Fraction | int]] = {}
     routes = []
     for origin, destination, units in sorted(pairs, key=lambda pair: -pair[2])[:count]:
-        route = least_route(raw, origin, destination, least_times(raw, destination))
+        if destination not in times:
+            times[destination] = least_times(raw, destination)
+        route = least_route(raw, origin, destination, times[destination])
         if route:
             routes.append((tuple(route), units))
     return routes

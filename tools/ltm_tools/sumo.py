@@ -99,11 +99,14 @@ def make(args: argparse.Namespace) -> int:
         print(*steps_table(raw), sep="\n")
         return 0
     check_destinations(raw.roads[route.links[-1]].head for route in inputs.routes)
-    made = carried(raw, args)
+    counts: dict[tuple[str, ...], int] = {}
+    for route in inputs.routes:
+        counts[route.links] = counts.get(route.links, 0) + route.units
+    made = carried(raw, args, list(counts.items()))
     case = case_of(made, inputs, held, args)
     cells = check_cells(case)
     write(args.case, case, made)
-    tell(made, case, inputs, cells)
+    tell(made, case, inputs, cells, list(counts.items()))
     return 0
 
 
@@ -296,7 +299,7 @@ def signals_of(made: Carried, inputs: Inputs, held: dict[str, list[Connection]],
     return limits
 
 
-def tell(made: Carried, case: Case, inputs: Inputs, cells: str) -> None:
+def tell(made: Carried, case: Case, inputs: Inputs, cells: str, routes: list[tuple[tuple[str, ...], int]]) -> None:
     """What was made, left out and changed."""
     total = sum(row.units for row in case.demand)
     print(f"{len(case.links)} links, {len(case.nodes)} nodes, {len(case.destinations)} destinations")
@@ -309,11 +312,7 @@ def tell(made: Carried, case: Case, inputs: Inputs, cells: str) -> None:
     if made.fit is None:
         print(f"the longest step that changes nothing is {longest_step(made.raw)} ms")
     else:
-        print(*changes_table(made), sep="\n")
-        counts: dict[tuple[str, ...], int] = {}
-        for route in inputs.routes:
-            counts[tuple(route.links)] = counts.get(tuple(route.links), 0) + route.units
-        print(*routes_table(made, list(counts.items())), sep="\n")
+        print(*changes_table(made), *routes_table(made, routes), sep="\n")
     renamed = sum(name != source for names in (made.link_names, made.node_names) for source, name in names.items())
     if renamed:
         print(f"{renamed} names are made, and stand in source_links.csv and source_nodes.csv")
