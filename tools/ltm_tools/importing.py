@@ -137,7 +137,7 @@ def carried(raw: Network, args: argparse.Namespace, routes: Iterable[tuple[tuple
 
 def used_routes(fit: Fit, routes: Iterable[tuple[tuple[str, ...], int]]) -> Iterator[Used]:
     """Routes over the roads of a fitted network."""
-    same = {name: name for names in (fit.network.roads, fit.network.nodes) for name in names}
+    same = {name: name for name in (*fit.network.roads, *fit.network.nodes)}
     source = source_of(fit.raw, fit.network, fit, same, same)
     roads = Roads.of(diagram(road, fit.step) for road in fit.network.roads.values())
     for names, units in routes:

@@ -17,6 +17,7 @@ from .importing import (Carried, Refused, above_0, add_network_arguments, carrie
                         routes_table, slots_of, steps_table, write)
 from .profiles import Trip, by_trips
 from .route_splits import Route, circles, from_routes
+from .sumo_ends import Cut, cut_ends, over_parts
 from .sumo_net import Connection, Net, elements, read_net, read_programs
 from .sumo_routes import Found, read_vehicles
 from .sumo_signals import greens_of, signal_edges
@@ -52,6 +53,7 @@ def add_arguments(parser: argparse.ArgumentParser) -> None:
     group.add_argument("--slice", type=int, metavar="MINUTES", help="the minutes of a row of splits (15, or more where there were too many rows)")
     group.add_argument("--destinations", type=int, metavar="N", help="keep the N destinations with most vehicles, and end other trips at the nearest one")
     group.add_argument("--no-signals", action="store_true", help="leave the programs of signals out")
+    group.add_argument("--wait-at-ends", action="store_true", help="let trips wait for a signal at the end of their last edge, which they need not do in SUMO")
     group.add_argument("--yellow", action="store_true", help="let vehicles go on yellow (on yellow none goes)")
     group.add_argument("--vehicle-class", default="passenger", metavar="CLASS", help="whose lanes count (passenger)")
     group.add_argument("--headway", type=above_0, default=Fraction(113, 100), metavar="S",
@@ -66,6 +68,8 @@ class Inputs:
     net: Net
     found: Found
     routes: list[Route] = field(default_factory=list)
+    turns_before: list[Route] = field(default_factory=list)
+    """The routes before edges were cut, where some were."""
     begin_ms: int = 0
     notes: list[str] = field(default_factory=list)
 
@@ -92,9 +96,10 @@ def make(args: argparse.Namespace) -> int:
     raw = inputs.net.network
     if args.destinations is not None:
         inputs.routes = fewer_ends(inputs, args.destinations)
-    raw.ends = {raw.roads[route.links[0]].tail for route in inputs.routes} | {raw.roads[route.links[-1]].head for route in inputs.routes}
     held = {} if args.no_signals else signal_edges(inputs.net)
-    raw.signals = set(held)
+    cut = Cut() if args.wait_at_ends or args.steps else end_before_signals(inputs, held, args)
+    raw.signals = {cut.exits.get(name, name) for name in held}
+    raw.ends = {raw.roads[route.links[0]].tail for route in inputs.routes} | {raw.roads[route.links[-1]].head for route in inputs.routes}
     if args.steps:
         print(*steps_table(raw), sep="\n")
         return 0
@@ -103,11 +108,25 @@ def make(args: argparse.Namespace) -> int:
     for route in inputs.routes:
         counts[route.links] = counts.get(route.links, 0) + route.units
     made = carried(raw, args, list(counts.items()))
-    case = case_of(made, inputs, held, args)
+    case = case_of(made, inputs, held, cut, args)
     cells = check_cells(case)
     write(args.case, case, made)
     tell(made, case, inputs, cells, list(counts.items()))
     return 0
+
+
+def end_before_signals(inputs: Inputs, held: dict[str, list[Connection]], args: argparse.Namespace) -> Cut:
+    """Lets trips end before a signal at the end of their last edge, and tells it."""
+    raw = inputs.net.network
+    step = args.fit or args.step or min(longest_step(raw), MINUTE_MS)
+    cut = cut_ends(raw, inputs.routes, set(held), step)
+    inputs.turns_before = inputs.routes
+    inputs.routes = [over_parts(route, cut) for route in inputs.routes]
+    if cut.exits:
+        inputs.notes.append(f"{len(cut.exits)} edges are cut a step before a signal, so that trips that end there need not wait for it (--wait-at-ends leaves them whole)")
+    if cut.too_short:
+        inputs.notes.append(f"trips that end on {cut.too_short} edges wait for the signal at their end, as these are too short to be cut")
+    return cut
 
 
 def read_inputs(args: argparse.Namespace) -> Inputs:
@@ -219,7 +238,7 @@ def nearer_end(ways: Ways, links: Sequence[str], kept: set[str], node: str | Non
     return best
 
 
-def case_of(made: Carried, inputs: Inputs, held: dict[str, list[Connection]], args: argparse.Namespace) -> Case:
+def case_of(made: Carried, inputs: Inputs, held: dict[str, list[Connection]], cut: Cut, args: argparse.Namespace) -> Case:
     """The case: its links, demand, splits and signals."""
     last = max((route.depart_ms for route in inputs.routes), default=0)
     horizon = (args.horizon or -(-(last + 30 * MINUTE_MS) // (5 * MINUTE_MS)) * 5) * MINUTE_MS
@@ -235,7 +254,7 @@ def case_of(made: Carried, inputs: Inputs, held: dict[str, list[Connection]], ar
     case.demand = demand_of(routes, case, inputs, args)
     check_cells(case)
     case.splits = splits_of(routes, case, inputs, args)
-    case.signals = signals_of(made, inputs, held, case, args)
+    case.signals = signals_of(made, inputs, held, cut, case, args)
     case.setup.signals = bool(case.signals)
     return case
 
@@ -272,10 +291,10 @@ def splits_of(routes: list[Route], case: Case, inputs: Inputs, args: argparse.Na
     raise Fault(f"{len(rows)} rows of splits, and at most {MOST_SPLIT_ROWS} may be; give a longer --slice, or fewer --destinations")
 
 
-def signals_of(made: Carried, inputs: Inputs, held: dict[str, list[Connection]], case: Case, args: argparse.Namespace) -> list[Limit]:
+def signals_of(made: Carried, inputs: Inputs, held: dict[str, list[Connection]], cut: Cut, case: Case, args: argparse.Namespace) -> list[Limit]:
     """The exit limits of edges with signals, by the shares of their turns in the routes."""
     turns: dict[str, dict[str, int]] = {}
-    for route in inputs.routes:
+    for route in inputs.turns_before or inputs.routes:
         for edge, after in zip(route.links, route.links[1:]):
             if edge in held:
                 of = turns.setdefault(edge, {})
@@ -285,7 +304,7 @@ def signals_of(made: Carried, inputs: Inputs, held: dict[str, list[Connection]],
     links = {link.name: link for link in case.links}
     for edge, ways in held.items():
         greens = greens_of(inputs.net, ways, turns.get(edge, {}), inputs.begin_ms, len(inputs.net.lanes[edge]), args.yellow)
-        name = made.source.links[edge].link
+        name = made.source.links[cut.exits.get(edge, edge)].link
         if greens and name is not None:
             by_turn += len({(green.from_ms, green.to_ms) for green in greens}) > 1
             plan = Plan(name, greens, 0, case.setup.horizon_ms)

@@ -208,6 +208,23 @@ class Signals(SumoTest):
         self.assertEqual((status, err.count("\n")), (1, 1))
         self.assertIn("the file belongs to another net", err)
 
+    def test_trips_end_before_a_signal_without_waiting(self) -> None:
+        # one trip ends at B, at the end of in, and one goes on; 200 m at 10 m/s are cut 51 m, 5.1 s, before the end
+        net = EDGES + self.PROGRAM.format("static", "0") + self.WAYS
+        text = '<vehicle id="1" depart="0"><route edges="in"/></vehicle><vehicle id="2" depart="0"><route edges="in on"/></vehicle>'
+        case = self.made("--step", "5s", net=net, routes=text)
+        links = {link.name: (link.tail, link.head, link.length_m) for link in case.links}
+        self.assertEqual((links["in"], links["in_exit"], links["in_stop"]), (("A", "in_before", 149), ("in_before", "B", 51), ("in_before", "B_end", 51)))
+        self.assertEqual({limit.link for limit in case.signals}, {"in_exit"})
+        self.assertEqual({(row.origin, row.destination) for row in case.demand}, {("A", "B_end"), ("A", "C")})
+        self.assertEqual({(row.node, row.destination): row.weights for row in case.splits or []},
+                         {("A", "B_end"): {"in": 1}, ("in_before", "B_end"): {"in_stop": 1}, ("A", "C"): {"in": 1}, ("in_before", "C"): {"in_exit": 1}, ("B", "C"): {"on": 1}})
+        self.assertIn("1 edges are cut a step before a signal", self.out)
+        case = self.made("--step", "5s", "--wait-at-ends", net=net, routes=text)
+        self.assertEqual({limit.link for limit in case.signals}, {"in"})
+        case = self.made("--step", "15s", net=net, routes=text)
+        self.assertIn("trips that end on 1 edges wait for the signal at their end", self.out)
+
     def test_lanes_are_filled_from_the_emptiest(self) -> None:
         self.assertEqual(filled(Fraction(1, 2), {0: Fraction(0), 1: Fraction(1, 4)}), {0: Fraction(3, 8), 1: Fraction(1, 8)})
         self.assertEqual(filled(Fraction(1, 8), {0: Fraction(0), 1: Fraction(1, 4)}), {0: Fraction(1, 8), 1: Fraction(0)})

@@ -1,0 +1,71 @@
+"""A fitted network is evened out, so that used routes keep their free-flow times. Ten metres take a second."""
+import unittest
+from fractions import Fraction
+
+from support import FolderTest  # noqa: F401  (puts the package on the path)
+
+from test_fit import network, road
+
+from ltm_tools.balance import MOST_SHARE, Used, balance
+from ltm_tools.fit import Fit
+
+
+def fitted(*metres: int, step: int = 5000) -> Fit:
+    """A row of roads r0, r1, .. in which trips end at each node, so that nothing is merged, fitted to a step."""
+    roads = [road(f"r{number}", f"n{number}", f"n{number + 1}", length) for number, length in enumerate(metres)]
+    fit = Fit(network(*roads, ends=" ".join(f"n{number}" for number in range(len(metres) + 1))), step)
+    fit.run()
+    return fit
+
+
+def used(fit: Fit, names: str, units: int = 1000) -> Used:
+    """A route, with the time that it took before the fit."""
+    return Used(tuple(names.split()), sum((fit.raw.roads[name].time for name in names.split()), Fraction(0)), units)
+
+
+def off(fit: Fit, route: Used) -> Fraction:
+    """By how many ms a route takes longer than it took."""
+    return sum((fit.network.roads[name].time for name in route.roads), Fraction(0)) - route.time
+
+
+class Balance(unittest.TestCase):
+    def test_long_roads_give_what_a_short_one_needs(self) -> None:
+        fit = fitted(300, 20, 300)
+        route = used(fit, "r0 r1 r2")
+        self.assertEqual(off(fit, route), 3000)
+        balance(fit, [route])
+        # both long roads take 30 s, the route took 62: with e = 3 + 2 d the least of (e/62)^2 + 0.02 * 2 (d/30)^2 is at d = -1.4386, e = 0.123
+        self.assertAlmostEqual(float(off(fit, route)), 123, delta=3)
+        self.assertEqual(fit.network.roads["r1"].time, 5000)
+        self.assertEqual([change.kind for change in fit.changes], ["lengthened", "evened out", "evened out"])
+
+    def test_none_becomes_too_short_and_none_gives_more_than_its_share(self) -> None:
+        fit = fitted(52, 20, 20, 20, 60)
+        before = {name: one.time for name, one in fit.network.roads.items()}
+        balance(fit, [used(fit, "r0 r1 r2 r3 r4")])
+        self.assertEqual(fit.too_short(), [])
+        for name, one in fit.network.roads.items():
+            self.assertLessEqual(abs(one.time - before[name]), Fraction(MOST_SHARE) * before[name] + 1)
+
+    def test_the_route_that_more_drive_counts_more(self) -> None:
+        # both drive over the short r1; r0 serves both, so one of them has to be off
+        fit = fitted(300, 20, 20)
+        many, few = used(fit, "r0 r1", 9000), used(fit, "r0 r1 r2", 1000)
+        balance(fit, [many, few])
+        self.assertLess(abs(off(fit, many)), abs(off(fit, few)))
+
+    def test_density_and_speed_stay(self) -> None:
+        fit = fitted(300, 20, 300)
+        balance(fit, [used(fit, "r0 r1 r2")])
+        one = fit.network.roads["r0"]
+        self.assertNotEqual(one.length, 300)
+        self.assertEqual((one.kmh, one.jam), (36, 150))
+
+    def test_where_nothing_is_off_nothing_changes(self) -> None:
+        fit = fitted(300, 100, 300)
+        balance(fit, [used(fit, "r0 r1 r2")])
+        self.assertEqual(fit.changes, [])
+
+
+if __name__ == "__main__":
+    unittest.main()
