@@ -13,11 +13,11 @@ from fractions import Fraction
 
 from .fit import Change, Fit, metres_text, stretched
 
-MOST_ROUTES = 3000
+MOST_ROUTES = 5000
 ROUNDS = 40
 MOST_SHARE = 0.2
 """The most by which a road is changed, over its own time."""
-HOLD = 0.02
+HOLD = 0.002
 """How much a change of a road by a share of its time counts, beside a route's being off by that share."""
 
 

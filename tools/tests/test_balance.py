@@ -34,8 +34,8 @@ class Balance(unittest.TestCase):
         route = used(fit, "r0 r1 r2")
         self.assertEqual(off(fit, route), 3000)
         balance(fit, [route])
-        # both long roads take 30 s, the route took 62: with e = 3 + 2 d the least of (e/62)^2 + 0.02 * 2 (d/30)^2 is at d = -1.4386, e = 0.123
-        self.assertAlmostEqual(float(off(fit, route)), 123, delta=3)
+        # both long roads take 30 s, the route took 62: with e = 3 + 2 d the least of (e/62)^2 + 0.002 * 2 (d/30)^2 is at d = -1.4936, e = 0.013
+        self.assertAlmostEqual(float(off(fit, route)), 13, delta=8)
         self.assertEqual(fit.network.roads["r1"].time, 5000)
         self.assertEqual([change.kind for change in fit.changes], ["lengthened", "evened out", "evened out"])
 
