@@ -12,7 +12,7 @@ ghost use Rattle.ltm_flows.specs.Working.{HasRoom};
 use crate::rows::node_grows;
 use ltm_curve::Curves;
 use ltm_inputs::{uncounted_if_sent, widest};
-use ltm_loading::{counts_by_place, in_range, inputs_by_place, step_by_moves};
+use ltm_loading::{counts_by_place, groups_by_row, in_range, inputs_by_place, step_by_moves};
 use ltm_node::{NodeInputs, NodeOutputs, nothing_moves, one_step, same_shape, write_step};
 use ltm_scenario::Scenario;
 use ltm_setting::is_setting;
@@ -50,7 +50,7 @@ fn meets_moves(scenario: &Scenario, curves: &Curves, pair: Pair, room: &mut Room
     ensures inputs { HasRoom (setting_of scenario.now) room.new.inputs.room }
     ensures outputs { HasRoom (setting_of scenario.now) room.new.outputs.room }
 {
-    counts_by_place();
+    groups_by_row();
     same_shape();
     one_step();
     in_range();
@@ -69,6 +69,7 @@ fn meets_nothing(scenario: &Scenario, curves: &Curves, pair: Pair) -> bool
 {
     inputs_by_place();
     counts_by_place();
+    groups_by_row();
     same_shape();
     one_step();
     in_range();

@@ -23,8 +23,8 @@ returns-clause-meets c =
     let moves = c.write_step.new.outputs in
     let row = moved_on s counts u t moves.row in
     let step = c.step_by_moves.ensures s counts u t _ moves c.requires.reads c.write_step.ensures.step in
-    let sums = moved_sums s counts u t moves ((c.same_shape.ensures _ _ c.write_step.ensures.step).0 ∙ c.requires.reads.shape) in (
-      λ yes. grow_meets s counts u t (Some moves) row c.counts_by_place.ensures c.same_shape.ensures step sums (c.node_grows.ensures.0 yes),
-      λ meets. c.node_grows.ensures.1 (meets_grow s counts u t (Some moves) row c.counts_by_place.ensures c.one_step.ensures
+    let sums = moved_sums s counts u t moves c.groups_by_row.ensures ((c.same_shape.ensures _ _ c.write_step.ensures.step).0 ∙ c.requires.reads.shape) in (
+      λ yes. grow_meets s counts u t (Some moves) row c.groups_by_row.ensures c.same_shape.ensures step sums (c.node_grows.ensures.0 yes),
+      λ meets. c.node_grows.ensures.1 (meets_grow s counts u t (Some moves) row c.groups_by_row.ensures c.one_step.ensures
           (c.in_range.ensures s counts t u c.is_setting.ensures.setting c.requires.front.front c.requires.front.now c.requires.node) step sums meets),
     )

@@ -13,8 +13,8 @@ returns c =
     let t = c.args.pair.slot in
     let row = count_row s counts u t in
     let step = still_step s counts u t c.inputs_by_place.ensures c.counts_by_place.ensures c.nothing_moves.ensures c.requires.idle in
-    let sums = still_sums s counts u t c.counts_by_place.ensures in (
-      λ yes. grow_meets s counts u t None row c.counts_by_place.ensures c.same_shape.ensures step sums (c.node_grows.ensures.0 yes),
-      λ meets. c.node_grows.ensures.1 (meets_grow s counts u t None row c.counts_by_place.ensures c.one_step.ensures
+    let sums = still_sums s counts u t c.groups_by_row.ensures in (
+      λ yes. grow_meets s counts u t None row c.groups_by_row.ensures c.same_shape.ensures step sums (c.node_grows.ensures.0 yes),
+      λ meets. c.node_grows.ensures.1 (meets_grow s counts u t None row c.groups_by_row.ensures c.one_step.ensures
           (c.in_range.ensures s counts t u c.is_setting.ensures.setting c.requires.front.front c.requires.front.now c.requires.node) step sums meets),
     )
