@@ -97,7 +97,7 @@ def make(args: argparse.Namespace) -> int:
     place_zones(read, args)
     amounts = amounts_of(args)
     volumes = by_node(raw, amounts, args, read)
-    if args.destinations is not None:
+    if args.destinations is not None and volumes:
         volumes = fewer_ends(raw, volumes, args.destinations, read)
     raw.ends = {node for ends in volumes for node in ends}
     if args.steps:

@@ -105,6 +105,17 @@ def number(element: ElementTree.Element, name: str, what: str) -> Fraction:
         raise Fault(f"{what}: {name} is {text!r}, and a number is wanted") from None
 
 
+def whole(element: ElementTree.Element, name: str, default: int) -> int:
+    """A whole number that an attribute has; the default where it is not there."""
+    text = element.get(name)
+    if text is None:
+        return default
+    try:
+        return int(text)
+    except ValueError:
+        raise Fault(f"{element.tag} {element.get('id') or element.get('from', '')}: {name} is {text!r}, and a whole number is wanted") from None
+
+
 def may_use(lane: ElementTree.Element, vehicle_class: str) -> bool:
     """Whether vehicles of a class may use a lane."""
     allowed, forbidden = lane.get("allow"), lane.get("disallow")
@@ -123,8 +134,8 @@ def read_net(path: Path, *, vehicle_class: str, headway: Fraction, spacing: Frac
         if element.tag == "edge":
             read_edge(net, element, vehicle_class, headway, spacing)
         elif element.tag == "junction" and element.get("type") != "internal":
-            place = [float(element.get(axis, "0") or 0) for axis in "xy"]
-            net.network.add_node(Node(element.get("id", ""), *place))
+            x, y = (float(number(element, axis, f"junction {element.get('id')}")) if element.get(axis) else None for axis in "xy")
+            net.network.add_node(Node(element.get("id", ""), x, y))
         elif element.tag == "connection":
             read_connection(net, element)
         elif element.tag == "tlLogic":
@@ -168,7 +179,7 @@ def read_edge(net: Net, element: ElementTree.Element, vehicle_class: str, headwa
     capacity = len(lanes) * 3600 / (headway + spacing / speed)
     net.network.add(road_of(name, tail, head, metres=metres, kmh=speed * Fraction(18, 5), jam=1000 / spacing * len(lanes),
                             capacity=capacity, kind=element.get("type") or element.get("function") or ""))
-    net.lanes[name] = [int(number(lane, "index", what)) for lane in lanes]
+    net.lanes[name] = [whole(lane, "index", place) for place, lane in enumerate(lanes)]
 
 
 def read_connection(net: Net, element: ElementTree.Element) -> None:
@@ -176,8 +187,8 @@ def read_connection(net: Net, element: ElementTree.Element) -> None:
     edge, after = element.get("from", ""), element.get("to", "")
     if edge.startswith(":") or after.startswith(":"):
         return
-    lane = int(element.get("fromLane", "0"))
-    net.connections.append(Connection(edge, after, lane, element.get("tl"), int(element.get("linkIndex", "-1"))))
+    lane, index = whole(element, "fromLane", 0), whole(element, "linkIndex", -1)
+    net.connections.append(Connection(edge, after, lane, element.get("tl"), index))
 
 
 def read_program(net: Net, element: ElementTree.Element) -> None:
@@ -187,7 +198,9 @@ def read_program(net: Net, element: ElementTree.Element) -> None:
         return
     what = f"signal {signal}"
     phases = tuple((nearest_ms(number(phase, "duration", what)), phase.get("state", "")) for phase in element.findall("phase"))
-    offset = nearest_ms(Fraction(element.get("offset") or "0"))
+    if any(length < 0 for length, _ in phases):
+        raise Fault(f"{what}: a phase of {min(length for length, _ in phases) / 1000:g} s; a duration is 0 or more")
+    offset = nearest_ms(number(element, "offset", what)) if element.get("offset") else 0
     net.programs[signal] = Program(signal, element.get("programID", ""), kind, offset, phases)
     net.not_fixed.pop(signal, None)
     if kind not in ("static", ""):

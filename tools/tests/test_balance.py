@@ -48,11 +48,13 @@ class Balance(unittest.TestCase):
             self.assertLessEqual(abs(one.time - before[name]), Fraction(MOST_SHARE) * before[name] + 1)
 
     def test_the_route_that_more_drive_counts_more(self) -> None:
-        # both drive over the short r1; r0 serves both, so one of them has to be off
-        fit = fitted(300, 20, 20)
-        many, few = used(fit, "r0 r1", 9000), used(fit, "r0 r1 r2", 1000)
-        balance(fit, [many, few])
-        self.assertLess(abs(off(fit, many)), abs(off(fit, few)))
+        # one drives over the short r1 as well, one over r0 alone; what the first would have of r0 the other does not want
+        for units in (9000, 1000):
+            fit = fitted(300, 20)
+            long, short = used(fit, "r0 r1", units), used(fit, "r0", 10_000 - units)
+            balance(fit, [long, short])
+            many, few = (long, short) if units > 5000 else (short, long)
+            self.assertLess(abs(off(fit, many)) * 2, abs(off(fit, few)))
 
     def test_density_and_speed_stay(self) -> None:
         fit = fitted(300, 20, 300)

@@ -144,6 +144,12 @@ class Split(unittest.TestCase):
         self.assertEqual(time_over(fit, "i0", "o1"), 6000 + 6000 + 2 * 5000)
         self.assertIn("become longer", fit.changes[0].note)
 
+    def test_five_arms_in_and_three_out(self) -> None:
+        raw = network(*(road(f"i{number}", f"a{number}", "n", 300) for number in range(5)), *(road(f"o{number}", "n", f"b{number}", 300) for number in range(3)),
+                      ends="a0 a1 a2 a3 a4 b0 b1 b2")
+        made = Fit(raw, 5000).run()
+        self.assertEqual((len(made.ins["n"]), len(made.outs["n"]), len(made.roads)), (4, 3, 9))
+
     def test_thirty_arms(self) -> None:
         made = Fit(self.arms(30, 900), 5000).run()
         self.assertTrue(all(max(len(made.ins[node]), len(made.outs[node])) <= 4 for node in made.nodes))

@@ -1,10 +1,14 @@
 """Cases of small GMNS networks, as they come: units, missing fields, encodings, zones, names; and each refusal says what to do."""
 import unittest
+from fractions import Fraction
 
 import commands
 from support import EXAMPLES, FolderTest
 
 from ltm_tools.case import Case
+from ltm_tools.ends import Joined, joined, most_used
+from ltm_tools.names import names_for
+from ltm_tools.network import Network, road_of
 
 
 class GmnsTest(FolderTest):
@@ -98,7 +102,7 @@ class Fields(GmnsTest):
         self.assertIn("2 links get their capacity by their kind", self.make()[1])
 
     def test_two_ways_by_directed(self) -> None:
-        for text, names in (("0", {"a", "a_r"}), ("false", {"a", "a_r"}), ("1", {"a"}), ("TRUE", {"a"}), ("", {"a"})):
+        for text, names in (("0", {"a", "a_r"}), ("0.0", {"a", "a_r"}), ("false", {"a", "a_r"}), ("1", {"a"}), ("TRUE", {"a"}), ("", {"a"})):
             self.net(f"link_id,from_node_id,to_node_id,length,lanes,free_speed,capacity,directed\na,1,2,1000,1,60,900,{text}\n")
             self.assertEqual(set(self.links()), names)
 
@@ -139,6 +143,21 @@ class Names(GmnsTest):
                          [("a_0__2", "1", "2_3"), ("b_0_", "2_3", "3"), ("a_0_", "3", "4")])
         self.assertIn("a[0],1,2+3,a_0__2\n", (self.folder / "case" / "source_links.csv").read_text())
         self.assertIn("2+3,2_3\n", (self.folder / "case" / "source_nodes.csv").read_text())
+
+
+    def test_two_names_that_would_be_one(self) -> None:
+        self.assertEqual(names_for(["a[0]", "a+0+", "b", "x" * 40, "y" * 8 + "x" * 32], True),
+                         {"a[0]": "a_0_", "a+0+": "a_0__2", "b": "b", "x" * 40: "x" * 32, "y" * 8 + "x" * 32: "x" * 30 + "_2"})
+
+
+class Ends(unittest.TestCase):
+    def test_the_nearest_is_driven_to_or_from(self) -> None:
+        # 10 s from n0 to n1, 40 s from n1 to n2, 20 s from n2 to n3
+        made = Network()
+        for number, metres in enumerate((100, 400, 200)):
+            made.add(road_of(f"r{number}", f"n{number}", f"n{number + 1}", metres=Fraction(metres), kmh=Fraction(36), jam=Fraction(150), capacity=Fraction(1800)))
+        self.assertEqual(joined(made, ["n0", "n3"], ["n1", "n2"]), {"n1": Joined("n0", Fraction(10_000)), "n2": Joined("n3", Fraction(20_000))})
+        self.assertEqual(most_used({"a": 1, "b": 5, "c": 5, "d": 2}, 3), ["b", "c", "d"])
 
 
 class Zones(GmnsTest):

@@ -121,7 +121,7 @@ class Vehicles(SumoTest):
         self.assertIn("1 vehicles are left out: between zones or junctions (duarouter gives them edges)", self.out)
 
     def test_flows_by_number_period_rate_and_chance(self) -> None:
-        for words, units in (('number="7" end="600"', 7000), ('period="100" end="600"', 6000), ('vehsPerHour="90" end="600"', 15_000), ('perHour="90" end="600"', 15_000),
+        for words, units in (('number="7" end="600"', 7000), ('period="100" end="600"', 6000), ('vehsPerHour="90" end="600"', 15_000), ('vehsPerHour="90" end="610"', 15_250), ('perHour="90" end="600"', 15_000),
                              ('probability="0.01" end="600"', 6000), ('period="exp(0.02)" end="600"', 12_000), ('number="4" period="50"', 4000)):
             self.assertEqual(self.rows(f'<flow id="f" begin="0" {words} from="in" to="on"/>'), {("A", "C"): units}, words)
         self.assertIn('give one, as end="3600"', self.refused_new('<flow id="f" begin="0" vehsPerHour="9" from="in" to="on"/>'))

@@ -70,6 +70,13 @@ class Circles(unittest.TestCase):
         self.assertEqual(passages.cut, {"ba": 2, "da": 9})
         self.assertEqual(left["ab"], 5)
 
+    def test_of_two_that_lead_away_in_one_circle_the_lightest_is_cut(self) -> None:
+        # to z: a takes 10 s, b 20 s, c 40 s; so ab and bc lead away, and one of them has to go
+        links = [link("az", "a", "z", 100), link("bz", "b", "z", 200), link("ab", "a", "b"), link("bc", "b", "c"), link("ca", "c", "a", 300)]
+        passages = Passages(Roads.of(links), "z", {"az": 7, "bz": 3, "ab": 5, "bc": 2, "ca": 7}, [])
+        passages.without_circles()
+        self.assertEqual(passages.cut, {"bc": 2})
+
     def test_a_route_ends_where_it_first_comes_to_its_destination(self) -> None:
         rows, _ = splits([("in uv vw wx xw", 0, 1)])
         self.assertEqual({key[0] for key in rows if key[1] == "w"}, {"o", "u", "v"})
@@ -108,6 +115,11 @@ class Slices(unittest.TestCase):
         rows, _ = splits([("in uv vw out", 0, 3), ("in ux xw out", 55, 1)])
         self.assertEqual((rows["u", "z", 0], rows["u", "z", 60]), ({"uv": 1}, {"ux": 1}))
         self.assertEqual([slot for node, _, slot in rows if node == "o"], [0])
+
+    def test_what_is_counted_late_holds_from_the_start(self) -> None:
+        # the first vehicle sets out in the sixth minute, and the program wants a row at slot 0
+        rows, _ = splits([("in uv vw out", 300, 3), ("in ux xw out", 400, 1)])
+        self.assertEqual([(slot, weights) for (node, _, slot), weights in rows.items() if node == "u"], [(0, {"uv": 1}), (360, {"ux": 1})])
 
     def test_shares_as_whole_numbers_without_what_all_have_in_common(self) -> None:
         self.assertEqual(whole_weights({"a": 3000, "b": 1500}), {"a": 2, "b": 1})

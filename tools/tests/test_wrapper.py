@@ -3,13 +3,15 @@ import os
 import shutil
 import signal
 import subprocess
+import sys
 import time
 import unittest
-from pathlib import Path
 
 from support import CLONE, FolderTest, TOOLS
 from ltm_tools.errors import Fault
 from ltm_tools.proof_plan import Plan, read_costs, read_crates, stands_on
+
+SYSTEM = "/usr/bin:/bin"
 
 # `rt try`: says what it was called with, and answers as the test wants
 ANSWERS = """#!/bin/bash
@@ -52,6 +54,9 @@ class Clone(FolderTest):
         for crate in ("ltm", "ltm_a", "ltm_b", "ltm_c", "ltm_d", "ltm_low", "ltm_low_tests"):
             (self.top / "crates" / crate / "src").mkdir(parents=True)
             (self.top / "crates" / crate / "src" / "lib.rt").write_text(f"// {crate}\n")
+        python = self.made / "bin" / "python3"
+        python.write_text(f'#!/bin/sh\nexec "{sys.executable}" "$@"\n')
+        python.chmod(0o755)
         self.built = self.top / "crates" / "ltm" / "out" / "ltm"
         self.case()
 
@@ -71,8 +76,7 @@ class Clone(FolderTest):
         os.utime(self.built, (past + 1 - age, past + 1 - age))
 
     def environment(self) -> dict[str, str]:
-        python = Path(shutil.which("python3") or "/usr/bin/python3").resolve().parent
-        return {"PATH": f"{self.made / 'bin'}:{python}:/usr/bin:/bin", "MADE": str(self.made), "HOME": str(self.made)}
+        return {"PATH": f"{self.made / 'bin'}:{SYSTEM}", "MADE": str(self.made), "HOME": str(self.made)}
 
     def run_ltm(self, *words: str, script: str = "") -> "subprocess.CompletedProcess[str]":
         return subprocess.run([str(self.top / "ltm"), *words], cwd=self.folder, env=self.environment(), input=script, capture_output=True, text=True, timeout=60)
@@ -81,8 +85,8 @@ class Clone(FolderTest):
         return (self.made / "called").read_text().splitlines()
 
 
-@unittest.skipUnless(shutil.which("rt") is None or "/usr/bin" not in (shutil.which("rt") or ""), "rt lies in /usr/bin")
 class NotProved(Clone):
+    @unittest.skipIf(shutil.which("rt", path=SYSTEM), "rt lies where the system's commands do")
     def test_no_rt(self) -> None:
         done = self.run_ltm("case", "load")
         self.assertEqual((done.returncode, done.stdout), (1, ""))
@@ -128,6 +132,7 @@ class NotProved(Clone):
         done = self.run_ltm("case", "lod")
         self.assertEqual((done.returncode, done.stdout), (2, ""))
         self.assertIn("'lod' is no command: load is one", done.stderr)
+        self.assertIn("'-x' is no command", self.run_ltm("case", "-x").stderr)
         self.assertFalse((self.made / "called").exists())
 
     def test_a_source_that_is_newer(self) -> None:

@@ -6,7 +6,7 @@ ghost use Rattle.ltm_node.specs.Solvable.{IsSolvable};
 ghost use Rattle.ltm_loading.specs.Setting.{IsSetting};
 ghost use Rattle.ltm_loading.specs.Uncounted.{IsUncountedPair};
 ghost use Rattle.ltm_setting.specs.Setting.{setting_of};
-ghost use Rattle.ltm_flows.specs.Working.{IsWorking, IsWorkingAt, HasRoom};
+ghost use Rattle.ltm_flows.specs.Working.{IsWorkingAt, HasRoom};
 ghost use Rattle.ltm_sending.specs.Front.{IsAtFront};
 ghost use Rattle.ltm_desk.specs.Placing.{KeepsSlots};
 ghost use Rattle.ltm_desk.specs.Openings.{StaysTo};
@@ -14,11 +14,9 @@ ghost use Rattle.ltm_desk.specs.Openings.{StaysTo};
 use crate::places::place_pair;
 use crate::table::WIDEST;
 use ltm_curve::Curves;
-use ltm_flows::{fresh, move_pair};
+use ltm_flows::{begin_slot, fresh, move_pair};
 use ltm_inputs::uncounted_of;
-use ltm_loading::{
-    counts_by_place, counts_set_only, inputs_by_place, inputs_read_only, next_slot, set_by_one_pair,
-};
+use ltm_loading::{counts_by_place, inputs_by_place, next_slot};
 use ltm_node::{NodeInputs, NodeOutputs, nothing_moves};
 use ltm_pairs::ReadIndex;
 use ltm_rows::{KeptRows, parts_of};
@@ -99,20 +97,6 @@ fn load_pair(
     if is_any_sent(inputs) {
         move_pair(scenario, curves, pair, inputs, outputs);
     }
-}
-
-/// Carries all counts on to the end of a slot.
-fn begin_slot(scenario: &Scenario, curves: &mut Curves, slot: u32)
-    requires setting { IsSetting (setting_of scenario.now) }
-    requires slot { slot < (setting_of scenario.now).slots }
-    requires working { IsWorking (setting_of scenario.now) curves.old slot }
-    ensures working { IsWorkingAt (setting_of scenario.now) curves.new slot 0 }
-    ensures stays { StaysTo (setting_of scenario.now) slot (counts_of curves.old) (counts_of curves.new) }
-{
-    inputs_read_only();
-    counts_set_only();
-    set_by_one_pair();
-    curves.carry(slot);
 }
 
 /// A loading in the making, with what its pairs have read so far, and room for the step of any node.

@@ -14,7 +14,7 @@ use Rattle.ltm_report.specs.Reports.{IsReport}
 use Rattle.ltm_checking.specs.declared.refusal.Refusal.{Refusal}
 use Rattle.ltm_checking.specs.declared.refusal.Refusal.TheVariants as refusal
 use Rattle.ltm_checking.specs.Loaded.{AnswersCurves}
-use Rattle.ltm_checking.specs.Checks.{AnswersCheck, AnswersRefusal}
+use Rattle.ltm_checking.specs.Checks.{AnswersRefusal}
 use Rattle.ltm_texts.specs.Answers.{Answers, AnswersFault, Describes}
 
 pub load_told : (told : Option Files) (s : ScenarioData) (text : List ℕ) → Describes told (Ok s) → IsReport s text → Answers command.Load told (Ok text)
@@ -58,9 +58,6 @@ curves_fault told (fault.Folder f) agrees = tt
 curves_fault told (fault.TooLong f) agrees = curves_refused told (fault.TooLong f) agrees
 curves_fault told (fault.Bad f row cause) agrees = curves_refused told (fault.Bad f row cause) agrees
 curves_fault told fault.NoMemory agrees = tt
-
-pub check_told : (told : Option Files) (text : List ℕ) → AnswersCheck told (Ok text) → Answers command.Check told (Ok text)
-check_told told text says = says
 
 pub check_fault : (told : Option Files) (e : Refusal) → AnswersRefusal told e → AnswersFault command.Check told e
 check_fault told (refusal.Case (fault.Folder f)) says = tt

@@ -80,7 +80,7 @@ fn curves<F: Folder>(alloc: Global, folder: &mut F) -> Result<Vec<u8>, CaseFault
 }
 
 /// That the curve file beside the folder's case is its loading, or why it is not.
-#[tactic(auto, using(crate::proofs::MissingFile::check_failed, crate::proofs::Answering::check_told, crate::proofs::Answering::check_fault))]
+#[tactic(auto, using(crate::proofs::MissingFile::check_failed, crate::proofs::Answering::check_fault))]
 fn check<F: OpenFolder>(alloc: Global, folder: &mut F) -> Result<Vec<u8>, Refusal>
     ensures keeps { F.told folder.new ≡ F.told folder.old }
     ensures others { (d : Doc) → is_check_file d ≡ false → F.faults folder.new d ≡ F.faults folder.old d }

@@ -19,9 +19,9 @@ fn accept(core: &mut Core, batch: Batch) -> Result<(), NoMemory>
     ensures { OnOk result (AcceptsBatch core.old batch core.new) }
 {
     match core.accept(batch) {
-        Ok(()) => Ok(()),
+        Ok(()) => return Ok(()),
         Err((_batch, fault)) => match fault.cause {
-            EditCause::NoMemory => Err(NoMemory),
+            EditCause::NoMemory => return Err(NoMemory),
             _ => unreachable!(),
         },
     }

@@ -56,8 +56,8 @@ fn serve_and_post<R: Wait, W: Sink>(
     let before = core.shown().version();
     serve_line(alloc, core, bench, line, text, sink)?;
     match post_newer(rt, core, before, boards, news) {
-        Ok(()) => Ok(()),
-        Err(_) => Err(SessionEnd::NoMemory),
+        Ok(()) => return Ok(()),
+        Err(_) => return Err(SessionEnd::NoMemory),
     }
 }
 

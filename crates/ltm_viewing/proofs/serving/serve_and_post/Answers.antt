@@ -1,5 +1,4 @@
-use Rattle.std.proofs.Common.{◌≡◌, ◌++◌, List, ℕ, inr, refl, ap, subst, ◌∙◌}
-use Rattle.ltm_io.specs.Sink.{AppendsFront}
+use Rattle.std.proofs.Common.{inr, refl, ap, ◌∙◌}
 use Rattle.ltm_script.specs.Line.{reading}
 use Rattle.ltm_flows.specs.Shown.{version_of}
 use Rattle.ltm_session.specs.Analysts.{state_of}
