@@ -7,7 +7,8 @@ use Rattle.std.proofs.lemmas.List.Elements.{All-cons, All-nil}
 use Rattle.std.proofs.lemmas.List.Folds.{list_any-append}
 use Rattle.csv.specs.Writing.{default_writer, needs_byte}
 use Rattle.ltm_units.specs.Words.{is_name, is_name_byte}
-use Rattle.ltm_records.specs.Weights.{is_space, is_equals}
+use Rattle.ltm_records.specs.Pieces.{is_space}
+use Rattle.ltm_records.specs.Weights.{is_equals}
 
 -- a byte of which the test fails is not one of which it holds
 another_byte : (b n : ℕ) → is_name_byte n ≡ false → is_name_byte b ≡ true → (b == n) ≡ false

@@ -9,7 +9,8 @@ use Rattle.std.proofs.lemmas.List.Splits.{slice_split_none, slice_split_at}
 use Rattle.std.proofs.lemmas.List.Elements.{All-head, All-tail, All-cons, All-nil, All-append}
 use Rattle.ltm_units.specs.Words.{is_name}
 use Rattle.ltm_units.specs.Numbers.{whole}
-use Rattle.ltm_records.specs.Weights.{Entry, is_space, is_equals, weighed, entry_of, onto, entries_of, at_most_four, weights_of}
+use Rattle.ltm_records.specs.Pieces.{is_space}
+use Rattle.ltm_records.specs.Weights.{Entry, is_equals, weighed, entry_of, onto, entries_of, at_most_four, weights_of}
 use Rattle.ltm_report.specs.Routes.{entry_piece, further_entries, entries}
 use Rattle.ltm_routing.proofs.Plain.{AllNames, name_has_no_space, name_has_no_equals}
 

@@ -5,7 +5,7 @@ use Rattle.ltm_setting.specs.Setting.{setting_of}
 use Rattle.ltm_flows.specs.Shown.{SameLoading, loading_room}
 use Rattle.ltm_desk.specs.Growing.{HasRoom}
 use Rattle.ltm_core.specs.Cores.{CoreData}
-use Rattle.ltm_core.specs.Reaching.{MayReach}
+use Rattle.ltm_scenario.specs.Horizon.{MayReach}
 use Rattle.ltm_core.proofs.Logs.{put_log, same_log, same_length, few_more}
 use Rattle.ltm_core.proofs.Cores.{core_setting}
 use Rattle.ltm_core.proofs.Batches.{core_after_batch, core_tells_accept, core_roomy, core_stays, core_same, refused_tells, reach_there, no_memory_tells, kept_log, ok_room}
