@@ -9,7 +9,8 @@ import sys
 from collections.abc import Iterable, Sequence
 from typing import Any
 
-from .case_files import fetch, read_setup
+from .case_fields import fetch
+from .case_files import read_setup
 from .errors import Fault
 from .formats import CURVES
 
