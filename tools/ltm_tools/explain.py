@@ -181,7 +181,8 @@ def too_much(folder: str, status: int, line: str, words: list[str]) -> Told:
     if status == 8:
         if words[0] == "editors":
             return [f"a file of edits has more than {count_text(MOST_EDITOR_LINES)} lines, and that is the most"]
-        return [f"the script has more than {count_text(MOST_LINES)} lines, and that is the most: the first {count_text(MOST_LINES)} are answered"]
+        lines = count_text(MOST_LINES)
+        return [f"the script has more than {lines} lines, and that is the most: the first {lines} are answered"]
     number = re.fullmatch(r"too long line ([0-9]+)", line.strip())
     if number:
         return [f"line {number[1]} of the script has more than {count_text(MOST_LINE_BYTES)} bytes, and that is the most",
@@ -233,7 +234,8 @@ def not_loading(folder: str, line: str) -> Told:
     node, slot = found[1], int(found[2])
     begin, end = slot * case.setup.step_ms, (slot + 1) * case.setup.step_ms
     into, out = ([link.name for link in links] for links in (case.in_links(node), case.out_links(node)))
-    return [f"the counts at the end of slot {slot}, which is {clock_text(begin)} to {clock_text(end)} of the horizon, are not what the node {node} makes of those before",
+    when = f"slot {slot}, which is {clock_text(begin)} to {clock_text(end)} of the horizon"
+    return [f"the counts at the end of {when}, are not what the node {node} makes of those before",
             f"    links into it: {', '.join(into) or 'none'}; out of it: {', '.join(out) or 'none'}; docs/MODEL.md has the rules of a node step"]
 
 

@@ -216,7 +216,8 @@ class Proof:
         if left:
             seconds = self.plan.seconds_left(self.kept, self.done, self.at, passed)
             text += f", about {max(1, math.ceil(seconds / 60))} more"
-        print(f"\r\033[Kltm: {text}" if self.is_terminal else f"ltm: {text}", end="" if self.is_terminal and not is_last else "\n", file=sys.stderr, flush=True)
+        begin, end = ("\r\033[K", "\n" if is_last else "") if self.is_terminal else ("", "\n")
+        print(f"{begin}ltm: {text}", end=end, file=sys.stderr, flush=True)
 
     def end_line(self) -> None:
         if self.is_terminal:
@@ -225,7 +226,8 @@ class Proof:
 
 def lines_of(text: str, names: Sequence[str] | Needs) -> list[str]:
     """The lines of a crates.txt that list these crates."""
-    return [line for line in text.splitlines() if line.partition(":")[1] and not line.startswith("#") and line.partition(":")[0].split()[0] in names]
+    lines = [line for line in text.splitlines() if line.partition("#")[0].partition(":")[1]]
+    return [line for line in lines if line.split(":")[0].split()[0] in names]
 
 
 @contextlib.contextmanager

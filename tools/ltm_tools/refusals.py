@@ -56,16 +56,17 @@ def of_edit(case: Case, edit: Members, cause: list[str]) -> str:
         most = MOST_DEMAND_ROWS if kind == "demand" else MOST_SPLIT_ROWS
         return f"there are {count_text(most)} rows already, which is the most"
     if cause[0] == "CellsOver" and len(cause) == 2 and cause[1].isdigit():
-        return f"the case would have {count_text(int(cause[1]))} cells, and at most {count_text(MOST_CELLS if case.setup.cells is None else case.setup.cells)} may be"
+        most = MOST_CELLS if case.setup.cells is None else case.setup.cells
+        return f"the case would have {count_text(int(cause[1]))} cells, and at most {count_text(most)} may be"
     return diagram(case, edit, " ".join(cause)) if kind == "diagram" else ""
 
 
 def unknown(case: Case, members: Members) -> str:
     """Which name is none."""
-    nodes = set(case.nodes)
-    for place, names, what in (("link", {link.name for link in case.links}, "link"), ("origin", nodes, "node"), ("node", nodes, "node"), ("destination", nodes, "node")):
-        if place in members and members[place] not in names:
-            return f"links.csv has no {what} {members[place]}"
+    nodes, links = set(case.nodes), {link.name for link in case.links}
+    for place in ("link", "origin", "node", "destination"):
+        if place in members and members[place] not in (links if place == "link" else nodes):
+            return f"links.csv has no {'link' if place == 'link' else 'node'} {members[place]}"
     weights = members.get("weights")
     if isinstance(weights, Mapping):
         out = [link.name for link in case.out_links(str(members.get("node")))]
@@ -87,8 +88,8 @@ def bad_slots(edit: Members) -> str:
 def open_split(edit: Members) -> str:
     if edit.get("kind") == "demand":
         return f"no split row says how traffic for {edit.get('destination')} goes on from {edit.get('origin')}"
-    return (f"the row would be the first of {edit.get('node')} for {edit.get('destination')} and begin after slot 0, or a weight leads to a node where "
-            "no split row says how it goes on")
+    return (f"the row would be the first of {edit.get('node')} for {edit.get('destination')} and begin after slot 0, or a weight leads to "
+            "a node where no split row says how it goes on")
 
 
 def diagram(case: Case, edit: Members, cause: str) -> str:

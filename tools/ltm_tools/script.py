@@ -56,7 +56,8 @@ def parsed(data: bytes) -> object:
     try:
         value: object = json.loads(text, parse_constant=_no_constant, parse_float=_finite, object_pairs_hook=_object)
     except json.JSONDecodeError as error:
-        raise ValueError(f"{error.msg[0].lower()}{error.msg[1:]}, at character {error.pos + 1}: {shown(text[error.pos:error.pos + 20])}") from None
+        what, place = error.msg[0].lower() + error.msg[1:], error.pos
+        raise ValueError(f"{what}, at character {place + 1}: {shown(text[place:place + 20])}") from None
     _check_texts(value)
     if _depth(text) > DEEPEST:
         raise ValueError("arrays and objects stand too deep in one another")

@@ -185,10 +185,12 @@ class Proved(Clone):
         self.assertIn('0 as the text "0"', done.stderr)
 
     def test_an_output_whose_reader_has_gone(self) -> None:
-        self.build("for i in {1..20000}; do echo a line of output || exit 5; done 2>/dev/null")
+        self.build("trap '' PIPE; for i in {1..20000}; do echo a line of output || exit 5; done 2>/dev/null")
         done = subprocess.run(["bash", "-c", "set -o pipefail; clone/ltm case load | head -n 1"], cwd=self.folder, env=self.environment(), capture_output=True, text=True, timeout=60)
-        self.assertEqual(done.stdout, "a line of output\n")
-        self.assertNotIn("Traceback", done.stderr)
+        self.assertEqual((done.returncode, done.stdout, done.stderr), (5, "a line of output\n", ""))
+        done = subprocess.run(["bash", "-c", "clone/ltm case load >/dev/full"], cwd=self.folder, env=self.environment(), capture_output=True, text=True, timeout=60)
+        self.assertEqual(done.returncode, 5)
+        self.assertIn("ltm: the output failed", done.stderr)
 
     def test_install(self) -> None:
         self.build('echo installed: "$@"')
