@@ -1,12 +1,8 @@
 -- The arms of a node: its in-links, then its origin where it has an out-link.
-use Rattle.std.proofs.Common.{◌≡◌, ◌==◌, ℕ, Bool, true, false, ◌+◌, ◌<◌, List, ◌++◌, length, get_or, arith, ap, sym, ◌∙◌}
-use Rattle.std.proofs.lemmas.Bool.Decides.{nat_tests}
-use Rattle.std.proofs.lemmas.List.{get_or-map}
-use Rattle.ltm_units.specs.declared.places.LinkId.{LinkId}
+use Rattle.std.proofs.Common.{◌≡◌, ℕ, ◌+◌, ◌<◌, List, ◌++◌, arith, ap, sym, ◌∙◌}
 use Rattle.ltm_curve.specs.First.{list_below}
 use Rattle.ltm_loading.specs.Setting.{Setting}
 use Rattle.ltm_loading.specs.Pairs.{grid, arms_of}
-use Rattle.ltm_inputs.specs.Parts.{link_at}
 use Rattle.ltm_inputs.proofs.Lists.{grid-same, grid-more, list_below-same}
 
 -- a table of the arms, from that of the in-links

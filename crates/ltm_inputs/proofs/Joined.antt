@@ -11,13 +11,8 @@ use Rattle.ltm_loading.specs.Uncounted.{uncounted_row}
 use Rattle.ltm_loading.proofs.Rows.{length-grid}
 use Rattle.ltm_inputs.specs.Parts.{sending_part, left_part, entered_part, arrived_part, limit_parts}
 
--- the counts of a node
-pub counts_joined : (s : Setting) (c : Counts) (u t : ℕ) (xs ys zs : List ℕ) → xs ≡ left_part s c u t → ys ≡ entered_part s c u t → zs ≡ arrived_part s c u t → (xs ++ ys) ++ zs ≡ count_row s c u t
-counts_joined s c u t xs ys zs x y z =
-    append_assoc xs ys zs ∙ (ap (λ (l : List ℕ). l ++ (ys ++ zs)) x ∙ (ap (λ (l : List ℕ). left_part s c u t ++ (l ++ zs)) y ∙ ap (λ (l : List ℕ). left_part s c u t ++ (entered_part s c u t ++ l)) z))
-
 -- a row, from what its arms send, its counts and its limits
-pub row_joined : (s : Setting) (c : Counts) (u t : ℕ) (xs ys zs : List ℕ) → xs ≡ sending_part s c u t → ys ≡ count_row s c u t → zs ≡ limit_parts s c u t → xs ++ (ys ++ zs) ≡ pair_row s c u t
+row_joined : (s : Setting) (c : Counts) (u t : ℕ) (xs ys zs : List ℕ) → xs ≡ sending_part s c u t → ys ≡ count_row s c u t → zs ≡ limit_parts s c u t → xs ++ (ys ++ zs) ≡ pair_row s c u t
 row_joined s c u t xs ys zs x y z =
     let p : List ℕ = sending_part s c u t in
     let a : List ℕ = left_part s c u t in

@@ -1,4 +1,4 @@
-use Rattle.std.proofs.Common.{ℕ, ◌≡◌, ◌<◌, ◌*◌, ◌∙◌, List, length, slice_index, arith, ap, sym}
+use Rattle.std.proofs.Common.{ℕ, ◌≡◌, ◌*◌, ◌∙◌, List, length, slice_index, arith, ap, sym}
 use Rattle.ltm_curve.proofs.Lists.{length-list_below, index-list_below}
 use Rattle.ltm_curve.specs.Table.{groups_of, destinations_of, counts_of}
 use Rattle.ltm_loading.specs.NodeGroups.{group_count, node_group, node_groups}
