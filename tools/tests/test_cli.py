@@ -59,6 +59,12 @@ class Command(FolderTest):
         self.assertEqual((done.returncode, done.stdout), (1, ""), done.stderr)
         self.assertRegex(done.stderr, r"^cannot be carried: link 'Straße': .*\n.*--rename.*\n$")
 
+    def test_a_file_in_latin_1_is_read_and_that_is_told(self) -> None:
+        network = self.folder / "network"
+        network.mkdir()
+        (network / "link.csv").write_bytes("link_id,name,from_node_id,to_node_id,length,free_speed,capacity\na,Straße,1,2,100,50,900\n".encode("latin-1"))
+        self.assertIn("link.csv is read as Windows-1252 (Latin-1)\n", self.run_tool("from-gmns", network, self.folder / "made").stdout)
+
     @unittest.skipIf(os.geteuid() == 0, "root may read each folder")
     def test_a_folder_without_rights(self) -> None:
         folder = self.case()
