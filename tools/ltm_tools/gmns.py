@@ -24,12 +24,12 @@ from .case import Case, Demand, Setup
 from .demand_files import Amounts, exists, read_amounts, read_profile, whole_units
 from .ends import joined, most_used
 from .errors import Fault
-from .formats import MINUTE_MS, MOST_DESTINATIONS, clock_ms, short_vehicles
+from .formats import MINUTE_MS, MOST_DESTINATIONS, MOST_SLOT_UNITS, UNITS, clock_ms, short_vehicles
 from .gmns_net import KMH, METRES, Read, Units, read_gmns
 from .importing import (Carried, Refused, above_0, add_network_arguments, carried, changes_table, check_cells, check_destinations, least_routes,
                         longest_step, routes_table, slots_of, steps_table, write)
 from .network import Network, Node, least_times, top
-from .places import UNITS
+from .places import UNITS as PLACE_UNITS
 from .profiles import Part, by_profile
 
 NAME = "from-gmns"
@@ -51,7 +51,7 @@ def add_arguments(parser: argparse.ArgumentParser) -> None:
     reading.add_argument("--jam", type=above_0, default=Fraction(150), help="jam density of a lane, vehicles/km (150)")
     reading.add_argument("--length-unit", choices=METRES, help="the unit of length (m, or what config.csv says)")
     reading.add_argument("--speed-unit", choices=KMH, help="the unit of free_speed (kmh, or what config.csv says)")
-    reading.add_argument("--places", choices=UNITS, help="the unit of places, for links without a length (degrees where they can be)")
+    reading.add_argument("--places", choices=PLACE_UNITS, help="the unit of places, for links without a length (degrees where they can be)")
     reading.add_argument("--capacity", choices=["lane", "link"], default="lane",
                          help="whether capacity is that of a lane or of all lanes of a link, in vehicles an hour (lane)")
     reading.add_argument("--encoding", help="the encoding of all files (UTF-8, else by what they hold)")
@@ -82,8 +82,8 @@ def check_arguments(args: argparse.Namespace) -> None:
     for name in ("period", "horizon", "origin_capacity"):
         if getattr(args, name) < 1:
             raise Fault(f"--{name.replace('_', '-')} is at least 1")
-    if args.origin_capacity > 32:
-        raise Fault("--origin-capacity is at most 32")
+    if args.origin_capacity > MOST_SLOT_UNITS // UNITS:
+        raise Fault(f"--origin-capacity is at most {MOST_SLOT_UNITS // UNITS}")
     if args.destinations is not None and not 1 <= args.destinations <= MOST_DESTINATIONS:
         raise Fault(f"--destinations is 1 to {MOST_DESTINATIONS}")
 
@@ -240,7 +240,7 @@ def case_of(made: Carried, volumes: dict[tuple[str, str], Fraction], args: argpa
     if parts[-1].to_slot > slots:
         raise Fault(f"the demand's period of {parts[-1].to_slot * made.step // MINUTE_MS} minutes is longer than the horizon of {args.horizon};"
                     f" give --horizon {-(-parts[-1].to_slot * made.step // MINUTE_MS)} or more")
-    setup = Setup(made.step, slots, args.origin_capacity * 1000)
+    setup = Setup(made.step, slots, args.origin_capacity * UNITS)
     units = {(made.node(start), made.node(end)): whole_units(volume, f"demand from node {start} to node {end}") for (start, end), volume in volumes.items()}
     rows: Iterable[Demand] = by_profile({ends: amount for ends, amount in units.items() if amount}, parts)
     return Case(setup, made.links, list(rows)), parts[-1].to_slot

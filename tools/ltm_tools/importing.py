@@ -14,7 +14,7 @@ from .passages import Roads
 from .errors import Fault
 from .files import write_text
 from .fit import ARMS, Fit, metres_text
-from .formats import MINUTE_MS, MOST_CELLS, MOST_DESTINATIONS, MOST_LINKS, MOST_SLOTS, MOST_STEP_MS, NAME_RULE, count_text
+from .formats import MINUTE_MS, MOST_CELLS, MOST_DESTINATIONS, MOST_LINKS, MOST_SLOT_UNITS, MOST_SLOTS, MOST_STEP_MS, NAME_RULE, UNITS, count_text
 from .names import names_for
 from .network import Network, diagram, least_route, least_times, totals
 from .source import Source, SourceLink, lines_of
@@ -108,7 +108,7 @@ def add_network_arguments(parser: argparse.ArgumentParser) -> None:
     group.add_argument("--least-step", type=step_argument, default=1000, metavar="STEP", help="the shortest step to propose (1000)")
     group.add_argument("--steps", action="store_true", help="tell what a fit to each of some steps would change, and write nothing")
     group.add_argument("--rename", action="store_true", help="make names for those that a case cannot have; source_links.csv and source_nodes.csv have both")
-    group.add_argument("--origin-capacity", type=int, default=32, metavar="N", help="the most vehicles that leave an origin in a step (32)")
+    group.add_argument("--origin-capacity", type=int, default=MOST_SLOT_UNITS // UNITS, metavar="N", help="the most vehicles that leave an origin in a step (32)")
 
 
 def carried(raw: Network, args: argparse.Namespace, routes: Iterable[tuple[tuple[str, ...], int]] = ()) -> Carried:

@@ -98,8 +98,8 @@ def diagram(road: Road, step: int | None = None) -> Link:
         raise Fault(f"link {road.name}: a capacity of {float(road.capacity):g} an hour is too much for {free} km/h and {jam} vehicles/km;"
                     " give a greater --jam, or --fit, which lowers it")
     if metres > MOST_LENGTH_M or free > MOST_KMH or jam > MOST_JAM_PER_KM:
-        raise Fault(f"link {road.name}: {metres} m, {free} km/h and {jam} vehicles/km, and at most 1000000, 1000 and 10000 are"
-                    " allowed; look at the units of lengths and speeds")
+        raise Fault(f"link {road.name}: {metres} m, {free} km/h and {jam} vehicles/km, and at most {MOST_LENGTH_M}, {MOST_KMH} and {MOST_JAM_PER_KM}"
+                    " are allowed; look at the units of lengths and speeds")
     return Link(road.name, road.tail, road.head, metres, free, wave, jam)
 
 

@@ -66,11 +66,20 @@ def run(args: argparse.Namespace) -> int:
     if size > MOST_FILE_BYTES:
         raise Fault(f"{count_text(len(limits))} records of signals have {count_text(size)} bytes, and a file may have {count_text(MOST_FILE_BYTES)};"
                     " --even needs one record for a plan")
+    notes += arriving(plans, case)
     case.signals, case.setup.signals = limits, True
     case.write(args.case)
     print(f"{len(limits)} records of signals, of {len({plan.link for plan in plans})} links")
     print(*table.notes, *notes, sep="\n", end="\n" if notes or table.notes else "")
     return 0
+
+
+def arriving(plans: list[Plan], case: Case) -> list[str]:
+    """What is to be told of links with a signal that lead to a destination."""
+    heads = {link.name: link.head for link in case.links}
+    ends = set(case.destinations)
+    some = [plan.link for plan in plans if heads[plan.link] in ends]
+    return [f"{len(set(some))} of the links end at a destination: who arrives there waits for green as well, as the limit holds all that leave the link"] if some else []
 
 
 def record_of(row: Row, source: Source, case: Case, clock: int) -> Record:

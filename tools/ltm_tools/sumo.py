@@ -12,7 +12,7 @@ from .cycles import Plan, exit_limits
 from .demand_files import exists, quarter_before
 from .ends import joined, most_used
 from .errors import Fault
-from .formats import MINUTE_MS, MOST_DEMAND_ROWS, MOST_DESTINATIONS, MOST_SPLIT_ROWS, UNITS, clock_ms, clock_text, short_vehicles
+from .formats import MINUTE_MS, MOST_DEMAND_ROWS, MOST_DESTINATIONS, MOST_SLOT_UNITS, MOST_SPLIT_ROWS, UNITS, clock_ms, clock_text, short_vehicles
 from .importing import (Carried, Refused, above_0, add_network_arguments, carried, changes_table, check_cells, check_destinations, longest_step,
                         routes_table, slots_of, steps_table, write)
 from .profiles import Trip, by_trips
@@ -78,8 +78,8 @@ def run(args: argparse.Namespace) -> int:
     """Makes the case."""
     if args.destinations is not None and not 1 <= args.destinations <= MOST_DESTINATIONS:
         raise Fault(f"--destinations is 1 to {MOST_DESTINATIONS}")
-    if not 1 <= args.origin_capacity <= 32:
-        raise Fault("--origin-capacity is 1 to 32")
+    if not 1 <= args.origin_capacity <= MOST_SLOT_UNITS // UNITS:
+        raise Fault(f"--origin-capacity is 1 to {MOST_SLOT_UNITS // UNITS}")
     for name in ("horizon", "slice", "demand_slice"):
         if getattr(args, name) is not None and getattr(args, name) < 1:
             raise Fault(f"--{name.replace('_', '-')} is at least 1")

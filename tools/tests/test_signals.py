@@ -83,6 +83,10 @@ class Command(FolderTest):
         self.assertEqual([(limit.from_slot, limit.to_slot, limit.units) for limit in Case.read(self.folder / "case").signals[:2]], [(1, 3, 1250), (3, 6, 0)])
         self.assertIn("the limit of a link counts each green for the share of its turn", out)
 
+    def test_a_signal_before_a_destination_is_told(self) -> None:
+        self.assertNotIn("end at a destination", self.give("link,cycle,green_from,green_to\na,60,0,30\n")[1])
+        self.assertIn("1 of the links end at a destination: who arrives there waits for green as well", self.give("link,cycle,green_from,green_to\nb,60,0,30\n")[1])
+
     def test_shares_that_are_told_count(self) -> None:
         self.give("link,to,cycle,green_from,green_to,share\na,b,60,0,10,1\na,c,60,0,30,1\n")
         self.assertEqual(Case.read(self.folder / "case").signals[0].units, 2500)
