@@ -225,7 +225,7 @@ class Proving(Clone):
         self.assertIn("0 of 6 crates proved, 6 left, 0 minutes gone, about 3 more", done.stderr)
         self.assertIn("6 of 6 crates proved, 0 left", done.stderr)
         self.assertEqual((self.made / "listed").read_text(), "".join(f"ltm_{name}: ltm_low csv\n" for name in "abcd") + "ltm_low:\n")
-        self.assertEqual([line.split(" in ")[0] for line in self.log()], ["all check --jobs 4", "run --jobs 4 -- try 1 4"])
+        self.assertEqual([line.split(" in ")[0] for line in self.log() if line[:7] != "version"], ["all check --jobs 4", "run --jobs 4 -- try 1 4"])
         self.assertEqual(self.run_ltm("case", "load").stdout, "proved program: load\n")
         self.assertIn("proved and built already", self.prove().stderr)
 
@@ -240,13 +240,16 @@ class Proving(Clone):
         done = self.prove()
         self.assertEqual(done.returncode, 0)
         self.assertIn("5 of 6 crates proved, 1 left, 0 minutes gone, about 1 more", done.stderr)
-        self.assertEqual([line.split()[0] for line in self.log()[before:]], ["run"])
+        self.assertEqual([line.split()[0] for line in self.log()[before:]], ["version", "run"])
 
     def test_a_change_is_proved_anew(self) -> None:
         self.rt(PROVES)
         self.prove()
         (self.top / "crates" / "ltm_a" / "src" / "lib.rt").write_text("// changed\n")
         self.assertIn("4 of 6 crates proved, 2 left", self.prove().stderr)
+        self.rt(PROVES.replace("made-kit", "another kit"))
+        (self.top / "crates" / "ltm_a" / "src" / "lib.rt").write_text("// changed again\n")
+        self.assertIn("0 of 6 crates proved, 6 left", self.prove().stderr)
 
     def test_a_crate_that_is_not_proved(self) -> None:
         self.rt(PROVES, 'if [ $1 = all ]; then echo "== ltm_b"; echo "goal open"; exit 1; fi')
