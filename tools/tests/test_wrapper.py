@@ -119,11 +119,12 @@ class NotProved(Clone):
         self.assertIn("ltm: links.csv, line 1: the header is to be exactly link,from,to", done.stderr)
 
     def test_rt_fails(self) -> None:
-        for body in ("echo half of an output; echo 'run=no-answer proved=no' >&2; exit 6", "echo half; exit 2", "echo half; kill -9 $$"):
+        for body in ("echo half of an output; echo '    | half of an output' >&2; echo 'run=no-answer proved=no' >&2; exit 6", "echo half; exit 2", "echo half; kill -9 $$"):
             self.rt(ANSWERS, body)
             done = self.run_ltm("case", "curves")
             self.assertEqual((done.returncode, done.stdout), (1, ""), body)
             self.assertIn("rt try gave no answer", done.stderr)
+            self.assertNotIn("half", done.stderr)
             self.assertIn("more than 1 MiB", done.stderr)
             self.assertIn("./ltm --prove", done.stderr)
 
