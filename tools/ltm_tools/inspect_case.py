@@ -183,7 +183,7 @@ def origin_lines(case: Case) -> list[str]:
     for origin in over[:MOST_TOLD]:
         step_ms = case.setup.step_ms
         asked, sends = hourly(origin.asked, step_ms), hourly(Fraction(origin.sends), step_ms)
-        told.append(f"            {origin.name}: {asked} vehicles an hour from {clock_text(origin.slot * step_ms)} on, and {origin.by} {sends}")
+        told.append(f"            {origin.name}: {asked} vehicles an hour from {clock_text(origin.slot * step_ms)} on, and {origin.by} {sends} at most")
     return told + more_line(len(over))
 
 
@@ -192,8 +192,17 @@ def hourly(units: Fraction, step_ms: int) -> str:
     return count_text(round(units * HOUR_MS / step_ms / 1000))
 
 
+def links_used(case: Case) -> set[str] | None:
+    """The links over which splits send what sets out at their tails, whenever that is; None where there are no splits."""
+    if case.splits is None:
+        return None
+    pairs = {(row.origin, row.destination) for row in case.standing_demand()}
+    rows = (row for row in case.standing_splits() if (row.node, row.destination) in pairs)
+    return {name for row in rows for name, weight in row.weights.items() if weight}
+
+
 def overloaded(case: Case) -> list[Origin]:
-    """The origins whose demand asks, in some slot, for more than the origin capacity, or than its links take together."""
+    """The origins whose demand asks, in some slot, for more than the origin capacity, or than the links over which it is sent take."""
     changes: dict[str, dict[int, Fraction]] = {}
     for row in case.standing_demand():
         pace = Fraction(row.units, row.to_slot - row.from_slot)
@@ -201,8 +210,10 @@ def overloaded(case: Case) -> list[Origin]:
         of_origin[row.from_slot] = of_origin.get(row.from_slot, Fraction(0)) + pace
         of_origin[row.to_slot] = of_origin.get(row.to_slot, Fraction(0)) - pace
     taken: dict[str, int] = {}
+    used = links_used(case)
     for link in case.links:
-        taken[link.tail] = taken.get(link.tail, 0) + link.capacity(case.setup.step_ms)
+        if used is None or link.name in used:
+            taken[link.tail] = taken.get(link.tail, 0) + link.capacity(case.setup.step_ms)
     found = []
     for name, at in changes.items():
         pace, most, slot = Fraction(0), Fraction(0), 0
@@ -211,7 +222,7 @@ def overloaded(case: Case) -> list[Origin]:
             if pace > most:
                 most, slot = pace, when
         capacity, by_links = case.setup.origin_capacity, taken.get(name, 0)
-        sends, by = (capacity, "an origin sends at most") if capacity <= by_links else (by_links, "its links take at most")
+        sends, by = (capacity, "an origin sends") if capacity <= by_links else (by_links, "its links take")
         if most > sends:
             found.append(Origin(name, most, slot, sends, by))
     return found

@@ -102,11 +102,17 @@ def is_proved(words: str) -> bool:
     return not words.strip() or re.search(r"(?m)^logic=proved\b", words) is not None
 
 
+def kit() -> str:
+    """The identity of the kit that proves."""
+    return subprocess.run(["rt", "version"], stdin=subprocess.DEVNULL, capture_output=True, text=True).stdout
+
+
 def stamps_of(place: Path, needs: Needs) -> dict[str, str]:
-    """A sum of all that the proof of each crate reads: its own texts, and those of the crates below it."""
+    """A sum of all that the proof of each crate rests on: the kit, its own texts, and those of the crates below it."""
     stamps: dict[str, str] = {}
+    identity = kit()
     for name, lower in needs.items():
-        sum_ = hashlib.sha256("".join(stamps[need] for need in lower).encode())
+        sum_ = hashlib.sha256((identity + "".join(stamps[need] for need in lower)).encode())
         for part in ("src", "specs", "proofs"):
             for path in sorted((place / "tree" / "crates" / name / part).rglob("*.*t")):
                 sum_.update(f"{path.relative_to(place)} {path.stat().st_size}\n".encode() + path.read_bytes())

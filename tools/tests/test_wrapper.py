@@ -119,11 +119,12 @@ class NotProved(Clone):
         self.assertIn("ltm: links.csv, line 1: the header is to be exactly link,from,to", done.stderr)
 
     def test_rt_fails(self) -> None:
-        for body in ("echo half of an output; echo 'run=no-answer proved=no' >&2; exit 6", "echo half; exit 2", "echo half; kill -9 $$"):
+        for body in ("echo half of an output; echo '    | half of an output' >&2; echo 'run=no-answer proved=no' >&2; exit 6", "echo half; exit 2", "echo half; kill -9 $$"):
             self.rt(ANSWERS, body)
             done = self.run_ltm("case", "curves")
             self.assertEqual((done.returncode, done.stdout), (1, ""), body)
             self.assertIn("rt try gave no answer", done.stderr)
+            self.assertNotIn("half", done.stderr)
             self.assertIn("more than 1 MiB", done.stderr)
             self.assertIn("./ltm --prove", done.stderr)
 
@@ -225,7 +226,7 @@ class Proving(Clone):
         self.assertIn("0 of 6 crates proved, 6 left, 0 minutes gone, about 3 more", done.stderr)
         self.assertIn("6 of 6 crates proved, 0 left", done.stderr)
         self.assertEqual((self.made / "listed").read_text(), "".join(f"ltm_{name}: ltm_low csv\n" for name in "abcd") + "ltm_low:\n")
-        self.assertEqual([line.split(" in ")[0] for line in self.log()], ["all check --jobs 4", "run --jobs 4 -- try 1 4"])
+        self.assertEqual([line.split(" in ")[0] for line in self.log() if line[:7] != "version"], ["all check --jobs 4", "run --jobs 4 -- try 1 4"])
         self.assertEqual(self.run_ltm("case", "load").stdout, "proved program: load\n")
         self.assertIn("proved and built already", self.prove().stderr)
 
@@ -240,13 +241,16 @@ class Proving(Clone):
         done = self.prove()
         self.assertEqual(done.returncode, 0)
         self.assertIn("5 of 6 crates proved, 1 left, 0 minutes gone, about 1 more", done.stderr)
-        self.assertEqual([line.split()[0] for line in self.log()[before:]], ["run"])
+        self.assertEqual([line.split()[0] for line in self.log()[before:]], ["version", "run"])
 
     def test_a_change_is_proved_anew(self) -> None:
         self.rt(PROVES)
         self.prove()
         (self.top / "crates" / "ltm_a" / "src" / "lib.rt").write_text("// changed\n")
         self.assertIn("4 of 6 crates proved, 2 left", self.prove().stderr)
+        self.rt(PROVES.replace("made-kit", "another kit"))
+        (self.top / "crates" / "ltm_a" / "src" / "lib.rt").write_text("// changed again\n")
+        self.assertIn("0 of 6 crates proved, 6 left", self.prove().stderr)
 
     def test_a_crate_that_is_not_proved(self) -> None:
         self.rt(PROVES, 'if [ $1 = all ]; then echo "== ltm_b"; echo "goal open"; exit 1; fi')
