@@ -15,7 +15,7 @@ from typing import NoReturn
 from . import libraries
 from .errors import Fault
 
-COMMANDS = ("inspect_case", "explain", "gmns", "queues", "times", "compare", "page", "geojson", "sweep", "apply", "pictures", "prove")  # modules, in the order in which they are told
+COMMANDS = ("inspect_case", "explain", "gmns", "queues", "times", "compare", "page", "geojson", "sweep", "apply", "pictures", "draw", "prove")  # modules, in the order in which they are told
 
 PROGRAM = "ltm-tools"
 INTERRUPTED = 130

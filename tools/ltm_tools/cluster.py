@@ -8,6 +8,7 @@ import threading
 import zipfile
 from collections.abc import Iterator, Sequence
 from pathlib import Path
+from typing import Any
 
 from .case_files import fetch
 from .case import Case
@@ -75,7 +76,7 @@ def there(address: str, folder: str, named: str | None, links: Sequence[str], pi
     files = case_bytes(folder)
     key = hashlib.sha256(repr((sorted(files.items()), list(links), named)).encode()).hexdigest()
     try:
-        client = distributed.Client(address, timeout=10, set_as_default=False)
+        client: Any = distributed.Client(address, timeout=10, set_as_default=False)
     except (OSError, ValueError) as error:
         raise Fault(f"the scheduler {address} does not answer: {str(error).splitlines()[0]}") from None
     with client, tempfile.TemporaryDirectory() as made:
