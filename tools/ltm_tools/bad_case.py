@@ -26,6 +26,7 @@ from .formats import (
     WEIGHTS_RULE,
     WHOLE_RULE,
     count_text,
+    vehicles_text,
 )
 
 KINDS = {"name": f"a name is {NAME_RULE}", "whole": f"a whole number is {WHOLE_RULE}", "vehicles": f"vehicles are {VEHICLES_RULE}",
@@ -160,7 +161,8 @@ def over(row: int, place: int, name: str, most: int) -> BadCase:
 
 def step_too_long(row: int, times: tuple[int, int], step_ms: int, least_length_m: int, speeds: tuple[int, int]) -> BadCase:
     free_ms, wave_ms = times
-    short = [text for ms, text in ((free_ms, f"the free-flow time of {free_ms} ms"), (wave_ms, f"the wave time of {wave_ms} ms")) if ms < step_ms]
+    named = ((free_ms, "free-flow"), (wave_ms, "wave"))
+    short = [f"the {name} time of {ms} ms" for ms, name in named if ms < step_ms]
     verb = "is" if len(short) == 1 else "are"
     return BadCase("links", row, f"StepTooLong {free_ms} {wave_ms}", f"{' and '.join(short)} {verb} below the step of {step_ms} ms",
                    f"take a step of at most {min(free_ms, wave_ms)} ms, or a length of at least {count_text(least_length_m)} m "
@@ -175,7 +177,8 @@ def no_capacity(row: int, step_ms: int, least_step_ms: int) -> BadCase:
 
 def capacity_over(row: int, units: int, step_ms: int, most_step_ms: int) -> BadCase:
     most = f"a step of at most {most_step_ms} ms, or " if most_step_ms >= 1 else ""
-    return BadCase("links", row, "CapacityOver", f"{units // 1000}.{units % 1000:03} vehicles pass the link in a step of {step_ms} ms, and at most {SLOT_VEHICLES} may",
+    return BadCase("links", row, "CapacityOver",
+                   f"{vehicles_text(units)} vehicles pass the link in a step of {step_ms} ms, and at most {SLOT_VEHICLES} may",
                    f"take {most}a lower jam density or speed")
 
 
@@ -203,10 +206,13 @@ def bad_slots(file: str, row: int, first: int, end: int | None, slots: int) -> B
     place = 2 if file in ("signals", "limits") else 3
     last = f"the horizon has {slots} slot{'s' * (slots != 1)}, numbered 0 to {slots - 1}"
     if end is None:
-        return BadCase(file, row, "BadSlots", f"slot {first} is not below the horizon: {last}", "take an earlier slot, or raise slots in setup.csv", place)
+        return BadCase(file, row, "BadSlots", f"slot {first} is not below the horizon: {last}",
+                       "take an earlier slot, or raise slots in setup.csv", place)
     if first >= end:
-        return BadCase(file, row, "BadSlots", f"from slot {first} up to, and without, slot {end} there is none", "to_slot is above from_slot", place)
-    return BadCase(file, row, "BadSlots", f"slots up to, and without, {end} go past the horizon: {last}", f"take a to_slot of at most {slots}, or raise slots in setup.csv", place + 1)
+        return BadCase(file, row, "BadSlots", f"from slot {first} up to, and without, slot {end} there is none",
+                       "to_slot is above from_slot", place)
+    return BadCase(file, row, "BadSlots", f"slots up to, and without, {end} go past the horizon: {last}",
+                   f"take a to_slot of at most {slots}, or raise slots in setup.csv", place + 1)
 
 
 def zero_weight(row: int) -> BadCase:
@@ -214,13 +220,15 @@ def zero_weight(row: int) -> BadCase:
 
 
 def too_many_destinations(file: str, row: int, node: str) -> BadCase:
-    return BadCase(file, row, "TooManyDestinations", f"{node} would be destination {MOST_DESTINATIONS + 1}, and at most {MOST_DESTINATIONS} may be",
+    return BadCase(file, row, "TooManyDestinations",
+                   f"{node} would be destination {MOST_DESTINATIONS + 1}, and at most {MOST_DESTINATIONS} may be",
                    "gather nearby destinations in one node", 2)
 
 
 def too_many_rows(file: str, row: int) -> BadCase:
     most = MOST_DEMAND_ROWS if file == "demand" else MOST_SPLIT_ROWS
-    return BadCase(file, row, "TooManyRows", f"there are {count_text(most)} rows already, which is the most", "gather rows: longer spans, or fewer pairs")
+    return BadCase(file, row, "TooManyRows", f"there are {count_text(most)} rows already, which is the most",
+                   "gather rows: longer spans, or fewer pairs")
 
 
 def too_many_routes(rows: int) -> BadCase:

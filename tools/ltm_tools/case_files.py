@@ -7,17 +7,17 @@ import os
 from collections.abc import Callable, Iterable, Sequence
 
 from . import bad_case
-from .bad_case import NoFile, TooLong
+from .bad_case import NoFile
 from .case import Case, Demand, Limit, Link, Setup, Split
+from .case_fields import check_width, fetch, name_in, read_header, units_in, whole_in
 from .errors import Fault
-from .files import Record, make_folder, records, write_records
+from .files import make_folder, records, write_records
 from .formats import (
     HEADERS,
     MOST_CELLS,
     MOST_CELLS_ASKED,
     MOST_DEMAND_ROWS,
     MOST_DESTINATIONS,
-    MOST_FILE_BYTES,
     MOST_IN,
     MOST_JAM_PER_KM,
     MOST_KMH,
@@ -32,33 +32,18 @@ from .formats import (
     SETUP_LATER,
     is_name,
     short_vehicles,
-    units_or_none,
     weights_or_none,
     weights_text,
-    whole_of,
 )
 from .valid import check_cells, check_routes, check_splits
 
 MOST_DIAGRAM = (MOST_LENGTH_M, MOST_KMH, MOST_KMH, MOST_JAM_PER_KM)
 
 
-def fetch(folder: str | os.PathLike[str], file: str) -> bytes:
-    """The bytes of a file of a case."""
-    path = os.path.join(folder, f"{file}.csv")
-    try:
-        if os.path.getsize(path) > MOST_FILE_BYTES:
-            raise TooLong(file, os.path.getsize(path), MOST_FILE_BYTES)
-        with open(path, "rb") as opened:
-            return opened.read()
-    except FileNotFoundError:
-        raise NoFile(file, True, f"{path} is not there") from None
-    except OSError as error:
-        raise NoFile(file, False, f"{path}: {error.strerror or error}") from None
-
-
 def read_case(folder: str | os.PathLike[str], *, splits: bool | None = None, columns: Sequence[str] = SETUP_LATER) -> Case:
     """The valid case of a folder, or the first fault. With `splits` True a `splits.csv` is wanted, as by `load`; with False it is not
-    looked at, and routes are asked for, as by `routes`; with None it may be missing. `columns` may stand in `setup.csv` behind its first three."""
+    looked at, and routes are asked for, as by `routes`; with None it may be missing. `columns` may stand in `setup.csv` behind its
+    first three."""
     texts = {file: fetch(folder, file) for file in ("setup", "links", "demand")}
     if splits is not False:
         try:
@@ -90,15 +75,6 @@ def read_network(folder: str | os.PathLike[str]) -> Case:
     return reader.case
 
 
-def read_header(file: str, found: list[Record], headers: Iterable[Sequence[str]]) -> int:
-    """How many fields the header has; a fault where it is none of these."""
-    if not found:
-        raise bad_case.header(file, None)
-    if tuple(found[0].fields) not in {tuple(header) for header in headers}:
-        raise bad_case.header(file, found[0].fields)
-    return len(found[0].fields)
-
-
 def read_rows(file: str, data: bytes, add: Callable[[int, list[str]], None]) -> None:
     """Reads the header of a file, and adds each record behind it."""
     found = list(records(data))
@@ -106,32 +82,6 @@ def read_rows(file: str, data: bytes, add: Callable[[int, list[str]], None]) -> 
     for row, record in enumerate(found[1:], 2):
         check_width(file, row, record.fields, width)
         add(row, record.fields)
-
-
-def check_width(file: str, row: int, fields: list[str], width: int) -> None:
-    if len(fields) != width:
-        raise bad_case.width(file, row, len(fields), width)
-
-
-def name_in(file: str, row: int, fields: list[str], place: int) -> str:
-    text = fields[place - 1]
-    if not is_name(text):
-        raise bad_case.field(file, row, place, "name", text)
-    return text
-
-
-def whole_in(file: str, row: int, fields: list[str], place: int) -> int:
-    number = whole_of(fields[place - 1])
-    if number is None:
-        raise bad_case.field(file, row, place, "whole", fields[place - 1])
-    return number
-
-
-def units_in(file: str, row: int, fields: list[str], place: int) -> int:
-    units = units_or_none(fields[place - 1])
-    if units is None:
-        raise bad_case.field(file, row, place, "vehicles", fields[place - 1])
-    return units
 
 
 def setup_headers(columns: Sequence[str]) -> list[tuple[str, ...]]:

@@ -60,7 +60,8 @@ def wrong_record(row: int, record: Record, words: tuple[str, str, str], boundari
         return CurveFault(row, "Width", f"the record has {len(fields)} fields, and {len(CURVES)} are due")
     for place, (text, word) in enumerate(zip(fields, words), 1):
         if text != word:
-            return CurveFault(row, f"Field {place}", f"{word} is due here: records stand in the order of the case's links, nodes and destinations", place, text)
+            order = "records stand in the order of the case's links, nodes and destinations"
+            return CurveFault(row, f"Field {place}", f"{word} is due here: {order}", place, text)
     reason = wrong_counts(fields[3], boundaries)
     return CurveFault(row, "Field 4", reason, 4, fields[3]) if reason else None
 
@@ -70,7 +71,8 @@ def wrong_counts(text: str, boundaries: int) -> str:
     counts = text.split(" ")
     for place, count in enumerate(counts):
         if COUNT.fullmatch(count) is None or int(count) > MOST_COUNT:
-            return f"the count at boundary {place} is {shown(count)}, and 1 to 15 digits of at most {MOST_COUNT} are wanted, with one space between two counts"
+            return (f"the count at boundary {place} is {shown(count)}, and 1 to 15 digits of at most {MOST_COUNT} are wanted, with one "
+                    "space between two counts")
     if len(counts) != boundaries:
         return f"there are {len(counts)} counts, and the case has {boundaries} boundaries, one more than slots"
     return ""

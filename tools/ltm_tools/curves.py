@@ -11,7 +11,8 @@ import sys
 from collections.abc import Iterable, Iterator, Sequence
 from typing import TYPE_CHECKING, Any
 
-from .case_files import fetch, read_setup
+from .case_fields import fetch
+from .case_files import read_setup
 from .errors import Fault
 from .files import bytes_text, records
 from .formats import CURVES, MOST_COUNT

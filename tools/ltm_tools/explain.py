@@ -26,7 +26,8 @@ from .formats import (
     clock_text,
     count_text,
 )
-from .script import Line, line_text, read_line, script_lines
+from .refusals import why_refused
+from .script import Line, line_text, parsed, read_line, script_lines
 from .usage import usage_fault
 
 NAME = "explain"
@@ -35,18 +36,19 @@ EXAMPLES = """examples:
   ltm-tools explain CASE 6 "bad case links row 2 StepTooLong 1440 7200"
   ltm-tools explain CASE 3 "" routes
   ltm-tools explain CASE 0 "" session 0 --script script.jsonl
+  ltm-tools explain CASE 0 "refused link UnknownName" --command '{"do": "link", "link": "z"}'
 
 LINE is the last line that the program wrote, and WORD .. are the words it was given (load, where there are none). With --script the
-lines of a script that are no commands are explained, and members that are passed over are named."""
+lines of a script that are no commands are explained, and members that are passed over are named; with --command a line `refused ..` is."""
 
 MOST_TOLD = 5  # lines of a script
 Told = list[str]
 
 
-def explain(folder: str, status: int, line: str, words: Sequence[str] = (), script: str | None = None) -> Told:
+def explain(folder: str, status: int, line: str, words: Sequence[str] = (), script: str | None = None, command: str | None = None) -> Told:
     """The lines that explain a run in a folder which ended with this status; none where there is nothing to say."""
     words = list(words) or ["load"]
-    told = by_status(folder, status, line, words)
+    told = by_status(folder, status, line, words) if command is None else refused(folder, line, command)
     return told + (of_script(script) if script is not None else [])
 
 
@@ -70,6 +72,19 @@ def by_status(folder: str, status: int, line: str, words: list[str]) -> Told:
     if status == 12:
         return not_loading(folder, line)
     return bad_script(folder, line) if status == 13 else []
+
+
+def refused(folder: str, line: str, command: str) -> Told:
+    """Why a session refused a command."""
+    said = read_line(command.encode("utf-8", "surrogateescape"))
+    if said.cause is not None:
+        return [f"{said.reason}{edit_place(said)}"] if line.strip() == f"refused command {said.cause}" else []
+    try:
+        asked = parsed(command.encode())
+        why = why_refused(read(folder, ["session"]), asked, line) if isinstance(asked, dict) else ""
+    except Fault:
+        return []
+    return [why] if why else []
 
 
 def read(folder: str, words: list[str]) -> Case:
@@ -166,7 +181,8 @@ def too_much(folder: str, status: int, line: str, words: list[str]) -> Told:
     if status == 8:
         if words[0] == "editors":
             return [f"a file of edits has more than {count_text(MOST_EDITOR_LINES)} lines, and that is the most"]
-        return [f"the script has more than {count_text(MOST_LINES)} lines, and that is the most: the first {count_text(MOST_LINES)} are answered"]
+        lines = count_text(MOST_LINES)
+        return [f"the script has more than {lines} lines, and that is the most: the first {lines} are answered"]
     number = re.fullmatch(r"too long line ([0-9]+)", line.strip())
     if number:
         return [f"line {number[1]} of the script has more than {count_text(MOST_LINE_BYTES)} bytes, and that is the most",
@@ -218,7 +234,8 @@ def not_loading(folder: str, line: str) -> Told:
     node, slot = found[1], int(found[2])
     begin, end = slot * case.setup.step_ms, (slot + 1) * case.setup.step_ms
     into, out = ([link.name for link in links] for links in (case.in_links(node), case.out_links(node)))
-    return [f"the counts at the end of slot {slot}, which is {clock_text(begin)} to {clock_text(end)} of the horizon, are not what the node {node} makes of those before",
+    when = f"slot {slot}, which is {clock_text(begin)} to {clock_text(end)} of the horizon"
+    return [f"the counts at the end of {when}, are not what the node {node} makes of those before",
             f"    links into it: {', '.join(into) or 'none'}; out of it: {', '.join(out) or 'none'}; docs/MODEL.md has the rules of a node step"]
 
 
@@ -274,10 +291,11 @@ def add_arguments(parser: argparse.ArgumentParser) -> None:
     parser.add_argument("status", type=int, help="the exit status of ltm")
     parser.add_argument("line", help="the last line that it wrote")
     parser.add_argument("words", nargs="*", metavar="WORD", help="the words that it was given")
+    parser.add_argument("--command", metavar="COMMAND", dest="asked", help="the line of a script that was answered by LINE")
     parser.add_argument("--script", metavar="FILE", help="the script that it was given on its standard input")
 
 
 def run(args: argparse.Namespace) -> int:
-    for line in explain(args.folder, args.status, args.line, args.words, args.script):
+    for line in explain(args.folder, args.status, args.line, args.words, args.script, args.asked):
         print(line)
     return 0

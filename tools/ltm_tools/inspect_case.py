@@ -5,7 +5,8 @@ from fractions import Fraction
 
 from .bad_case import BadCase
 from .case import Case, Link
-from .case_files import Reader, fetch, read_case, read_header, read_setup
+from .case_fields import fetch, read_header
+from .case_files import Reader, read_case, read_setup
 from .circles import find_circles
 from .errors import Fault
 from .files import records
@@ -22,6 +23,7 @@ Where a record is wrong, what is told of the case leaves it out."""
 
 SESSION_BYTES = 4  # of memory for a cell: sessions took 2.1 to 3.4 where they were measured
 MOST_TOLD = 8  # of a list
+MOST_LINKS = 12  # of a circle
 TABLE = "{:32} {:>9} {:>9} {:>9} {:>9} {:>10}"
 
 
@@ -103,7 +105,8 @@ def size_lines(case: Case) -> list[str]:
         f"horizon     {clock_text(setup.horizon_ms)}, {counted(setup.slots, 'slot')} of {setup.step_ms} ms",
         f"cells       {count_text(cells)} of at most {count_text(MOST_CELLS)}; up to {count_text(fits)} slots fit"
         + (", the most there may be" if fits == MOST_SLOTS else ""),
-        f"memory      about {count_text(-(-cells * SESSION_BYTES // 1_000_000))} MB for a session of it; up to {count_text(in_memory)} slots fit in what is free",
+        f"memory      about {count_text(-(-cells * SESSION_BYTES // 1_000_000))} MB for a session of it; "
+        f"up to {count_text(in_memory)} slots fit in what is free",
     ]
 
 
@@ -133,8 +136,11 @@ def step_lines(case: Case) -> list[str]:
 
 def why(link: Link) -> str:
     """What bounds the step of a link."""
-    bounds = {link.passing_step_ms: "32 vehicles pass it in that time", link.wave_ms: f"its wave time, {link.length_m} m at {link.wave_kmh} km/h",
-              link.free_ms: f"its free-flow time, {link.length_m} m at {link.free_kmh} km/h"}
+    bounds = {
+        link.passing_step_ms: "32 vehicles pass it in that time",
+        link.wave_ms: f"its wave time, {link.length_m} m at {link.wave_kmh} km/h",
+        link.free_ms: f"its free-flow time, {link.length_m} m at {link.free_kmh} km/h",
+    }
     return bounds.get(link.longest_step_ms, "a step is at most a minute")
 
 
@@ -148,7 +154,8 @@ def circle_lines(case: Case) -> list[str]:
     told = [f"circles     in the splits of {len(circles)} of {counted(len(case.destinations), 'destination')}: traffic that is sent round"]
     for circle in circles[:MOST_TOLD]:
         since = f" from {clock_text(circle.from_slot * case.setup.step_ms)} on" if circle.from_slot else ""
-        told.append(f"            for {circle.destination}{since}: {' '.join(circle.links[:12])}" + (f" and {counted(len(circle.links) - 12, 'more link')}" if len(circle.links) > 12 else ""))
+        more = f" and {counted(len(circle.links) - MOST_LINKS, 'more link')}" if len(circle.links) > MOST_LINKS else ""
+        told.append(f"            for {circle.destination}{since}: {' '.join(circle.links[:MOST_LINKS])}{more}")
     return told + more_line(len(circles))
 
 
@@ -174,8 +181,9 @@ def origin_lines(case: Case) -> list[str]:
         return ["origins     none with more demand in a slot than can be sent"]
     told = [f"origins     {counted(len(over), 'origin')} with more demand in a slot than can be sent, so that vehicles wait there"]
     for origin in over[:MOST_TOLD]:
-        told.append(f"            {origin.name}: {hourly(origin.asked, case.setup.step_ms)} vehicles an hour from {clock_text(origin.slot * case.setup.step_ms)} on, "
-                    f"and {origin.by} {hourly(Fraction(origin.sends), case.setup.step_ms)}")
+        step_ms = case.setup.step_ms
+        asked, sends = hourly(origin.asked, step_ms), hourly(Fraction(origin.sends), step_ms)
+        told.append(f"            {origin.name}: {asked} vehicles an hour from {clock_text(origin.slot * step_ms)} on, and {origin.by} {sends} at most")
     return told + more_line(len(over))
 
 
@@ -184,8 +192,17 @@ def hourly(units: Fraction, step_ms: int) -> str:
     return count_text(round(units * HOUR_MS / step_ms / 1000))
 
 
+def links_used(case: Case) -> set[str] | None:
+    """The links over which splits send what sets out at their tails, whenever that is; None where there are no splits."""
+    if case.splits is None:
+        return None
+    pairs = {(row.origin, row.destination) for row in case.standing_demand()}
+    rows = (row for row in case.standing_splits() if (row.node, row.destination) in pairs)
+    return {name for row in rows for name, weight in row.weights.items() if weight}
+
+
 def overloaded(case: Case) -> list[Origin]:
-    """The origins whose demand asks, in some slot, for more than the origin capacity, or than its links take together."""
+    """The origins whose demand asks, in some slot, for more than the origin capacity, or than the links over which it is sent take."""
     changes: dict[str, dict[int, Fraction]] = {}
     for row in case.standing_demand():
         pace = Fraction(row.units, row.to_slot - row.from_slot)
@@ -193,8 +210,10 @@ def overloaded(case: Case) -> list[Origin]:
         of_origin[row.from_slot] = of_origin.get(row.from_slot, Fraction(0)) + pace
         of_origin[row.to_slot] = of_origin.get(row.to_slot, Fraction(0)) - pace
     taken: dict[str, int] = {}
+    used = links_used(case)
     for link in case.links:
-        taken[link.tail] = taken.get(link.tail, 0) + link.capacity(case.setup.step_ms)
+        if used is None or link.name in used:
+            taken[link.tail] = taken.get(link.tail, 0) + link.capacity(case.setup.step_ms)
     found = []
     for name, at in changes.items():
         pace, most, slot = Fraction(0), Fraction(0), 0
@@ -203,7 +222,7 @@ def overloaded(case: Case) -> list[Origin]:
             if pace > most:
                 most, slot = pace, when
         capacity, by_links = case.setup.origin_capacity, taken.get(name, 0)
-        sends, by = (capacity, "an origin sends at most") if capacity <= by_links else (by_links, "its links take at most")
+        sends, by = (capacity, "an origin sends") if capacity <= by_links else (by_links, "its links take")
         if most > sends:
             found.append(Origin(name, most, slot, sends, by))
     return found
@@ -220,7 +239,8 @@ def link_lines(folder: str) -> list[str]:
 
 def add_arguments(parser: argparse.ArgumentParser) -> None:
     parser.add_argument("folder", help="the folder of the case")
-    parser.add_argument("--links", action="store_true", help="a table of all links: length, times, the longest step it allows in ms, storage in vehicles")
+    parser.add_argument("--links", action="store_true",
+                        help="a table of all links: length, times, the longest step it allows in ms, storage in vehicles")
 
 
 def run(args: argparse.Namespace) -> int:

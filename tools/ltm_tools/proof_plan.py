@@ -65,7 +65,8 @@ def read_costs(text: str) -> dict[str, int]:
 
 def crate_bytes(folder: Path) -> int:
     """How large the texts of a crate are that a proof reads."""
-    return sum(path.stat().st_size for part, kind in (("src", "*.rt"), ("specs", "*.antt"), ("proofs", "*.antt")) for path in (folder / part).rglob(kind))
+    parts = (("src", "*.rt"), ("specs", "*.antt"), ("proofs", "*.antt"))
+    return sum(path.stat().st_size for part, kind in parts for path in (folder / part).rglob(kind))
 
 
 def costs_of(top: Path, crates: Iterable[str]) -> dict[str, float]:
@@ -155,14 +156,16 @@ class Plan:
     def length(self, done: Iterable[str] = ()) -> float:
         """The seconds that are left, by the costs of the table."""
         done = set(done)
-        return schedule(self.side_by_side, self.costs, self.lanes, done).length + sum(self.costs[name] for name in self.tail if name not in done) / speed(self.lanes)
+        alone = sum(self.costs[name] for name in self.tail if name not in done)
+        return schedule(self.side_by_side, self.costs, self.lanes, done).length + alone / speed(self.lanes)
 
     def scale(self, kept: Iterable[str], done: Iterable[str], at: float, passed: float) -> float:
         """How many times slower than the table this machine has shown to be. A run began with the crates `kept`; those of `done` are
         proved since `at` seconds, and `passed` seconds are gone. It is 1 at first, and is shown by what is done, or late."""
         kept, done = set(kept), set(done)
         gone = self.length(kept) - self.length(done)
-        coming = min((self.costs[name] for name in self.needs if name not in done and all(need in done for need in self.needs[name])), default=0.0)
+        ready = [name for name, lower in self.needs.items() if name not in done and done.issuperset(lower)]
+        coming = min((self.costs[name] for name in ready), default=0.0)
         shown = at / gone if gone > 0 else 1.0
         if gone + coming > 0:
             shown = max(shown, passed / (gone + coming))

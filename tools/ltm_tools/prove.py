@@ -102,11 +102,17 @@ def is_proved(words: str) -> bool:
     return not words.strip() or re.search(r"(?m)^logic=proved\b", words) is not None
 
 
+def kit() -> str:
+    """The identity of the kit that proves."""
+    return subprocess.run(["rt", "version"], stdin=subprocess.DEVNULL, capture_output=True, text=True).stdout
+
+
 def stamps_of(place: Path, needs: Needs) -> dict[str, str]:
-    """A sum of all that the proof of each crate reads: its own texts, and those of the crates below it."""
+    """A sum of all that the proof of each crate rests on: the kit, its own texts, and those of the crates below it."""
     stamps: dict[str, str] = {}
+    identity = kit()
     for name, lower in needs.items():
-        sum_ = hashlib.sha256("".join(stamps[need] for need in lower).encode())
+        sum_ = hashlib.sha256((identity + "".join(stamps[need] for need in lower)).encode())
         for part in ("src", "specs", "proofs"):
             for path in sorted((place / "tree" / "crates" / name / part).rglob("*.*t")):
                 sum_.update(f"{path.relative_to(place)} {path.stat().st_size}\n".encode() + path.read_bytes())
@@ -216,7 +222,8 @@ class Proof:
         if left:
             seconds = self.plan.seconds_left(self.kept, self.done, self.at, passed)
             text += f", about {max(1, math.ceil(seconds / 60))} more"
-        print(f"\r\033[Kltm: {text}" if self.is_terminal else f"ltm: {text}", end="" if self.is_terminal and not is_last else "\n", file=sys.stderr, flush=True)
+        begin, end = ("\r\033[K", "\n" if is_last else "") if self.is_terminal else ("", "\n")
+        print(f"{begin}ltm: {text}", end=end, file=sys.stderr, flush=True)
 
     def end_line(self) -> None:
         if self.is_terminal:
@@ -225,7 +232,8 @@ class Proof:
 
 def lines_of(text: str, names: Sequence[str] | Needs) -> list[str]:
     """The lines of a crates.txt that list these crates."""
-    return [line for line in text.splitlines() if line.partition(":")[1] and not line.startswith("#") and line.partition(":")[0].split()[0] in names]
+    lines = [line for line in text.splitlines() if line.partition("#")[0].partition(":")[1]]
+    return [line for line in lines if line.split(":")[0].split()[0] in names]
 
 
 @contextlib.contextmanager
@@ -259,6 +267,8 @@ def run(args: argparse.Namespace) -> int:
     jobs = args.jobs if args.jobs is not None else lanes()
     if jobs < 1:
         raise Fault("--jobs is 1 or more")
+    if not (CLONE / "crates.txt").is_file():
+        raise Fault(f"this proves a clone of the repository, and {CLONE} is none")
     text = read_text(CLONE / "crates.txt")
     needs = stands_on(read_crates(text), args.crate)
     place = workplace(CLONE)

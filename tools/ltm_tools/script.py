@@ -1,5 +1,6 @@
 """Lines of a script, read as the program reads them: whether each is a command, and if not, why."""
 import json
+import re
 from collections.abc import Callable
 from dataclasses import dataclass, field
 from typing import NoReturn
@@ -8,6 +9,7 @@ from .files import bytes_text, shown
 from .formats import MOST_EDITS, MOST_WEIGHTS, NAME_RULE, VEHICLES_RULE, WHOLE_BELOW, is_name, units_or_none
 
 DEEPEST = 127  # arrays and objects within one another
+STRING = re.compile(r'"(?:[^"\\]|\\.)*"')
 
 
 @dataclass(slots=True)
@@ -52,10 +54,13 @@ def parsed(data: bytes) -> object:
     if not text.strip(" \t\r\n"):
         raise ValueError("the line is empty")
     try:
-        value = json.loads(text, parse_constant=_no_constant, parse_float=_finite)
+        value: object = json.loads(text, parse_constant=_no_constant, parse_float=_finite, object_pairs_hook=_object)
     except json.JSONDecodeError as error:
-        raise ValueError(f"{error.msg[0].lower()}{error.msg[1:]}, at character {error.pos + 1}: {shown(text[error.pos:error.pos + 20])}") from None
-    _check(value)
+        what, place = error.msg[0].lower() + error.msg[1:], error.pos
+        raise ValueError(f"{what}, at character {place + 1}: {shown(text[place:place + 20])}") from None
+    _check_texts(value)
+    if _depth(text) > DEEPEST:
+        raise ValueError("arrays and objects stand too deep in one another")
     return value
 
 
@@ -70,16 +75,30 @@ def _finite(text: str) -> float:
     return number
 
 
-def _check(value: object, depth: int = 0) -> None:
-    """Whether each text is one, and nothing stands too deep."""
-    if isinstance(value, str):
-        if any(0xD800 <= ord(sign) <= 0xDFFF for sign in value):
-            raise ValueError("a text has half of a pair of \\u")
-    elif isinstance(value, (list, dict)):
-        if depth >= DEEPEST:
-            raise ValueError("arrays and objects stand too deep in one another")
-        for one in [*value, *value.values()] if isinstance(value, dict) else value:
-            _check(one, depth + 1)
+def _object(members: list[tuple[str, object]]) -> dict[str, object]:
+    """An object, in which a member that stands twice counts as it stands last; each of its texts has to be one."""
+    for name, value in members:
+        _check_texts(name)
+        _check_texts(value)
+    return dict(members)
+
+
+def _check_texts(value: object) -> None:
+    """Whether each text in a value is one; objects have seen to their own."""
+    if isinstance(value, str) and any(0xD800 <= ord(sign) <= 0xDFFF for sign in value):
+        raise ValueError("a text has half of a pair of \\u")
+    if isinstance(value, list):
+        for one in value:
+            _check_texts(one)
+
+
+def _depth(text: str) -> int:
+    """How deep arrays and objects stand in one another in a text that is JSON."""
+    depth = deepest = 0
+    for sign in STRING.sub("", text):
+        depth += (sign in "[{") - (sign in "]}")
+        deepest = max(deepest, depth)
+    return deepest
 
 
 def wanted(value: object, name: str, kind: str, is_kind: Callable[[object], bool]) -> object:

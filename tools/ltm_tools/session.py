@@ -13,19 +13,21 @@ import subprocess
 from types import TracebackType
 from typing import NamedTuple
 
+from .case import Case
 from .edits import Edit
 from .errors import Fault
 from .formats import MOST_EDITS, MOST_LINE_BYTES, MOST_WORKERS, UNITS
 from .program import start
+from .refusals import why_refused
 
 
 class Refused(Fault):
     """The session refused a line. `cause` is its word for why, as `UnknownName`; `edit` is the first edit that is refused, counted
-    from 1, and 0 where it is no edit."""
+    from 1, and 0 where it is no edit; `reason` says it in words, where the case shows it."""
 
-    def __init__(self, answer: str, cause: str, edit: int = 0) -> None:
-        self.cause, self.edit = cause, edit
-        super().__init__(answer)
+    def __init__(self, answer: str, cause: str, edit: int = 0, reason: str = "") -> None:
+        self.cause, self.edit, self.reason = cause, edit, reason
+        super().__init__(answer + (f": {reason}" if reason else ""))
 
 
 class Settled(NamedTuple):
@@ -120,8 +122,15 @@ class Session:
             self._let_go()
             raise Fault(f"{self.folder}: ltm {' '.join(self.words)} ended with status {self.process.returncode}: {answer or 'no answer'}")
         if words[0] == "refused":
-            raise _refused(answer, words)
+            raise _refused(answer, words, self._reason(command, answer))
         return words
+
+    def _reason(self, command: dict[str, object], answer: str) -> str:
+        """Why the session refused a command, by the files of the case."""
+        try:
+            return why_refused(Case.read(self.folder), command, answer)
+        except Fault:
+            return ""
 
     def edit(self, *edits: Edit) -> int:
         """Makes a batch of edits, whole or not at all: the number of accepted batches. See the module `edits`."""
@@ -168,8 +177,8 @@ def _units(text: str) -> int:
     return int(whole) * UNITS + int(part)
 
 
-def _refused(answer: str, words: list[str]) -> Refused:
+def _refused(answer: str, words: list[str], reason: str) -> Refused:
     """`refused edit P CAUSE ..`, `refused link CAUSE`, `refused command NotCommand P` and the like."""
     if words[1] == "edit":
-        return Refused(answer, " ".join(words[3:]), int(words[2]))
-    return Refused(answer, words[2], int(words[3]) if len(words) > 3 else 0)
+        return Refused(answer, " ".join(words[3:]), int(words[2]), reason)
+    return Refused(answer, words[2], int(words[3]) if len(words) > 3 else 0, reason)

@@ -37,7 +37,8 @@ def usage_fault(words: Sequence[str]) -> str:
             return f"{first} takes one number: {WORDS[first]}"
         return number_fault(first, rest[0])
     if first == "try":
-        fits = len(rest) == 2 and re.fullmatch("[0-9]{1,20}", rest[0], re.ASCII) and int(rest[0]) < 2**64 and re.fullmatch("[0-9]{1,3}", rest[1], re.ASCII) and 4 <= int(rest[1]) <= 400
+        found = re.fullmatch("([0-9]{1,20}) ([0-9]{1,3})", " ".join(rest), re.ASCII) if len(rest) == 2 else None
+        fits = found is not None and int(found[1]) < 2**64 and 4 <= int(found[2]) <= 400
         return "" if fits else "try takes two numbers: START, 1 to 20 digits with a value below 2 to the 64, and NODES, 4 to 400"
     if first == "routes" and rest == ["times"]:
         return ""

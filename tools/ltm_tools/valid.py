@@ -52,7 +52,8 @@ def no_row(case: Case, node: str, destination: str, reason: str) -> BadCase:
 
 def late_row(node: str, destination: str, first: int) -> BadCase:
     """The fault of a pair whose first row begins after slot 0."""
-    return bad_case.no_split(node, destination, f"the first row of splits.csv for node {node} and destination {destination} begins at slot {first}",
+    return bad_case.no_split(node, destination,
+                             f"the first row of splits.csv for node {node} and destination {destination} begins at slot {first}",
                              "let it begin at slot 0, or add one that does")
 
 
@@ -80,8 +81,8 @@ def check_routes(case: Case) -> None:
     pairs = {(row.origin, row.destination) for row in case.standing_demand()}
     for origin, destination in sorted(pairs, key=lambda pair: (nodes[pair[0]], list(reach).index(pair[1]))):
         if origin not in reach[destination]:
-            raise bad_case.no_split(origin, destination, f"vehicles set out from {origin} for {destination}, and no links lead there from {origin}",
-                                    "add a link, or take the demand out")
+            reason = f"vehicles set out from {origin} for {destination}, and no links lead there from {origin}"
+            raise bad_case.no_split(origin, destination, reason, "add a link, or take the demand out")
 
 
 def check_cells(case: Case) -> None:

@@ -208,6 +208,8 @@ class Scripts(FolderTest):
             ('{"do": "totals"', "NotJson", "it is no JSON"),
             ('{"do": "totals", "a": NaN}', "NotJson", "NaN is no number of JSON"),
             ('{"do": "totals", "a": "\\ud800"}', "NotJson", "half of a pair"),
+            ('{"do": "\\ud800", "do": "totals"}', "NotJson", "half of a pair"),
+            ('{"do": "totals", "a": ' + "[" * 127 + "]" * 127 + "}", "NotJson", "too deep"),
             ('["do"]', "NotCommand 0", 'the member do was looked for, and ["do"] is no object'),
             ('{"Do": "totals"}', "NotCommand 0", "the member do was looked for, and is not there; there is Do"),
             ('{"do": "total"}', "NotCommand 0", 'the member do is "total", and it is one of edit, totals, link, time, settle'),

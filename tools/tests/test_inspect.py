@@ -70,7 +70,7 @@ class Told(FolderTest):
             "            b allows 2000 ms: its free-flow time, 20 m at 36 km/h",
             "circles     none in the splits",
             "origins     1 origin with more demand in a slot than can be sent, so that vehicles wait there",
-            "            n1: 2,520 vehicles an hour from 0:00 on, and its links take at most 1,800",
+            "            n1: 2,520 vehicles an hour from 0:00 on, and its links take 1,800 at most",
             "load        takes the case",
         ])
 
@@ -87,7 +87,16 @@ class Told(FolderTest):
 
     def test_origin_capacity(self) -> None:
         told = inspect(str(self.case(setup="step_ms,slots,origin_capacity\n1000,4,0.25\n")))
-        self.assertIn("            n1: 1,800 vehicles an hour from 0:00 on, and an origin sends at most 900", told)
+        self.assertIn("            n1: 1,800 vehicles an hour from 0:00 on, and an origin sends 900 at most", told)
+
+    def test_a_link_that_is_not_used(self) -> None:
+        """0.7 vehicles a second go by a alone, which takes 0.5; with b there is room."""
+        links = ROAD["links"] + "b,n1,n2,20,36,18,150\n"
+        demand = "origin,destination,from_slot,to_slot,vehicles\nn1,n2,0,2,1.4\n"
+        told = inspect(str(self.case(links=links, demand=demand)))
+        self.assertIn("            n1: 2,520 vehicles an hour from 0:00 on, and its links take 1,800 at most", told)
+        told = inspect(str(self.case(links=links, demand=demand, splits=ROAD["splits"].replace("a=1", "a=1 b=1"))))
+        self.assertIn("origins     none with more demand in a slot than can be sent", told)
 
     def test_links(self) -> None:
         self.assertEqual(link_lines(str(self.case()))[1].split(), ["a", "20", "2000", "4000", "2000", "3"])

@@ -65,7 +65,7 @@ class Proved(unittest.TestCase):
             self.assertEqual(session.edit(edits.diagram("b", 20, 36, 18, 150)), 1)
             self.assertEqual(session.settle().version, 1)
             self.assertEqual(session.totals(), (1, 7000, 6000, 1000, 0))
-            with self.assertRaises(Refused):
+            with self.assertRaisesRegex(Refused, "refused link UnknownName: links.csv has no link nowhere"):
                 session.link("nowhere")
 
 

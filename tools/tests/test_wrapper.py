@@ -3,13 +3,15 @@ import os
 import shutil
 import signal
 import subprocess
+import sys
 import time
 import unittest
-from pathlib import Path
 
 from support import CLONE, FolderTest, TOOLS
 from ltm_tools.errors import Fault
 from ltm_tools.proof_plan import Plan, read_costs, read_crates, stands_on
+
+SYSTEM = "/usr/bin:/bin"
 
 # `rt try`: says what it was called with, and answers as the test wants
 ANSWERS = """#!/bin/bash
@@ -52,6 +54,9 @@ class Clone(FolderTest):
         for crate in ("ltm", "ltm_a", "ltm_b", "ltm_c", "ltm_d", "ltm_low", "ltm_low_tests"):
             (self.top / "crates" / crate / "src").mkdir(parents=True)
             (self.top / "crates" / crate / "src" / "lib.rt").write_text(f"// {crate}\n")
+        python = self.made / "bin" / "python3"
+        python.write_text(f'#!/bin/sh\nexec "{sys.executable}" "$@"\n')
+        python.chmod(0o755)
         self.built = self.top / "crates" / "ltm" / "out" / "ltm"
         self.case()
 
@@ -71,8 +76,7 @@ class Clone(FolderTest):
         os.utime(self.built, (past + 1 - age, past + 1 - age))
 
     def environment(self) -> dict[str, str]:
-        python = Path(shutil.which("python3") or "/usr/bin/python3").resolve().parent
-        return {"PATH": f"{self.made / 'bin'}:{python}:/usr/bin:/bin", "MADE": str(self.made), "HOME": str(self.made)}
+        return {"PATH": f"{self.made / 'bin'}:{SYSTEM}", "MADE": str(self.made), "HOME": str(self.made)}
 
     def run_ltm(self, *words: str, script: str = "") -> "subprocess.CompletedProcess[str]":
         return subprocess.run([str(self.top / "ltm"), *words], cwd=self.folder, env=self.environment(), input=script, capture_output=True, text=True, timeout=60)
@@ -81,8 +85,8 @@ class Clone(FolderTest):
         return (self.made / "called").read_text().splitlines()
 
 
-@unittest.skipUnless(shutil.which("rt") is None or "/usr/bin" not in (shutil.which("rt") or ""), "rt lies in /usr/bin")
 class NotProved(Clone):
+    @unittest.skipIf(shutil.which("rt", path=SYSTEM), "rt lies where the system's commands do")
     def test_no_rt(self) -> None:
         done = self.run_ltm("case", "load")
         self.assertEqual((done.returncode, done.stdout), (1, ""))
@@ -115,11 +119,12 @@ class NotProved(Clone):
         self.assertIn("ltm: links.csv, line 1: the header is to be exactly link,from,to", done.stderr)
 
     def test_rt_fails(self) -> None:
-        for body in ("echo half of an output; echo 'run=no-answer proved=no' >&2; exit 6", "echo half; exit 2", "echo half; kill -9 $$"):
+        for body in ("echo half of an output; echo '    | half of an output' >&2; echo 'run=no-answer proved=no' >&2; exit 6", "echo half; exit 2", "echo half; kill -9 $$"):
             self.rt(ANSWERS, body)
             done = self.run_ltm("case", "curves")
             self.assertEqual((done.returncode, done.stdout), (1, ""), body)
             self.assertIn("rt try gave no answer", done.stderr)
+            self.assertNotIn("half", done.stderr)
             self.assertIn("more than 1 MiB", done.stderr)
             self.assertIn("./ltm --prove", done.stderr)
 
@@ -128,6 +133,7 @@ class NotProved(Clone):
         done = self.run_ltm("case", "lod")
         self.assertEqual((done.returncode, done.stdout), (2, ""))
         self.assertIn("'lod' is no command: load is one", done.stderr)
+        self.assertIn("'-x' is no command", self.run_ltm("case", "-x").stderr)
         self.assertFalse((self.made / "called").exists())
 
     def test_a_source_that_is_newer(self) -> None:
@@ -180,10 +186,12 @@ class Proved(Clone):
         self.assertIn('0 as the text "0"', done.stderr)
 
     def test_an_output_whose_reader_has_gone(self) -> None:
-        self.build("for i in {1..20000}; do echo a line of output || exit 5; done 2>/dev/null")
+        self.build("trap '' PIPE; for i in {1..20000}; do echo a line of output || exit 5; done 2>/dev/null")
         done = subprocess.run(["bash", "-c", "set -o pipefail; clone/ltm case load | head -n 1"], cwd=self.folder, env=self.environment(), capture_output=True, text=True, timeout=60)
-        self.assertEqual(done.stdout, "a line of output\n")
-        self.assertNotIn("Traceback", done.stderr)
+        self.assertEqual((done.returncode, done.stdout, done.stderr), (5, "a line of output\n", ""))
+        done = subprocess.run(["bash", "-c", "clone/ltm case load >/dev/full"], cwd=self.folder, env=self.environment(), capture_output=True, text=True, timeout=60)
+        self.assertEqual(done.returncode, 5)
+        self.assertIn("ltm: the output failed", done.stderr)
 
     def test_install(self) -> None:
         self.build('echo installed: "$@"')
@@ -218,7 +226,7 @@ class Proving(Clone):
         self.assertIn("0 of 6 crates proved, 6 left, 0 minutes gone, about 3 more", done.stderr)
         self.assertIn("6 of 6 crates proved, 0 left", done.stderr)
         self.assertEqual((self.made / "listed").read_text(), "".join(f"ltm_{name}: ltm_low csv\n" for name in "abcd") + "ltm_low:\n")
-        self.assertEqual([line.split(" in ")[0] for line in self.log()], ["all check --jobs 4", "run --jobs 4 -- try 1 4"])
+        self.assertEqual([line.split(" in ")[0] for line in self.log() if line[:7] != "version"], ["all check --jobs 4", "run --jobs 4 -- try 1 4"])
         self.assertEqual(self.run_ltm("case", "load").stdout, "proved program: load\n")
         self.assertIn("proved and built already", self.prove().stderr)
 
@@ -233,13 +241,16 @@ class Proving(Clone):
         done = self.prove()
         self.assertEqual(done.returncode, 0)
         self.assertIn("5 of 6 crates proved, 1 left, 0 minutes gone, about 1 more", done.stderr)
-        self.assertEqual([line.split()[0] for line in self.log()[before:]], ["run"])
+        self.assertEqual([line.split()[0] for line in self.log()[before:]], ["version", "run"])
 
     def test_a_change_is_proved_anew(self) -> None:
         self.rt(PROVES)
         self.prove()
         (self.top / "crates" / "ltm_a" / "src" / "lib.rt").write_text("// changed\n")
         self.assertIn("4 of 6 crates proved, 2 left", self.prove().stderr)
+        self.rt(PROVES.replace("made-kit", "another kit"))
+        (self.top / "crates" / "ltm_a" / "src" / "lib.rt").write_text("// changed again\n")
+        self.assertIn("0 of 6 crates proved, 6 left", self.prove().stderr)
 
     def test_a_crate_that_is_not_proved(self) -> None:
         self.rt(PROVES, 'if [ $1 = all ]; then echo "== ltm_b"; echo "goal open"; exit 1; fi')
