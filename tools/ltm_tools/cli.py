@@ -16,7 +16,10 @@ from . import libraries
 from .errors import Fault
 
 # modules, in the order in which they are told
-COMMANDS = ("inspect_case", "explain", "gmns", "sumo", "demand", "splits", "signals", "queues", "times", "compare", "page", "geojson", "pictures", "prove")
+COMMANDS = (
+    "inspect_case", "explain", "gmns", "sumo", "demand", "splits", "signals",
+    "queues", "times", "compare", "page", "geojson", "pictures", "draw", "sweep", "apply", "prove",
+)
 
 PROGRAM = "ltm-tools"
 INTERRUPTED = 130

@@ -5,8 +5,7 @@ import argparse
 from collections.abc import Callable, Mapping, Sequence
 
 from . import delay
-from .curves import Counts
-from .delay import Report
+from .curves import Counts, total
 from .formats import MINUTE_MS, clock_text
 from .listing import Cell, TimeUnit, add_format_arguments, csv_text, json_text, seconds, text_table, time_unit, vehicles
 from .files import write_text
@@ -38,11 +37,7 @@ class Comparison:
 
     def times(self) -> Pairs:
         """Vehicle times of all, in units times ms."""
-        return {name: self.pair(lambda report: getattr(report, name)) for name in ("spent", "delay", "queued", "waited")}
-
-    def pair(self, number: Callable[[Report], int]) -> tuple[int, int]:
-        """A number of each report."""
-        return number(self.reports[0]), number(self.reports[1])
+        return {name: (getattr(self.reports[0], name), getattr(self.reports[1], name)) for name in ("spent", "delay", "queued", "waited")}
 
     def amounts(self) -> Pairs:
         """Totals at the end of the horizon, in units."""
@@ -69,7 +64,7 @@ def arrivals(loading: Loaded) -> list[int]:
     """What has arrived at all destinations, by boundary."""
     case, curves = loading
     ends = [curves.arrived(name) for name in case.destinations]
-    return as_list(delay.total(ends)) if ends else [0] * curves.boundaries
+    return as_list(total(ends)) if ends else [0] * curves.boundaries
 
 
 def end_totals(loading: Loaded, arrived: Sequence[int]) -> dict[str, int]:

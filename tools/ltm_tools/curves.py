@@ -151,7 +151,7 @@ def total(curves: Sequence[Counts]) -> Counts:
 
 def greatest(counts: Counts) -> int:
     """The greatest count."""
-    return int(counts.max()) if is_array(counts) else max(counts)
+    return int(counts.max() if is_array(counts) else max(counts))
 
 
 def is_array(counts: Counts) -> bool:
@@ -169,7 +169,7 @@ def _counts_of(text: bytes) -> Counts | None:
     if text.translate(None, DIGITS_AND_SPACE):
         return None
     if numpy is not None and text:
-        counts = numpy.fromstring(text, dtype=numpy.int64, sep=" ")  # type: ignore[call-overload]
+        counts = numpy.fromstring(text, dtype=numpy.int64, sep=" ")
         return counts if len(counts) == text.count(b" ") + 1 else None
     words = text.split(b" ")
     return [int(word) for word in words] if all(0 < len(word) <= COUNT_DIGITS for word in words) else None

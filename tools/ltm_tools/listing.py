@@ -52,7 +52,7 @@ SECONDS, HOURS = TimeUnit("vehicle seconds", UNITS * 1000), TimeUnit("vehicle ho
 
 def time_unit(*times: int) -> TimeUnit:
     """The unit for a table with these times: hours where the greatest has ten, else seconds."""
-    return HOURS if max(map(abs, times), default=0) >= 10 * HOURS.size else SECONDS
+    return HOURS if max((abs(time) for time in times), default=0) >= 10 * HOURS.size else SECONDS
 
 
 def percent(part: int, whole: int) -> Decimal:

@@ -13,7 +13,7 @@ from pathlib import Path
 
 from . import delay, layout
 from .case import Case
-from .curves import Counts
+from .curves import Counts, total
 from .errors import Fault
 from .files import read_text, write_text
 from .formats import units_of
@@ -122,7 +122,7 @@ def placed(folders: list[str], cases: list[Case]) -> tuple[list[dict[str, tuple[
 def busiest(one: Loaded) -> int:
     """The boundary at which most stand in queues of links."""
     counts = [delay.queue(one.curves, link) for link in one.case.links]
-    return delay.most(delay.total(counts))[1] if counts else 0
+    return delay.most(total(counts))[1] if counts else 0
 
 
 def page(both: list[Loaded], folders: list[str], names: list[str], start: int, least: int, title: str, library: str) -> str:

@@ -7,7 +7,7 @@ from typing import NamedTuple
 
 from . import delay
 from .case import Case
-from .curves import Counts, Curves, is_array
+from .curves import Counts, Curves, is_array, less
 from .formats import clock_text, units_of
 from .listing import Cell, add_format_arguments, percent, seconds, text_table, time_unit, vehicles, write_table
 from .loaded import add_case_arguments, add_start_argument, loaded
@@ -49,11 +49,11 @@ class Queue(NamedTuple):
 
 def queues(curves: Curves, case: Case, least: int = LEAST_UNITS) -> list[Queue]:
     """All queues of at least so many units, of links in the order of `links.csv`, and then of origins by node number."""
-    found = []
+    found: list[Queue] = []
     for link in case.links:
         found += _queues("link", link.name, delay.queue(curves, link), least, link.storage_units, curves.step_ms)
     for node, rows in delay.demand_of(case).items():
-        counts = delay.less(delay.produced(rows, curves.boundaries), curves.departed(node))
+        counts = less(delay.produced(rows, curves.boundaries), curves.departed(node))
         found += _queues("origin", node, counts, least, None, curves.step_ms)
     return found
 
@@ -112,7 +112,7 @@ def text(found: list[Queue], case: Case, curves: Curves, start: int, least: int)
 
     told = delay.report(curves, case)
     unit = time_unit(told.delay)
-    rows = [[queue.kind, queue.name, when(queue.first), "..." if queue.lasts else when(queue.last), vehicles(queue.worst), when(queue.at),
+    rows: list[list[Cell]] = [[queue.kind, queue.name, when(queue.first), "..." if queue.lasts else when(queue.last), vehicles(queue.worst), when(queue.at),
              None if queue.storage is None else f"{percent(queue.worst, queue.storage)} %", unit.show(queue.delay)] for queue in found]
     lines = [f"queues of at least {vehicles(least)} vehicles: {len(found)}; the delay is in {unit.name}\n",
              text_table(HEADER, rows) if rows else "",

@@ -70,6 +70,7 @@ class Session:
             raise Fault(f"a session has 0 to {MOST_WORKERS} workers, and not {workers}")
         self.folder = folder
         self.words = ["session", str(workers)]
+        self.made: list[Edit] = []  # the edits of all accepted batches
         self.process = start(folder, self.words, program, subprocess.PIPE)
 
     def __enter__(self) -> "Session":
@@ -135,7 +136,19 @@ class Session:
         """Makes a batch of edits, whole or not at all: the number of accepted batches. See the module `edits`."""
         if not 1 <= len(edits) <= MOST_EDITS:
             raise Fault(f"a batch has 1 to {MOST_EDITS} edits, and not {len(edits)}")
-        return int(self.ask(do="edit", edits=edits)[2])
+        version = int(self.ask(do="edit", edits=edits)[2])
+        self.made += edits
+        return version
+
+    def save(self, folder: str | os.PathLike[str]) -> None:
+        """Writes the case that all accepted edits leave, in a folder: what `load` tells there the session shows once it has settled.
+        Entry limits that stand have no form in files yet: a Fault then."""
+        from .case import Case
+        from .keeping import Keeper
+
+        keeper = Keeper(Case.read(self.folder))
+        keeper.make(self.made)
+        keeper.kept().write(folder)
 
     def settle(self) -> Settled:
         """Works out anew what the edits change, and shows it."""

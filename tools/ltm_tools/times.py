@@ -102,7 +102,7 @@ class Path:
 
 def as_list(counts: Counts) -> list[int]:
     """Counts as a list of int."""
-    return counts if isinstance(counts, list) else counts.tolist()
+    return counts if isinstance(counts, list) else list(counts.tolist())
 
 
 def joined(case: Case, names: Sequence[str]) -> list[Link]:

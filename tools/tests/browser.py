@@ -66,6 +66,10 @@ class Browser:
         element = next(iter(self.call("POST", self.session + "/element", {"using": "css selector", "value": selector}).values()))
         self.call("POST", f"{self.session}/element/{element}/value", {"text": keys})
 
+    def command(self, name: str, **parameters: object) -> Any:
+        """A command of the browser's developer tools."""
+        return self.call("POST", self.session + "/goog/cdp/execute", {"cmd": name, "params": parameters})
+
     def console(self) -> list[str]:
         """What stands on the console."""
         return [line["message"] for line in self.call("POST", self.session + "/se/log", {"type": "browser"})]

@@ -3,7 +3,6 @@ import csv
 import io
 import json
 import unittest
-from argparse import Namespace
 from contextlib import redirect_stdout
 from decimal import Decimal
 
@@ -11,7 +10,7 @@ from support import BUILT, EXAMPLES, FolderTest, needs_program
 from test_delay import DATA, read
 from ltm_tools import cli
 from ltm_tools.case import Case
-from ltm_tools.compare import Comparison, most_changed
+from ltm_tools.compare import Comparison, change, most_changed
 from ltm_tools.listing import rounded
 from ltm_tools.loaded import Loaded
 
@@ -46,6 +45,9 @@ class Totals(unittest.TestCase):
         pairs = {"a": (1, 1), "b": (5, 2), "c": (0, None), "d": (None, 9), "e": (2, 4)}
         self.assertEqual(list(most_changed(pairs)), ["d", "b", "e"])
         self.assertEqual(list(most_changed(pairs, 2)), ["d", "b"])
+
+    def test_change(self) -> None:
+        self.assertEqual([change(pair) for pair in ((1, 3), (5, 2), (5, None), (None, 4))], [2, -3, -5, 4])
 
     def test_rounded(self) -> None:
         self.assertEqual([str(rounded(top, 8, 2)) for top in (1, -1, 0, 12, -12)], ["0.13", "-0.13", "0.00", "1.50", "-1.50"])

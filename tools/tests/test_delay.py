@@ -7,7 +7,7 @@ from support import BUILT, EXAMPLES, FolderTest, needs_program
 from ltm_tools import curves as curve_files
 from ltm_tools import delay
 from ltm_tools.case import Case, Demand
-from ltm_tools.curves import Curves
+from ltm_tools.curves import Curves, less, total
 from ltm_tools.errors import Fault
 from ltm_tools.loaded import loaded
 
@@ -122,10 +122,10 @@ class Program(FolderTest):
                 told = delay.report(curves, case)
                 for link in case.links:
                     up, down = curves.up(link.name), curves.down(link.name)
-                    self.assertTrue(all(0 <= q <= on <= link.storage_units for q, on in zip(delay.queue(curves, link), delay.less(up, down))))
+                    self.assertTrue(all(0 <= q <= on <= link.storage_units for q, on in zip(delay.queue(curves, link), less(up, down))))
                 generated = delay.produced(case.standing_demand(), curves.boundaries)
-                arrived = delay.total([curves.arrived(end) for end in case.destinations])
-                self.assertEqual(told.spent, delay.whole(delay.less(generated, arrived)) * curves.step_ms)
+                arrived = total([curves.arrived(end) for end in case.destinations])
+                self.assertEqual(told.spent, delay.whole(less(generated, arrived)) * curves.step_ms)
 
 
 if __name__ == "__main__":

@@ -178,7 +178,7 @@
     const k = Math.min(state.boundary, one.slots), link = one.linkOf.get(name);
     tip.textContent = link === undefined ? `origin ${name}: ${vehicles(waiting(one, one.originOf.get(name), k))} wait`
       : `${name}: ${vehicles(standing(one, link, k))} on it, ${vehicles(queue(one, link, k))} in the queue`;
-    tip.style.left = `${Math.min(point[0] + 14, fit.box.width - 240)}px`;
+    tip.style.left = `${Math.min(point[0] + 14, fit.box.width - tip.offsetWidth - 8)}px`;
     tip.style.top = `${point[1] + 14}px`;
   }
 

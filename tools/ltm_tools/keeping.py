@@ -1,0 +1,105 @@
+"""A scenario as a case: the edits of accepted batches made in the files of the case that they were made of.
+
+What is kept loads as the session shows it, to the last thousandth. The numbers of destinations decide how shares are rounded: so where the
+order of the files would be another, rows of demand with 0 vehicles stand first and name the destinations in theirs.
+"""
+from __future__ import annotations
+
+import copy
+import os
+from collections.abc import Iterable, Sequence
+
+from .case import Case, Demand, Limit, Split
+from .edits import Edit
+from .errors import Fault
+from .formats import MOST_SLOT_UNITS, units_of
+from .program import output
+from .files import read_bytes
+
+
+class Keeper:
+    """A case, and what accepted edits make of it."""
+
+    def __init__(self, case: Case) -> None:
+        self.case = copy.deepcopy(case)
+        self.destinations = list(case.destinations)
+        self.entries: dict[str, dict[int, int]] = {}  # of each link the entry limit by slot, in units
+        for row in case.limits:
+            self.limit(row.link, row.from_slot, row.to_slot, row.units)
+
+    def make(self, batch: Iterable[Edit]) -> None:
+        """Makes an accepted batch."""
+        for edit in batch:
+            self.edit(edit)
+
+    def edit(self, edit: Edit) -> None:
+        """Makes an accepted edit."""
+        kind, case = edit["kind"], self.case
+        if kind == "demand":
+            self.name(str(edit["destination"]))
+            row = Demand(str(edit["origin"]), str(edit["destination"]), whole(edit["from"]), whole(edit["to"]), units_of(str(edit["vehicles"])))
+            case.demand = [other for other in case.demand if key_of(other) != key_of(row)] + [row]
+        elif kind == "split":
+            self.name(str(edit["destination"]))
+            weights = edit["weights"]
+            assert isinstance(weights, dict) and case.splits is not None
+            split = Split(str(edit["node"]), str(edit["destination"]), whole(edit["from"]), dict(weights))
+            case.splits = [other for other in case.splits if (other.node, other.destination, other.from_slot) != (split.node, split.destination, split.from_slot)] + [split]
+        elif kind == "exit":
+            case.signals.append(Limit(str(edit["link"]), whole(edit["from"]), whole(edit["to"]), units_of(str(edit["vehicles"]))))
+        elif kind == "limit":
+            self.limit(str(edit["link"]), whole(edit["from"]), whole(edit["to"]), units_of(str(edit["vehicles"])))
+        elif kind == "diagram":
+            link = case.link(str(edit["link"]))
+            link.length_m, link.free_kmh, link.wave_kmh, link.jam_per_km = (whole(edit[name]) for name in ("length_m", "free_kmh", "wave_kmh", "jam_per_km"))
+        else:
+            case.setup.slots = whole(edit["slots"])
+
+    def name(self, destination: str) -> None:
+        if destination not in self.destinations:
+            self.destinations.append(destination)
+
+    def limit(self, link: str, first: int, end: int, units: int) -> None:
+        self.entries.setdefault(link, {}).update(dict.fromkeys(range(first, end), min(units, MOST_SLOT_UNITS)))
+
+    def kept(self) -> Case:
+        """The case of the scenario. Entry limits that stand have no form in the files that the program reads today: a Fault then."""
+        for link, by_slot in self.entries.items():
+            slots = [slot for slot, units in by_slot.items() if units < MOST_SLOT_UNITS]
+            if slots:
+                raise Fault(f"the entry limit of {link} in slot {min(slots)} cannot be kept: the program reads no file of entry limits yet (an exit limit can be)")
+        case = copy.deepcopy(self.case)
+        case.limits, case.setup.limits = [], False
+        case.setup.signals = case.setup.signals or bool(case.signals)
+        if case.destinations != self.destinations:
+            case.demand = [self.naming(node) for node in self.destinations] + case.demand
+        return case
+
+    def naming(self, destination: str) -> Demand:
+        """A row of demand without vehicles, which names a destination and stands for nothing."""
+        origin = next(link.tail for link in self.case.links if link.tail != destination)
+        return Demand(origin, destination, 0, 1, 0)
+
+
+def key_of(row: Demand) -> tuple[str, str, int, int]:
+    return row.origin, row.destination, row.from_slot, row.to_slot
+
+
+def whole(value: object) -> int:
+    """A whole number of an edit."""
+    assert isinstance(value, int)
+    return value
+
+
+def accepted(folder: str | os.PathLike[str], lines: Sequence[bytes], program: str | os.PathLike[str] | None) -> list[bool]:
+    """Which of these lines of edits the program accepts, one after the other."""
+    answers = output(folder, "session", "0", program=program, script=b"".join(line + b"\n" for line in lines)).decode("utf-8", "backslashreplace").splitlines()
+    if len(answers) != len(lines):
+        raise Fault(f"{folder}: the session answered {len(answers)} of {len(lines)} lines")
+    return [answer.startswith("accepted ") for answer in answers]
+
+
+def read_script(path: str | os.PathLike[str]) -> list[bytes]:
+    """The lines of a script."""
+    data = read_bytes(path)
+    return data.removesuffix(b"\n").split(b"\n") if data else []
