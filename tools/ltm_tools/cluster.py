@@ -10,7 +10,7 @@ from collections.abc import Iterator, Sequence
 from pathlib import Path
 from typing import Any
 
-from .case_files import fetch
+from .case_fields import fetch
 from .case import Case
 from .errors import Fault
 from .program import find_program
