@@ -3,8 +3,8 @@ use Rattle.std.proofs.Common.{ℕ, ◌≡◌, ◌≤◌, List, [], ◌∷◌, le
 use Rattle.std.specs.Prelude.{codes, ◌↔◌, ◌&&◌, nat_le, if◌then◌else◌}
 use Rattle.std.specs.List.{list_all}
 use Rattle.std.proofs.lemmas.Bool.Decides.{nat_tests}
-use Rattle.ltm_units.specs.Numbers.{is_digit, value, whole as whole_number}
-use Rattle.ltm_trial.specs.Words.{start_of, nodes_of}
+use Rattle.ltm_units.specs.Numbers.{is_digit, value, number_told, whole as whole_number}
+use Rattle.ltm_trial.specs.Words.{start_of, nodes_of, if_at_least}
 use Rattle.ltm_texts.specs.Answers.{IsSized}
 use Rattle.ltm_texts.specs.declared.words.Command.{Command}
 use Rattle.ltm_texts.specs.declared.words.Command.TheVariants as command
@@ -159,14 +159,22 @@ both_true : (a b : Bool) → (a && b) ≡ true → (a ≡ true) × (b ≡ true)
 both_true true b h = (refl, h)
 both_true false b h = absurd (cc)
 
+told_small : (text : List ℕ) (m : ℕ) → number_told 3 400 text ≡ Some m → m ≤ 400
+told_small text m is =
+    let some = when_some (nat_le 1 (length text) && nat_le (length text) 3 && list_all is_digit text && nat_le (value text) 400) (value text) m is in
+    let most = both_true (nat_le 1 (length text) && nat_le (length text) 3 && list_all is_digit text) (nat_le (value text) 400) some.0 in
+    let same = some.1 in let small = most.1 in
+    let high : value text ≤ 400 = grind (arith, nat_tests, small) in omega (high, same, arith)
+
+within : (found : Option ℕ) (n : ℕ) → ((m : ℕ) → found ≡ Some m → m ≤ 400) → if_at_least 4 found ≡ Some n → (4 ≤ n) × (n ≤ 400)
+within (Some m) n small is =
+    let some = when_some (nat_le 4 m) m n is in
+    let same = some.1 in let least = some.0 in let high = small m refl in
+    let low : 4 ≤ m = grind (arith, nat_tests, least) in (omega (low, same, arith), omega (high, same, arith))
+within None n small is = absurd (cc)
+
 nodes_within : (text : List ℕ) (n : ℕ) → nodes_of text ≡ Some n → (4 ≤ n) × (n ≤ 400)
-nodes_within text n is =
-    let some = when_some (nat_le 1 (length text) && nat_le (length text) 3 && list_all is_digit text && nat_le 4 (value text) && nat_le (value text) 400) (value text) n is in
-    let most = both_true (nat_le 1 (length text) && nat_le (length text) 3 && list_all is_digit text && nat_le 4 (value text)) (nat_le (value text) 400) some.0 in
-    let least = both_true (nat_le 1 (length text) && nat_le (length text) 3 && list_all is_digit text) (nat_le 4 (value text)) most.0 in
-    let same = some.1 in let a = most.1 in let b = least.1 in
-    let low : 4 ≤ value text = grind (arith, nat_tests, b) in
-    let high : value text ≤ 400 = grind (arith, nat_tests, a) in (omega (low, same, arith), omega (high, same, arith))
+nodes_within text n is = within (number_told 3 400 text) n (told_small text) is
 
 pub asked_sized : (words : List (List ℕ)) (c : Command) → Asks words c → IsSized c
 asked_sized words command.Load asks = tt
