@@ -83,6 +83,3 @@ links_opening make s sheet is = links_after make (list_of s []) sheet is ∙ sym
 
 pub told_opening : (s : ScenarioData) (known : List (List PostData)) → known ≡ opening_posts s ∷ [] → links_told (joined (oldest known)) ≡ (setting_of s).links
 told_opening s known is = ap (λ (l : List (List PostData)). links_told (joined (oldest l))) is ∙ sym (links_in s)
-
-pub opened_opening : (s : ScenarioData) (known : List (List PostData)) → known ≡ opening_posts s ∷ [] → is_opened (joined (oldest known)) ≡ true
-opened_opening s known is = ap (λ (l : List (List PostData)). is_opened (joined (oldest l))) is

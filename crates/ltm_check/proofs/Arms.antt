@@ -27,10 +27,3 @@ all_arms s u P links origin i l = elim (cases_lt i (s.ins u)) [
       subst (λ (g : ℕ). P i g) (sym (origin_group s u i ge))
       (subst (λ (a : ℕ). P a (dep_of s u)) (sym (origin_arm s u i ge l)) (origin (some_out s u i ge l)))
 ]
-
--- and the other way round
-pub in_arms : (s : Setting) (u : ℕ) (P : ℕ → ℕ → Type 0) → ((i : ℕ) → i < arms_of s u → P i (arm_group s u i)) → (i : ℕ) → i < s.ins u → P i (arm_group s u i)
-in_arms s u P all i l = all i (omega arith)
-
-pub of_origin : (s : Setting) (u : ℕ) (P : ℕ → ℕ → Type 0) → ((i : ℕ) → i < arms_of s u → P i (arm_group s u i)) → 0 < s.outs u → P (s.ins u) (dep_of s u)
-of_origin s u P all o = subst (λ (g : ℕ). P (s.ins u) g) (origin_group s u (s.ins u) (omega arith)) (all (s.ins u) (origin_there s u o))

@@ -76,9 +76,6 @@ told_row : (s : ScenarioData) (rows : List Fields) (g d k : ℕ) → told_by s r
 unfolding told_by
 told_row s rows g d k = refl
 
-pub keeps_none : (s : ScenarioData) (rows : List Fields) (c : Curves) → KeepsBelow s rows c 0
-keeps_none s rows c g d k x y z l = absurd (omega arith)
-
 -- a group and a destination whose record stands elsewhere are not those of the place
 apart : (s : ScenarioData) (place g d : ℕ) → record_place s g d ≢ place → (g ≢ group_at s place) ⊎ (d ≢ destination_at s place)
 apart s place g d ne = elim (cases_eq g (group_at s place)) [

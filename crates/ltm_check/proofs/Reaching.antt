@@ -34,17 +34,6 @@ pub row_below : (records : List Fields) (place : ℕ) → slice_get (rows_of rec
 row_below [] place = grind (arith, common_steps)
 row_below (header ∷ rows) place = let e : place + 1 ≡ suc place = omega arith in rw e refl
 
--- the header is right
-pub reach_header : (s : ScenarioData) (records : List Fields) (c : Curves) (fields : Fields) → slice_get records 0 ≡ Some fields → is_curves_header fields ≡ true → IsReadTo s records c 1
-reach_header s records c fields at is = record {
-  headed = λ l. headed_by records fields at ∙ is;
-  right = λ place l. absurd (omega arith);
-  keeps = λ g d k x y z l. absurd (omega arith);
-}
-
-pub no_header : (s : ScenarioData) (records : List Fields) (fields : Fields) (fault : CurvesFault) → slice_get records 0 ≡ Some fields → is_curves_header fields ≡ false → fault ≡ Bad 1 Header → IsFault s records fault
-no_header s records fields fault at isnt e = subst (IsFault s records) (sym e) (inl (headed_by records fields at ∙ isnt, refl, refl))
-
 -- one record more is right
 pub reach_next : (s : ScenarioData) (records : List Fields) (old new : Curves) (place : ℕ) → IsReadTo s records old (place + 1) → fault_at s (rows_of records) place ≡ None → (KeepsBelow s (rows_of records) old place → KeepsBelow s (rows_of records) new (place + 1)) → IsReadTo s records new (place + 2)
 reach_next s records old new place done right keeps =
@@ -77,9 +66,6 @@ reach_all s records c next shape all done none =
 
 no_records : (records : List Fields) → records ≡ [] → is_headed records ≡ false
 no_records records e = ap is_headed e
-
-pub reach_none : (s : ScenarioData) (records : List Fields) (c : Curves) (next : ℕ) → next ≡ 0 → drop next records ≡ [] → IsFault s records (Bad 1 Header)
-reach_none s records c next first none = inl (no_records records (subst (λ (z : ℕ). drop z records ≡ []) first none), refl, refl)
 
 pub reach_short : (s : ScenarioData) (records : List Fields) (c : Curves) (next : ℕ) → 0 < next → next ≤ record_count s → IsReadTo s records c next → drop next records ≡ [] → IsFault s records (Bad (next + 1) Rows)
 reach_short s records c next some short done none =

@@ -20,21 +20,11 @@ pub one_more : (counts : List ℕ) (count : ℕ) (more : Option (List ℕ)) → 
 one_more counts count (Some more) = rw append_assoc refl
 one_more counts count None = refl
 
-pub none_first : (text : List ℕ) (counts : List ℕ) (more : Option (List ℕ)) → count_told text ≡ None → before counts (onto (count_told text) more) ≡ None
-none_first text counts more none = rw none refl
-
 -- the counts read so far are put, and no other count changed
 pub record PutsFirst (old new : Curves) (group destination : ℕ) (counts : List ℕ) : Type 0 where
   pub shape : SameShape new old
   pub here : (k : ℕ) → k < length counts → counts_of new group destination k ≡ kept (slice_index counts k)
   pub others : (g d k : ℕ) → IsIn old g d k → (g ≢ group) ⊎ (d ≢ destination) → counts_of new g d k ≡ counts_of old g d k
-
-pub puts_none : (c : Curves) (group destination : ℕ) → PutsFirst c c group destination []
-puts_none c group destination = record {
-  shape = record { groups = refl; destinations = refl; slots = refl };
-  here = λ k l. absurd (omega arith);
-  others = λ g d k i other. refl;
-}
 
 in_shape : (old mid : Curves) (g d k : ℕ) → SameShape mid old → IsIn old g d k → IsIn mid g d k
 in_shape old mid g d k shape there = record {
@@ -67,9 +57,6 @@ puts_next old mid new group destination boundary count counts long x y z done se
   ];
 }
 
-pub puts_all : (old new : Curves) (group destination : ℕ) (counts : List ℕ) → length counts ≡ slots_of old + 1 → PutsFirst old new group destination counts → PutsCounts old new group destination counts
-puts_all old new group destination counts long done = record { shape = done.shape; here = λ k l. done.here k (omega arith); others = done.others }
-
 some_same : (a b : List ℕ) → Some a ≡ Some b → a ≡ b
 some_same a b e = grind (arith, common_steps)
 
@@ -91,13 +78,6 @@ pub told_next : (text rest first counts : List ℕ) (count : ℕ) (more : List (
     → each_told (slice_split is_space text) ≡ before (counts ++ count ∷ []) (each_told more)
 told_next text rest first counts count more told cut is =
     told ∙ (ap (λ (z : List (List ℕ)). before counts (each_told z)) cut ∙ (ap (λ (z : Option ℕ). before counts (onto z (each_told more))) is ∙ one_more counts count (each_told more)))
-
--- the text was told whole
-pub told_whole : (text counts : List ℕ) (many : ℕ) → each_told (slice_split is_space text) ≡ before counts (each_told (pieces_behind None)) → length counts ≡ many → counts_told many text ≡ Some counts
-told_whole text counts many e long = rw (e, append-nil counts) (grind (arith, common_steps))
-
-pub told_short : (text counts : List ℕ) (many : ℕ) → each_told (slice_split is_space text) ≡ before counts (each_told (pieces_behind None)) → length counts ≢ many → counts_told many text ≡ None
-told_short text counts many e other = rw (e, append-nil counts) (grind (arith, common_steps))
 
 -- a text of which more is left than is due
 too_many : (counts : List ℕ) (many n : ℕ) (more : Option (List ℕ)) → many ≤ length counts → 0 < n → ((cs : List ℕ) → more ≡ Some cs → length cs ≡ n) → if_many many (before counts more) ≡ None

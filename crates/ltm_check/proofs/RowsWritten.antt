@@ -75,8 +75,6 @@ texts_by_place (suc height) width f =
     ∙ texts_at (height * width + width) (suc height * width) (λ p. f (p / width) (p % width)) (sym (suc-mul height width))))
 
 -- ---- what a row of four plain fields is written as
-plain_text : (x : List ℕ) → IsPlain x → field_text default_writer x ≡ x
-plain_text x plain = rw plain refl
 
 four_joined : (a b c d : List ℕ) → (a ++ 44 ∷ (b ++ 44 ∷ (c ++ 44 ∷ (d ++ [])))) ++ 10 ∷ [] ≡ a ++ 44 ∷ (b ++ 44 ∷ (c ++ 44 ∷ (d ++ 10 ∷ [])))
 four_joined a b c d = rw (append_assoc, append_assoc, append_assoc, append_assoc) refl

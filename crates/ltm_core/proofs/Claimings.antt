@@ -133,9 +133,6 @@ tells_give d v t claim given same at kept cells step =
       keeps = ap (λ (z : CoreData). record z { table = t }) same;
     })
 
-pub tells_stale : (v : CoreData) (claim given : ClaimData) → claim ≡ given → (IsKeptClaim v claim.pair claim.ticket claim.inputs → ⊥) → TellsGiveBack v given v
-tells_stale v claim given at not = subst (λ (z : ClaimData). TellsGiveBack v z v) at (record { kept = λ k. absurd (not k); stale = λ none. refl; keeps = refl })
-
 -- ---- whether a claim is kept is decided
 cases_own : (a b : Option ℕ) → (a ≡ b) ⊎ (a ≡ b → ⊥)
 cases_own None None = inl refl

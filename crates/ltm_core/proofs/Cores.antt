@@ -63,11 +63,6 @@ unfolding IsNoneOut
 none_there d is none =
     subst (λ (z : Setting). IsNoneClaimed z (repair_of d).desk) (sym (core_now d is)) (subst (λ (e : Desk). IsNoneClaimed (setting_of d.scenario) e) (sym (core_desk d)) none)
 
--- what rests claims nothing
-pub resting_none : (d : CoreData) → IsCore d → IsResting d → IsNoneOut d
-unfolding IsNoneOut IsResting
-resting_none d is rest = λ u t x l. (rest u t x l).1
-
 pub rests_at : (d v : CoreData) (r : Bool) → d ≡ v → IsCore d → (IsTrue r ↔ IsAtRest (setting_of d.scenario) (desk_in d)) → IsTrue r ↔ IsResting v
 rests_at d v r same is told =
     let here : IsTrue r ↔ IsResting d = (λ t. rests_there d is (told.0 t), λ rest. told.1 (rests_here d is rest)) in

@@ -207,9 +207,6 @@ holds_marked log holds =
     subst P (sym (batches_marked log)) (subst Q (sym (opening_marked log)) holds)
 
 -- ---- the log as it is kept
-pub kept_opening : (s : ScenarioData) (bs : List (List Edit)) (ms : List Bool) → (log_of s bs ms).opening ≡ s
-unfolding log_of
-kept_opening s bs ms = refl
 
 pub kept_batches : (s : ScenarioData) (bs : List (List Edit)) (ms : List Bool) → length ms ≡ length bs → batches_of (log_of s bs ms) ≡ bs
 unfolding batches_of log_of

@@ -198,10 +198,6 @@ serving_beside_stops told now new w w1 w2 count line end list list1 list2 seen s
     let (output, session, wrote) = serving_stops AnswersBeside o told now new w w1 w2 count t u line end serving few reads fits stopped in
     (output, u, session, wrote, then_knows)
 
-pub never_begun_beside : (told w : Option (List ℕ)) (list : List LogEntry) (seen : ℕ) → SessionBeside told NoMemory w w list seen list seen
-unfolding SessionBeside
-never_begun_beside told w list seen = λ o known. let (output, session, wrote) = never_begun AnswersBeside o told w in (output, opening_state o, session, wrote, known)
-
 -- what is known later
 pub session_later : (told w w1 : Option (List ℕ)) (end : SessionEnd) (list list1 list2 : List LogEntry) (seen seen1 seen2 : ℕ) → SessionBeside told end w w1 list seen list1 seen1
     → list2 ≡ list1 → seen1 ≤ seen2 → SessionBeside told end w w1 list seen list2 seen2

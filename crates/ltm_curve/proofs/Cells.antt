@@ -27,11 +27,6 @@ same_in_row old new row wide same =
     ap (λ (n : ℕ). sum_below n (λ place. cond (is_marked new place row) 1 0)) wide
     ∙ sum_below-same (width_of old) (λ place. cond (is_marked new place row) 1 0) (λ place. cond (is_marked old place row) 1 0) (λ place l. ap (λ (b : Bool). cond b 1 0) (same place l))
 
-pub same_count : (old new : Marks) → width_of new ≡ width_of old → rows_of new ≡ rows_of old → ((place row : ℕ) → is_marked new place row ≡ is_marked old place row) → marked_count new ≡ marked_count old
-same_count old new wide long same =
-    ap (λ (n : ℕ). sum_below n (marked_in_row new)) long
-    ∙ sum_below-same (rows_of old) (marked_in_row new) (marked_in_row old) (λ row l. same_in_row old new row wide (λ place x. same place row))
-
 one_from : (a b none one : ℕ) → a + none ≡ b + one → none ≡ 0 → one ≡ 1 → a ≡ b + 1
 one_from a b none one e f g = omega arith
 

@@ -155,9 +155,6 @@ first_stays_holds m rows n last h rise d l =
           let second : first_units m rows n last d ≡ rows d last = ap (λ (z : ℕ). first_units m rows z last d) f ∙ first_all m rows last h.rise h.empty d in omega arith
     ]
 
-pub sum-entries_small : (m : ℕ) (rows : ℕ → ℕ → ℕ) (k : ℕ) → ((d : ℕ) → d < m → rows d k ≤ rows d (k + 1)) → sum (entries m rows k) ≤ total m rows (k + 1)
-sum-entries_small m rows k h = omega (arith, sum-entries m rows k h)
-
 pub part_inside : (m : ℕ) (rows : ℕ → ℕ → ℕ) (n last k : ℕ) → IsPart m rows n last → k ≡ last_within (total m rows) n last → 0 < n - total m rows k → n - total m rows k < sum (entries m rows k)
 part_inside m rows n last k h e some =
     let r : IsLast (total m rows) n last k = subst (λ (z : ℕ). IsLast (total m rows) n last z) (sym e) (end_is_last m rows n last h) in
@@ -174,12 +171,6 @@ only_one m rows n last h e d l =
     let at : d ≡ 0 = omega arith in
     let here : first_units m rows n last d ≡ first_units m rows n last 0 = ap (first_units m rows n last) at in omega arith
 
--- the count at an end and a share of what is left over are at most all units
-pub mixed_small : (m : ℕ) (rows : ℕ → ℕ → ℕ) (n last k : ℕ) → IsPart m rows n last → k ≡ last_within (total m rows) n last → (d : ℕ) → d < m → slice_index (nested_split (n - total m rows k) (entries m rows k)) d + rows d k ≤ n
-mixed_small m rows n last k h e d l =
-    let r : IsLast (total m rows) n last k = subst (λ (z : ℕ). IsLast (total m rows) n last z) (sym e) (end_is_last m rows n last h) in
-    omega (arith, r.within, nested_split-le (entries m rows k) (n - total m rows k) d, le-sum_below m (λ i. rows i k) d l)
-
 -- and their place is the only one
 pub alone : (m : ℕ) (rows : ℕ → ℕ → ℕ) (n last : ℕ) (xs : List ℕ) → IsPart m rows n last → m ≡ 1 → length xs ≡ m → (d : ℕ) → d < m → slice_index (slice_set xs 0 n) d ≡ first_units m rows n last d
 alone m rows n last xs h e long d l =
@@ -194,11 +185,6 @@ end_before m rows n last k h below some =
       | inl low ↦ low
       | inr high ↦ let at : k ≡ last = omega arith in let f : total m rows k ≡ total m rows last = ap (total m rows) at in absurd (omega (arith, h.within))
     ]
-
-pub next_within : (m : ℕ) (rows : ℕ → ℕ → ℕ) (n last k : ℕ) → IsPart m rows n last → k ≤ last → 0 < n - total m rows k → total m rows (k + 1) ≤ total m rows last
-next_within m rows n last k h below some =
-    let low : k < last = end_before m rows n last k h below some in
-    rises_le (total m rows) last (total_rises m rows last h.rise) (k + 1) last (omega arith) (omega arith)
 
 -- the last boundary with at most so many units has at most so many
 pub end_within : (m : ℕ) (rows : ℕ → ℕ → ℕ) (n last k : ℕ) → IsPart m rows n last → k ≡ last_within (total m rows) n last → total m rows k ≤ n

@@ -148,10 +148,6 @@ at_inside xs row i at = elim (cases_lt row.origin.0 (length xs)) [
   | inr past ↦ absurd (let none : length (origin_at xs row.origin.0).rows ≡ 0 = ap (λ (x : OriginData). length x.rows) (get_or_past xs row.origin.0 no_origin past) in omega (arith, none, at.within))
 ]
 
--- the rows of an origin that is found, and of one that is none
-pub own_past : (xs : List OriginData) (o : ℕ) → length xs ≤ o → (origin_at xs o).rows ≡ []
-own_past xs o past = ap (λ (x : OriginData). x.rows) (get_or_past xs o no_origin past)
-
 pub empty_gap : (row : DemandRow) → IsGap [] row 0
 unfolding before standing behind
 empty_gap row = record { within = omega arith; before_is = refl; standing_is = refl; behind_is = refl }
@@ -210,13 +206,3 @@ copy_alike xs ys long copy o = elim (cases_lt o (length xs)) [
 
 pub kept_copied : (slots count : ℕ) (xs ys : List OriginData) → length ys ≡ length xs → ((i : ℕ) → i < length xs → IsCopy (origin_at xs i) (origin_at ys i)) → IsKept slots count xs → IsKept slots count ys
 kept_copied slots count xs ys long copy kept = kept_alike slots count xs ys (copy_alike xs ys long copy) (copied_rows xs ys long copy) kept
-
--- one more copy
-pub one_copied : (xs ys : List OriginData) (y : OriginData) (i : ℕ) → length ys ≡ i → ((k : ℕ) → k < i → IsCopy (origin_at xs k) (origin_at ys k)) → IsCopy (origin_at xs i) y → (k : ℕ) → k < i + 1 → IsCopy (origin_at xs k) (origin_at (ys ++ y ∷ []) k)
-one_copied xs ys y i long copy is k below = elim (cases_lt k i) [
-  | inl less ↦ subst (λ (z : OriginData). IsCopy (origin_at xs k) z) (sym (get_or_append_left ys (y ∷ []) no_origin k (omega (arith, long, less)))) (copy k less)
-  | inr last ↦
-      let same : k ≡ i = omega arith in
-      let here : origin_at (ys ++ y ∷ []) k ≡ y = ap (origin_at (ys ++ y ∷ [])) (same ∙ sym long) ∙ get_or-append_seam ys y [] no_origin in
-      subst (λ (z : OriginData). IsCopy (origin_at xs k) z) (sym here) (subst (λ n. IsCopy (origin_at xs n) y) (sym same) is)
-]

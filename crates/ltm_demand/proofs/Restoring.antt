@@ -40,9 +40,6 @@ with_row_over d row in' many =
 pub length_shown : (row : DemandRow) → (row.amount.0 == 0) ≡ false → length (shown row) ≡ 1
 length_shown row some = ap (λ b. length (cond b [] (row ∷ []))) some
 
-length_hidden : (row : DemandRow) → (row.amount.0 == 0) ≡ true → length (shown row) ≡ 0
-length_hidden row none = ap (λ b. length (cond b [] (row ∷ []))) none
-
 shown_le : (row : DemandRow) → length (shown row) ≤ 1
 shown_le row = elim (row.amount.0 == 0) as (λ b. length (cond b [] (row ∷ [])) ≤ 1) [ true ↦ omega arith | false ↦ omega arith ]
 

@@ -44,21 +44,10 @@ batches_put n old new batch verdict puts =
 pub same_by : (n : ℕ) (xs ys : List Call) → entries_of editor_of n xs ≡ entries_of editor_of n ys → batches_by n xs ≡ batches_by n ys
 same_by n xs ys same = ap (λ (es : List Call). map (λ (c : Call). c.batch.value) es) same
 
--- what was found has of this number what was seen, and has one call more when it is left
-pub call_put : {A E : Type 0} (r : Result A E) (n m : ℕ) (seen found now left : List Call) (batch : List Edit) → m ≡ n → entries_of editor_of n found ≡ entries_of editor_of n seen → left ≡ now
-    → OnOk r (batches_by m now ≡ batches_by m found ++ batch ∷ []) → OnOk r (batches_by n left ≡ batches_by n seen ++ batch ∷ [])
-call_put r n m seen found now left batch is same gave =
-    on_ok r (batches_by m now ≡ batches_by m found ++ batch ∷ []) (batches_by n left ≡ batches_by n seen ++ batch ∷ [])
-    (λ put. ap (λ (h : List Call). batches_by n h) gave
-    ∙ (subst (λ (k : ℕ). batches_by k now ≡ batches_by k found ++ batch ∷ []) is put ∙ ap (λ (bs : List (List Edit)). bs ++ batch ∷ []) (same_by n found seen same)))
-
 -- a script that is half made, with one batch more
 pub one_made : (made before : List (List Edit)) (x : List Edit) (rest left script now : List (List Edit)) → left ≡ x ∷ rest → made ++ left ≡ before ++ script → now ≡ made ++ x ∷ [] → now ++ rest ≡ before ++ script
 one_made made before x rest left script now is so put =
     ap (λ (bs : List (List Edit)). bs ++ rest) put ∙ (append_assoc made (x ∷ []) rest ∙ (ap (λ (bs : List (List Edit)). made ++ bs) (sym is) ∙ so))
-
-pub all_made : (made before left script : List (List Edit)) → left ≡ [] → made ++ left ≡ before ++ script → made ≡ before ++ script
-all_made made before left script none so = sym (append-nil made) ∙ (ap (λ (bs : List (List Edit)). made ++ bs) (sym none) ∙ so)
 
 pub no_items : {A : Type 0} (xs : List A) → length xs ≡ 0 → xs ≡ []
 no_items [] e = refl

@@ -36,11 +36,6 @@ filled_more row place i w v m n f ys h l long same part e =
           ∙ (ap (λ (z : List ℕ). z ++ ys) h.rows ∙ (ap (λ (z : List ℕ). grid i w f ++ z) e ∙ sym (grid-more i w f))));
     }
 
-pub filled_all : (row : List ℕ) (place i w n : ℕ) (f : ℕ → ℕ → ℕ) → IsFilledTo row place i w f → i ≡ n → length row ≡ n * w → row ≡ grid n w f
-filled_all row place i w n f h e long =
-    let whole : length row ≤ place = omega (arith, h.end, ap (λ (z : ℕ). z * w) e) in
-    sym (take_all place row whole) ∙ (h.rows ∙ ap (λ (z : ℕ). grid z w f) e)
-
 -- nothing is behind a list
 pub nothing_behind : (xs ys : List ℕ) → length ys ≡ 0 → xs ++ ys ≡ xs
 nothing_behind xs [] none = append-nil xs

@@ -26,13 +26,6 @@ list_below-more m n f =
           behind xs ys k (k - m) (omega arith) ∙ (index-list_below n (λ z. f (m + z)) (k - m) (omega arith) ∙ ap f e)
     ]))
 
--- one more number
-pub list_below-one : (n : ℕ) (f : ℕ → ℕ) (v : ℕ) → v ≡ f n → list_below (n + 1) f ≡ list_below n f ++ list_below 1 (λ k. v)
-list_below-one n f v e =
-    let last : list_below 1 (λ k. f (n + k)) ≡ list_below 1 (λ k. v) =
-    list_below-same 1 (λ k. f (n + k)) (λ k. v) (λ k l. let z : n + k ≡ n = omega arith in ap f z ∙ sym e) in
-    list_below-more n 1 f ∙ ap (λ (z : List ℕ). list_below n f ++ z) last
-
 -- one more row
 pub grid-more : (n w : ℕ) (f : ℕ → ℕ → ℕ) → grid (n + 1) w f ≡ grid n w f ++ list_below w (f n)
 grid-more n w f =

@@ -38,33 +38,6 @@ sizes s c u t = record {
   weights = length-grid s.destinations (s.outs u) (λ d j. s.weight u d t j);
 }
 
-pub row_size : (s : Setting) (c : Counts) (u t : ℕ) → length (pair_row s c u t) ≡ width (shape_at s u)
-row_size s c u t =
-    let z : Sizes s c u t = sizes s c u t in
-    let x1 : List ℕ = sending_part s c u t in
-    let x2 : List ℕ = left_part s c u t in
-    let x3 : List ℕ = entered_part s c u t in
-    let x4 : List ℕ = arrived_part s c u t in
-    let x5 : List ℕ = supply_part s c u t in
-    let x6 : List ℕ = capacity_part s u in
-    let x7 : List ℕ = weights_part s u t in
-    omega (
-      arith,
-      z.sends,
-      z.left,
-      z.entered,
-      z.arrived,
-      z.supply,
-      z.capacity,
-      z.weights,
-      length-append x1 (x2 ++ (x3 ++ (x4 ++ (x5 ++ (x6 ++ x7))))),
-      length-append x2 (x3 ++ (x4 ++ (x5 ++ (x6 ++ x7)))),
-      length-append x3 (x4 ++ (x5 ++ (x6 ++ x7))),
-      length-append x4 (x5 ++ (x6 ++ x7)),
-      length-append x5 (x6 ++ x7),
-      length-append x6 x7,
-    )
-
 -- what is written over a room with this row at its front is that row
 pub written_row : (s : Setting) (c : Counts) (u t : ℕ) (old new : Inputs) (numbers : List ℕ) → old.shape ≡ shape_at s u → new ≡ with_numbers old numbers → width old.shape ≤ length numbers → take (width old.shape) numbers ≡ pair_row s c u t →
     IsPairInputs s c u t new

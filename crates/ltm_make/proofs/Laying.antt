@@ -15,14 +15,8 @@ use Rattle.ltm_make.proofs.Roading.{HasRoad, column_first, left_road, up_road, r
 true_test : (a b : ℕ) → a < b → nat_lt a b ≡ true
 true_test a b l = grind (arith, nat_tests)
 
-false_test : (a b : ℕ) → b ≤ a → nat_lt a b ≡ false
-false_test a b l = grind (arith, nat_tests)
-
 true_le : (a b : ℕ) → a ≤ b → nat_le a b ≡ true
 true_le a b l = grind (arith, nat_tests)
-
-false_le : (a b : ℕ) → b < a → nat_le a b ≡ false
-false_le a b l = grind (arith, nat_tests)
 
 first_below : (a b : ℕ) → nat_lt a b ≡ true → a < b
 first_below a b e = grind (arith, nat_tests)

@@ -244,7 +244,3 @@ nothing_by n e p b (suc a) row sent s h al bl dry none =
     let before : IsMoving n e p b a 0 row sent = nothing_by n e p b a row sent s h (omega arith) bl dry none in
     let next : a + 1 ≡ suc a = omega arith in
     subst (λ (z : ℕ). IsMoving n e p b z 0 row sent) next (nothing_on n e p b a row sent s before (omega arith) bl (dry a) (none a))
-
-pub nothing_to : (n : Inputs) (e : ℕ) (p : ℕ → ℕ) (b : ℕ) (row : List ℕ) (sent : ℕ → ℕ → ℕ) → IsSolvable n → IsMoving n e p b 0 0 row sent → b < n.shape.destinations →
-    ((i : ℕ) → sunk n e p i b ≡ 0) → ((i j : ℕ) → moved n e p i b j ≡ 0) → IsMoving n e p (b + 1) 0 0 row sent
-nothing_to n e p b row sent s h bl dry none = next_destination n e p b row sent s (nothing_by n e p b n.shape.arms row sent s h (omega arith) bl dry none)

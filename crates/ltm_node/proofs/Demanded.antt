@@ -145,17 +145,6 @@ shares_asked n m d p h s =
 pub shares_of : (n : Inputs) (m : Demands) (d : ℕ) (p : ℕ → ℕ) → AsksFirst n n.shape.outs m → AreShares m d p → AreShares (demands n) d p
 shares_of n m d p h s = shares_filled n d p (shares_asked n m d p h s)
 
--- before any out-link none is asked
-pub asks_none : (n : Inputs) (m : Demands) → m.arms ≡ n.shape.arms → m.outs ≡ 0 → ((i : ℕ) → i < n.shape.arms → m.priority i ≡ priority_or_more n i) → ((i k : ℕ) → m.sending i k ≡ 0) → AsksFirst n 0 m
-asks_none n m arms none priority clear = record {
-  arms = arms;
-  few = omega arith;
-  priority = priority;
-  out_links = λ k l. absurd (omega arith);
-  all = λ j l. absurd (omega arith);
-  clear = λ i k l more. clear i k;
-}
-
 -- an out-link that can take all that is sent to it is not asked
 pub asks_past : (n : Inputs) (m : Demands) (j : ℕ) → AsksFirst n j m → TakesAll n j → AsksFirst n (j + 1) m
 asks_past n m j h takes = record {

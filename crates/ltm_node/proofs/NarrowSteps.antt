@@ -74,9 +74,6 @@ leaves_to_sink n i own =
 pub leaves_to_out : (n : Inputs) (i : ℕ) → is_own n.shape 0 ≡ false → n.shape.outs ≡ 1 → leaves n i ≡ moved n 1 whole i 0 0
 leaves_to_out n i elsewhere one = omega (arith, sum_of_one n.shape.outs (λ j. moved n 1 whole i 0 j) one, sunk_elsewhere n 1 whole i 0 elsewhere)
 
-pub all_to_sink : (n : Inputs) (i : ℕ) → is_own n.shape 0 ≡ true → leaves n i ≡ sending n i 0
-all_to_sink n i own = leaves_to_sink n i own ∙ sym (sunk_is n 1 whole i 0 (sending n i 0) (sending n i 0) own refl (sym (at_one (sending n i 0))))
-
 pub nothing_without_out : (n : Inputs) (i : ℕ) → is_own n.shape 0 ≡ false → n.shape.outs ≡ 0 → leaves n i ≡ 0
 nothing_without_out n i elsewhere none = omega (arith, sum_of_none n.shape.outs (λ j. moved n 1 whole i 0 j) none, sunk_elsewhere n 1 whole i 0 elsewhere)
 
@@ -190,13 +187,6 @@ step_to_out n o total s elsewhere is small h =
     } ∣₁
 
 -- ---- one arm, and an out-link that is short
-
-pub some_out : (n : Inputs) (total : ℕ) → IsNarrow n.shape → is_own n.shape 0 ≡ false → total ≡ sum_below n.shape.arms (leaves n) → 0 < total → n.shape.outs ≡ 1
-some_out n total s elsewhere is some =
-    elim (cases_eq n.shape.outs 0) [
-      | inl none ↦ absurd (omega (arith, is, sum_below-zero n.shape.arms (leaves n) (λ i l. nothing_without_out n i elsewhere none)))
-      | inr ne ↦ omega (arith, s.few_outs)
-    ]
 
 part_is_total : (n : Inputs) (total : ℕ) → n.shape.arms ≡ 1 → n.shape.outs ≡ 1 → is_own n.shape 0 ≡ false → total ≡ sum_below n.shape.arms (leaves n) → part n 0 0 0 ≡ total
 part_is_total n total one out elsewhere is =

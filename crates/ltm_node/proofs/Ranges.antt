@@ -135,10 +135,3 @@ moved_none n e p i d j none = nothing_of (p i) e (part n i d j) none
 
 part_at : (n : Inputs) (i d j x : ℕ) → is_own n.shape d ≡ false → slice_index (nested_split (sending n i d) (weights n d)) j ≡ x → part n i d j ≡ x
 part_at n i d j x elsewhere is = sym (part_is n (sending n i d) i d j x elsewhere refl (sym is))
-
--- no weight is more than all
-pub weight_le : (n : Inputs) (d k : ℕ) → k < n.shape.outs → weight n d k ≤ sum (weights n d)
-weight_le n d k l = omega (arith, weight_of n d k l, weight_within (weights n d) k)
-
-pub part_nowhere : (n : Inputs) (i d j : ℕ) → is_own n.shape d ≡ false → sum (weights n d) ≡ 0 → part n i d j ≡ 0
-part_nowhere n i d j elsewhere nothing = part_at n i d j 0 elsewhere (split_none (weights n d) (sending n i d) j nothing)

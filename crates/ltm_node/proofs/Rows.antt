@@ -24,18 +24,6 @@ inputs_written shape items now p q v seen l e =
     let room : length (set items p v) ≡ length items = length-set items p v in
     subst Goal seen (rw (row, room) refl)
 
-pub outputs_written : (shape : NodeShape) (items : List ℕ) (now : Outputs) (p q v : ℕ) →
-    (let seen : Outputs = record { shape = shape; row = take (counts_width shape) items; room = length items } in seen ≡ now) → p < counts_width shape → p ≡ q →
-    (let left : Outputs = record { shape = shape; row = take (counts_width shape) (set items p v); room = length (set items p v) } in
-    let right : Outputs = record { shape = now.shape; row = set now.row q v; room = now.room } in left ≡ right)
-outputs_written shape items now p q v seen l e =
-    let Goal : Outputs → Type 0 = λ m.
-    (let left : Outputs = record { shape = shape; row = take (counts_width shape) (set items p v); room = length (set items p v) } in
-    let right : Outputs = record { shape = m.shape; row = set m.row q v; room = m.room } in left ≡ right) in
-    let row : take (counts_width shape) (set items p v) ≡ set (take (counts_width shape) items) q v = take_written (counts_width shape) items p q v l e in
-    let room : length (set items p v) ≡ length items = length-set items p v in
-    subst Goal seen (rw (row, room) refl)
-
 -- a list of w numbers that are all 0
 pub take_zeros : (w : ℕ) (items : List ℕ) → w ≤ length items → ((k : ℕ) → k < w → get_or items k 0 ≡ 0) → take w items ≡ replicate w 0
 take_zeros w items fits zero =

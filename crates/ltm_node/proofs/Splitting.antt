@@ -24,9 +24,6 @@ left_split [] out left l = absurd (omega arith)
 left_split (x ∷ xs) zero left l = let whole : sum (x ∷ xs) ≡ x + sum xs = sum_by-cons (λ y. y) x xs in ap (λ t. left * x / t ∷ nested_split (left - left * x / t) xs) (sym whole)
 left_split (x ∷ xs) (suc out) left l = left_split xs out left (omega arith)
 
-pub split_begun : (amount : ℕ) (ws : List ℕ) (whole : ℕ) → whole ≡ sum ws → IsSplitUpTo amount ws 0 amount whole
-split_begun amount ws whole is = record { within = omega arith; fewer = omega arith; whole = is; parts = λ k. let at : 0 + k ≡ k = omega arith in ap (slice_index (nested_split amount ws)) at }
-
 pub out_within : (amount : ℕ) (ws : List ℕ) (out left rest : ℕ) → IsSplitUpTo amount ws out left rest → 0 < rest → out < length ws
 out_within amount ws out left rest h some = some_weight ws out (omega (arith, h.whole))
 

@@ -59,9 +59,6 @@ all_moved n e p o sent few shape h = record {
 all_of : (x : ℕ) → 1 * x / 1 ≡ x
 all_of x = mul-div_right x (omega arith)
 
-pub all_fractions : (n : Inputs) → AreFractions n Whole
-all_fractions n = record { positive = omega arith; at_most_all = λ i il. omega arith }
-
 -- what was moved is what is sent
 pub sent_held : (n : Inputs) (row : List ℕ) (sent : Sent) → HaveMovedAll n Whole row sent → HoldsSent n sent
 sent_held n row sent h = λ i j il jl.

@@ -23,14 +23,6 @@ all_more s k rs r from h = All-append (IsFrom s k) rs (r ∷ []) h (All-cons (Is
 pub from_push : (s : Setting) (k : ℕ) (old new : SpreadData) (r : Reach) → new ≡ record old { reaches = old.reaches ++ r ∷ [] } → IsFrom s k r → All (IsFrom s k) old.reaches → All (IsFrom s k) new.reaches
 from_push s k old new r is from h = subst (λ (d : SpreadData). All (IsFrom s k) d.reaches) (sym is) (all_more s k old.reaches r from h)
 
-pub adds_none : (s : Setting) (k : ℕ) (d : SpreadData) → Adds s k 0 d d (λ w v. false)
-adds_none s k d = record {
-  each = λ w v l. sym (or_none (lies_in_one d.reaches w v));
-  more = omega arith;
-  from = λ h. h;
-  all_new = refl;
-}
-
 pub adds_one : (s : Setting) (k : ℕ) (old new : SpreadData) (r : Reach) (reads : ℕ → ℕ → Bool) → new ≡ record old { reaches = old.reaches ++ r ∷ [] } → IsFrom s k r →
     ((w v : ℕ) → v < s.slots → lies_in w v r ≡ reads w v) → Adds s k 1 old new reads
 adds_one s k old new r reads is from each = record {
@@ -62,17 +54,3 @@ adds_as s k m n old new f g adds same fits = record {
 
 pub one_more : (n : ℕ) (f : ℕ → Bool) → some_below (n + 1) f ≡ some_below n f || f n
 one_more n f = rw add-one refl
-
--- one more place: with its reach, or without where it has none
-pub adds_next : (s : Setting) (k n : ℕ) (old mid new : SpreadData) (f : ℕ → ℕ → ℕ → Bool) (g : ℕ → ℕ → Bool) → Adds s k n old mid (λ w v. some_below n (f w v)) → Adds s k 1 mid new g →
-    ((w v : ℕ) → g w v ≡ f w v n) → Adds s k (n + 1) old new (λ w v. some_below (n + 1) (f w v))
-adds_next s k n old mid new f g first next same =
-    adds_as s k (n + 1) (n + 1) old new (λ w v. some_below n (f w v) || g w v) (λ w v. some_below (n + 1) (f w v))
-    (adds_both s k n 1 old mid new (λ w v. some_below n (f w v)) g first next)
-    (λ w v. ap (λ b. some_below n (f w v) || b) (same w v) ∙ sym (one_more n (f w v))) (omega arith)
-
-pub adds_no_next : (s : Setting) (k n : ℕ) (old mid : SpreadData) (f : ℕ → ℕ → ℕ → Bool) → Adds s k n old mid (λ w v. some_below n (f w v)) → ((w v : ℕ) → f w v n ≡ false) →
-    Adds s k (n + 1) old mid (λ w v. some_below (n + 1) (f w v))
-adds_no_next s k n old mid f first none =
-    adds_as s k n (n + 1) old mid (λ w v. some_below n (f w v)) (λ w v. some_below (n + 1) (f w v)) first
-    (λ w v. sym (one_more n (f w v) ∙ (ap (λ b. some_below n (f w v) || b) (none w v) ∙ or_none (some_below n (f w v))))) (omega arith)

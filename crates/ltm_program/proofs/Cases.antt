@@ -66,6 +66,3 @@ completes_case told files script s result describes is (inl well) =
 completes_case told files script s result describes is (inr none) = inr none
 
 -- ---- a file that is missing
-pub told_missing : (told : Option Files) (files : Files) (said : Result ScenarioData CaseFault) (f : File) → Describes told said → told ≡ Some files → case_of files ≡ Err (fault.Folder f)
-    → said ≡ Err (fault.Folder f)
-told_missing told files said f describes is missing = sym (subst (λ o. Describes o said) is describes) ∙ missing

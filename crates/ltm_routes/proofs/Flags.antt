@@ -47,19 +47,6 @@ begins_tight r to link tail head from_tail from_head b =
     same : (t h : Millis) (n : ℕ) → t.0 ≡ n + h.0 → (t.0 == n + h.0) ≡ true
     same t h n e = grind (arith, nat_tests)
 
-pub are_routes : (r : Roads) (to : ℕ) (p : List (Option Millis)) (flags : List Bool) → AreRoads r → length p ≡ r.nodes → AreLeastTimes r to p → AreFlags r.links (is_tight_over r p) flags
-    → AreRoutes r to (record { potentials = p; begins = flags })
-are_routes r to p flags roads long least are = record {
-  potential_for_each = long;
-  flag_for_each = are.flag_for_each;
-  least = least;
-  begin = λ link low. (
-    λ (is : slice_index_or flags link false ≡ true). tight_begins r to link (potential_at p (r.tail link)) (potential_at p (r.head link)) (least (r.tail link) (roads.tails link low)) (least (r.head link) (roads.heads link low))
-        (sym (are.each link low) ∙ is),
-    λ (b : Begins r to link). are.each link low ∙ begins_tight r to link (potential_at p (r.tail link)) (potential_at p (r.head link)) (least (r.tail link) (roads.tails link low)) (least (r.head link) (roads.heads link low)) b,
-  );
-}
-
 -- ---- one more
 pub pushed_at : {A : Type 0} (xs : List A) (x d : A) → slice_index_or (xs ++ x ∷ []) (length xs) d ≡ x
 pushed_at [] x d = refl
@@ -69,24 +56,3 @@ pub pushed_before : {A : Type 0} (xs : List A) (x d : A) (i : ℕ) → i < lengt
 pushed_before [] x d i low = absurd (omega arith)
 pushed_before (y ∷ xs) x d zero low = refl
 pushed_before (y ∷ xs) x d (suc i) low = pushed_before xs x d i (omega arith)
-
-pub one_flag_more : (count : ℕ) (test : ℕ → Bool) (flags : List Bool) (flag : Bool) → AreFlags count test flags → flag ≡ test count → AreFlags (count + 1) test (flags ++ flag ∷ [])
-one_flag_more count test flags flag are is = record {
-  flag_for_each = length-append flags (flag ∷ []) ∙ ap (λ n. n + 1) are.flag_for_each;
-  each = λ place low. elim (decide place count) [
-    | inl same ↦ ap (λ n. slice_index_or (flags ++ flag ∷ []) n false) (same ∙ sym are.flag_for_each) ∙ pushed_at flags flag false ∙ is ∙ ap test (sym same)
-    | inr other ↦ let here : place < length flags = (let long = are.flag_for_each in omega arith) in pushed_before flags flag false place here ∙ are.each place (omega arith)
-  ];
-}
-
-pub one_routes_more : (s : ScenarioData) (count : ℕ) (all : List RoutesData) (routes : RoutesData) → AreFirstRoutes s count all → AreRoutes (roads_of s) (destination_node s count) routes
-    → AreFirstRoutes s (count + 1) (all ++ routes ∷ [])
-one_routes_more s count all routes are is = record {
-  routes_for_each = length-append all (routes ∷ []) ∙ ap (λ n. n + 1) are.routes_for_each;
-  routes = λ place low. elim (decide place count) [
-    | inl same ↦ subst (λ n. AreRoutes (roads_of s) (destination_node s n) (routes_to (all ++ routes ∷ []) n)) (sym same)
-        (subst (AreRoutes (roads_of s) (destination_node s count)) (sym (ap (λ n. slice_index_or (all ++ routes ∷ []) n no_routes) (sym are.routes_for_each) ∙ pushed_at all routes no_routes)) is)
-    | inr other ↦ let here : place < length all = (let long = are.routes_for_each in omega arith) in
-        subst (AreRoutes (roads_of s) (destination_node s place)) (sym (pushed_before all routes no_routes place here)) (are.routes place (omega arith))
-  ];
-}

@@ -195,27 +195,6 @@ effort_falls p w w' u c low small lower put =
     let long : length w' ≡ length (waiting c u ∷ w) = length_permutation (waiting c u ∷ w) w' put in
     omega arith
 
--- where nothing is lowered, the link fits
-pub kept : (r : Roads) (to : ℕ) (p : List (Option Millis)) (w : List Waiting) (link : ℕ) (left : List ℕ) (t : ℕ) → IsSearch r to p w (link ∷ left)
-    → potential_at p (r.head link) ≡ Some (millis t) → is_lower (potential_at p (r.tail link)) (r.free_time link + t) ≡ false → IsSearch r to p w left
-kept r to p w link left t s at lower = record {
-  one_for_each = s.one_for_each;
-  start = s.start;
-  taken = s.taken;
-  small = s.small;
-  waits = s.waits;
-  fits = λ l low. go l (s.fits l low);
-}
-  where
-    go : (l : ℕ) → (fits_over r p l ≡ true) ⊎ (IsWaiting w (r.head l) (potential_at p (r.head l)) ⊎ Contains (link ∷ left) l)
-        → (fits_over r p l ≡ true) ⊎ (IsWaiting w (r.head l) (potential_at p (r.head l)) ⊎ Contains left l)
-    go l (inl fit) = inl fit
-    go l (inr (inl waits)) = inr (inl waits)
-    go l (inr (inr has)) = elim (contains_cases link l left has) [
-      | inl same ↦ inl (subst (λ n. fits_over r p n ≡ true) same (kept_fits (potential_at p (r.tail link)) (r.free_time link) t (potential_at p (r.head link)) lower at))
-      | inr later ↦ inr (inr later)
-    ]
-
 -- ---- a node that waited is looked at
 waits_or : (w : List Waiting) (x : Waiting) (node : ℕ) (o : Option Millis) → IsWaiting (x ∷ w) node o → IsWaiting w node o ⊎ ((node ≡ x.node) × (is_current o x.time.0 ≡ true))
 waits_or w x node None is = inl is

@@ -21,9 +21,6 @@ fields_of_row node destination links = node ∷ destination ∷ codes "0" ∷ en
 abbrev pub header_fields : Fields
 header_fields = codes "node" ∷ codes "destination" ∷ codes "from_slot" ∷ codes "weights" ∷ []
 
-plain_field : (x : List ℕ) → IsPlain x → field_text default_writer x ≡ x
-plain_field x plain = rw plain refl
-
 -- four fields that need no quotes
 row_is : (a b c d : List ℕ) → IsPlain a → IsPlain b → IsPlain c → IsPlain d
     → row_text default_writer (a ∷ b ∷ c ∷ d ∷ []) ≡ (a ++ (44 ∷ (b ++ (44 ∷ (c ++ (44 ∷ (d ++ []))))))) ++ (10 ∷ [])

@@ -36,9 +36,6 @@ use Rattle.ltm_routing.proofs.Weights.{ones}
 abbrev pub record_with : List ℕ → List ℕ → List (List ℕ) → SplitRecord
 record_with node destination links = record { node = node; destination = destination; from = 0; weights = ones links }
 
-zero_told : whole (codes "0") ≡ Some 0
-zero_told = refl
-
 -- the fields are of their kinds
 pub record_read : (node destination : List ℕ) (links : List (List ℕ)) → is_name node ≡ true → is_name destination ≡ true
     → weights_of (entries links) ≡ Some (ones links) → are_weights (ones links) ≡ true

@@ -34,9 +34,6 @@ before_is p xs y ys none passes = ap (λ n. take n (xs ++ y ∷ ys)) (first_at p
 after_is : (p : ℕ → Bool) (xs : List ℕ) (y : ℕ) (ys : List ℕ) → All (λ x. p x ≡ false) xs → p y ≡ true → after_first p (xs ++ y ∷ ys) ≡ ys
 after_is p xs y ys none passes = ap (λ n. drop (n + 1) (xs ++ y ∷ ys)) (first_at p xs y ys none passes) ∙ drop-append-add xs (y ∷ ys) 1
 
-one_told : whole (49 ∷ []) ≡ Some 1
-one_told = refl
-
 piece_entry : (link : List ℕ) → is_name link ≡ true → entry_of (entry_piece link) ≡ Some (link, 1)
 unfolding entry_piece
 piece_entry link is =

@@ -125,22 +125,6 @@ split_is_scenario s key weights next is here done have =
     subst (λ (rs : List SplitRow). IsScenario (record s { splits = rs })) (sym (ap (λ (d : SplitsData). d.rows) rows)) (with_split_rows s (put_in s.splits key weights) is (All-put_in (IsSplitOf s) s.splits key weights is.splits here) (subst (λ (d : SplitsData). HaveWeights d.rows) rows have))
 
 -- ---- limits
-pub entry_is_scenario : (s : ScenarioData) (link from to limit : ℕ) → IsScenario s → link < length s.network.links → from ≤ to → to ≤ s.setup.slots → IsScenario (record s { entry = with_limit s.entry link from to limit })
-entry_is_scenario s link from to limit is there order within = record {
-  setup = is.setup;
-  network = is.network;
-  diagram_for_each = is.diagram_for_each;
-  limits = is.limits;
-  entry = limits_whole.written s.entry (length s.network.links) s.setup.slots link from (replicate (to - from) limit) there (omega (arith, length-replicate (to - from) limit)) is.entry;
-  exit = is.exit;
-  few_destinations = is.few_destinations;
-  destinations_are_nodes = is.destinations_are_nodes;
-  destinations_apart = is.destinations_apart;
-  demand = λ k d below. let r = is.demand k d below in record { origin_is_node = r.origin_is_node; origin_has_out_link = r.origin_has_out_link; destination_is_one = r.destination_is_one; ends_differ = r.ends_differ };
-  demand_rows = is.demand_rows;
-  splits = λ k d below. let r = is.splits k d below in record { node_is_node = r.node_is_node; destination_is_one = r.destination_is_one; ends_differ = r.ends_differ; weight_for_each = r.weight_for_each };
-  weights = is.weights;
-}
 
 pub exit_is_scenario : (s : ScenarioData) (link from to limit : ℕ) → IsScenario s → link < length s.network.links → from ≤ to → to ≤ s.setup.slots → IsScenario (record s { exit = with_limit s.exit link from to limit })
 exit_is_scenario s link from to limit is there order within = record {

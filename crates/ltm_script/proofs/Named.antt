@@ -28,11 +28,6 @@ pub member_more : (places : List NamedWeight) (count : ℕ) (w : NamedWeight) (t
 member_more places count w t u k v within is found =
     rw (is, ← found, add-one, take-suc-set) (one_more (take count places) w (weights_of (members_view u)))
 
--- a member that is no weight
-pub bad_member : (front : List NamedWeight) (t u : List (String Global × Value)) (k : String Global) (v : Value)
-    → t ≡ (k, v) ∷ u → None ≡ weight_of (string_bytes k) (view v) → joined front (weights_of (members_view t)) ≡ None
-bad_member front t u k v is none = rw (is, ← none) refl
-
 -- there are as many weights as members
 as_many_after : (first : Option NamedWeight) (more : Option (List NamedWeight)) (ws : List NamedWeight) (n : ℕ) → ((rest : List NamedWeight) → more ≡ Some rest → length rest ≡ n) → before first more ≡ Some ws → length ws ≡ n + 1
 as_many_after None more ws n long is = cc

@@ -34,17 +34,6 @@ earlier_at f step slot slots rest time whole since =
     ap (λ b. cond b 0 (interpolated f step ((slot + 1) * step - time))) (not_below_is ((slot + 1) * step) time (omega (arith, end)))
     ∙ ap (interpolated f step) (omega (arith, end))
 
--- what is found past a boundary is reached by the next
-pub reached_next : (f : ℕ → ℕ) (slot step boundary rest found : ℕ) → Rises f slot → boundary < slot → rest < step → found ≡ interpolated f step (boundary * step + rest) → found ≤ f (boundary + 1)
-reached_next f slot step boundary rest found rise within below e =
-    omega (
-      arith,
-      e,
-      interpolated_past f step boundary rest below,
-      part_within (f (boundary + 1) - f boundary) rest step (omega arith),
-      rise boundary within,
-    )
-
 -- the same as the code finds it
 pub found_past : (f : ℕ → ℕ) (step slot slots rest time boundary left found : ℕ) → slots * step ≡ time + rest → slots ≤ slot + 1 → boundary ≡ slot + 1 - slots → left ≡ rest → found ≡ interpolated f step (boundary * step + left) → found ≡ earlier f step slot time
 found_past f step slot slots rest time boundary left found whole since is_boundary is_left is =
@@ -52,10 +41,6 @@ found_past f step slot slots rest time boundary left found whole since is_bounda
     ∙ (ap (λ (z : ℕ). interpolated f step (z * step + left)) is_boundary
     ∙ (ap (λ (z : ℕ). interpolated f step ((slot + 1 - slots) * step + z)) is_left
     ∙ sym (earlier_at f step slot slots rest time whole since)))
-
--- with no rest it is reached by the boundary
-pub reached_here : (f : ℕ → ℕ) (step boundary rest found : ℕ) → rest < step → rest ≡ 0 → found ≡ interpolated f step (boundary * step + rest) → found ≤ f boundary
-reached_here f step boundary rest found below none e = omega (arith, e, interpolated_past_none f step boundary rest below none)
 
 -- what the code adds to a boundary's count
 pub part_fits : (units rest step : ℕ) → rest < step → units * rest / step ≤ units

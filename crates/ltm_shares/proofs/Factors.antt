@@ -15,10 +15,6 @@ factor_low p d = div-mul-le_self (p * 2 ^ 32) d
 pub factor_high : (p d : ℕ) → 0 < d → p * 2 ^ 32 < factor p d * d + d
 factor_high p d pos = let e : factor p d * d + p * 2 ^ 32 % d ≡ p * 2 ^ 32 = div-add-mod' (p * 2 ^ 32) d in let l : p * 2 ^ 32 % d < d = mod_below (p * 2 ^ 32) d pos in omega arith
 
-pub factor_le : (p d : ℕ) → 0 < d → p ≤ d → factor p d ≤ 2 ^ 32
-factor_le p d pos h =
-    let b : factor p d < 2 ^ 32 + 1 = div_below (p * 2 ^ 32) d (2 ^ 32 + 1) pos (omega (arith, mul-le-mul_right (2 ^ 32) h)) in omega arith
-
 -- what the factor gives is at most the share
 pub share_low : (p d f a x r : ℕ) → f * d ≤ p * 2 ^ 32 → f * a ≡ x * 2 ^ 32 + r → x * d ≤ p * a
 share_low p d f a x r low split =

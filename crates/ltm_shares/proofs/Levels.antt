@@ -113,13 +113,6 @@ sound_at_level n x y s pos level positive within arms = record {
   arms = arms;
 }
 
-pub level_at_tightest : (n : Demands) (s : Progress) (j y : ℕ) → IsSound n s → IsTightest n s n.outs j y → IsLevel n (slice_index s.left j) y s
-level_at_tightest n s j y h tight = record {
-  balance = h.balance;
-  under = λ i l. omega (arith, h.ordered i j l tight.is_out, ap (λ z. slice_index s.numerators i * z) tight.is_weight);
-  over = tight.least;
-}
-
 pub within_kept : (n : Demands) (s t : Progress) (i v : ℕ) → Fixes n i v s t → i < n.arms → s.denominator * 163840000 ^ open_outs n s ≤ 163840000 ^ 4 → t.denominator * 163840000 ^ open_outs n t ≤ 163840000 ^ 4
 within_kept n s t i v f l h =
     let fall : open_outs n t ≤ open_outs n s = open_outs_fall n s t (λ j m. omega (arith, weight-fixed n s t i v j f l)) in

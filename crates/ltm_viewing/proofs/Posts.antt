@@ -45,9 +45,6 @@ take_all (suc k) (x ∷ xs) e = ap (λ l. x ∷ l) (take_all k xs (omega (arith,
 pub first_is_all : (k : ℕ) (log : Log) → k ≡ version_now log → first_of log k ≡ list_of log.opening (batches_of log)
 first_is_all k log is = ap (λ l. list_of log.opening l) (take_all k (batches_of log) (length_batches log ∙ sym is))
 
-pub posted_all : (k : ℕ) (d : CoreData) → version_of d.shown ≡ version_now d.log → first_of d.log k ++ entries_of_batches (drop k (batches_of d.log)) ≡ shown_list d
-posted_all k d is = all_of k d.log ∙ sym (first_is_all (version_of d.shown) d.log is)
-
 -- ---- the boards
 pub all_same : (boards : Boards) (a b : List LogEntry) → a ≡ b → AllHave boards a → AllHave boards b
 all_same boards a b same have = subst (λ l. AllHave boards l) same have

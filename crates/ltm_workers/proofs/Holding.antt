@@ -46,9 +46,6 @@ keeps_all d e same = same ∙ ap (λ (n : ℕ). record d { table = e.table; comm
 pub keeps_more : (d m e : CoreData) → KeepsButWork d m → KeepsButWork m e → KeepsButWork d e
 keeps_more d m e first second = second ∙ ap (λ (z : CoreData). record z { table = e.table; commits = e.commits }) first
 
-pub keeps_none : (d : CoreData) → KeepsButWork d d
-keeps_none d = refl
-
 -- ---- the list of hands
 filled : (hands : List (Option Hand)) (w i : ℕ) (filling : Option Hand) (h : Hand) → w < length hands → i ≡ w → slice_index_or (slice_set hands w filling) i None ≡ Some h → filling ≡ Some h
 filled hands w i filling h within same at =
@@ -192,9 +189,6 @@ wait_spares d e scratch keeps told = none_spares d e scratch keeps told.desk.dro
 
 pub rest_spares : (d e : CoreData) (scratch : ScratchData) → KeepsAll d e → AnswersClaim (repair_of d) Rest (repair_of e) → SparesOthers d (Free scratch) e
 rest_spares d e scratch keeps told = none_spares d e scratch keeps told.desk.0.drops.claimed
-
-pub free_next : (d e : CoreData) (hand : Hand) (scratch : ScratchData) → IsNextHand d hand e (Free scratch)
-free_next d e hand scratch = record { kept = tt; apart = λ c apart kept. tt }
 
 -- ---- a give-back and a commit
 pub gave_lays_down : (d e : CoreData) (claim : ClaimData) → IsKeptClaim d claim.pair claim.ticket claim.inputs → TellsGiveBack d claim e → LaysDown d (Holds claim) e

@@ -124,9 +124,6 @@ follows_to_rest old mid e before between after given not byte schedule used unus
       rest = told.2;
     }
 
-pub follows_none : (d : CoreData) (steps : ℕ) (held : List Held) → steps < 2 ^ 64 → held ≡ none_held → Follows d steps [] 0 0 held d steps
-follows_none d steps held small none = record { events = []; drive = (none, refl); gave_back = refl; waited = refl; steps = omega (small, arith) }
-
 pub schedule_split : (all : List ℕ) (i : ℕ) → i < length all → all ≡ take i all ++ slice_index_or all i 0 ∷ drop (suc i) all
 schedule_split all i within = sym (take-append-drop i all) ∙ ap (λ (z : List ℕ). take i all ++ z) (drop-cons all i 0 within)
 
@@ -155,16 +152,6 @@ pub record LaidDown (first : CoreData) (hands : List (Option Hand)) (w : ℕ) (n
 one_laid : (d e : CoreData) (hand : Hand) → LaysDown d hand e → IsRun d (give_backs (held_in hand ∷ [])) e
 one_laid d e (Free scratch) laid = laid.emptied
 one_laid d e (Holds claim) laid = (e, laid.emptied, refl)
-
-pub laid_none : (d : CoreData) (hands : List (Option Hand)) → AreHandsKept d hands → LaidDown d hands 0 d hands
-laid_none d hands are = record {
-  run = refl;
-  keeps = refl;
-  kept = are;
-  rest = λ i l. refl;
-  empty = λ i l. absurd (omega (l, arith));
-  long = refl;
-}
 
 pub laid_more : (first now e : CoreData) (hands left : List (Option Hand)) (w : ℕ) (hand : Hand) → LaidDown first hands w now left → w < 4 → slice_index_or left w None ≡ Some hand → LaysDown now hand e →
     LaidDown first hands (w + 1) e (slice_set left w None)

@@ -9,6 +9,8 @@
 #[cfg(test)]
 mod cases;
 #[cfg(test)]
+mod curves;
+#[cfg(test)]
 mod editors;
 #[cfg(test)]
 mod loads;
