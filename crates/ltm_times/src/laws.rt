@@ -3,9 +3,7 @@ ghost use Rattle.ltm_times.specs.Peaks.{PeaksAreFirstGreatest};
 ghost use Rattle.ltm_times.specs.DelayLaws.{LeftWasReady, QueuesStandOnLinks, SpentAddsUp, DelaysAreSummed};
 
 use ltm_curve::first_sums;
-use ltm_loading::{
-    adds_up, first_in_first_out, links_are_ready, never_fall, within_storage,
-};
+use ltm_loading::{adds_up, first_in_first_out, links_are_ready, never_fall, within_storage};
 
 /// No more has left a link by a boundary than could have left it at free speed: nothing is cut off where a queue is counted.
 pub fn left_was_ready()

@@ -15,6 +15,7 @@
 
 mod boundaries;
 mod delays;
+mod in_all;
 mod laws;
 mod passing;
 mod queues;
@@ -22,6 +23,7 @@ mod ready;
 mod spending;
 
 pub use delays::{DelayTotals, LinkDelay, Peak};
+pub use in_all::delay_totals;
 pub use laws::{
     delays_are_summed, left_was_ready, peaks_are_first_greatest, queues_stand_on_links,
     spent_adds_up,

@@ -23,7 +23,13 @@ pub fn queue(loading: &Loading, link: LinkId, boundary: u32) -> Units
 {
     let _links = loading.links();
     let curves = loading.curves();
-    let ready = total_ago(curves, up_of(link), boundary, loading.free(link), loading.step());
+    let ready = total_ago(
+        curves,
+        up_of(link),
+        boundary,
+        loading.free(link),
+        loading.step(),
+    );
     Units(ready.saturating_sub(curves.total(down_of(link), boundary)))
 }
 

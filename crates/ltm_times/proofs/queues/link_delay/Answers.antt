@@ -30,8 +30,8 @@ returns c s version counts shows =
     let step : c.from-step.result ≡ s.step = c.from-step.ensures ∙ (c.step.ensures.value ∙ shows.step) in
     record {
       spent = ap (λ (n : ℕ). n * c.from-step.result) (c.loop-slot.invariant.spent s version counts shows ∙ ap (λ (n : ℕ). sum_below n on) all)
-      ∙ ap (λ (h : ℕ). sum_below s.slots on * h) step;
+          ∙ ap (λ (h : ℕ). sum_below s.slots on * h) step;
       queued = ap (λ (n : ℕ). n * c.from-step.result) (c.loop-slot.invariant.queued s version counts shows ∙ ap (λ (n : ℕ). sum_below n standing) all)
-      ∙ ap (λ (h : ℕ). sum_below s.slots standing * h) step;
+          ∙ ap (λ (h : ℕ). sum_below s.slots standing * h) step;
       peak = subst (λ (n : ℕ). IsPeakOf (queue s counts link) n c.loop-slot.peak) all (c.loop-slot.invariant.peak s version counts shows);
     }
