@@ -2,3 +2,6 @@ pub mod Least
 pub mod Moments
 pub mod Shown
 pub mod Alike
+pub mod WasReady
+pub mod SpentSo
+pub mod Peaks

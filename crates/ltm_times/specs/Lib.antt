@@ -1,2 +1,6 @@
 pub mod Moments
 pub mod Times
+pub mod Queues
+pub mod Peaks
+pub mod Delays
+pub mod DelayLaws

@@ -1,17 +1,33 @@
 //! Travel times: when so many vehicles have left a link, how long a vehicle takes to pass it, and the time that all
-//! vehicles spend between their origins and their destinations.
+//! vehicles spend between their origins and their destinations. Delays: who stands in the queue of a link or waits at an
+//! origin, for how long, and when most of them do.
 //!
 //! A vehicle leaves a link as soon as so many have left it as had entered by the time it came (first in, first out). All
 //! is read off the curves of a finished loading. (Travel times as the horizontal distance of two cumulative curves: Newell
-//! 1993, Yperman 2007. Whole milliseconds and floored counts are this engine's own.)
+//! 1993, Yperman 2007. Whole milliseconds and floored counts are this engine's own.) In the queue of a link stand those who
+//! could have left it at free speed and have not: all that the link's entry curve had a free-flow time ago, less what has
+//! left. (The vertical queue of Newell 1993.)
 //!
-//! It stands on `ltm_flows`. No call takes memory: a moment is found by halving over boundaries and one division, and the
-//! time spent is one pass over them. Change it here where a time is read in another way.
+//! It stands on `ltm_flows`. No call takes memory: a moment is found by halving over boundaries and one division, a queue
+//! costs one division, and a sum over time is one pass over boundaries. Change it here where a time or a queue is read in
+//! another way.
 #![tactic(auto)]
 
 mod boundaries;
+mod delays;
+mod in_all;
+mod laws;
 mod passing;
+mod queues;
+mod ready;
 mod spending;
 
+pub use delays::{DelayTotals, LinkDelay, Peak};
+pub use in_all::delay_totals;
+pub use laws::{
+    delays_are_summed, left_was_ready, peaks_are_first_greatest, queues_stand_on_links,
+    spent_adds_up,
+};
 pub use passing::{exit_ms, travel};
+pub use queues::{link_delay, queue};
 pub use spending::time_spent;

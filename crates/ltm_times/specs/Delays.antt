@@ -1,0 +1,47 @@
+-- The time that vehicles spend on links, in queues and at their origins, in units times milliseconds.
+use Rattle.std.specs.Prelude.{ℕ, ◌≡◌, ◌+◌, ◌-◌, ◌*◌}
+use Rattle.ltm_units.specs.Sums.{sum_below}
+use Rattle.ltm_curve.specs.Counts.{Counts}
+use Rattle.ltm_loading.specs.Setting.{Setting}
+use Rattle.ltm_loading.specs.Totals.{entered_link, left_link, waiting}
+use Rattle.ltm_times.specs.declared.delays.LinkDelay.{LinkDelay}
+use Rattle.ltm_times.specs.declared.delays.DelayTotals.{DelayTotals}
+use Rattle.ltm_times.specs.Queues.{queue, driving, in_queues, in_motion}
+use Rattle.ltm_times.specs.Peaks.{IsPeakOf}
+use Rattle.ltm_times.specs.Times.{time_spent}
+
+-- how many there are at each boundary after the start, each for a step
+abbrev pub over_time : Setting → (ℕ → ℕ) → ℕ
+over_time s f = sum_below s.slots (λ t. f (t + 1)) * s.step
+
+-- ---- of a link
+abbrev pub spent_on : Setting → Counts → ℕ → ℕ
+spent_on s c link = over_time s (λ k. entered_link s c link k - left_link s c link k)
+
+abbrev pub queued_on : Setting → Counts → ℕ → ℕ
+queued_on s c link = over_time s (queue s c link)
+
+-- what the vehicles would spend with no queue
+abbrev pub driven_on : Setting → Counts → ℕ → ℕ
+driven_on s c link = over_time s (driving s c link)
+
+-- ---- of all
+abbrev pub queued : Setting → Counts → ℕ
+queued s c = over_time s (in_queues s c)
+
+abbrev pub waited : Setting → Counts → ℕ
+waited s c = over_time s (waiting s c)
+
+abbrev pub driven : Setting → Counts → ℕ
+driven s c = over_time s (in_motion s c)
+
+-- ---- what is told of them
+pub record IsLinkDelay (s : Setting) (c : Counts) (link : ℕ) (d : LinkDelay) : Type 0 where
+  pub spent : d.spent ≡ spent_on s c link
+  pub queued : d.queued ≡ queued_on s c link
+  pub peak : IsPeakOf (queue s c link) s.slots d.peak
+
+pub record AreDelayTotals (s : Setting) (c : Counts) (d : DelayTotals) : Type 0 where
+  pub spent : d.spent ≡ time_spent s c
+  pub queued : d.queued ≡ queued s c
+  pub waited : d.waited ≡ waited s c

@@ -1,0 +1,25 @@
+//! What is told of delays: sums of vehicle time in units times milliseconds, and the greatest numbers.
+use ltm_units::Units;
+
+/// The greatest of the numbers at all boundaries, and the first boundary that has it.
+#[derive(Clone, Copy)]
+pub struct Peak {
+    pub most: Units,
+    pub at: u32,
+}
+
+/// The time that vehicles spend on a link, how much of it they stand in its queue, and the longest queue.
+#[derive(Clone, Copy)]
+pub struct LinkDelay {
+    pub spent: u128,
+    pub queued: u128,
+    pub peak: Peak,
+}
+
+/// The time that all vehicles spend, how much of it they stand in queues on links, and how much they wait at their origins.
+#[derive(Clone, Copy)]
+pub struct DelayTotals {
+    pub spent: u128,
+    pub queued: u128,
+    pub waited: u128,
+}
