@@ -47,8 +47,8 @@ MOST_DESTINATIONS = 64
 MOST_DEMAND_ROWS = 10_000
 MOST_SPLIT_ROWS = 50_000
 MOST_WEIGHTS = 4  # of a split row
-MOST_CELLS = 54_000_000
-MOST_CELLS_ASKED = 2_000_000_000  # in the column `cells`
+MOST_CELLS = 54_000_000  # of a case whose setup has no column `cells`
+MOST_CELLS_ASKED = 2_000_000_000  # in that column
 
 # scripts and batches
 MOST_EDITS = 32  # of a batch
@@ -60,14 +60,21 @@ MOST_EDITORS = 8
 
 # the files of a case, in the order in which they are read: the fields of each header
 SETUP = ("step_ms", "slots", "origin_capacity")
-SETUP_MORE = ("signals",)  # may stand behind these three, each or not, in this order
-SETUP_LATER = ("signals", "limits", "cells")  # what these tools read there: the program of today knows `signals` alone
+SETUP_MORE = ("signals", "limits", "cells")  # may stand behind these three, each or not, in this order
 LINKS = ("link", "from", "to", "length_m", "free_kmh", "wave_kmh", "jam_per_km")
 DEMAND = ("origin", "destination", "from_slot", "to_slot", "vehicles")
 SPLITS = ("node", "destination", "from_slot", "weights")
 SIGNALS = ("link", "from_slot", "to_slot", "vehicles")
 HEADERS = {"setup": SETUP, "links": LINKS, "demand": DEMAND, "splits": SPLITS, "signals": SIGNALS, "limits": SIGNALS}
 CURVES = ("kind", "name", "destination", "counts")
+
+
+def headers_of(file: str) -> list[tuple[str, ...]]:
+    """The headers that a file of a case may have: one, and for `setup` its three fields with each column behind them or not, in order."""
+    headers: list[tuple[str, ...]] = [HEADERS[file]]
+    for column in SETUP_MORE if file == "setup" else ():
+        headers += [(*header, column) for header in headers]
+    return headers
 
 
 def is_name(text: str) -> bool:

@@ -10,7 +10,7 @@ from .case_files import Reader, read_case, read_setup
 from .circles import find_circles
 from .errors import Fault
 from .files import records
-from .formats import HEADERS, HOUR_MS, MOST_CELLS, MOST_SLOTS, SETUP_MORE, clock_text, count_text, counted, short_vehicles, vehicles_text
+from .formats import HOUR_MS, MOST_CELLS, MOST_SLOTS, clock_text, count_text, counted, short_vehicles, vehicles_text
 from .program import check_folder
 
 NAME = "inspect"
@@ -40,13 +40,13 @@ class LooseReader(Reader):
 
 def read_loosely(folder: str) -> Case:
     """What can be read of a case: records that are wrong are left out, and files that are missing."""
-    reader = LooseReader(read_setup(fetch(folder, "setup"), SETUP_MORE))
+    reader = LooseReader(read_setup(fetch(folder, "setup")))
     for file, add in reader.tables.items():
         if getattr(reader.case.setup, file, True) is False:
             continue
         try:
             found = list(records(fetch(folder, file)))
-            width = read_header(file, found, [HEADERS[file]])
+            width = read_header(file, found)
         except Fault:
             if file == "splits":
                 reader.case.splits = None
@@ -63,7 +63,7 @@ def read_loosely(folder: str) -> Case:
 def first_refusal(folder: str) -> Fault | None:
     """What `load` would refuse first."""
     try:
-        read_case(folder, splits=True, columns=SETUP_MORE)
+        read_case(folder, splits=True)
     except Fault as fault:
         return fault
     return None

@@ -8,7 +8,7 @@ from collections.abc import Mapping
 from .bad_case import BadCase
 from .case import Case, Link
 from .case_files import check_diagram
-from .formats import MOST_CELLS, MOST_DEMAND_ROWS, MOST_SLOTS, MOST_SPLIT_ROWS, count_text
+from .formats import MOST_DEMAND_ROWS, MOST_SLOTS, MOST_SPLIT_ROWS, count_text
 
 Members = Mapping[str, object]
 
@@ -56,8 +56,7 @@ def of_edit(case: Case, edit: Members, cause: list[str]) -> str:
         most = MOST_DEMAND_ROWS if kind == "demand" else MOST_SPLIT_ROWS
         return f"there are {count_text(most)} rows already, which is the most"
     if cause[0] == "CellsOver" and len(cause) == 2 and cause[1].isdigit():
-        most = MOST_CELLS if case.setup.cells is None else case.setup.cells
-        return f"the case would have {count_text(int(cause[1]))} cells, and at most {count_text(most)} may be"
+        return f"the case would have {count_text(int(cause[1]))} cells, and at most {count_text(case.setup.most_cells)} may be"
     return diagram(case, edit, " ".join(cause)) if kind == "diagram" else ""
 
 

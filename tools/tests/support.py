@@ -1,6 +1,7 @@
 """What several tests use: folders that are made and let go, cases as texts, and a program that is made for a test."""
 import os
 import stat
+import subprocess
 import sys
 import tempfile
 import unittest
@@ -19,6 +20,19 @@ ROAD = {
     "demand": "origin,destination,from_slot,to_slot,vehicles\nn1,n2,0,2,1\n",
     "splits": "node,destination,from_slot,weights\nn1,n2,0,a=1\n",
 }
+
+
+def takes_columns() -> bool:
+    """Whether the program is there and takes the columns `limits` and `cells` of `setup.csv`."""
+    if not os.access(BUILT, os.X_OK):
+        return False
+    with tempfile.TemporaryDirectory() as folder:
+        for name, text in {**ROAD, "setup": "step_ms,slots,origin_capacity,limits,cells\n1000,4,1,0,102\n"}.items():
+            Path(folder, f"{name}.csv").write_text(text)
+        return subprocess.run([BUILT, "load"], cwd=folder, capture_output=True).returncode == 0
+
+
+needs_columns = unittest.skipUnless(takes_columns(), "no program is built that takes the columns limits and cells")
 
 
 class FolderTest(unittest.TestCase):

@@ -39,7 +39,7 @@ def star(count: int) -> dict[str, str]:
 # the files that differ from the smallest case; status; the program's line; texts that the explanation has
 CASES: dict[str, tuple[dict[str, str], int, str, list[str]]] = {
     "Header": ({"links": "link;from;to\n"}, 6, "bad case links row 1 Header", ["links.csv, line 1", "semicolons", "link,from,to,length_m,free_kmh,wave_kmh,jam_per_km"]),
-    "Header of setup": ({"setup": "step,slots\n"}, 6, "bad case setup row 1 Header", ["exactly step_ms,slots,origin_capacity, and behind it signals or nothing", '"step,slots"']),
+    "Header of setup": ({"setup": "step,slots\n"}, 6, "bad case setup row 1 Header", ["exactly step_ms,slots,origin_capacity, and behind it each of signals, limits, cells or not, in this order", '"step,slots"']),
     "Header in large letters": ({"demand": DEMAND.upper()}, 6, "bad case demand row 1 Header", ["small letters"]),
     "Header missing": ({"splits": ""}, 6, "bad case splits row 1 Header", ["splits.csv: the file has no record"]),
     "Rows": ({"setup": "step_ms,slots,origin_capacity\n"}, 6, "bad case setup row 2 Rows", ["no record after the header"]),
