@@ -26,7 +26,7 @@ from .ends import joined, most_used
 from .errors import Fault
 from .formats import MINUTE_MS, MOST_DESTINATIONS, MOST_SLOT_UNITS, UNITS, clock_ms, short_vehicles
 from .gmns_net import KMH, METRES, Read, Units, read_gmns
-from .importing import (Carried, Refused, above_0, add_network_arguments, carried, changes_table, check_cells, check_destinations, least_routes,
+from .importing import (Carried, Refused, above_0, add_network_arguments, ask_for_cells, carried, changes_table, check_destinations, least_routes,
                         longest_step, routes_table, slots_of, steps_table, write)
 from .network import Network, Node, least_times, top
 from .places import UNITS as PLACE_UNITS
@@ -107,9 +107,9 @@ def make(args: argparse.Namespace) -> int:
     routes = least_routes(raw, [(start, end, whole_units(volume, "demand")) for (start, end), volume in volumes.items()]) if args.fit else []
     made = carried(raw, args, routes)
     case, slots_of_demand = case_of(made, volumes, args, read)
-    cells = check_cells(case)
-    write(args.case, case, made)
+    cells = ask_for_cells(case)
     tell(made, case, slots_of_demand, cells, [*read.told(), *amounts.notes], amounts.inner, routes)
+    write(args.case, case, made)
     return 0
 
 

@@ -10,11 +10,13 @@ from pathlib import Path
 
 from .balance import MOST_ROUTES, Used, balance
 from .case import Case, Link
+from .cells import asked_for, memory_text
 from .passages import Roads
 from .errors import Fault
 from .files import write_text
 from .fit import ARMS, Fit, metres_text
-from .formats import MINUTE_MS, MOST_CELLS, MOST_DESTINATIONS, MOST_LINKS, MOST_SLOT_UNITS, MOST_SLOTS, MOST_STEP_MS, NAME_RULE, UNITS, count_text
+from .formats import (MINUTE_MS, MOST_CELLS, MOST_CELLS_ASKED, MOST_DESTINATIONS, MOST_LINKS, MOST_SLOT_UNITS, MOST_SLOTS, MOST_STEP_MS, NAME_RULE, UNITS,
+                      count_text)
 from .names import names_for
 from .network import Network, diagram, least_route, least_times, totals
 from .source import Source, SourceLink, lines_of
@@ -285,18 +287,24 @@ def check_destinations(nodes: Iterable[str]) -> None:
                     f" {', '.join(ends[MOST_DESTINATIONS:MOST_DESTINATIONS + 10])}")
 
 
-def check_cells(case: Case) -> str:
-    """The cells of a case in a line; a Fault with what would fit where they are too many."""
+def ask_for_cells(case: Case) -> str:
+    """The cells of a case in a line; its setup asks for them where they are more than it may have without. A Fault with what would fit
+    where they are more than may be asked for."""
     cells = case.cells()
-    if cells > MOST_CELLS:
-        raise Fault(f"{count_text(cells)} cells, and at most {count_text(MOST_CELLS)} may be: {cells_advice(case)}")
-    return f"{count_text(cells)} cells of at most {count_text(MOST_CELLS)}"
+    if cells > MOST_CELLS_ASKED:
+        raise Fault(f"{count_text(cells)} cells, and at most {count_text(MOST_CELLS_ASKED)} may be: {cells_advice(case)}")
+    if cells <= MOST_CELLS:
+        case.setup.cells = None
+        return f"{count_text(cells)} cells of at most {count_text(MOST_CELLS)}"
+    case.setup.cells = asked_for(cells)
+    return (f"{count_text(cells)} cells, so the column cells of setup.csv asks for {count_text(case.setup.cells)}, as without it {count_text(MOST_CELLS)} may be:"
+            f" {memory_text(cells)}")
 
 
 def cells_advice(case: Case) -> str:
-    """The horizon, the step or the destinations with which the cells would fit."""
+    """The horizon, the step or the destinations with which the cells would fit in what may be asked for."""
     step, slots = case.setup.step_ms, case.setup.slots
-    fitting = case.slots_that_fit()
+    fitting = case.slots_that_fit(MOST_CELLS_ASKED)
     told = []
     if fitting * step >= MINUTE_MS:
         told.append(f"--horizon {fitting * step // MINUTE_MS} at this step")

@@ -13,7 +13,7 @@ from .demand_files import exists, quarter_before
 from .ends import joined, most_used
 from .errors import Fault
 from .formats import MINUTE_MS, MOST_DEMAND_ROWS, MOST_DESTINATIONS, MOST_SLOT_UNITS, MOST_SPLIT_ROWS, UNITS, clock_ms, clock_text, short_vehicles
-from .importing import (Carried, Refused, above_0, add_network_arguments, carried, changes_table, check_cells, check_destinations, longest_step,
+from .importing import (Carried, Refused, above_0, add_network_arguments, ask_for_cells, carried, changes_table, check_destinations, longest_step,
                         routes_table, slots_of, steps_table, write)
 from .profiles import Trip, by_trips
 from .route_splits import Route, circles, from_routes
@@ -109,9 +109,9 @@ def make(args: argparse.Namespace) -> int:
         counts[route.links] = counts.get(route.links, 0) + route.units
     made = carried(raw, args, list(counts.items()))
     case = case_of(made, inputs, held, cut, args)
-    cells = check_cells(case)
-    write(args.case, case, made)
+    cells = ask_for_cells(case)
     tell(made, case, inputs, cells, list(counts.items()))
+    write(args.case, case, made)
     return 0
 
 
@@ -252,7 +252,7 @@ def case_of(made: Carried, inputs: Inputs, held: dict[str, list[Connection]], cu
         routes.append(Route(cache[route.links], route.depart_ms, route.units))
     case = Case(Setup(made.step, slots, args.origin_capacity * UNITS), made.links)
     case.demand = demand_of(routes, case, inputs, args)
-    check_cells(case)
+    ask_for_cells(case)  # before the splits take their time
     case.splits = splits_of(routes, case, inputs, args)
     case.signals = signals_of(made, inputs, held, cut, case, args)
     case.setup.signals = bool(case.signals)
