@@ -141,8 +141,7 @@ class Session:
         return version
 
     def save(self, folder: str | os.PathLike[str]) -> None:
-        """Writes the case that all accepted edits leave, in a folder: what `load` tells there the session shows once it has settled.
-        Entry limits that stand have no form in files yet: a Fault then."""
+        """Writes the case that all accepted edits leave, in a folder: what `load` tells there the session shows once it has settled."""
         from .case import Case
         from .keeping import Keeper
 
