@@ -138,6 +138,23 @@ def vehicles_text(units: int) -> str:
     return f"{sign}{abs(units) // UNITS}.{abs(units) % UNITS:03}"
 
 
+def told_units(text: str) -> int:
+    """Thousandths of an amount as the program prints it, with three decimals and of any size."""
+    return _told(text, 3)
+
+
+def told_time(text: str) -> int:
+    """Thousandths times milliseconds of a vehicle time as the program prints it, in vehicle seconds with six decimals and of any size."""
+    return _told(text, 6)
+
+
+def _told(text: str, decimals: int) -> int:
+    whole, _, part = text.partition(".")
+    if not whole or len(part) != decimals or not (whole + part).isdecimal() or not text.isascii():
+        raise Fault(f"{text!r} is no number with {decimals} decimals")
+    return int(whole + part)
+
+
 def short_vehicles(units: int) -> str:
     """Thousandths as vehicles without zeros at the end, for files: 1250 is `1.25`, and 7000 is `7`."""
     return vehicles_text(units).rstrip("0").rstrip(".")

@@ -16,7 +16,7 @@ Members = Mapping[str, object]
 def why_refused(case: Case, command: Members, answer: str) -> str:
     """One line for an answer `refused ..` to a command of a script; nothing where the command does not show why."""
     words = answer.split()
-    if words[:2] in (["refused", "link"], ["refused", "time"]):
+    if words[:1] == ["refused"] and len(words) == 3 and words[1] in ("link", "time", "queue", "origin"):
         return of_question(case, command, words[2])
     if words[:2] != ["refused", "edit"] or len(words) < 4 or not words[2].isdigit():
         return ""
@@ -30,8 +30,8 @@ def why_refused(case: Case, command: Members, answer: str) -> str:
 def of_question(case: Case, command: Members, cause: str) -> str:
     if cause == "UnknownName":
         return unknown(case, command)
-    slot = command.get("slot")
-    return f"slot {slot} is not below the horizon of the loading that is shown" if cause == "BadSlots" else ""
+    where = "not below" if command.get("do") == "time" else "past"
+    return f"slot {command.get('slot')} is {where} the horizon of the loading that is shown" if cause == "BadSlots" else ""
 
 
 def of_edit(case: Case, edit: Members, cause: list[str]) -> str:
