@@ -18,7 +18,7 @@ from collections.abc import Iterator
 from dataclasses import dataclass, field
 
 from .case import Case, Demand, Link
-from .curves import Counts, Curves, is_array, less, total, zeros
+from .curves import Counts, Curves, is_array, less, zeros
 from .errors import Fault
 from .formats import MOST_SLOT_UNITS, NAME, told_time, told_units, vehicles_text
 

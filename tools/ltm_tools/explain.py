@@ -9,7 +9,7 @@ import re
 from collections.abc import Sequence
 from pathlib import Path
 
-from .bad_case import BadCase, NoFile, TooLong
+from .bad_case import BadCase, NoFile
 from .case import Case
 from .case_files import read_case
 from .cells import memory_text

@@ -1,4 +1,6 @@
 """What several tests use: folders that are made and let go, cases as texts, and a program that is made for a test."""
+import importlib.machinery
+import importlib.util
 import os
 import stat
 import subprocess
@@ -6,6 +8,7 @@ import sys
 import tempfile
 import unittest
 from pathlib import Path
+from typing import Any
 
 TOOLS = Path(__file__).resolve().parents[1]
 CLONE = TOOLS.parent
@@ -20,6 +23,21 @@ ROAD = {
     "demand": "origin,destination,from_slot,to_slot,vehicles\nn1,n2,0,2,1\n",
     "splits": "node,destination,from_slot,weights\nn1,n2,0,a=1\n",
 }
+
+
+def script(name: str) -> Any:
+    """A script of this folder's parent as a module; nothing is written beside it."""
+    loader = importlib.machinery.SourceFileLoader(name, str(TOOLS / name))
+    spec = importlib.util.spec_from_loader(name, loader)
+    assert spec is not None
+    module = importlib.util.module_from_spec(spec)
+    sys.modules[name] = module  # dataclasses look a class's module up by its name
+    was, sys.dont_write_bytecode = sys.dont_write_bytecode, True
+    try:
+        loader.exec_module(module)
+    finally:
+        sys.dont_write_bytecode = was
+    return module
 
 
 def takes_columns() -> bool:

@@ -7,9 +7,8 @@ from unittest import mock
 import commands
 from support import FolderTest
 
-from ltm_tools import importing
+from ltm_tools import cells
 from ltm_tools.case import Case
-from ltm_tools.cells import asked_for
 from ltm_tools.sumo_signals import filled
 
 
@@ -164,9 +163,9 @@ class Vehicles(SumoTest):
 
     def test_cells_that_are_asked_for(self) -> None:
         """Where a case may have fewer without asking: the same line and column as of other networks."""
-        with mock.patch.object(importing, "MOST_CELLS", 1000):
+        with mock.patch.object(cells, "MOST_CELLS", 1000):
             case = self.made(routes='<vehicle id="1" depart="0"><route edges="in on"/></vehicle>')
-        self.assertEqual(case.setup.cells, asked_for(case.cells()))
+        self.assertEqual(case.setup.cells, cells.asked_for(case.cells()))
         self.assertIn(f"{case.cells():,} cells, so the column cells of setup.csv asks for 1,000,000, as without it 1,000 may be: about 1 MB", self.out)
 
     def test_fewer_destinations(self) -> None:
