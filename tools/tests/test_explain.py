@@ -216,6 +216,7 @@ class Scripts(FolderTest):
             ('{"do": "link"}', "NotCommand 0", "the member link was looked for, and is not there"),
             ('{"do": "time", "link": "a", "slot": "3"}', "NotCommand 0", 'the member slot is "3", and a whole number from 0 to 4294967295 is wanted: "3" as the number 3'),
             ('{"do": "time", "link": "a", "slot": 3.0}', "NotCommand 0", "the member slot is 3.0"),
+            ('{"do": "time", "link": "a", "slot": -0}', "NotCommand 0", "the member slot is -0.0, and a whole number"),
             ('{"do": "time", "link": "a", "slot": true}', "NotCommand 0", "the member slot is true"),
             ('{"do": "link", "link": "a b"}', "NotCommand 0", 'the member link is "a b", and a name'),
             ('{"do": "edit"}', "NotCommand 0", "the member edits was looked for"),
