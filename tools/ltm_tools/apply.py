@@ -18,7 +18,7 @@ EXAMPLES = """\
     ltm /tmp/wider load
 
 Lines of the script that are no edits are passed over. Which batches are accepted the program says; those that it refuses are told on the
-standard error, and make nothing. Entry limits (edits `limit`) that stand at the end have no form in files yet, and are refused.
+standard error, and make nothing. Entry limits (edits `limit`) go to limits.csv, and exit limits to signals.csv.
 """
 
 

@@ -5,29 +5,11 @@ raises it.
 """
 from collections.abc import Iterable
 
+from .cells import asked_for, memory_text
 from .errors import Fault
 from .files import shown
-from .formats import (
-    HEADERS,
-    MOST_CELLS,
-    MOST_DEMAND_ROWS,
-    MOST_DESTINATIONS,
-    MOST_IN,
-    MOST_LINKS,
-    MOST_OUT,
-    MOST_SLOT_UNITS,
-    MOST_SLOTS,
-    MOST_SPLIT_ROWS,
-    MOST_STEP_MS,
-    NAME_RULE,
-    SETUP,
-    SETUP_MORE,
-    VEHICLES_RULE,
-    WEIGHTS_RULE,
-    WHOLE_RULE,
-    count_text,
-    vehicles_text,
-)
+from .formats import (HEADERS, MOST_CELLS, MOST_CELLS_ASKED, MOST_DEMAND_ROWS, MOST_DESTINATIONS, MOST_IN, MOST_LINKS, MOST_OUT, MOST_SLOT_UNITS, MOST_SLOTS,
+                      MOST_SPLIT_ROWS, MOST_STEP_MS, NAME_RULE, SETUP, SETUP_MORE, VEHICLES_RULE, WEIGHTS_RULE, WHOLE_RULE, count_text, headers_of, vehicles_text)
 
 KINDS = {"name": f"a name is {NAME_RULE}", "whole": f"a whole number is {WHOLE_RULE}", "vehicles": f"vehicles are {VEHICLES_RULE}",
          "weights": f"weights are {WEIGHTS_RULE}"}
@@ -71,12 +53,12 @@ class TooLong(Fault):
 
 
 def header(file: str, found: list[str] | None) -> BadCase:
-    wanted = ",".join(HEADERS[file]) + (f", and behind it {' or '.join(SETUP_MORE)} or nothing" if file == "setup" else "")
+    wanted = ",".join(HEADERS[file]) + (f", and behind it each of {', '.join(SETUP_MORE)} or not, in this order" if file == "setup" else "")
     if found is None:
         return BadCase(file, 1, "Header", f"the file has no record, and its first is to be {wanted}", "write that header as the first line")
     if len(found) == 1 and ";" in found[0]:
         return BadCase(file, 1, "Header", f"the fields stand between semicolons, and the header is to be {wanted}", "save the file with commas")
-    if [field.strip().lower() for field in found] == list(HEADERS[file]):
+    if tuple(field.strip().lower() for field in found) in headers_of(file):
         return BadCase(file, 1, "Header", f"the header is to be exactly {wanted}", "take out blanks, and write small letters")
     return BadCase(file, 1, "Header", f"the header is to be exactly {wanted}, and it is {shown(','.join(found))}", "these fields, in this order")
 
@@ -123,8 +105,9 @@ def setup_range(place: int, name: str, text: str) -> BadCase:
     rules = {"step_ms": f"a step is 1 to {MOST_STEP_MS} milliseconds", "slots": f"there are 1 to {MOST_SLOTS} slots",
              "origin_capacity": f"an origin capacity is 0.001 to {SLOT_VEHICLES} vehicles in a slot",
              "signals": "it is 1 where there is a signals.csv, and else 0", "limits": "it is 1 where there is a limits.csv, and else 0",
-             "cells": "it is 1 to 2,000,000,000"}
-    advice = {"slots": "take a longer step, and so fewer slots", "step_ms": "a second is 1000"}.get(name, "") if text.strip("0") else ""
+             "cells": f"it is 1 to {count_text(MOST_CELLS_ASKED)}"}
+    advice = {"slots": "take a longer step, and so fewer slots", "step_ms": "a second is 1000",
+              "cells": f"without this column it is {count_text(MOST_CELLS)}"}.get(name, "") if text.strip("0") else ""
     return BadCase("setup", 2, f"Range {place}", rules[name], advice, place)
 
 
@@ -240,9 +223,8 @@ def no_split(node: str, destination: str, reason: str, advice: str) -> BadCase:
     return BadCase("whole", 0, f"NoSplit {node} {destination}", reason, advice)
 
 
-def cells_over(cells: int, fits: int, slots: int, most: int = MOST_CELLS) -> BadCase:
+def cells_over(cells: int, most: int, fits: int, slots: int) -> BadCase:
     rule = f"the case has {count_text(cells)} cells, and at most {count_text(most)} may be"
-    if fits < 1:
-        return BadCase("whole", 0, f"CellsOver {cells}", rule, "not one slot fits: take a smaller network or fewer destinations")
-    return BadCase("whole", 0, f"CellsOver {cells}", rule, f"{count_text(fits)} of its {count_text(slots)} slots would fit: "
-                   "take fewer slots or a longer step, a smaller network, or fewer destinations")
+    asking = f"write {asked_for(cells)} in the column cells of setup.csv, which takes {memory_text(cells)}; or " if cells <= MOST_CELLS_ASKED else ""
+    fitting = "not one slot fits: take " if fits < 1 else f"{count_text(fits)} of its {count_text(slots)} slots would fit: take fewer slots or a longer step, "
+    return BadCase("whole", 0, f"CellsOver {cells}", rule, f"{asking}{fitting}a smaller network, or fewer destinations")

@@ -15,10 +15,8 @@ from .fit import Change, Fit, metres_text, stretched
 
 MOST_ROUTES = 5000
 ROUNDS = 40
-MOST_SHARE = 0.2
-"""The most by which a road is changed, over its own time."""
-HOLD = 0.002
-"""How much a change of a road by a share of its time counts, beside a route's being off by that share."""
+MOST_SHARE = 0.2  # the most by which a road is changed, over its own time
+HOLD = 0.002  # how much a change of a road by a share of its time counts, beside a route's being off by that share
 
 
 @dataclass(frozen=True, slots=True)

@@ -23,6 +23,11 @@ class Setup:
         """The length of all slots."""
         return self.step_ms * self.slots
 
+    @property
+    def most_cells(self) -> int:
+        """How many cells the case may have."""
+        return MOST_CELLS if self.cells is None else self.cells
+
 
 @dataclass(slots=True)
 class Link:
@@ -184,9 +189,9 @@ class Case:
         boundary = 2 * (2 * len(self.links) + nodes + 1) * ends
         return boundary, widths + boundary + 2 * len(self.links)
 
-    def slots_that_fit(self, most_cells: int = MOST_CELLS) -> int:
-        """The most slots with which the cells are within the limit; 0 where not one fits, and at most 10,000."""
+    def slots_that_fit(self, most_cells: int | None = None) -> int:
+        """The most slots with which the cells are within the limit of the setup, or this one; 0 where not one fits, and at most 10,000."""
         fixed, each = self.cells_by_slot()
         if each == 0:
             return MOST_SLOTS
-        return max(0, min(MOST_SLOTS, (most_cells - fixed) // each))
+        return max(0, min(MOST_SLOTS, ((self.setup.most_cells if most_cells is None else most_cells) - fixed) // each))

@@ -1,11 +1,10 @@
 """Files of a case, fetched, and the fields of their records, each of its kind or the fault that names it."""
 import os
-from collections.abc import Iterable, Sequence
 
 from . import bad_case
 from .bad_case import NoFile, TooLong
 from .files import Record
-from .formats import MOST_FILE_BYTES, is_name, units_or_none, whole_of
+from .formats import MOST_FILE_BYTES, headers_of, is_name, units_or_none, whole_of
 
 
 def fetch(folder: str | os.PathLike[str], file: str) -> bytes:
@@ -22,11 +21,11 @@ def fetch(folder: str | os.PathLike[str], file: str) -> bytes:
         raise NoFile(file, False, f"{path}: {error.strerror or error}") from None
 
 
-def read_header(file: str, found: list[Record], headers: Iterable[Sequence[str]]) -> int:
-    """How many fields the header has; a fault where it is none of these."""
+def read_header(file: str, found: list[Record]) -> int:
+    """How many fields the header of a file has; a fault where it is none that the file may have."""
     if not found:
         raise bad_case.header(file, None)
-    if tuple(found[0].fields) not in {tuple(header) for header in headers}:
+    if tuple(found[0].fields) not in headers_of(file):
         raise bad_case.header(file, found[0].fields)
     return len(found[0].fields)
 

@@ -12,38 +12,16 @@ from .case import Case, Demand, Limit, Link, Setup, Split
 from .case_fields import check_width, fetch, name_in, read_header, units_in, whole_in
 from .errors import Fault
 from .files import make_folder, records, write_records
-from .formats import (
-    HEADERS,
-    MOST_CELLS,
-    MOST_CELLS_ASKED,
-    MOST_DEMAND_ROWS,
-    MOST_DESTINATIONS,
-    MOST_IN,
-    MOST_JAM_PER_KM,
-    MOST_KMH,
-    MOST_LENGTH_M,
-    MOST_LINKS,
-    MOST_OUT,
-    MOST_SLOT_UNITS,
-    MOST_SLOTS,
-    MOST_SPLIT_ROWS,
-    MOST_STEP_MS,
-    SETUP,
-    SETUP_LATER,
-    is_name,
-    short_vehicles,
-    weights_or_none,
-    weights_text,
-)
+from .formats import (HEADERS, MOST_CELLS_ASKED, MOST_DEMAND_ROWS, MOST_DESTINATIONS, MOST_IN, MOST_JAM_PER_KM, MOST_KMH, MOST_LENGTH_M, MOST_LINKS,
+                      MOST_OUT, MOST_SLOT_UNITS, MOST_SLOTS, MOST_SPLIT_ROWS, MOST_STEP_MS, SETUP, is_name, short_vehicles, weights_or_none, weights_text)
 from .valid import check_cells, check_routes, check_splits
 
 MOST_DIAGRAM = (MOST_LENGTH_M, MOST_KMH, MOST_KMH, MOST_JAM_PER_KM)
 
 
-def read_case(folder: str | os.PathLike[str], *, splits: bool | None = None, columns: Sequence[str] = SETUP_LATER) -> Case:
+def read_case(folder: str | os.PathLike[str], *, splits: bool | None = None) -> Case:
     """The valid case of a folder, or the first fault. With `splits` True a `splits.csv` is wanted, as by `load`; with False it is not
-    looked at, and routes are asked for, as by `routes`; with None it may be missing. `columns` may stand in `setup.csv` behind its
-    first three."""
+    looked at, and routes are asked for, as by `routes`; with None it may be missing."""
     texts = {file: fetch(folder, file) for file in ("setup", "links", "demand")}
     if splits is not False:
         try:
@@ -51,7 +29,7 @@ def read_case(folder: str | os.PathLike[str], *, splits: bool | None = None, col
         except NoFile as fault:
             if splits or not fault.missing:
                 raise
-    reader = Reader(read_setup(texts["setup"], columns))
+    reader = Reader(read_setup(texts["setup"]))
     for file in ("signals", "limits"):
         if splits is not False and getattr(reader.case.setup, file):
             texts[file] = fetch(folder, file)
@@ -78,24 +56,16 @@ def read_network(folder: str | os.PathLike[str]) -> Case:
 def read_rows(file: str, data: bytes, add: Callable[[int, list[str]], None]) -> None:
     """Reads the header of a file, and adds each record behind it."""
     found = list(records(data))
-    width = read_header(file, found, [HEADERS[file]])
+    width = read_header(file, found)
     for row, record in enumerate(found[1:], 2):
         check_width(file, row, record.fields, width)
         add(row, record.fields)
 
 
-def setup_headers(columns: Sequence[str]) -> list[tuple[str, ...]]:
-    """The headers that `setup.csv` may have: the three fields, and of these columns each or not, in order."""
-    headers: list[tuple[str, ...]] = [SETUP]
-    for column in columns:
-        headers += [(*header, column) for header in headers]
-    return headers
-
-
-def read_setup(data: bytes, columns: Sequence[str] = SETUP_LATER) -> Setup:
+def read_setup(data: bytes) -> Setup:
     """The setup that the bytes of a `setup.csv` say."""
     found = list(records(data))
-    width = read_header("setup", found, setup_headers(columns))
+    width = read_header("setup", found)
     if len(found) < 2:
         raise bad_case.no_setup_record()
     fields = found[1].fields

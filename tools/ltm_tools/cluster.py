@@ -36,12 +36,13 @@ def keep(files: dict[str, bytes]) -> dict[str, bytes]:
     return files
 
 
-def run_piece(piece: Sequence[tuple[int, str, list[list[dict[str, object]]]]], files: dict[str, bytes], key: str, program: str, links: Sequence[str]) -> list[Row]:
+def run_piece(piece: Sequence[tuple[int, str, list[list[dict[str, object]]]]], files: dict[str, bytes], key: str, program: str, links: Sequence[str],
+              delay: bool) -> list[Row]:
     """In a worker: the rows of results of a piece, by the session that is open there."""
     place = (key, threading.get_ident())
     runner = _runners.get(place)
     if runner is None:
-        runner = _runners[place] = Runner(folder_of(files, key), program if os.access(program, os.X_OK) else find_program(), links)
+        runner = _runners[place] = Runner(folder_of(files, key), program if os.access(program, os.X_OK) else find_program(), links, delay)
     try:
         return [runner.run(Scenario(*scenario)) for scenario in piece]
     except BaseException:
@@ -69,12 +70,12 @@ def package_zip(folder: str) -> str:
     return path
 
 
-def there(address: str, folder: str, named: str | None, links: Sequence[str], pieces: Sequence[Sequence[Scenario]]) -> Iterator[list[Row]]:
+def there(address: str, folder: str, named: str | None, links: Sequence[str], delay: bool, pieces: Sequence[Sequence[Scenario]]) -> Iterator[list[Row]]:
     """The rows of results of each piece, in order, by the workers of a cluster."""
     import distributed
 
     files = case_bytes(folder)
-    key = hashlib.sha256(repr((sorted(files.items()), list(links), named)).encode()).hexdigest()
+    key = hashlib.sha256(repr((sorted(files.items()), list(links), delay, named)).encode()).hexdigest()
     try:
         client: Any = distributed.Client(address, timeout=10, set_as_default=False)
     except (OSError, ValueError) as error:
@@ -86,7 +87,7 @@ def there(address: str, folder: str, named: str | None, links: Sequence[str], pi
             program = str(find_program(named))
         except Fault:
             program = named or ""
-        futures = [client.submit(run_piece, [tuple(scenario) for scenario in piece], held, key, program, list(links), pure=False, retries=TRIES) for piece in pieces]
+        futures = [client.submit(run_piece, [tuple(scenario) for scenario in piece], held, key, program, list(links), delay, pure=False, retries=TRIES) for piece in pieces]
         for future in futures:
             try:
                 yield future.result()

@@ -4,12 +4,12 @@ from __future__ import annotations
 import argparse
 from collections.abc import Callable, Mapping, Sequence
 
-from . import delay
 from .curves import Counts, total
+from .delay import Report, report
 from .formats import MINUTE_MS, clock_text
 from .listing import Cell, TimeUnit, add_format_arguments, csv_text, json_text, seconds, text_table, time_unit, vehicles
 from .files import write_text
-from .loaded import Loaded, add_start_argument, loaded
+from .loaded import Loaded, add_start_argument, loaded, told_delay
 from .program import add_program_argument
 from .times import as_list, at, minutes
 
@@ -30,9 +30,9 @@ Pairs = dict[str, tuple[int | None, int | None]]
 class Comparison:
     """Two loadings side by side: pairs of numbers by name, None where a case does not have it."""
 
-    def __init__(self, one: Loaded, other: Loaded) -> None:
+    def __init__(self, one: Loaded, other: Loaded, reports: tuple[Report, Report] | None = None) -> None:
         self.both = (one, other)
-        self.reports = tuple(delay.report(curves, case) for case, curves in self.both)
+        self.reports = reports or tuple(report(curves, case) for case, curves in self.both)
         self.arrived = tuple(arrivals(loading) for loading in self.both)
 
     def times(self) -> Pairs:
@@ -111,7 +111,9 @@ def add_arguments(parser: argparse.ArgumentParser) -> None:
 
 
 def run(args: argparse.Namespace) -> int:
-    found = Comparison(loaded(args.case, args.curves, args.program), loaded(args.other, args.other_curves, args.program))
+    asked = ((args.case, args.curves, args.program), (args.other, args.other_curves, args.program))
+    one, other = (loaded(*of) for of in asked)
+    found = Comparison(one, other, (told_delay(one, *asked[0]), told_delay(other, *asked[1])))
     if args.format == "text":
         write_text(args.output, text(found, args))
         return 0

@@ -13,13 +13,14 @@ Times are units times milliseconds: whole numbers of millionths of a vehicle sec
 """
 from __future__ import annotations
 
+import re
 from collections.abc import Iterator
 from dataclasses import dataclass, field
 
 from .case import Case, Demand, Link
-from .curves import Counts, Curves, is_array, less, total, zeros
+from .curves import Counts, Curves, is_array, less, zeros
 from .errors import Fault
-from .formats import MOST_SLOT_UNITS, vehicles_text
+from .formats import MOST_SLOT_UNITS, NAME, told_time, told_units, vehicles_text
 
 try:
     import numpy
@@ -82,6 +83,28 @@ class Report:
             yield f"link {name} spent {seconds_text(link.spent)} queued {seconds_text(link.queued)} most {vehicles_text(link.most)} at {link.at}"
         for name, node in self.origins.items():
             yield f"node {name} waited {seconds_text(node.waited)} most {vehicles_text(node.most)} at {node.at}"
+
+
+TIME, AMOUNT = r"([0-9]+\.[0-9]{6})", r"([0-9]+\.[0-9]{3})"
+TOTALS_LINE = re.compile(f"version 0 spent {TIME} queued {TIME} waited {TIME}", re.ASCII)
+LINK_LINE = re.compile(f"link ({NAME.pattern}) spent {TIME} queued {TIME} most {AMOUNT} at ([0-9]+)", re.ASCII)
+NODE_LINE = re.compile(f"node ({NAME.pattern}) waited {TIME} most {AMOUNT} at ([0-9]+)", re.ASCII)
+
+
+def read_report(text: str) -> Report:
+    """The report that is told by these lines, as the program writes them; a Fault where they tell none."""
+    lines, found = text.splitlines(), Report()
+    totals = TOTALS_LINE.fullmatch(lines[0]) if lines else None
+    for number, line in enumerate(lines[1:], 2):
+        if link := LINK_LINE.fullmatch(line):
+            found.links[link[1]] = Delay(told_time(link[2]), told_time(link[3]), told_units(link[4]), int(link[5]))
+        elif node := NODE_LINE.fullmatch(line):
+            found.origins[node[1]] = Wait(told_time(node[2]), told_units(node[3]), int(node[4]))
+        else:
+            raise Fault(f"line {number} of a report of delay is {line!r}")
+    if totals is None or (found.spent, found.queued, found.waited) != tuple(map(told_time, totals.groups())):
+        raise Fault(f"{lines[0] if lines else ''!r} is not the first line of this report of delay")
+    return found
 
 
 def seconds_text(time: int) -> str:

@@ -9,7 +9,7 @@ from pathlib import Path
 from .case import Case, Demand
 from .case_files import read_network
 from .passages import Roads
-from .demand_files import exists, quarter_before, read_amounts, read_profile, read_trips, whole_units
+from .demand_files import add_reading_arguments, exists, quarter_before, read_amounts, read_profile, read_trips, whole_units
 from .errors import Fault
 from .files import write_records
 from .formats import DEMAND, MINUTE_MS, MOST_DESTINATIONS, clock_ms, clock_text, short_vehicles
@@ -31,15 +31,10 @@ Nodes are those of the case, or of the source that it was made of. demand.csv is
 
 def add_arguments(parser: argparse.ArgumentParser) -> None:
     """The arguments of the command."""
-    parser.add_argument("case", help="the folder of the case")
-    kind = parser.add_mutually_exclusive_group(required=True)
-    kind.add_argument("--table", metavar="FILE", help="vehicles by origin and destination")
-    kind.add_argument("--trips", metavar="FILE", help="trips, each with its time")
+    add_reading_arguments(parser, {"--table": "vehicles by origin and destination", "--trips": "trips, each with its time"},
+                          "the first time of the profile, or the quarter of an hour before the first trip", "over which trips are counted together")
     parser.add_argument("--profile", metavar="FILE", help="when the vehicles of the table set out")
     parser.add_argument("--period", type=int, metavar="MINUTES", help="set out evenly over so many minutes, in place of a profile (all slots)")
-    parser.add_argument("--start", metavar="CLOCK", help="the clock time of slot 0 (the first time of the profile, or the quarter of an hour before the first trip)")
-    parser.add_argument("--slice", type=int, default=15, metavar="MINUTES", help="the minutes over which trips are counted together (15)")
-    parser.add_argument("--encoding", help="the encoding of the files (UTF-8, else by what they hold)")
     parser.add_argument("--leave-out-unreached", action="store_true", help="leave out demand to which no way leads, and tell how much")
 
 

@@ -4,7 +4,9 @@ Times are clock times, as 7:45 or 07:45:30, or seconds; they become milliseconds
 """
 from __future__ import annotations
 
+import argparse
 import os
+from collections.abc import Mapping
 from dataclasses import dataclass
 from fractions import Fraction
 from pathlib import Path
@@ -40,6 +42,19 @@ class ZoneTrip:
     destination: str
     time_ms: int
     units: int
+
+
+def add_reading_arguments(parser: argparse.ArgumentParser, files: Mapping[str, str], start: str, counted: str) -> "argparse._MutuallyExclusiveGroup":
+    """The case, and options: one of these with a file, as they are told here; `--start`, with what slot 0 is where nothing is said; `--slice`,
+    with what its minutes are; and `--encoding`. The options of which one is given can be added to."""
+    parser.add_argument("case", help="the folder of the case")
+    kind = parser.add_mutually_exclusive_group(required=True)
+    for name, told in files.items():
+        kind.add_argument(name, metavar="FILE", help=told)
+    parser.add_argument("--start", metavar="CLOCK", help=f"the clock time of slot 0 ({start})")
+    parser.add_argument("--slice", type=int, default=15, metavar="MINUTES", help=f"the minutes {counted} (15)")
+    parser.add_argument("--encoding", help="the encoding of the files (UTF-8, else by what they hold)")
+    return kind
 
 
 def moment_ms(row: Row, field: str) -> int:

@@ -9,9 +9,10 @@ import re
 from collections.abc import Sequence
 from pathlib import Path
 
-from .bad_case import BadCase, NoFile, TooLong
+from .bad_case import BadCase, NoFile
 from .case import Case
 from .case_files import read_case
+from .cells import memory_text
 from .curve_faults import find_fault
 from .errors import Fault
 from .files import read_bytes, records, shown
@@ -22,7 +23,6 @@ from .formats import (
     MOST_FILE_BYTES,
     MOST_LINE_BYTES,
     MOST_LINES,
-    SETUP_MORE,
     clock_text,
     count_text,
 )
@@ -89,7 +89,7 @@ def refused(folder: str, line: str, command: str) -> Told:
 
 def read(folder: str, words: list[str]) -> Case:
     """The case as the program reads it with these words: its first fault is raised."""
-    return read_case(folder, splits=words[0] != "routes", columns=SETUP_MORE)
+    return read_case(folder, splits=words[0] != "routes")
 
 
 def first_fault(folder: str, words: list[str]) -> Fault | None:
@@ -205,7 +205,7 @@ def no_memory(folder: str, words: list[str]) -> Told:
         cells = read(folder, words).cells()
     except Fault:
         return ["memory was not found"]
-    return [f"memory was not found; the case has {count_text(cells)} cells", "    take fewer slots, or end other programs"]
+    return [f"memory was not found; the case has {count_text(cells)} cells, {memory_text(cells)}", "    take fewer slots, or end other programs"]
 
 
 def bad_curves(folder: str, line: str) -> Told:

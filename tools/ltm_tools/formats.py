@@ -47,8 +47,8 @@ MOST_DESTINATIONS = 64
 MOST_DEMAND_ROWS = 10_000
 MOST_SPLIT_ROWS = 50_000
 MOST_WEIGHTS = 4  # of a split row
-MOST_CELLS = 54_000_000
-MOST_CELLS_ASKED = 2_000_000_000  # in the column `cells`
+MOST_CELLS = 54_000_000  # of a case whose setup has no column `cells`
+MOST_CELLS_ASKED = 2_000_000_000  # in that column
 
 # scripts and batches
 MOST_EDITS = 32  # of a batch
@@ -60,14 +60,21 @@ MOST_EDITORS = 8
 
 # the files of a case, in the order in which they are read: the fields of each header
 SETUP = ("step_ms", "slots", "origin_capacity")
-SETUP_MORE = ("signals",)  # may stand behind these three, each or not, in this order
-SETUP_LATER = ("signals", "limits", "cells")  # what these tools read there: the program of today knows `signals` alone
+SETUP_MORE = ("signals", "limits", "cells")  # may stand behind these three, each or not, in this order
 LINKS = ("link", "from", "to", "length_m", "free_kmh", "wave_kmh", "jam_per_km")
 DEMAND = ("origin", "destination", "from_slot", "to_slot", "vehicles")
 SPLITS = ("node", "destination", "from_slot", "weights")
 SIGNALS = ("link", "from_slot", "to_slot", "vehicles")
 HEADERS = {"setup": SETUP, "links": LINKS, "demand": DEMAND, "splits": SPLITS, "signals": SIGNALS, "limits": SIGNALS}
 CURVES = ("kind", "name", "destination", "counts")
+
+
+def headers_of(file: str) -> list[tuple[str, ...]]:
+    """The headers that a file of a case may have: one, and for `setup` its three fields with each column behind them or not, in order."""
+    headers: list[tuple[str, ...]] = [HEADERS[file]]
+    for column in SETUP_MORE if file == "setup" else ():
+        headers += [(*header, column) for header in headers]
+    return headers
 
 
 def is_name(text: str) -> bool:
@@ -129,6 +136,23 @@ def vehicles_text(units: int) -> str:
     """Thousandths as vehicles with three decimals, as the program prints them: 1250 is `1.250`."""
     sign = "-" if units < 0 else ""
     return f"{sign}{abs(units) // UNITS}.{abs(units) % UNITS:03}"
+
+
+def told_units(text: str) -> int:
+    """Thousandths of an amount as the program prints it, with three decimals and of any size."""
+    return _told(text, 3)
+
+
+def told_time(text: str) -> int:
+    """Thousandths times milliseconds of a vehicle time as the program prints it, in vehicle seconds with six decimals and of any size."""
+    return _told(text, 6)
+
+
+def _told(text: str, decimals: int) -> int:
+    whole, _, part = text.partition(".")
+    if not whole or len(part) != decimals or not (whole + part).isdecimal() or not text.isascii():
+        raise Fault(f"{text!r} is no number with {decimals} decimals")
+    return int(whole + part)
 
 
 def short_vehicles(units: int) -> str:

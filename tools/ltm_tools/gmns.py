@@ -21,13 +21,14 @@ from fractions import Fraction
 from pathlib import Path
 
 from .case import Case, Demand, Setup
+from .cells import ask_for_cells
 from .demand_files import Amounts, exists, read_amounts, read_profile, whole_units
 from .ends import joined, most_used
 from .errors import Fault
-from .formats import MINUTE_MS, MOST_DESTINATIONS, MOST_SLOT_UNITS, UNITS, clock_ms, short_vehicles
+from .formats import MINUTE_MS, UNITS, clock_ms, short_vehicles
 from .gmns_net import KMH, METRES, Read, Units, read_gmns
-from .importing import (Carried, Refused, above_0, add_network_arguments, carried, changes_table, check_cells, check_destinations, least_routes,
-                        longest_step, routes_table, slots_of, steps_table, write)
+from .importing import (Carried, Refused, above_0, add_network_arguments, carried, changes_told, check_destinations, least_routes, run_import, slots_of,
+                        steps_table, write)
 from .network import Network, Node, least_times, top
 from .places import UNITS as PLACE_UNITS
 from .profiles import Part, by_profile
@@ -69,23 +70,7 @@ def add_arguments(parser: argparse.ArgumentParser) -> None:
 
 def run(args: argparse.Namespace) -> int:
     """Makes the case."""
-    check_arguments(args)
-    try:
-        return make(args)
-    except Refused as refused:
-        refused.tell()
-        return 1
-
-
-def check_arguments(args: argparse.Namespace) -> None:
-    """That numbers are in their limits."""
-    for name in ("period", "horizon", "origin_capacity"):
-        if getattr(args, name) < 1:
-            raise Fault(f"--{name.replace('_', '-')} is at least 1")
-    if args.origin_capacity > MOST_SLOT_UNITS // UNITS:
-        raise Fault(f"--origin-capacity is at most {MOST_SLOT_UNITS // UNITS}")
-    if args.destinations is not None and not 1 <= args.destinations <= MOST_DESTINATIONS:
-        raise Fault(f"--destinations is 1 to {MOST_DESTINATIONS}")
+    return run_import(args, make, ("period", "horizon"))
 
 
 def make(args: argparse.Namespace) -> int:
@@ -107,9 +92,9 @@ def make(args: argparse.Namespace) -> int:
     routes = least_routes(raw, [(start, end, whole_units(volume, "demand")) for (start, end), volume in volumes.items()]) if args.fit else []
     made = carried(raw, args, routes)
     case, slots_of_demand = case_of(made, volumes, args, read)
-    cells = check_cells(case)
-    write(args.case, case, made)
+    cells = ask_for_cells(case)
     tell(made, case, slots_of_demand, cells, [*read.told(), *amounts.notes], amounts.inner, routes)
+    write(args.case, case, made)
     return 0
 
 
@@ -269,11 +254,4 @@ def tell(made: Carried, case: Case, last: int, cells: str, notes: list[str], inn
         print(f"{float(inner):g} vehicles stay within a zone and are left out")
     for line in notes:
         print(line)
-    if made.fit is None:
-        print(f"the longest step that changes nothing is {longest_step(made.raw)} ms")
-    else:
-        print(*changes_table(made), *routes_table(made, routes), sep="\n")
-    renamed = sum(name != source for names in (made.link_names, made.node_names) for source, name in names.items())
-    if renamed:
-        print(f"{renamed} names are made, and stand in source_links.csv and source_nodes.csv")
-    print(cells)
+    print(*changes_told(made, routes), cells, sep="\n")

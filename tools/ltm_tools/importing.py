@@ -1,9 +1,9 @@
-"""From a raw network to the links of a case: the step, the fit, the names, and the cells; what `from-gmns` and `from-sumo` share."""
+"""From a raw network to the links of a case: the step, the fit and the names; what `from-gmns` and `from-sumo` share."""
 from __future__ import annotations
 
 import argparse
 import sys
-from collections.abc import Iterable, Iterator
+from collections.abc import Callable, Iterable, Iterator
 from dataclasses import dataclass
 from fractions import Fraction
 from pathlib import Path
@@ -14,7 +14,7 @@ from .passages import Roads
 from .errors import Fault
 from .files import write_text
 from .fit import ARMS, Fit, metres_text
-from .formats import MINUTE_MS, MOST_CELLS, MOST_DESTINATIONS, MOST_LINKS, MOST_SLOT_UNITS, MOST_SLOTS, MOST_STEP_MS, NAME_RULE, UNITS, count_text
+from .formats import MINUTE_MS, MOST_DESTINATIONS, MOST_LINKS, MOST_SLOT_UNITS, MOST_SLOTS, MOST_STEP_MS, NAME_RULE, UNITS
 from .names import names_for
 from .network import Network, diagram, least_route, least_times, totals
 from .source import Source, SourceLink, lines_of
@@ -109,6 +109,21 @@ def add_network_arguments(parser: argparse.ArgumentParser) -> None:
     group.add_argument("--steps", action="store_true", help="tell what a fit to each of some steps would change, and write nothing")
     group.add_argument("--rename", action="store_true", help="make names for those that a case cannot have; source_links.csv and source_nodes.csv have both")
     group.add_argument("--origin-capacity", type=int, default=MOST_SLOT_UNITS // UNITS, metavar="N", help="the most vehicles that leave an origin in a step (32)")
+
+
+def run_import(args: argparse.Namespace, make: Callable[[argparse.Namespace], int], minutes: Iterable[str]) -> int:
+    """Makes a case, once the numbers of the command line are in their limits, these in minutes among them; tells what cannot be carried."""
+    for name in minutes:
+        if getattr(args, name) is not None and getattr(args, name) < 1:
+            raise Fault(f"--{name.replace('_', '-')} is at least 1")
+    for name, most in (("origin_capacity", MOST_SLOT_UNITS // UNITS), ("destinations", MOST_DESTINATIONS)):
+        if getattr(args, name) is not None and not 1 <= getattr(args, name) <= most:
+            raise Fault(f"--{name.replace('_', '-')} is 1 to {most}")
+    try:
+        return make(args)
+    except Refused as refused:
+        refused.tell()
+        return 1
 
 
 def carried(raw: Network, args: argparse.Namespace, routes: Iterable[tuple[tuple[str, ...], int]] = ()) -> Carried:
@@ -219,6 +234,13 @@ def signed(share: Fraction) -> str:
     return f"{float(share) * 100:+.2f} %"
 
 
+def changes_told(made: Carried, routes: Iterable[tuple[tuple[str, ...], int]]) -> list[str]:
+    """What was changed: the step and the network, the most used routes with it, and names."""
+    told = [*changes_table(made), *routes_table(made, routes)] if made.fit is not None else [f"the longest step that changes nothing is {longest_step(made.raw)} ms"]
+    renamed = sum(name != source for names in (made.link_names, made.node_names) for source, name in names.items())
+    return told + ([f"{renamed} names are made, and stand in source_links.csv and source_nodes.csv"] if renamed else [])
+
+
 def changes_table(made: Carried) -> list[str]:
     """What a fit changed: for each kind of change how many, how many metres and seconds, and the one that moves most."""
     if made.fit is None:
@@ -283,30 +305,6 @@ def check_destinations(nodes: Iterable[str]) -> None:
         raise Fault(f"there are {len(ends)} destinations, and at most {MOST_DESTINATIONS} may be: give --destinations {MOST_DESTINATIONS},"
                     f" which keeps those with most vehicles, and lets the other trips end at the nearest of them; past these are the nodes"
                     f" {', '.join(ends[MOST_DESTINATIONS:MOST_DESTINATIONS + 10])}")
-
-
-def check_cells(case: Case) -> str:
-    """The cells of a case in a line; a Fault with what would fit where they are too many."""
-    cells = case.cells()
-    if cells > MOST_CELLS:
-        raise Fault(f"{count_text(cells)} cells, and at most {count_text(MOST_CELLS)} may be: {cells_advice(case)}")
-    return f"{count_text(cells)} cells of at most {count_text(MOST_CELLS)}"
-
-
-def cells_advice(case: Case) -> str:
-    """The horizon, the step or the destinations with which the cells would fit."""
-    step, slots = case.setup.step_ms, case.setup.slots
-    fitting = case.slots_that_fit()
-    told = []
-    if fitting * step >= MINUTE_MS:
-        told.append(f"--horizon {fitting * step // MINUTE_MS} at this step")
-    longer = next((number for number in range(step + 1, MOST_STEP_MS + 1) if MINUTE_MS % number == 0 and -(-slots * step // number) <= fitting), None)
-    if longer:
-        told.append(f"--fit {longer} at this horizon")
-    ends = len(case.destinations) * fitting // slots
-    if ends:
-        told.append(f"--destinations {ends} at both")
-    return " or ".join(told) or "cut out a smaller area"
 
 
 def write(folder: str, case: Case, made: Carried) -> None:

@@ -7,10 +7,11 @@ from .bad_case import BadCase
 from .case import Case, Link
 from .case_fields import fetch, read_header
 from .case_files import Reader, read_case, read_setup
+from .cells import SESSION_BYTES, asked_for, memory_text
 from .circles import find_circles
 from .errors import Fault
 from .files import records
-from .formats import HEADERS, HOUR_MS, MOST_CELLS, MOST_SLOTS, SETUP_MORE, clock_text, count_text, counted, short_vehicles, vehicles_text
+from .formats import HOUR_MS, MOST_CELLS_ASKED, MOST_SLOTS, clock_text, count_text, counted, short_vehicles, vehicles_text
 from .program import check_folder
 
 NAME = "inspect"
@@ -21,7 +22,6 @@ EXAMPLES = """examples:
 
 Where a record is wrong, what is told of the case leaves it out."""
 
-SESSION_BYTES = 4  # of memory for a cell: sessions took 2.1 to 3.4 where they were measured
 MOST_TOLD = 8  # of a list
 MOST_LINKS = 12  # of a circle
 TABLE = "{:32} {:>9} {:>9} {:>9} {:>9} {:>10}"
@@ -40,13 +40,13 @@ class LooseReader(Reader):
 
 def read_loosely(folder: str) -> Case:
     """What can be read of a case: records that are wrong are left out, and files that are missing."""
-    reader = LooseReader(read_setup(fetch(folder, "setup"), SETUP_MORE))
+    reader = LooseReader(read_setup(fetch(folder, "setup")))
     for file, add in reader.tables.items():
         if getattr(reader.case.setup, file, True) is False:
             continue
         try:
             found = list(records(fetch(folder, file)))
-            width = read_header(file, found, [HEADERS[file]])
+            width = read_header(file, found)
         except Fault:
             if file == "splits":
                 reader.case.splits = None
@@ -63,7 +63,7 @@ def read_loosely(folder: str) -> Case:
 def first_refusal(folder: str) -> Fault | None:
     """What `load` would refuse first."""
     try:
-        read_case(folder, splits=True, columns=SETUP_MORE)
+        read_case(folder, splits=True)
     except Fault as fault:
         return fault
     return None
@@ -97,16 +97,16 @@ def size_lines(case: Case) -> list[str]:
         first, last = min(row.from_slot for row in demand), max(row.to_slot for row in demand)
         span = f", setting out from {clock_text(first * setup.step_ms)} to {clock_text(last * setup.step_ms)}"
     cells, fits = case.cells(), case.slots_that_fit()
-    in_memory = min(fits, case.slots_that_fit(free_memory() // SESSION_BYTES))
+    in_memory = min(fits, case.slots_that_fit(int(free_memory() // SESSION_BYTES[1])))
+    asking = f"; the column cells of setup.csv may ask for {asked_for(cells)}" if setup.most_cells < cells <= MOST_CELLS_ASKED else ""
     return [
         f"network     {counted(len(case.links), 'link')}, {counted(len(case.nodes), 'node')}, {counted(len(case.destinations), 'destination')}",
         f"demand      {vehicles_text(sum(row.units for row in demand))} vehicles in {counted(len(demand), 'row')}{span}",
         f"splits      {'none: ltm routes writes them' if case.splits is None else counted(len(case.standing_splits()), 'row')}",
         f"horizon     {clock_text(setup.horizon_ms)}, {counted(setup.slots, 'slot')} of {setup.step_ms} ms",
-        f"cells       {count_text(cells)} of at most {count_text(MOST_CELLS)}; up to {count_text(fits)} slots fit"
-        + (", the most there may be" if fits == MOST_SLOTS else ""),
-        f"memory      about {count_text(-(-cells * SESSION_BYTES // 1_000_000))} MB for a session of it; "
-        f"up to {count_text(in_memory)} slots fit in what is free",
+        f"cells       {count_text(cells)} of at most {count_text(setup.most_cells)}; up to {count_text(fits)} slots fit"
+        + (", the most there may be" if fits == MOST_SLOTS else "") + asking,
+        f"memory      {memory_text(cells)}; up to {count_text(in_memory)} slots fit in what is free",
     ]
 
 

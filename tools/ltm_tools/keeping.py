@@ -23,9 +23,6 @@ class Keeper:
     def __init__(self, case: Case) -> None:
         self.case = copy.deepcopy(case)
         self.destinations = list(case.destinations)
-        self.entries: dict[str, dict[int, int]] = {}  # of each link the entry limit by slot, in units
-        for row in case.limits:
-            self.limit(row.link, row.from_slot, row.to_slot, row.units)
 
     def make(self, batch: Iterable[Edit]) -> None:
         """Makes an accepted batch."""
@@ -45,10 +42,12 @@ class Keeper:
             assert isinstance(weights, dict) and case.splits is not None
             split = Split(str(edit["node"]), str(edit["destination"]), whole(edit["from"]), dict(weights))
             case.splits = [other for other in case.splits if (other.node, other.destination, other.from_slot) != (split.node, split.destination, split.from_slot)] + [split]
-        elif kind == "exit":
-            case.signals.append(Limit(str(edit["link"]), whole(edit["from"]), whole(edit["to"]), units_of(str(edit["vehicles"]))))
-        elif kind == "limit":
-            self.limit(str(edit["link"]), whole(edit["from"]), whole(edit["to"]), units_of(str(edit["vehicles"])))
+        elif kind in ("limit", "exit"):
+            limit = Limit(str(edit["link"]), whole(edit["from"]), whole(edit["to"]), units_of(str(edit["vehicles"])))
+            if kind == "exit":
+                case.signals = laid_over(case.signals, limit)
+            else:
+                case.limits = laid_over(case.limits, limit)
         elif kind == "diagram":
             link = case.link(str(edit["link"]))
             link.length_m, link.free_kmh, link.wave_kmh, link.jam_per_km = (whole(edit[name]) for name in ("length_m", "free_kmh", "wave_kmh", "jam_per_km"))
@@ -59,18 +58,11 @@ class Keeper:
         if destination not in self.destinations:
             self.destinations.append(destination)
 
-    def limit(self, link: str, first: int, end: int, units: int) -> None:
-        self.entries.setdefault(link, {}).update(dict.fromkeys(range(first, end), min(units, MOST_SLOT_UNITS)))
-
     def kept(self) -> Case:
-        """The case of the scenario. Entry limits that stand have no form in the files that the program reads today: a Fault then."""
-        for link, by_slot in self.entries.items():
-            slots = [slot for slot, units in by_slot.items() if units < MOST_SLOT_UNITS]
-            if slots:
-                raise Fault(f"the entry limit of {link} in slot {min(slots)} cannot be kept: the program reads no file of entry limits yet (an exit limit can be)")
+        """The case of the scenario."""
         case = copy.deepcopy(self.case)
-        case.limits, case.setup.limits = [], False
         case.setup.signals = case.setup.signals or bool(case.signals)
+        case.setup.limits = case.setup.limits or bool(case.limits)
         if case.destinations != self.destinations:
             case.demand = [self.naming(node) for node in self.destinations] + case.demand
         return case
@@ -79,6 +71,13 @@ class Keeper:
         """A row of demand without vehicles, which names a destination and stands for nothing."""
         origin = next(link.tail for link in self.case.links if link.tail != destination)
         return Demand(origin, destination, 0, 1, 0)
+
+
+def laid_over(rows: list[Limit], row: Limit) -> list[Limit]:
+    """Rows of limits with one more that goes over them, without those of which it leaves nothing; it is left out where it takes nothing back."""
+    left = [other for other in rows if other.link != row.link or other.from_slot < row.from_slot or other.to_slot > row.to_slot]
+    over = any(other.link == row.link and other.from_slot < row.to_slot and other.to_slot > row.from_slot for other in left)
+    return [*left, row] if over or row.units < MOST_SLOT_UNITS else left
 
 
 def key_of(row: Demand) -> tuple[str, str, int, int]:

@@ -5,7 +5,7 @@ import argparse
 import os
 from typing import NamedTuple
 
-from . import program
+from . import delay, program
 from .case import Case
 from .curves import Curves
 from .errors import Fault
@@ -74,6 +74,19 @@ def made(folder: str, named: str | None, step: int, boundaries: int) -> Curves:
     if status:
         raise Fault(program.refusal(folder, ["curves"], status, b"".join(lines)))
     return Curves.of_lines(lines, f"{folder}: ltm curves", step, boundaries)
+
+
+def told_delay(loading: Loaded, folder: str, curves: str | None, named: str | None) -> delay.Report:
+    """The delay of what `loaded` gave for a folder: as the program tells it where it made the loading and has a command for it, and else
+    worked out from the curves."""
+    if curves is None and program.has_command("delay", named):
+        return program_delay(folder, named)
+    return delay.report(loading.curves, loading.case)
+
+
+def program_delay(folder: str, named: str | None) -> delay.Report:
+    """The delay of the loading of a case, as `ltm delay` tells it."""
+    return delay.read_report(program.output(folder, "delay", program=named).decode("utf-8", "backslashreplace"))
 
 
 def of_case(case: Case, curves: Curves) -> Curves:

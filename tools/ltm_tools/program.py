@@ -1,6 +1,8 @@
 """The proved program `ltm`: where it is, and running it in the folder of a case."""
 import argparse
+import functools
 import os
+import re
 import shutil
 import subprocess
 import sys
@@ -64,6 +66,23 @@ def output(folder: str | os.PathLike[str], *words: str, program: str | os.PathLi
     if process.returncode:
         raise Fault(refusal(folder, words, process.returncode, written))
     return written
+
+
+def has_command(word: str, program: str | os.PathLike[str] | None = None) -> bool:
+    """Whether there is a program and it has a command."""
+    try:
+        path = find_program(program)
+        return word in _commands(path, path.stat().st_mtime_ns)
+    except (Fault, OSError):
+        return False
+
+
+@functools.lru_cache(maxsize=None)
+def _commands(path: Path, changed_ns: int) -> frozenset[str]:
+    """The commands of a program, by the usage line that it writes where no word says what to do; asked once of each that has not changed."""
+    asked = subprocess.run([str(path)], stdin=subprocess.DEVNULL, stdout=subprocess.PIPE, stderr=subprocess.DEVNULL)
+    told = asked.stdout.decode("ascii", "replace")
+    return frozenset(re.findall(r"ltm ([a-z]+)", told)) if told.startswith("usage: ") else frozenset()
 
 
 def refusal(folder: str | os.PathLike[str], words: Sequence[str], status: int, written: bytes) -> str:

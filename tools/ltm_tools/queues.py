@@ -10,7 +10,7 @@ from .case import Case
 from .curves import Counts, Curves, is_array, less
 from .formats import clock_text, units_of
 from .listing import Cell, add_format_arguments, percent, seconds, text_table, time_unit, vehicles, write_table
-from .loaded import add_case_arguments, add_start_argument, loaded
+from .loaded import add_case_arguments, add_start_argument, loaded, told_delay
 
 try:
     import numpy
@@ -93,9 +93,12 @@ ORDERS = {"delay": lambda queue: -queue.delay, "worst": lambda queue: -queue.wor
 
 def run(args: argparse.Namespace) -> int:
     least = max(1, units_of(args.least))
-    case, curves = loaded(args.case, args.curves, args.program)
-    found = sorted(queues(curves, case, least), key=ORDERS[args.sort])
-    write_table(args, FIELDS, [fields(queue, curves.step_ms, args.start) for queue in found], text(found, case, curves, args.start, least))
+    loading = loaded(args.case, args.curves, args.program)
+    found = sorted(queues(loading.curves, loading.case, least), key=ORDERS[args.sort])
+    step_ms, told = loading.curves.step_ms, ""
+    if args.format == "text":
+        told = text(found, told_delay(loading, args.case, args.curves, args.program), step_ms, args.start, least)
+    write_table(args, FIELDS, [fields(queue, step_ms, args.start) for queue in found], told)
     return 0
 
 
@@ -105,12 +108,11 @@ def fields(queue: Queue, step_ms: int, start: int) -> list[Cell]:
             start + queue.at * step_ms, None if queue.storage is None else vehicles(queue.storage), seconds(queue.delay)]
 
 
-def text(found: list[Queue], case: Case, curves: Curves, start: int, least: int) -> str:
+def text(found: list[Queue], told: delay.Report, step_ms: int, start: int, least: int) -> str:
     """The table for people, with what all queues bring below it."""
     def when(k: int) -> str:
-        return clock_text(start + k * curves.step_ms)
+        return clock_text(start + k * step_ms)
 
-    told = delay.report(curves, case)
     unit = time_unit(told.delay)
     rows: list[list[Cell]] = [[queue.kind, queue.name, when(queue.first), "..." if queue.lasts else when(queue.last), vehicles(queue.worst), when(queue.at),
              None if queue.storage is None else f"{percent(queue.worst, queue.storage)} %", unit.show(queue.delay)] for queue in found]

@@ -8,7 +8,7 @@ from collections.abc import Mapping
 from .bad_case import BadCase
 from .case import Case, Link
 from .case_files import check_diagram
-from .formats import MOST_CELLS, MOST_DEMAND_ROWS, MOST_SLOTS, MOST_SPLIT_ROWS, count_text
+from .formats import MOST_DEMAND_ROWS, MOST_SLOTS, MOST_SPLIT_ROWS, count_text
 
 Members = Mapping[str, object]
 
@@ -16,7 +16,7 @@ Members = Mapping[str, object]
 def why_refused(case: Case, command: Members, answer: str) -> str:
     """One line for an answer `refused ..` to a command of a script; nothing where the command does not show why."""
     words = answer.split()
-    if words[:2] in (["refused", "link"], ["refused", "time"]):
+    if words[:1] == ["refused"] and len(words) == 3 and words[1] in ("link", "time", "queue", "origin"):
         return of_question(case, command, words[2])
     if words[:2] != ["refused", "edit"] or len(words) < 4 or not words[2].isdigit():
         return ""
@@ -30,8 +30,8 @@ def why_refused(case: Case, command: Members, answer: str) -> str:
 def of_question(case: Case, command: Members, cause: str) -> str:
     if cause == "UnknownName":
         return unknown(case, command)
-    slot = command.get("slot")
-    return f"slot {slot} is not below the horizon of the loading that is shown" if cause == "BadSlots" else ""
+    where = "not below" if command.get("do") == "time" else "past"
+    return f"slot {command.get('slot')} is {where} the horizon of the loading that is shown" if cause == "BadSlots" else ""
 
 
 def of_edit(case: Case, edit: Members, cause: list[str]) -> str:
@@ -56,8 +56,7 @@ def of_edit(case: Case, edit: Members, cause: list[str]) -> str:
         most = MOST_DEMAND_ROWS if kind == "demand" else MOST_SPLIT_ROWS
         return f"there are {count_text(most)} rows already, which is the most"
     if cause[0] == "CellsOver" and len(cause) == 2 and cause[1].isdigit():
-        most = MOST_CELLS if case.setup.cells is None else case.setup.cells
-        return f"the case would have {count_text(int(cause[1]))} cells, and at most {count_text(most)} may be"
+        return f"the case would have {count_text(int(cause[1]))} cells, and at most {count_text(case.setup.most_cells)} may be"
     return diagram(case, edit, " ".join(cause)) if kind == "diagram" else ""
 
 

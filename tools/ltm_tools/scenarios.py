@@ -10,6 +10,7 @@ from collections.abc import Iterator, Sequence
 from typing import NamedTuple
 
 from .case import Case
+from .delay import seconds_text
 from .edits import Edit
 from .errors import Fault
 from .files import read_text, shown
@@ -18,6 +19,7 @@ from .session import Refused, Session
 from .taking_back import Taking
 
 TOTALS = ("generated", "arrived", "on_links", "waiting")
+TIMES = ("spent", "queued", "waited")
 Row = list[str]
 
 
@@ -53,9 +55,9 @@ def scenario_of(line: str, number: int, place: str) -> Scenario:
     return Scenario(number, str(told.get("name", "")), batches)
 
 
-def header(links: Sequence[str]) -> Row:
-    """The fields of a row of results."""
-    return ["line", "name", "status", *TOTALS, *(f"{word}:{link}" for link in links for word in ("in", "out"))]
+def header(links: Sequence[str], delay: bool = False) -> Row:
+    """The fields of a row of results, with vehicle times or not."""
+    return ["line", "name", "status", *TOTALS, *(TIMES if delay else ()), *(f"{word}:{link}" for link in links for word in ("in", "out"))]
 
 
 class Runner:
@@ -63,8 +65,8 @@ class Runner:
 
     MOST_ASKED = MOST_LINES - 5_000  # lines, after which the session is opened anew: it takes no more than 100,000
 
-    def __init__(self, folder: str | os.PathLike[str], program: str | os.PathLike[str] | None, links: Sequence[str] = ()) -> None:
-        self.folder, self.program, self.links = folder, program, list(links)
+    def __init__(self, folder: str | os.PathLike[str], program: str | os.PathLike[str] | None, links: Sequence[str] = (), delay: bool = False) -> None:
+        self.folder, self.program, self.links, self.delay = folder, program, list(links), delay
         self.taking = Taking(Case.read(folder))
         self.session: Session | None = None
         self.made: list[Edit] = []
@@ -78,15 +80,17 @@ class Runner:
             try:
                 session.edit(*batch)
             except Refused as refused:
-                return [str(scenario.number), scenario.name, f"batch {number} {refused}", *[""] * (len(TOTALS) + 2 * len(self.links))]
+                front = [str(scenario.number), scenario.name, f"batch {number} {refused}"]
+                return front + [""] * (len(header(self.links, self.delay)) - len(front))
             self.made += batch
         session.settle()
-        totals = session.totals()
-        amounts = list(totals[1:])
+        told = [vehicles_text(units) for units in session.totals()[1:]]
+        if self.delay:
+            told += [seconds_text(time) for time in session.delay()[1:]]
         for link in self.links:
-            amounts += session.link(link)[1:]
-        self.asked += 2 + len(self.links)
-        return [str(scenario.number), scenario.name, "ok", *map(vehicles_text, amounts)]
+            told += [vehicles_text(units) for units in session.link(link)[1:]]
+        self.asked += 2 + self.delay + len(self.links)
+        return [str(scenario.number), scenario.name, "ok", *told]
 
     def fresh(self) -> Session:
         """The session with the case's own scenario: as the one before was taken back, or opened anew."""

@@ -54,7 +54,7 @@ def parsed(data: bytes) -> object:
     if not text.strip(" \t\r\n"):
         raise ValueError("the line is empty")
     try:
-        value: object = json.loads(text, parse_constant=_no_constant, parse_float=_finite, object_pairs_hook=_object)
+        value: object = json.loads(text, parse_constant=_no_constant, parse_int=_whole, parse_float=_finite, object_pairs_hook=_object)
     except json.JSONDecodeError as error:
         what, place = error.msg[0].lower() + error.msg[1:], error.pos
         raise ValueError(f"{what}, at character {place + 1}: {shown(text[place:place + 20])}") from None
@@ -66,6 +66,11 @@ def parsed(data: bytes) -> object:
 
 def _no_constant(text: str) -> NoReturn:
     raise ValueError(f"{text} is no number of JSON")
+
+
+def _whole(text: str) -> int | float:
+    """A number without a point; -0 is none of the whole numbers, as the program takes it."""
+    return -0.0 if text == "-0" else int(text)
 
 
 def _finite(text: str) -> float:

@@ -16,7 +16,7 @@ from typing import NamedTuple
 from .case import Case
 from .edits import Edit
 from .errors import Fault
-from .formats import MOST_EDITS, MOST_LINE_BYTES, MOST_WORKERS, UNITS
+from .formats import MOST_EDITS, MOST_LINE_BYTES, MOST_WORKERS, told_time, told_units
 from .program import start
 from .refusals import why_refused
 
@@ -60,6 +60,33 @@ class LinkTime(NamedTuple):
 
     version: int
     ms: int | None
+
+
+class Delays(NamedTuple):
+    """Vehicle time in thousandths of a vehicle times ms: of all, in queues of links, and waited at origins (see the module `delay`)."""
+
+    version: int
+    spent: int
+    queued: int
+    waited: int
+
+
+class LinkQueue(NamedTuple):
+    """What has entered and left a link by a boundary, and its queue then, in thousandths of a vehicle."""
+
+    version: int
+    entered: int
+    left: int
+    queue: int
+
+
+class OriginQueue(NamedTuple):
+    """What the demand of a node has produced by a boundary, what has left it, and what waits then, in thousandths of a vehicle."""
+
+    version: int
+    produced: int
+    left: int
+    waiting: int
 
 
 class Session:
@@ -141,8 +168,7 @@ class Session:
         return version
 
     def save(self, folder: str | os.PathLike[str]) -> None:
-        """Writes the case that all accepted edits leave, in a folder: what `load` tells there the session shows once it has settled.
-        Entry limits that stand have no form in files yet: a Fault then."""
+        """Writes the case that all accepted edits leave, in a folder: what `load` tells there the session shows once it has settled."""
         from .case import Case
         from .keeping import Keeper
 
@@ -158,23 +184,34 @@ class Session:
     def totals(self) -> Totals:
         """The totals of the loading that is shown."""
         words = self.ask(do="totals")
-        return Totals(int(words[1]), *(_units(words[place]) for place in (3, 5, 7, 9)))
+        return Totals(int(words[1]), *(told_units(words[place]) for place in (3, 5, 7, 9)))
 
     def link(self, name: str) -> Passed:
         """What has entered and left a link in the loading that is shown."""
         words = self.ask(do="link", link=name)
-        return Passed(int(words[1]), _units(words[5]), _units(words[7]))
+        return Passed(int(words[1]), told_units(words[5]), told_units(words[7]))
 
     def time(self, name: str, slot: int) -> LinkTime:
         """How long a link takes whoever enters it in a slot, in the loading that is shown."""
         words = self.ask(do="time", link=name, slot=slot)
         return LinkTime(int(words[1]), None if words[7] == "none" else int(words[7]))
 
+    def delay(self) -> Delays:
+        """The vehicle time of the loading that is shown, and the delay in it; Refused where the program has no such question."""
+        words = self.ask(do="delay")
+        return Delays(int(words[1]), *(told_time(words[place]) for place in (3, 5, 7)))
 
-def _units(text: str) -> int:
-    """Thousandths of an amount with three decimals, of any size."""
-    whole, _, part = text.partition(".")
-    return int(whole) * UNITS + int(part)
+    def queue(self, name: str, slot: int) -> LinkQueue:
+        """What has entered and left a link by the beginning of a slot, and its queue, in the loading that is shown. The slot may be the
+        first behind the horizon; Refused where the program has no such question."""
+        words = self.ask(do="queue", link=name, slot=slot)
+        return LinkQueue(int(words[1]), *(told_units(words[place]) for place in (7, 9, 11)))
+
+    def origin(self, name: str, slot: int) -> OriginQueue:
+        """What the demand of a node has produced by the beginning of a slot, what has left it, and how many wait there, in the loading that
+        is shown. The slot may be the first behind the horizon; Refused where the program has no such question."""
+        words = self.ask(do="origin", node=name, slot=slot)
+        return OriginQueue(int(words[1]), *(told_units(words[place]) for place in (7, 9, 11)))
 
 
 def _refused(answer: str, words: list[str], reason: str) -> Refused:

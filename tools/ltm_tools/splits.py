@@ -8,7 +8,7 @@ from pathlib import Path
 from .case import Case, Demand, Split
 from .case_files import read_case
 from .passages import Roads
-from .demand_files import exists, moment_ms, quarter_before, whole_units
+from .demand_files import add_reading_arguments, exists, moment_ms, quarter_before, whole_units
 from .errors import Fault
 from .files import Row, write_records
 from .formats import DEMAND, MINUTE_MS, MOST_SPLIT_ROWS, SPLITS, clock_ms, clock_text, short_vehicles, weights_text
@@ -40,15 +40,10 @@ TURN_NAMES = {"from_link": ("link", "in_link", "from", "ib_link_id", "from_edge"
 
 def add_arguments(parser: argparse.ArgumentParser) -> None:
     """The arguments of the command."""
-    parser.add_argument("case", help="the folder of the case")
-    kind = parser.add_mutually_exclusive_group(required=True)
-    kind.add_argument("--routes", metavar="FILE", help="counted routes")
-    kind.add_argument("--turns", metavar="FILE", help="turning counts; the case needs its demand")
+    kind = add_reading_arguments(parser, {"--routes": "counted routes", "--turns": "turning counts; the case needs its demand"},
+                                 "the quarter of an hour before the first route", "of a row of splits")
     kind.add_argument("--least", action="store_true", help="the least routes by free-flow time, by `ltm routes`")
-    parser.add_argument("--slice", type=int, default=15, metavar="MINUTES", help="the minutes of a row of splits (15)")
-    parser.add_argument("--start", metavar="CLOCK", help="the clock time of slot 0 (the quarter of an hour before the first route)")
     parser.add_argument("--demand", action="store_true", help="write the demand of the routes as well")
-    parser.add_argument("--encoding", help="the encoding of the file (UTF-8, else by what it holds)")
     add_program_argument(parser)
 
 

@@ -5,16 +5,15 @@ import argparse
 from collections.abc import Sequence
 from dataclasses import dataclass, field
 from fractions import Fraction
-from pathlib import Path
 
 from .case import Case, Demand, Limit, Setup, Split
+from .cells import ask_for_cells
 from .cycles import Plan, exit_limits
 from .demand_files import exists, quarter_before
 from .ends import joined, most_used
 from .errors import Fault
-from .formats import MINUTE_MS, MOST_DEMAND_ROWS, MOST_DESTINATIONS, MOST_SLOT_UNITS, MOST_SPLIT_ROWS, UNITS, clock_ms, clock_text, short_vehicles
-from .importing import (Carried, Refused, above_0, add_network_arguments, carried, changes_table, check_cells, check_destinations, longest_step,
-                        routes_table, slots_of, steps_table, write)
+from .formats import MINUTE_MS, MOST_DEMAND_ROWS, MOST_SPLIT_ROWS, UNITS, clock_ms, clock_text, short_vehicles
+from .importing import Carried, above_0, add_network_arguments, carried, changes_told, check_destinations, longest_step, run_import, slots_of, steps_table, write
 from .profiles import Trip, by_trips
 from .route_splits import Route, circles, from_routes
 from .sumo_ends import Cut, cut_ends, over_parts
@@ -76,18 +75,7 @@ class Inputs:
 
 def run(args: argparse.Namespace) -> int:
     """Makes the case."""
-    if args.destinations is not None and not 1 <= args.destinations <= MOST_DESTINATIONS:
-        raise Fault(f"--destinations is 1 to {MOST_DESTINATIONS}")
-    if not 1 <= args.origin_capacity <= MOST_SLOT_UNITS // UNITS:
-        raise Fault(f"--origin-capacity is 1 to {MOST_SLOT_UNITS // UNITS}")
-    for name in ("horizon", "slice", "demand_slice"):
-        if getattr(args, name) is not None and getattr(args, name) < 1:
-            raise Fault(f"--{name.replace('_', '-')} is at least 1")
-    try:
-        return make(args)
-    except Refused as refused:
-        refused.tell()
-        return 1
+    return run_import(args, make, ("horizon", "slice", "demand_slice"))
 
 
 def make(args: argparse.Namespace) -> int:
@@ -109,9 +97,9 @@ def make(args: argparse.Namespace) -> int:
         counts[route.links] = counts.get(route.links, 0) + route.units
     made = carried(raw, args, list(counts.items()))
     case = case_of(made, inputs, held, cut, args)
-    cells = check_cells(case)
-    write(args.case, case, made)
+    cells = ask_for_cells(case)
     tell(made, case, inputs, cells, list(counts.items()))
+    write(args.case, case, made)
     return 0
 
 
@@ -252,7 +240,7 @@ def case_of(made: Carried, inputs: Inputs, held: dict[str, list[Connection]], cu
         routes.append(Route(cache[route.links], route.depart_ms, route.units))
     case = Case(Setup(made.step, slots, args.origin_capacity * UNITS), made.links)
     case.demand = demand_of(routes, case, inputs, args)
-    check_cells(case)
+    ask_for_cells(case)  # before the splits take their time
     case.splits = splits_of(routes, case, inputs, args)
     case.signals = signals_of(made, inputs, held, cut, case, args)
     case.setup.signals = bool(case.signals)
@@ -328,11 +316,4 @@ def tell(made: Carried, case: Case, inputs: Inputs, cells: str, routes: list[tup
     for why, count in inputs.found.left_out.items():
         print(f"{short_vehicles(count)} vehicles are left out: {why}")
     print(*inputs.notes, sep="\n")
-    if made.fit is None:
-        print(f"the longest step that changes nothing is {longest_step(made.raw)} ms")
-    else:
-        print(*changes_table(made), *routes_table(made, routes), sep="\n")
-    renamed = sum(name != source for names in (made.link_names, made.node_names) for source, name in names.items())
-    if renamed:
-        print(f"{renamed} names are made, and stand in source_links.csv and source_nodes.csv")
-    print(cells)
+    print(*changes_told(made, routes), cells, sep="\n")

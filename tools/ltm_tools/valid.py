@@ -2,7 +2,7 @@
 from . import bad_case
 from .bad_case import BadCase
 from .case import Case, Split
-from .formats import MOST_CELLS, MOST_SPLIT_ROWS
+from .formats import MOST_SPLIT_ROWS
 
 
 def check_splits(case: Case) -> None:
@@ -86,8 +86,7 @@ def check_routes(case: Case) -> None:
 
 
 def check_cells(case: Case) -> None:
-    """Whether the cells are within the limit."""
-    most = MOST_CELLS if case.setup.cells is None else case.setup.cells
+    """Whether the cells are within the limit of the setup."""
     cells = case.cells()
-    if cells > most:
-        raise bad_case.cells_over(cells, case.slots_that_fit(most), case.setup.slots, most)
+    if cells > case.setup.most_cells:
+        raise bad_case.cells_over(cells, case.setup.most_cells, case.slots_that_fit(), case.setup.slots)

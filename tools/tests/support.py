@@ -1,10 +1,14 @@
 """What several tests use: folders that are made and let go, cases as texts, and a program that is made for a test."""
+import importlib.machinery
+import importlib.util
 import os
 import stat
+import subprocess
 import sys
 import tempfile
 import unittest
 from pathlib import Path
+from typing import Any
 
 TOOLS = Path(__file__).resolve().parents[1]
 CLONE = TOOLS.parent
@@ -19,6 +23,34 @@ ROAD = {
     "demand": "origin,destination,from_slot,to_slot,vehicles\nn1,n2,0,2,1\n",
     "splits": "node,destination,from_slot,weights\nn1,n2,0,a=1\n",
 }
+
+
+def script(name: str) -> Any:
+    """A script of this folder's parent as a module; nothing is written beside it."""
+    loader = importlib.machinery.SourceFileLoader(name, str(TOOLS / name))
+    spec = importlib.util.spec_from_loader(name, loader)
+    assert spec is not None
+    module = importlib.util.module_from_spec(spec)
+    sys.modules[name] = module  # dataclasses look a class's module up by its name
+    was, sys.dont_write_bytecode = sys.dont_write_bytecode, True
+    try:
+        loader.exec_module(module)
+    finally:
+        sys.dont_write_bytecode = was
+    return module
+
+
+def takes_columns() -> bool:
+    """Whether the program is there and takes the columns `limits` and `cells` of `setup.csv`."""
+    if not os.access(BUILT, os.X_OK):
+        return False
+    with tempfile.TemporaryDirectory() as folder:
+        for name, text in {**ROAD, "setup": "step_ms,slots,origin_capacity,limits,cells\n1000,4,1,0,102\n"}.items():
+            Path(folder, f"{name}.csv").write_text(text)
+        return subprocess.run([BUILT, "load"], cwd=folder, capture_output=True).returncode == 0
+
+
+needs_columns = unittest.skipUnless(takes_columns(), "no program is built that takes the columns limits and cells")
 
 
 class FolderTest(unittest.TestCase):

@@ -6,17 +6,21 @@ import subprocess
 import sys
 import unittest
 from pathlib import Path
+from typing import Any
 
-from support import BUILT, EXAMPLES, TOOLS, FolderTest, needs_program
+from support import BUILT, EXAMPLES, TOOLS, FolderTest, needs_columns, needs_program
 from ltm_tools import edits
+from ltm_tools.bad_case import BadCase
 from ltm_tools.case import Case, Demand, Limit, Link, Setup, Split
-from ltm_tools.errors import Fault
-from ltm_tools.keeping import Keeper
+from ltm_tools.case_files import check_diagram, read_case
+from ltm_tools.formats import units_of
+from ltm_tools.keeping import Keeper, laid_over
 from ltm_tools.program import output
 from ltm_tools.session import Refused, Session
 from test_sweep import random_edit
 
-SCRIPTS = int(os.environ.get("LTM_SCRIPTS", "100"))  # how many random scripts
+SCRIPTS = int(os.environ.get("LTM_SCRIPTS", "100"))  # how many random scripts a program is asked about
+NAMES = ("closures", "signal", "merge", "incident", "detour", "ramp_meter")
 
 
 class ByHand(unittest.TestCase):
@@ -46,32 +50,115 @@ class ByHand(unittest.TestCase):
         self.assertCountEqual(made.standing_demand(), [Demand("n1", "n3", 0, 4, 1000), Demand("n1", "n4", 0, 1, 5)])
 
     def test_entry_limits(self) -> None:
-        with self.assertRaisesRegex(Fault, "the entry limit of a in slot 3 cannot be kept"):
-            self.kept(edits.limit("a", 3, 5, 100))
-        self.assertEqual(self.kept(edits.limit("a", 3, 5, 100), edits.limit("a", 0, 9)).limits, [])
+        made = self.kept(edits.limit("a", 3, 5, 100), edits.exit_limit("b", 0, 2, 0))
+        self.assertEqual((made.setup.limits, made.limits, made.setup.signals, made.signals), (True, [Limit("a", 3, 5, 100)], True, [Limit("b", 0, 2, 0)]))
+        made = self.kept(edits.limit("a", 3, 5, 100), edits.limit("a", 0, 9))
+        self.assertEqual((made.setup.limits, made.limits), (False, []))
+
+    def test_limits_over_one_another(self) -> None:
+        """A row of which a later one leaves nothing is not kept, and one that takes back what nobody set neither."""
+        rows: list[Limit] = []
+        for row, kept in ((Limit("a", 2, 6, 100), 1), (Limit("a", 4, 8, 0), 2), (Limit("b", 0, 9, 32_000), 2), (Limit("a", 5, 6, 40_000), 3), (Limit("a", 4, 8, 7), 2),
+                          (Limit("a", 6, 9, 32_000), 3), (Limit("b", 2, 6, 9), 4), (Limit("a", 0, 9, 5), 2), (Limit("a", 9, 10, 32_000), 2), (Limit("a", 0, 10, 32_000), 1)):
+            rows = laid_over(rows, row)
+            self.assertEqual(len(rows), kept, row)
+
+    def test_limits_of_the_case(self) -> None:
+        """Those that its files have stand below, and the columns stay."""
+        self.case.setup.limits, self.case.setup.cells, self.case.limits = True, 7000, [Limit("a", 0, 4, 5)]
+        self.assertEqual(self.kept(edits.limit("a", 2, 3, 9)).limits, [Limit("a", 0, 4, 5), Limit("a", 2, 3, 9)])
+        made = self.kept(edits.limit("a", 0, 10))
+        self.assertEqual((made.setup, made.limits), (Setup(1000, 10, 1000, False, True, 7000), []))
 
 
-@needs_program
+class State:
+    """What a scenario is, told apart from rows and their order: numbers by name, and limits by link and slot."""
+
+    def __init__(self, case: Case) -> None:
+        self.slots, self.ends = case.setup.slots, case.destinations
+        self.links = {link.name: (link.length_m, link.free_kmh, link.wave_kmh, link.jam_per_km) for link in case.links}
+        self.demand = {(row.origin, row.destination, row.from_slot, row.to_slot): row.units for row in case.standing_demand()}
+        self.splits = {(row.node, row.destination, row.from_slot): {name: weight for name, weight in row.weights.items() if weight} for row in case.standing_splits()}
+        self.limits: dict[tuple[str, str, int], int] = {}
+        for kind, rows in (("exit", case.signals), ("limit", case.limits)):
+            for row in rows:
+                self.limit(kind, row.link, row.from_slot, row.to_slot, row.units)
+
+    def limit(self, kind: str, link: str, first: int, end: int, units: int) -> None:
+        for slot in range(first, end):
+            self.limits.pop((kind, link, slot), None)
+            if units < 32_000:
+                self.limits[kind, link, slot] = units
+
+    def make(self, edit: dict[str, Any]) -> None:
+        kind = edit["kind"]
+        if kind in ("limit", "exit"):
+            self.limit(kind, edit["link"], edit["from"], edit["to"], units_of(edit["vehicles"]))
+        elif kind == "demand":
+            key = edit["origin"], edit["destination"], edit["from"], edit["to"]
+            self.demand.pop(key, None)
+            if units_of(edit["vehicles"]):
+                self.demand[key] = units_of(edit["vehicles"])
+        elif kind == "split":
+            self.splits[edit["node"], edit["destination"], edit["from"]] = {name: weight for name, weight in edit["weights"].items() if weight}
+        elif kind == "diagram":
+            self.links[edit["link"]] = edit["length_m"], edit["free_kmh"], edit["wave_kmh"], edit["jam_per_km"]
+        else:
+            self.slots = edit["slots"]
+
+    def takes(self, edit: dict[str, Any], case: Case) -> bool:
+        """Whether the program surely accepts the edit, which `random_edit` made for the case."""
+        kind = edit["kind"]
+        if kind == "split":
+            used = {name for split in case.splits or [] if (split.node, split.destination) == (edit["node"], edit["destination"]) for name, weight in split.weights.items() if weight}
+            return any(edit["weights"].values()) and all(name in used for name, weight in edit["weights"].items() if weight)
+        if kind == "diagram":
+            try:
+                check_diagram(0, Link("", "", "", *(edit[name] for name in ("length_m", "free_kmh", "wave_kmh", "jam_per_km"))), case.setup.step_ms)
+            except BadCase:
+                return False
+            return True
+        return bool(edit["slots"] > self.slots if kind == "horizon" else edit["from"] < edit["to"])
+
+
+class Files(FolderTest):
+    def test_scripts(self) -> None:
+        """Of ten times as many random scripts, of all kinds of edits: the case that is kept, read from its files, is the scenario that they make."""
+        pick, kinds = random.Random(12), dict.fromkeys(("limit", "exit", "demand", "split", "diagram", "horizon"), 0)
+        for number in range(10 * SCRIPTS):
+            name = pick.choice(NAMES)
+            case = Case.read(EXAMPLES / name)
+            keeper, state = Keeper(case), State(case)
+            for _ in range(pick.randint(1, 18)):
+                edit = random_edit(pick, keeper.case)
+                if state.takes(edit, case):
+                    keeper.make([edit])
+                    state.make(edit)
+                    kinds[str(edit["kind"])] += 1
+            keeper.kept().write(self.folder / str(number))
+            self.assertEqual(vars(State(read_case(self.folder / str(number), splits=True))), vars(state), (number, name))
+        self.assertGreaterEqual(min(kinds.values()), 4 * SCRIPTS, kinds)
+
+
+@needs_columns
 class Random(FolderTest):
     def test_scripts(self) -> None:
-        """Of random scripts, those that leave no entry limit: the totals and each link's counts are those of the session."""
-        pick, kept = random.Random(11), 0
+        """Of random scripts: the totals and each link's counts of the case that a session saves are those that the session shows."""
+        pick, limited = random.Random(11), 0
         for number in range(SCRIPTS):
-            name = pick.choice(("closures", "signal", "merge", "incident", "detour", "ramp_meter"))
-            if not (EXAMPLES / name / "splits.csv").exists():
-                continue
+            name = pick.choice(NAMES)
             folder = self.folder / str(number)
             written, shown = self.one(pick, EXAMPLES / name, folder)
             self.assertEqual(written, shown, (number, name))
-            kept += 1
-        self.assertGreater(kept, SCRIPTS // 2)
+            limited += (folder / "limits.csv").exists()
+        self.assertGreater(limited, SCRIPTS // 2)
 
     def one(self, pick: random.Random, folder: Path, to: Path) -> tuple[list[str], list[str]]:
         """The report of the case that a session of random edits saves, and what that session shows."""
         case, keeper = Case.read(folder), Keeper(Case.read(folder))
         with Session(folder, program=BUILT) as session:
             for _ in range(pick.randint(1, 6)):
-                batch = [edit for edit in (random_edit(pick, keeper.case) for _ in range(3)) if edit["kind"] != "limit"] or [edits.limit(case.links[0].name, 0, 1)]
+                batch = [random_edit(pick, keeper.case) for _ in range(3)]
                 try:
                     session.edit(*batch)
                 except Refused:

@@ -3,6 +3,7 @@ import unittest
 from pathlib import Path
 from unittest import mock
 
+import commands
 from support import BUILT, EXAMPLES, FolderTest, needs_program
 from ltm_tools import curves as curve_files
 from ltm_tools import delay
@@ -10,6 +11,7 @@ from ltm_tools.case import Case, Demand
 from ltm_tools.curves import Curves, less, total
 from ltm_tools.errors import Fault
 from ltm_tools.loaded import loaded
+from ltm_tools.program import has_command
 
 DATA = Path(__file__).resolve().parent / "data" / "delay"
 WITH_CURVES = sorted(path.parent.name for path in DATA.glob("*/curves.csv"))
@@ -104,11 +106,73 @@ class Exact(unittest.TestCase):
         self.assertEqual(delay.vehicles_text(int(counts[int(words[5])])), words[-1], words)
         return 1
 
+    def test_reports_that_are_read(self) -> None:
+        """The lines of 23 reports become numbers, and these the same lines; where the curves are here, they are the numbers worked out from them."""
+        reports = [part + "\n" for part in (DATA / "reports.txt").read_text().rstrip("\n").split("\n\n")]
+        self.assertEqual(len(reports), 23)
+        for text in reports:
+            self.assertEqual("".join(line + "\n" for line in delay.read_report(text).lines()), text)
+        for name in WITH_CURVES:
+            case, curves = read(name)
+            self.assertEqual(delay.read_report((DATA / name / "delay.out").read_text()), delay.report(curves, case))
+
+    def test_what_is_no_report(self) -> None:
+        text = (DATA / "spillback" / "delay.out").read_text()
+        told = delay.read_report(text)
+        self.assertEqual((told.links["a"], told.origins["n1"]), (delay.Delay(30_500_000, 20_700_000, 1800, 8), delay.Wait(29_000_000, 3200, 10)))
+        for old, new, part in (("version 0", "version 1", "first line"), ("64.900000", "64.900001", "first line"), ("queued 20.700000 waited", "queued 20.700001 waited", "first line"),
+                               ("spent 5.400000", "spent 5.40000", "line 3"), ("most 3.200", "most 3.20", "line 4"), ("at 8", "at -8", "line 2"), ("node n1", "node n 1", "line 4"),
+                               ("link b", "Link b", "line 3"), ("most 3.200 at 10\n", "most 3.200 at 10\n\n", "line 5"), (text, "", "first line")):
+            with self.subTest(new), self.assertRaisesRegex(Fault, part):
+                delay.read_report(text.replace(old, new, 1))
+
     @needs_program
     def test_large(self) -> None:
         for name in LARGE:
             told = "".join(line + "\n" for line in delay.report(loaded(str(DATA / name), None, str(BUILT)).curves, Case.read(DATA / name)).lines())
             self.assertEqual(told, (DATA / name / "delay.out").read_text())
+
+
+class Told(FolderTest):
+    """A program, made for the test, that has a command `delay` or not, and whose report has 0.1 vehicle seconds more in the queue of `a`."""
+
+    def made(self, usage: str) -> str:
+        text = (DATA / "spillback" / "delay.out").read_text().replace("20.700000", "20.800000")
+        return str(self.program(f"""
+words = sys.argv[1:]
+with open({str(self.folder / "asked.txt")!r}, "a") as asked:
+    asked.write(" ".join(words) + "\\n")
+if words == ["delay"]:
+    sys.stdout.write({text!r})
+elif words == ["curves"]:
+    sys.stdout.write(open("curves.csv").read())
+else:
+    print({usage!r})
+    sys.exit(2)
+"""))
+
+    def test_by_the_program(self) -> None:
+        case, named = str(DATA / "spillback"), self.made("usage: ltm load | ltm delay | ltm session N")
+        self.assertIn("20.80 in queues of links", commands.run("queues", case, "--program", named)[1])
+        self.assertRegex(commands.run("compare", case, case, "--program", named, "--format", "csv", "--table", "totals")[1], "queued_seconds,20.800000,20.800000,0.000000\n")
+        self.assertEqual((self.folder / "asked.txt").read_text().split("\n"), ["curves", "", "delay", "curves", "curves", "delay", "delay", ""])
+
+    def test_without_the_command(self) -> None:
+        case, named = str(DATA / "spillback"), self.made("usage: ltm load | ltm delays | ltm session N")
+        self.assertIn("20.70 in queues of links", commands.run("queues", case, "--program", named)[1])
+        self.assertIn("queued_seconds,20.700000,20.700000,0.000000\n", commands.run("compare", case, case, "--program", named, "--format", "csv", "--table", "totals")[1])
+        self.assertNotIn("delay", (self.folder / "asked.txt").read_text())
+
+    def test_by_curves(self) -> None:
+        """What a file tells is not asked of the program; a table for programs has no sum of delays and asks for none."""
+        case, named = str(DATA / "spillback"), self.made("usage: ltm delay")
+        self.assertIn("20.70 in queues of links", commands.run("queues", case, "--program", named, "--curves", f"{case}/curves.csv")[1])
+        self.assertIn("link,a,6000,16000,1,1.800,", commands.run("queues", case, "--program", named, "--format", "csv")[1])
+        self.assertEqual((self.folder / "asked.txt").read_text(), "curves\n")
+
+    def test_no_program(self) -> None:
+        self.assertFalse(has_command("delay", str(self.folder / "nowhere")))
+        self.assertFalse(has_command("delay", str(self.program("print('delay: ltm delay')"))))
 
 
 @needs_program

@@ -1,7 +1,6 @@
 """Demand in time adds up to the thousandth; tables, matrices, profiles and trips as they come."""
 import unittest
 from fractions import Fraction
-from pathlib import Path
 
 import commands
 from support import FolderTest

@@ -39,7 +39,7 @@ def star(count: int) -> dict[str, str]:
 # the files that differ from the smallest case; status; the program's line; texts that the explanation has
 CASES: dict[str, tuple[dict[str, str], int, str, list[str]]] = {
     "Header": ({"links": "link;from;to\n"}, 6, "bad case links row 1 Header", ["links.csv, line 1", "semicolons", "link,from,to,length_m,free_kmh,wave_kmh,jam_per_km"]),
-    "Header of setup": ({"setup": "step,slots\n"}, 6, "bad case setup row 1 Header", ["exactly step_ms,slots,origin_capacity, and behind it signals or nothing", '"step,slots"']),
+    "Header of setup": ({"setup": "step,slots\n"}, 6, "bad case setup row 1 Header", ["exactly step_ms,slots,origin_capacity, and behind it each of signals, limits, cells or not, in this order", '"step,slots"']),
     "Header in large letters": ({"demand": DEMAND.upper()}, 6, "bad case demand row 1 Header", ["small letters"]),
     "Header missing": ({"splits": ""}, 6, "bad case splits row 1 Header", ["splits.csv: the file has no record"]),
     "Rows": ({"setup": "step_ms,slots,origin_capacity\n"}, 6, "bad case setup row 2 Rows", ["no record after the header"]),
@@ -216,6 +216,7 @@ class Scripts(FolderTest):
             ('{"do": "link"}', "NotCommand 0", "the member link was looked for, and is not there"),
             ('{"do": "time", "link": "a", "slot": "3"}', "NotCommand 0", 'the member slot is "3", and a whole number from 0 to 4294967295 is wanted: "3" as the number 3'),
             ('{"do": "time", "link": "a", "slot": 3.0}', "NotCommand 0", "the member slot is 3.0"),
+            ('{"do": "time", "link": "a", "slot": -0}', "NotCommand 0", "the member slot is -0.0, and a whole number"),
             ('{"do": "time", "link": "a", "slot": true}', "NotCommand 0", "the member slot is true"),
             ('{"do": "link", "link": "a b"}', "NotCommand 0", 'the member link is "a b", and a name'),
             ('{"do": "edit"}', "NotCommand 0", "the member edits was looked for"),

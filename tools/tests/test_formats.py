@@ -24,6 +24,13 @@ class Fields(unittest.TestCase):
         self.assertEqual([formats.vehicles_text(units) for units in (0, 50, 1250, -1250)], ["0.000", "0.050", "1.250", "-1.250"])
         self.assertEqual([formats.short_vehicles(units) for units in (0, 50, 1250, 7000, 10_000)], ["0", "0.05", "1.25", "7", "10"])
 
+    def test_numbers_that_the_program_prints(self) -> None:
+        self.assertEqual([formats.told_units(text) for text in ("0.000", "0.001", "39998800.000")], [0, 1, 39_998_800_000])
+        self.assertEqual([formats.told_time(text) for text in ("0.000001", "64.900000", "23886590999982.360000")], [1, 64_900_000, 23_886_590_999_982_360_000])
+        for told, texts in ((formats.told_units, ("7", "7.2", "7.2250", "-1.000", ".000", "1.000 ", "\u0667.000", "")), (formats.told_time, ("7", "1.000", "1.0000000", "+1.000000"))):
+            for text in texts:
+                self.assertRaises(Fault, told, text)
+
     def test_exact_vehicles(self) -> None:
         self.assertEqual([formats.exact_units(amount) for amount in (7, "1.25", Decimal("1.25"), Fraction(5, 4))], [7000, 1250, 1250, 1250])
         with self.assertRaises(Fault):

@@ -234,13 +234,33 @@ class Fitted(GmnsTest):
         self.assertIn("--fit STEP", err)
         self.assertEqual(len(self.made("--fit", "5s").links), 12)
 
-    def test_more_cells_than_may_be_are_told_with_what_fits(self) -> None:
+    def corridor(self, ends: int) -> None:
+        """A corridor of 1,499 links, with demand from its first node to its last ones."""
         rows = "".join(f"l{number},{number},{number + 1},1000,1,60,900\n" for number in range(1, 1500))
-        self.net("link_id,from_node_id,to_node_id,length,lanes,free_speed,capacity\n" + rows, demand="o_zone_id,d_zone_id,volume\n1,1500,10\n")
-        err = self.refused("--fit", "2s", "--horizon", "120")
-        self.assertRegex(err, r"[0-9,]+ cells, and at most 54,000,000 may be: --horizon [0-9]+ at this step or --fit [0-9]+ at this horizon")
-        horizon = err.split("--horizon ")[1].split()[0]
-        self.assertEqual(self.make("--fit", "2s", "--horizon", horizon, "--period", "10")[0], 0)
+        demand = "".join(f"1,{1501 - end},10\n" for end in range(1, ends + 1))
+        self.net("link_id,from_node_id,to_node_id,length,lanes,free_speed,capacity\n" + rows, demand="o_zone_id,d_zone_id,volume\n" + demand)
+
+    def test_cells_that_are_asked_for(self) -> None:
+        # a corridor of L links has 18*L + 5 cells a slot and 6*L + 4 beside: 26,987 * 3,600 + 8,998, and of 2,000 slots 53,982,998
+        self.corridor(1)
+        told = ("97,162,198 cells, so the column cells of setup.csv asks for 98,000,000, as without it 54,000,000 may be: "
+                "about 107 MB for a load and 195 MB for a session, at most 195 and 292")
+        status, out, _ = self.make("--step", "2s", "--horizon", "120")
+        self.assertEqual((status, out.splitlines()[-1]), (0, told))
+        self.assertEqual((self.folder / "case" / "setup.csv").read_text(), "step_ms,slots,origin_capacity,cells\n2000,3600,32,98000000\n")
+        case = Case.read(self.folder / "case")
+        self.assertEqual((case.cells(), case.setup.most_cells), (97_162_198, 98_000_000))
+        out = self.make("--step", "3600ms", "--horizon", "120")[1]
+        self.assertEqual(out.splitlines()[-1], "53,982,998 cells of at most 54,000,000")
+        self.assertEqual((self.folder / "case" / "setup.csv").read_text(), "step_ms,slots,origin_capacity\n3600,2000,32\n")
+
+    def test_more_cells_than_may_be_asked_for_are_told_with_what_fits(self) -> None:
+        # with 32 destinations the widths are 131, 196 of 1,498 nodes and 66, a boundary of both curves 287,936, the limits 2,998: 584,739 a slot
+        self.corridor(32)
+        err = self.refused("--step", "2s", "--horizon", "120")
+        self.assertIn(f"{584_739 * 3600 + 287_936:,} cells, and at most 2,000,000,000 may be: --horizon 113 at this step or --fit 2400 at this horizon"
+                      " or --destinations 30 at both", err)
+        self.assertIn("1,982,553,146 cells, so the column cells of setup.csv asks for 1,983,000,000", self.make("--step", "2s", "--horizon", "113")[1])
 
 
 class InTime(GmnsTest):

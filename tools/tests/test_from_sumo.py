@@ -2,10 +2,12 @@
 import gzip
 import unittest
 from fractions import Fraction
+from unittest import mock
 
 import commands
 from support import FolderTest
 
+from ltm_tools import cells
 from ltm_tools.case import Case
 from ltm_tools.sumo_signals import filled
 
@@ -158,6 +160,13 @@ class Vehicles(SumoTest):
     def test_splits_follow_the_routes(self) -> None:
         case = self.made(routes='<vehicle id="1" depart="0"><route edges="home in on"/></vehicle>')
         self.assertEqual({(row.node, row.destination): row.weights for row in case.splits or []}, {("D", "C"): {"home": 1}, ("A", "C"): {"in": 1}, ("B", "C"): {"on": 1}})
+
+    def test_cells_that_are_asked_for(self) -> None:
+        """Where a case may have fewer without asking: the same line and column as of other networks."""
+        with mock.patch.object(cells, "MOST_CELLS", 1000):
+            case = self.made(routes='<vehicle id="1" depart="0"><route edges="in on"/></vehicle>')
+        self.assertEqual(case.setup.cells, cells.asked_for(case.cells()))
+        self.assertIn(f"{case.cells():,} cells, so the column cells of setup.csv asks for 1,000,000, as without it 1,000 may be: about 1 MB", self.out)
 
     def test_fewer_destinations(self) -> None:
         text = "".join(f'<vehicle id="{number}" depart="0"><route edges="{edges}"/></vehicle>' for number, edges in enumerate(("in on", "in on", "in left#1")))

@@ -101,6 +101,16 @@ class Told(FolderTest):
     def test_links(self) -> None:
         self.assertEqual(link_lines(str(self.case()))[1].split(), ["a", "20", "2000", "4000", "2000", "3"])
 
+    def test_cells(self) -> None:
+        """102 cells: widths 7 and 4, so 4 * 11, then 2 * 5 * (2 + 2 + 1) counts and 2 * 4 limits; 21 * 4 + 18, so that 3 slots have 81."""
+        told = inspect(str(self.case(setup="step_ms,slots,origin_capacity,cells\n1000,4,1,100\n")))
+        self.assertIn("cells       102 of at most 100; up to 3 slots fit; the column cells of setup.csv may ask for 1000000", told)
+        self.assertTrue(any(line.startswith("memory      about 1 MB for a load and 1 MB for a session, at most 1 and 1; up to 3 slots fit in what is free") for line in told))
+        self.assertIn("load        would refuse it first for: bad case whole row 0 CellsOver 102", told[-1])
+        told = inspect(str(self.case(setup="step_ms,slots,origin_capacity,cells\n1000,4,1,102\n")))
+        self.assertIn("cells       102 of at most 102; up to 4 slots fit", told)
+        self.assertEqual(told[-1], "load        takes the case")
+
     def test_nothing_there(self) -> None:
         self.assertEqual(inspect(str(self.folder)), [f"load        would refuse it first for: {self.folder}/setup.csv is not there"])
 

@@ -1,30 +1,14 @@
 """Tests of tools/layers: levels, arrows, the drawing, and whether a page has it."""
 
 import contextlib
-import importlib.machinery
-import importlib.util
 import io
-import sys
 import tempfile
 import unittest
 from pathlib import Path
 
-PROGRAM = Path(__file__).resolve().parent.parent / "layers"
+from support import script
 
-
-def loaded():
-    loader = importlib.machinery.SourceFileLoader("layers", str(PROGRAM))
-    spec = importlib.util.spec_from_loader("layers", loader)
-    module = importlib.util.module_from_spec(spec)
-    was, sys.dont_write_bytecode = sys.dont_write_bytecode, True
-    try:
-        loader.exec_module(module)
-    finally:
-        sys.dont_write_bytecode = was
-    return module
-
-
-layers = loaded()
+layers = script("layers")
 
 CRATES = """\
 # the program

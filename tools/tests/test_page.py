@@ -1,6 +1,5 @@
 """The page: what stands in the file, and in headless Chromium that it shows what the curves say."""
 import json
-import os
 import random
 import re
 import unittest

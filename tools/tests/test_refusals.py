@@ -47,6 +47,8 @@ class Refusals(FolderTest):
                 self.assertEqual(why_refused(case, {"do": "edit", "edits": [horizon(9), edit]}, f"refused edit 2 {cause}"), reason)
         self.assertEqual(why_refused(case, {"do": "link", "link": "z"}, "refused link UnknownName"), "links.csv has no link z")
         self.assertEqual(why_refused(case, {"do": "time", "link": "a", "slot": 4}, "refused time BadSlots"), "slot 4 is not below the horizon of the loading that is shown")
+        self.assertEqual(why_refused(case, {"do": "queue", "link": "a", "slot": 5}, "refused queue BadSlots"), "slot 5 is past the horizon of the loading that is shown")
+        self.assertEqual(why_refused(case, {"do": "origin", "node": "z", "slot": 0}, "refused origin UnknownName"), "links.csv has no node z")
         self.assertEqual(why_refused(case, {"do": "edit", "edits": [horizon(9)]}, "refused edit 1 CellsOver 54000001"), "the case would have 54,000,001 cells, and at most 54,000,000 may be")
 
     def test_another_cause_is_not_explained(self) -> None:

@@ -1,10 +1,15 @@
 """A session over a pipe, with a program that is made for the test and with the proved one."""
+import json
 import unittest
+from decimal import Decimal
+from pathlib import Path
 
 from support import BUILT, EXAMPLES, FolderTest, needs_program
 from ltm_tools import edits
 from ltm_tools.errors import Fault
 from ltm_tools.session import Refused, Session
+
+DATA = Path(__file__).resolve().parent / "data" / "delay"
 
 # answers each line by the next of these lines, and writes what it was asked into asked.txt where it runs
 ANSWERS = """
@@ -34,6 +39,28 @@ class Made(FolderTest):
         self.assertEqual((self.folder / "case" / "asked.txt").read_text().splitlines()[0],
                          '{"do": "edit", "edits": [{"kind": "limit", "link": "a", "from": 60, "to": 90, "vehicles": "1.25"}, '
                          '{"kind": "limit", "link": "a", "from": 60, "to": 90, "vehicles": "32"}]}')
+
+    def test_queues_and_delay(self) -> None:
+        """Each of these questions of scripts, asked by its call: the numbers are those of the answer, by an engine that was written without this one."""
+        told = [(json.loads(line), answer) for line, answer in json.loads((DATA / "answers.json").read_text())]
+        kinds: dict[str, int] = {}
+        with self.session(*(answer for _, answer in told)) as session:
+            for command, answer in told:
+                words = answer.split()
+                call = {"delay": session.delay, "queue": lambda: session.queue(command["link"], command["slot"]), "origin": lambda: session.origin(command["node"], command["slot"])}
+                with self.subTest(command):
+                    if words[0] == "refused":
+                        with self.assertRaisesRegex(Refused, answer):
+                            session.ask(**command) if words[2] == "NotCommand" else call[command["do"]]()
+                    else:
+                        numbers = [word for word in words[6 if "slot" in words else 2:] if "." in word]
+                        self.assertEqual(call[command["do"]](), (int(words[1]), *(int(Decimal(number).scaleb(6 if command["do"] == "delay" else 3)) for number in numbers)))
+                        self.assertEqual(len(numbers), 3)
+                        kinds[command["do"]] = kinds.get(command["do"], 0) + 1
+        self.assertGreater(min(kinds[kind] for kind in ("delay", "queue", "origin")), 15)
+        asked = [json.loads(line) for line in (self.folder / "case" / "asked.txt").read_text().splitlines()]
+        for (command, answer), line in zip(told, asked):
+            self.assertEqual({**command, **line} if "NotCommand" not in answer else line, command)
 
     def test_refusals(self) -> None:
         with self.session("refused edit 2 Diagram StepTooLong 1440 7200", "refused link UnknownName", "refused command NotCommand 1") as session:

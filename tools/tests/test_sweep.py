@@ -10,6 +10,7 @@ import time
 import unittest
 from pathlib import Path
 
+import commands
 from support import BUILT, EXAMPLES, TOOLS, FolderTest, needs_program
 from ltm_tools import edits
 from ltm_tools.case import Case, Demand, Limit, Link, Setup, Split
@@ -96,6 +97,42 @@ class Sweeps(FolderTest):
         done = subprocess.run([python, str(TOOLS / "ltm-tools"), "sweep", *words], capture_output=True, text=True, env={**os.environ, "LTM": str(BUILT)})
         self.assertEqual(done.returncode, 0, done.stderr)
         return list(csv.reader(io.StringIO(done.stdout)))
+
+
+# a session that accepts each edit but those of a link z, and tells of the delay how many edits it has accepted
+SESSION = """
+import json
+if len(sys.argv) == 1:
+    print("usage: ltm load{more} | ltm session N")
+    sys.exit(2)
+made = 0
+for line in sys.stdin:
+    told = json.loads(line)
+    if told["do"] == "edit":
+        bad = any(edit.get("link") == "z" for edit in told["edits"])
+        made += 0 if bad else len(told["edits"])
+        print("refused edit 1 UnknownName" if bad else f"accepted version {{made}}", flush=True)
+    else:
+        print({{"settle": f"settled version {{made}} recomputed 0", "totals": f"version {{made}} generated 1.000 arrived 0.750 on_links 0.250 waiting 0.000",
+               "delay": f"version {{made}} spent {{made}}.500000 queued 0.000001 waited 4.000000", "link": f"version {{made}} link a in 1.000 out 0.500"}}[told["do"]], flush=True)
+"""
+
+
+class WithDelay(FolderTest):
+    def sweep(self, more: str) -> tuple[int, str, str]:
+        scenarios = self.folder / "scenarios.jsonl"
+        scenarios.write_text("".join(json.dumps({"edits": [edits.limit(link, 0, 1, 0)]}) + "\n" for link in ("a", "z")))
+        return commands.run("sweep", str(self.case()), str(scenarios), "--delay", "--links", "a", "--sessions", "1", "--program", str(self.program(SESSION.format(more=more))))
+
+    def test_delay(self) -> None:
+        self.assertEqual(self.sweep(" | ltm delay"), (0, "line,name,status,generated,arrived,on_links,waiting,spent,queued,waited,in:a,out:a\n"
+                                                      "1,,ok,1.000,0.750,0.250,0.000,1.500000,0.000001,4.000000,1.000,0.500\n"
+                                                      "2,,batch 1 refused edit 1 UnknownName: links.csv has no link z,,,,,,,,,\n", ""))
+
+    def test_a_program_that_tells_none(self) -> None:
+        status, out, err = self.sweep("")
+        self.assertEqual((status, out), (1, ""))
+        self.assertIn("tells no delay: --delay needs a program with that command", err)
 
 
 @needs_program

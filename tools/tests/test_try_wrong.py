@@ -1,30 +1,12 @@
 """Tests of tools/try_wrong: how it reads what `rt must-fail` says, and what it copies."""
 
-import importlib.machinery
-import importlib.util
-import sys
 import tempfile
 import unittest
 from pathlib import Path
 
-PROGRAM = Path(__file__).resolve().parent.parent / "try_wrong"
+from support import script
 
-
-def loaded():
-    loader = importlib.machinery.SourceFileLoader("try_wrong", str(PROGRAM))
-    spec = importlib.util.spec_from_loader("try_wrong", loader)
-    module = importlib.util.module_from_spec(spec)
-    # (dataclasses look a class's module up by its name)
-    sys.modules["try_wrong"] = module
-    was, sys.dont_write_bytecode = sys.dont_write_bytecode, True
-    try:
-        loader.exec_module(module)
-    finally:
-        sys.dont_write_bytecode = was
-    return module
-
-
-try_wrong = loaded()
+try_wrong = script("try_wrong")
 Edit = try_wrong.Edit
 
 # As `rt must-fail` wrote it, cut in their ends.
