@@ -25,8 +25,10 @@ fn first_wrong(scenario: &Scenario, curves: &Curves, slot: u32, room: &mut Room)
     requires front { IsAtFront (setting_of scenario.now) curves.now slot }
     requires inputs { HasRoom (setting_of scenario.now) room.old.inputs.room }
     requires outputs { HasRoom (setting_of scenario.now) room.old.outputs.room }
-    ensures none { IsNone result → IsFront (setting_of scenario.now) (counts_of curves.now) (slot + 1) }
-    ensures wrong { IfSome result (λ node. IsFirstWrongNode (setting_of scenario.now) (counts_of curves.now) slot node.0) }
+    ensures none { IsNone result
+        → IsFront (setting_of scenario.now) (counts_of curves.now) (slot + 1) }
+    ensures wrong { IfSome result (λ node. IsFirstWrongNode (setting_of scenario.now)
+        (counts_of curves.now) slot node.0) }
     ensures inputs { HasRoom (setting_of scenario.now) room.new.inputs.room }
     ensures outputs { HasRoom (setting_of scenario.now) room.new.outputs.room }
 {

@@ -24,7 +24,8 @@ fn read_count(text: &[u8]) -> Option<u64>
 pub(crate) fn read_counts(curves: &mut Curves, group: u32, destination: u32, text: &[u8]) -> bool
     requires group { group < groups_of curves.old }
     requires destination { destination < destinations_of curves.old }
-    ensures puts { IsTrue result → (counts : List ℕ) × (counts_told (slots_of curves.old + 1) text.now ≡ Some counts)
+    ensures puts { IsTrue result
+        → (counts : List ℕ) × (counts_told (slots_of curves.old + 1) text.now ≡ Some counts)
         × PutsCounts curves.old curves.new group destination counts }
     ensures none { IsFalse result → counts_told (slots_of curves.old + 1) text.now ≡ None }
     ensures shape { SameShape curves.new curves.old }

@@ -34,12 +34,14 @@ fn take_some<S: Source>(
 ) -> Result<usize, FileFault>
     requires { 0 < length piece.old }
     ensures few { IfOk result (λ n. n ≤ length piece.new) }
-    ensures got { IfOk result (λ n. (got : List ℕ) × (length got ≡ n) × (text.new.items ≡ text.old.items ++ got)
+    ensures got { IfOk result (λ n. (got : List ℕ) × (length got ≡ n)
+        × (text.new.items ≡ text.old.items ++ got)
         × (S.left source.old ≡ prepended got (S.left source.new))) }
     ensures end { IfOk result (λ n. n ≡ 0 → IfSome (S.left source.old) (λ bytes. bytes ≡ [])) }
     ensures causes { IfErr result (λ e. (e ≡ FileFault.ReadFault) ⊎ (e ≡ FileFault.NoMemory)) }
     ensures later { S.faults source.old ≤ S.faults source.new }
-    ensures cause { result ≡ Err FileFault.ReadFault → Rose (S.faults source.old) (S.faults source.new) }
+    ensures cause { result ≡ Err FileFault.ReadFault
+        → Rose (S.faults source.old) (S.faults source.new) }
 {
     let Ok(count) = source.read(piece) else {
         return Err(FileFault::ReadFault);
@@ -64,9 +66,11 @@ fn read_front(
     requires next { next ≤ record_count scenario.now + 1 }
     ensures shape { IsShaped (setting_of scenario.now) curves.new }
     ensures few { IfOk result (λ n. n ≤ record_count scenario.now + 1) }
-    ensures right { IfOk result (λ n. (bytes : List ℕ) → HasRead scenario.now bytes curves.old next text.old.items
+    ensures right { IfOk result (λ n. (bytes : List ℕ)
+        → HasRead scenario.now bytes curves.old next text.old.items
         → HasRead scenario.now bytes curves.new n text.new.items) }
-    ensures fault { IfErr result (λ e. (bytes more : List ℕ) → HasRead scenario.now bytes curves.old next text.old.items
+    ensures fault { IfErr result (λ e. (bytes more : List ℕ)
+        → HasRead scenario.now bytes curves.old next text.old.items
         → IsFault scenario.now (records_of (bytes ++ more)) e) }
 {
     cut_at_line_end();
@@ -98,9 +102,12 @@ fn read_end(
 ) -> Result<(), CurvesFault>
     requires shape { IsShaped (setting_of scenario.now) curves.old }
     requires next { next ≤ record_count scenario.now + 1 }
-    ensures right { OnOk result ((bytes : List ℕ) → HasRead scenario.now bytes curves.old next text.now
-        → IsCurveFile scenario.now (records_of bytes) × Keeps (setting_of scenario.now) (told scenario.now (records_of bytes)) curves.new) }
-    ensures fault { IfErr result (λ e. (bytes : List ℕ) → HasRead scenario.now bytes curves.old next text.now
+    ensures right { OnOk result ((bytes : List ℕ)
+        → HasRead scenario.now bytes curves.old next text.now
+        → IsCurveFile scenario.now (records_of bytes)
+        × Keeps (setting_of scenario.now) (told scenario.now (records_of bytes)) curves.new) }
+    ensures fault { IfErr result (λ e. (bytes : List ℕ)
+        → HasRead scenario.now bytes curves.old next text.now
         → IsFault scenario.now (records_of bytes) e) }
 {
     let read = match read_piece(alloc, scenario, curves, next, text) {
@@ -117,9 +124,12 @@ fn read_end(
 fn all_read(scenario: &Scenario, curves: &Curves, next: u32) -> Result<(), CurvesFault>
     requires shape { IsShaped (setting_of scenario.now) curves.now }
     requires next { next ≤ record_count scenario.now + 1 }
-    ensures right { OnOk result ((records : List Fields) → IsReadTo scenario.now records curves.now next → drop next records ≡ []
-        → IsCurveFile scenario.now records × Keeps (setting_of scenario.now) (told scenario.now records) curves.now) }
-    ensures fault { IfErr result (λ e. (records : List Fields) → IsReadTo scenario.now records curves.now next → drop next records ≡ []
+    ensures right { OnOk result ((records : List Fields)
+        → IsReadTo scenario.now records curves.now next → drop next records ≡ []
+        → IsCurveFile scenario.now records
+        × Keeps (setting_of scenario.now) (told scenario.now records) curves.now) }
+    ensures fault { IfErr result (λ e. (records : List Fields)
+        → IsReadTo scenario.now records curves.now next → drop next records ≡ []
         → IsFault scenario.now records e) }
 {
     let _ = curves;
@@ -149,9 +159,11 @@ fn count_rest<S: Source>(
     requires room { 0 < length piece.old }
     requires taken { taken ≤ most }
     requires most { most < 2 ^ 62 }
-    ensures told { (rest : List ℕ) × IfSome (S.left source.old) (λ bytes. bytes ≡ rest) × EndsWith taken most fault rest result }
+    ensures told { (rest : List ℕ) × IfSome (S.left source.old) (λ bytes. bytes ≡ rest)
+        × EndsWith taken most fault rest result }
     ensures later { S.faults source.old ≤ S.faults source.new }
-    ensures cause { result ≡ FileFault.ReadFault → Rose (S.faults source.old) (S.faults source.new) }
+    ensures cause { result ≡ FileFault.ReadFault
+        → Rose (S.faults source.old) (S.faults source.new) }
 {
     let mut taken = taken;
     for _ in taken..most + 1 {
@@ -186,9 +198,11 @@ pub fn read_curves_from<S: Source>(
     most: u64,
 ) -> Result<Curves, FileFault>
     requires { most < 2 ^ 62 }
-    ensures told { (bytes : List ℕ) × IfSome (S.left source.old) (λ all. all ≡ bytes) × AnswersFile scenario.now most bytes result }
+    ensures told { (bytes : List ℕ) × IfSome (S.left source.old) (λ all. all ≡ bytes)
+        × AnswersFile scenario.now most bytes result }
     ensures later { S.faults source.old ≤ S.faults source.new }
-    ensures cause { result ≡ Err FileFault.ReadFault → Rose (S.faults source.old) (S.faults source.new) }
+    ensures cause { result ≡ Err FileFault.ReadFault
+        → Rose (S.faults source.old) (S.faults source.new) }
 {
     let mut curves = match fresh(alloc, scenario) {
         Ok(curves) => curves,

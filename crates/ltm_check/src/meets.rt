@@ -42,11 +42,13 @@ pub(crate) fn make_room(alloc: Global, scenario: &Scenario) -> Result<Room, NoMe
 fn meets_moves(scenario: &Scenario, curves: &Curves, pair: Pair, room: &mut Room) -> bool
     requires node { pair.node.0 < (setting_of scenario.now).nodes }
     requires front { IsAtFront (setting_of scenario.now) curves.now pair.slot }
-    requires reads { IsUncountedPair (setting_of scenario.now) (counts_of curves.now) pair.node.0 pair.slot room.old.inputs }
+    requires reads { IsUncountedPair (setting_of scenario.now)
+        (counts_of curves.now) pair.node.0 pair.slot room.old.inputs }
     requires solvable { IsSolvable room.old.inputs }
     requires inputs { HasRoom (setting_of scenario.now) room.old.inputs.room }
     requires outputs { HasRoom (setting_of scenario.now) room.old.outputs.room }
-    ensures meets { IsTrue result ↔ MeetsStep (setting_of scenario.now) (counts_of curves.now) pair.node.0 pair.slot }
+    ensures meets { IsTrue result
+        ↔ MeetsStep (setting_of scenario.now) (counts_of curves.now) pair.node.0 pair.slot }
     ensures inputs { HasRoom (setting_of scenario.now) room.new.inputs.room }
     ensures outputs { HasRoom (setting_of scenario.now) room.new.outputs.room }
 {
@@ -65,7 +67,8 @@ fn meets_nothing(scenario: &Scenario, curves: &Curves, pair: Pair) -> bool
     requires node { pair.node.0 < (setting_of scenario.now).nodes }
     requires front { IsAtFront (setting_of scenario.now) curves.now pair.slot }
     requires idle { IsIdle (setting_of scenario.now) (counts_of curves.now) pair.node.0 pair.slot }
-    ensures { IsTrue result ↔ MeetsStep (setting_of scenario.now) (counts_of curves.now) pair.node.0 pair.slot }
+    ensures { IsTrue result
+        ↔ MeetsStep (setting_of scenario.now) (counts_of curves.now) pair.node.0 pair.slot }
 {
     inputs_by_place();
     counts_by_place();
@@ -84,7 +87,8 @@ pub(crate) fn meets_step(scenario: &Scenario, curves: &Curves, pair: Pair, room:
     requires front { IsAtFront (setting_of scenario.now) curves.now pair.slot }
     requires inputs { HasRoom (setting_of scenario.now) room.old.inputs.room }
     requires outputs { HasRoom (setting_of scenario.now) room.old.outputs.room }
-    ensures meets { IsTrue result ↔ MeetsStep (setting_of scenario.now) (counts_of curves.now) pair.node.0 pair.slot }
+    ensures meets { IsTrue result
+        ↔ MeetsStep (setting_of scenario.now) (counts_of curves.now) pair.node.0 pair.slot }
     ensures inputs { HasRoom (setting_of scenario.now) room.new.inputs.room }
     ensures outputs { HasRoom (setting_of scenario.now) room.new.outputs.room }
 {

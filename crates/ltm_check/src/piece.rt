@@ -25,7 +25,8 @@ use std::alloc::Global;
 /// Whether the first record is the header.
 fn read_header(row: &ByteRecord) -> Result<(), CurvesFault>
     ensures right { OnOk result (is_curves_header (fields_of row.now) ≡ true) }
-    ensures fault { IfErr result (λ e. (is_curves_header (fields_of row.now) ≡ false) × (e ≡ CurvesFault.Bad 1 CurvesCause.Header)) }
+    ensures fault { IfErr result (λ e. (is_curves_header (fields_of row.now) ≡ false)
+        × (e ≡ CurvesFault.Bad 1 CurvesCause.Header)) }
 {
     if is_curves_header(row) {
         return Ok(());
@@ -46,10 +47,14 @@ fn read_below(
     requires shape { IsShaped (setting_of scenario.now) curves.old }
     requires place { place < record_count scenario.now }
     ensures shape { IsShaped (setting_of scenario.now) curves.new }
-    ensures right { OnOk result ((records : List Fields) → IsReadTo scenario.now records curves.old (place + 1)
-        → slice_get records (place + 1) ≡ Some (fields_of row.now) → IsReadTo scenario.now records curves.new (place + 2)) }
-    ensures fault { IfErr result (λ e. (records : List Fields) → IsReadTo scenario.now records curves.old (place + 1)
-        → slice_get records (place + 1) ≡ Some (fields_of row.now) → IsFault scenario.now records e) }
+    ensures right { OnOk result ((records : List Fields)
+        → IsReadTo scenario.now records curves.old (place + 1)
+        → slice_get records (place + 1) ≡ Some (fields_of row.now)
+        → IsReadTo scenario.now records curves.new (place + 2)) }
+    ensures fault { IfErr result (λ e. (records : List Fields)
+        → IsReadTo scenario.now records curves.old (place + 1)
+        → slice_get records (place + 1) ≡ Some (fields_of row.now)
+        → IsFault scenario.now records e) }
 {
     let _count = record_count(scenario);
     let destinations = destination_count(scenario);
@@ -70,9 +75,12 @@ fn read_next(
     requires shape { IsShaped (setting_of scenario.now) curves.old }
     requires next { next ≤ record_count scenario.now }
     ensures shape { IsShaped (setting_of scenario.now) curves.new }
-    ensures right { OnOk result ((records : List Fields) → IsReadTo scenario.now records curves.old next
-        → slice_get records next ≡ Some (fields_of row.now) → IsReadTo scenario.now records curves.new (next + 1)) }
-    ensures fault { IfErr result (λ e. (records : List Fields) → IsReadTo scenario.now records curves.old next
+    ensures right { OnOk result ((records : List Fields)
+        → IsReadTo scenario.now records curves.old next
+        → slice_get records next ≡ Some (fields_of row.now)
+        → IsReadTo scenario.now records curves.new (next + 1)) }
+    ensures fault { IfErr result (λ e. (records : List Fields)
+        → IsReadTo scenario.now records curves.old next
         → slice_get records next ≡ Some (fields_of row.now) → IsFault scenario.now records e) }
 {
     if next == 0 {
@@ -94,9 +102,12 @@ pub(crate) fn read_piece(
     requires next { next ≤ record_count scenario.now + 1 }
     ensures shape { IsShaped (setting_of scenario.now) curves.new }
     ensures few { IfOk result (λ n. n ≤ record_count scenario.now + 1) }
-    ensures right { IfOk result (λ n. (records rest : List Fields) → IsReadTo scenario.now records curves.old next
-        → drop next records ≡ records_of piece.now ++ rest → IsReadTo scenario.now records curves.new n × (drop n records ≡ rest)) }
-    ensures fault { IfErr result (λ e. (records rest : List Fields) → IsReadTo scenario.now records curves.old next
+    ensures right { IfOk result (λ n. (records rest : List Fields)
+        → IsReadTo scenario.now records curves.old next
+        → drop next records ≡ records_of piece.now ++ rest
+        → IsReadTo scenario.now records curves.new n × (drop n records ≡ rest)) }
+    ensures fault { IfErr result (λ e. (records rest : List Fields)
+        → IsReadTo scenario.now records curves.old next
         → drop next records ≡ records_of piece.now ++ rest → IsFault scenario.now records e) }
 {
     let count = record_count(scenario);

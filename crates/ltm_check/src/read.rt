@@ -28,8 +28,10 @@ fn read_rows(
     row: &mut ByteRecord,
 ) -> Result<(), CurvesFault>
     requires shape { IsShaped (setting_of scenario.now) curves.old }
-    ensures right { OnOk result (AreRightBelow scenario.now records.old (record_count scenario.now + 1)) }
-    ensures keeps { OnOk result (Keeps (setting_of scenario.now) (told_by scenario.now records.old) curves.new) }
+    ensures right { OnOk result (AreRightBelow scenario.now records.old (record_count scenario.now
+        + 1)) }
+    ensures keeps { OnOk result (Keeps (setting_of scenario.now)
+        (told_by scenario.now records.old) curves.new) }
     ensures fault { IfErr result (IsFaultBelow scenario.now records.old) }
 {
     let destinations = destination_count(scenario);
@@ -67,7 +69,8 @@ pub(crate) fn bad_at(place: u32, cause: CurvesCause) -> CurvesFault
 /// of a loading is as great.
 pub fn read_curves(alloc: Global, scenario: &Scenario, bytes: &[u8]) -> Result<Curves, CurvesFault>
     ensures file { OnOk result (IsCurveFile scenario.now (records_of bytes.now)) }
-    ensures keeps { IfOk result (Keeps (setting_of scenario.now) (told scenario.now (records_of bytes.now))) }
+    ensures keeps { IfOk result (Keeps (setting_of scenario.now)
+        (told scenario.now (records_of bytes.now))) }
     ensures fault { IfErr result (IsFault scenario.now (records_of bytes.now)) }
 {
     let mut records = Records::of(alloc, bytes);

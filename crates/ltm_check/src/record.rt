@@ -40,7 +40,8 @@ pub(crate) fn read_record(
     requires destination { destination < (setting_of scenario.now).destinations }
     ensures fault { result ≡ fault_of scenario.now group destination (fields_of row.now) }
     ensures puts { IsNone result
-        → PutsCounts curves.old curves.new group destination (or_no_counts (counts_in scenario.now (fields_of row.now))) }
+        → PutsCounts curves.old curves.new group destination
+        (or_no_counts (counts_in scenario.now (fields_of row.now))) }
     ensures shape { SameShape curves.new curves.old }
 {
     if width(row) != 4 {

@@ -41,7 +41,8 @@ fn grow_by(before: &[u32], after: &[u32], moves: &[u64]) -> bool
 /// Whether all counts of a row have stayed.
 fn stay(before: &[u32], after: &[u32]) -> bool
     requires { length after.now ≡ length before.now }
-    ensures { IsTrue result ↔ ((d : ℕ) → d < length before.now → slice_index after.now d ≡ slice_index before.now d) }
+    ensures { IsTrue result
+        ↔ ((d : ℕ) → d < length before.now → slice_index after.now d ≡ slice_index before.now d) }
 {
     for destination in 0..before.len() {
         if before[destination] != after[destination] {
@@ -57,7 +58,8 @@ fn group_grows(curves: &Curves, group: u32, slot: u32, moves: &[u64]) -> bool
     requires slot { slot < slots_of curves.now }
     requires moves { length moves.now ≡ destinations_of curves.now }
     ensures { IsTrue result ↔ ((d : ℕ) → d < destinations_of curves.now
-        → counts_of curves.now group d (slot + 1) ≡ counts_of curves.now group d slot + slice_index moves.now d) }
+        → counts_of curves.now group d (slot + 1)
+        ≡ counts_of curves.now group d slot + slice_index moves.now d) }
 {
     let _slots = curves.slots();
     let before = curves.row(group, slot);
@@ -87,10 +89,12 @@ fn has_moved(
     requires group { group < groups_of curves.now }
     requires slot { slot < slots_of curves.now }
     requires place { IfSome moves (λ m. place < m.now.shape.arms + m.now.shape.outs) }
-    requires destinations { IfSome moves (λ m. m.now.shape.destinations ≡ destinations_of curves.now) }
+    requires destinations { IfSome moves (λ m. m.now.shape.destinations
+        ≡ destinations_of curves.now) }
     ensures { IsTrue result ↔ ((d : ℕ) → d < destinations_of curves.now
         → counts_of curves.now group d (slot + 1)
-        ≡ counts_of curves.now group d slot + moving (destinations_of curves.now) (option_map (λ m. m.now) moves.entry) place d) }
+        ≡ counts_of curves.now group d slot
+        + moving (destinations_of curves.now) (option_map (λ m. m.now) moves.entry) place d) }
 {
     match moves {
         Some(moves) => group_grows(curves, group, slot, moves.group_row(place)),
@@ -108,9 +112,13 @@ fn groups_grow(
     requires node { pair.node.0 < (setting_of scenario.now).nodes }
     requires slot { pair.slot < (setting_of scenario.now).slots }
     requires shape { IsShaped (setting_of scenario.now) curves.now }
-    requires moves { IfSome moves (λ m. m.now.shape ≡ shape_at (setting_of scenario.now) pair.node.0) }
-    ensures { IsTrue result ↔ ((i d : ℕ) → i < group_count (setting_of scenario.now) pair.node.0 → d < (setting_of scenario.now).destinations
-        → counts_of curves.now (node_group (setting_of scenario.now) pair.node.0 i) d (pair.slot + 1)
+    requires moves { IfSome moves (λ m. m.now.shape
+        ≡ shape_at (setting_of scenario.now) pair.node.0) }
+    ensures { IsTrue result
+        ↔ ((i d : ℕ) → i < group_count (setting_of scenario.now) pair.node.0
+        → d < (setting_of scenario.now).destinations
+        → counts_of curves.now (node_group (setting_of scenario.now) pair.node.0 i) d
+        (pair.slot + 1)
         ≡ counts_of curves.now (node_group (setting_of scenario.now) pair.node.0 i) d pair.slot
         + moving (setting_of scenario.now).destinations (option_map (λ m. m.now) moves.entry) i d) }
 {
@@ -145,8 +153,10 @@ fn has_arrived(
     requires slot { pair.slot < (setting_of scenario.now).slots }
     requires shape { IsShaped (setting_of scenario.now) curves.now }
     ensures { IsTrue result
-        ↔ (arrived_by (setting_of scenario.now) (counts_of curves.now) ((setting_of scenario.now).own pair.node.0) (pair.slot + 1)
-        ≡ arrived_by (setting_of scenario.now) (counts_of curves.now) ((setting_of scenario.now).own pair.node.0) pair.slot
+        ↔ (arrived_by (setting_of scenario.now) (counts_of curves.now)
+        ((setting_of scenario.now).own pair.node.0) (pair.slot + 1)
+        ≡ arrived_by (setting_of scenario.now) (counts_of curves.now)
+        ((setting_of scenario.now).own pair.node.0) pair.slot
         + arrives (option_map (λ m. m.now) moves.entry)) }
 {
     match own(scenario, pair.node) {
@@ -171,9 +181,11 @@ pub(crate) fn node_grows(
     requires node { pair.node.0 < (setting_of scenario.now).nodes }
     requires slot { pair.slot < (setting_of scenario.now).slots }
     requires shape { IsShaped (setting_of scenario.now) curves.now }
-    requires moves { IfSome moves (λ m. m.now.shape ≡ shape_at (setting_of scenario.now) pair.node.0) }
+    requires moves { IfSome moves (λ m. m.now.shape
+        ≡ shape_at (setting_of scenario.now) pair.node.0) }
     ensures { IsTrue result
-        ↔ GrowBy (setting_of scenario.now) (counts_of curves.now) pair.node.0 pair.slot (option_map (λ m. m.now) moves.entry) }
+        ↔ GrowBy (setting_of scenario.now) (counts_of curves.now) pair.node.0 pair.slot
+        (option_map (λ m. m.now) moves.entry) }
 {
     groups_grow(scenario, curves, pair, moves) && has_arrived(scenario, curves, pair, moves)
 }

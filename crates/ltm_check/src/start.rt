@@ -15,7 +15,8 @@ use ltm_units::NodeId;
 fn is_empty_at(curves: &Curves, group: u32, boundary: u32) -> bool
     requires group { group < groups_of curves.now }
     requires boundary { boundary ≤ slots_of curves.now }
-    ensures { IsTrue result ↔ ((d : ℕ) → d < destinations_of curves.now → counts_of curves.now group d boundary ≡ 0) }
+    ensures { IsTrue result
+        ↔ ((d : ℕ) → d < destinations_of curves.now → counts_of curves.now group d boundary ≡ 0) }
 {
     let row = curves.row(group, boundary);
     for destination in 0..row.len() {
@@ -29,7 +30,8 @@ fn is_empty_at(curves: &Curves, group: u32, boundary: u32) -> bool
 /// Whether nothing is counted at the start.
 fn starts_empty(curves: &Curves) -> bool
     ensures { IsTrue result
-        ↔ ((g d : ℕ) → g < groups_of curves.now → d < destinations_of curves.now → counts_of curves.now g d 0 ≡ 0) }
+        ↔ ((g d : ℕ) → g < groups_of curves.now → d < destinations_of curves.now
+        → counts_of curves.now g d 0 ≡ 0) }
 {
     for group in 0..curves.groups() {
         if !is_empty_at(curves, group, 0) {
@@ -42,7 +44,9 @@ fn starts_empty(curves: &Curves) -> bool
 /// Whether a group never counts anything.
 fn stays_empty(curves: &Curves, group: u32) -> bool
     requires { group < groups_of curves.now }
-    ensures { IsTrue result ↔ ((d k : ℕ) → d < destinations_of curves.now → k ≤ slots_of curves.now → counts_of curves.now group d k ≡ 0) }
+    ensures { IsTrue result
+        ↔ ((d k : ℕ) → d < destinations_of curves.now → k ≤ slots_of curves.now
+        → counts_of curves.now group d k ≡ 0) }
 {
     for boundary in 0..curves.slots() {
         if !is_empty_at(curves, group, boundary) {
@@ -55,7 +59,8 @@ fn stays_empty(curves: &Curves, group: u32) -> bool
 /// Whether nothing ever leaves the origin of a node without out-links.
 fn sinks_send_nothing(scenario: &Scenario, curves: &Curves) -> bool
     requires { IsShaped (setting_of scenario.now) curves.now }
-    ensures { IsTrue result ↔ OriginsWithoutOutsAreEmpty (setting_of scenario.now) (counts_of curves.now) }
+    ensures { IsTrue result
+        ↔ OriginsWithoutOutsAreEmpty (setting_of scenario.now) (counts_of curves.now) }
 {
     for node in 0..node_count(scenario) {
         let sends = !out_links(scenario, NodeId(node)).is_empty();

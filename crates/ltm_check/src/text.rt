@@ -39,7 +39,8 @@ fn push_further_counts(
     requires group { group < groups_of curves.now }
     requires destination { destination < destinations_of curves.now }
     ensures { OnOk result (into.new.items ≡ into.old.items
-        ++ texts_below (slots_of curves.now) (λ k. further_count (counts_of curves.now group destination (k + 1)))) }
+        ++ texts_below (slots_of curves.now)
+        (λ k. further_count (counts_of curves.now group destination (k + 1)))) }
 {
     for slot in 0..curves.slots() {
         push_further(into, curves.get(group, destination, slot + 1))?;
@@ -56,7 +57,9 @@ fn push_counts(
 ) -> Result<(), NoMemory>
     requires group { group < groups_of curves.now }
     requires destination { destination < destinations_of curves.now }
-    ensures { OnOk result (into.new.items ≡ into.old.items ++ counts_text (slots_of curves.now) (counts_of curves.now group destination)) }
+    ensures { OnOk result (into.new.items
+        ≡ into.old.items ++ counts_text (slots_of curves.now)
+        (counts_of curves.now group destination)) }
 {
     push_count(into, curves.get(group, destination, 0))?;
     push_further_counts(curves, group, destination, into)
@@ -71,7 +74,8 @@ fn push_due(
 ) -> Result<(), NoMemory>
     requires group { group < groups (setting_of scenario.now) }
     requires destination { destination < (setting_of scenario.now).destinations }
-    ensures { OnOk result (into.new.items ≡ into.old.items ++ due_text scenario.now group destination) }
+    ensures { OnOk result (into.new.items
+        ≡ into.old.items ++ due_text scenario.now group destination) }
 {
     push_text(into, kind_of(scenario, group))?;
     push_text(into, b",")?;
@@ -92,7 +96,8 @@ fn push_record(
     requires shape { IsShaped (setting_of scenario.now) curves.now }
     requires group { group < groups (setting_of scenario.now) }
     requires destination { destination < (setting_of scenario.now).destinations }
-    ensures { OnOk result (into.new.items ≡ into.old.items ++ record_text scenario.now (counts_of curves.now) group destination) }
+    ensures { OnOk result (into.new.items
+        ≡ into.old.items ++ record_text scenario.now (counts_of curves.now) group destination) }
 {
     push_due(scenario, group, destination, into)?;
     push_counts(curves, group, destination, into)?;
@@ -109,7 +114,8 @@ fn push_group(
 ) -> Result<(), NoMemory>
     requires shape { IsShaped (setting_of scenario.now) curves.now }
     requires group { group < groups (setting_of scenario.now) }
-    ensures { OnOk result (into.new.items ≡ into.old.items ++ group_text scenario.now (counts_of curves.now) group) }
+    ensures { OnOk result (into.new.items
+        ≡ into.old.items ++ group_text scenario.now (counts_of curves.now) group) }
 {
     for destination in 0..destination_count(scenario) {
         push_record(scenario, curves, group, destination, into)?;
@@ -121,7 +127,8 @@ fn push_group(
 fn push_groups(scenario: &Scenario, curves: &Curves, into: &mut Vec<u8>) -> Result<(), NoMemory>
     requires { IsShaped (setting_of scenario.now) curves.now }
     ensures { OnOk result (into.new.items ≡ into.old.items
-        ++ texts_below (groups (setting_of scenario.now)) (group_text scenario.now (counts_of curves.now))) }
+        ++ texts_below (groups (setting_of scenario.now))
+        (group_text scenario.now (counts_of curves.now))) }
 {
     for group in 0..curves.groups() {
         push_group(scenario, curves, group, into)?;
@@ -145,7 +152,8 @@ pub fn curves_text(
     into: &mut Vec<u8>,
 ) -> Result<(), NoMemory>
     requires { IsShaped (setting_of scenario.now) curves.now }
-    ensures ok { OnOk result (into.new.items ≡ into.old.items ++ curves_file scenario.now (counts_of curves.now)) }
+    ensures ok { OnOk result (into.new.items
+        ≡ into.old.items ++ curves_file scenario.now (counts_of curves.now)) }
     ensures err { OnErr result (into.new.items ≡ into.old.items) }
 {
     let mut text = Vec::new(alloc);

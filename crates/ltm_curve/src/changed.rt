@@ -76,7 +76,8 @@ impl Changed {
     /// looked at 64 at a time.
     pub(crate) fn next(&self, group: u32, boundary: u32) -> Option<u32>
         requires { boundary ≤ cell_slots self.now }
-        ensures { MatchOption result (NoNextCell self.now group boundary) (IsNextCell self.now group boundary) }
+        ensures { MatchOption result (NoNextCell self.now group boundary)
+            (IsNextCell self.now group boundary) }
     {
         let _width = self.marks.width();
         match self.marks.next_marked(boundary as usize, group as usize) {
@@ -99,7 +100,8 @@ impl Changed {
     pub(crate) fn word(&self, group: u32, boundary: u32) -> u64
         requires group { group < cell_groups self.now }
         requires boundary { boundary ≤ cell_slots self.now }
-        ensures { (g : ℕ) → g / 64 ≡ group / 64 → is_changed self.now g boundary ≡ (bit_at result (g % 64) == 1) }
+        ensures { (g : ℕ) → g / 64 ≡ group / 64
+            → is_changed self.now g boundary ≡ (bit_at result (g % 64) == 1) }
     {
         self.marks.word_with(boundary as usize, group as usize)
     }
@@ -134,7 +136,8 @@ impl Changed {
         ensures shape { HasCells self.new (cell_groups self.old) slots }
         ensures room { cell_room self.new ≡ cell_room self.old }
         ensures cells { (g k : ℕ) → is_changed self.new g k ≡ is_changed self.old g k }
-        ensures none { (g k : ℕ) → g < cell_groups self.old → cell_slots self.old < k → is_changed self.new g k ≡ false }
+        ensures none { (g k : ℕ) → g < cell_groups self.old → cell_slots self.old < k
+            → is_changed self.new g k ≡ false }
     {
         self.marks.lengthen(slots as usize + 1);
     }

@@ -19,7 +19,8 @@ fn bracket<R: Rows>(rows: &R, n: u64, last: u32) -> (u32, u32)
     ensures order { result.0 ≤ result.1 }
     ensures below { result.1 ≤ last }
     ensures within { total (R.width rows.now) (R.rows rows.now) result.0 ≤ n }
-    ensures above { (j : ℕ) → result.1 < j → j ≤ last → n < total (R.width rows.now) (R.rows rows.now) j }
+    ensures above { (j : ℕ) → result.1 < j → j ≤ last
+        → n < total (R.width rows.now) (R.rows rows.now) j }
 {
     let mut low = last;
     let mut high = last;
@@ -40,7 +41,8 @@ fn halve<R: Rows>(rows: &R, n: u64, from: u32, to: u32) -> u32
     requires has { total (R.width rows.now) (R.rows rows.now) from ≤ n }
     ensures below { result ≤ to }
     ensures within { total (R.width rows.now) (R.rows rows.now) result ≤ n }
-    ensures above { (j : ℕ) → result < j → j ≤ to → n < total (R.width rows.now) (R.rows rows.now) j }
+    ensures above { (j : ℕ) → result < j → j ≤ to
+        → n < total (R.width rows.now) (R.rows rows.now) j }
 {
     let mut low = from;
     let mut high = to;
@@ -150,11 +152,13 @@ impl Curves {
         requires part { IsPart (destinations_of self.now) (counts_of self.now group) n last }
         requires less { less < groups_of self.now }
         requires boundary { boundary ≤ slots_of self.now }
-        requires behind { (d : ℕ) → d < destinations_of self.now → counts_of self.now less d boundary
+        requires behind { (d : ℕ) → d < destinations_of self.now
+            → counts_of self.now less d boundary
             ≤ first_units (destinations_of self.now) (counts_of self.now group) n last d }
         requires room { length into.old ≡ destinations_of self.now }
         ensures { (d : ℕ) → d < destinations_of self.now → slice_index into.new d
-            ≡ first_units (destinations_of self.now) (counts_of self.now group) n last d - counts_of self.now less d boundary }
+            ≡ first_units (destinations_of self.now)
+            (counts_of self.now group) n last d - counts_of self.now less d boundary }
     {
         let rows = Group {
             curves: self,
@@ -182,11 +186,13 @@ impl Curves {
         requires below { end ≤ last }
         requires less { less < groups_of self.now }
         requires boundary { boundary ≤ slots_of self.now }
-        requires behind { (d : ℕ) → d < destinations_of self.now → counts_of self.now less d boundary
+        requires behind { (d : ℕ) → d < destinations_of self.now
+            → counts_of self.now less d boundary
             ≤ first_units (destinations_of self.now) (counts_of self.now group) n last d }
         requires room { length into.old ≡ destinations_of self.now }
         ensures { (d : ℕ) → d < destinations_of self.now → slice_index into.new d
-            ≡ first_units (destinations_of self.now) (counts_of self.now group) n last d - counts_of self.now less d boundary }
+            ≡ first_units (destinations_of self.now)
+            (counts_of self.now group) n last d - counts_of self.now less d boundary }
     {
         let _last = last;
         let rows = Group {
@@ -216,11 +222,13 @@ impl Curves {
         requires below { end ≤ last }
         requires less { less < groups_of self.now }
         requires boundary { boundary ≤ slots_of self.now }
-        requires behind { (d : ℕ) → d < destinations_of self.now → counts_of self.now less d boundary
+        requires behind { (d : ℕ) → d < destinations_of self.now
+            → counts_of self.now less d boundary
             ≤ first_units (destinations_of self.now) (counts_of self.now group) n last d }
         requires room { length into.old ≡ destinations_of self.now }
         ensures { (d : ℕ) → d < destinations_of self.now → slice_index into.new d
-            ≡ first_units (destinations_of self.now) (counts_of self.now group) n last d - counts_of self.now less d boundary }
+            ≡ first_units (destinations_of self.now)
+            (counts_of self.now group) n last d - counts_of self.now less d boundary }
     {
         let rows = Group {
             curves: self,

@@ -220,7 +220,8 @@ impl Curves {
     fn others(&self, group: u32, destination: u32, boundary: u32) -> u64
         requires place { IsIn self.now group destination boundary }
         requires several { 2 ≤ destinations_of self.now }
-        ensures total { result + counts_of self.now group destination boundary ≡ total_of self.now group boundary }
+        ensures total { result + counts_of self.now group destination boundary
+            ≡ total_of self.now group boundary }
         ensures small { result ≤ 2 ^ 37 }
     {
         self.kept_total(group, boundary) - self.get(group, destination, boundary)

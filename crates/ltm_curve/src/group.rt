@@ -44,14 +44,18 @@ impl Group<'_> {
         requires two { destinations_of self.now.curves.now ≡ 2 }
         requires next { slot + 1 < 2 ^ 32 }
         requires slot { slot < slots_of self.now.curves.now }
-        requires rise { RowsRise (destinations_of self.now.curves.now) (counts_of self.now.curves.now self.now.group) (slot + 1) }
-        requires part { part ≤ sum (entries (destinations_of self.now.curves.now) (counts_of self.now.curves.now self.now.group) slot) }
+        requires rise { RowsRise (destinations_of self.now.curves.now)
+            (counts_of self.now.curves.now self.now.group) (slot + 1) }
+        requires part { part ≤ sum (entries (destinations_of self.now.curves.now)
+            (counts_of self.now.curves.now self.now.group) slot) }
         requires less { length less.now ≡ destinations_of self.now.curves.now }
         requires room { length into.old ≡ destinations_of self.now.curves.now }
         requires behind { (d : ℕ) → d < destinations_of self.now.curves.now → slice_index less.now d
-            ≤ mixed (destinations_of self.now.curves.now) (counts_of self.now.curves.now self.now.group) slot part d }
+            ≤ mixed (destinations_of self.now.curves.now)
+            (counts_of self.now.curves.now self.now.group) slot part d }
         ensures { (d : ℕ) → d < destinations_of self.now.curves.now → slice_index into.new d
-            ≡ mixed (destinations_of self.now.curves.now) (counts_of self.now.curves.now self.now.group) slot part d - slice_index less.now d }
+            ≡ mixed (destinations_of self.now.curves.now)
+            (counts_of self.now.curves.now self.now.group) slot part d - slice_index less.now d }
     {
         let before = self.curves.row(self.group, slot);
         let after = self.curves.row(self.group, slot + 1);
@@ -80,16 +84,23 @@ impl Group<'_> {
     )
         requires two { destinations_of self.now.curves.now ≡ 2 }
         requires last { last ≤ slots_of self.now.curves.now }
-        requires units { IsPart (destinations_of self.now.curves.now) (counts_of self.now.curves.now self.now.group) n last }
-        requires end { end ≡ last_within (total (destinations_of self.now.curves.now) (counts_of self.now.curves.now self.now.group)) n last }
+        requires units { IsPart (destinations_of self.now.curves.now)
+            (counts_of self.now.curves.now self.now.group) n last }
+        requires end { end
+            ≡ last_within (total (destinations_of self.now.curves.now)
+            (counts_of self.now.curves.now self.now.group)) n last }
         requires below { end ≤ last }
-        requires part { part ≡ n - total (destinations_of self.now.curves.now) (counts_of self.now.curves.now self.now.group) end }
+        requires part { part
+            ≡ n - total (destinations_of self.now.curves.now)
+            (counts_of self.now.curves.now self.now.group) end }
         requires less { length less.now ≡ destinations_of self.now.curves.now }
         requires room { length into.old ≡ destinations_of self.now.curves.now }
         requires behind { (d : ℕ) → d < destinations_of self.now.curves.now → slice_index less.now d
-            ≤ first_units (destinations_of self.now.curves.now) (counts_of self.now.curves.now self.now.group) n last d }
+            ≤ first_units (destinations_of self.now.curves.now)
+            (counts_of self.now.curves.now self.now.group) n last d }
         ensures { (d : ℕ) → d < destinations_of self.now.curves.now → slice_index into.new d
-            ≡ first_units (destinations_of self.now.curves.now) (counts_of self.now.curves.now self.now.group) n last d - slice_index less.now d }
+            ≡ first_units (destinations_of self.now.curves.now)
+            (counts_of self.now.curves.now self.now.group) n last d - slice_index less.now d }
     {
         if part == 0 {
             self.write_less_two(end, less, into);

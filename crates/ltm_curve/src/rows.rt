@@ -34,8 +34,10 @@ pub trait Rows {
         requires boundary { boundary ≤ end self.now }
         requires less { length less.now ≡ width self.now }
         requires room { length into.old ≡ width self.now }
-        requires behind { (d : ℕ) → d < width self.now → slice_index less.now d ≤ rows self.now d boundary }
-        ensures { (d : ℕ) → d < width self.now → slice_index into.new d ≡ rows self.now d boundary - slice_index less.now d }
+        requires behind { (d : ℕ) → d < width self.now
+            → slice_index less.now d ≤ rows self.now d boundary }
+        ensures { (d : ℕ) → d < width self.now
+            → slice_index into.new d ≡ rows self.now d boundary - slice_index less.now d }
     {
         for destination in 0..self.destinations() {
             let place = destination as usize;
@@ -52,7 +54,8 @@ pub trait Rows {
         requires part { part ≤ sum (entries (width self.now) (rows self.now) slot) }
         requires less { length less.now ≡ width self.now }
         requires room { length into.old ≡ width self.now }
-        requires behind { (d : ℕ) → d < width self.now → slice_index less.now d ≤ mixed (width self.now) (rows self.now) slot part d }
+        requires behind { (d : ℕ) → d < width self.now
+            → slice_index less.now d ≤ mixed (width self.now) (rows self.now) slot part d }
         ensures { (d : ℕ) → d < width self.now → slice_index into.new d
             ≡ mixed (width self.now) (rows self.now) slot part d - slice_index less.now d }
     {

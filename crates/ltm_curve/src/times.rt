@@ -14,8 +14,10 @@ impl Curves {
         requires rest { rest.0 < step.0 }
         requires boundary { boundary ≤ slots_of self.now }
         requires next { 0 < rest.0 → boundary < slots_of self.now }
-        requires rises { 0 < rest.0 → total_of self.now group boundary ≤ total_of self.now group (boundary + 1) }
-        ensures { result ≡ interpolated (total_of self.now group) step.0 (boundary * step.0 + rest.0) }
+        requires rises { 0 < rest.0
+            → total_of self.now group boundary ≤ total_of self.now group (boundary + 1) }
+        ensures { result ≡ interpolated (total_of self.now group) step.0 (boundary * step.0
+            + rest.0) }
     {
         let before = self.total(group, boundary);
         if rest.0 == 0 {

@@ -141,7 +141,8 @@ impl Demand {
     /// Raises the horizon, at most to 10,000 slots. No row changes.
     pub fn lengthen(&mut self, slots: u32)
         requires { self.old.demand.slots ≤ slots }
-        ensures { self.new ≡ record self.old { demand = record { slots = slots; rows = self.old.demand.rows } } }
+        ensures { self.new
+            ≡ record self.old { demand = record { slots = slots; rows = self.old.demand.rows } } }
     {
         self.slots = slots;
     }
@@ -149,7 +150,8 @@ impl Demand {
     /// Lowers the horizon, as to undo a `lengthen`, to no less than any row's end. No row changes.
     pub fn shorten(&mut self, fewer: u32)
         requires { AreDemandRows fewer self.old.demand.rows }
-        ensures { self.new ≡ record self.old { demand = record { slots = fewer; rows = self.old.demand.rows } } }
+        ensures { self.new
+            ≡ record self.old { demand = record { slots = fewer; rows = self.old.demand.rows } } }
     {
         self.slots = fewer;
     }

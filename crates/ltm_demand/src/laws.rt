@@ -8,21 +8,26 @@ ghost use Rattle.ltm_demand.specs.Kept.{AreDemandRows};
 
 /// What rows have produced never falls from slot to slot, and is at most their units, which are few.
 pub fn production_never_falls()
-    ensures rises { (rows : List DemandRow) (o d s t : ℕ) → s ≤ t → by_end rows o d s ≤ by_end rows o d t }
+    ensures rises { (rows : List DemandRow) (o d s t : ℕ) → s ≤ t
+        → by_end rows o d s ≤ by_end rows o d t }
     ensures within { (rows : List DemandRow) (o d t : ℕ) → by_end rows o d t ≤ total rows }
-    ensures small { (slots : ℕ) (rows : List DemandRow) → AreDemandRows slots rows → total rows ≤ 10000000000000 }
+    ensures small { (slots : ℕ) (rows : List DemandRow) → AreDemandRows slots rows
+        → total rows ≤ 10000000000000 }
 {}
 
 /// What the rows of an origin have produced for each destination adds up to what they have produced, which is at most
 /// the units of all rows.
 #[tactic(auto, using(crate::proofs::Destinations::destinations_add_up, crate::proofs::Destinations::origin_by_end_le))]
 pub fn destinations_add_up()
-    ensures sum { (count : ℕ) (rows : List DemandRow) (o t : ℕ) → All (λ row. row.destination < count) rows → sum_below count (λ d. by_end rows o d t) ≡ origin_by_end rows o t }
+    ensures sum { (count : ℕ) (rows : List DemandRow) (o t : ℕ)
+        → All (λ row. row.destination < count) rows
+        → sum_below count (λ d. by_end rows o d t) ≡ origin_by_end rows o t }
     ensures within { (rows : List DemandRow) (o t : ℕ) → origin_by_end rows o t ≤ total rows }
 {}
 
 /// A set leaves what other origins have produced, and what its own origin has by the end of a slot before the row's first.
 #[tactic(auto, using(crate::proofs::Stays::by_end_stays))]
 pub fn production_stays()
-    ensures { (rows : List DemandRow) (row : DemandRow) (o d t : ℕ) → IsSilent o t row → by_end (edited rows row) o d t ≡ by_end rows o d t }
+    ensures { (rows : List DemandRow) (row : DemandRow) (o d t : ℕ) → IsSilent o t row
+        → by_end (edited rows row) o d t ≡ by_end rows o d t }
 {}

@@ -26,11 +26,16 @@ pub fn shift(
     requires slots { from < to }
     requires within { to ≤ slots }
     requires reaches { slots * width ≤ length units.old }
-    requires has { (c t : ℕ) → IsOneOf own c → t < slots → produced from to was t ≤ slice_index units.old (t * width + c) }
-    requires room { (c t : ℕ) → IsOneOf own c → t < slots → slice_index units.old (t * width + c) < 2 ^ 63 }
+    requires has { (c t : ℕ) → IsOneOf own c → t < slots
+        → produced from to was t ≤ slice_index units.old (t * width + c) }
+    requires room { (c t : ℕ) → IsOneOf own c → t < slots
+        → slice_index units.old (t * width + c) < 2 ^ 63 }
     ensures len { length units.new ≡ length units.old }
-    ensures shifted { (c t : ℕ) → IsOneOf own c → t < slots → slice_index units.new (t * width + c) + produced from to was t ≡ slice_index units.old (t * width + c) + produced from to now t }
-    ensures others { (c t : ℕ) → c < width → c ≢ 0 → c ≢ own → slice_index units.new (t * width + c) ≡ slice_index units.old (t * width + c) }
+    ensures shifted { (c t : ℕ) → IsOneOf own c → t < slots
+        → slice_index units.new (t * width + c) + produced from to was t
+        ≡ slice_index units.old (t * width + c) + produced from to now t }
+    ensures others { (c t : ℕ) → c < width → c ≢ 0 → c ≢ own
+        → slice_index units.new (t * width + c) ≡ slice_index units.old (t * width + c) }
 {
     shift_during(units, width, own, from, to, was, now);
     shift_after(units, width, own, to, slots, was, now);
@@ -58,9 +63,13 @@ fn exchange_both(units: &mut [u64], width: usize, own: usize, slot: usize, gone:
     requires room { (c : ℕ) → IsOneOf own c → slice_index units.old (slot * width + c) < 2 ^ 63 }
     requires come { come ≤ 1000000000 }
     ensures len { length units.new ≡ length units.old }
-    ensures here { (c : ℕ) → IsOneOf own c → slice_index units.new (slot * width + c) + gone ≡ slice_index units.old (slot * width + c) + come }
-    ensures elsewhere { (c t : ℕ) → c < width → t ≢ slot → slice_index units.new (t * width + c) ≡ slice_index units.old (t * width + c) }
-    ensures others { (c t : ℕ) → c < width → c ≢ 0 → c ≢ own → slice_index units.new (t * width + c) ≡ slice_index units.old (t * width + c) }
+    ensures here { (c : ℕ) → IsOneOf own c
+        → slice_index units.new (slot * width + c) + gone
+        ≡ slice_index units.old (slot * width + c) + come }
+    ensures elsewhere { (c t : ℕ) → c < width → t ≢ slot
+        → slice_index units.new (t * width + c) ≡ slice_index units.old (t * width + c) }
+    ensures others { (c t : ℕ) → c < width → c ≢ 0 → c ≢ own
+        → slice_index units.new (t * width + c) ≡ slice_index units.old (t * width + c) }
 {
     let place = slot * width;
     exchange(units, place, gone, come);
@@ -75,12 +84,18 @@ fn shift_during(units: &mut [u64], width: usize, own: usize, from: u32, to: u32,
     requires now { now ≤ 1000000000 }
     requires slots { from < to }
     requires reaches { to * width ≤ length units.old }
-    requires has { (c t : ℕ) → IsOneOf own c → t < to → produced from to was t ≤ slice_index units.old (t * width + c) }
-    requires room { (c t : ℕ) → IsOneOf own c → t < to → slice_index units.old (t * width + c) < 2 ^ 63 }
+    requires has { (c t : ℕ) → IsOneOf own c → t < to
+        → produced from to was t ≤ slice_index units.old (t * width + c) }
+    requires room { (c t : ℕ) → IsOneOf own c → t < to
+        → slice_index units.old (t * width + c) < 2 ^ 63 }
     ensures len { length units.new ≡ length units.old }
-    ensures shifted { (c t : ℕ) → IsOneOf own c → t < to → slice_index units.new (t * width + c) + produced from to was t ≡ slice_index units.old (t * width + c) + produced from to now t }
-    ensures rest { (c t : ℕ) → c < width → to ≤ t → slice_index units.new (t * width + c) ≡ slice_index units.old (t * width + c) }
-    ensures others { (c t : ℕ) → c < width → c ≢ 0 → c ≢ own → slice_index units.new (t * width + c) ≡ slice_index units.old (t * width + c) }
+    ensures shifted { (c t : ℕ) → IsOneOf own c → t < to
+        → slice_index units.new (t * width + c) + produced from to was t
+        ≡ slice_index units.old (t * width + c) + produced from to now t }
+    ensures rest { (c t : ℕ) → c < width → to ≤ t
+        → slice_index units.new (t * width + c) ≡ slice_index units.old (t * width + c) }
+    ensures others { (c t : ℕ) → c < width → c ≢ 0 → c ≢ own
+        → slice_index units.new (t * width + c) ≡ slice_index units.old (t * width + c) }
 {
     let slots = (to - from) as u64;
     let mut gone = Pace::of(was, slots);
@@ -104,12 +119,18 @@ fn shift_after(
     requires own { own < width }
     requires now { now ≤ 1000000000 }
     requires reaches { slots * width ≤ length units.old }
-    requires has { (c t : ℕ) → IsOneOf own c → to ≤ t → t < slots → was ≤ slice_index units.old (t * width + c) }
-    requires room { (c t : ℕ) → IsOneOf own c → to ≤ t → t < slots → slice_index units.old (t * width + c) < 2 ^ 63 }
+    requires has { (c t : ℕ) → IsOneOf own c → to ≤ t → t < slots
+        → was ≤ slice_index units.old (t * width + c) }
+    requires room { (c t : ℕ) → IsOneOf own c → to ≤ t → t < slots
+        → slice_index units.old (t * width + c) < 2 ^ 63 }
     ensures len { length units.new ≡ length units.old }
-    ensures front { (c t : ℕ) → c < width → t < to → slice_index units.new (t * width + c) ≡ slice_index units.old (t * width + c) }
-    ensures shifted { (c t : ℕ) → IsOneOf own c → to ≤ t → t < slots → slice_index units.new (t * width + c) + was ≡ slice_index units.old (t * width + c) + now }
-    ensures others { (c t : ℕ) → c < width → c ≢ 0 → c ≢ own → slice_index units.new (t * width + c) ≡ slice_index units.old (t * width + c) }
+    ensures front { (c t : ℕ) → c < width → t < to
+        → slice_index units.new (t * width + c) ≡ slice_index units.old (t * width + c) }
+    ensures shifted { (c t : ℕ) → IsOneOf own c → to ≤ t → t < slots
+        → slice_index units.new (t * width + c) + was
+        ≡ slice_index units.old (t * width + c) + now }
+    ensures others { (c t : ℕ) → c < width → c ≢ 0 → c ≢ own
+        → slice_index units.new (t * width + c) ≡ slice_index units.old (t * width + c) }
 {
     for slot in to as usize..slots {
         exchange_both(units, width, own, slot, was, now);

@@ -109,8 +109,10 @@ impl Table {
         requires width { self.now.destinations + 1 ≤ width }
         requires small { width ≤ 2 ^ 34 }
         ensures len { OnOk result (vec_len units.new ≡ vec_len units.old + width) }
-        ensures front { OnOk result ((k : ℕ) → k < vec_len units.old → slice_index units.new.items k ≡ slice_index units.old.items k) }
-        ensures row { OnOk result ((c : ℕ) → c < width → slice_index units.new.items (vec_len units.old + c) ≡ told self.now c slot) }
+        ensures front { OnOk result ((k : ℕ) → k < vec_len units.old
+            → slice_index units.new.items k ≡ slice_index units.old.items k) }
+        ensures row { OnOk result ((c : ℕ) → c < width
+            → slice_index units.new.items (vec_len units.old + c) ≡ told self.now c slot) }
     {
         let end = units.len() + width;
         units.extend_from_slice(self.whole_row(slot))?;
@@ -124,7 +126,8 @@ impl Table {
         requires small { destinations ≤ 2 ^ 33 }
         requires short { slots ≤ 2 ^ 33 }
         ensures len { IfOk result (λ units. vec_len units ≡ slots * (destinations + 1)) }
-        ensures told { IfOk result (λ units. (c t : ℕ) → c ≤ destinations → t < slots → slice_index units.items (t * (destinations + 1) + c) ≡ told self.now c t) }
+        ensures told { IfOk result (λ units. (c t : ℕ) → c ≤ destinations → t < slots
+            → slice_index units.items (t * (destinations + 1) + c) ≡ told self.now c t) }
     {
         let Some(count) = slots.checked_mul(destinations + 1) else {
             return Err(NoMemory);

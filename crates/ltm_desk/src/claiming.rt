@@ -34,15 +34,23 @@ impl Table {
         requires ready { IsReady (setting_of scenario.now) self.old }
         requires node { pair.node.0 < (setting_of scenario.now).nodes }
         requires slot { pair.slot < (setting_of scenario.now).slots }
-        requires idle { IsIdleBefore (setting_of scenario.now) (desk_at (setting_of scenario.now) self.old) pair.slot }
+        requires idle { IsIdleBefore (setting_of scenario.now)
+            (desk_at (setting_of scenario.now) self.old) pair.slot }
         requires active { is_active self.old.frontier pair.node.0 pair.slot ≡ true }
         requires room { 1162 ≤ inputs.old.room }
         ensures ready { IsReady (setting_of scenario.now) self.new }
-        ensures desk { desk_at (setting_of scenario.now) self.new ≡ desk_at (setting_of scenario.now) self.old }
+        ensures desk { desk_at (setting_of scenario.now) self.new
+            ≡ desk_at (setting_of scenario.now) self.old }
         ensures same { self.new ≡ record self.old { index = self.new.index } }
-        ensures placed { IsPlaced (setting_of scenario.now) (desk_at (setting_of scenario.now) self.new) (place_of self.new.index) pair.node.0 pair.slot }
-        ensures settled { IsTrue result → IsSettled (setting_of scenario.now) (desk_at (setting_of scenario.now) self.new) pair.node.0 pair.slot }
-        ensures work { IsFalse result → IsWork (setting_of scenario.now) (desk_at (setting_of scenario.now) self.new) pair.node.0 pair.slot inputs.new }
+        ensures placed { IsPlaced (setting_of scenario.now)
+            (desk_at (setting_of scenario.now) self.new)
+            (place_of self.new.index) pair.node.0 pair.slot }
+        ensures settled { IsTrue result
+            → IsSettled (setting_of scenario.now)
+            (desk_at (setting_of scenario.now) self.new) pair.node.0 pair.slot }
+        ensures work { IsFalse result
+            → IsWork (setting_of scenario.now)
+            (desk_at (setting_of scenario.now) self.new) pair.node.0 pair.slot inputs.new }
         ensures room { inputs.new.room ≡ inputs.old.room }
     {
         is_setting(scenario);
@@ -58,12 +66,18 @@ impl Table {
         requires ready { IsReady (setting_of scenario.now) self.old }
         requires node { pair.node.0 < (setting_of scenario.now).nodes }
         requires slot { pair.slot < (setting_of scenario.now).slots }
-        requires idle { IsIdleBefore (setting_of scenario.now) (desk_at (setting_of scenario.now) self.old) pair.slot }
+        requires idle { IsIdleBefore (setting_of scenario.now)
+            (desk_at (setting_of scenario.now) self.old) pair.slot }
         requires active { is_active self.old.frontier pair.node.0 pair.slot ≡ true }
-        requires settled { IsSettled (setting_of scenario.now) (desk_at (setting_of scenario.now) self.old) pair.node.0 pair.slot }
-        requires placed { IsPlaced (setting_of scenario.now) (desk_at (setting_of scenario.now) self.old) (place_of self.old.index) pair.node.0 pair.slot }
+        requires settled { IsSettled (setting_of scenario.now)
+            (desk_at (setting_of scenario.now) self.old) pair.node.0 pair.slot }
+        requires placed { IsPlaced (setting_of scenario.now)
+            (desk_at (setting_of scenario.now) self.old)
+            (place_of self.old.index) pair.node.0 pair.slot }
         ensures ready { IsReady (setting_of scenario.now) self.new }
-        ensures drops { DropsOne (setting_of scenario.now) (desk_at (setting_of scenario.now) self.old) pair.node.0 pair.slot (desk_at (setting_of scenario.now) self.new) }
+        ensures drops { DropsOne (setting_of scenario.now)
+            (desk_at (setting_of scenario.now) self.old) pair.node.0 pair.slot
+            (desk_at (setting_of scenario.now) self.new) }
         ensures same { SameWorkAs self.old self.new }
     {
         self.frontier.unmark(pair);
@@ -74,13 +88,20 @@ impl Table {
     fn find_at(&mut self, scenario: &Scenario, slot: u32, inputs: &mut NodeInputs) -> Option<NodeId>
         requires ready { IsReady (setting_of scenario.now) self.old }
         requires slot { slot < (setting_of scenario.now).slots }
-        requires idle { IsIdleBefore (setting_of scenario.now) (desk_at (setting_of scenario.now) self.old) slot }
+        requires idle { IsIdleBefore (setting_of scenario.now)
+            (desk_at (setting_of scenario.now) self.old) slot }
         requires room { 1162 ≤ inputs.old.room }
         ensures ready { IsReady (setting_of scenario.now) self.new }
-        ensures drops { DropsAt (setting_of scenario.now) (desk_at (setting_of scenario.now) self.old) slot (desk_at (setting_of scenario.now) self.new) }
-        ensures found { MatchOption result (NoneActive (desk_at (setting_of scenario.now) self.new) slot (setting_of scenario.now).nodes)
-            (λ node. IsWork (setting_of scenario.now) (desk_at (setting_of scenario.now) self.new) node.0 slot inputs.new) }
-        ensures placed { IfSome result (λ node. IsPlaced (setting_of scenario.now) (desk_at (setting_of scenario.now) self.new) (place_of self.new.index) node.0 slot) }
+        ensures drops { DropsAt (setting_of scenario.now)
+            (desk_at (setting_of scenario.now) self.old) slot
+            (desk_at (setting_of scenario.now) self.new) }
+        ensures found { MatchOption result
+            (NoneActive (desk_at (setting_of scenario.now) self.new) slot
+            (setting_of scenario.now).nodes)
+            (λ node. IsWork (setting_of scenario.now)
+            (desk_at (setting_of scenario.now) self.new) node.0 slot inputs.new) }
+        ensures placed { IfSome result (λ node. IsPlaced (setting_of scenario.now)
+            (desk_at (setting_of scenario.now) self.new) (place_of self.new.index) node.0 slot) }
         ensures same { SameWorkAs self.old self.new }
         ensures room { inputs.new.room ≡ inputs.old.room }
     {
@@ -106,9 +127,11 @@ impl Table {
         requires ready { IsReady (setting_of scenario.now) self.old }
         requires found { IsFound (setting_of scenario.now) self.old pair.node.0 pair.slot inputs.old }
         ensures ready { IsReady (setting_of scenario.now) self.new }
-        ensures takes { TakesClaim (setting_of scenario.now) (desk_at (setting_of scenario.now) self.old) pair.node.0 pair.slot inputs.new.row
+        ensures takes { TakesClaim (setting_of scenario.now)
+            (desk_at (setting_of scenario.now) self.old) pair.node.0 pair.slot inputs.new.row
             (desk_at (setting_of scenario.now) self.new) }
-        ensures changed { changed_at (setting_of scenario.now) self.new ≡ changed_at (setting_of scenario.now) self.old }
+        ensures changed { changed_at (setting_of scenario.now) self.new
+            ≡ changed_at (setting_of scenario.now) self.old }
         ensures shape { inputs.new.shape ≡ shape_at (setting_of scenario.now) pair.node.0 }
         ensures solvable { IsSolvable inputs.new }
         ensures room { inputs.new.room ≡ inputs.old.room }
@@ -122,10 +145,12 @@ impl Table {
     /// The first pair to be worked on at the slot of the claims that are out, if there is one yet.
     fn find_beside(&mut self, scenario: &Scenario, slot: u32, inputs: &mut NodeInputs) -> Found
         requires ready { IsReady (setting_of scenario.now) self.old }
-        requires out { HasClaimAt (setting_of scenario.now) (desk_at (setting_of scenario.now) self.old) slot }
+        requires out { HasClaimAt (setting_of scenario.now)
+            (desk_at (setting_of scenario.now) self.old) slot }
         requires room { 1162 ≤ inputs.old.room }
         ensures ready { IsReady (setting_of scenario.now) self.new }
-        ensures finds { Finds (setting_of scenario.now) (desk_at (setting_of scenario.now) self.old) result inputs.new self.new }
+        ensures finds { Finds (setting_of scenario.now)
+            (desk_at (setting_of scenario.now) self.old) result inputs.new self.new }
         ensures same { SameWorkAs self.old self.new }
         ensures room { inputs.new.room ≡ inputs.old.room }
     {
@@ -144,15 +169,22 @@ impl Table {
     ) -> Option<Pair>
         requires ready { IsReady (setting_of scenario.now) self.old }
         requires front { front ≤ (setting_of scenario.now).slots }
-        requires idle { IsIdleBefore (setting_of scenario.now) (desk_at (setting_of scenario.now) self.old) front }
-        requires none { IsNoneClaimed (setting_of scenario.now) (desk_at (setting_of scenario.now) self.old) }
+        requires idle { IsIdleBefore (setting_of scenario.now)
+            (desk_at (setting_of scenario.now) self.old) front }
+        requires none { IsNoneClaimed (setting_of scenario.now)
+            (desk_at (setting_of scenario.now) self.old) }
         requires room { 1162 ≤ inputs.old.room }
         ensures ready { IsReady (setting_of scenario.now) self.new }
-        ensures drops { DropsSettled (setting_of scenario.now) (desk_at (setting_of scenario.now) self.old) (desk_at (setting_of scenario.now) self.new) }
-        ensures found { MatchOption result (IsAtRest (setting_of scenario.now) (desk_at (setting_of scenario.now) self.new))
-            (λ pair. HasWork (setting_of scenario.now) (desk_at (setting_of scenario.now) self.new) pair.node.0 pair.slot inputs.new) }
+        ensures drops { DropsSettled (setting_of scenario.now)
+            (desk_at (setting_of scenario.now) self.old)
+            (desk_at (setting_of scenario.now) self.new) }
+        ensures found { MatchOption result
+            (IsAtRest (setting_of scenario.now) (desk_at (setting_of scenario.now) self.new))
+            (λ pair. HasWork (setting_of scenario.now)
+            (desk_at (setting_of scenario.now) self.new) pair.node.0 pair.slot inputs.new) }
         ensures placed { IfSome result
-            (λ pair. IsPlaced (setting_of scenario.now) (desk_at (setting_of scenario.now) self.new) (place_of self.new.index) pair.node.0 pair.slot) }
+            (λ pair. IsPlaced (setting_of scenario.now) (desk_at (setting_of scenario.now) self.new)
+            (place_of self.new.index) pair.node.0 pair.slot) }
         ensures same { SameWorkAs self.old self.new }
         ensures room { inputs.new.room ≡ inputs.old.room }
     {
@@ -168,11 +200,14 @@ impl Table {
     fn find_first(&mut self, scenario: &Scenario, front: u32, inputs: &mut NodeInputs) -> Found
         requires ready { IsReady (setting_of scenario.now) self.old }
         requires front { front ≤ (setting_of scenario.now).slots }
-        requires idle { IsIdleBefore (setting_of scenario.now) (desk_at (setting_of scenario.now) self.old) front }
-        requires none { IsNoneClaimed (setting_of scenario.now) (desk_at (setting_of scenario.now) self.old) }
+        requires idle { IsIdleBefore (setting_of scenario.now)
+            (desk_at (setting_of scenario.now) self.old) front }
+        requires none { IsNoneClaimed (setting_of scenario.now)
+            (desk_at (setting_of scenario.now) self.old) }
         requires room { 1162 ≤ inputs.old.room }
         ensures ready { IsReady (setting_of scenario.now) self.new }
-        ensures finds { Finds (setting_of scenario.now) (desk_at (setting_of scenario.now) self.old) result inputs.new self.new }
+        ensures finds { Finds (setting_of scenario.now)
+            (desk_at (setting_of scenario.now) self.old) result inputs.new self.new }
         ensures same { SameWorkAs self.old self.new }
         ensures room { inputs.new.room ≡ inputs.old.room }
     {
@@ -188,9 +223,13 @@ impl Table {
         requires { IsReady (setting_of scenario.now) self.old }
         ensures ready { IsReady (setting_of scenario.now) self.new }
         ensures within { result ≤ (setting_of scenario.now).slots }
-        ensures idle { IsIdleBefore (setting_of scenario.now) (desk_at (setting_of scenario.now) self.new) result }
-        ensures claims { (v : ℕ) → HasClaimAt (setting_of scenario.now) (desk_at (setting_of scenario.now) self.new) v → v ≡ result }
-        ensures desk { desk_at (setting_of scenario.now) self.new ≡ desk_at (setting_of scenario.now) self.old }
+        ensures idle { IsIdleBefore (setting_of scenario.now)
+            (desk_at (setting_of scenario.now) self.new) result }
+        ensures claims { (v : ℕ)
+            → HasClaimAt (setting_of scenario.now) (desk_at (setting_of scenario.now) self.new) v
+            → v ≡ result }
+        ensures desk { desk_at (setting_of scenario.now) self.new
+            ≡ desk_at (setting_of scenario.now) self.old }
         ensures same { SameWorkAs self.old self.new }
     {
         match self.frontier.advance() {
@@ -205,8 +244,10 @@ impl Table {
         requires ready { IsReady (setting_of scenario.now) self.old }
         requires room { 1162 ≤ inputs.old.room }
         ensures ready { IsReady (setting_of scenario.now) self.new }
-        ensures finds { Finds (setting_of scenario.now) (desk_at (setting_of scenario.now) self.old) result inputs.new self.new }
-        ensures changed { changed_at (setting_of scenario.now) self.new ≡ changed_at (setting_of scenario.now) self.old }
+        ensures finds { Finds (setting_of scenario.now)
+            (desk_at (setting_of scenario.now) self.old) result inputs.new self.new }
+        ensures changed { changed_at (setting_of scenario.now) self.new
+            ≡ changed_at (setting_of scenario.now) self.old }
         ensures room { inputs.new.room ≡ inputs.old.room }
     {
         let front = self.front(scenario);
@@ -222,11 +263,13 @@ impl Table {
         requires ready { IsReady (setting_of scenario.now) self.old }
         requires room { 1162 ≤ inputs.old.room }
         ensures ready { IsReady (setting_of scenario.now) self.new }
-        ensures answer { (ticket : ℕ) → AnswersSearch (setting_of scenario.now) (desk_at (setting_of scenario.now) self.old)
+        ensures answer { (ticket : ℕ)
+            → AnswersSearch (setting_of scenario.now) (desk_at (setting_of scenario.now) self.old)
             (answer_of ticket result inputs.new.row) (desk_at (setting_of scenario.now) self.new) }
         ensures fits { FitsFound (setting_of scenario.now) result inputs.new }
         ensures room { inputs.new.room ≡ inputs.old.room }
-        ensures changed { changed_at (setting_of scenario.now) self.new ≡ changed_at (setting_of scenario.now) self.old }
+        ensures changed { changed_at (setting_of scenario.now) self.new
+            ≡ changed_at (setting_of scenario.now) self.old }
     {
         match self.find(scenario, inputs) {
             Found::Work(pair) => {

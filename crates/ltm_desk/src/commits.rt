@@ -27,12 +27,15 @@ impl Table {
         requires claimed { (desk_at (setting_of scenario.now) self.old).claimed pair.node.0 pair.slot ≡ Some solved.now.inputs.row }
         requires shape { solved.now.inputs.shape ≡ shape_at (setting_of scenario.now) pair.node.0 }
         ensures ready { IsReady (setting_of scenario.now) self.new }
-        ensures desk { Commits (setting_of scenario.now) (desk_at (setting_of scenario.now) self.old) pair.node.0 pair.slot solved.now.inputs.row
-            (readers (setting_of scenario.now) (desk_at (setting_of scenario.now) self.old) (desk_at (setting_of scenario.now) self.new) pair.node.0 pair.slot)
+        ensures desk { Commits (setting_of scenario.now)
+            (desk_at (setting_of scenario.now) self.old) pair.node.0 pair.slot solved.now.inputs.row
+            (readers (setting_of scenario.now) (desk_at (setting_of scenario.now) self.old)
+            (desk_at (setting_of scenario.now) self.new) pair.node.0 pair.slot)
             (desk_at (setting_of scenario.now) self.new) }
         ensures changed { (g k : ℕ) → changed_at (setting_of scenario.now) self.new g k
             ≡ (changed_at (setting_of scenario.now) self.old g k
-            || rewritten (setting_of scenario.now) (desk_at (setting_of scenario.now) self.old) (desk_at (setting_of scenario.now) self.new) g k) }
+            || rewritten (setting_of scenario.now) (desk_at (setting_of scenario.now) self.old)
+            (desk_at (setting_of scenario.now) self.new) g k) }
     {
         is_setting(scenario);
         inputs_by_place();

@@ -39,9 +39,12 @@ fn renew_row(
     requires count { length counts.now ≡ destinations_of curves.old }
     requires small { (d : ℕ) → d < length counts.now → slice_index counts.now d < 2 ^ 31 }
     requires cells { HasCells changed.old (groups_of curves.old) (slots_of curves.old) }
-    ensures value { result ≡ row_differs (destinations_of curves.old) (counts_of curves.old) group boundary (slice_index counts.now) }
+    ensures value { result
+        ≡ row_differs (destinations_of curves.old) (counts_of curves.old) group boundary
+        (slice_index counts.now) }
     ensures sets { SetsRow curves.old curves.new group boundary counts.now }
-    ensures cells { PutsCells changed.old changed.new (λ g k. result && is_pair group boundary g k) }
+    ensures cells { PutsCells changed.old changed.new
+        (λ g k. result && is_pair group boundary g k) }
 {
     if same_numbers(curves.row(group, boundary), counts) {
         return false;
@@ -65,9 +68,12 @@ fn renew_counts(
     requires count { length counts.now ≡ destinations_of curves.old }
     requires small { (d : ℕ) → d < length counts.now → slice_index counts.now d < 2 ^ 31 }
     requires cells { HasCells changed.old (groups_of curves.old) (slots_of curves.old) }
-    ensures value { result ≡ row_differs (destinations_of curves.old) (counts_of curves.old) group boundary (slice_index counts.now) }
+    ensures value { result
+        ≡ row_differs (destinations_of curves.old) (counts_of curves.old) group boundary
+        (slice_index counts.now) }
     ensures sets { SetsRow curves.old curves.new group boundary counts.now }
-    ensures cells { PutsCells changed.old changed.new (λ g k. result && is_pair group boundary g k) }
+    ensures cells { PutsCells changed.old changed.new
+        (λ g k. result && is_pair group boundary g k) }
 {
     renew_row(curves, changed, group, boundary, counts)
 }
@@ -76,8 +82,10 @@ fn renew_counts(
 fn write_sums(before: &[u32], moves: &[u64], into: &mut [u64])
     requires before { length before.now ≡ length into.old }
     requires moves { length moves.now ≡ length into.old }
-    requires small { (i : ℕ) → i < length into.old → slice_index before.now i + slice_index moves.now i < 2 ^ 64 }
-    ensures { (i : ℕ) → i < length into.new → slice_index into.new i ≡ slice_index before.now i + slice_index moves.now i }
+    requires small { (i : ℕ) → i < length into.old
+        → slice_index before.now i + slice_index moves.now i < 2 ^ 64 }
+    ensures { (i : ℕ) → i < length into.new
+        → slice_index into.new i ≡ slice_index before.now i + slice_index moves.now i }
 {
     for place in 0..into.len() {
         into[place] = u64::from(before[place]) + moves[place];
@@ -97,14 +105,17 @@ fn renew_in(
     requires group { group < groups_of curves.old }
     requires slot { slot < slots_of curves.old }
     requires count { length moves.now ≡ destinations_of curves.old }
-    requires small { (d : ℕ) → d < length moves.now → counts_of curves.old group d slot + slice_index moves.now d < 2 ^ 31 }
+    requires small { (d : ℕ) → d < length moves.now
+        → counts_of curves.old group d slot + slice_index moves.now d < 2 ^ 31 }
     requires cells { HasCells changed.old (groups_of curves.old) (slots_of curves.old) }
     requires room { length moves.now ≤ length room.old }
-    ensures value { result ≡ row_differs (destinations_of curves.old) (counts_of curves.old) group (slot + 1)
+    ensures value { result
+        ≡ row_differs (destinations_of curves.old) (counts_of curves.old) group (slot + 1)
         (slice_index (counted_row Moved (counts_of curves.old) group slot moves.now)) }
     ensures sets { SetsRow curves.old curves.new group (slot + 1)
         (counted_row Moved (counts_of curves.old) group slot moves.now) }
-    ensures cells { PutsCells changed.old changed.new (λ g k. result && is_pair group (slot + 1) g k) }
+    ensures cells { PutsCells changed.old changed.new (λ g k. result && is_pair group (slot
+        + 1) g k) }
 {
     let counts = &mut room[..moves.len()];
     write_sums(curves.row(group, slot), moves, counts);
@@ -123,13 +134,16 @@ fn renew_many(
     requires group { group < groups_of curves.old }
     requires slot { slot < slots_of curves.old }
     requires count { length moves.now ≡ destinations_of curves.old }
-    requires small { (d : ℕ) → d < length moves.now → counts_of curves.old group d slot + slice_index moves.now d < 2 ^ 31 }
+    requires small { (d : ℕ) → d < length moves.now
+        → counts_of curves.old group d slot + slice_index moves.now d < 2 ^ 31 }
     requires cells { HasCells changed.old (groups_of curves.old) (slots_of curves.old) }
-    ensures value { result ≡ row_differs (destinations_of curves.old) (counts_of curves.old) group (slot + 1)
+    ensures value { result
+        ≡ row_differs (destinations_of curves.old) (counts_of curves.old) group (slot + 1)
         (slice_index (counted_row Moved (counts_of curves.old) group slot moves.now)) }
     ensures sets { SetsRow curves.old curves.new group (slot + 1)
         (counted_row Moved (counts_of curves.old) group slot moves.now) }
-    ensures cells { PutsCells changed.old changed.new (λ g k. result && is_pair group (slot + 1) g k) }
+    ensures cells { PutsCells changed.old changed.new (λ g k. result && is_pair group (slot
+        + 1) g k) }
 {
     let _most = curves.destinations();
     if moves.len() == 4 {
@@ -164,13 +178,16 @@ fn renew_moves(
     requires group { group < groups_of curves.old }
     requires slot { slot < slots_of curves.old }
     requires count { length moves.now ≡ destinations_of curves.old }
-    requires small { (d : ℕ) → d < length moves.now → counts_of curves.old group d slot + slice_index moves.now d < 2 ^ 31 }
+    requires small { (d : ℕ) → d < length moves.now
+        → counts_of curves.old group d slot + slice_index moves.now d < 2 ^ 31 }
     requires cells { HasCells changed.old (groups_of curves.old) (slots_of curves.old) }
-    ensures value { result ≡ row_differs (destinations_of curves.old) (counts_of curves.old) group (slot + 1)
+    ensures value { result
+        ≡ row_differs (destinations_of curves.old) (counts_of curves.old) group (slot + 1)
         (slice_index (counted_row Moved (counts_of curves.old) group slot moves.now)) }
     ensures sets { SetsRow curves.old curves.new group (slot + 1)
         (counted_row Moved (counts_of curves.old) group slot moves.now) }
-    ensures cells { PutsCells changed.old changed.new (λ g k. result && is_pair group (slot + 1) g k) }
+    ensures cells { PutsCells changed.old changed.new (λ g k. result && is_pair group (slot
+        + 1) g k) }
 {
     let before = curves.row(group, slot);
     if moves.len() == 2 {
@@ -202,11 +219,13 @@ pub(crate) fn renew(
     requires small { (d : ℕ) → d < length numbers.now → slice_index
         (counted_row given (counts_of curves.old) group slot numbers.now) d < 2 ^ 31 }
     requires cells { HasCells changed.old (groups_of curves.old) (slots_of curves.old) }
-    ensures value { result ≡ row_differs (destinations_of curves.old) (counts_of curves.old) group (slot + 1)
+    ensures value { result
+        ≡ row_differs (destinations_of curves.old) (counts_of curves.old) group (slot + 1)
         (slice_index (counted_row given (counts_of curves.old) group slot numbers.now)) }
     ensures sets { SetsRow curves.old curves.new group (slot + 1)
         (counted_row given (counts_of curves.old) group slot numbers.now) }
-    ensures cells { PutsCells changed.old changed.new (λ g k. result && is_pair group (slot + 1) g k) }
+    ensures cells { PutsCells changed.old changed.new (λ g k. result && is_pair group (slot
+        + 1) g k) }
 {
     match given {
         Given::Counted => return renew_counts(curves, changed, group, slot + 1, numbers),
@@ -238,16 +257,24 @@ pub(crate) fn renew_sink(
 ) -> bool
     requires slot { pair.slot < (setting_of scenario.now).slots }
     requires shape { IsShaped (setting_of scenario.now) curves.old }
-    requires small { counted_number given (arrived_by (setting_of scenario.now) (counts_of curves.old) ((setting_of scenario.now).own pair.node.0) pair.slot) arrived < 2 ^ 31 }
+    requires small { counted_number given
+        (arrived_by (setting_of scenario.now) (counts_of curves.old)
+        ((setting_of scenario.now).own pair.node.0) pair.slot) arrived < 2 ^ 31 }
     requires no_sink { (setting_of scenario.now).own pair.node.0 ≡ None → arrived ≡ 0 }
-    requires cells { HasCells changed.old (groups (setting_of scenario.now)) (setting_of scenario.now).slots }
-    ensures value { result ≡ sink_differs (setting_of scenario.now) (counts_of curves.old) ((setting_of scenario.now).own pair.node.0) (pair.slot + 1)
-        (counted_number given (arrived_by (setting_of scenario.now) (counts_of curves.old) ((setting_of scenario.now).own pair.node.0) pair.slot) arrived) }
+    requires cells { HasCells changed.old (groups (setting_of scenario.now))
+        (setting_of scenario.now).slots }
+    ensures value { result
+        ≡ sink_differs (setting_of scenario.now) (counts_of curves.old)
+        ((setting_of scenario.now).own pair.node.0) (pair.slot + 1)
+        (counted_number given (arrived_by (setting_of scenario.now) (counts_of curves.old)
+        ((setting_of scenario.now).own pair.node.0) pair.slot) arrived) }
     ensures shape { IsShaped (setting_of scenario.now) curves.new }
     ensures sets { SetsSink (setting_of scenario.now) pair.node.0 (pair.slot + 1)
-        (counted_number given (arrived_by (setting_of scenario.now) (counts_of curves.old) ((setting_of scenario.now).own pair.node.0) pair.slot) arrived)
+        (counted_number given (arrived_by (setting_of scenario.now) (counts_of curves.old)
+        ((setting_of scenario.now).own pair.node.0) pair.slot) arrived)
         (counts_of curves.old) (counts_of curves.new) }
-    ensures cells { PutsCells changed.old changed.new (λ g k. result && is_pair (arr_of (setting_of scenario.now)) (pair.slot + 1) g k) }
+    ensures cells { PutsCells changed.old changed.new
+        (λ g k. result && is_pair (arr_of (setting_of scenario.now)) (pair.slot + 1) g k) }
 {
     let Some(destination) = own(scenario, pair.node) else {
         return false;

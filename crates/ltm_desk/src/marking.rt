@@ -35,7 +35,8 @@ use ltm_units::{LinkId, NodeId, Pair};
 fn mark_not_before(frontier: &mut Frontier, pair: Pair, from: u32)
     requires node { pair.node.0 < nodes_of frontier.old }
     requires slot { pair.slot < slots_in frontier.old }
-    ensures { Activates frontier.old frontier.new (λ w v. nat_le from v && is_pair pair.node.0 pair.slot w v) }
+    ensures { Activates frontier.old frontier.new
+        (λ w v. nat_le from v && is_pair pair.node.0 pair.slot w v) }
 {
     if pair.slot >= from {
         frontier.mark(pair);
@@ -55,7 +56,8 @@ fn mark_list(
     requires boundary { boundary ≤ slots_of index.now }
     requires node { node.0 < nodes_of frontier.old }
     requires slots { slots_of index.now ≡ slots_in frontier.old }
-    ensures { Activates frontier.old frontier.new (λ w v. nat_le from v && ((w == node.0) && (place_of index.now link.0 v == boundary))) }
+    ensures { Activates frontier.old frontier.new
+        (λ w v. nat_le from v && ((w == node.0) && (place_of index.now link.0 v == boundary))) }
 {
     slots_stand_by_entry(index);
     let mut at = index.next_reader(link, boundary, None);
@@ -79,7 +81,8 @@ fn mark_listed(
     requires boundary { boundary ≤ (setting_of scenario.now).slots }
     requires lists { HasLists (setting_of scenario.now) index.now }
     requires pairs { HasPairs (setting_of scenario.now) frontier.old }
-    ensures { Activates frontier.old frontier.new (wakes_listed (setting_of scenario.now) (place_of index.now) link.0 low boundary) }
+    ensures { Activates frontier.old frontier.new
+        (wakes_listed (setting_of scenario.now) (place_of index.now) link.0 low boundary) }
 {
     let node = head(scenario, link);
     for entry in low..boundary + 1 {
@@ -91,7 +94,8 @@ fn mark_listed(
 fn mark_later(scenario: &Scenario, frontier: &mut Frontier, link: LinkId, boundary: u32)
     requires link { link.0 < (setting_of scenario.now).links }
     requires pairs { HasPairs (setting_of scenario.now) frontier.old }
-    ensures { Activates frontier.old frontier.new (wakes_later (setting_of scenario.now) link.0 boundary) }
+    ensures { Activates frontier.old frontier.new
+        (wakes_later (setting_of scenario.now) link.0 boundary) }
 {
     is_setting(scenario);
     let free = delays(scenario, link).free;
@@ -103,7 +107,8 @@ fn mark_later(scenario: &Scenario, frontier: &mut Frontier, link: LinkId, bounda
 pub(crate) fn mark_tail(scenario: &Scenario, frontier: &mut Frontier, link: LinkId, boundary: u32)
     requires link { link.0 < (setting_of scenario.now).links }
     requires pairs { HasPairs (setting_of scenario.now) frontier.old }
-    ensures { Activates frontier.old frontier.new (wakes_tail (setting_of scenario.now) link.0 boundary) }
+    ensures { Activates frontier.old frontier.new
+        (wakes_tail (setting_of scenario.now) link.0 boundary) }
 {
     is_setting(scenario);
     let wave = delays(scenario, link).wave;
@@ -127,7 +132,8 @@ pub(crate) fn mark_head(
     requires lists { HasLists (setting_of scenario.now) index.now }
     requires pairs { HasPairs (setting_of scenario.now) frontier.old }
     ensures { Activates frontier.old frontier.new
-        (wakes_head (setting_of scenario.now) (counts_of curves.now) (place_of index.now) link.0 boundary entered) }
+        (wakes_head (setting_of scenario.now) (counts_of curves.now)
+        (place_of index.now) link.0 boundary entered) }
 {
     let _links = link_count(scenario);
     let low = curves.position(up_of(link), entered, boundary.saturating_sub(1));

@@ -58,10 +58,13 @@ fn keep_pair(
     requires setting { IsSetting (setting_of scenario.now) }
     requires node { pair.node.0 < (setting_of scenario.now).nodes }
     requires front { IsAtFront (setting_of scenario.now) curves.now pair.slot }
-    requires keeps { KeepsSlots (setting_of scenario.now) (counts_of curves.now) kept.old index.old pair.slot pair.node.0 }
+    requires keeps { KeepsSlots (setting_of scenario.now)
+        (counts_of curves.now) kept.old index.old pair.slot pair.node.0 }
     requires room { HasRoom (setting_of scenario.now) inputs.old.room }
-    ensures keeps { KeepsSlots (setting_of scenario.now) (counts_of curves.now) kept.new index.new pair.slot (pair.node.0 + 1) }
-    ensures inputs { IsUncountedPair (setting_of scenario.now) (counts_of curves.now) pair.node.0 pair.slot inputs.new }
+    ensures keeps { KeepsSlots (setting_of scenario.now)
+        (counts_of curves.now) kept.new index.new pair.slot (pair.node.0 + 1) }
+    ensures inputs { IsUncountedPair (setting_of scenario.now)
+        (counts_of curves.now) pair.node.0 pair.slot inputs.new }
     ensures solvable { IsSolvable inputs.new }
     ensures room { inputs.new.room ≡ inputs.old.room }
 {
@@ -84,11 +87,13 @@ fn load_pair(
     requires node { pair.node.0 < (setting_of scenario.now).nodes }
     requires slot { pair.slot < (setting_of scenario.now).slots }
     requires working { IsWorkingAt (setting_of scenario.now) curves.old pair.slot pair.node.0 }
-    requires inputs { IsUncountedPair (setting_of scenario.now) (counts_of curves.old) pair.node.0 pair.slot inputs.now }
+    requires inputs { IsUncountedPair (setting_of scenario.now)
+        (counts_of curves.old) pair.node.0 pair.slot inputs.now }
     requires solvable { IsSolvable inputs.now }
     requires room { HasRoom (setting_of scenario.now) outputs.old.room }
     ensures working { IsWorkingAt (setting_of scenario.now) curves.new pair.slot (pair.node.0 + 1) }
-    ensures stays { StaysTo (setting_of scenario.now) pair.slot (counts_of curves.old) (counts_of curves.new) }
+    ensures stays { StaysTo (setting_of scenario.now) pair.slot (counts_of curves.old)
+        (counts_of curves.new) }
     ensures room { outputs.new.room ≡ outputs.old.room }
 {
     inputs_by_place();
@@ -174,7 +179,8 @@ impl Opening {
 
     /// The whole loading of a scenario: the inputs of all pairs are kept, and their positions placed.
     pub(crate) fn load(alloc: Global, scenario: &Scenario) -> Result<Opening, NoMemory>
-        ensures { IfOk result (λ opening. IsOpenTo (setting_of scenario.now) opening (setting_of scenario.now).slots) }
+        ensures { IfOk result (λ opening. IsOpenTo (setting_of scenario.now) opening
+            (setting_of scenario.now).slots) }
     {
         is_setting(scenario);
         let mut opening = Opening::begin(alloc, scenario)?;

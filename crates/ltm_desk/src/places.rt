@@ -37,10 +37,12 @@ pub(crate) fn place_pair(
 )
     requires node { pair.node.0 < (setting_of scenario.now).nodes }
     requires slot { pair.slot < (setting_of scenario.now).slots }
-    requires positions { ArePositions (setting_of scenario.now) (counts_of curves.now) pair.node.0 pair.slot positions.now }
+    requires positions { ArePositions (setting_of scenario.now)
+        (counts_of curves.now) pair.node.0 pair.slot positions.now }
     requires places { (setting_of scenario.now).ins pair.node.0 ≤ length positions.now }
     requires lists { HasLists (setting_of scenario.now) index.old }
-    ensures { PlacesPair (setting_of scenario.now) (counts_of curves.now) index.old index.new pair.node.0 pair.slot
+    ensures { PlacesPair (setting_of scenario.now)
+        (counts_of curves.now) index.old index.new pair.node.0 pair.slot
         ((setting_of scenario.now).ins pair.node.0) }
 {
     is_setting(scenario);

@@ -37,10 +37,14 @@ impl Table {
         requires found { IsFound (setting_of scenario.now) self.old pair.node.0 pair.slot inputs.now }
         requires room { 1162 ≤ moves.old.room }
         ensures ready { IsReady (setting_of scenario.now) self.new }
-        ensures sets { (before : Table) → DropsAtFront (setting_of scenario.now) (desk_at (setting_of scenario.now) before) (desk_at (setting_of scenario.now) self.old)
-            → changed_at (setting_of scenario.now) self.old ≡ changed_at (setting_of scenario.now) before
+        ensures sets { (before : Table)
+            → DropsAtFront (setting_of scenario.now) (desk_at (setting_of scenario.now) before)
+            (desk_at (setting_of scenario.now) self.old)
+            → changed_at (setting_of scenario.now) self.old
+            ≡ changed_at (setting_of scenario.now) before
             → RecomputesPair (setting_of scenario.now) before pair.node.0 pair.slot
-            (pair_row (setting_of scenario.now) (counts_of (curves_of self.old)) pair.node.0 pair.slot) self.new }
+            (pair_row (setting_of scenario.now)
+            (counts_of (curves_of self.old)) pair.node.0 pair.slot) self.new }
         ensures room { moves.new.room ≡ moves.old.room }
     {
         is_setting(scenario);

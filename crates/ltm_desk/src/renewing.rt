@@ -66,20 +66,31 @@ fn renew_origin(
     requires slot { pair.slot < (setting_of scenario.now).slots }
     requires outputs { outputs.now.shape ≡ shape_at (setting_of scenario.now) pair.node.0 }
     requires small { (i : ℕ) → slice_index
-        (counted given (setting_of scenario.now) (counts_of curves.old) pair.node.0 pair.slot outputs.now).row i < 2 ^ 31 }
+        (counted given (setting_of scenario.now)
+        (counts_of curves.old) pair.node.0 pair.slot outputs.now).row i < 2 ^ 31 }
     requires shape { IsShaped (setting_of scenario.now) curves.old }
-    requires cells { HasCells changed.old (groups (setting_of scenario.now)) (setting_of scenario.now).slots }
-    ensures origin { 0 < (setting_of scenario.now).outs pair.node.0 → result ≡ arm_differs (setting_of scenario.now) (counts_of curves.old) pair.node.0
+    requires cells { HasCells changed.old (groups (setting_of scenario.now))
+        (setting_of scenario.now).slots }
+    ensures origin { 0 < (setting_of scenario.now).outs pair.node.0
+        → result ≡ arm_differs (setting_of scenario.now) (counts_of curves.old) pair.node.0
         (pair.slot + 1)
-        (counted given (setting_of scenario.now) (counts_of curves.old) pair.node.0 pair.slot outputs.now) ((setting_of scenario.now).ins pair.node.0) }
+        (counted given (setting_of scenario.now)
+        (counts_of curves.old) pair.node.0 pair.slot outputs.now)
+        ((setting_of scenario.now).ins pair.node.0) }
     ensures none { (setting_of scenario.now).outs pair.node.0 ≡ 0 → result ≡ false }
     ensures shape { IsShaped (setting_of scenario.now) curves.new }
-    ensures sets { 0 < (setting_of scenario.now).outs pair.node.0 → SetsGroups (setting_of scenario.now) (pair.slot + 1) 1
+    ensures sets { 0 < (setting_of scenario.now).outs pair.node.0
+        → SetsGroups (setting_of scenario.now) (pair.slot + 1) 1
         (λ i. dep_of (setting_of scenario.now) pair.node.0) (λ i. left_after
-        (counted given (setting_of scenario.now) (counts_of curves.old) pair.node.0 pair.slot outputs.now) ((setting_of scenario.now).ins pair.node.0))
+        (counted given (setting_of scenario.now)
+        (counts_of curves.old) pair.node.0 pair.slot outputs.now)
+        ((setting_of scenario.now).ins pair.node.0))
         (counts_of curves.old) (counts_of curves.new) }
-    ensures stays { (setting_of scenario.now).outs pair.node.0 ≡ 0 → counts_of curves.new ≡ counts_of curves.old }
-    ensures cells { PutsCells changed.old changed.new (λ g k. result && is_pair (dep_of (setting_of scenario.now) pair.node.0) (pair.slot + 1) g k) }
+    ensures stays { (setting_of scenario.now).outs pair.node.0 ≡ 0
+        → counts_of curves.new ≡ counts_of curves.old }
+    ensures cells { PutsCells changed.old changed.new
+        (λ g k. result && is_pair (dep_of (setting_of scenario.now) pair.node.0) (pair.slot
+        + 1) g k) }
 {
     is_setting(scenario);
     if out_links(scenario, pair.node).is_empty() {
@@ -113,23 +124,33 @@ fn renew_all(
     requires slot { pair.slot < (setting_of scenario.now).slots }
     requires outputs { outputs.now.shape ≡ shape_at (setting_of scenario.now) pair.node.0 }
     requires small { (i : ℕ) → slice_index
-        (counted given (setting_of scenario.now) (counts_of curves.old) pair.node.0 pair.slot outputs.now).row i < 2 ^ 31 }
-    requires no_sink { (setting_of scenario.now).own pair.node.0 ≡ None → arrived_after outputs.now ≡ 0 }
+        (counted given (setting_of scenario.now)
+        (counts_of curves.old) pair.node.0 pair.slot outputs.now).row i < 2 ^ 31 }
+    requires no_sink { (setting_of scenario.now).own pair.node.0 ≡ None
+        → arrived_after outputs.now ≡ 0 }
     requires shape { IsShaped (setting_of scenario.now) curves.old }
     requires lists { HasLists (setting_of scenario.now) index.now }
-    requires cells { HasCells changed.old (groups (setting_of scenario.now)) (setting_of scenario.now).slots }
+    requires cells { HasCells changed.old (groups (setting_of scenario.now))
+        (setting_of scenario.now).slots }
     requires pairs { HasPairs (setting_of scenario.now) frontier.old }
-    ensures value { result ≡ any_differs (setting_of scenario.now) (counts_of curves.old) pair.node.0 (pair.slot + 1)
-        (counted given (setting_of scenario.now) (counts_of curves.old) pair.node.0 pair.slot outputs.now) }
+    ensures value { result
+        ≡ any_differs (setting_of scenario.now) (counts_of curves.old) pair.node.0 (pair.slot + 1)
+        (counted given (setting_of scenario.now)
+        (counts_of curves.old) pair.node.0 pair.slot outputs.now) }
     ensures shape { IsShaped (setting_of scenario.now) curves.new }
     ensures applies { Applies (setting_of scenario.now) pair.node.0 (pair.slot + 1)
-        (counted given (setting_of scenario.now) (counts_of curves.old) pair.node.0 pair.slot outputs.now).row
+        (counted given (setting_of scenario.now)
+        (counts_of curves.old) pair.node.0 pair.slot outputs.now).row
         (counts_of curves.old) (counts_of curves.new) }
-    ensures cells { PutsCells changed.old changed.new (changes (setting_of scenario.now) (counts_of curves.old) pair.node.0 (pair.slot + 1)
-        (counted given (setting_of scenario.now) (counts_of curves.old) pair.node.0 pair.slot outputs.now)) }
+    ensures cells { PutsCells changed.old changed.new
+        (changes (setting_of scenario.now) (counts_of curves.old) pair.node.0 (pair.slot + 1)
+        (counted given (setting_of scenario.now)
+        (counts_of curves.old) pair.node.0 pair.slot outputs.now)) }
     ensures wakes { Activates frontier.old frontier.new
-        (wakes_others (setting_of scenario.now) (counts_of curves.old) (place_of index.now) pair.node.0 (pair.slot + 1)
-        (counted given (setting_of scenario.now) (counts_of curves.old) pair.node.0 pair.slot outputs.now)) }
+        (wakes_others (setting_of scenario.now) (counts_of curves.old)
+        (place_of index.now) pair.node.0 (pair.slot + 1)
+        (counted given (setting_of scenario.now)
+        (counts_of curves.old) pair.node.0 pair.slot outputs.now)) }
 {
     is_setting(scenario);
     counts_by_place();
@@ -160,24 +181,34 @@ pub(crate) fn renew_pair(
     requires slot { pair.slot < (setting_of scenario.now).slots }
     requires outputs { outputs.now.shape ≡ shape_at (setting_of scenario.now) pair.node.0 }
     requires small { (i : ℕ) → slice_index
-        (counted given (setting_of scenario.now) (counts_of curves.old) pair.node.0 pair.slot outputs.now).row i < 2 ^ 31 }
-    requires no_sink { (setting_of scenario.now).own pair.node.0 ≡ None → arrived_after outputs.now ≡ 0 }
+        (counted given (setting_of scenario.now)
+        (counts_of curves.old) pair.node.0 pair.slot outputs.now).row i < 2 ^ 31 }
+    requires no_sink { (setting_of scenario.now).own pair.node.0 ≡ None
+        → arrived_after outputs.now ≡ 0 }
     requires shape { IsShaped (setting_of scenario.now) curves.old }
     requires lists { HasLists (setting_of scenario.now) index.now }
-    requires cells { HasCells changed.old (groups (setting_of scenario.now)) (setting_of scenario.now).slots }
+    requires cells { HasCells changed.old (groups (setting_of scenario.now))
+        (setting_of scenario.now).slots }
     requires pairs { HasPairs (setting_of scenario.now) frontier.old }
     requires kept { HasRows (setting_of scenario.now) (setting_of scenario.now).slots kept.old }
     ensures shape { IsShaped (setting_of scenario.now) curves.new }
     ensures applies { Applies (setting_of scenario.now) pair.node.0 (pair.slot + 1)
-        (counted given (setting_of scenario.now) (counts_of curves.old) pair.node.0 pair.slot outputs.now).row
+        (counted given (setting_of scenario.now)
+        (counts_of curves.old) pair.node.0 pair.slot outputs.now).row
         (counts_of curves.old) (counts_of curves.new) }
-    ensures cells { PutsCells changed.old changed.new (changes (setting_of scenario.now) (counts_of curves.old) pair.node.0 (pair.slot + 1)
-        (counted given (setting_of scenario.now) (counts_of curves.old) pair.node.0 pair.slot outputs.now)) }
+    ensures cells { PutsCells changed.old changed.new
+        (changes (setting_of scenario.now) (counts_of curves.old) pair.node.0 (pair.slot + 1)
+        (counted given (setting_of scenario.now)
+        (counts_of curves.old) pair.node.0 pair.slot outputs.now)) }
     ensures wakes { Activates frontier.old frontier.new
-        (wakes (setting_of scenario.now) (counts_of curves.old) (place_of index.now) pair.node.0 (pair.slot + 1)
-        (counted given (setting_of scenario.now) (counts_of curves.old) pair.node.0 pair.slot outputs.now)) }
-    ensures kept { ForgetsIf (any_differs (setting_of scenario.now) (counts_of curves.old) pair.node.0 (pair.slot + 1)
-        (counted given (setting_of scenario.now) (counts_of curves.old) pair.node.0 pair.slot outputs.now))
+        (wakes (setting_of scenario.now) (counts_of curves.old) (place_of index.now) pair.node.0
+        (pair.slot + 1)
+        (counted given (setting_of scenario.now)
+        (counts_of curves.old) pair.node.0 pair.slot outputs.now)) }
+    ensures kept { ForgetsIf (any_differs (setting_of scenario.now)
+        (counts_of curves.old) pair.node.0 (pair.slot + 1)
+        (counted given (setting_of scenario.now)
+        (counts_of curves.old) pair.node.0 pair.slot outputs.now))
         kept.old kept.new pair.node.0 (pair.slot + 1) }
 {
     let any = renew_all(

@@ -57,14 +57,19 @@ fn renew_tail(
     requires small { (d : ℕ) → d < length numbers.now → slice_index
         (counted_row given (counts_of curves.old) (down_of link.0) slot numbers.now) d < 2 ^ 31 }
     requires shape { IsShaped (setting_of scenario.now) curves.old }
-    requires cells { HasCells changed.old (groups (setting_of scenario.now)) (setting_of scenario.now).slots }
+    requires cells { HasCells changed.old (groups (setting_of scenario.now))
+        (setting_of scenario.now).slots }
     requires pairs { HasPairs (setting_of scenario.now) frontier.old }
-    ensures value { result ≡ row_differs (setting_of scenario.now).destinations (counts_of curves.old) (down_of link.0) (slot + 1)
+    ensures value { result
+        ≡ row_differs (setting_of scenario.now).destinations (counts_of curves.old) (down_of link.0)
+        (slot + 1)
         (slice_index (counted_row given (counts_of curves.old) (down_of link.0) slot numbers.now)) }
     ensures sets { SetsRow curves.old curves.new (down_of link.0) (slot + 1)
         (counted_row given (counts_of curves.old) (down_of link.0) slot numbers.now) }
-    ensures cells { PutsCells changed.old changed.new (λ g k. result && is_pair (down_of link.0) (slot + 1) g k) }
-    ensures wakes { Activates frontier.old frontier.new (λ w v. result && wakes_tail (setting_of scenario.now) link.0 (slot + 1) w v) }
+    ensures cells { PutsCells changed.old changed.new
+        (λ g k. result && is_pair (down_of link.0) (slot + 1) g k) }
+    ensures wakes { Activates frontier.old frontier.new
+        (λ w v. result && wakes_tail (setting_of scenario.now) link.0 (slot + 1) w v) }
 {
     let _links = link_count(scenario);
     let _slots = slot_count(scenario);
@@ -94,15 +99,20 @@ fn renew_head(
         (counted_row given (counts_of curves.old) (up_of link.0) slot numbers.now) d < 2 ^ 31 }
     requires shape { IsShaped (setting_of scenario.now) curves.old }
     requires lists { HasLists (setting_of scenario.now) index.now }
-    requires cells { HasCells changed.old (groups (setting_of scenario.now)) (setting_of scenario.now).slots }
+    requires cells { HasCells changed.old (groups (setting_of scenario.now))
+        (setting_of scenario.now).slots }
     requires pairs { HasPairs (setting_of scenario.now) frontier.old }
-    ensures value { result ≡ row_differs (setting_of scenario.now).destinations (counts_of curves.old) (up_of link.0) (slot + 1)
+    ensures value { result
+        ≡ row_differs (setting_of scenario.now).destinations (counts_of curves.old) (up_of link.0)
+        (slot + 1)
         (slice_index (counted_row given (counts_of curves.old) (up_of link.0) slot numbers.now)) }
     ensures sets { SetsRow curves.old curves.new (up_of link.0) (slot + 1)
         (counted_row given (counts_of curves.old) (up_of link.0) slot numbers.now) }
-    ensures cells { PutsCells changed.old changed.new (λ g k. result && is_pair (up_of link.0) (slot + 1) g k) }
+    ensures cells { PutsCells changed.old changed.new (λ g k. result && is_pair (up_of link.0) (slot
+        + 1) g k) }
     ensures wakes { Activates frontier.old frontier.new
-        (λ w v. result && wakes_head (setting_of scenario.now) (counts_of curves.old) (place_of index.now) link.0 (slot + 1)
+        (λ w v. result && wakes_head (setting_of scenario.now) (counts_of curves.old)
+        (place_of index.now) link.0 (slot + 1)
         (sum_below (setting_of scenario.now).destinations (slice_index
         (counted_row given (counts_of curves.old) (up_of link.0) slot numbers.now))) w v) }
 {
@@ -133,23 +143,33 @@ pub(crate) fn renew_tails(
     requires slot { pair.slot < (setting_of scenario.now).slots }
     requires outputs { outputs.now.shape ≡ shape_at (setting_of scenario.now) pair.node.0 }
     requires small { (i : ℕ) → slice_index
-        (counted given (setting_of scenario.now) (counts_of curves.old) pair.node.0 pair.slot outputs.now).row i < 2 ^ 31 }
+        (counted given (setting_of scenario.now)
+        (counts_of curves.old) pair.node.0 pair.slot outputs.now).row i < 2 ^ 31 }
     requires shape { IsShaped (setting_of scenario.now) curves.old }
-    requires cells { HasCells changed.old (groups (setting_of scenario.now)) (setting_of scenario.now).slots }
+    requires cells { HasCells changed.old (groups (setting_of scenario.now))
+        (setting_of scenario.now).slots }
     requires pairs { HasPairs (setting_of scenario.now) frontier.old }
     ensures value { result ≡ some_below ((setting_of scenario.now).ins pair.node.0)
         (arm_differs (setting_of scenario.now) (counts_of curves.old) pair.node.0 (pair.slot + 1)
-        (counted given (setting_of scenario.now) (counts_of curves.old) pair.node.0 pair.slot outputs.now)) }
+        (counted given (setting_of scenario.now)
+        (counts_of curves.old) pair.node.0 pair.slot outputs.now)) }
     ensures shape { IsShaped (setting_of scenario.now) curves.new }
-    ensures sets { SetsGroups (setting_of scenario.now) (pair.slot + 1) ((setting_of scenario.now).ins pair.node.0)
+    ensures sets { SetsGroups (setting_of scenario.now) (pair.slot
+        + 1) ((setting_of scenario.now).ins pair.node.0)
         (arm_group (setting_of scenario.now) pair.node.0) (left_after
-        (counted given (setting_of scenario.now) (counts_of curves.old) pair.node.0 pair.slot outputs.now)) (counts_of curves.old) (counts_of curves.new) }
+        (counted given (setting_of scenario.now)
+        (counts_of curves.old) pair.node.0 pair.slot outputs.now)) (counts_of curves.old)
+        (counts_of curves.new) }
     ensures cells { PutsCells changed.old changed.new
         (changes_arms (setting_of scenario.now) (counts_of curves.old) pair.node.0 (pair.slot + 1)
-        (counted given (setting_of scenario.now) (counts_of curves.old) pair.node.0 pair.slot outputs.now) ((setting_of scenario.now).ins pair.node.0)) }
+        (counted given (setting_of scenario.now)
+        (counts_of curves.old) pair.node.0 pair.slot outputs.now)
+        ((setting_of scenario.now).ins pair.node.0)) }
     ensures wakes { Activates frontier.old frontier.new
         (wakes_tails (setting_of scenario.now) (counts_of curves.old) pair.node.0 (pair.slot + 1)
-        (counted given (setting_of scenario.now) (counts_of curves.old) pair.node.0 pair.slot outputs.now) ((setting_of scenario.now).ins pair.node.0)) }
+        (counted given (setting_of scenario.now)
+        (counts_of curves.old) pair.node.0 pair.slot outputs.now)
+        ((setting_of scenario.now).ins pair.node.0)) }
 {
     let mut any = false;
     for (place, link) in in_links(scenario, pair.node).iter().enumerate() {
@@ -178,24 +198,34 @@ pub(crate) fn renew_heads(
     requires slot { pair.slot < (setting_of scenario.now).slots }
     requires outputs { outputs.now.shape ≡ shape_at (setting_of scenario.now) pair.node.0 }
     requires small { (i : ℕ) → slice_index
-        (counted given (setting_of scenario.now) (counts_of curves.old) pair.node.0 pair.slot outputs.now).row i < 2 ^ 31 }
+        (counted given (setting_of scenario.now)
+        (counts_of curves.old) pair.node.0 pair.slot outputs.now).row i < 2 ^ 31 }
     requires shape { IsShaped (setting_of scenario.now) curves.old }
     requires lists { HasLists (setting_of scenario.now) index.now }
-    requires cells { HasCells changed.old (groups (setting_of scenario.now)) (setting_of scenario.now).slots }
+    requires cells { HasCells changed.old (groups (setting_of scenario.now))
+        (setting_of scenario.now).slots }
     requires pairs { HasPairs (setting_of scenario.now) frontier.old }
     ensures value { result ≡ some_below ((setting_of scenario.now).outs pair.node.0)
         (out_differs (setting_of scenario.now) (counts_of curves.old) pair.node.0 (pair.slot + 1)
-        (counted given (setting_of scenario.now) (counts_of curves.old) pair.node.0 pair.slot outputs.now)) }
+        (counted given (setting_of scenario.now)
+        (counts_of curves.old) pair.node.0 pair.slot outputs.now)) }
     ensures shape { IsShaped (setting_of scenario.now) curves.new }
-    ensures sets { SetsGroups (setting_of scenario.now) (pair.slot + 1) ((setting_of scenario.now).outs pair.node.0)
+    ensures sets { SetsGroups (setting_of scenario.now) (pair.slot
+        + 1) ((setting_of scenario.now).outs pair.node.0)
         (out_group (setting_of scenario.now) pair.node.0) (entered_after
-        (counted given (setting_of scenario.now) (counts_of curves.old) pair.node.0 pair.slot outputs.now)) (counts_of curves.old) (counts_of curves.new) }
+        (counted given (setting_of scenario.now)
+        (counts_of curves.old) pair.node.0 pair.slot outputs.now)) (counts_of curves.old)
+        (counts_of curves.new) }
     ensures cells { PutsCells changed.old changed.new
         (changes_outs (setting_of scenario.now) (counts_of curves.old) pair.node.0 (pair.slot + 1)
-        (counted given (setting_of scenario.now) (counts_of curves.old) pair.node.0 pair.slot outputs.now) ((setting_of scenario.now).outs pair.node.0)) }
+        (counted given (setting_of scenario.now)
+        (counts_of curves.old) pair.node.0 pair.slot outputs.now)
+        ((setting_of scenario.now).outs pair.node.0)) }
     ensures wakes { Activates frontier.old frontier.new
-        (wakes_heads (setting_of scenario.now) (counts_of curves.old) (place_of index.now) pair.node.0 (pair.slot + 1)
-        (counted given (setting_of scenario.now) (counts_of curves.old) pair.node.0 pair.slot outputs.now)
+        (wakes_heads (setting_of scenario.now) (counts_of curves.old)
+        (place_of index.now) pair.node.0 (pair.slot + 1)
+        (counted given (setting_of scenario.now)
+        (counts_of curves.old) pair.node.0 pair.slot outputs.now)
         ((setting_of scenario.now).outs pair.node.0)) }
 {
     is_setting(scenario);

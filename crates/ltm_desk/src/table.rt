@@ -102,8 +102,10 @@ impl Table {
     #[inline]
     pub fn cells(&self) -> &Changed
         ensures cells { result.now ≡ cells_of self.now }
-        ensures shape { (s : Setting) → IsReady s self.now → HasCells result.now (groups s) s.slots }
-        ensures changed { (s : Setting) (g k : ℕ) → g < groups s → k ≤ s.slots → is_changed result.now g k ≡ changed_at s self.now g k }
+        ensures shape { (s : Setting) → IsReady s self.now
+            → HasCells result.now (groups s) s.slots }
+        ensures changed { (s : Setting) (g k : ℕ) → g < groups s → k ≤ s.slots
+            → is_changed result.now g k ≡ changed_at s self.now g k }
     {
         &self.changed
     }
@@ -111,7 +113,8 @@ impl Table {
     /// How many cells these are.
     #[inline]
     pub fn changed(&self) -> u64
-        ensures { (s : Setting) → IsReady s self.now → result ≡ count_cells s (changed_at s self.now) }
+        ensures { (s : Setting) → IsReady s self.now
+            → result ≡ count_cells s (changed_at s self.now) }
     {
         self.changed.count()
     }
@@ -128,7 +131,8 @@ impl Table {
     /// How many pairs are claimed.
     #[inline]
     pub fn claimed(&self) -> u32
-        ensures { (s : Setting) → IsReady s self.now → result ≡ claims_out s.nodes s.slots (desk_at s self.now) }
+        ensures { (s : Setting) → IsReady s self.now
+            → result ≡ claims_out s.nodes s.slots (desk_at s self.now) }
     {
         self.frontier.claimed()
     }
@@ -136,7 +140,8 @@ impl Table {
     /// Whether no pair is active or claimed.
     pub fn is_at_rest(&self, scenario: &Scenario) -> bool
         requires { IsReady (setting_of scenario.now) self.now }
-        ensures { IsTrue result ↔ IsAtRest (setting_of scenario.now) (desk_at (setting_of scenario.now) self.now) }
+        ensures { IsTrue result
+            ↔ IsAtRest (setting_of scenario.now) (desk_at (setting_of scenario.now) self.now) }
     {
         match self.frontier.front() {
             None => return true,
@@ -161,7 +166,9 @@ impl Table {
     /// Whether the pair is claimed with these inputs. It may be any pair.
     pub fn holds(&self, scenario: &Scenario, pair: Pair, row: &[u64]) -> bool
         requires { IsReady (setting_of scenario.now) self.now }
-        ensures { IsTrue result ↔ ((desk_at (setting_of scenario.now) self.now).claimed pair.node.0 pair.slot ≡ Some row.now) }
+        ensures { IsTrue result
+            ↔ ((desk_at (setting_of scenario.now) self.now).claimed pair.node.0 pair.slot
+            ≡ Some row.now) }
     {
         if pair.node.0 >= node_count(scenario) {
             return false;
@@ -180,8 +187,10 @@ impl Table {
         requires ready { IsReady (setting_of scenario.now) self.old }
         requires claimed { (desk_at (setting_of scenario.now) self.old).claimed pair.node.0 pair.slot ≢ None }
         ensures ready { IsReady (setting_of scenario.now) self.new }
-        ensures desk { GivesBack (desk_at (setting_of scenario.now) self.old) pair.node.0 pair.slot (desk_at (setting_of scenario.now) self.new) }
-        ensures changed { changed_at (setting_of scenario.now) self.new ≡ changed_at (setting_of scenario.now) self.old }
+        ensures desk { GivesBack (desk_at (setting_of scenario.now) self.old) pair.node.0 pair.slot
+            (desk_at (setting_of scenario.now) self.new) }
+        ensures changed { changed_at (setting_of scenario.now) self.new
+            ≡ changed_at (setting_of scenario.now) self.old }
     {
         self.frontier.release(pair);
         self.frontier.mark(pair);
@@ -226,10 +235,12 @@ impl Table {
     /// Takes an accepted batch in: claims are void, what was active or claimed or is touched is active, and so are the pairs
     /// of slots by which the horizon is longer. The scenario is the one after the batch, for whose horizon there is room.
     pub fn take_in(&mut self, scenario: &Scenario, edits: &[Edit])
-        requires fits { FitsTable (at_horizon (setting_of scenario.now) (horizon_of self.old)) self.old }
+        requires fits { FitsTable (at_horizon (setting_of scenario.now)
+            (horizon_of self.old)) self.old }
         requires longer { horizon_of self.old ≤ (setting_of scenario.now).slots }
         requires room { HasRoom self.old (setting_of scenario.now).slots }
-        ensures { (before : ScenarioData) → LeadsTo before scenario.now edits.now → IsReady (setting_of before) self.old
+        ensures { (before : ScenarioData) → LeadsTo before scenario.now edits.now
+            → IsReady (setting_of before) self.old
             → TakesIn before scenario.now edits.now self.old self.new }
     {
         is_setting(scenario);

@@ -36,7 +36,8 @@ impl Held<Office> {
     /// Each amount is at most 1,000,000,000 units.
     pub fn accept(&mut self, batch: Batch) -> Result<Verdict, (Batch, NoMemory)>
         requires { HaveAmounts batch }
-        ensures ok { IfOk result (λ verdict. AnswersCall (held_value self.old) (held_place self.old).number batch verdict (held_value self.new)) }
+        ensures ok { IfOk result (λ verdict. AnswersCall (held_value self.old)
+            (held_place self.old).number batch verdict (held_value self.new)) }
         ensures back { IfErr result (λ e. e.0 ≡ batch) }
         ensures same { OnErr result (StaysAs (held_value self.old) (held_value self.new)) }
         ensures place { held_place self.new ≡ held_place self.old }

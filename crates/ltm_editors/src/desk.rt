@@ -86,7 +86,8 @@ impl<T: Kept> Seat<T> {
         u32,
         u32,
     )
-        ensures { (result.0 ≡ self.seat) × (result.1 ≡ self.number) × (result.2 ≡ self.made) × (result.3 ≡ self.others) }
+        ensures { (result.0 ≡ self.seat) × (result.1 ≡ self.number) × (result.2 ≡ self.made)
+            × (result.3 ≡ self.others) }
     {
         let Seat {
             seat,

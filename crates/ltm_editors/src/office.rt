@@ -103,11 +103,15 @@ fn note(
     requires amounts { HaveAmounts batch }
     requires office { IsOffice core.old calls.old.items }
     ensures office { IsOffice core.new calls.new.items }
-    ensures ok { IfOk result (λ verdict. AnswersCall (office_of core.old calls.old.items) editor batch verdict (office_of core.new calls.new.items)) }
+    ensures ok { IfOk result (λ verdict. AnswersCall
+        (office_of core.old calls.old.items) editor batch verdict
+        (office_of core.new calls.new.items)) }
     ensures back { IfErr result (λ e. e.0 ≡ batch) }
-    ensures same { OnErr result (StaysAs (office_of core.old calls.old.items) (office_of core.new calls.new.items)) }
+    ensures same { OnErr result (StaysAs (office_of core.old calls.old.items)
+        (office_of core.new calls.new.items)) }
     ensures opening { core.new.log.opening ≡ core.old.log.opening }
-    ensures grows { (found : List _) → GrowsBy editor_of editor found calls.old.items → GrowsBy editor_of editor found calls.new.items }
+    ensures grows { (found : List _) → GrowsBy editor_of editor found calls.old.items
+        → GrowsBy editor_of editor found calls.new.items }
 {
     let about = Snapshot::of(&batch);
     match ask(core, batch) {
@@ -134,11 +138,15 @@ fn answer(
     requires amounts { HaveAmounts batch }
     requires office { IsOffice core.old calls.old.items }
     ensures office { IsOffice core.new calls.new.items }
-    ensures ok { IfOk result (λ verdict. AnswersCall (office_of core.old calls.old.items) editor batch verdict (office_of core.new calls.new.items)) }
+    ensures ok { IfOk result (λ verdict. AnswersCall
+        (office_of core.old calls.old.items) editor batch verdict
+        (office_of core.new calls.new.items)) }
     ensures back { IfErr result (λ e. e.0 ≡ batch) }
-    ensures same { OnErr result (StaysAs (office_of core.old calls.old.items) (office_of core.new calls.new.items)) }
+    ensures same { OnErr result (StaysAs (office_of core.old calls.old.items)
+        (office_of core.new calls.new.items)) }
     ensures opening { core.new.log.opening ≡ core.old.log.opening }
-    ensures grows { (found : List _) → GrowsBy editor_of editor found calls.old.items → GrowsBy editor_of editor found calls.new.items }
+    ensures grows { (found : List _) → GrowsBy editor_of editor found calls.old.items
+        → GrowsBy editor_of editor found calls.new.items }
 {
     match reserve_call(calls) {
         Ok(()) => return note(core, calls, editor, batch),
@@ -203,7 +211,8 @@ impl Office {
         ensures back { IfErr result (λ e. e.0 ≡ batch) }
         ensures same { OnErr result (StaysAs self.old self.new) }
         ensures opening { opening_of self.new ≡ opening_of self.old }
-        ensures grows { (found : List _) → GrowsBy editor_of editor found self.old.history → GrowsBy editor_of editor found self.new.history }
+        ensures grows { (found : List _) → GrowsBy editor_of editor found self.old.history
+            → GrowsBy editor_of editor found self.new.history }
     {
         answer(&mut self.core, &mut self.calls, editor, batch)
     }

@@ -16,7 +16,8 @@ impl<T: Kept> Desk<T> {
     /// comes back.
     pub fn create(alloc: Global, value: T) -> Result<(Desk<T>, Seat<T>), (T, NoMemory)>
         requires { T.history value ≡ [] }
-        ensures place { IfOk result (λ r. seat_place r.1 ≡ first_place (desk_id r.0) (T.opening value)) }
+        ensures place { IfOk result (λ r. seat_place r.1
+            ≡ first_place (desk_id r.0) (T.opening value)) }
         ensures seen { IfOk result (λ r. seat_seen r.1 ≡ []) }
         ensures err { IfErr result (λ r. r.0 ≡ value) }
     {
@@ -38,7 +39,8 @@ impl<T: Kept> Desk<T> {
     ) -> Result<(Desk<T>, Seat<T>), (T, NoMemory)>
         requires about { about.now.value ≡ boxed.value }
         requires empty { T.history boxed.value ≡ [] }
-        ensures place { IfOk result (λ r. seat_place r.1 ≡ first_place (desk_id r.0) (T.opening boxed.value)) }
+        ensures place { IfOk result (λ r. seat_place r.1
+            ≡ first_place (desk_id r.0) (T.opening boxed.value)) }
         ensures seen { IfOk result (λ r. seat_seen r.1 ≡ []) }
         ensures err { IfErr result (λ r. r.0 ≡ boxed.value) }
     {
@@ -103,8 +105,10 @@ impl<T: Kept> Desk<T> {
         requires desk { (seat_place first.old).desk ≡ desk_id self.now }
         requires other { (seat_place other).desk ≡ desk_id self.now }
         requires first { (seat_place first.old).number ≡ 0 }
-        ensures place { seat_place first.new ≡ place_after_join (seat_place first.old) (seat_place other) }
-        ensures seen { SeesBoth T.author (seat_place first.old).numbers (seat_seen first.old) (seat_place other).numbers (seat_seen other) (seat_seen first.new) }
+        ensures place { seat_place first.new
+            ≡ place_after_join (seat_place first.old) (seat_place other) }
+        ensures seen { SeesBoth T.author (seat_place first.old).numbers (seat_seen first.old)
+            (seat_place other).numbers (seat_seen other) (seat_seen first.new) }
     {
         let (token, _, _, _) = other.open();
         let Seat {
@@ -126,7 +130,8 @@ impl<T: Kept> Desk<T> {
         requires alone { (seat_place first).others ≡ 0 }
         ensures opening { (seat_place first).opening ≡ Some (T.opening result) }
         ensures history { T.history result ≡ seat_seen first }
-        ensures made { (n : ℕ) → (seat_place first).made ≤ n → entries_of T.author n (T.history result) ≡ [] }
+        ensures made { (n : ℕ) → (seat_place first).made ≤ n
+            → entries_of T.author n (T.history result) ≡ [] }
     {
         let Desk { table } = self;
         let (token, _, _, _) = first.open();

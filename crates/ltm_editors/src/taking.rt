@@ -19,11 +19,14 @@ impl<T: Kept> Desk<T> {
         seat: &mut atomic_table::Seat<Option<Box<T>>, View<T::Opening, T::Entry>>,
     ) -> Option<Box<T>>
         requires table { seat.old.table_id ≡ self.now.table.shared.table_id }
-        requires idle { (seat.old.me.1 ≡ []) × (seat.old.me.0.live ≡ true) × (seat.old.me.0.joining ≡ false) }
+        requires idle { (seat.old.me.1 ≡ []) × (seat.old.me.0.live ≡ true)
+            × (seat.old.me.0.joining ≡ false) }
         ensures table { seat.new.table_id ≡ seat.old.table_id }
-        ensures won { IfSome result (λ x. seat.new.me ≡ (holding seat.old.me.0 (T.history x.value), (0, None) ∷ [])) }
+        ensures won { IfSome result (λ x. seat.new.me
+            ≡ (holding seat.old.me.0 (T.history x.value), (0, None) ∷ [])) }
         ensures opening { IfSome result (λ x. seat.old.me.0.opening ≡ Some (T.opening x.value)) }
-        ensures history { IfSome result (λ x. IsPrefix seat.old.me.0.seen (T.history x.value) × HasNoMore T.author seat.old.me.0.numbers seat.old.me.0.seen (T.history x.value)) }
+        ensures history { IfSome result (λ x. IsPrefix seat.old.me.0.seen (T.history x.value)
+            × HasNoMore T.author seat.old.me.0.numbers seat.old.me.0.seen (T.history x.value)) }
         ensures lost { result ≡ None → seat.new.me ≡ seat.old.me }
     {
         if self.table.shared.compare_exchange::<Take>(seat, 0, 0, 1) == 0 {
@@ -39,12 +42,15 @@ impl<T: Kept> Desk<T> {
         seat: &mut atomic_table::Seat<Option<Box<T>>, View<T::Opening, T::Entry>>,
     ) -> Box<T>
         requires table { seat.old.table_id ≡ self.now.table.shared.table_id }
-        requires idle { (seat.old.me.1 ≡ []) × (seat.old.me.0.live ≡ true) × (seat.old.me.0.joining ≡ false) }
+        requires idle { (seat.old.me.1 ≡ []) × (seat.old.me.0.live ≡ true)
+            × (seat.old.me.0.joining ≡ false) }
         ensures table { seat.new.table_id ≡ seat.old.table_id }
-        ensures seat { seat.new.me ≡ (holding seat.old.me.0 (T.history result.value), (0, None) ∷ []) }
+        ensures seat { seat.new.me
+            ≡ (holding seat.old.me.0 (T.history result.value), (0, None) ∷ []) }
         ensures opening { seat.old.me.0.opening ≡ Some (T.opening result.value) }
         ensures begins { IsPrefix seat.old.me.0.seen (T.history result.value) }
-        ensures own { HasNoMore T.author seat.old.me.0.numbers seat.old.me.0.seen (T.history result.value) }
+        ensures own { HasNoMore T.author seat.old.me.0.numbers seat.old.me.0.seen
+            (T.history result.value) }
     {
         let backoff = Backoff::new();
         for _ in rt.forever() {
@@ -63,10 +69,13 @@ impl<T: Kept> Desk<T> {
         value: Box<T>,
     )
         requires table { seat.old.table_id ≡ self.now.table.shared.table_id }
-        requires holds { (seat.old.me.1 ≡ (0, None) ∷ []) × (seat.old.me.0.live ≡ true) × (seat.old.me.0.holds ≡ true) × (seat.old.me.0.joining ≡ false) }
+        requires holds { (seat.old.me.1 ≡ (0, None) ∷ []) × (seat.old.me.0.live ≡ true)
+            × (seat.old.me.0.holds ≡ true) × (seat.old.me.0.joining ≡ false) }
         requires opening { seat.old.me.0.opening ≡ Some (T.opening value.value) }
-        requires grows { GrowsBy T.author seat.old.me.0.number seat.old.me.0.seen (T.history value.value) }
-        ensures { (seat.new.table_id ≡ seat.old.table_id) × (seat.new.me ≡ (idle seat.old.me.0 (T.history value.value), [])) }
+        requires grows { GrowsBy T.author seat.old.me.0.number seat.old.me.0.seen
+            (T.history value.value) }
+        ensures { (seat.new.table_id ≡ seat.old.table_id)
+            × (seat.new.me ≡ (idle seat.old.me.0 (T.history value.value), [])) }
     {
         let taken = self.table.shared.exchange(seat, 0, Some(value));
         let None = taken else { unreachable!() };
@@ -81,7 +90,8 @@ impl<T: Kept> Desk<T> {
         ensures opening { (seat_place seat).opening ≡ Some (T.opening (held_value result)) }
         ensures found { held_found result ≡ T.history (held_value result) }
         ensures begins { IsPrefix (seat_seen seat) (T.history (held_value result)) }
-        ensures own { HasNoMore T.author (seat_place seat).numbers (seat_seen seat) (T.history (held_value result)) }
+        ensures own { HasNoMore T.author (seat_place seat).numbers (seat_seen seat)
+            (T.history (held_value result)) }
     {
         let (mut token, number, made, others) = seat.open();
         let value = self.acquire(rt, &mut token);

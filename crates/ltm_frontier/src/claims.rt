@@ -46,7 +46,8 @@ impl Claims {
     /// A node with a claimed pair; none exactly where no pair is claimed.
     #[inline]
     pub fn first(&self) -> Option<u32>
-        ensures { MatchOption result (NoneClaimed self.now) (λ u. (u < width self.now) × (has_node self.now u ≡ true)) }
+        ensures { MatchOption result (NoneClaimed self.now) (λ u. (u < width self.now)
+            × (has_node self.now u ≡ true)) }
     {
         if self.count == 0 {
             return None;
@@ -79,7 +80,8 @@ impl Claims {
     pub fn put(&mut self, node: u32, slot: u32)
         requires node { node < width self.old }
         requires free { has_node self.old node ≡ false }
-        requires one_slot { (u : ℕ) → u < width self.old → has_node self.old u ≡ true → slot_in self.old ≡ slot }
+        requires one_slot { (u : ℕ) → u < width self.old → has_node self.old u ≡ true
+            → slot_in self.old ≡ slot }
         ensures { PutsClaim self.old self.new node slot }
     {
         let _width = self.nodes.width();
@@ -102,7 +104,8 @@ impl Claims {
     /// Marks every claimed pair.
     pub fn mark_all(&self, marks: &mut Marks)
         requires nodes { width_of marks.old ≡ width self.now }
-        requires slot { (u : ℕ) → u < width self.now → has_node self.now u ≡ true → slot_in self.now < rows_of marks.old }
+        requires slot { (u : ℕ) → u < width self.now → has_node self.now u ≡ true
+            → slot_in self.now < rows_of marks.old }
         ensures { AddsClaims self.now marks.old marks.new (width self.now) }
     {
         for node in 0..self.nodes.width() {

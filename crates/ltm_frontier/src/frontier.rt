@@ -121,7 +121,8 @@ impl Frontier {
     #[inline]
     pub fn claimed(&self) -> u32
         ensures count { result ≡ claims_of self.now }
-        ensures one_slot { (u t w v : ℕ) → is_claimed self.now u t ≡ true → is_claimed self.now w v ≡ true → t ≡ v }
+        ensures one_slot { (u t w v : ℕ) → is_claimed self.now u t ≡ true
+            → is_claimed self.now w v ≡ true → t ≡ v }
     {
         self.claims.count()
     }
@@ -227,7 +228,8 @@ impl Frontier {
         ensures same { SamePairs self.old self.new }
         ensures slots { slots_of self.new ≡ slots }
         ensures room { slot_room self.new ≡ slot_room self.old }
-        ensures new { (u t : ℕ) → u < nodes_of self.old → slots_of self.old ≤ t → is_active self.new u t ≡ false }
+        ensures new { (u t : ℕ) → u < nodes_of self.old → slots_of self.old ≤ t
+            → is_active self.new u t ≡ false }
     {
         self.active.lengthen(slots as usize);
     }

@@ -94,7 +94,8 @@ impl ReadIndex {
         requires boundary { boundary ≤ slots_of self.now }
         requires after { IfSome after (λ slot. Contains (list_of self.now link.0 boundary) slot) }
         ensures next { result ≡ first_in (left_after (list_of self.now link.0 boundary) after) }
-        ensures left { left_after (list_of self.now link.0 boundary) after ≡ list_from (list_of self.now link.0 boundary) result }
+        ensures left { left_after (list_of self.now link.0 boundary) after
+            ≡ list_from (list_of self.now link.0 boundary) result }
         ensures stands { IfSome result (λ slot. Contains (list_of self.now link.0 boundary) slot) }
         ensures within { IfSome result (λ slot. slot < slots_of self.now) }
     {

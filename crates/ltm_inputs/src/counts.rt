@@ -35,10 +35,15 @@ fn put_groups(curves: &Curves, groups: &[u32], boundary: u32, into: &mut [u64])
 pub(crate) fn put_flows_counted(scenario: &Scenario, curves: &Curves, pair: Pair, into: &mut [u64])
     requires node { pair.node.0 < (setting_of scenario.now).nodes }
     requires slot { pair.slot ≤ (setting_of scenario.now).slots }
-    requires curves { HasShape curves.now (groups (setting_of scenario.now)) (setting_of scenario.now).destinations (setting_of scenario.now).slots }
-    requires room { length into.old ≡ group_count (setting_of scenario.now) pair.node.0 * (setting_of scenario.now).destinations }
-    ensures { into.new ≡ grid (group_count (setting_of scenario.now) pair.node.0) (setting_of scenario.now).destinations
-        (λ i d. counts_of curves.now (node_group (setting_of scenario.now) pair.node.0 i) d pair.slot) }
+    requires curves { HasShape curves.now (groups (setting_of scenario.now))
+        (setting_of scenario.now).destinations (setting_of scenario.now).slots }
+    requires room { length into.old
+        ≡ group_count (setting_of scenario.now) pair.node.0 *
+        (setting_of scenario.now).destinations }
+    ensures { into.new ≡ grid (group_count (setting_of scenario.now) pair.node.0)
+        (setting_of scenario.now).destinations
+        (λ i d. counts_of curves.now (node_group
+        (setting_of scenario.now) pair.node.0 i) d pair.slot) }
 {
     is_setting(scenario);
     groups_are_set();
@@ -50,8 +55,10 @@ pub(crate) fn put_flows_counted(scenario: &Scenario, curves: &Curves, pair: Pair
 pub(crate) fn arrived(scenario: &Scenario, curves: &Curves, pair: Pair) -> u64
     requires node { pair.node.0 < (setting_of scenario.now).nodes }
     requires slot { pair.slot ≤ (setting_of scenario.now).slots }
-    requires curves { HasShape curves.now (groups (setting_of scenario.now)) (setting_of scenario.now).destinations (setting_of scenario.now).slots }
-    ensures { result ≡ arrived_by (setting_of scenario.now) (counts_of curves.now) ((setting_of scenario.now).own pair.node.0) pair.slot }
+    requires curves { HasShape curves.now (groups (setting_of scenario.now))
+        (setting_of scenario.now).destinations (setting_of scenario.now).slots }
+    ensures { result ≡ arrived_by (setting_of scenario.now) (counts_of curves.now)
+        ((setting_of scenario.now).own pair.node.0) pair.slot }
 {
     match own(scenario, pair.node) {
         Some(destination) => curves.get(arr_of(scenario), destination, pair.slot),

@@ -29,13 +29,17 @@ fn put_flows_of<K: Kind>(
     requires node { pair.node.0 < (setting_of scenario.now).nodes }
     requires ready { IsAtFront (setting_of scenario.now) curves.now pair.slot }
     requires few_outs { length supply.old ≤ 4 }
-    requires room { length sending.old ≡ arms_of (setting_of scenario.now) pair.node.0 * (setting_of scenario.now).destinations }
+    requires room { length sending.old
+        ≡ arms_of (setting_of scenario.now) pair.node.0 * (setting_of scenario.now).destinations }
     requires places { (setting_of scenario.now).ins pair.node.0 ≤ length positions.old }
     requires outs { length supply.old ≡ (setting_of scenario.now).outs pair.node.0 }
     requires arms { length capacity.old ≡ arms_of (setting_of scenario.now) pair.node.0 }
-    ensures sends { sending.new ≡ sending_part (setting_of scenario.now) (counts_of curves.now) pair.node.0 pair.slot }
-    ensures positions { ArePositions (setting_of scenario.now) (counts_of curves.now) pair.node.0 pair.slot positions.new }
-    ensures supply { supply.new ≡ supply_part (setting_of scenario.now) (counts_of curves.now) pair.node.0 pair.slot }
+    ensures sends { sending.new
+        ≡ sending_part (setting_of scenario.now) (counts_of curves.now) pair.node.0 pair.slot }
+    ensures positions { ArePositions (setting_of scenario.now)
+        (counts_of curves.now) pair.node.0 pair.slot positions.new }
+    ensures supply { supply.new
+        ≡ supply_part (setting_of scenario.now) (counts_of curves.now) pair.node.0 pair.slot }
     ensures capacities { capacity.new ≡ capacity_part (setting_of scenario.now) pair.node.0 }
 {
     put_arms::<K>(
@@ -64,13 +68,17 @@ pub(crate) fn put_flows(
     requires node { pair.node.0 < (setting_of scenario.now).nodes }
     requires ready { IsAtFront (setting_of scenario.now) curves.now pair.slot }
     requires few_outs { length supply.old ≤ 4 }
-    requires room { length sending.old ≡ arms_of (setting_of scenario.now) pair.node.0 * (setting_of scenario.now).destinations }
+    requires room { length sending.old
+        ≡ arms_of (setting_of scenario.now) pair.node.0 * (setting_of scenario.now).destinations }
     requires places { (setting_of scenario.now).ins pair.node.0 ≤ length positions.old }
     requires outs { length supply.old ≡ (setting_of scenario.now).outs pair.node.0 }
     requires arms { length capacity.old ≡ arms_of (setting_of scenario.now) pair.node.0 }
-    ensures sends { sending.new ≡ sending_part (setting_of scenario.now) (counts_of curves.now) pair.node.0 pair.slot }
-    ensures positions { ArePositions (setting_of scenario.now) (counts_of curves.now) pair.node.0 pair.slot positions.new }
-    ensures supply { supply.new ≡ supply_part (setting_of scenario.now) (counts_of curves.now) pair.node.0 pair.slot }
+    ensures sends { sending.new
+        ≡ sending_part (setting_of scenario.now) (counts_of curves.now) pair.node.0 pair.slot }
+    ensures positions { ArePositions (setting_of scenario.now)
+        (counts_of curves.now) pair.node.0 pair.slot positions.new }
+    ensures supply { supply.new
+        ≡ supply_part (setting_of scenario.now) (counts_of curves.now) pair.node.0 pair.slot }
     ensures capacities { capacity.new ≡ capacity_part (setting_of scenario.now) pair.node.0 }
 {
     let destinations = curves.destinations();
@@ -106,12 +114,17 @@ pub(crate) fn put_flows_and_limits(
     requires shape { shape ≡ shape_at (setting_of scenario.now) pair.node.0 }
     requires few_arms { shape.arms ≤ 5 }
     requires few_outs { shape.outs ≤ 4 }
-    requires sending_room { length sending.old ≡ arms_of (setting_of scenario.now) pair.node.0 * (setting_of scenario.now).destinations }
+    requires sending_room { length sending.old
+        ≡ arms_of (setting_of scenario.now) pair.node.0 * (setting_of scenario.now).destinations }
     requires places { (setting_of scenario.now).ins pair.node.0 ≤ length positions.old }
-    requires limits_room { length limits.old ≡ shape.outs + (shape.arms + shape.destinations * shape.outs) }
-    ensures sends { sending.new ≡ sending_part (setting_of scenario.now) (counts_of curves.now) pair.node.0 pair.slot }
-    ensures positions { ArePositions (setting_of scenario.now) (counts_of curves.now) pair.node.0 pair.slot positions.new }
-    ensures limits { limits.new ≡ limit_parts (setting_of scenario.now) (counts_of curves.now) pair.node.0 pair.slot }
+    requires limits_room { length limits.old
+        ≡ shape.outs + (shape.arms + shape.destinations * shape.outs) }
+    ensures sends { sending.new
+        ≡ sending_part (setting_of scenario.now) (counts_of curves.now) pair.node.0 pair.slot }
+    ensures positions { ArePositions (setting_of scenario.now)
+        (counts_of curves.now) pair.node.0 pair.slot positions.new }
+    ensures limits { limits.new
+        ≡ limit_parts (setting_of scenario.now) (counts_of curves.now) pair.node.0 pair.slot }
 {
     let (supply, rest) = limits.split_at_mut(shape.outs as usize);
     let (capacity, weights) = rest.split_at_mut(shape.arms as usize);

@@ -36,8 +36,10 @@ pub fn inputs_of(
     requires ready { IsAtFront (setting_of scenario.now) curves.now pair.slot }
     requires room { width (shape_at (setting_of scenario.now) pair.node.0) ≤ into.old.room }
     requires places { (setting_of scenario.now).ins pair.node.0 ≤ length positions.old }
-    ensures positions { ArePositions (setting_of scenario.now) (counts_of curves.now) pair.node.0 pair.slot positions.new }
-    ensures inputs { IsPairInputs (setting_of scenario.now) (counts_of curves.now) pair.node.0 pair.slot into.new }
+    ensures positions { ArePositions (setting_of scenario.now)
+        (counts_of curves.now) pair.node.0 pair.slot positions.new }
+    ensures inputs { IsPairInputs (setting_of scenario.now)
+        (counts_of curves.now) pair.node.0 pair.slot into.new }
     ensures room { into.new.room ≡ into.old.room }
     ensures solvable { IsSolvable into.new }
 {
@@ -59,8 +61,10 @@ fn put_counts_in(
     requires few_arms { shape.arms ≤ 5 }
     requires few_destinations { shape.destinations ≤ 64 }
     requires room { length row.old ≡ width shape }
-    requires row { row.old ≡ uncounted_row (setting_of scenario.now) (counts_of curves.now) pair.node.0 pair.slot }
-    ensures { row.new ≡ pair_row (setting_of scenario.now) (counts_of curves.now) pair.node.0 pair.slot }
+    requires row { row.old
+        ≡ uncounted_row (setting_of scenario.now) (counts_of curves.now) pair.node.0 pair.slot }
+    ensures { row.new ≡ pair_row (setting_of scenario.now)
+        (counts_of curves.now) pair.node.0 pair.slot }
 {
     let (_sending, others) = row.split_at_mut(shape.counts_begin());
     let (counts, _limits) = others.split_at_mut(shape.counts_width());
@@ -82,8 +86,10 @@ fn put_counts_in_front(
     requires few_arms { shape.arms ≤ 5 }
     requires few_destinations { shape.destinations ≤ 64 }
     requires room { width shape ≤ length room.old }
-    requires row { take (width shape) room.old ≡ uncounted_row (setting_of scenario.now) (counts_of curves.now) pair.node.0 pair.slot }
-    ensures { take (width shape) room.new ≡ pair_row (setting_of scenario.now) (counts_of curves.now) pair.node.0 pair.slot }
+    requires row { take (width shape) room.old
+        ≡ uncounted_row (setting_of scenario.now) (counts_of curves.now) pair.node.0 pair.slot }
+    ensures { take (width shape) room.new
+        ≡ pair_row (setting_of scenario.now) (counts_of curves.now) pair.node.0 pair.slot }
 {
     let row = &mut room[..shape.width()];
     put_counts_in(scenario, curves, pair, shape, row);
@@ -94,8 +100,10 @@ fn put_counts_in_front(
 pub fn count_in(scenario: &Scenario, curves: &Curves, pair: Pair, into: &mut NodeInputs)
     requires node { pair.node.0 < (setting_of scenario.now).nodes }
     requires ready { IsAtFront (setting_of scenario.now) curves.now pair.slot }
-    requires uncounted { IsUncountedPair (setting_of scenario.now) (counts_of curves.now) pair.node.0 pair.slot into.old }
-    ensures inputs { IsPairInputs (setting_of scenario.now) (counts_of curves.now) pair.node.0 pair.slot into.new }
+    requires uncounted { IsUncountedPair (setting_of scenario.now)
+        (counts_of curves.now) pair.node.0 pair.slot into.old }
+    ensures inputs { IsPairInputs (setting_of scenario.now)
+        (counts_of curves.now) pair.node.0 pair.slot into.new }
     ensures room { into.new.room ≡ into.old.room }
     ensures solvable { IsSolvable into.new }
 {

@@ -33,7 +33,8 @@ pub(crate) fn put_limits(
     requires few_arms { shape.arms ≤ 5 }
     requires few_outs { shape.outs ≤ 4 }
     requires room { length into.old ≡ shape.outs + (shape.arms + shape.destinations * shape.outs) }
-    ensures { into.new ≡ limit_parts (setting_of scenario.now) (counts_of curves.now) pair.node.0 pair.slot }
+    ensures { into.new ≡ limit_parts (setting_of scenario.now)
+        (counts_of curves.now) pair.node.0 pair.slot }
 {
     let (supply, rest) = into.split_at_mut(shape.outs as usize);
     let (capacity, weights) = rest.split_at_mut(shape.arms as usize);
@@ -56,7 +57,8 @@ pub(crate) fn put_counts(
     requires few_arms { shape.arms ≤ 5 }
     requires few_destinations { shape.destinations ≤ 64 }
     requires room { length into.old ≡ counts_width shape }
-    ensures { into.new ≡ count_row (setting_of scenario.now) (counts_of curves.now) pair.node.0 pair.slot }
+    ensures { into.new ≡ count_row (setting_of scenario.now)
+        (counts_of curves.now) pair.node.0 pair.slot }
 {
     groups_by_row();
     let (flows, come) = into.split_at_mut(shape.arrived_after_place());
@@ -79,7 +81,8 @@ pub(crate) fn put_uncounted(
     requires few_outs { shape.outs ≤ 4 }
     requires few_destinations { shape.destinations ≤ 64 }
     requires room { counts_begin shape + length into.old ≡ width shape }
-    ensures { into.new ≡ uncounted_parts (setting_of scenario.now) (counts_of curves.now) pair.node.0 pair.slot }
+    ensures { into.new ≡ uncounted_parts (setting_of scenario.now)
+        (counts_of curves.now) pair.node.0 pair.slot }
 {
     let (counts, limits) = into.split_at_mut(shape.counts_width());
     put_zeros(counts);

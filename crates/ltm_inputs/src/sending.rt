@@ -21,7 +21,8 @@ fn put_links(scenario: &Scenario, curves: &Curves, links: &[LinkId], slot: u32, 
     requires few { length links.now ≤ 4 }
     requires room { length into.old ≡ length links.now * (setting_of scenario.now).destinations }
     ensures { into.new ≡ grid (length links.now) (setting_of scenario.now).destinations
-        (λ i d. link_sending (setting_of scenario.now) (counts_of curves.now) (link_at links.now i) slot d) }
+        (λ i d. link_sending (setting_of scenario.now) (counts_of curves.now)
+        (link_at links.now i) slot d) }
 {
     let destinations = destination_count(scenario) as usize;
     let mut place = 0;
@@ -41,8 +42,10 @@ fn put_links(scenario: &Scenario, curves: &Curves, links: &[LinkId], slot: u32, 
 pub(crate) fn put_sending(scenario: &Scenario, curves: &Curves, pair: Pair, into: &mut [u64])
     requires node { pair.node.0 < (setting_of scenario.now).nodes }
     requires ready { IsAtFront (setting_of scenario.now) curves.now pair.slot }
-    requires room { length into.old ≡ arms_of (setting_of scenario.now) pair.node.0 * (setting_of scenario.now).destinations }
-    ensures { into.new ≡ sending_part (setting_of scenario.now) (counts_of curves.now) pair.node.0 pair.slot }
+    requires room { length into.old
+        ≡ arms_of (setting_of scenario.now) pair.node.0 * (setting_of scenario.now).destinations }
+    ensures { into.new ≡ sending_part (setting_of scenario.now)
+        (counts_of curves.now) pair.node.0 pair.slot }
 {
     let links = in_links(scenario, pair.node);
     let (of_links, of_origin) = into.split_at_mut(
@@ -73,9 +76,11 @@ fn put_links_at<K: Kind>(
     requires places { length links.now ≤ length positions.old }
     requires arms { length links.now ≤ length capacity.old }
     ensures sends { into.new ≡ grid (length links.now) (setting_of scenario.now).destinations
-        (λ i d. link_sending (setting_of scenario.now) (counts_of curves.now) (link_at links.now i) slot d) }
+        (λ i d. link_sending (setting_of scenario.now) (counts_of curves.now)
+        (link_at links.now i) slot d) }
     ensures positions { (i : ℕ) → i < length links.now
-        → slice_index positions.new i ≡ position (setting_of scenario.now) (counts_of curves.now) (link_at links.now i) slot }
+        → slice_index positions.new i
+        ≡ position (setting_of scenario.now) (counts_of curves.now) (link_at links.now i) slot }
     ensures below { (i : ℕ) → i < length links.now → slice_index positions.new i ≤ slot }
     ensures capacities { (i : ℕ) → i < length links.now
         → slice_index capacity.new i ≡ (setting_of scenario.now).capacity (link_at links.now i) }
@@ -111,11 +116,14 @@ pub(crate) fn put_arms<K: Kind>(
     requires node { pair.node.0 < (setting_of scenario.now).nodes }
     requires ready { IsAtFront (setting_of scenario.now) curves.now pair.slot }
     requires outs { outs ≡ (setting_of scenario.now).outs pair.node.0 }
-    requires room { length into.old ≡ arms_of (setting_of scenario.now) pair.node.0 * (setting_of scenario.now).destinations }
+    requires room { length into.old
+        ≡ arms_of (setting_of scenario.now) pair.node.0 * (setting_of scenario.now).destinations }
     requires places { (setting_of scenario.now).ins pair.node.0 ≤ length positions.old }
     requires arms { length capacity.old ≡ arms_of (setting_of scenario.now) pair.node.0 }
-    ensures sends { into.new ≡ sending_part (setting_of scenario.now) (counts_of curves.now) pair.node.0 pair.slot }
-    ensures positions { ArePositions (setting_of scenario.now) (counts_of curves.now) pair.node.0 pair.slot positions.new }
+    ensures sends { into.new
+        ≡ sending_part (setting_of scenario.now) (counts_of curves.now) pair.node.0 pair.slot }
+    ensures positions { ArePositions (setting_of scenario.now)
+        (counts_of curves.now) pair.node.0 pair.slot positions.new }
     ensures capacities { capacity.new ≡ capacity_part (setting_of scenario.now) pair.node.0 }
 {
     let links = in_links(scenario, pair.node);
@@ -135,7 +143,8 @@ pub(crate) fn put_supply(scenario: &Scenario, curves: &Curves, pair: Pair, into:
     requires node { pair.node.0 < (setting_of scenario.now).nodes }
     requires ready { IsAtFront (setting_of scenario.now) curves.now pair.slot }
     requires room { length into.old ≡ (setting_of scenario.now).outs pair.node.0 }
-    ensures { into.new ≡ supply_part (setting_of scenario.now) (counts_of curves.now) pair.node.0 pair.slot }
+    ensures { into.new ≡ supply_part (setting_of scenario.now)
+        (counts_of curves.now) pair.node.0 pair.slot }
 {
     put_supply_of::<Any>(scenario, curves, pair, into);
 }
@@ -152,7 +161,8 @@ pub(crate) fn put_supply_of<K: Kind>(
     requires node { pair.node.0 < (setting_of scenario.now).nodes }
     requires ready { IsAtFront (setting_of scenario.now) curves.now pair.slot }
     requires room { length into.old ≡ (setting_of scenario.now).outs pair.node.0 }
-    ensures { into.new ≡ supply_part (setting_of scenario.now) (counts_of curves.now) pair.node.0 pair.slot }
+    ensures { into.new ≡ supply_part (setting_of scenario.now)
+        (counts_of curves.now) pair.node.0 pair.slot }
 {
     for (out, link) in out_links(scenario, pair.node).iter().enumerate() {
         into[out] = link_takes::<K>(scenario, curves, *link, pair.slot);

@@ -37,8 +37,11 @@ fn put_row_if_sent(
     requires few_outs { shape.outs ≤ 4 }
     requires few_destinations { shape.destinations ≤ 64 }
     requires room { length row.old ≡ width shape }
-    ensures row { IsTrue result → row.new ≡ uncounted_row (setting_of scenario.now) (counts_of curves.now) pair.node.0 pair.slot }
-    ensures idle { IsFalse result ↔ IsIdle (setting_of scenario.now) (counts_of curves.now) pair.node.0 pair.slot }
+    ensures row { IsTrue result
+        → row.new ≡ uncounted_row (setting_of scenario.now)
+        (counts_of curves.now) pair.node.0 pair.slot }
+    ensures idle { IsFalse result
+        ↔ IsIdle (setting_of scenario.now) (counts_of curves.now) pair.node.0 pair.slot }
 {
     let (sending, others) = row.split_at_mut(shape.counts_begin());
     put_sending(scenario, curves, pair, sending);
@@ -66,8 +69,11 @@ fn put_front_if_sent(
     requires few_outs { shape.outs ≤ 4 }
     requires few_destinations { shape.destinations ≤ 64 }
     requires room { width shape ≤ length room.old }
-    ensures row { IsTrue result → take (width shape) room.new ≡ uncounted_row (setting_of scenario.now) (counts_of curves.now) pair.node.0 pair.slot }
-    ensures idle { IsFalse result ↔ IsIdle (setting_of scenario.now) (counts_of curves.now) pair.node.0 pair.slot }
+    ensures row { IsTrue result
+        → take (width shape) room.new
+        ≡ uncounted_row (setting_of scenario.now) (counts_of curves.now) pair.node.0 pair.slot }
+    ensures idle { IsFalse result
+        ↔ IsIdle (setting_of scenario.now) (counts_of curves.now) pair.node.0 pair.slot }
 {
     let row = &mut room[..shape.width()];
     put_row_if_sent(scenario, curves, pair, shape, row)
@@ -86,9 +92,12 @@ pub fn uncounted_if_sent(
     requires node { pair.node.0 < (setting_of scenario.now).nodes }
     requires ready { IsAtFront (setting_of scenario.now) curves.now pair.slot }
     requires room { width (shape_at (setting_of scenario.now) pair.node.0) ≤ into.old.room }
-    ensures inputs { IsTrue result → IsUncountedPair (setting_of scenario.now) (counts_of curves.now) pair.node.0 pair.slot into.new }
+    ensures inputs { IsTrue result
+        → IsUncountedPair (setting_of scenario.now)
+        (counts_of curves.now) pair.node.0 pair.slot into.new }
     ensures solvable { IsTrue result → IsSolvable into.new }
-    ensures idle { IsFalse result ↔ IsIdle (setting_of scenario.now) (counts_of curves.now) pair.node.0 pair.slot }
+    ensures idle { IsFalse result
+        ↔ IsIdle (setting_of scenario.now) (counts_of curves.now) pair.node.0 pair.slot }
     ensures room { into.new.room ≡ into.old.room }
 {
     is_setting(scenario);
@@ -115,8 +124,10 @@ fn put_uncounted_row(
     requires few_destinations { shape.destinations ≤ 64 }
     requires room { length row.old ≡ width shape }
     requires places { (setting_of scenario.now).ins pair.node.0 ≤ length positions.old }
-    ensures row { row.new ≡ uncounted_row (setting_of scenario.now) (counts_of curves.now) pair.node.0 pair.slot }
-    ensures positions { ArePositions (setting_of scenario.now) (counts_of curves.now) pair.node.0 pair.slot positions.new }
+    ensures row { row.new
+        ≡ uncounted_row (setting_of scenario.now) (counts_of curves.now) pair.node.0 pair.slot }
+    ensures positions { ArePositions (setting_of scenario.now)
+        (counts_of curves.now) pair.node.0 pair.slot positions.new }
 {
     let (sending, others) = row.split_at_mut(shape.counts_begin());
     let (counts, limits) = others.split_at_mut(shape.counts_width());
@@ -142,8 +153,10 @@ fn put_uncounted_front(
     requires few_destinations { shape.destinations ≤ 64 }
     requires room { width shape ≤ length room.old }
     requires places { (setting_of scenario.now).ins pair.node.0 ≤ length positions.old }
-    ensures row { take (width shape) room.new ≡ uncounted_row (setting_of scenario.now) (counts_of curves.now) pair.node.0 pair.slot }
-    ensures positions { ArePositions (setting_of scenario.now) (counts_of curves.now) pair.node.0 pair.slot positions.new }
+    ensures row { take (width shape) room.new
+        ≡ uncounted_row (setting_of scenario.now) (counts_of curves.now) pair.node.0 pair.slot }
+    ensures positions { ArePositions (setting_of scenario.now)
+        (counts_of curves.now) pair.node.0 pair.slot positions.new }
 {
     let row = &mut room[..shape.width()];
     put_uncounted_row(scenario, curves, pair, shape, row, positions);
@@ -164,8 +177,10 @@ pub fn uncounted_of(
     requires ready { IsAtFront (setting_of scenario.now) curves.now pair.slot }
     requires room { width (shape_at (setting_of scenario.now) pair.node.0) ≤ into.old.room }
     requires places { (setting_of scenario.now).ins pair.node.0 ≤ length positions.old }
-    ensures positions { ArePositions (setting_of scenario.now) (counts_of curves.now) pair.node.0 pair.slot positions.new }
-    ensures inputs { IsUncountedPair (setting_of scenario.now) (counts_of curves.now) pair.node.0 pair.slot into.new }
+    ensures positions { ArePositions (setting_of scenario.now)
+        (counts_of curves.now) pair.node.0 pair.slot positions.new }
+    ensures inputs { IsUncountedPair (setting_of scenario.now)
+        (counts_of curves.now) pair.node.0 pair.slot into.new }
     ensures room { into.new.room ≡ into.old.room }
     ensures solvable { IsSolvable into.new }
 {

@@ -28,7 +28,8 @@ pub(crate) fn put_weights(scenario: &Scenario, pair: Pair, outs: u32, into: &mut
     requires node { pair.node.0 < (setting_of scenario.now).nodes }
     requires outs { outs ≡ (setting_of scenario.now).outs pair.node.0 }
     requires few { outs ≤ 4 }
-    requires room { length into.old ≡ (setting_of scenario.now).destinations * (setting_of scenario.now).outs pair.node.0 }
+    requires room { length into.old
+        ≡ (setting_of scenario.now).destinations * (setting_of scenario.now).outs pair.node.0 }
     ensures { into.new ≡ weights_part (setting_of scenario.now) pair.node.0 pair.slot }
 {
     let outs = outs as usize;

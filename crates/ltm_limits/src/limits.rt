@@ -119,7 +119,8 @@ impl LimitTable {
         requires order { from ≤ to }
         requires within { to ≤ self.old.slots }
         ensures ok { OnOk result (self.new.limits ≡ with_limit self.old.limits link from to limit) }
-        ensures back { IfOk result (λ was. with_values self.new.limits link from was.items ≡ self.old.limits) }
+        ensures back { IfOk result (λ was. with_values self.new.limits link from was.items
+            ≡ self.old.limits) }
         ensures count { IfOk result (λ was. vec_len was ≡ to - from) }
         ensures can { OnOk result (to * length self.old.limits ≤ self.new.places) }
         ensures err { OnErr result (self.new.limits ≡ self.old.limits) }
@@ -208,7 +209,8 @@ fn read(table: &[u16], place: usize) -> u16
 
 /// Unsets all limits from a place on.
 fn forget(table: &mut Vec<u16>, from: usize)
-    ensures before { (k : ℕ) → k < from → slice_index_or table.new.items k never_set ≡ slice_index_or table.old.items k never_set }
+    ensures before { (k : ℕ) → k < from
+        → slice_index_or table.new.items k never_set ≡ slice_index_or table.old.items k never_set }
     ensures behind { (k : ℕ) → from ≤ k → slice_index_or table.new.items k never_set ≡ never_set }
     ensures len { vec_len table.new ≡ vec_len table.old }
 {
@@ -246,7 +248,8 @@ fn exchange(table: &mut Vec<u16>, links: usize, link: usize, from: usize, values
     requires slots { from + length values.old ≤ 10000 }
     requires places { (from + length values.old) * links ≤ vec_len table.old }
     ensures exchanged { AreExchanged table.old.items table.new.items links link from values.old }
-    ensures were { (k : ℕ) → k < length values.old → slice_index values.new k ≡ said table.old.items links link (from + k) }
+    ensures were { (k : ℕ) → k < length values.old
+        → slice_index values.new k ≡ said table.old.items links link (from + k) }
     ensures len { vec_len table.new ≡ vec_len table.old }
 {
     for k in 0..values.len() {

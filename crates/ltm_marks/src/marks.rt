@@ -170,7 +170,8 @@ impl Marks {
     fn next_in_word(&self, row: usize, from: usize) -> Option<usize>
         requires row { row < rows_of self.now }
         requires from { from < width_of self.now }
-        ensures { MatchOption result (HasNoneInWord self.now row from) (IsNextInWord self.now row from) }
+        ensures { MatchOption result (HasNoneInWord self.now row from)
+            (IsNextInWord self.now row from) }
     {
         let word = self.word(from, row);
         let bit = from % 64;
@@ -185,7 +186,8 @@ impl Marks {
     pub fn word_with(&self, row: usize, place: usize) -> u64
         requires row { row < rows_of self.now }
         requires place { place < width_of self.now }
-        ensures { (p : ℕ) → p / 64 ≡ place / 64 → is_marked self.now p row ≡ (bit_at result (p % 64) == 1) }
+        ensures { (p : ℕ) → p / 64 ≡ place / 64
+            → is_marked self.now p row ≡ (bit_at result (p % 64) == 1) }
     {
         let word = self.word(place, row);
         self.bits[word]
@@ -261,8 +263,10 @@ impl Marks {
         ensures width { width_of self.new ≡ width_of self.old }
         ensures rows { rows_of self.new ≡ rows }
         ensures room { room_of self.new ≡ room_of self.old }
-        ensures marks { (place row : ℕ) → is_marked self.new place row ≡ is_marked self.old place row }
-        ensures new { (place row : ℕ) → place < width_of self.old → rows_of self.old ≤ row → is_marked self.new place row ≡ false }
+        ensures marks { (place row : ℕ)
+            → is_marked self.new place row ≡ is_marked self.old place row }
+        ensures new { (place row : ℕ) → place < width_of self.old → rows_of self.old ≤ row
+            → is_marked self.new place row ≡ false }
     {
         self.rows = rows;
     }

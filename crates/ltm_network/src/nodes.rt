@@ -165,7 +165,8 @@ fn push_new(list: &mut Vec<Adjacent>)
 fn push_link(list: &mut Vec<Adjacent>, node: u32, link: LinkId)
     requires there { node < vec_len list.old }
     requires room { length (slice_index_or list.old.items node []) < 4 }
-    ensures { list.new.items ≡ slice_set list.old.items node (slice_index_or list.old.items node [] ++ link.0 ∷ []) }
+    ensures { list.new.items
+        ≡ slice_set list.old.items node (slice_index_or list.old.items node [] ++ link.0 ∷ []) }
 {
     let at = &mut list[node as usize];
     at.push(link);

@@ -124,10 +124,12 @@ impl Mover<'_> {
     #[inline]
     fn enter(&self, part: Part, place: usize, row: &mut [u64], sent: &mut Sent) -> u64
         requires part { IsPart self.now.inputs.now part }
-        requires place { place ≡ entered_after_place self.now.inputs.now.shape part.out part.destination }
+        requires place { place
+            ≡ entered_after_place self.now.inputs.now.shape part.out part.destination }
         requires before { IsMovingBy self.now part.destination part.arm part.out row.old sent.old }
         ensures moved { result ≡ moved_by self.now part.arm part.destination part.out }
-        ensures after { IsMovingBy self.now part.destination part.arm (part.out + 1) row.new sent.new }
+        ensures after { IsMovingBy self.now part.destination part.arm (part.out
+            + 1) row.new sent.new }
     {
         if part.amount == 0 {
             return 0;
@@ -152,7 +154,9 @@ impl Mover<'_> {
     fn leave(&self, load: Load, total: u64, row: &mut [u64], sent: &Sent)
         requires load { IsLoad self.now.inputs.now load }
         requires elsewhere { is_own self.now.inputs.now.shape load.destination ≡ false }
-        requires total { total ≡ sum_below self.now.inputs.now.shape.outs (moved_by self.now load.arm load.destination) }
+        requires total { total
+            ≡ sum_below self.now.inputs.now.shape.outs
+            (moved_by self.now load.arm load.destination) }
         requires before { IsMovingBy self.now load.destination load.arm self.now.inputs.now.shape.outs row.old sent.now }
         ensures after { IsMovingAt self.now load.destination (load.arm + 1) row.new sent.now }
     {

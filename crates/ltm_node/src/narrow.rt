@@ -37,7 +37,8 @@ impl Narrow<'_> {
     fn all_leaves(&self) -> bool
         requires elsewhere { is_own self.now.inputs.now.shape 0 ≡ false }
         ensures out { IsTrue result → self.now.inputs.now.shape.outs ≡ 1 }
-        ensures all { IsTrue result → (arm : ℕ) → leaves self.now.inputs.now arm ≡ sending self.now.inputs.now arm 0 }
+        ensures all { IsTrue result → (arm : ℕ)
+            → leaves self.now.inputs.now arm ≡ sending self.now.inputs.now arm 0 }
         ensures nothing { IsFalse result → (arm : ℕ) → leaves self.now.inputs.now arm ≡ 0 }
     {
         if self.shape.outs == 0 {
@@ -50,7 +51,8 @@ impl Narrow<'_> {
     fn keep_left(&self, counts: &mut [u64])
         requires nothing { (arm : ℕ) → leaves self.now.inputs.now arm ≡ 0 }
         requires width { length counts.old ≡ counts_width self.now.inputs.now.shape }
-        ensures after { HaveLeft self.now.inputs.now self.now.inputs.now.shape.arms (laid self.now.inputs.now.shape counts.new) }
+        ensures after { HaveLeft self.now.inputs.now self.now.inputs.now.shape.arms
+            (laid self.now.inputs.now.shape counts.new) }
     {
         for arm in 0..self.shape.arms {
             let count = self.left(arm);
@@ -62,12 +64,14 @@ impl Narrow<'_> {
     /// is within a bound. That it may end early also keeps so short a loop from being widened.
     #[inline]
     fn write_left(&self, counts: &mut [u64], most: u64) -> u64
-        requires all { (arm : ℕ) → leaves self.now.inputs.now arm ≡ sending self.now.inputs.now arm 0 }
+        requires all { (arm : ℕ)
+            → leaves self.now.inputs.now arm ≡ sending self.now.inputs.now arm 0 }
         requires width { length counts.old ≡ counts_width self.now.inputs.now.shape }
         ensures small { result ≤ 320000 }
         ensures width { length counts.new ≡ counts_width self.now.inputs.now.shape }
         ensures after { result ≤ most
-            → HaveLeft self.now.inputs.now self.now.inputs.now.shape.arms (laid self.now.inputs.now.shape counts.new) }
+            → HaveLeft self.now.inputs.now self.now.inputs.now.shape.arms
+            (laid self.now.inputs.now.shape counts.new) }
         ensures total { result ≤ most
             → result ≡ sum_below self.now.inputs.now.shape.arms (leaves self.now.inputs.now) }
     {
@@ -87,10 +91,12 @@ impl Narrow<'_> {
     /// Writes what has entered the out-link and what has arrived.
     #[inline]
     fn write_rest(&self, counts: &mut [u64], entering: u64, arriving: u64)
-        requires before { HaveLeft self.now.inputs.now self.now.inputs.now.shape.arms (laid self.now.inputs.now.shape counts.old) }
+        requires before { HaveLeft self.now.inputs.now self.now.inputs.now.shape.arms
+            (laid self.now.inputs.now.shape counts.old) }
         requires entering { entering ≤ 320000 }
         requires arriving { arriving ≤ 320000 }
-        ensures after { HaveMoved self.now.inputs.now entering arriving (laid self.now.inputs.now.shape counts.new) }
+        ensures after { HaveMoved self.now.inputs.now entering arriving
+            (laid self.now.inputs.now.shape counts.new) }
     {
         let arrived = self.arrived() + arriving;
         if self.shape.outs > 0 {
@@ -107,7 +113,8 @@ impl Narrow<'_> {
         requires out { self.now.inputs.now.shape.outs ≡ 1 }
         requires amount { amount ≤ 32000 }
         requires width { length counts.old ≡ counts_width self.now.inputs.now.shape }
-        ensures after { HaveShifted self.now.inputs.now amount (laid self.now.inputs.now.shape counts.new) }
+        ensures after { HaveShifted self.now.inputs.now amount
+            (laid self.now.inputs.now.shape counts.new) }
     {
         let left = self.left(0) + amount;
         let entered = self.entered() + amount;
@@ -146,7 +153,8 @@ impl Narrow<'_> {
         requires elsewhere { is_own self.now.inputs.now.shape 0 ≡ false }
         requires arm { self.now.inputs.now.shape.arms ≡ 1 }
         requires out { self.now.inputs.now.shape.outs ≡ 1 }
-        requires all { (arm : ℕ) → leaves self.now.inputs.now arm ≡ sending self.now.inputs.now arm 0 }
+        requires all { (arm : ℕ)
+            → leaves self.now.inputs.now arm ≡ sending self.now.inputs.now arm 0 }
         requires width { length counts.old ≡ counts_width self.now.inputs.now.shape }
         ensures { IsNodeStep self.now.inputs.now (laid self.now.inputs.now.shape counts.new) }
     {
@@ -162,7 +170,8 @@ impl Narrow<'_> {
         requires first { first ≡ leaves self.now.inputs.now 0 }
         requires second { second ≡ leaves self.now.inputs.now 1 }
         requires width { length counts.old ≡ counts_width self.now.inputs.now.shape }
-        ensures { HaveLeft self.now.inputs.now self.now.inputs.now.shape.arms (laid self.now.inputs.now.shape counts.new) }
+        ensures { HaveLeft self.now.inputs.now self.now.inputs.now.shape.arms
+            (laid self.now.inputs.now.shape counts.new) }
     {
         let one = self.left(0) + first;
         let other = self.left(1) + second;
@@ -177,9 +186,11 @@ impl Narrow<'_> {
         requires elsewhere { is_own self.now.inputs.now.shape 0 ≡ false }
         requires arms { self.now.inputs.now.shape.arms ≡ 2 }
         requires out { self.now.inputs.now.shape.outs ≡ 1 }
-        requires all { (arm : ℕ) → leaves self.now.inputs.now arm ≡ sending self.now.inputs.now arm 0 }
+        requires all { (arm : ℕ)
+            → leaves self.now.inputs.now arm ≡ sending self.now.inputs.now arm 0 }
         requires width { length counts.old ≡ counts_width self.now.inputs.now.shape }
-        ensures { IsTrue result → IsNodeStep self.now.inputs.now (laid self.now.inputs.now.shape counts.new) }
+        ensures { IsTrue result
+            → IsNodeStep self.now.inputs.now (laid self.now.inputs.now.shape counts.new) }
     {
         let first = self.sending(0);
         let second = self.sending(1);
@@ -198,9 +209,11 @@ impl Narrow<'_> {
     fn send_many(&self, counts: &mut [u64]) -> bool
         requires elsewhere { is_own self.now.inputs.now.shape 0 ≡ false }
         requires out { self.now.inputs.now.shape.outs ≡ 1 }
-        requires all { (arm : ℕ) → leaves self.now.inputs.now arm ≡ sending self.now.inputs.now arm 0 }
+        requires all { (arm : ℕ)
+            → leaves self.now.inputs.now arm ≡ sending self.now.inputs.now arm 0 }
         requires width { length counts.old ≡ counts_width self.now.inputs.now.shape }
-        ensures { IsTrue result → IsNodeStep self.now.inputs.now (laid self.now.inputs.now.shape counts.new) }
+        ensures { IsTrue result
+            → IsNodeStep self.now.inputs.now (laid self.now.inputs.now.shape counts.new) }
     {
         let most = self.can_take();
         let total = self.write_left(counts, most);
@@ -217,9 +230,11 @@ impl Narrow<'_> {
     fn send(&self, counts: &mut [u64]) -> bool
         requires elsewhere { is_own self.now.inputs.now.shape 0 ≡ false }
         requires out { self.now.inputs.now.shape.outs ≡ 1 }
-        requires all { (arm : ℕ) → leaves self.now.inputs.now arm ≡ sending self.now.inputs.now arm 0 }
+        requires all { (arm : ℕ)
+            → leaves self.now.inputs.now arm ≡ sending self.now.inputs.now arm 0 }
         requires width { length counts.old ≡ counts_width self.now.inputs.now.shape }
-        ensures { IsTrue result → IsNodeStep self.now.inputs.now (laid self.now.inputs.now.shape counts.new) }
+        ensures { IsTrue result
+            → IsNodeStep self.now.inputs.now (laid self.now.inputs.now.shape counts.new) }
     {
         if self.shape.arms == 2 {
             return self.send_two(counts);
@@ -236,7 +251,8 @@ impl Narrow<'_> {
     #[inline]
     pub fn write(&self, counts: &mut [u64]) -> bool
         requires { length counts.old ≡ counts_width self.now.inputs.now.shape }
-        ensures { IsTrue result → IsNodeStep self.now.inputs.now (laid self.now.inputs.now.shape counts.new) }
+        ensures { IsTrue result
+            → IsNodeStep self.now.inputs.now (laid self.now.inputs.now.shape counts.new) }
     {
         if self.is_own() {
             self.sink(counts);

@@ -123,7 +123,8 @@ impl NodeOutputs {
         requires { place < self.now.shape.arms + self.now.shape.outs }
         ensures count { length result.now ≡ self.now.shape.destinations }
         ensures counts { (d : ℕ) → d < self.now.shape.destinations
-            → slice_index result.now d ≡ slice_index self.now.row (place * self.now.shape.destinations + d) }
+            → slice_index result.now d
+            ≡ slice_index self.now.row (place * self.now.shape.destinations + d) }
     {
         let from = self.shape.group_after_place(place);
         &self.counts[from..from + self.shape.destinations as usize]

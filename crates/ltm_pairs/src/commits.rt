@@ -85,10 +85,13 @@ fn add_heads(scenario: &Scenario, node: NodeId, boundary: u32, outs: u32, into: 
 /// So there are at most nine. Which of a head's slots read the change in truth depends on the counts. `dependents_are_all`
 /// says that every other pair reads the same as before. A pair that is not of the scenario has no reach. Takes no memory.
 pub fn dependents(scenario: &Scenario, pair: Pair, changed: ArmSet, into: &mut Spread)
-    ensures each { (w v : ℕ) → pair.node.0 < (setting_of scenario.now).nodes → v < (setting_of scenario.now).slots
-        → lies_in_one into.new.reaches w v ≡ depends (setting_of scenario.now) pair.node.0 (pair.slot + 1) changed w v }
+    ensures each { (w v : ℕ) → pair.node.0 < (setting_of scenario.now).nodes
+        → v < (setting_of scenario.now).slots
+        → lies_in_one into.new.reaches w v
+        ≡ depends (setting_of scenario.now) pair.node.0 (pair.slot + 1) changed w v }
     ensures from { All (IsFrom (setting_of scenario.now) (pair.slot + 1)) into.new.reaches }
-    ensures none { ((setting_of scenario.now).nodes ≤ pair.node.0) ⊎ ((setting_of scenario.now).slots ≤ pair.slot)
+    ensures none { ((setting_of scenario.now).nodes ≤ pair.node.0)
+        ⊎ ((setting_of scenario.now).slots ≤ pair.slot)
         → into.new.reaches ≡ [] }
     ensures few { length into.new.reaches ≤ 9 }
     ensures all_new { into.new.all_new ≡ None }

@@ -14,8 +14,13 @@ use ltm_units::{Name, Reach};
 fn add_node(scenario: &Scenario, name: &Name, from: u32, to: u32, into: &mut Spread)
     requires room { length into.old.reaches < 16 }
     requires slots { to ≤ (setting_of scenario.now).slots }
-    ensures reaches { into.new ≡ record into.old { reaches = into.old.reaches ++ of_node scenario.now.network name.now from to } }
-    ensures there { All (IsFrom (setting_of scenario.now) 0) into.old.reaches → All (IsFrom (setting_of scenario.now) 0) into.new.reaches }
+    ensures reaches { into.new
+        ≡ record into.old {
+          reaches = into.old.reaches
+              ++ of_node scenario.now.network name.now from to;
+        } }
+    ensures there { All (IsFrom (setting_of scenario.now) 0) into.old.reaches
+        → All (IsFrom (setting_of scenario.now) 0) into.new.reaches }
 {
     if let Some(node) = scenario.network().find_node(name) {
         into.push(Reach { node, from, to });
@@ -26,8 +31,13 @@ fn add_node(scenario: &Scenario, name: &Name, from: u32, to: u32, into: &mut Spr
 fn add_tail(scenario: &Scenario, name: &Name, from: u32, to: u32, into: &mut Spread)
     requires room { length into.old.reaches < 16 }
     requires slots { to ≤ (setting_of scenario.now).slots }
-    ensures reaches { into.new ≡ record into.old { reaches = into.old.reaches ++ of_end scenario.now.network (tail_of scenario.now.network) name.now from to } }
-    ensures there { All (IsFrom (setting_of scenario.now) 0) into.old.reaches → All (IsFrom (setting_of scenario.now) 0) into.new.reaches }
+    ensures reaches { into.new
+        ≡ record into.old {
+          reaches = into.old.reaches
+              ++ of_end scenario.now.network (tail_of scenario.now.network) name.now from to;
+        } }
+    ensures there { All (IsFrom (setting_of scenario.now) 0) into.old.reaches
+        → All (IsFrom (setting_of scenario.now) 0) into.new.reaches }
 {
     let network = scenario.network();
     if let Some(link) = network.find_link(name) {
@@ -40,8 +50,13 @@ fn add_tail(scenario: &Scenario, name: &Name, from: u32, to: u32, into: &mut Spr
 fn add_head(scenario: &Scenario, name: &Name, from: u32, to: u32, into: &mut Spread)
     requires room { length into.old.reaches < 16 }
     requires slots { to ≤ (setting_of scenario.now).slots }
-    ensures reaches { into.new ≡ record into.old { reaches = into.old.reaches ++ of_end scenario.now.network (head_of scenario.now.network) name.now from to } }
-    ensures there { All (IsFrom (setting_of scenario.now) 0) into.old.reaches → All (IsFrom (setting_of scenario.now) 0) into.new.reaches }
+    ensures reaches { into.new
+        ≡ record into.old {
+          reaches = into.old.reaches
+              ++ of_end scenario.now.network (head_of scenario.now.network) name.now from to;
+        } }
+    ensures there { All (IsFrom (setting_of scenario.now) 0) into.old.reaches
+        → All (IsFrom (setting_of scenario.now) 0) into.new.reaches }
 {
     let network = scenario.network();
     if let Some(link) = network.find_link(name) {

@@ -12,7 +12,8 @@ fn find_space(text: &[u8]) -> Option<usize>
 /// The first piece of a text, and what stands behind the first space, if there is one.
 #[tactic(auto, using(crate::proofs::Pieces::cuts))]
 pub fn cut(text: &[u8]) -> (&[u8], Option<&[u8]>)
-    ensures { slice_split is_space text.now ≡ result.0.now ∷ pieces_behind (option_map (λ s. s.now) result.1) }
+    ensures { slice_split is_space text.now
+        ≡ result.0.now ∷ pieces_behind (option_map (λ s. s.now) result.1) }
 {
     match find_space(text) {
         Some(place) => (&text[..place], Some(&text[place + 1..])),

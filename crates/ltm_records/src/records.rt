@@ -68,7 +68,8 @@ impl<'a> Records<'a> {
     /// Reads the next record into `row`, and tells whether there was one. Where there was none, or no memory for it,
     /// nothing is said of `row`.
     pub fn next(&mut self, row: &mut ByteRecord) -> Result<bool, NoMemory>
-        ensures found { IfOk result (λ found. found ≡ true → self.old ≡ fields_of row.new ∷ self.new) }
+        ensures found { IfOk result (λ found. found ≡ true
+            → self.old ≡ fields_of row.new ∷ self.new) }
         ensures end { IfOk result (λ found. found ≡ false → (self.old ≡ []) × (self.new ≡ [])) }
         ensures err { OnErr result (self.new ≡ []) }
     {

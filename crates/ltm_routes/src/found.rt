@@ -48,7 +48,8 @@ impl Routes {
     /// The routes to a destination.
     pub fn to(alloc: Global, scenario: &Scenario, destination: u32) -> Result<Routes, NoMemory>
         requires { destination < length scenario.now.destinations }
-        ensures { IfOk result (AreRoutes (roads_of scenario.now) (destination_node scenario.now destination)) }
+        ensures { IfOk result (AreRoutes (roads_of scenario.now)
+            (destination_node scenario.now destination)) }
     {
         keep_roads(scenario);
         let end = scenario.destination_node(destination);
@@ -82,7 +83,8 @@ fn tight_links(
 ) -> Result<Vec<bool>, NoMemory>
     requires one_for_each { length potentials.now ≡ length scenario.now.network.nodes }
     requires small { All IsSmall potentials.now }
-    ensures { IfOk result (λ flags. AreFlags (length scenario.now.network.links) (is_tight_over (roads_of scenario.now) potentials.now) flags.items) }
+    ensures { IfOk result (λ flags. AreFlags (length scenario.now.network.links)
+        (is_tight_over (roads_of scenario.now) potentials.now) flags.items) }
 {
     let mut flags = Vec::new(alloc);
     for link in 0..scenario.network().links() {

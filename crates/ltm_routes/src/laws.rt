@@ -6,5 +6,6 @@ ghost use Rattle.ltm_routes.specs.Split.{RoutesData, AreAllRoutes};
 /// There is one answer: two lists of routes for the same scenario are equal. The function does nothing.
 #[tactic(auto, using(crate::proofs::One::all_one))]
 pub fn routes_are_one()
-    ensures { (s : ScenarioData) (a b : List RoutesData) → AreAllRoutes s a → AreAllRoutes s b → a ≡ b }
+    ensures { (s : ScenarioData) (a b : List RoutesData) → AreAllRoutes s a → AreAllRoutes s b
+        → a ≡ b }
 {}

@@ -125,7 +125,9 @@ fn may_stand(scenario: &Scenario, potentials: &[Option<Millis>], end: NodeId, no
     requires node { node.0 < length scenario.now.network.nodes }
     requires one_for_each { length potentials.now ≡ length scenario.now.network.nodes }
     requires small { All IsSmall potentials.now }
-    ensures { result ≡ true ↔ (node.0 ≢ end.0 → IsSome (potential_at potentials.now node.0) → LeadsOn (roads_of scenario.now) potentials.now node.0) }
+    ensures { result ≡ true
+        ↔ (node.0 ≢ end.0 → IsSome (potential_at potentials.now node.0)
+        → LeadsOn (roads_of scenario.now) potentials.now node.0) }
 {
     if node.0 == end.0 || potentials[node.0 as usize].is_none() {
         return true;
@@ -142,7 +144,9 @@ pub fn verify(scenario: &Scenario, destination: u32, potentials: &[Option<Millis
     requires destination { destination < length scenario.now.destinations }
     requires one_for_each { length potentials.now ≡ length scenario.now.network.nodes }
     requires small { All IsSmall potentials.now }
-    ensures { result ≡ true ↔ AreLeastTimes (roads_of scenario.now) (destination_node scenario.now destination) potentials.now }
+    ensures { result ≡ true
+        ↔ AreLeastTimes (roads_of scenario.now)
+        (destination_node scenario.now destination) potentials.now }
 {
     keep_roads(scenario);
     let end = scenario.destination_node(destination);

@@ -44,7 +44,8 @@ impl Search {
     /// Only the destination has a potential, and it waits.
     fn start(alloc: Global, scenario: &Scenario, end: NodeId) -> Result<Search, NoMemory>
         requires { end.0 < length scenario.now.network.nodes }
-        ensures search { IfOk result (λ s. IsSearch (roads_of scenario.now) end.0 s.potentials.items (heap_items s.waiting) []) }
+        ensures search { IfOk result (λ s. IsSearch (roads_of scenario.now) end.0 s.potentials.items
+            (heap_items s.waiting) []) }
         ensures end { IfOk result (λ s. s.end ≡ end) }
     {
         let mut potentials = no_potentials(alloc, scenario.network().nodes() as usize)?;
@@ -74,8 +75,10 @@ impl Search {
     /// Gives a node a potential, and puts it to wait.
     fn lower(&mut self, node: NodeId, time: u64) -> Result<(), NoMemory>
         requires { node.0 < length self.old.potentials.items }
-        ensures potentials { self.new.potentials.items ≡ slice_set self.old.potentials.items node.0 (Some (millis time)) }
-        ensures waiting { OnOk result (IsPermutation (waiting time node.0 ∷ heap_items self.old.waiting) (heap_items self.new.waiting)) }
+        ensures potentials { self.new.potentials.items
+            ≡ slice_set self.old.potentials.items node.0 (Some (millis time)) }
+        ensures waiting { OnOk result (IsPermutation
+            (waiting time node.0 ∷ heap_items self.old.waiting) (heap_items self.new.waiting)) }
         ensures end { self.new.end ≡ self.old.end }
     {
         self.potentials[node.0 as usize] = Some(Millis(time));
@@ -90,15 +93,24 @@ impl Search {
     /// way over the link takes less.
     fn relax(&mut self, scenario: &Scenario, link: LinkId, time: u64) -> Result<(), NoMemory>
         requires link { link.0 < length scenario.now.network.links }
-        requires one_for_each { length self.old.potentials.items ≡ length scenario.now.network.nodes }
+        requires one_for_each { length self.old.potentials.items
+            ≡ length scenario.now.network.nodes }
         requires time { time ≤ 28800000000000 }
         ensures end { self.new.end ≡ self.old.end }
-        ensures search { (left : List ℕ) → IsSearch (roads_of scenario.now) self.old.end.0 self.old.potentials.items (heap_items self.old.waiting) (link.0 ∷ left)
-            → potential_at self.old.potentials.items (head_of scenario.now.network link.0) ≡ Some (millis time)
-            → OnOk result (IsSearch (roads_of scenario.now) self.old.end.0 self.new.potentials.items (heap_items self.new.waiting) left) }
-        ensures head { potential_at self.old.potentials.items (head_of scenario.now.network link.0) ≡ Some (millis time)
-            → OnOk result (potential_at self.new.potentials.items (head_of scenario.now.network link.0) ≡ Some (millis time)) }
-        ensures effort { OnOk result (effort self.new.potentials.items (heap_items self.new.waiting) ≤ effort self.old.potentials.items (heap_items self.old.waiting)) }
+        ensures search { (left : List ℕ)
+            → IsSearch (roads_of scenario.now) self.old.end.0 self.old.potentials.items
+            (heap_items self.old.waiting) (link.0 ∷ left)
+            → potential_at self.old.potentials.items (head_of scenario.now.network link.0)
+            ≡ Some (millis time)
+            → OnOk result (IsSearch (roads_of scenario.now) self.old.end.0 self.new.potentials.items
+            (heap_items self.new.waiting) left) }
+        ensures head { potential_at self.old.potentials.items (head_of scenario.now.network link.0)
+            ≡ Some (millis time)
+            → OnOk result (potential_at self.new.potentials.items
+            (head_of scenario.now.network link.0) ≡ Some (millis time)) }
+        ensures effort { OnOk result (effort self.new.potentials.items
+            (heap_items self.new.waiting) ≤ effort self.old.potentials.items
+            (heap_items self.old.waiting)) }
     {
         keep_roads(scenario);
         let time = free_time(scenario, link).0 + time;
@@ -123,10 +135,15 @@ impl Search {
 
     /// Looks at the links that enter a node that waited.
     fn visit(&mut self, scenario: &Scenario, next: Waiting) -> Result<(), NoMemory>
-        requires { IsSearch (roads_of scenario.now) self.old.end.0 self.old.potentials.items (next ∷ heap_items self.old.waiting) [] }
-        ensures search { OnOk result (IsSearch (roads_of scenario.now) self.new.end.0 self.new.potentials.items (heap_items self.new.waiting) []) }
+        requires { IsSearch (roads_of scenario.now) self.old.end.0 self.old.potentials.items
+            (next ∷ heap_items self.old.waiting) [] }
+        ensures search { OnOk result (IsSearch
+            (roads_of scenario.now) self.new.end.0 self.new.potentials.items
+            (heap_items self.new.waiting) []) }
         ensures end { self.new.end ≡ self.old.end }
-        ensures effort { OnOk result (effort self.new.potentials.items (heap_items self.new.waiting) ≤ effort self.old.potentials.items (heap_items self.old.waiting)) }
+        ensures effort { OnOk result (effort self.new.potentials.items
+            (heap_items self.new.waiting) ≤ effort self.old.potentials.items
+            (heap_items self.old.waiting)) }
     {
         keep_roads(scenario);
         links_at_their_places();

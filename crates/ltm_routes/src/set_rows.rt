@@ -73,11 +73,15 @@ fn set_row(
 ) -> Result<(), RoutesFault>
     requires destination { destination < length scenario.old.destinations }
     requires node { node.0 < length scenario.old.network.nodes }
-    requires routes { AreRoutes (roads_of scenario.old) (destination_node scenario.old destination) routes.now }
+    requires routes { AreRoutes (roads_of scenario.old)
+        (destination_node scenario.old destination) routes.now }
     requires before { list_all (is_before destination node.0) scenario.old.splits ≡ true }
-    ensures ok { OnOk result (HasSet scenario.old (rows_from scenario.old destination routes.now node.0) scenario.new destination (node.0 + 1)) }
+    ensures ok { OnOk result (HasSet scenario.old
+        (rows_from scenario.old destination routes.now node.0) scenario.new destination (node.0
+        + 1)) }
     ensures too_many { result ≡ Err RoutesFault.TooManyRows
-        → 50000 < length scenario.old.splits + length (rows_from scenario.old destination routes.now node.0) }
+        → 50000 < length scenario.old.splits
+        + length (rows_from scenario.old destination routes.now node.0) }
 {
     keep_roads(scenario);
     links_at_their_places();
@@ -100,11 +104,14 @@ fn set_rows_to(
     routes: &Routes,
 ) -> Result<(), RoutesFault>
     requires destination { destination < length scenario.old.destinations }
-    requires routes { AreRoutes (roads_of scenario.old) (destination_node scenario.old destination) routes.now }
+    requires routes { AreRoutes (roads_of scenario.old)
+        (destination_node scenario.old destination) routes.now }
     requires before { list_all (is_before destination 0) scenario.old.splits ≡ true }
-    ensures ok { OnOk result (HasSet scenario.old (rows_to scenario.old destination routes.now) scenario.new (destination + 1) 0) }
+    ensures ok { OnOk result (HasSet scenario.old
+        (rows_to scenario.old destination routes.now) scenario.new (destination + 1) 0) }
     ensures too_many { result ≡ Err RoutesFault.TooManyRows
-        → 50000 < length scenario.old.splits + length (rows_to scenario.old destination routes.now) }
+        → 50000 < length scenario.old.splits
+        + length (rows_to scenario.old destination routes.now) }
 {
     let nodes = scenario.network().nodes();
     for node in 0..nodes {
@@ -126,12 +133,14 @@ pub fn set_all(
 ) -> Result<Scenario, RoutesFault>
     requires none { scenario.splits ≡ [] }
     requires routes { AreAllRoutes scenario all.now }
-    ensures set { IfOk result (λ next. with_splits scenario (route_splits scenario all.now) ≡ Ok next) }
+    ensures set { IfOk result (λ next. with_splits scenario (route_splits scenario all.now)
+        ≡ Ok next) }
     ensures rest { IfOk result (KeepsRest scenario) }
 
     // Only more than 50,000 rows are refused.
     ensures few { OnOk result (length (route_splits scenario all.now) ≤ 50000) }
-    ensures too_many { result ≡ Err RoutesFault.TooManyRows → 50000 < length (route_splits scenario all.now) }
+    ensures too_many { result ≡ Err RoutesFault.TooManyRows
+        → 50000 < length (route_splits scenario all.now) }
 {
     let _setup = scenario.setup();
     let destinations = scenario.destinations().len() as u32;
@@ -154,8 +163,10 @@ pub fn set_all(
 pub fn set_routes(alloc: Global, scenario: Scenario) -> Result<Scenario, RoutesFault>
     requires { scenario.splits ≡ [] }
     ensures set { IfOk result (λ next. (all : List RoutesData) × AreAllRoutes scenario all
-        × (length (route_splits scenario all) ≤ 50000) × (with_splits scenario (route_splits scenario all) ≡ Ok next)) }
-    ensures too_many { result ≡ Err RoutesFault.TooManyRows → (all : List RoutesData) × AreAllRoutes scenario all
+        × (length (route_splits scenario all) ≤ 50000)
+        × (with_splits scenario (route_splits scenario all) ≡ Ok next)) }
+    ensures too_many { result ≡ Err RoutesFault.TooManyRows
+        → (all : List RoutesData) × AreAllRoutes scenario all
         × (50000 < length (route_splits scenario all)) }
 {
     let all = all_routes(alloc, &scenario)?;

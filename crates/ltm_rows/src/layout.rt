@@ -33,7 +33,8 @@ pub struct Layout {
 
 /// Where the rows of a node begin within a slot, for each node, and how many numbers the rows of a slot are.
 fn starts_of(alloc: Global, scenario: &Scenario, part: Part) -> Result<Vec<usize>, NoMemory>
-    ensures { IfOk result (λ starts. AreStarts (setting_of scenario.now) part (setting_of scenario.now).nodes starts.items) }
+    ensures { IfOk result (λ starts. AreStarts (setting_of scenario.now) part
+        (setting_of scenario.now).nodes starts.items) }
 {
     is_setting(scenario);
     let mut starts = Vec::new(alloc);

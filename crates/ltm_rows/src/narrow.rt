@@ -61,7 +61,8 @@ fn write_two(into: &mut [u16], numbers: &[u64], place: usize)
     requires place { place ≡ length numbers.now / 4 * 4 }
     requires before { (i : ℕ) → i < place → slice_index into.old i ≡ slice_index numbers.now i }
     ensures count { length into.new ≡ length numbers.now }
-    ensures written { (i : ℕ) → i < length numbers.now / 2 * 2 → slice_index into.new i ≡ slice_index numbers.now i }
+    ensures written { (i : ℕ) → i < length numbers.now / 2 * 2
+        → slice_index into.new i ≡ slice_index numbers.now i }
 {
     if (numbers.len() / 2) % 2 == 1 {
         let first = numbers[place] as u16;
@@ -76,7 +77,8 @@ fn write_two(into: &mut [u16], numbers: &[u64], place: usize)
 fn write_last(into: &mut [u16], numbers: &[u64])
     requires count { length into.old ≡ length numbers.now }
     requires small { (i : ℕ) → i < length numbers.now → slice_index numbers.now i < 2 ^ 16 }
-    requires before { (i : ℕ) → i < length numbers.now / 2 * 2 → slice_index into.old i ≡ slice_index numbers.now i }
+    requires before { (i : ℕ) → i < length numbers.now / 2 * 2
+        → slice_index into.old i ≡ slice_index numbers.now i }
     ensures { into.new ≡ numbers.now }
 {
     if numbers.len() % 2 == 1 {

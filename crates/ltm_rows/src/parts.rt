@@ -19,7 +19,8 @@ pub struct Parts<'a> {
 #[inline]
 pub fn parts_of(inputs: &NodeInputs) -> Parts<'_>
     ensures row { joined result ≡ without_counts inputs.now.shape inputs.now.row }
-    ensures amounts { length result.sends.now + length result.limits.now ≡ part_width Amounts inputs.now.shape }
+    ensures amounts { length result.sends.now + length result.limits.now
+        ≡ part_width Amounts inputs.now.shape }
     ensures weights { length result.weights.now ≡ part_width Weights inputs.now.shape }
     ensures narrow { IsSolvable inputs.now → AreNarrow result }
 {

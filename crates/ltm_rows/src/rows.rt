@@ -138,7 +138,8 @@ impl KeptRows {
     pub fn keeps(&self, node: usize, slot: usize, parts: Parts<'_>) -> bool
         requires node { node < nodes_of self.now }
         requires slot { slot < slots_of self.now }
-        requires amounts { length parts.sends.now + length parts.limits.now ≡ amounts_width self.now node }
+        requires amounts { length parts.sends.now + length parts.limits.now
+            ≡ amounts_width self.now node }
         ensures { IsTrue result ↔ kept_row self.now node slot ≡ Some (joined parts.entry) }
     {
         if !self.has(node, slot) {
@@ -182,7 +183,8 @@ impl KeptRows {
     pub fn put(&mut self, node: usize, slot: usize, parts: Parts<'_>)
         requires node { node < nodes_of self.old }
         requires slot { slot < slots_of self.old }
-        requires amounts { length parts.sends.now + length parts.limits.now ≡ amounts_width self.old node }
+        requires amounts { length parts.sends.now + length parts.limits.now
+            ≡ amounts_width self.old node }
         requires weights { length parts.weights.now ≡ weights_width self.old node }
         requires narrow { AreNarrow parts }
         ensures { PutsRow self.old self.new node slot (joined parts.entry) }
@@ -234,7 +236,8 @@ impl KeptRows {
         requires room { slots ≤ row_room self.old }
         ensures same { SameRows self.old self.new }
         ensures slots { slots_of self.new ≡ slots }
-        ensures none { (u t : ℕ) → u < nodes_of self.old → slots_of self.old ≤ t → has_row self.new u t ≡ false }
+        ensures none { (u t : ℕ) → u < nodes_of self.old → slots_of self.old ≤ t
+            → has_row self.new u t ≡ false }
     {
         self.there.lengthen(slots);
         self.slots = slots;

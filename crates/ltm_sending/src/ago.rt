@@ -34,7 +34,8 @@ pub(crate) fn total_ago<K: Kind>(
     requires rest { delay.rest < step.0 }
     requires long { step.0 + delay.rest ≤ delay.slots * step.0 }
     requires rises { Rises (total_of curves.now group) slot }
-    ensures total { (time : ℕ) → IsDelay step.0 time delay → result.total ≡ earlier (total_of curves.now group) step.0 slot time }
+    ensures total { (time : ℕ) → IsDelay step.0 time delay
+        → result.total ≡ earlier (total_of curves.now group) step.0 slot time }
     ensures by { result.by ≤ slot }
     ensures reached { result.total ≤ total_of curves.now group result.by }
 {

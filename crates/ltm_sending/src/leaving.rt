@@ -37,7 +37,8 @@ pub(crate) fn waiting_on<K: Kind>(
     requires link { link.0 < (setting_of scenario.now).links }
     requires setting { IsSetting (setting_of scenario.now) }
     requires ready { IsAtFront (setting_of scenario.now) curves.now slot }
-    ensures { WaitOnLink (setting_of scenario.now) (counts_of curves.now) link.0 slot (destinations_of curves.now) result.goal result.by result.left }
+    ensures { WaitOnLink (setting_of scenario.now) (counts_of curves.now) link.0 slot
+        (destinations_of curves.now) result.goal result.by result.left }
 {
     links_are_ready();
     let limits = limits(scenario, link);
@@ -101,8 +102,10 @@ pub(crate) fn position_from<K: Kind>(
     requires kind { K.fits (destinations_of curves.now) }
     requires link { link.0 < (setting_of scenario.now).links }
     requires ready { IsAtFront (setting_of scenario.now) curves.now slot }
-    requires waiting { WaitOnLink (setting_of scenario.now) (counts_of curves.now) link.0 slot (destinations_of curves.now) waiting.goal waiting.by waiting.left }
-    ensures position { result ≡ position (setting_of scenario.now) (counts_of curves.now) link.0 slot }
+    requires waiting { WaitOnLink (setting_of scenario.now) (counts_of curves.now) link.0 slot
+        (destinations_of curves.now) waiting.goal waiting.by waiting.left }
+    ensures position { result
+        ≡ position (setting_of scenario.now) (counts_of curves.now) link.0 slot }
     ensures below { result ≤ slot }
 {
     is_setting(scenario);

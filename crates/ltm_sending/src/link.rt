@@ -28,7 +28,8 @@ fn send_parts(
 )
     requires link { link.0 < (setting_of scenario.now).links }
     requires ready { IsAtFront (setting_of scenario.now) curves.now slot }
-    requires waiting { WaitOnLink (setting_of scenario.now) (counts_of curves.now) link.0 slot (destinations_of curves.now) waiting.goal waiting.by waiting.left }
+    requires waiting { WaitOnLink (setting_of scenario.now) (counts_of curves.now) link.0 slot
+        (destinations_of curves.now) waiting.goal waiting.by waiting.left }
     requires room { length into.old ≡ (setting_of scenario.now).destinations }
     ensures { (d : ℕ) → d < (setting_of scenario.now).destinations → slice_index into.new d
         ≡ link_sending (setting_of scenario.now) (counts_of curves.now) link.0 slot d }
@@ -52,7 +53,8 @@ fn send_waiting(
 )
     requires link { link.0 < (setting_of scenario.now).links }
     requires ready { IsAtFront (setting_of scenario.now) curves.now slot }
-    requires waiting { WaitOnLink (setting_of scenario.now) (counts_of curves.now) link.0 slot (destinations_of curves.now) waiting.goal waiting.by waiting.left }
+    requires waiting { WaitOnLink (setting_of scenario.now) (counts_of curves.now) link.0 slot
+        (destinations_of curves.now) waiting.goal waiting.by waiting.left }
     requires room { length into.old ≡ (setting_of scenario.now).destinations }
     ensures { (d : ℕ) → d < (setting_of scenario.now).destinations → slice_index into.new d
         ≡ link_sending (setting_of scenario.now) (counts_of curves.now) link.0 slot d }
@@ -86,7 +88,8 @@ fn send_parts_at(
     requires link { link.0 < (setting_of scenario.now).links }
     requires ready { IsAtFront (setting_of scenario.now) curves.now slot }
     requires several { 2 ≤ destinations_of curves.now }
-    requires waiting { WaitOnLink (setting_of scenario.now) (counts_of curves.now) link.0 slot (destinations_of curves.now) goal by left }
+    requires waiting { WaitOnLink (setting_of scenario.now) (counts_of curves.now) link.0 slot
+        (destinations_of curves.now) goal by left }
     requires position { at ≡ position (setting_of scenario.now) (counts_of curves.now) link.0 slot }
     requires room { length into.old ≡ (setting_of scenario.now).destinations }
     ensures { (d : ℕ) → d < (setting_of scenario.now).destinations → slice_index into.new d
@@ -118,7 +121,8 @@ fn send_two_at(
     requires link { link.0 < (setting_of scenario.now).links }
     requires ready { IsAtFront (setting_of scenario.now) curves.now slot }
     requires two { destinations_of curves.now ≡ 2 }
-    requires waiting { WaitOnLink (setting_of scenario.now) (counts_of curves.now) link.0 slot (destinations_of curves.now) goal by left }
+    requires waiting { WaitOnLink (setting_of scenario.now) (counts_of curves.now) link.0 slot
+        (destinations_of curves.now) goal by left }
     requires position { at ≡ position (setting_of scenario.now) (counts_of curves.now) link.0 slot }
     requires room { length into.old ≡ (setting_of scenario.now).destinations }
     ensures { (d : ℕ) → d < (setting_of scenario.now).destinations → slice_index into.new d
@@ -148,7 +152,8 @@ fn send_waiting_at<K: Kind>(
     requires kind { K.fits (destinations_of curves.now) }
     requires link { link.0 < (setting_of scenario.now).links }
     requires ready { IsAtFront (setting_of scenario.now) curves.now slot }
-    requires waiting { WaitOnLink (setting_of scenario.now) (counts_of curves.now) link.0 slot (destinations_of curves.now) waiting.goal waiting.by waiting.left }
+    requires waiting { WaitOnLink (setting_of scenario.now) (counts_of curves.now) link.0 slot
+        (destinations_of curves.now) waiting.goal waiting.by waiting.left }
     requires position { at ≡ position (setting_of scenario.now) (counts_of curves.now) link.0 slot }
     requires room { length into.old ≡ (setting_of scenario.now).destinations }
     ensures { (d : ℕ) → d < (setting_of scenario.now).destinations → slice_index into.new d
@@ -202,7 +207,8 @@ pub fn link_sends<K: Kind>(
     requires room { length into.old ≡ (setting_of scenario.now).destinations }
     ensures sends { (d : ℕ) → d < (setting_of scenario.now).destinations → slice_index into.new d
         ≡ link_sending (setting_of scenario.now) (counts_of curves.now) link.0 slot d }
-    ensures position { result ≡ position (setting_of scenario.now) (counts_of curves.now) link.0 slot }
+    ensures position { result
+        ≡ position (setting_of scenario.now) (counts_of curves.now) link.0 slot }
     ensures below { result ≤ slot }
 {
     is_setting(scenario);
@@ -217,7 +223,8 @@ pub fn link_sends<K: Kind>(
 pub fn receive(scenario: &Scenario, curves: &Curves, link: LinkId, slot: u32) -> u64
     requires link { link.0 < (setting_of scenario.now).links }
     requires ready { IsAtFront (setting_of scenario.now) curves.now slot }
-    ensures value { result ≡ receiving (setting_of scenario.now) (counts_of curves.now) link.0 slot }
+    ensures value { result
+        ≡ receiving (setting_of scenario.now) (counts_of curves.now) link.0 slot }
     ensures small { result ≤ 32000 }
 {
     link_takes::<Any>(scenario, curves, link, slot)
@@ -229,7 +236,8 @@ pub fn link_takes<K: Kind>(scenario: &Scenario, curves: &Curves, link: LinkId, s
     requires kind { K.fits (destinations_of curves.now) }
     requires link { link.0 < (setting_of scenario.now).links }
     requires ready { IsAtFront (setting_of scenario.now) curves.now slot }
-    ensures value { result ≡ receiving (setting_of scenario.now) (counts_of curves.now) link.0 slot }
+    ensures value { result
+        ≡ receiving (setting_of scenario.now) (counts_of curves.now) link.0 slot }
     ensures small { result ≤ 32000 }
 {
     is_setting(scenario);

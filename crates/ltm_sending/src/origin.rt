@@ -35,7 +35,8 @@ fn queue_at<K: Kind>(scenario: &Scenario, curves: &Curves, node: NodeId, slot: u
     requires some_out { 0 < (setting_of scenario.now).outs node.0 }
     requires setting { IsSetting (setting_of scenario.now) }
     requires ready { IsAtFront (setting_of scenario.now) curves.now slot }
-    ensures { WaitAtOrigin (setting_of scenario.now) (counts_of curves.now) node.0 slot result.all result.goal result.left }
+    ensures { WaitAtOrigin (setting_of scenario.now)
+        (counts_of curves.now) node.0 slot result.all result.goal result.left }
 {
     origins_are_ready();
     let rows = Produced { scenario, node };
@@ -50,14 +51,20 @@ fn queue_at<K: Kind>(scenario: &Scenario, curves: &Curves, node: NodeId, slot: u
 #[inline(never)]
 fn send_queue(rows: &Produced<'_>, queue: Queue, boundary: u32, gone: &[u32], into: &mut [u64])
     requires boundary { boundary ≤ (setting_of rows.now.scenario.now).slots }
-    requires all { queue.all ≡ total (setting_of rows.now.scenario.now).destinations ((setting_of rows.now.scenario.now).produced rows.now.node.0) boundary }
-    requires part { IsPart (setting_of rows.now.scenario.now).destinations ((setting_of rows.now.scenario.now).produced rows.now.node.0) queue.goal boundary }
+    requires all { queue.all
+        ≡ total (setting_of rows.now.scenario.now).destinations
+        ((setting_of rows.now.scenario.now).produced rows.now.node.0) boundary }
+    requires part { IsPart (setting_of rows.now.scenario.now).destinations
+        ((setting_of rows.now.scenario.now).produced rows.now.node.0) queue.goal boundary }
     requires gone { length gone.now ≡ (setting_of rows.now.scenario.now).destinations }
     requires room { length into.old ≡ (setting_of rows.now.scenario.now).destinations }
-    requires behind { (d : ℕ) → d < (setting_of rows.now.scenario.now).destinations → slice_index gone.now d
-        ≤ first_units (setting_of rows.now.scenario.now).destinations ((setting_of rows.now.scenario.now).produced rows.now.node.0) queue.goal boundary d }
+    requires behind { (d : ℕ) → d < (setting_of rows.now.scenario.now).destinations
+        → slice_index gone.now d
+        ≤ first_units (setting_of rows.now.scenario.now).destinations
+        ((setting_of rows.now.scenario.now).produced rows.now.node.0) queue.goal boundary d }
     ensures { (d : ℕ) → d < (setting_of rows.now.scenario.now).destinations → slice_index into.new d
-        ≡ first_units (setting_of rows.now.scenario.now).destinations ((setting_of rows.now.scenario.now).produced rows.now.node.0) queue.goal boundary d - slice_index gone.now d }
+        ≡ first_units (setting_of rows.now.scenario.now).destinations
+        ((setting_of rows.now.scenario.now).produced rows.now.node.0) queue.goal boundary d - slice_index gone.now d }
 {
     if queue.goal == queue.all {
         rows.write_less(boundary, gone, into);

@@ -48,7 +48,8 @@ fn within(limit: u64, whole: u64, part: u64) -> u64
 pub(crate) fn limit_all(limit: u64, whole: u64, parts: &mut [u64])
     requires parts { (d : ℕ) → d < length parts.old → slice_index parts.old d ≤ whole }
     requires small { whole ≤ 32000 }
-    ensures { (d : ℕ) → d < length parts.old → slice_index parts.new d ≡ limited limit whole (slice_index parts.old d) }
+    ensures { (d : ℕ) → d < length parts.old
+        → slice_index parts.new d ≡ limited limit whole (slice_index parts.old d) }
 {
     if whole <= limit {
         return;
@@ -62,7 +63,8 @@ fn limit_each(limit: u64, whole: u64, parts: &mut [u64])
     requires cuts { limit < whole }
     requires parts { (d : ℕ) → d < length parts.old → slice_index parts.old d ≤ whole }
     requires small { whole ≤ 32000 }
-    ensures { (d : ℕ) → d < length parts.old → slice_index parts.new d ≡ limited limit whole (slice_index parts.old d) }
+    ensures { (d : ℕ) → d < length parts.old
+        → slice_index parts.new d ≡ limited limit whole (slice_index parts.old d) }
 {
     for part in parts.iter_mut() {
         *part = within(limit, whole, *part);

@@ -105,7 +105,8 @@ pub fn in_links(scenario: &Scenario, node: NodeId) -> &[LinkId]
     ensures count { length result.now ≡ (setting_of scenario.now).ins node.0 }
     ensures few { length result.now ≤ 4 }
     ensures links { (i : ℕ) → i < length result.now
-        → slice_index (map (λ link. link.0) result.now) i ≡ (setting_of scenario.now).in_link node.0 i }
+        → slice_index (map (λ link. link.0) result.now) i
+        ≡ (setting_of scenario.now).in_link node.0 i }
     ensures there { All (λ link. link.0 < (setting_of scenario.now).links) result.now }
 {
     scenario.network().in_links(node)
@@ -119,7 +120,8 @@ pub fn out_links(scenario: &Scenario, node: NodeId) -> &[LinkId]
     ensures count { length result.now ≡ (setting_of scenario.now).outs node.0 }
     ensures few { length result.now ≤ 4 }
     ensures links { (j : ℕ) → j < length result.now
-        → slice_index (map (λ link. link.0) result.now) j ≡ (setting_of scenario.now).out_link node.0 j }
+        → slice_index (map (λ link. link.0) result.now) j
+        ≡ (setting_of scenario.now).out_link node.0 j }
     ensures there { All (λ link. link.0 < (setting_of scenario.now).links) result.now }
 {
     scenario.network().out_links(node)
@@ -148,8 +150,10 @@ pub fn limits(scenario: &Scenario, link: LinkId) -> Limits
 #[tactic(auto, unfolding(crate::specs::Setting::setting_of))]
 pub fn delays(scenario: &Scenario, link: LinkId) -> Delays
     requires { link.0 < (setting_of scenario.now).links }
-    ensures free { IsDelay (setting_of scenario.now).step ((setting_of scenario.now).free_time link.0) result.free }
-    ensures wave { IsDelay (setting_of scenario.now).step ((setting_of scenario.now).wave_time link.0) result.wave }
+    ensures free { IsDelay (setting_of scenario.now).step
+        ((setting_of scenario.now).free_time link.0) result.free }
+    ensures wave { IsDelay (setting_of scenario.now).step
+        ((setting_of scenario.now).wave_time link.0) result.wave }
 {
     let _diagram = scenario.diagram(link);
     let _limits = scenario.limits(link);
@@ -208,7 +212,9 @@ pub fn produced(scenario: &Scenario, node: NodeId, destination: u32, boundary: u
 #[inline]
 #[tactic(auto, unfolding(crate::specs::Setting::setting_of))]
 pub fn produced_total(scenario: &Scenario, node: NodeId, boundary: u32) -> u64
-    ensures value { result ≡ total (setting_of scenario.now).destinations ((setting_of scenario.now).produced node.0) boundary }
+    ensures value { result
+        ≡ total (setting_of scenario.now).destinations
+        ((setting_of scenario.now).produced node.0) boundary }
     ensures small { result ≤ 10000000000000 }
 {
     production_never_falls();
@@ -225,9 +231,12 @@ pub fn produced_total(scenario: &Scenario, node: NodeId, boundary: u32) -> u64
 #[inline]
 #[tactic(auto, unfolding(crate::specs::Setting::setting_of))]
 pub fn weights(scenario: &Scenario, node: NodeId, destination: u32, slot: u32) -> Option<&Weights>
-    ensures some { IfSome result (λ weights. (j : ℕ) → slice_index weights.now j ≡ (setting_of scenario.now).weight node.0 destination slot j) }
-    ensures count { IfSome result (λ weights. length weights.now ≡ (setting_of scenario.now).outs node.0) }
-    ensures none { result ≡ None → (j : ℕ) → (setting_of scenario.now).weight node.0 destination slot j ≡ 0 }
+    ensures some { IfSome result (λ weights. (j : ℕ)
+        → slice_index weights.now j ≡ (setting_of scenario.now).weight node.0 destination slot j) }
+    ensures count { IfSome result (λ weights. length weights.now
+        ≡ (setting_of scenario.now).outs node.0) }
+    ensures none { result ≡ None → (j : ℕ)
+        → (setting_of scenario.now).weight node.0 destination slot j ≡ 0 }
 {
     let _setup = scenario.setup();
     scenario.splits().weights_at(node, destination, slot)

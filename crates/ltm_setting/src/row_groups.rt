@@ -57,7 +57,8 @@ impl NodeGroups {
 fn put_arms(scenario: &Scenario, node: NodeId, into: &mut NodeGroups)
     requires node { node.0 < (setting_of scenario.now).nodes }
     requires none { into.old ≡ [] }
-    ensures { into.new ≡ list_below (arms_of (setting_of scenario.now) node.0) (node_group (setting_of scenario.now) node.0) }
+    ensures { into.new ≡ list_below (arms_of (setting_of scenario.now) node.0)
+        (node_group (setting_of scenario.now) node.0) }
 {
     let _links = link_count(scenario);
     for link in in_links(scenario, node) {
@@ -72,7 +73,9 @@ fn put_arms(scenario: &Scenario, node: NodeId, into: &mut NodeGroups)
 #[inline]
 fn put_outs(scenario: &Scenario, node: NodeId, into: &mut NodeGroups)
     requires node { node.0 < (setting_of scenario.now).nodes }
-    requires arms { into.old ≡ list_below (arms_of (setting_of scenario.now) node.0) (node_group (setting_of scenario.now) node.0) }
+    requires arms { into.old
+        ≡ list_below (arms_of (setting_of scenario.now) node.0)
+        (node_group (setting_of scenario.now) node.0) }
     ensures { into.new ≡ node_groups (setting_of scenario.now) node.0 }
 {
     let _links = link_count(scenario);

@@ -32,7 +32,8 @@ pub struct Progress {
 /// The shares of the arms.
 pub fn shares(demands: &NodeDemands) -> Shares
     requires { IsSmall (demands_of demands.now) }
-    ensures { AreShares (demands_of demands.now) result.denominator (slice_index result.numerators) }
+    ensures { AreShares (demands_of demands.now) result.denominator
+        (slice_index result.numerators) }
 {
     let mut left = [0u128; OUTS];
     for out in 0..demands.outs {
@@ -92,8 +93,10 @@ fn scale(demands: &NodeDemands, progress: &mut Progress, by: u128)
     requires arms { demands.now.arms ≤ 5 }
     requires outs { demands.now.outs ≤ 4 }
     requires fits { progress.old.denominator * by < 2 ^ 127 }
-    requires numerators_fit { (i : ℕ) → i < demands.now.arms → slice_index progress.old.numerators i * by < 2 ^ 127 }
-    requires left_fits { (j : ℕ) → j < demands.now.outs → slice_index progress.old.left j * by < 2 ^ 127 }
+    requires numerators_fit { (i : ℕ) → i < demands.now.arms
+        → slice_index progress.old.numerators i * by < 2 ^ 127 }
+    requires left_fits { (j : ℕ) → j < demands.now.outs
+        → slice_index progress.old.left j * by < 2 ^ 127 }
     ensures { Scales (demands_of demands.now) by progress.old progress.new }
 {
     progress.denominator = product(progress.denominator, by);
@@ -137,7 +140,8 @@ fn settle_whole(demands: &NodeDemands, progress: &mut Progress, out: usize, weig
     requires tight { IsTightest (demands_of demands.now) progress.old demands.now.outs out weight }
     ensures sound { IsSound (demands_of demands.now) progress.new }
     ensures some { IsTrue result →
-        open_arms (demands_of demands.now) progress.new < open_arms (demands_of demands.now) progress.old }
+        open_arms (demands_of demands.now) progress.new < open_arms
+        (demands_of demands.now) progress.old }
     ensures same { IsFalse result → progress.new ≡ progress.old }
     ensures none { IsFalse result →
         (i : ℕ) → i < demands.now.arms → Uses (demands_of demands.now) i out →
@@ -171,7 +175,8 @@ fn settle_scaled(demands: &NodeDemands, progress: &mut Progress, out: usize, wei
         slice_index progress.old.left out * slice_index progress.old.pending i
         ≤ progress.old.denominator * weight }
     ensures sound { IsSound (demands_of demands.now) progress.new }
-    ensures fewer { open_arms (demands_of demands.now) progress.new < open_arms (demands_of demands.now) progress.old }
+    ensures fewer { open_arms (demands_of demands.now) progress.new < open_arms
+        (demands_of demands.now) progress.old }
 {
     let level = progress.left[out];
     scale(demands, progress, weight);

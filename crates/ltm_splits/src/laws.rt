@@ -14,15 +14,20 @@ ghost use Rattle.ltm_splits.specs.Latest.{IsLatest};
 pub fn rules_of_rows()
     ensures start { (rows : List SplitRow) → IsOrdered rows → (node : ℕ) → (destination : ℕ) →
         (begins rows node destination ≡ Some 0) ↔ IsSome (row_of rows (key_of node destination 0)) }
-    ensures none { (rows : List SplitRow) → IsOrdered rows → (node : ℕ) → (destination : ℕ) → (slot : ℕ) →
-        IsNone (row_in_force rows node destination slot) ↔ MatchOption (begins rows node destination) ⊤ (λ from. slot < from) }
-    ensures greatest { (rows : List SplitRow) → IsOrdered rows → (node : ℕ) → (destination : ℕ) → (slot : ℕ) →
+    ensures none { (rows : List SplitRow) → IsOrdered rows → (node : ℕ) → (destination : ℕ)
+        → (slot : ℕ) →
+        IsNone (row_in_force rows node destination slot)
+        ↔ MatchOption (begins rows node destination) ⊤ (λ from. slot < from) }
+    ensures greatest { (rows : List SplitRow) → IsOrdered rows → (node : ℕ) → (destination : ℕ)
+        → (slot : ℕ) →
         IfSome (row_in_force rows node destination slot) (IsLatest rows node destination slot) }
 {}
 
 /// A set leaves the row in force at other nodes, and at its own node in slots before the row's first.
 #[tactic(auto, using(crate::proofs::Stays::in_force_stays))]
 pub fn rows_stay()
-    ensures { (rows : List SplitRow) (key : SplitKey) (weights : List ℕ) (node destination slot : ℕ) → IsSilent node slot key →
-        row_in_force (put_in rows key weights) node destination slot ≡ row_in_force rows node destination slot }
+    ensures { (rows : List SplitRow) (key : SplitKey) (weights : List ℕ) (node destination slot : ℕ)
+        → IsSilent node slot key →
+        row_in_force (put_in rows key weights) node destination slot
+        ≡ row_in_force rows node destination slot }
 {}

@@ -69,9 +69,11 @@ impl NodeRows {
 
     /// Gives the row with that first slot other weights, where there is one.
     pub fn replace(&mut self, destination: u32, from: u32, weights: Weights) -> bool
-        ensures stood { result ≡ is_some (lookup (is_at (nat_cmp from)) (slice_index_or self.old destination [])) }
+        ensures stood { result
+            ≡ is_some (lookup (is_at (nat_cmp from)) (slice_index_or self.old destination [])) }
         ensures rows { self.new ≡ (if result
-            then slice_set self.old destination (insert_entry nat_cmp (slice_index_or self.old destination []) from weights)
+            then slice_set self.old destination
+            (insert_entry nat_cmp (slice_index_or self.old destination []) from weights)
             else self.old) }
     {
         if destination as usize >= self.pairs.len() {
@@ -83,9 +85,11 @@ impl NodeRows {
     /// Adds a row with a first slot that no row of the destination has.
     pub fn insert(&mut self, destination: u32, from: u32, weights: Weights) -> Result<(), NoMemory>
         requires room { destination < length self.old }
-        requires new { lookup (is_at (nat_cmp from)) (slice_index_or self.old destination []) ≡ None }
+        requires new { lookup (is_at (nat_cmp from)) (slice_index_or self.old destination [])
+            ≡ None }
         ensures ok { OnOk result
-            (self.new ≡ slice_set self.old destination (insert_entry nat_cmp (slice_index_or self.old destination []) from weights)) }
+            (self.new ≡ slice_set self.old destination
+            (insert_entry nat_cmp (slice_index_or self.old destination []) from weights)) }
         ensures err { OnErr result (self.new ≡ self.old) }
     {
         let alloc = *self.pairs.allocator();
@@ -94,8 +98,11 @@ impl NodeRows {
 
     /// Takes out the row with that first slot, where there is one.
     pub fn remove(&mut self, destination: u32, from: u32) -> bool
-        ensures stood { result ≡ is_some (lookup (is_at (nat_cmp from)) (slice_index_or self.old destination [])) }
-        ensures rows { self.new ≡ slice_set self.old destination (remove_entry (is_at (nat_cmp from)) (slice_index_or self.old destination [])) }
+        ensures stood { result
+            ≡ is_some (lookup (is_at (nat_cmp from)) (slice_index_or self.old destination [])) }
+        ensures rows { self.new
+            ≡ slice_set self.old destination
+            (remove_entry (is_at (nat_cmp from)) (slice_index_or self.old destination [])) }
     {
         if destination as usize >= self.pairs.len() {
             return false;

@@ -62,7 +62,8 @@ impl NodeTable {
     /// Makes room for rows of the node and the destination. No row changes, whatever the result.
     pub fn make_room(&mut self, node: NodeId, destination: u32) -> Result<(), NoMemory>
         ensures node { OnOk result (node.0 < length self.new) }
-        ensures destination { OnOk result (destination < length (slice_index_or self.new node.0 [])) }
+        ensures destination { OnOk result
+            (destination < length (slice_index_or self.new node.0 [])) }
         ensures lists { (n : ℕ) → (d : ℕ) → entries_at self.new n d ≡ entries_at self.old n d }
         ensures rows { rows_of_all self.new ≡ rows_of_all self.old }
     {
@@ -72,7 +73,9 @@ impl NodeTable {
 
     /// Gives the row with that key other weights, where there is one.
     pub fn replace(&mut self, key: SplitKey, weights: Weights) -> bool
-        ensures stood { result ≡ is_some (lookup (is_at (nat_cmp key.from)) (entries_at self.old key.node.0 key.destination)) }
+        ensures stood { result
+            ≡ is_some (lookup (is_at (nat_cmp key.from))
+            (entries_at self.old key.node.0 key.destination)) }
         ensures rows { self.new ≡ (if result
             then with_entries self.old key.node.0 key.destination
             (insert_entry nat_cmp (entries_at self.old key.node.0 key.destination) key.from weights)
@@ -88,7 +91,8 @@ impl NodeTable {
     pub fn insert(&mut self, key: SplitKey, weights: Weights) -> Result<(), NoMemory>
         requires node { key.node.0 < length self.old }
         requires destination { key.destination < length (slice_index_or self.old key.node.0 []) }
-        requires new { lookup (is_at (nat_cmp key.from)) (entries_at self.old key.node.0 key.destination) ≡ None }
+        requires new { lookup (is_at (nat_cmp key.from))
+            (entries_at self.old key.node.0 key.destination) ≡ None }
         ensures ok { OnOk result (self.new ≡ with_entries self.old key.node.0 key.destination
             (insert_entry nat_cmp (entries_at self.old key.node.0 key.destination) key.from weights)) }
         ensures err { OnErr result (self.new ≡ self.old) }
@@ -98,9 +102,12 @@ impl NodeTable {
 
     /// Takes out the row with that key, where there is one.
     pub fn remove(&mut self, key: SplitKey) -> bool
-        ensures stood { result ≡ is_some (lookup (is_at (nat_cmp key.from)) (entries_at self.old key.node.0 key.destination)) }
+        ensures stood { result
+            ≡ is_some (lookup (is_at (nat_cmp key.from))
+            (entries_at self.old key.node.0 key.destination)) }
         ensures rows { self.new ≡ with_entries self.old key.node.0 key.destination
-            (remove_entry (is_at (nat_cmp key.from)) (entries_at self.old key.node.0 key.destination)) }
+            (remove_entry (is_at (nat_cmp key.from))
+            (entries_at self.old key.node.0 key.destination)) }
     {
         if key.node.0 as usize >= self.nodes.len() {
             return false;
@@ -122,7 +129,8 @@ impl NodeTable {
 fn make_node(nodes: &mut Vec<NodeRows>, node: NodeId) -> Result<(), NoMemory>
     requires { vec_len nodes.old ≤ 2 ^ 32 }
     ensures node { OnOk result (node.0 < length nodes.new.items) }
-    ensures lists { (n : ℕ) → slice_index_or nodes.new.items n [] ≡ slice_index_or nodes.old.items n [] }
+    ensures lists { (n : ℕ)
+        → slice_index_or nodes.new.items n [] ≡ slice_index_or nodes.old.items n [] }
     ensures rows { rows_of_all nodes.new.items ≡ rows_of_all nodes.old.items }
     ensures few { vec_len nodes.new ≤ 2 ^ 32 }
 {

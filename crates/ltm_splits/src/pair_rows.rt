@@ -99,7 +99,8 @@ impl PairRows {
     /// Gives the row with that first slot other weights, where there is one.
     pub fn replace(&mut self, from: u32, weights: Weights) -> bool
         ensures stood { result ≡ is_some (lookup (is_at (nat_cmp from)) self.old) }
-        ensures rows { self.new ≡ (if result then insert_entry nat_cmp self.old from weights else self.old) }
+        ensures rows { self.new
+            ≡ (if result then insert_entry nat_cmp self.old from weights else self.old) }
     {
         match self.search(from) {
             Ok(place) => {

@@ -88,17 +88,22 @@ impl Splits {
         weights: &[u32],
     ) -> Result<(), SplitFault>
         requires { length weights.now ≤ 4 }
-        ensures ok { OnOk result (with_row self.old (key_of node.0 destination from) weights.now ≡ Ok self.new) }
+        ensures ok { OnOk result (with_row self.old (key_of node.0 destination from) weights.now
+            ≡ Ok self.new) }
         ensures err { OnErr result (self.new ≡ self.old) }
-        ensures cause { IfErr result (λ e. e ≢ SplitFault.NoMemory → with_row self.old (key_of node.0 destination from) weights.now ≡ Err e) }
+        ensures cause { IfErr result (λ e. e ≢ SplitFault.NoMemory
+            → with_row self.old (key_of node.0 destination from) weights.now ≡ Err e) }
         ensures slots { self.new.slots ≡ self.old.slots }
         ensures have_weights { HaveWeights self.new.rows }
-        ensures no_memory { result ≡ Err SplitFault.NoMemory → row_of self.old.rows (key_of node.0 destination from) ≡ None }
+        ensures no_memory { result ≡ Err SplitFault.NoMemory
+            → row_of self.old.rows (key_of node.0 destination from) ≡ None }
 
         // The row stands, and putting back what stood there before gives back the very rows.
-        ensures stands { OnOk result (row_of self.new.rows (key_of node.0 destination from) ≡ Some weights.now) }
+        ensures stands { OnOk result (row_of self.new.rows (key_of node.0 destination from)
+            ≡ Some weights.now) }
         ensures back { OnOk result
-            (put_back self.new.rows (key_of node.0 destination from) (row_of self.old.rows (key_of node.0 destination from)) ≡ self.old.rows) }
+            (put_back self.new.rows (key_of node.0 destination from)
+            (row_of self.old.rows (key_of node.0 destination from)) ≡ self.old.rows) }
     {
         if from >= self.slots {
             return Err(SplitFault::BadSlots);
@@ -138,7 +143,8 @@ impl Splits {
     /// The weights in force at the slot as a slice.
     #[inline]
     pub fn row_at(&self, node: NodeId, destination: u32, slot: u32) -> Option<&[u32]>
-        ensures weights { option_copied result ≡ row_in_force self.now.rows node.0 destination slot }
+        ensures weights { option_copied result
+            ≡ row_in_force self.now.rows node.0 destination slot }
         ensures some { IfSome result (λ weights. AreWeights weights.now) }
     {
         match self.weights_at(node, destination, slot) {
@@ -159,7 +165,8 @@ impl Splits {
 
     /// The weights of the row with exactly that key.
     pub fn row(&self, node: NodeId, destination: u32, from: u32) -> Option<&[u32]>
-        ensures weights { option_copied result ≡ row_of self.now.rows (key_of node.0 destination from) }
+        ensures weights { option_copied result
+            ≡ row_of self.now.rows (key_of node.0 destination from) }
         ensures some { IfSome result (λ weights. AreWeights weights.now) }
     {
         match self.table.pair(node, destination) {
@@ -198,7 +205,9 @@ impl Splits {
     pub fn put_back(&mut self, node: NodeId, destination: u32, from: u32, weights: &[u32])
         requires stands { IsSome (row_of self.old.rows (key_of node.0 destination from)) }
         requires weights { AreWeights weights.now }
-        ensures rows { self.new ≡ with_rows self.old (put_in self.old.rows (key_of node.0 destination from) weights.now) }
+        ensures rows { self.new
+            ≡ with_rows self.old (put_in self.old.rows
+            (key_of node.0 destination from) weights.now) }
         ensures have_weights { HaveWeights self.new.rows }
     {
         let key = SplitKey {
@@ -214,7 +223,8 @@ impl Splits {
 
     /// Takes out the row with that key, as to undo a `set`, and leaves all others. No memory is taken.
     pub fn take_out(&mut self, node: NodeId, destination: u32, from: u32)
-        ensures rows { self.new ≡ with_rows self.old (taken_out self.old.rows (key_of node.0 destination from)) }
+        ensures rows { self.new
+            ≡ with_rows self.old (taken_out self.old.rows (key_of node.0 destination from)) }
         ensures have_weights { HaveWeights self.new.rows }
     {
         let key = SplitKey {
@@ -242,10 +252,12 @@ impl Splits {
     fn replace(&mut self, key: SplitKey, weights: Weights) -> bool
         requires { AreWeights weights }
         ensures stood { result ≡ is_some (row_of self.old.rows key) }
-        ensures rows { self.new ≡ (if result then with_rows self.old (put_in self.old.rows key weights) else self.old) }
+        ensures rows { self.new
+            ≡ (if result then with_rows self.old (put_in self.old.rows key weights) else self.old) }
         ensures have_weights { HaveWeights self.new.rows }
         ensures stands { IsTrue result → row_of self.new.rows key ≡ Some weights }
-        ensures back { IsTrue result → put_back self.new.rows key (row_of self.old.rows key) ≡ self.old.rows }
+        ensures back { IsTrue result
+            → put_back self.new.rows key (row_of self.old.rows key) ≡ self.old.rows }
     {
         self.table.replace(key, weights)
     }
@@ -255,11 +267,13 @@ impl Splits {
         requires new { row_of self.old.rows key ≡ None }
         requires few { length self.old.rows < 50000 }
         requires weights { AreWeights weights }
-        ensures ok { OnOk result (self.new ≡ with_rows self.old (put_in self.old.rows key weights)) }
+        ensures ok { OnOk result (self.new
+            ≡ with_rows self.old (put_in self.old.rows key weights)) }
         ensures err { OnErr result (self.new ≡ self.old) }
         ensures have_weights { HaveWeights self.new.rows }
         ensures stands { OnOk result (row_of self.new.rows key ≡ Some weights) }
-        ensures back { OnOk result (put_back self.new.rows key (row_of self.old.rows key) ≡ self.old.rows) }
+        ensures back { OnOk result (put_back self.new.rows key (row_of self.old.rows key)
+            ≡ self.old.rows) }
     {
         self.table.make_room(key.node, key.destination)?;
         self.table.insert(key, weights)?;

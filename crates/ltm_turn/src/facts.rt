@@ -10,8 +10,12 @@ use crate::Told;
 /// number that no view exceeds; and that a holder can put back only a value of which both hold.
 pub fn holds_between_steps<T: Told>()
     ensures one_holder { (s : _) → IsTurn (boxed T.entries) (boxed T.number) s → OneHolder s }
-    ensures home_when_free { (s : _) → IsTurn (boxed T.entries) (boxed T.number) s → HomeWhenFree s }
-    ensures editors_list { (s : _) → IsTurn (boxed T.entries) (boxed T.number) s → EditorsList (boxed T.entries) s }
-    ensures number_never_falls { (s : _) → IsTurn (boxed T.entries) (boxed T.number) s → NumberNeverFalls (boxed T.number) s }
-    ensures may_be_put_back { (s : _) → IsTurn (boxed T.entries) (boxed T.number) s → MayBePutBack (boxed T.entries) (boxed T.number) s }
+    ensures home_when_free { (s : _) → IsTurn (boxed T.entries) (boxed T.number) s
+        → HomeWhenFree s }
+    ensures editors_list { (s : _) → IsTurn (boxed T.entries) (boxed T.number) s
+        → EditorsList (boxed T.entries) s }
+    ensures number_never_falls { (s : _) → IsTurn (boxed T.entries) (boxed T.number) s
+        → NumberNeverFalls (boxed T.number) s }
+    ensures may_be_put_back { (s : _) → IsTurn (boxed T.entries) (boxed T.number) s
+        → MayBePutBack (boxed T.entries) (boxed T.number) s }
 {}

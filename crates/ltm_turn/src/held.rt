@@ -18,7 +18,9 @@ impl<T: Told> EditorHeld<T> {
 
     /// The value, to be changed: what is written stands in the held turn.
     pub fn get_mut(&mut self) -> &mut T
-        ensures* writes_back { sem 𝓛 (Lends (editor_row T.row T.Entry.row T.Told) T.row self.entry result (with_editor_value self.old)) }
+        ensures* writes_back { sem 𝓛 (Lends
+            (editor_row T.row T.Entry.row T.Told) T.row self.entry result
+            (with_editor_value self.old)) }
         ensures value { result.now ≡ editor_value self.old }
     {
         self.value.as_mut()
@@ -35,7 +37,9 @@ impl<T: Told> WorkerHeld<T> {
 
     /// The value, to be changed: what is written stands in the held turn.
     pub fn get_mut(&mut self) -> &mut T
-        ensures* writes_back { sem 𝓛 (Lends (worker_row T.row T.Entry.row T.Told) T.row self.entry result (with_worker_value self.old)) }
+        ensures* writes_back { sem 𝓛 (Lends
+            (worker_row T.row T.Entry.row T.Told) T.row self.entry result
+            (with_worker_value self.old)) }
         ensures value { result.now ≡ worker_value self.old }
     {
         self.value.as_mut()

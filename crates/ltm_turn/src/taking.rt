@@ -16,9 +16,13 @@ impl<T: Told> Turn<T> {
     // Takes the turn if it is free, and the value out of its slot.
     fn try_acquire(&self, seat: &mut Seat<Option<Box<T>>, View<T::Entry>>) -> Option<Box<T>>
         requires table { seat.old.table_id ≡ self.now.table.shared.table_id }
-        requires idle { (seat.old.me.1 ≡ []) × (seat.old.me.0.editor ≡ false → seat.old.me.0.works ≡ true) }
+        requires idle { (seat.old.me.1 ≡ [])
+            × (seat.old.me.0.editor ≡ false → seat.old.me.0.works ≡ true) }
         ensures table { seat.new.table_id ≡ seat.old.table_id }
-        ensures won { IfSome result (λ x. (seat.new.me ≡ (holding seat.old.me.0 (T.entries x.value) (T.number x.value), (0, None) ∷ [])) × (seat.old.me.0.number ≤ T.number x.value) × (seat.old.me.0.editor ≡ true → T.entries x.value ≡ seat.old.me.0.entries)) }
+        ensures won { IfSome result (λ x. (seat.new.me
+            ≡ (holding seat.old.me.0 (T.entries x.value) (T.number x.value), (0, None) ∷ []))
+            × (seat.old.me.0.number ≤ T.number x.value)
+            × (seat.old.me.0.editor ≡ true → T.entries x.value ≡ seat.old.me.0.entries)) }
         ensures lost { result ≡ None → seat.new.me ≡ seat.old.me }
     {
         if self.table.shared.compare_exchange::<Take>(seat, 0, 0, 1) == 0 {
@@ -30,10 +34,17 @@ impl<T: Told> Turn<T> {
     // Waits until the turn is free, and takes it.
     fn acquire<R: Wait>(&self, rt: &R, seat: &mut Seat<Option<Box<T>>, View<T::Entry>>) -> Box<T>
         requires table { seat.old.table_id ≡ self.now.table.shared.table_id }
-        requires idle { (seat.old.me.1 ≡ []) × (seat.old.me.0.editor ≡ false → seat.old.me.0.works ≡ true) }
-        ensures seat { (seat.new.table_id ≡ seat.old.table_id) × (seat.new.me ≡ (holding seat.old.me.0 (T.entries result.value) (T.number result.value), (0, None) ∷ [])) }
+        requires idle { (seat.old.me.1 ≡ [])
+            × (seat.old.me.0.editor ≡ false → seat.old.me.0.works ≡ true) }
+        ensures seat { (seat.new.table_id ≡ seat.old.table_id)
+            × (seat.new.me
+            ≡ (
+              holding seat.old.me.0 (T.entries result.value) (T.number result.value),
+              (0, None) ∷ [],
+            )) }
         ensures number { seat.old.me.0.number ≤ T.number result.value }
-        ensures list { seat.old.me.0.editor ≡ true → T.entries result.value ≡ seat.old.me.0.entries }
+        ensures list { seat.old.me.0.editor ≡ true
+            → T.entries result.value ≡ seat.old.me.0.entries }
     {
         let backoff = Backoff::new();
         for _ in rt.forever() {
@@ -48,10 +59,14 @@ impl<T: Told> Turn<T> {
     // Puts the value into its slot, notes it, and frees the turn.
     fn release(&self, seat: &mut Seat<Option<Box<T>>, View<T::Entry>>, value: Box<T>)
         requires table { seat.old.table_id ≡ self.now.table.shared.table_id }
-        requires holds { (seat.old.me.1 ≡ (0, None) ∷ []) × (seat.old.me.0.holds ≡ true) × (seat.old.me.0.editor ≡ false → seat.old.me.0.works ≡ true) }
-        requires list { seat.old.me.0.editor ≡ false → T.entries value.value ≡ seat.old.me.0.entries }
+        requires holds { (seat.old.me.1 ≡ (0, None) ∷ []) × (seat.old.me.0.holds ≡ true)
+            × (seat.old.me.0.editor ≡ false → seat.old.me.0.works ≡ true) }
+        requires list { seat.old.me.0.editor ≡ false
+            → T.entries value.value ≡ seat.old.me.0.entries }
         requires number { seat.old.me.0.number ≤ T.number value.value }
-        ensures { (seat.new.table_id ≡ seat.old.table_id) × (seat.new.me ≡ (idle (holding seat.old.me.0 (T.entries value.value) (T.number value.value)), [])) }
+        ensures { (seat.new.table_id ≡ seat.old.table_id)
+            × (seat.new.me
+            ≡ (idle (holding seat.old.me.0 (T.entries value.value) (T.number value.value)), [])) }
     {
         let taken = self.table.shared.exchange(seat, 0, Some(value));
         let None = taken else { unreachable!() };
@@ -64,8 +79,10 @@ impl<T: Told> Turn<T> {
     pub fn take_editor<R: Wait>(&self, rt: &R, pass: EditorPass<T>) -> EditorHeld<T>
         requires { editor_turn pass ≡ turn_id self.now }
         ensures turn { editor_held_turn result ≡ editor_turn pass }
-        ensures list { (T.entries (editor_value result) ≡ editor_list pass) × (editor_found result ≡ editor_list pass) }
-        ensures number { (editor_seen pass ≤ T.number (editor_value result)) × (editor_found_number result ≡ T.number (editor_value result)) }
+        ensures list { (T.entries (editor_value result) ≡ editor_list pass)
+            × (editor_found result ≡ editor_list pass) }
+        ensures number { (editor_seen pass ≤ T.number (editor_value result))
+            × (editor_found_number result ≡ T.number (editor_value result)) }
         ensures workers { editor_held_workers result ≡ editor_workers pass }
     {
         let (mut seat, workers) = pass.open();
@@ -81,7 +98,8 @@ impl<T: Told> Turn<T> {
         requires { worker_turn pass ≡ turn_id self.now }
         ensures turn { worker_held_turn result ≡ worker_turn pass }
         ensures list { worker_found result ≡ T.entries (worker_value result) }
-        ensures number { (worker_seen pass ≤ T.number (worker_value result)) × (worker_found_number result ≡ T.number (worker_value result)) }
+        ensures number { (worker_seen pass ≤ T.number (worker_value result))
+            × (worker_found_number result ≡ T.number (worker_value result)) }
     {
         let mut seat = pass.open();
         let value = self.acquire(rt, &mut seat);
@@ -94,9 +112,12 @@ impl<T: Told> Turn<T> {
     /// The same, without waiting: where another holds the turn, the pass comes back, and has seen no more than before.
     pub fn try_take_worker(&self, pass: WorkerPass<T>) -> Result<WorkerHeld<T>, WorkerPass<T>>
         requires { worker_turn pass ≡ turn_id self.now }
-        ensures taken { IfOk result (λ held. (worker_held_turn held ≡ worker_turn pass) × (worker_found held ≡ T.entries (worker_value held))
-            × (worker_seen pass ≤ T.number (worker_value held)) × (worker_found_number held ≡ T.number (worker_value held))) }
-        ensures busy { IfErr result (λ back. (worker_turn back ≡ worker_turn pass) × (worker_seen back ≡ worker_seen pass)) }
+        ensures taken { IfOk result (λ held. (worker_held_turn held ≡ worker_turn pass)
+            × (worker_found held ≡ T.entries (worker_value held))
+            × (worker_seen pass ≤ T.number (worker_value held))
+            × (worker_found_number held ≡ T.number (worker_value held))) }
+        ensures busy { IfErr result (λ back. (worker_turn back ≡ worker_turn pass)
+            × (worker_seen back ≡ worker_seen pass)) }
     {
         let mut seat = pass.open();
         match self.try_acquire(&mut seat) {

@@ -15,7 +15,9 @@ impl<T: Told> Turn<T> {
     /// A free turn, and the pass of its editor, which has seen the value and has no workers. Where memory is not found the
     /// value comes back.
     pub fn create(alloc: Global, value: T) -> Result<(Turn<T>, EditorPass<T>), (T, NoMemory)>
-        ensures ok { IfOk result (λ r. (editor_turn r.1 ≡ turn_id r.0) × (editor_list r.1 ≡ T.entries value) × (editor_seen r.1 ≡ T.number value) × (editor_workers r.1 ≡ 0)) }
+        ensures ok { IfOk result (λ r. (editor_turn r.1 ≡ turn_id r.0)
+            × (editor_list r.1 ≡ T.entries value) × (editor_seen r.1 ≡ T.number value)
+            × (editor_workers r.1 ≡ 0)) }
         ensures err { IfErr result (λ r. r.0 ≡ value) }
     {
         let about = Snapshot::of(&value);
@@ -35,7 +37,9 @@ impl<T: Told> Turn<T> {
         boxed: Box<T>,
     ) -> Result<(Turn<T>, EditorPass<T>), (T, NoMemory)>
         requires { about.now.value ≡ boxed.value }
-        ensures ok { IfOk result (λ r. (editor_turn r.1 ≡ turn_id r.0) × (editor_list r.1 ≡ T.entries boxed.value) × (editor_seen r.1 ≡ T.number boxed.value) × (editor_workers r.1 ≡ 0)) }
+        ensures ok { IfOk result (λ r. (editor_turn r.1 ≡ turn_id r.0)
+            × (editor_list r.1 ≡ T.entries boxed.value) × (editor_seen r.1 ≡ T.number boxed.value)
+            × (editor_workers r.1 ≡ 0)) }
         ensures err { IfErr result (λ r. r.0 ≡ boxed.value) }
     {
         let mut slots = Vec::new(alloc);
@@ -67,8 +71,10 @@ impl<T: Told> Turn<T> {
     pub fn split(&self, editor: &mut EditorPass<T>) -> WorkerPass<T>
         requires turn { editor_turn editor.old ≡ turn_id self.now }
         requires room { editor_workers editor.old < 64 }
-        ensures turn { (editor_turn editor.new ≡ editor_turn editor.old) × (worker_turn result ≡ editor_turn editor.old) }
-        ensures editor { (editor_list editor.new ≡ editor_list editor.old) × (editor_seen editor.new ≡ editor_seen editor.old) }
+        ensures turn { (editor_turn editor.new ≡ editor_turn editor.old)
+            × (worker_turn result ≡ editor_turn editor.old) }
+        ensures editor { (editor_list editor.new ≡ editor_list editor.old)
+            × (editor_seen editor.new ≡ editor_seen editor.old) }
         ensures workers { editor_workers editor.new ≡ editor_workers editor.old + 1 }
         ensures worker { worker_seen result ≡ editor_seen editor.old }
     {
@@ -80,10 +86,12 @@ impl<T: Told> Turn<T> {
 
     /// Ends a worker's pass. What it has seen the editor has seen too.
     pub fn join(&self, editor: &mut EditorPass<T>, worker: WorkerPass<T>)
-        requires turn { (editor_turn editor.old ≡ turn_id self.now) × (worker_turn worker ≡ turn_id self.now) }
+        requires turn { (editor_turn editor.old ≡ turn_id self.now)
+            × (worker_turn worker ≡ turn_id self.now) }
         ensures turn { editor_turn editor.new ≡ editor_turn editor.old }
         ensures list { editor_list editor.new ≡ editor_list editor.old }
-        ensures number { editor_seen editor.new ≡ max (editor_seen editor.old) (worker_seen worker) }
+        ensures number { editor_seen editor.new
+            ≡ max (editor_seen editor.old) (worker_seen worker) }
         ensures workers { editor_workers editor.new ≡ editor_workers editor.old - 1 }
     {
         let other = worker.open();

@@ -24,7 +24,8 @@ const CAP: u64 = 1 << 40;
 #[tactic(auto, using(crate::proofs::Digits::steps))]
 fn value_of(digits: &[u8]) -> Option<u64>
     requires { list_all is_digit digits.now ≡ true }
-    ensures { result ≡ (if nat_lt (value digits.now) (2 ^ 64) then Some (value digits.now) else None) }
+    ensures { result ≡ (if nat_lt (value digits.now) (2 ^ 64) then Some
+        (value digits.now) else None) }
 {
     let mut sum: u64 = 0;
     for d in digits {
@@ -75,7 +76,8 @@ pub fn read_whole(text: &[u8]) -> Option<u32>
 /// Whether no amount has this byte at this place of a text of this length, behind a point or not.
 fn is_bad(byte: u8, place: usize, len: usize, has_point: bool) -> bool
     requires { place < len }
-    ensures { result ≡ (not (is_digit byte) && (not (is_point byte) || (place == 0) || (place + 1 == len) || has_point)) }
+    ensures { result ≡ (not (is_digit byte) && (not (is_point byte) || (place == 0) || (place
+        + 1 == len) || has_point)) }
 {
     !(byte >= 48 && byte <= 57) && (byte != b'.' || place == 0 || place + 1 == len || has_point)
 }
@@ -151,7 +153,8 @@ fn tell(text: &[u8]) -> Result<Units, NumberFault>
 pub fn read_vehicles(text: &[u8]) -> Result<Units, NumberFault>
     ensures value { result ≡ vehicles text.now }
     ensures small { IfOk result (λ units. units.0 ≤ 1000000000) }
-    ensures bad_byte { (place : ℕ) → (result ≡ Err (NumberFault.BadByte place)) ↔ IsFirstBad text.now place }
+    ensures bad_byte { (place : ℕ)
+        → (result ≡ Err (NumberFault.BadByte place)) ↔ IsFirstBad text.now place }
 {
     tell(text)
 }

@@ -33,7 +33,8 @@ pub fn append_number(into: &mut Vec<u8>, words: &[u8], number: u128)
 
 /// The point of an amount and the three digits behind it.
 fn decimals(amount: u64) -> [u8; 4]
-    ensures { result ≡ 46 ∷ (48 + amount % 1000 / 100) ∷ (48 + amount % 100 / 10) ∷ (48 + amount % 10) ∷ [] }
+    ensures { result ≡ 46 ∷ (48 + amount % 1000 / 100) ∷ (48 + amount % 100 / 10) ∷ (48
+        + amount % 10) ∷ [] }
 {
     [
         b'.',

@@ -71,7 +71,8 @@ fn follow(core: &mut Core, hands: &mut Hands, schedule: &[u8], steps: &mut Steps
     requires none { all_held hands.old ≡ none_held }
     requires kept { AreHandsKept core.old hands.old }
     requires full { All IsSome hands.old }
-    ensures followed { TellsFollowed core.old steps.old schedule.now result (all_held hands.new) core.new steps.new }
+    ensures followed { TellsFollowed core.old steps.old schedule.now result
+        (all_held hands.new) core.new steps.new }
     ensures keeps { KeepsButWork core.old core.new }
     ensures kept { AreHandsKept core.new hands.new }
     ensures full { All IsSome hands.new }

@@ -16,7 +16,8 @@ pub(crate) fn claim_as_editor<R: Wait>(
     scratch: Scratch,
 ) -> (EditorPass<Core>, Claimed)
     requires { editor_turn editor ≡ turn_id turn.now }
-    ensures turn { (editor_turn result.0 ≡ turn_id turn.now) × (editor_workers result.0 ≡ editor_workers editor) }
+    ensures turn { (editor_turn result.0 ≡ turn_id turn.now)
+        × (editor_workers result.0 ≡ editor_workers editor) }
     ensures list { editor_list result.0 ≡ editor_list editor }
     ensures seen { editor_seen editor ≤ editor_seen result.0 }
 {
@@ -33,7 +34,8 @@ pub(crate) fn commit_as_editor<R: Wait>(
     done: Done,
 ) -> (EditorPass<Core>, Scratch)
     requires { editor_turn editor ≡ turn_id turn.now }
-    ensures turn { (editor_turn result.0 ≡ turn_id turn.now) × (editor_workers result.0 ≡ editor_workers editor) }
+    ensures turn { (editor_turn result.0 ≡ turn_id turn.now)
+        × (editor_workers result.0 ≡ editor_workers editor) }
     ensures list { editor_list result.0 ≡ editor_list editor }
     ensures seen { editor_seen editor ≤ editor_seen result.0 }
 {
@@ -49,7 +51,8 @@ pub(crate) fn show_as_editor<R: Wait>(
     editor: EditorPass<Core>,
 ) -> EditorPass<Core>
     requires { editor_turn editor ≡ turn_id turn.now }
-    ensures turn { (editor_turn result ≡ turn_id turn.now) × (editor_workers result ≡ editor_workers editor) }
+    ensures turn { (editor_turn result ≡ turn_id turn.now)
+        × (editor_workers result ≡ editor_workers editor) }
     ensures list { editor_list result ≡ editor_list editor }
     ensures seen { editor_seen editor ≤ editor_seen result }
 {
@@ -87,9 +90,11 @@ pub(crate) fn count_as_editor<R: Wait>(
     editor: EditorPass<Core>,
 ) -> (EditorPass<Core>, Option<Settled>)
     requires { editor_turn editor ≡ turn_id turn.now }
-    ensures turn { (editor_turn result.0 ≡ turn_id turn.now) × (editor_workers result.0 ≡ editor_workers editor) }
+    ensures turn { (editor_turn result.0 ≡ turn_id turn.now)
+        × (editor_workers result.0 ≡ editor_workers editor) }
     ensures none { result.1 ≡ None → editor_list result.0 ≡ editor_list editor }
-    ensures some { IfSome result.1 (λ n. SettlesBeside (editor_list editor) n.version n.count (editor_list result.0) (editor_seen result.0)) }
+    ensures some { IfSome result.1 (λ n. SettlesBeside (editor_list editor) n.version n.count
+        (editor_list result.0) (editor_seen result.0)) }
     ensures seen { editor_seen editor ≤ editor_seen result.0 }
 {
     logs_tell_all();
@@ -103,7 +108,8 @@ pub(crate) fn count_as_editor<R: Wait>(
 /// Stops the core, and tells all workers, so that each ends.
 pub fn stop_beside<R: Wait>(rt: &R, turn: &Turn<Core>, editor: EditorPass<Core>) -> EditorPass<Core>
     requires { editor_turn editor ≡ turn_id turn.now }
-    ensures turn { (editor_turn result ≡ turn_id turn.now) × (editor_workers result ≡ editor_workers editor) }
+    ensures turn { (editor_turn result ≡ turn_id turn.now)
+        × (editor_workers result ≡ editor_workers editor) }
     ensures list { editor_list result ≡ editor_list editor }
     ensures seen { editor_seen editor ≤ editor_seen result }
 {

@@ -21,8 +21,10 @@ pub fn settle_beside<R: Wait>(
     scratch: Scratch,
 ) -> (EditorPass<Core>, Scratch, Settled)
     requires { editor_turn editor ≡ turn_id turn.now }
-    ensures turn { (editor_turn result.0 ≡ turn_id turn.now) × (editor_workers result.0 ≡ editor_workers editor) }
-    ensures settled { SettlesBeside (editor_list editor) result.2.version result.2.count (editor_list result.0) (editor_seen result.0) }
+    ensures turn { (editor_turn result.0 ≡ turn_id turn.now)
+        × (editor_workers result.0 ≡ editor_workers editor) }
+    ensures settled { SettlesBeside (editor_list editor) result.2.version result.2.count
+        (editor_list result.0) (editor_seen result.0) }
 {
     let backoff = Backoff::new();
     let mut steps = Steps::new();

@@ -77,7 +77,8 @@ fn act_with(core: &mut Core, hand: Hand, byte: u8, steps: &mut Steps) -> (Act, H
 pub(crate) fn turn(core: &mut Core, hands: &mut Hands, byte: u8, steps: &mut Steps) -> Act
     requires kept { AreHandsKept core.old hands.old }
     requires full { All IsSome hands.old }
-    ensures act { TellsTurn byte core.old (all_held hands.old) result core.new (all_held hands.new) }
+    ensures act { TellsTurn byte core.old (all_held hands.old) result core.new
+        (all_held hands.new) }
     ensures ticks { steps.new ≡ min (steps.old + committed result) u64.MAX }
     ensures keeps { KeepsButWork core.old core.new }
     ensures kept { AreHandsKept core.new hands.new }

@@ -8,9 +8,11 @@ use ltm_units::sum_of;
 fn add_many(row: &mut [u32], amounts: &[u64]) -> u64
     requires count { length row.old ≡ length amounts.now }
     requires few { length amounts.now ≤ 64 }
-    requires small { (d : ℕ) → d < length amounts.now → slice_index row.old d + slice_index amounts.now d < 2 ^ 31 }
+    requires small { (d : ℕ) → d < length amounts.now
+        → slice_index row.old d + slice_index amounts.now d < 2 ^ 31 }
     ensures whole { result ≡ sum amounts.now }
-    ensures added { (d : ℕ) → d < length amounts.now → slice_index row.new d ≡ slice_index row.old d + slice_index amounts.now d }
+    ensures added { (d : ℕ) → d < length amounts.now
+        → slice_index row.new d ≡ slice_index row.old d + slice_index amounts.now d }
 {
     let mut whole = 0u64;
     for destination in 0..row.len() {
@@ -26,8 +28,10 @@ fn add_many(row: &mut [u32], amounts: &[u64]) -> u64
 fn add_both(row: &mut [u32], amounts: &[u64])
     requires counts { length row.old ≡ 2 }
     requires count { length amounts.now ≡ 2 }
-    requires small { (d : ℕ) → d < length amounts.now → slice_index row.old d + slice_index amounts.now d < 2 ^ 31 }
-    ensures { (d : ℕ) → d < length amounts.now → slice_index row.new d ≡ slice_index row.old d + slice_index amounts.now d }
+    requires small { (d : ℕ) → d < length amounts.now
+        → slice_index row.old d + slice_index amounts.now d < 2 ^ 31 }
+    ensures { (d : ℕ) → d < length amounts.now
+        → slice_index row.new d ≡ slice_index row.old d + slice_index amounts.now d }
 {
     row[0] += amounts[0] as u32;
     row[1] += amounts[1] as u32;

@@ -19,7 +19,8 @@ pub(crate) fn reserve_to<T>(table: &mut Vec<T>, size: usize) -> Result<(), NoMem
 pub(crate) fn fill_to<T: Copy>(table: &mut Vec<T>, number: T, size: usize)
     requires longer { length table.old.items ≤ size }
     requires room { size ≤ vec_capacity table.old }
-    ensures items { table.new.items ≡ table.old.items ++ replicate (size - length table.old.items) number }
+    ensures items { table.new.items
+        ≡ table.old.items ++ replicate (size - length table.old.items) number }
     ensures room { vec_capacity table.old ≤ vec_capacity table.new }
 {
     for _place in table.len()..size {
@@ -67,8 +68,10 @@ impl Curves {
         requires room { slots ≤ room_of self.old }
         ensures shape { HasShape self.new (groups_of self.old) (destinations_of self.old) slots }
         ensures room { room_of self.new ≡ room_of self.old }
-        ensures kept { (g d k : ℕ) → IsIn self.old g d k → counts_of self.new g d k ≡ counts_of self.old g d k }
-        ensures empty { (g d k : ℕ) → IsIn self.new g d k → slots_of self.old < k → counts_of self.new g d k ≡ 0 }
+        ensures kept { (g d k : ℕ) → IsIn self.old g d k
+            → counts_of self.new g d k ≡ counts_of self.old g d k }
+        ensures empty { (g d k : ℕ) → IsIn self.new g d k → slots_of self.old < k
+            → counts_of self.new g d k ≡ 0 }
     {
         let rows = (slots as usize + 1) * self.groups as usize;
         fill_to(&mut self.counts, 0u32, rows * self.destinations as usize);

@@ -13,7 +13,8 @@ impl Curves {
         requires boundary { boundary ≤ slots_of self.now }
         ensures several { 2 ≤ destinations_of self.now → length result.now ≡ groups_of self.now }
         ensures few { destinations_of self.now < 2 → length result.now ≡ 0 }
-        ensures totals { (g : ℕ) → g < length result.now → slice_index result.now g ≡ total_of self.now g boundary }
+        ensures totals { (g : ℕ) → g < length result.now
+            → slice_index result.now g ≡ total_of self.now g boundary }
     {
         if self.destinations < 2 {
             return &self.totals[..0];
@@ -29,7 +30,8 @@ impl Curves {
         requires boundary { boundary ≤ slots_of self.now }
         ensures one { destinations_of self.now ≡ 1 → length result.now ≡ groups_of self.now }
         ensures others { destinations_of self.now ≢ 1 → length result.now ≡ 0 }
-        ensures totals { (g : ℕ) → g < length result.now → slice_index result.now g ≡ total_of self.now g boundary }
+        ensures totals { (g : ℕ) → g < length result.now
+            → slice_index result.now g ≡ total_of self.now g boundary }
     {
         if self.destinations != 1 {
             return &self.counts[..0];

@@ -29,9 +29,11 @@ impl TotalCurves {
         requires small { AreNarrow curves.now }
         requires boundary { boundary ≤ slots_of curves.now }
         ensures shape { HasTotals self.new (groups_of curves.now) (slots_of curves.now) }
-        ensures copied { (g : ℕ) → g + 1 < groups_of curves.now → total_at self.new g boundary ≡ total_of curves.now g boundary }
+        ensures copied { (g : ℕ) → g + 1 < groups_of curves.now
+            → total_at self.new g boundary ≡ total_of curves.now g boundary }
         ensures others { (g k : ℕ) → IsTotal self.old g k
-            → (total_at self.new g k ≡ total_of curves.now g k) ⊎ (total_at self.new g k ≡ total_at self.old g k) }
+            → (total_at self.new g k ≡ total_of curves.now g k)
+            ⊎ (total_at self.new g k ≡ total_at self.old g k) }
     {
         let totals = curves.totals_at(boundary);
         let counts = curves.only_counts_at(boundary);
@@ -70,10 +72,12 @@ impl TotalCurves {
         requires cells { HasCells changed.now (groups_of curves.now) (slots_of curves.now) }
         requires boundary { boundary ≤ slots_of curves.now }
         ensures shape { HasTotals self.new (groups_of curves.now) (slots_of curves.now) }
-        ensures copied { (g : ℕ) → g + 1 < groups_of curves.now → is_changed changed.now g boundary ≡ true
+        ensures copied { (g : ℕ) → g + 1 < groups_of curves.now
+            → is_changed changed.now g boundary ≡ true
             → total_at self.new g boundary ≡ total_of curves.now g boundary }
         ensures others { (g k : ℕ) → IsTotal self.old g k
-            → (total_at self.new g k ≡ total_of curves.now g k) ⊎ (total_at self.new g k ≡ total_at self.old g k) }
+            → (total_at self.new g k ≡ total_of curves.now g k)
+            ⊎ (total_at self.new g k ≡ total_at self.old g k) }
     {
         let totals = curves.totals_at(boundary);
         let counts = curves.only_counts_at(boundary);
@@ -106,7 +110,8 @@ impl TotalCurves {
         requires shape { HasTotals self.old (groups_of curves.now) (slots_of curves.now) }
         requires small { AreNarrow curves.now }
         requires cells { HasCells changed.now (groups_of curves.now) (slots_of curves.now) }
-        requires outside { (g k : ℕ) → g < groups_of curves.now → k ≤ slots_of curves.now → is_changed changed.now g k ≡ false
+        requires outside { (g k : ℕ) → g < groups_of curves.now → k ≤ slots_of curves.now
+            → is_changed changed.now g k ≡ false
             → total_at self.old g k ≡ total_of curves.now g k }
         ensures { AreTotalsOf self.new curves.now }
     {

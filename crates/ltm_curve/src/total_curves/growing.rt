@@ -39,8 +39,10 @@ impl TotalCurves {
         requires room { slots ≤ total_room self.old }
         ensures shape { HasTotals self.new (total_groups self.old) slots }
         ensures room { total_room self.new ≡ total_room self.old }
-        ensures kept { (g k : ℕ) → IsTotal self.old g k → total_at self.new g k ≡ total_at self.old g k }
-        ensures empty { (g k : ℕ) → IsTotal self.new g k → total_slots self.old < k → total_at self.new g k ≡ 0 }
+        ensures kept { (g k : ℕ) → IsTotal self.old g k
+            → total_at self.new g k ≡ total_at self.old g k }
+        ensures empty { (g k : ℕ) → IsTotal self.new g k → total_slots self.old < k
+            → total_at self.new g k ≡ 0 }
     {
         fill_to(&mut self.totals, 0u32, table_size(self.narrow, slots));
         fill_to(&mut self.last, 0u64, slots as usize + 1);

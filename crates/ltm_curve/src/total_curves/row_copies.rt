@@ -29,7 +29,8 @@ fn copy_word(into: &mut [u32], totals: &[u64], counts: &[u32], first: usize, wor
     requires first { first ≤ 2 ^ 32 }
     requires narrow { FitsNarrow totals.now counts.now (length into.old) }
     ensures count { length into.new ≡ length into.old }
-    ensures copied { (g : ℕ) → g < length into.old → first ≤ g → g < first + 64 → bit_at word (g - first) ≡ 1
+    ensures copied { (g : ℕ) → g < length into.old → first ≤ g → g < first + 64
+        → bit_at word (g - first) ≡ 1
         → slice_index into.new g ≡ total_in totals.now counts.now g }
     ensures others { StaysOrIsTotal totals.now counts.now into.old into.new }
 {
@@ -77,7 +78,8 @@ pub(super) fn copy_words(
 pub(super) fn copy_row(into: &mut [u32], totals: &[u64], counts: &[u32])
     requires narrow { FitsNarrow totals.now counts.now (length into.old) }
     ensures count { length into.new ≡ length into.old }
-    ensures copied { (g : ℕ) → g < length into.old → slice_index into.new g ≡ total_in totals.now counts.now g }
+    ensures copied { (g : ℕ) → g < length into.old
+        → slice_index into.new g ≡ total_in totals.now counts.now g }
 {
     let groups = into.len();
     if groups <= totals.len() {
@@ -98,7 +100,8 @@ fn copy_narrowed(into: &mut [u32], numbers: &[u64])
     requires enough { length into.old ≤ length numbers.now }
     requires narrow { (g : ℕ) → g < length into.old → slice_index numbers.now g < 2 ^ 32 }
     ensures count { length into.new ≡ length into.old }
-    ensures copied { (g : ℕ) → g < length into.old → slice_index into.new g ≡ slice_index numbers.now g }
+    ensures copied { (g : ℕ) → g < length into.old
+        → slice_index into.new g ≡ slice_index numbers.now g }
 {
     for group in 0..into.len() {
         into[group] = numbers[group] as u32;

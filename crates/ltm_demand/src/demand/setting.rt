@@ -13,8 +13,10 @@ const MAX_ROWS: usize = 10_000;
 
 /// Sees to it that there are more than `place` origins. No row and no room changes.
 fn make_origins(origins: &mut Vec<Origin>, place: u32) -> Result<(), NoMemory>
-    ensures alike { (o : ℕ) → IsAlike (origin_at origins.old.items o) (origin_at origins.new.items o) }
-    ensures places { (o : ℕ) → (origin_at origins.old.items o).places ≤ (origin_at origins.new.items o).places }
+    ensures alike { (o : ℕ)
+        → IsAlike (origin_at origins.old.items o) (origin_at origins.new.items o) }
+    ensures places { (o : ℕ)
+        → (origin_at origins.old.items o).places ≤ (origin_at origins.new.items o).places }
     ensures rows { rows_of origins.new.items ≡ rows_of origins.old.items }
     ensures ok { OnOk result (place < vec_len origins.new) }
 {
@@ -38,8 +40,10 @@ impl Demand {
 
     /// The place of the row with this key among those of its origin, or the place where it would go.
     fn place(&self, row: &DemandRow) -> Result<usize, usize>
-        ensures found { IfOk result (IsAt (own_rows self.now.demand.rows row.now.origin.0) row.now) }
-        ensures absent { IfErr result (IsGap (own_rows self.now.demand.rows row.now.origin.0) row.now) }
+        ensures found { IfOk result (IsAt
+            (own_rows self.now.demand.rows row.now.origin.0) row.now) }
+        ensures absent { IfErr result (IsGap
+            (own_rows self.now.demand.rows row.now.origin.0) row.now) }
     {
         match origin_of(&self.origins, row.origin.0) {
             Some(origin) => origin.find(row),
@@ -113,10 +117,12 @@ impl Demand {
         requires small { row.now.amount.0 ≤ 1000000000 }
         requires some { 0 < row.now.amount.0 }
         ensures done { OnOk result (with_row self.old.demand row.now ≡ Ok self.new.demand) }
-        ensures back { OnOk result (with_row self.new.demand (with_amount row.now 0) ≡ Ok self.old.demand) }
+        ensures back { OnOk result (with_row self.new.demand (with_amount row.now 0)
+            ≡ Ok self.old.demand) }
         ensures undo { OnOk result (CanRestore self.new (with_amount row.now 0)) }
         ensures err { OnErr result (self.new.demand ≡ self.old.demand) }
-        ensures cause { IfErr result (λ e. e ≢ DemandFault.NoMemory → with_row self.old.demand row.now ≡ Err e) }
+        ensures cause { IfErr result (λ e. e ≢ DemandFault.NoMemory
+            → with_row self.old.demand row.now ≡ Err e) }
         ensures was { amount_at self.old.demand.rows row.now ≡ 0 }
         ensures room { KeepsRoom self.old self.new }
     {
@@ -141,11 +147,14 @@ impl Demand {
 
         // A refusal changes no row, and has the first cause, or no memory.
         ensures err { OnErr result (self.new.demand ≡ self.old.demand) }
-        ensures cause { IfErr result (λ e. e ≢ DemandFault.NoMemory → with_row self.old.demand row ≡ Err e) }
-        ensures memory { result ≡ Err DemandFault.NoMemory → (amount_at self.old.demand.rows row ≡ 0) × (0 < row.amount.0) }
+        ensures cause { IfErr result (λ e. e ≢ DemandFault.NoMemory
+            → with_row self.old.demand row ≡ Err e) }
+        ensures memory { result ≡ Err DemandFault.NoMemory
+            → (amount_at self.old.demand.rows row ≡ 0) × (0 < row.amount.0) }
 
         // What was there can be restored, and that gives the old rows back.
-        ensures back { IfOk result (λ was. with_row self.new.demand (with_amount row was.0) ≡ Ok self.old.demand) }
+        ensures back { IfOk result (λ was. with_row self.new.demand (with_amount row was.0)
+            ≡ Ok self.old.demand) }
         ensures undo { IfOk result (λ was. CanRestore self.new (with_amount row was.0)) }
         ensures room { KeepsRoom self.old self.new }
     {
@@ -175,8 +184,10 @@ impl Demand {
 
         // A refusal changes no row, and has the first cause, or no memory.
         ensures err { OnErr result (self.new.demand ≡ self.old.demand) }
-        ensures cause { IfErr result (λ e. e ≢ DemandFault.NoMemory → with_row self.old.demand row ≡ Err e) }
-        ensures memory { result ≡ Err DemandFault.NoMemory → (amount_at self.old.demand.rows row ≡ 0) × (0 < row.amount.0) }
+        ensures cause { IfErr result (λ e. e ≢ DemandFault.NoMemory
+            → with_row self.old.demand row ≡ Err e) }
+        ensures memory { result ≡ Err DemandFault.NoMemory
+            → (amount_at self.old.demand.rows row ≡ 0) × (0 < row.amount.0) }
         ensures room { KeepsRoom self.old self.new }
     {
         match self.change(row) {

@@ -23,7 +23,8 @@ impl Frontier {
     /// The first active pair before an end, slot after slot.
     fn first_active(&self, end: u32) -> Option<Pair>
         requires { end ≤ slots_of self.now }
-        ensures { MatchOption result (NoneBefore self.now end) (λ pair. IsFirst self.now end pair.slot pair.node.0) }
+        ensures { MatchOption result (NoneBefore self.now end)
+            (λ pair. IsFirst self.now end pair.slot pair.node.0) }
     {
         let _width = self.active.width();
         let mut from = self.first;
@@ -49,7 +50,8 @@ impl Frontier {
     /// The least slot of a pair that is active or claimed, and a node below which no pair of it is active; none exactly where
     /// every pair is idle.
     fn search(&self) -> Option<Pair>
-        ensures { MatchOption result (AllIdle self.now) (λ pair. IsFrontFrom self.now pair.slot pair.node.0) }
+        ensures { MatchOption result (AllIdle self.now)
+            (λ pair. IsFrontFrom self.now pair.slot pair.node.0) }
     {
         let slot = self.claims.slot();
         match self.claims.first() {
@@ -137,7 +139,8 @@ impl Frontier {
     #[inline]
     pub fn next_active(&self, slot: u32, from: NodeId) -> Option<NodeId>
         requires { slot < slots_of self.now }
-        ensures { MatchOption result (NoneActive self.now slot from.0) (λ node. IsNextActive self.now slot from.0 node.0) }
+        ensures { MatchOption result (NoneActive self.now slot from.0)
+            (λ node. IsNextActive self.now slot from.0 node.0) }
     {
         let from = from.0.max(self.first_at(slot));
         match self.active.next_marked(slot as usize, from as usize) {

@@ -55,7 +55,11 @@ impl NodeInputs {
     /// Sets what has arrived at the node.
     #[inline]
     pub fn set_arrived(&mut self, value: u64)
-        ensures { self.new ≡ record self.old { row = slice_set self.old.row (arrived_place self.old.shape) value } }
+        ensures { self.new
+            ≡ record self.old {
+              row = slice_set self.old.row
+                  (arrived_place self.old.shape) value;
+            } }
     {
         let place = self.shape.arrived_place();
         self.numbers[place] = value;
