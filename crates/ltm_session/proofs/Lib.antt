@@ -7,3 +7,4 @@ pub mod Besides
 mod SameReports
 mod OneOutput
 pub mod Looking
+pub mod Standing
