@@ -56,6 +56,8 @@ reply_grows laws s t (command.Edit batch) text r = edit_grows laws (edited_all (
 reply_grows laws s t command.Totals text (r, same) = same_grows s t same
 reply_grows laws s t (command.Link name) text (r, same) = same_grows s t same
 reply_grows laws s t (command.Time name slot) text (r, same) = same_grows s t same
+reply_grows laws s t command.Delay text (r, same) = same_grows s t same
+reply_grows laws s t (command.Queue name boundary) text (r, same) = same_grows s t same
 reply_grows laws s t command.Settle text r = absurd r
 
 -- the list grows at its end, and what is shown stays, also where there was no memory
@@ -71,6 +73,8 @@ answers_reply IsCount s (command.Edit batch) text t r = r
 answers_reply IsCount s command.Totals text t r = r
 answers_reply IsCount s (command.Link name) text t r = r
 answers_reply IsCount s (command.Time name slot) text t r = r
+answers_reply IsCount s command.Delay text t r = r
+answers_reply IsCount s (command.Queue name boundary) text t r = r
 answers_reply IsCount s command.Settle text t r = absurd r
 
 -- a reply that was made in a held turn

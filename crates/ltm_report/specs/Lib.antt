@@ -2,6 +2,8 @@ pub mod Pieces
 pub mod Totals
 pub mod Links
 pub mod Reports
+pub mod Delays
+pub mod DelayReports
 pub mod Causes
 pub mod CaseFaults
 pub mod Answers

@@ -15,6 +15,14 @@ unknown_time_line = codes "refused time UnknownName\n"
 unfoldable pub time_slots_line : List ℕ
 time_slots_line = codes "refused time BadSlots\n"
 
+-- no link has the name whose queue was asked for
+unfoldable pub unknown_queue_line : List ℕ
+unknown_queue_line = codes "refused queue UnknownName\n"
+
+-- the boundary at which a queue was asked for is not one of the loading that is shown
+unfoldable pub queue_slots_line : List ℕ
+queue_slots_line = codes "refused queue BadSlots\n"
+
 -- which line of a script has more bytes than are read, counted from 1
 unfoldable pub long_piece : ℕ → List ℕ
 long_piece number = number_piece (codes "too long line ") number

@@ -1,8 +1,8 @@
-//! - **What it is**: the lines that the program writes: the totals and the links of a loading, travel times, the answers to
-//!   the lines of a script, routes, the size of a made case, and the refusals. Each ends with one newline byte; amounts of
-//!   traffic stand in vehicles with three decimals, times in milliseconds.
-//! - **On what it stands**: `ltm_units` for the pieces of lines; `ltm_flows` for the loadings of which it tells; and the
-//!   faults of `ltm_casefile`, `ltm_scenario`, `ltm_script`, `ltm_network` and `ltm_diagram` that it names.
+//! - **What it is**: the lines that the program writes: the totals and the links of a loading, travel times, queues and
+//!   delays, the answers to the lines of a script, routes, the size of a made case, and the refusals. Each ends with one newline byte; amounts of
+//!   traffic stand in vehicles with three decimals, times in milliseconds, and times of many in vehicle seconds with six.
+//! - **On what it stands**: `ltm_units` for the pieces of lines; `ltm_flows` for the loadings of which it tells, and
+//!   `ltm_times` for their queues and delays; and the faults of `ltm_casefile`, `ltm_scenario`, `ltm_script`, `ltm_network` and `ltm_diagram` that it names.
 //! - **What a call costs**: the length of its line, which it appends whole, or not at all where memory was not found. What
 //!   was done is told without memory where room was taken before ([`ANSWER_ROOM`]).
 //! - **When to change it here**: when a line gets another word or number, or when there is a new cause to name.
@@ -12,6 +12,7 @@ mod answers;
 mod case_faults;
 mod causes;
 mod command_faults;
+mod delays;
 mod edit_faults;
 mod links;
 mod load;
@@ -25,12 +26,14 @@ mod totals;
 pub use answers::{ANSWER_ROOM, accepted_text, settled_text};
 pub use case_faults::{case_fault_text, too_long_text};
 pub use command_faults::command_fault_text;
+pub use delays::{delay_text, link_delay_text, queue_text};
 pub use edit_faults::edit_fault_text;
 pub use links::{link_text, load_link_text};
 pub use load::report_of;
 pub use made::{size_text, work_text};
 pub use refusals::{
-    long_script_text, time_slots_text, too_many_text, unknown_link_text, unknown_time_text,
+    long_script_text, queue_slots_text, time_slots_text, too_many_text, unknown_link_text,
+    unknown_queue_text, unknown_time_text,
 };
 pub use routes::{route_row_text, route_time_text, splits_header_text};
 pub use times::time_text;

@@ -21,7 +21,7 @@ pub(crate) fn push_name(into: &mut Vec<u8>, name: &Name) -> Result<(), NoMemory>
 }
 
 #[tactic(auto, unfolding(crate::specs::Links::through_piece))]
-fn push_through(into: &mut Vec<u8>, entered: Units, gone: Units) -> Result<(), NoMemory>
+pub(crate) fn push_through(into: &mut Vec<u8>, entered: Units, gone: Units) -> Result<(), NoMemory>
     ensures { OnOk result (into.new.items ≡ into.old.items ++ through_piece entered.0 gone.0) }
 {
     push_vehicles(into, b" in ", entered)?;

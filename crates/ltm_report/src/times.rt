@@ -18,7 +18,7 @@ fn push_time(into: &mut Vec<u8>, time: Option<Millis>) -> Result<(), NoMemory>
 }
 
 #[tactic(auto, unfolding(crate::specs::Times::slot_piece))]
-fn push_slot(into: &mut Vec<u8>, slot: u32) -> Result<(), NoMemory>
+pub(crate) fn push_slot(into: &mut Vec<u8>, slot: u32) -> Result<(), NoMemory>
     ensures { OnOk result (into.new.items ≡ into.old.items ++ slot_piece slot) }
 {
     push_number(into, b" slot ", u128::from(slot))

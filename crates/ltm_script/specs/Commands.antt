@@ -37,6 +37,9 @@ link_of d = name_in (codes "link") d >>= λ link. Some (command.Link link)
 abbrev pub time_of : Data → Option Command
 time_of d = name_in (codes "link") d >>= λ link. whole_in (codes "slot") d >>= λ slot. Some (command.Time link slot)
 
+abbrev pub queue_of : Data → Option Command
+queue_of d = name_in (codes "link") d >>= λ link. whole_in (codes "slot") d >>= λ slot. Some (command.Queue link slot)
+
 -- a command by its word
 abbrev pub command_by : List ℕ → Data → Result Command CommandFault
 command_by word d =
@@ -44,6 +47,8 @@ command_by word d =
     else if same word (codes "totals") then Ok command.Totals
     else if same word (codes "link") then or_none (link_of d)
     else if same word (codes "time") then or_none (time_of d)
+    else if same word (codes "delay") then Ok command.Delay
+    else if same word (codes "queue") then or_none (queue_of d)
     else if same word (codes "settle") then Ok command.Settle
     else Err (NotCommand 0)
 
@@ -60,4 +65,6 @@ HasAmounts (command.Edit edits) = HaveAmounts edits
 HasAmounts command.Totals = Unit {0}
 HasAmounts (command.Link link) = Unit {0}
 HasAmounts (command.Time link slot) = Unit {0}
+HasAmounts command.Delay = Unit {0}
+HasAmounts (command.Queue link slot) = Unit {0}
 HasAmounts command.Settle = Unit {0}

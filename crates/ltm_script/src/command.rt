@@ -14,6 +14,10 @@ pub enum Command {
     /// How long a vehicle takes to pass the link of this name that enters it at the beginning of the slot:
     /// `{"do":"time","link":"a","slot":3}`.
     Time { link: Name, slot: u32 },
+    /// The time that all spend, stand in queues and wait at their origins, of what is shown: `{"do":"delay"}`.
+    Delay,
+    /// The queue of the link of this name at the boundary with this number: `{"do":"queue","link":"a","slot":3}`.
+    Queue { link: Name, slot: u32 },
     /// To show all edits, and to count what was computed anew: `{"do":"settle"}`.
     Settle,
 }

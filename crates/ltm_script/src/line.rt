@@ -59,6 +59,12 @@ fn read_value(alloc: Global, value: &Value) -> Result<Command, CommandFault>
             let slot = find_whole(value, "slot").ok_or(no_command)?;
             Ok(Command::Time { link, slot })
         }
+        "delay" => Ok(Command::Delay),
+        "queue" => {
+            let link = find_name(value, "link").ok_or(no_command)?;
+            let slot = find_whole(value, "slot").ok_or(no_command)?;
+            Ok(Command::Queue { link, slot })
+        }
         "settle" => Ok(Command::Settle),
         _ => Err(no_command),
     }

@@ -30,6 +30,8 @@ count_beside s (Ok (command.Edit batch)) text t a = a
 count_beside s (Ok command.Totals) text t a = a
 count_beside s (Ok (command.Link name)) text t a = a
 count_beside s (Ok (command.Time name slot)) text t a = a
+count_beside s (Ok command.Delay) text t a = a
+count_beside s (Ok (command.Queue name boundary)) text t a = a
 count_beside s (Err f) text t a = a
 
 -- no more batches are shown than accepted
@@ -56,6 +58,8 @@ finished laws s (Ok (command.Edit batch)) text t is a = edit_finished laws s t b
 finished laws s (Ok command.Totals) text t is (told, same) = stays_finished s t same is
 finished laws s (Ok (command.Link name)) text t is (told, same) = stays_finished s t same is
 finished laws s (Ok (command.Time name slot)) text t is (told, same) = stays_finished s t same is
+finished laws s (Ok command.Delay) text t is (told, same) = stays_finished s t same is
+finished laws s (Ok (command.Queue name boundary)) text t is (told, same) = stays_finished s t same is
 finished laws s (Err fault.NotJson) text t is (told, same) = stays_finished s t same is
 finished laws s (Err (fault.NotCommand place)) text t is (told, same) = stays_finished s t same is
 finished laws s (Err fault.NoMemory) text t is none = absurd none

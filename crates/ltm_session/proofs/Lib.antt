@@ -14,3 +14,4 @@ mod ReportLines
 mod AnswerLines
 mod Promised
 pub mod Kept
+pub mod Standing

@@ -1,5 +1,5 @@
 -- Without workers a scenario and a script have one output.
-use Rattle.std.proofs.Common.{ℕ, ◌≡◌, ◌++◌, ◌<◌, ◌+◌, List, [], ◌∷◌, inl, inr, length, refl, ap, sym, subst, ◌∙◌, arith}
+use Rattle.std.proofs.Common.{ℕ, ◌≡◌, ◌++◌, ◌<◌, ◌≤◌, ◌+◌, List, [], ◌∷◌, inl, inr, length, refl, ap, sym, subst, ◌∙◌, arith}
 use Rattle.std.proofs.lemmas.List.{length-map}
 use Rattle.std.specs.Prelude.{Option, Some, None, Result, Ok, Err, MatchResult, MatchOption}
 use Rattle.ltm_curve.specs.Counts.{Counts}
@@ -21,18 +21,19 @@ use Rattle.ltm_script.specs.declared.command.CommandFault.{CommandFault}
 use Rattle.ltm_script.specs.declared.command.CommandFault.TheVariants as fault
 use Rattle.ltm_report.specs.Answers.{accepted_line, settled_line}
 use Rattle.ltm_report.specs.EditFaults.{edit_fault_line}
-use Rattle.ltm_report.specs.Refusals.{unknown_link_line, unknown_time_line}
+use Rattle.ltm_report.specs.Refusals.{unknown_link_line, unknown_time_line, unknown_queue_line}
 use Rattle.ltm_io.specs.Script.{lines_of}
 use Rattle.ltm_core.specs.Log.{Log, with_batch, version_now, settled_of, scenario_at, scenario_now}
 use Rattle.ltm_core.specs.Settling.{IsExactCount, setting_at}
 use Rattle.ltm_report.specs.Reports.{totals_report, link_report}
+use Rattle.ltm_report.specs.DelayReports.{delay_report, queue_report}
 use Rattle.ltm_session.specs.Reports.{time_report}
 use Rattle.ltm_session.specs.Analysts.{Analysts, opening_state, shown_scenario, settled}
-use Rattle.ltm_session.specs.Answers.{ReportsShown, TellsTimeAt, IsScenarioOf, CountsAlone, AnswersAlone}
+use Rattle.ltm_session.specs.Answers.{ReportsShown, TellsTimeAt, TellsQueueAt, IsScenarioOf, CountsAlone, AnswersAlone}
 use Rattle.ltm_session.specs.Session.{AnswersLine, AnswersLines}
 use Rattle.ltm_session.specs.Laws.{OneOutput}
 use Rattle.ltm_times.proofs.Alike.{agree, differing_same}
-use Rattle.ltm_session.proofs.SameReports.{totals_same, links_same, times_same}
+use Rattle.ltm_session.proofs.SameReports.{totals_same, links_same, times_same, delays_same, queues_same}
 
 -- there is one loading of a setting, and scenarios make settings
 pub record Known : Type 0 where
@@ -89,6 +90,25 @@ time_at_once k s name slot link x y there (inl (few, told_x)) (inr (many, is)) =
 time_at_once k s name slot link x y there (inr (many, is)) (inl (few, told_y)) = absurd (omega (arith, few, many))
 time_at_once k s name slot link x y there (inr (many, is)) (inr (many_too, is_too)) = is ∙ sym is_too
 
+delay_once : (k : Known) (s : Analysts) (x y : List ℕ) → ReportsShown s delay_report x → ReportsShown s delay_report y → x ≡ y
+delay_once k s x y told_x told_y =
+    reported_same k s delay_report
+    (λ a b is same. delays_same (setting_at s.log s.shown) a b s.shown (k.settings (scenario_at s.log s.shown) is.scenario).some_step same) x y told_x told_y
+
+queue_once : (k : Known) (s : Analysts) (name : List ℕ) (boundary link : ℕ) (x y : List ℕ) → link < length s.log.opening.network.links → boundary ≤ (shown_scenario s).setup.slots
+    → ReportsShown s (λ version. queue_report version name link boundary) x → ReportsShown s (λ version. queue_report version name link boundary) y → x ≡ y
+queue_once k s name boundary link x y there few told_x told_y =
+    let slots = slots_in (scenario_at s.log s.shown) in
+    reported_same k s (λ version. queue_report version name link boundary)
+    (λ a b is same. queues_same (setting_at s.log s.shown) a b s.shown link boundary name (k.settings (scenario_at s.log s.shown) is.scenario).some_step same (link_within s link is there) (omega (arith, slots, few))) x y told_x told_y
+
+queue_at_once : (k : Known) (s : Analysts) (name : List ℕ) (boundary link : ℕ) (x y : List ℕ) → link < length s.log.opening.network.links
+    → TellsQueueAt s name boundary link x → TellsQueueAt s name boundary link y → x ≡ y
+queue_at_once k s name boundary link x y there (inl (few, told_x)) (inl (few_too, told_y)) = queue_once k s name boundary link x y there few told_x told_y
+queue_at_once k s name boundary link x y there (inl (few, told_x)) (inr (many, is)) = absurd (omega (arith, few, many))
+queue_at_once k s name boundary link x y there (inr (many, is)) (inl (few, told_y)) = absurd (omega (arith, few, many))
+queue_at_once k s name boundary link x y there (inr (many, is)) (inr (many_too, is_too)) = is ∙ sym is_too
+
 -- ---- links by name
 named_within : (n : NetworkData) (name : List ℕ) (link : ℕ) → find_link n name ≡ Some link → link < length n.links
 named_within n name link is =
@@ -144,6 +164,12 @@ answer_once k s (Ok (command.Link name)) x y t u (told, same) (told_too, same_to
 answer_once k s (Ok (command.Time name slot)) x y t u (told, same) (told_too, same_too) = (
   by_name s.log.opening.network name (λ x link. TellsTimeAt s name slot link x) unknown_time_line x y (find_link s.log.opening.network name) refl
       (λ link x y there told_x told_y. time_at_once k s name slot link x y there told_x told_y) told told_too,
+  both_stay s t u same same_too,
+)
+answer_once k s (Ok command.Delay) x y t u (told, same) (told_too, same_too) = (delay_once k s x y told told_too, both_stay s t u same same_too)
+answer_once k s (Ok (command.Queue name boundary)) x y t u (told, same) (told_too, same_too) = (
+  by_name s.log.opening.network name (λ x link. TellsQueueAt s name boundary link x) unknown_queue_line x y (find_link s.log.opening.network name) refl
+      (λ link x y there told_x told_y. queue_at_once k s name boundary link x y there told_x told_y) told told_too,
   both_stay s t u same same_too,
 )
 answer_once k s (Err fault.NotJson) x y t u (told, same) (told_too, same_too) = (told ∙ sym told_too, both_stay s t u same same_too)

@@ -4,11 +4,17 @@ use Rattle.ltm_curve.specs.Counts.{Counts}
 use Rattle.ltm_loading.specs.Setting.{Setting}
 use Rattle.ltm_loading.specs.Totals.{generated, arrived, on_links, waiting, entered_link, left_link}
 use Rattle.ltm_loading.proofs.Same.{AgreeTo}
-use Rattle.ltm_times.proofs.Alike.{arrived_same, on_links_same, waiting_same, entered_same, left_same, travel_same}
+use Rattle.ltm_times.specs.Times.{time_spent}
+use Rattle.ltm_times.specs.Queues.{queue}
+use Rattle.ltm_times.specs.Delays.{queued, waited}
+use Rattle.ltm_times.proofs.Alike.{arrived_same, on_links_same, waiting_same, entered_same, left_same, travel_same, spent_same}
+use Rattle.ltm_times.proofs.DelaysAlike.{queue_same, queued_same, waited_same}
 use Rattle.ltm_report.specs.Totals.{totals_line}
 use Rattle.ltm_report.specs.Links.{link_line}
 use Rattle.ltm_report.specs.Times.{time_line}
+use Rattle.ltm_report.specs.Delays.{delay_line, queue_line}
 use Rattle.ltm_report.specs.Reports.{totals_report, link_report}
+use Rattle.ltm_report.specs.DelayReports.{delay_report, queue_report}
 use Rattle.ltm_session.specs.Reports.{time_report}
 
 pub totals_same : (s : Setting) (a b : Counts) (version : ℕ) → AgreeTo s a b s.slots → totals_report version s a ≡ totals_report version s b
@@ -28,3 +34,18 @@ pub times_same : (s : Setting) (a b : Counts) (version link slot : ℕ) (name : 
     → time_report version name link slot s a ≡ time_report version name link slot s b
 unfolding time_report
 times_same s a b version link slot name some same there within = ap (time_line version name slot) (travel_same s a b link slot some same there within)
+
+pub delays_same : (s : Setting) (a b : Counts) (version : ℕ) → 0 < s.step → AgreeTo s a b s.slots → delay_report version s a ≡ delay_report version s b
+unfolding delay_report
+delays_same s a b version some same =
+    ap (λ x. delay_line version x (queued s a) (waited s a)) (spent_same s a b same)
+    ∙ ap (λ x. delay_line version (time_spent s b) x (waited s a)) (queued_same s a b some same)
+    ∙ ap (λ x. delay_line version (time_spent s b) (queued s b) x) (waited_same s a b same)
+
+pub queues_same : (s : Setting) (a b : Counts) (version link boundary : ℕ) (name : List ℕ) → 0 < s.step → AgreeTo s a b s.slots → link < s.links → boundary ≤ s.slots
+    → queue_report version name link boundary s a ≡ queue_report version name link boundary s b
+unfolding queue_report
+queues_same s a b version link boundary name some same there within =
+    ap (λ x. queue_line version name boundary x (left_link s a link boundary) (queue s a link boundary)) (entered_same s a b link boundary same there within)
+    ∙ ap (λ x. queue_line version name boundary (entered_link s b link boundary) x (queue s a link boundary)) (left_same s a b link boundary same there within)
+    ∙ ap (λ x. queue_line version name boundary (entered_link s b link boundary) (left_link s b link boundary) x) (queue_same s a b link boundary some same there within)

@@ -14,10 +14,11 @@ use Rattle.ltm_script.specs.declared.command.CommandFault.TheVariants as fault
 use Rattle.ltm_report.specs.Answers.{accepted_line, settled_line}
 use Rattle.ltm_report.specs.EditFaults.{edit_fault_line}
 use Rattle.ltm_report.specs.CommandFaults.{command_fault_line}
-use Rattle.ltm_report.specs.Refusals.{unknown_link_line, unknown_time_line, time_slots_line}
+use Rattle.ltm_report.specs.Refusals.{unknown_link_line, unknown_time_line, time_slots_line, unknown_queue_line, queue_slots_line}
 use Rattle.ltm_core.specs.Log.{Log, with_batch, version_now, settled_of, scenario_at, scenario_now}
 use Rattle.ltm_core.specs.Settling.{setting_at, IsSettleCount, IsExactCount}
 use Rattle.ltm_report.specs.Reports.{totals_report, link_report}
+use Rattle.ltm_report.specs.DelayReports.{delay_report, queue_report}
 use Rattle.ltm_session.specs.Reports.{time_report}
 use Rattle.ltm_session.specs.Analysts.{Analysts, shown_scenario, settled, IsShownLater}
 
@@ -58,6 +59,17 @@ TellsTimeAt s name slot link text =
 abbrev pub TellsTime : Analysts → List ℕ → ℕ → List ℕ → Type 0
 TellsTime s name slot text = MatchOption (link_named s name) (text ≡ unknown_time_line) (λ link. TellsTimeAt s name slot link text)
 
+-- the queue of a link at a boundary, where what is shown has it
+abbrev pub TellsQueueAt : Analysts → List ℕ → ℕ → ℕ → List ℕ → Type 0
+TellsQueueAt s name boundary link text =
+    ((boundary ≤ (shown_scenario s).setup.slots) × ReportsShown s (λ version. queue_report version name link boundary) text)
+    ⊎ (((shown_scenario s).setup.slots < boundary) × (text ≡ queue_slots_line))
+
+-- the queue of the link of this name
+abbrev pub TellsQueue : Analysts → List ℕ → ℕ → List ℕ → Type 0
+TellsQueue s name boundary text =
+    MatchOption (link_named s name) (text ≡ unknown_queue_line) (λ link. TellsQueueAt s name boundary link text)
+
 -- ---- all lines
 -- the answer to what a line was read as, where that is no settle
 abbrev pub Replies : Analysts → Result Command CommandFault → List ℕ → Analysts → Type 0
@@ -65,6 +77,8 @@ Replies s (Ok (command.Edit batch)) text t = EditsAll s batch text t
 Replies s (Ok command.Totals) text t = ReportsShown s totals_report text × (t ≡ s)
 Replies s (Ok (command.Link name)) text t = TellsLink s name text × (t ≡ s)
 Replies s (Ok (command.Time name slot)) text t = TellsTime s name slot text × (t ≡ s)
+Replies s (Ok command.Delay) text t = ReportsShown s delay_report text × (t ≡ s)
+Replies s (Ok (command.Queue name boundary)) text t = TellsQueue s name boundary text × (t ≡ s)
 Replies s (Ok command.Settle) text t = ⊥
 Replies s (Err fault.NotJson) text t = (text ≡ command_fault_line fault.NotJson) × (t ≡ s)
 Replies s (Err (fault.NotCommand place)) text t = (text ≡ command_fault_line (fault.NotCommand place)) × (t ≡ s)
@@ -81,6 +95,8 @@ Answers IsCount s (Ok (command.Edit batch)) text t = Replies s (Ok (command.Edit
 Answers IsCount s (Ok command.Totals) text t = Replies s (Ok command.Totals) text t
 Answers IsCount s (Ok (command.Link name)) text t = Replies s (Ok (command.Link name)) text t
 Answers IsCount s (Ok (command.Time name slot)) text t = Replies s (Ok (command.Time name slot)) text t
+Answers IsCount s (Ok command.Delay) text t = Replies s (Ok command.Delay) text t
+Answers IsCount s (Ok (command.Queue name boundary)) text t = Replies s (Ok (command.Queue name boundary)) text t
 Answers IsCount s (Err fault) text t = Replies s (Err fault) text t
 
 -- a settle without workers counts exactly the pairs that differ between what was settled last and what is settled now

@@ -3,7 +3,7 @@
 //! - **On what it stands**: `ltm_core` and `ltm_workers` for the repair, `ltm_io` and `ltm_script` for the script,
 //!   `ltm_times` and `ltm_report` for the answers, `ltm_io` for the output.
 //! - **What a call costs**: an edit the marks of the pairs that it touches, a question the length of its answer and, of
-//!   totals, one pass over the links and nodes; a settle a claim, a node step and a commit for each pair whose inputs have
+//!   totals, one pass over the links and nodes, of delays one over all boundaries; a settle a claim, a node step and a commit for each pair whose inputs have
 //!   changed.
 //! - **When to change it here**: when there is another command, another answer, or another end of a session.
 #![tactic(auto)]
@@ -12,6 +12,7 @@ mod answering;
 mod edits;
 mod ends;
 mod laws;
+mod queues;
 mod replies;
 mod reports;
 mod script;

@@ -8,6 +8,7 @@ ghost use Rattle.ltm_session.specs.Answers.{Replies, ReportsShown, TellsTimeAt};
 ghost use Rattle.ltm_session.specs.Ready.{AwaitsLine};
 
 use crate::edits::reply_edit;
+use crate::queues::{reply_delay, reply_queue};
 use crate::reports::push_time;
 use ltm_core::Core;
 use ltm_report::{
@@ -124,6 +125,8 @@ pub fn reply(
         Command::Totals => reply_totals(alloc, core, into),
         Command::Link(name) => reply_link(alloc, core, &name, into),
         Command::Time { link, slot } => reply_time(alloc, core, &link, slot, into),
+        Command::Delay => reply_delay(alloc, core, into),
+        Command::Queue { link, slot } => reply_queue(alloc, core, &link, slot, into),
         Command::Settle => unreachable!(),
     }
 }

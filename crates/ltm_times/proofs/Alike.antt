@@ -23,7 +23,7 @@ pub agree : (s : Setting) (a b : Counts) → OneLoading → IsSetting s → IsLo
 agree s a b one is la lb = record { same = one s a b is la lb }
 
 -- ---- totals
-total_same : (s : Setting) (a b : Counts) (g k : ℕ) → AgreeTo s a b s.slots → g < groups s → k ≤ s.slots → total s.destinations (a g) k ≡ total s.destinations (b g) k
+pub total_same : (s : Setting) (a b : Counts) (g k : ℕ) → AgreeTo s a b s.slots → g < groups s → k ≤ s.slots → total s.destinations (a g) k ≡ total s.destinations (b g) k
 total_same s a b g k same there within =
     sum_below-same s.destinations (λ d. a g d k) (λ d. b g d k) (λ d l. same.same g d k there l within)
 

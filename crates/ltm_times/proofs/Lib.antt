@@ -5,3 +5,4 @@ pub mod Alike
 pub mod WasReady
 pub mod SpentSo
 pub mod Peaks
+pub mod DelaysAlike

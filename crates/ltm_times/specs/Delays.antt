@@ -5,9 +5,10 @@ use Rattle.ltm_curve.specs.Counts.{Counts}
 use Rattle.ltm_loading.specs.Setting.{Setting}
 use Rattle.ltm_loading.specs.Totals.{entered_link, left_link, waiting}
 use Rattle.ltm_times.specs.declared.delays.LinkDelay.{LinkDelay}
+use Rattle.ltm_times.specs.declared.delays.LinkState.{LinkState}
 use Rattle.ltm_times.specs.declared.delays.DelayTotals.{DelayTotals}
 use Rattle.ltm_times.specs.Queues.{queue, driving, in_queues, in_motion}
-use Rattle.ltm_times.specs.Peaks.{IsPeakOf}
+use Rattle.ltm_times.specs.Peaks.{peak, IsPeakOf}
 use Rattle.ltm_times.specs.Times.{time_spent}
 
 -- how many there are at each boundary after the start, each for a step
@@ -25,6 +26,10 @@ queued_on s c link = over_time s (queue s c link)
 abbrev pub driven_on : Setting → Counts → ℕ → ℕ
 driven_on s c link = over_time s (driving s c link)
 
+-- the first boundary at which most stand in its queue
+abbrev pub fullest : Setting → Counts → ℕ → ℕ
+fullest s c link = peak (queue s c link) s.slots
+
 -- ---- of all
 abbrev pub queued : Setting → Counts → ℕ
 queued s c = over_time s (in_queues s c)
@@ -36,6 +41,11 @@ abbrev pub driven : Setting → Counts → ℕ
 driven s c = over_time s (in_motion s c)
 
 -- ---- what is told of them
+pub record IsLinkState (s : Setting) (c : Counts) (link boundary : ℕ) (l : LinkState) : Type 0 where
+  pub entered : l.entered.0 ≡ entered_link s c link boundary
+  pub left : l.left.0 ≡ left_link s c link boundary
+  pub queue : l.queue.0 ≡ queue s c link boundary
+
 pub record IsLinkDelay (s : Setting) (c : Counts) (link : ℕ) (d : LinkDelay) : Type 0 where
   pub spent : d.spent ≡ spent_on s c link
   pub queued : d.queued ≡ queued_on s c link

@@ -8,6 +8,14 @@ pub struct Peak {
     pub at: u32,
 }
 
+/// What has entered a link and left it by a boundary, and how many stand in its queue then.
+#[derive(Clone, Copy)]
+pub struct LinkState {
+    pub entered: Units,
+    pub left: Units,
+    pub queue: Units,
+}
+
 /// The time that vehicles spend on a link, how much of it they stand in its queue, and the longest queue.
 #[derive(Clone, Copy)]
 pub struct LinkDelay {

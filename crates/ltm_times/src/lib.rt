@@ -22,12 +22,12 @@ mod queues;
 mod ready;
 mod spending;
 
-pub use delays::{DelayTotals, LinkDelay, Peak};
+pub use delays::{DelayTotals, LinkDelay, LinkState, Peak};
 pub use in_all::delay_totals;
 pub use laws::{
     delays_are_summed, left_was_ready, peaks_are_first_greatest, queues_stand_on_links,
     spent_adds_up,
 };
 pub use passing::{exit_ms, travel};
-pub use queues::{link_delay, queue};
+pub use queues::{link_delay, link_state, queue};
 pub use spending::time_spent;

@@ -6,9 +6,9 @@ ghost use Rattle.ltm_loading.specs.Totals.{entered_link, left_link};
 ghost use Rattle.ltm_flows.specs.Shown.{links_of, last_of, ShowsCounts};
 ghost use Rattle.ltm_times.specs.Queues.{queue};
 ghost use Rattle.ltm_times.specs.Peaks.{IsPeakOf};
-ghost use Rattle.ltm_times.specs.Delays.{IsLinkDelay};
+ghost use Rattle.ltm_times.specs.Delays.{IsLinkState, IsLinkDelay};
 
-use crate::delays::{LinkDelay, Peak};
+use crate::delays::{LinkDelay, LinkState, Peak};
 use crate::ready::total_ago;
 use ltm_flows::Loading;
 use ltm_loading::{down_of, up_of};
@@ -31,6 +31,21 @@ pub fn queue(loading: &Loading, link: LinkId, boundary: u32) -> Units
         loading.step(),
     );
     Units(ready.saturating_sub(curves.total(down_of(link), boundary)))
+}
+
+/// What has entered a link and left it by a boundary, and how many stand in its queue then.
+pub fn link_state(loading: &Loading, link: LinkId, boundary: u32) -> LinkState
+    requires link { link.0 < links_of loading.now }
+    requires boundary { boundary ≤ last_of loading.now }
+    ensures { (s : Setting) (version : ℕ) (c : Counts) → ShowsCounts s version c loading.now → IsLinkState s c link.0 boundary result }
+{
+    let _links = loading.links();
+    let curves = loading.curves();
+    LinkState {
+        entered: Units(curves.total(up_of(link), boundary)),
+        left: Units(curves.total(down_of(link), boundary)),
+        queue: queue(loading, link, boundary),
+    }
 }
 
 /// How many are on a link at a boundary.
