@@ -33,7 +33,6 @@ def ask_for_cells(case: Case) -> str:
     if cells > MOST_CELLS_ASKED:
         raise Fault(f"{count_text(cells)} cells, and at most {count_text(MOST_CELLS_ASKED)} may be: {cells_advice(case)}")
     if cells <= MOST_CELLS:
-        case.setup.cells = None
         return f"{count_text(cells)} cells of at most {count_text(MOST_CELLS)}"
     case.setup.cells = asked_for(cells)
     return (f"{count_text(cells)} cells, so the column cells of setup.csv asks for {count_text(case.setup.cells)}, as without it {count_text(MOST_CELLS)} may be:"

@@ -86,7 +86,7 @@ def make(args: argparse.Namespace) -> int:
         volumes = fewer_ends(raw, volumes, args.destinations, read)
     raw.ends = {node for ends in volumes for node in ends}
     if args.steps:
-        print(*steps_table(raw), sep="\n")
+        print(*steps_table(raw, horizon_ms=args.horizon * MINUTE_MS, ends={end for _, end in volumes}), sep="\n")
         return 0
     check_destinations(end for _, end in volumes)
     routes = least_routes(raw, [(start, end, whole_units(volume, "demand")) for (start, end), volume in volumes.items()]) if args.fit else []

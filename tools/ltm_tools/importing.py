@@ -9,12 +9,12 @@ from fractions import Fraction
 from pathlib import Path
 
 from .balance import MOST_ROUTES, Used, balance
-from .case import Case, Link
+from .case import Case, Demand, Link, Setup
 from .passages import Roads
 from .errors import Fault
 from .files import write_text
 from .fit import ARMS, Fit, metres_text
-from .formats import MINUTE_MS, MOST_DESTINATIONS, MOST_LINKS, MOST_SLOT_UNITS, MOST_SLOTS, MOST_STEP_MS, NAME_RULE, UNITS
+from .formats import MINUTE_MS, MOST_DESTINATIONS, MOST_LINKS, MOST_SLOT_UNITS, MOST_SLOTS, MOST_STEP_MS, NAME_RULE, UNITS, count_text
 from .names import names_for
 from .network import Network, diagram, least_route, least_times, totals
 from .source import Source, SourceLink, lines_of
@@ -215,9 +215,11 @@ def fit_advice(raw: Network) -> list[str]:
     return told + steps_table(raw, [step for step in STEPS if step >= first][:7])
 
 
-def steps_table(raw: Network, steps: Iterable[int] = STEPS) -> list[str]:
-    """What a fit to each of some steps would change, a line each."""
-    told = ["  --fit    links   merged  contracted  shifted  lengthened  nodes split  length   free-flow times"]
+def steps_table(raw: Network, steps: Iterable[int] = STEPS, horizon_ms: int | None = None, ends: Iterable[str] = ()) -> list[str]:
+    """What a fit to each of some steps would change, a line each; with a horizon and the nodes where trips end also about how many cells
+    the case would have."""
+    told = ["  --fit    links   merged  contracted  shifted  lengthened  nodes split  length   free-flow times" + "     about cells" * (horizon_ms is not None)]
+    ends = list(ends)
     metres, time, _ = totals(raw.roads.values())
     for step in steps:
         fit = Fit(raw, step)
@@ -225,8 +227,16 @@ def steps_table(raw: Network, steps: Iterable[int] = STEPS) -> list[str]:
         counts = [sum(change.kind == kind for change in fit.changes) for kind in ("merged", "contracted", "shifted", "lengthened", "node split")]
         now = totals(network.roads.values())
         told.append(f"  {step:<7}{len(network.roads):>7}{counts[0]:>9}{counts[1]:>12}{counts[2]:>9}{counts[3]:>12}{counts[4]:>13}"
-                    f"{signed(now[0] / metres - 1):>9}{signed(now[1] / time - 1):>12}")
+                    f"{signed(now[0] / metres - 1):>9}{signed(now[1] / time - 1):>12}" + ("" if horizon_ms is None else f"{cells_told(fit, horizon_ms, ends):>22}"))
     return told
+
+
+def cells_told(fit: Fit, horizon_ms: int, ends: Iterable[str]) -> str:
+    """About how many cells the case of a fitted network has, with trips that end at these nodes of the source."""
+    slots = max(1, -(-horizon_ms // fit.step))
+    links = [Link(road.name, road.tail, road.head, 1, 1, 1, 1) for road in fit.network.roads.values()]
+    case = Case(Setup(fit.step, slots, 1), links, [Demand("", fit.node_of(end), 0, 1, 1) for end in ends])
+    return count_text(case.cells()) if slots <= MOST_SLOTS else f"{count_text(slots)} slots"
 
 
 def signed(share: Fraction) -> str:

@@ -89,7 +89,7 @@ def make(args: argparse.Namespace) -> int:
     raw.signals = {cut.exits.get(name, name) for name in held}
     raw.ends = {raw.roads[route.links[0]].tail for route in inputs.routes} | {raw.roads[route.links[-1]].head for route in inputs.routes}
     if args.steps:
-        print(*steps_table(raw), sep="\n")
+        print(*steps_table(raw, horizon_ms=horizon_ms(inputs, args), ends={raw.roads[route.links[-1]].head for route in inputs.routes}), sep="\n")
         return 0
     check_destinations(raw.roads[route.links[-1]].head for route in inputs.routes)
     counts: dict[tuple[str, ...], int] = {}
@@ -226,11 +226,15 @@ def nearer_end(ways: Ways, links: Sequence[str], kept: set[str], node: str | Non
     return best
 
 
+def horizon_ms(inputs: Inputs, args: argparse.Namespace) -> int:
+    """The horizon as asked for, or 30 minutes after the last vehicle sets out, in fives of minutes."""
+    last = max((route.depart_ms for route in inputs.routes), default=0)
+    return int(args.horizon or -(-(last + 30 * MINUTE_MS) // (5 * MINUTE_MS)) * 5) * MINUTE_MS
+
+
 def case_of(made: Carried, inputs: Inputs, held: dict[str, list[Connection]], cut: Cut, args: argparse.Namespace) -> Case:
     """The case: its links, demand, splits and signals."""
-    last = max((route.depart_ms for route in inputs.routes), default=0)
-    horizon = (args.horizon or -(-(last + 30 * MINUTE_MS) // (5 * MINUTE_MS)) * 5) * MINUTE_MS
-    slots = slots_of(horizon, made.step)
+    slots = slots_of(horizon_ms(inputs, args), made.step)
     roads = made.roads
     cache: dict[tuple[str, ...], tuple[str, ...]] = {}
     routes = []

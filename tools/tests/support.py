@@ -13,7 +13,7 @@ from typing import Any
 TOOLS = Path(__file__).resolve().parents[1]
 CLONE = TOOLS.parent
 EXAMPLES = CLONE / "examples"
-BUILT = Path(os.environ.get("LTM") or CLONE / "crates" / "ltm" / "out" / "ltm")
+BUILT = Path(os.environ.get("LTM") or CLONE / "crates" / "ltm" / "out" / "ltm").absolute()
 needs_program = unittest.skipUnless(os.access(BUILT, os.X_OK), "the program ltm is not built")
 
 # the smallest case, as examples/one_road has it

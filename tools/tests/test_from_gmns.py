@@ -254,6 +254,15 @@ class Fitted(GmnsTest):
         self.assertEqual(out.splitlines()[-1], "53,982,998 cells of at most 54,000,000")
         self.assertEqual((self.folder / "case" / "setup.csv").read_text(), "step_ms,slots,origin_capacity\n3600,2000,32\n")
 
+    def test_steps_tell_the_cells_of_each(self) -> None:
+        # 26,987 a slot and 8,998 beside; slots are told where these are too many
+        self.corridor(1)
+        status, out, _ = self.make("--steps", "--horizon", "120")
+        self.assertEqual((status, (self.folder / "case").exists()), (0, False))
+        lines = {line.split()[0]: line.split()[-2:] for line in out.splitlines()[1:]}
+        self.assertEqual((lines["2000"][1], lines["60000"][1]), ("97,162,198", f"{26_987 * 120 + 8_998:,}"))
+        self.assertEqual(lines["500"], ["14,400", "slots"])
+
     def test_more_cells_than_may_be_asked_for_are_told_with_what_fits(self) -> None:
         # with 32 destinations the widths are 131, 196 of 1,498 nodes and 66, a boundary of both curves 287,936, the limits 2,998: 584,739 a slot
         self.corridor(32)
