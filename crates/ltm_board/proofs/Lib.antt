@@ -1,10 +1,10 @@
 mod Lists
-mod Changes
-mod Takes
-mod Seats
-mod Opens
+mod Cuts
 mod Networks
 mod Right
+mod Seen
+mod Posts
+mod Rules
 mod Rows
 mod Leading
 pub mod Crosses

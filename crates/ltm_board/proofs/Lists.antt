@@ -1,6 +1,6 @@
 -- Lists that begin one another.
-use Rattle.std.proofs.Common.{◌≡◌, List, [], ◌∷◌, ◌++◌, refl, sym, ap, ◌∙◌, append_assoc}
-use Rattle.std.proofs.lemmas.List.{append_cancel_left}
+use Rattle.std.proofs.Common.{◌≡◌, List, [], ◌∷◌, ◌++◌, map, take, refl, sym, ap, ◌∙◌, append_assoc}
+use Rattle.std.proofs.lemmas.List.{map-append}
 use mathlib.Core.List.{IsPrefix}
 use Rattle.ltm_board.specs.Lists.{joined}
 use Rattle.ltm_board.specs.Begins.{BeginsWith}
@@ -20,15 +20,15 @@ module _ {E : Type 0} where
   all_later list later [] up h = tt
   all_later list later (l ∷ ls) up h = (begins_trans l list later h.0 up, all_later list later ls up h.1)
 
-  pub all_of_both : (list : List E) (xs ys : List (List E)) → BeginsWith list xs → BeginsWith list ys → BeginsWith list (xs ++ ys)
-  all_of_both list [] ys h g = g
-  all_of_both list (x ∷ xs) ys h g = (h.0, all_of_both list xs ys h.1 g)
+  pub none_taken : (xs : List E) → take 0 xs ≡ []
+  none_taken [] = refl
+  none_taken (x ∷ xs) = refl
+
+  pub front_begins : (xs : List E) → IsPrefix (take 1 xs) xs
+  front_begins [] = itself []
+  front_begins (x ∷ xs) = (xs, ap (λ l. x ∷ l ++ xs) (none_taken xs))
 
   -- ---- posts one behind another
-  -- one post, as the list of its entries
-  pub joined_one : (post : List E) → post ≡ joined (post ∷ [])
-  joined_one post = sym (append_nil post)
-
   pub joined_both : (a b : List (List E)) → joined (a ++ b) ≡ joined a ++ joined b
   joined_both [] b = refl
   joined_both (post ∷ posts) b = ap (λ l. post ++ l) (joined_both posts b) ∙ sym (append_assoc post (joined posts) (joined b))
@@ -40,7 +40,5 @@ module _ {E : Type 0} where
   pub joined_begins : (a b : List (List E)) → IsPrefix a b → IsPrefix (joined a) (joined b)
   joined_begins a b (rest, e) = (joined rest, sym (joined_both a rest) ∙ ap joined e)
 
-  -- a post is known by the list before it and the list after it
-  pub post_is : (posts : List (List E)) (post new : List E) (before after : List E) → before ≡ joined posts → after ≡ before ++ new → after ≡ joined (posts ++ post ∷ []) → post ≡ new
-  post_is posts post new before after was grown now =
-      append_cancel_left (joined posts) post new (sym (joined_more posts post) ∙ (sym now ∙ (grown ∙ ap (λ l. l ++ new) was)))
+pub map_begins : {E F : Type 0} (f : E → F) (xs ys : List E) → IsPrefix xs ys → IsPrefix (map f xs) (map f ys)
+map_begins f xs ys (rest, e) = (map f rest, sym (map-append f xs rest) ∙ ap (λ l. map f l) e)

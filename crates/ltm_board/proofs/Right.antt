@@ -11,10 +11,8 @@ use Rattle.ltm_flows.specs.Shown.{ShowsCounts}
 use Rattle.ltm_core.specs.declared.entry.LogEntry.{LogEntry}
 use Rattle.ltm_core.specs.declared.entry.LogEntry.TheVariants.{Opening, Accepted, Mark}
 use Rattle.ltm_board.specs.Sheets.{SheetData, IsSheet, links_on}
-use Rattle.ltm_board.specs.Lists.{PostData, joined, list_of, opening_posts, links_told, is_opened, LeadsTo, IsLoadingOf, IsSheetAfter}
-use Rattle.ltm_board.specs.Begins.{BeginsWith}
-use Rattle.ltm_board.specs.Views.{oldest}
-use Rattle.ltm_board.proofs.Lists.{joined_begins}
+use Rattle.ltm_board.specs.Lists.{PostData, joined, list_of, opening_posts, opening_of, links_told, is_opened, LeadsTo, IsLoadingOf, IsSheetAfter}
+use Rattle.ltm_board.proofs.Lists.{begins_trans, front_begins, joined_begins}
 use Rattle.ltm_board.proofs.Networks.{by_batches}
 
 pub opens_itself : (s : ScenarioData) → LeadsTo (list_of s []) s
@@ -48,21 +46,11 @@ told_same (Accepted batch ∷ rest) list opened begins = absurd (cc)
 told_same (Mark ∷ rest) list opened begins = absurd (cc)
 told_same [] list opened begins = absurd (cc)
 
-oldest_begins : (list : List PostData) (known : List (List PostData)) → is_opened (joined (oldest known)) ≡ true → BeginsWith list known → IsPrefix (oldest known) list
-oldest_begins list [] opened h = absurd (cc)
-oldest_begins list (l ∷ []) opened h = h.0
-oldest_begins list (l ∷ m ∷ ms) opened h = oldest_begins list (m ∷ ms) opened h.1
-
--- what hangs has as many links as a viewer knows
-pub links_known : EditsMake → (list : List LogEntry) (posts : List PostData) (sheet : SheetData) (known : List (List PostData)) → list ≡ joined posts → IsSheetAfter list sheet → BeginsWith posts known
-    → is_opened (joined (oldest known)) ≡ true → links_on sheet ≡ links_told (joined (oldest known))
-links_known make list posts sheet known same is begins opened =
-    links_after make list sheet is ∙ (ap links_told same ∙ told_same (joined (oldest known)) (joined posts) opened (joined_begins (oldest known) posts (oldest_begins posts known opened begins)))
-
--- the oldest list stays when others are put before it
-pub oldest_stays : (list : List PostData) (known : List (List PostData)) → is_opened (joined (oldest known)) ≡ true → oldest (list ∷ known) ≡ oldest known
-oldest_stays list [] opened = absurd (cc)
-oldest_stays list (m ∷ ms) opened = refl
+-- what is shown has as many links as the opening of those posts that were seen
+pub links_seen : EditsMake → (seen posts : List PostData) (sheet : SheetData) → is_opened (joined (opening_of seen)) ≡ true → IsPrefix seen posts → IsSheetAfter (joined posts) sheet
+    → links_on sheet ≡ links_told (joined (opening_of seen))
+links_seen make seen posts sheet opened up is =
+    links_after make (joined posts) sheet is ∙ told_same (joined (opening_of seen)) (joined posts) opened (joined_begins (opening_of seen) posts (begins_trans (opening_of seen) seen posts (front_begins seen) up))
 
 pub same_opened : (a b : List LogEntry) → a ≡ b → is_opened b ≡ true → is_opened a ≡ true
 same_opened a b e opened = ap is_opened e ∙ opened
@@ -81,5 +69,8 @@ links_stay make list more sheet next is now =
 pub links_opening : EditsMake → (s : ScenarioData) (sheet : SheetData) → IsSheetAfter (list_of s []) sheet → links_on sheet ≡ (setting_of s).links
 links_opening make s sheet is = links_after make (list_of s []) sheet is ∙ sym (links_in s)
 
-pub told_opening : (s : ScenarioData) (known : List (List PostData)) → known ≡ opening_posts s ∷ [] → links_told (joined (oldest known)) ≡ (setting_of s).links
-told_opening s known is = ap (λ (l : List (List PostData)). links_told (joined (oldest l))) is ∙ sym (links_in s)
+pub told_opening : (s : ScenarioData) (posts : List PostData) → posts ≡ opening_posts s → links_told (joined (opening_of posts)) ≡ (setting_of s).links
+told_opening s posts is = ap (λ (l : List PostData). links_told (joined (opening_of l))) is ∙ sym (links_in s)
+
+pub opened_opening : (s : ScenarioData) (posts : List PostData) → posts ≡ opening_posts s → is_opened (joined (opening_of posts)) ≡ true
+opened_opening s posts is = ap (λ (l : List PostData). is_opened (joined (opening_of l))) is

@@ -1,41 +1,60 @@
--- What contracts see of a board, its viewer and its notes, and of which board each is.
-use Rattle.std.specs.Prelude.{ℕ, List}
-use Rattle.atomic_table.specs.Seated.{TableId}
+-- What contracts see of a board, its viewer and its notes.
+use Rattle.std.specs.Prelude.{ℕ, List, [], Option, Some, None}
+use Rattle.ltm_units.specs.declared.quantities.Units.{Units}
+use Rattle.ltm_flows.specs.declared.in_all.Totals.{Totals}
 use Rattle.ltm_board.specs.Sheets.{SheetData, links_on}
-use Rattle.ltm_board.specs.Lists.{PostData, joined, links_told}
-use Rattle.ltm_board.specs.Views.{newest, oldest}
-use Rattle.ltm_board.specs.declared.ends.Board.{Board}
-use Rattle.ltm_board.specs.declared.ends.Viewer.{Viewer}
-use Rattle.ltm_board.specs.declared.ends.Note.{Note}
+use Rattle.ltm_board.specs.Lists.{PostData, joined, links_told, opening_of}
+use Rattle.ltm_board.specs.Panels.{posts_of}
+use Rattle.ltm_board.specs.declared.note.Note.{Note}
 
--- ---- which board it is
-abbrev pub board_id : Board → TableId
-board_id b = b.seat.table_id
+-- the posts of a board, from the opening scenario on, and the sheet that was posted last
+pub record BoardData : Type 0 where
+  pub list : List PostData
+  pub sheet : SheetData
 
-abbrev pub viewer_id : Viewer → TableId
-viewer_id v = v.seat.table_id
+-- the opening of its board; the lists that a viewer read, and those of the notes that it learnt, the newest first
+pub record ViewerData : Type 0 where
+  pub opening : List PostData
+  pub known : List (List PostData)
 
-abbrev pub note_id : Note → TableId
-note_id n = n.seat.table_id
+abbrev pub board_list : BoardData → List PostData
+board_list b = b.list
 
--- ---- the posts of a board, from the opening scenario on, and the sheet that was posted last
-abbrev pub board_list : Board → List PostData
-board_list b = newest b.seat.me.0.known
-
-abbrev pub board_sheet : Board → SheetData
-board_sheet b = b.own.sheet
+abbrev pub board_sheet : BoardData → SheetData
+board_sheet b = b.sheet
 
 -- the list that was published when a note was made
 abbrev pub note_list : Note → List PostData
-note_list n = newest n.seat.me.0.known
+note_list n = posts_of n.panel.now
 
--- the lists that a viewer read, and those of the notes that it learnt, the newest first
-abbrev pub viewer_lists : Viewer → List (List PostData)
-viewer_lists v = v.seat.me.0.known
+abbrev pub viewer_lists : ViewerData → List (List PostData)
+viewer_lists v = v.known
 
--- how many links there are
-abbrev pub board_links : Board → ℕ
-board_links b = links_on b.own.sheet
+-- ---- the opening, the first post of each list
+abbrev pub board_opening : BoardData → List PostData
+board_opening b = opening_of b.list
 
-abbrev pub viewer_links : Viewer → ℕ
-viewer_links v = links_told (joined (oldest v.seat.me.0.known))
+abbrev pub viewer_opening : ViewerData → List PostData
+viewer_opening v = v.opening
+
+abbrev pub note_opening : Note → List PostData
+note_opening n = opening_of (note_list n)
+
+-- ---- how many links there are
+abbrev pub board_links : BoardData → ℕ
+board_links b = links_on b.sheet
+
+abbrev pub viewer_links : ViewerData → ℕ
+viewer_links v = links_told (joined v.opening)
+
+-- ---- while nothing is shown
+-- what is there, if anything is
+abbrev pub of_some : {X Y : Type 0} → Y → (X → Y) → Option X → Y
+of_some none f (Some x) = f x
+of_some none f None = none
+
+abbrev pub nothing : Units
+nothing = record { 0 = 0 }
+
+abbrev pub no_sheet : SheetData
+no_sheet = record { totals = record { generated = nothing; arrived = nothing; on_links = nothing; waiting = nothing }; through = [] }

@@ -1,5 +1,5 @@
 -- The list of a board, the posts that made it, and the sheet that belongs to it.
-use Rattle.std.specs.Prelude.{◌≡◌, ℕ, List, [], ◌∷◌, ◌++◌, length, map, Bool, true, false}
+use Rattle.std.specs.Prelude.{◌≡◌, ℕ, List, [], ◌∷◌, ◌++◌, length, map, take, Bool, true, false}
 use Rattle.ltm_curve.specs.Counts.{Counts}
 use Rattle.ltm_loading.specs.Loading.{IsLoading}
 use Rattle.ltm_scenario.specs.declared.edit.Edit.{Edit}
@@ -32,6 +32,10 @@ joined (post ∷ posts) = post ++ joined posts
 -- the posts of a board on which nothing was posted but its opening scenario
 abbrev pub opening_posts : ScenarioData → List PostData
 opening_posts opening = list_of opening [] ∷ []
+
+-- the first post
+abbrev pub opening_of : {E : Type 0} → List E → List E
+opening_of posts = take 1 posts
 
 -- how many links the opening scenario of a list has
 abbrev pub links_told : List LogEntry → ℕ

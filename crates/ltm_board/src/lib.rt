@@ -1,30 +1,33 @@
 //! - **What it is**: a board: finished loadings are posted at one end, as sheets of totals and two numbers a link, and read
 //!   at the other, in any thread. A read gives the sheet of the loading after some list of batches; that list begins with
 //!   each list that its viewer read before and with that of each note that it learnt, whatever the order of posts and reads.
-//! - **On what it stands**: `ltm_flows` for loadings and their totals, `ltm_scenario` for batches, `ltm_core` for the words in
-//!   which a list of accepted batches is told, `atomic_table`, of which it has one word and one slot, and the back-off of
-//!   `crossbeam_utils`.
-//! - **What a call costs**: a post copies its batches once and a sheet twice, before it takes the panel down, and never a
-//!   curve; a read copies a sheet and takes no memory. A read waits for a post of its own board alone, and a post for a read
-//!   of its own viewer; each holds the panel for a moment.
-//! - **When to change it here**: when a sheet is to say more of a loading, or when several viewers are to share a board. The
-//!   rule and its steps are kept together: see the head of `rule`.
+//! - **On what it stands**: `ltm_flows` for loadings and their totals, `ltm_scenario` for batches and their equality, `ltm_core`
+//!   for the words in which a list of accepted batches is told, and `left_right` for two copies of what is shown, under a rule
+//!   of its own.
+//! - **What a call costs**: a post copies its batches twice and makes two sheets, and never a curve; it waits for a read that
+//!   still has the copy shown before. A read copies a sheet, takes no memory and waits for no post. To learn a note is a pass
+//!   over its batches. Each board has its batches twice.
+//! - **When to change it here**: when a sheet is to say more of a loading, or when several viewers are to share a board.
 #![tactic(auto)]
 
 mod board;
-mod ends;
-mod frame;
+mod glimpse;
 mod laws;
-mod own;
+mod looking;
+mod note;
+mod opening;
 mod panel;
 mod posting;
 mod rule;
+mod same;
 mod sheet;
 mod through;
-mod view;
+mod told;
 mod viewer;
 
-pub use ends::{Board, Note, Viewer};
+pub use board::Board;
 pub use laws::lists_lead;
+pub use note::Note;
 pub use sheet::Sheet;
 pub use through::Through;
+pub use viewer::Viewer;

@@ -1,22 +1,20 @@
-//! What hangs on a board: the batches that were posted on its opening scenario, and the sheet of the loading after them.
-ghost use Rattle.std.specs.Prelude.{◌≡◌, ◌+◌, List, [], length, OnOk, OnErr, IfOk};
-ghost use Rattle.ltm_board.specs.Sheets.{links_on};
-ghost use Rattle.ltm_board.specs.Lists.{list_of, entries_of_batches, IsSheetAfter};
-ghost use Rattle.ltm_board.specs.Panels.{with_batches};
+//! What is on a board, and what a post puts there.
+ghost use Rattle.std.specs.Prelude.{◌≡◌, [], ◌∷◌, ◌++◌, take, IfOk, OnOk, OnErr};
+ghost use Rattle.ltm_board.specs.Panels.{batches_in};
 
 use crate::sheet::Sheet;
+use left_right::Absorb;
 use ltm_scenario::{Batch, Scenario};
-use ltm_units::NoMemory;
-use std::alloc::Global;
-use std::marker::Model;
-use std::mem;
+use std::alloc::{AllocError, Global};
 use std::snapshot::Snapshot;
 
-/// Contracts see its list and its sheet; of the opening scenario nothing is kept.
+/// The batches of each post on the opening scenario, of which nothing is kept; how many they are; and the sheet of the loading
+/// after them.
 pub struct Panel {
-    opening: Snapshot<Scenario>,
-    batches: Vec<Batch>,
-    sheet: Sheet,
+    pub opening: Snapshot<Scenario>,
+    pub posts: Vec<Vec<Batch>>,
+    pub count: u64,
+    pub sheet: Sheet,
 }
 
 // By hand, so that letting go of a panel is one call.
@@ -24,79 +22,69 @@ impl Drop for Panel {
     fn drop(self) {
         let Panel {
             opening: _opening,
-            batches: _batches,
+            posts: _posts,
+            count: _count,
             sheet: _sheet,
         } = self;
     }
 }
 
-impl Model for Panel {
-    ghost use Rattle.ltm_board.specs.Panels.{PanelData};
-
-    ghost Value = { PanelData };
-
-    ghost use Rattle.ltm_board.specs.Lists.{list_of, IsSheetAfter};
-
-    ghost view = { λ p. record { list = list_of p.opening.value p.batches.items; sheet = p.sheet } };
-
-    ghost invariant = { λ p. IsSheetAfter (list_of p.opening.value p.batches.items) p.sheet };
+/// It keeps so many posts, which takes away what a refused post left, and puts one behind them.
+#[derive(Drop)]
+pub struct Posting {
+    pub keeps: usize,
+    pub batches: Vec<Batch>,
+    pub count: u64,
+    pub sheet: Sheet,
 }
 
 /// Equal batches.
-pub(crate) fn copies(alloc: Global, batches: &[Batch]) -> Result<Vec<Batch>, NoMemory>
+pub(crate) fn copies(alloc: Global, batches: &[Batch]) -> Result<Vec<Batch>, AllocError>
     ensures { IfOk result (λ v. v.items ≡ batches.now) }
 {
     let mut copies = Vec::with_capacity(alloc, batches.len())?;
     for batch in batches {
-        let copy = batch.try_copy()?;
-        copies.push(copy)?;
+        match batch.try_copy() {
+            Ok(copy) => copies.push(copy)?,
+            Err(_) => return Err(AllocError),
+        }
     }
     Ok(copies)
 }
 
-impl Panel {
-    /// A panel with no batches, and the sheet of the opening scenario's loading.
-    pub(crate) fn create(alloc: Global, opening: &Scenario, sheet: Sheet) -> Panel
-        requires { IsSheetAfter (list_of opening.now []) sheet }
-        ensures { (result.list ≡ list_of opening.now []) × (result.sheet ≡ sheet) }
-    {
-        Panel {
-            opening: Snapshot::of(opening),
-            batches: Vec::new(alloc),
+impl Absorb<Posting> for Panel {
+    type State = (Scenario, [[Batch; 0]; 0], u64, Sheet);
+
+    ghost state = { λ p. (p.opening.value, batches_in p.posts.items, p.count, p.sheet) };
+
+    ghost applied = { λ st op. (st.0, take op.keeps st.1 ++ op.batches.items ∷ [], op.count, op.sheet) };
+
+    fn absorb_first(&mut self, operation: &Posting, _other: &Panel) -> Result<(), AllocError> {
+        let batches = copies(*self.posts.allocator(), &operation.batches)?;
+        let Ok(sheet) = operation.sheet.try_copy() else {
+            return Err(AllocError);
+        };
+        self.posts.reserve(1)?;
+        self.posts.truncate(operation.keeps);
+        self.posts.push(batches)?;
+        self.count = operation.count;
+        self.sheet = sheet;
+        Ok(())
+    }
+
+    fn absorb_second(&mut self, operation: Posting, _other: &Panel) -> Result<(), Posting> {
+        if self.posts.reserve(1).is_err() {
+            return Err(operation);
+        }
+        let Posting {
+            keeps,
+            batches,
+            count,
             sheet,
-        }
-    }
-
-    /// Its sheet is that of the loading to which its list leads. Costs nothing when it runs.
-    pub(crate) fn holds(&self)
-        ensures { IsSheetAfter self.now.list self.now.sheet }
-    {
-        let _sheet = &self.sheet;
-    }
-
-    /// How many batches there are.
-    pub(crate) fn count(&self) -> u64
-        ensures { result + 1 ≡ length self.now.list }
-    {
-        self.batches.len() as u64
-    }
-
-    pub(crate) fn sheet(&self) -> &Sheet
-        ensures { result.now ≡ self.now.sheet }
-    {
-        &self.sheet
-    }
-
-    /// Puts batches last, and the sheet of the loading after them in the place of its own; or changes nothing.
-    pub(crate) fn add(&mut self, batches: Vec<Batch>, sheet: Sheet) -> Result<(), NoMemory>
-        requires { IsSheetAfter (with_batches self.old batches.items sheet).list sheet }
-        ensures ok { OnOk result (self.new ≡ with_batches self.old batches.items sheet) }
-        ensures err { OnErr result (self.new ≡ self.old) }
-    {
-        let mut batches = batches;
-        if self.batches.append(&mut batches).is_err() {
-            return Err(NoMemory);
-        }
+        } = operation;
+        self.posts.truncate(keeps);
+        self.posts.push_reserved(batches);
+        self.count = count;
         self.sheet = sheet;
         Ok(())
     }

@@ -1,92 +1,49 @@
-//! What a post makes before it takes the panel, and what it does with it.
-ghost use Rattle.std.specs.Prelude.{◌≡◌, ◌++◌, ℕ, true, false, [], ◌∷◌, IfOk, OnErr};
-ghost use Rattle.std.specs.Arc.{arc_value};
-ghost use Rattle.ltm_curve.specs.Counts.{Counts};
-ghost use Rattle.ltm_loading.specs.Setting.{Setting};
-ghost use Rattle.ltm_flows.specs.Shown.{ShowsCounts};
-ghost use Rattle.ltm_board.specs.Sheets.{IsSheet};
-ghost use Rattle.ltm_board.specs.Lists.{entries_of_batches, joined, IsSheetAfter};
-ghost use Rattle.ltm_board.specs.Views.{newest, told_view};
+//! The step of a post.
+ghost use Rattle.std.specs.Prelude.{◌≡◌, ◌+◌, [], ◌∷◌, ◌++◌, drop, length, OnOk, OnErr};
+ghost use Rattle.ltm_board.specs.Lists.{joined, entries_of_batches, opening_of, IsSheetAfter};
+ghost use Rattle.ltm_board.specs.Panels.{posts_of, IsRight, AllKeep};
+ghost use Rattle.ltm_board.specs.Sheets.{links_on};
 
-use crate::frame::Frame;
-use crate::own::Own;
-use crate::panel::copies;
-use crate::rule::{BoardSeat, Tell};
+use crate::glimpse::Glimpse;
+use crate::panel::{Panel, Posting};
+use crate::rule::{BoardRule, Looks};
 use crate::sheet::Sheet;
-use ltm_flows::Loading;
-use ltm_scenario::Batch;
-use ltm_units::NoMemory;
-use std::alloc::Global;
-use std::sync::{Arc, Wait};
+use left_right::writer::Writer;
+use ltm_scenario::{Batch, edits_make};
+use std::alloc::AllocError;
+use std::sync::Wait;
 
-/// The batches and the sheet of a post, and the sheet again for the board itself.
-#[derive(Drop)]
-pub(crate) struct Posting {
-    batches: Vec<Batch>,
-    sheet: Sheet,
-    copy: Sheet,
-}
+pub type BoardWriter = Writer<Panel, Posting, Glimpse, BoardRule>;
 
-impl Posting {
-    /// What a post of these batches puts.
-    pub(crate) fn of(
-        alloc: Global,
-        batches: &[Batch],
-        loading: &Loading,
-    ) -> Result<Posting, NoMemory>
-        ensures batches { IfOk result (λ p. p.batches.items ≡ batches.now) }
-        ensures sheet { IfOk result (λ p. (s : Setting) (version : ℕ) (c : Counts) → ShowsCounts s version c loading.now → IsSheet s c p.sheet) }
-        ensures copy { IfOk result (λ p. p.copy ≡ p.sheet) }
-    {
-        let batches = copies(alloc, batches)?;
-        let sheet = Sheet::of(alloc, loading)?;
-        let copy = sheet.try_copy()?;
-        Ok(Posting {
-            batches,
-            sheet,
-            copy,
-        })
-    }
-}
-
-/// Puts a posting up, and gives what then hangs; or leaves what hangs.
+/// Puts a post behind those that are shown. Where it is refused what is shown stays, and a posting may be left, which the next
+/// one takes away.
 pub(crate) fn post_on<R: Wait>(
     rt: &R,
-    frame: &Arc<Frame, Global>,
-    seat: &mut BoardSeat,
-    posting: Posting,
-) -> Result<Own, NoMemory>
-    requires table { seat.old.table_id ≡ (arc_value frame.now).table.shared.table_id }
-    requires idle { (seat.old.me.1 ≡ []) × (seat.old.me.0.posts ≡ true) × (seat.old.me.0.holds ≡ false) }
-    requires sheet { IsSheetAfter (joined (newest seat.old.me.0.known) ++ entries_of_batches posting.batches.items) posting.sheet }
-    requires copy { posting.copy ≡ posting.sheet }
-    ensures table { seat.new.table_id ≡ seat.old.table_id }
-    ensures idle { (seat.new.me.1 ≡ []) × (seat.new.me.0.posts ≡ true) × (seat.new.me.0.holds ≡ false) }
-    ensures ok { IfOk result (λ own. (own.list ≡ joined (newest seat.new.me.0.known)) × (own.sheet ≡ posting.sheet)) }
-    ensures list { IfOk result (λ own. newest seat.new.me.0.known ≡ newest seat.old.me.0.known ++ entries_of_batches posting.batches.items ∷ []) }
-    ensures err { OnErr result (newest seat.new.me.0.known ≡ newest seat.old.me.0.known) }
+    mut writer: BoardWriter,
+    batches: Vec<Batch>,
+    count: u64,
+    sheet: Sheet,
+) -> (BoardWriter, Result<(), AllocError>)
+    requires right { IsRight writer.desk.shown.value }
+    requires keeps { AllKeep (length writer.desk.shown.value.posts.items) (drop writer.behind writer.log.items) }
+    requires sheet { IsSheetAfter (joined (posts_of writer.desk.shown.value) ++ entries_of_batches batches.items) sheet }
+    requires count { count + 1 ≡ length (joined (posts_of writer.desk.shown.value) ++ entries_of_batches batches.items) }
+    ensures right { IsRight result.0.desk.shown.value }
+    ensures keeps { AllKeep (length result.0.desk.shown.value.posts.items) (drop result.0.behind result.0.log.items) }
+    ensures ok { OnOk result.1 (posts_of result.0.desk.shown.value ≡ posts_of writer.desk.shown.value ++ entries_of_batches batches.items ∷ []) }
+    ensures err { OnErr result.1 (result.0.desk.shown.value ≡ writer.desk.shown.value) }
+    ensures opening { opening_of (posts_of result.0.desk.shown.value) ≡ opening_of (posts_of writer.desk.shown.value) }
+    ensures links { links_on result.0.desk.shown.value.sheet ≡ links_on writer.desk.shown.value.sheet }
 {
-    let Posting {
+    edits_make();
+    let posting = Posting {
+        keeps: writer.published().posts.len(),
         batches,
+        count,
         sheet,
-        copy,
-    } = posting;
-    let mut panel = frame.take(rt, seat);
-    if panel.add(batches, sheet).is_err() {
-        frame.give_back(seat, panel);
-        return Err(NoMemory);
+    };
+    match writer.append(posting) {
+        Ok(()) => return writer.publish_as::<Looks, R>(rt),
+        Err(_) => return (writer, Err(AllocError)),
     }
-    let own = Own::of(&panel, copy);
-    frame.post(seat, panel);
-    Ok(own)
-}
-
-/// A seat that knows the newest posts of the board's own.
-pub(crate) fn seat_told(frame: &Arc<Frame, Global>, seat: &mut BoardSeat) -> BoardSeat
-    requires table { seat.old.table_id ≡ (arc_value frame.now).table.shared.table_id }
-    requires posts { seat.old.me.0.posts ≡ true }
-    ensures table { (seat.new.table_id ≡ seat.old.table_id) × (result.table_id ≡ seat.old.table_id) }
-    ensures seats { (seat.new.me ≡ seat.old.me) × (result.me ≡ (told_view seat.old.me.0, [])) }
-{
-    frame.table.shared.split_seat::<Tell>(seat)
 }

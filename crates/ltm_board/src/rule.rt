@@ -1,76 +1,42 @@
-//! The rule of a board, and what each step on its word tells.
-//!
-//! The word is 0 while the panel is at home, and 1 while a seat holds it; the slot has the panel, in a box. Seven kinds of
-//! step are made, and no other: a take that wins, which takes the slot; a take that loses; an exchange that takes the panel
-//! out, or puts it back; a store by which the board's own seat gives it back with one post more; a store by which a seat gives
-//! it back as found; a split of a seat that knows the newest list; a join by which one seat knows what
-//! another knew. Who changes a step changes three things together: its play here, what it tells in `specs/Steps.antt`, and
-//! the lemma by which it keeps the rule in `proofs/`.
-ghost use Rattle.std.specs.Prelude.{[], ◌∷◌};
-ghost use Rattle.ltm_board.specs.Boxes.{BoxHas};
-ghost use Rattle.ltm_board.specs.Rule.{IsBoard};
-ghost use Rattle.ltm_board.specs.Steps.{Takes, Posts, GivesBack};
-ghost use Rattle.ltm_board.specs.Views.{opening_view, told_view, after_note, spent_view};
+//! The rule of a board, and what each step on it tells.
+ghost use Rattle.ltm_board.specs.Rule.{Keeps, Looked};
 
+use crate::glimpse::Glimpse;
 use crate::panel::Panel;
-use crate::view::View;
-use atomic_table::{Join, Play, Seat, Split, Table, TableRule};
-use ltm_core::LogEntry;
-use std::alloc::Global;
-use std::collections::LinkedList;
-use std::snapshot::Snapshot;
+use atomic_table::{Join, Split};
+use crossbeam_utils::rule::{Outcome, Protocol};
 
-pub type Slot = Option<Box<Panel>>;
-
-/// A seat knows lists of posts; what one post puts is a list of entries.
-pub type BoardSeat = Seat<Slot, View<LinkedList<LogEntry>>>;
-
-pub type BoardTable = Table<Slot, View<LinkedList<LogEntry>>, Snapshot<Panel>, BoardRule, Global>;
-
-/// The rule of a board. The key of the table is the first panel, from which the view of the board's own seat begins.
+/// The rule of a board.
 pub struct BoardRule;
 
-impl TableRule<Slot, View<LinkedList<LogEntry>>, Snapshot<Panel>> for BoardRule {
-    ghost holds = { λ _. IsBoard BoxHas };
+impl Protocol<Panel, Glimpse> for BoardRule {
+    ghost use Rattle.ltm_board.specs.Glimpses.{newcomer};
 
-    ghost first = { λ key. opening_view (key.value.list ∷ []) };
+    ghost holds = { Keeps };
+
+    ghost first = { newcomer };
 }
 
-// A seat tries to take the panel.
-pub(crate) struct Take;
+// A seat looks at what is shown, or shows something.
+pub(crate) struct Looks;
 
-impl Play<Slot, View<LinkedList<LogEntry>>> for Take {
-    ghost then = { Takes BoxHas };
+impl Outcome<Panel, Glimpse> for Looks {
+    ghost then = { Looked };
 }
 
-// The board's own seat gives the panel back with one post more.
-pub(crate) struct Post;
+// At the start alone: the board tells its viewer of the opening.
+pub(crate) struct Opens;
 
-impl Play<Slot, View<LinkedList<LogEntry>>> for Post {
-    ghost then = { Posts BoxHas };
-}
-
-// A seat gives it back as it was found.
-pub(crate) struct GiveBack;
-
-impl Play<Slot, View<LinkedList<LogEntry>>> for GiveBack {
-    ghost then = { GivesBack };
-}
-
-// The board's own seat tells another its newest list.
-pub(crate) struct Tell;
-
-impl<E> Split<View<E>> for Tell {
+impl Split<Glimpse> for Opens {
     ghost left = { λ v. v };
 
-    ghost right = { told_view };
+    ghost right = { λ v. v };
 }
 
-// A seat takes a note in.
-pub(crate) struct Learn;
+impl Join<Glimpse> for Opens {
+    ghost use Rattle.ltm_board.specs.Glimpses.{newcomer};
 
-impl<E> Join<View<E>> for Learn {
-    ghost both = { after_note };
+    ghost both = { λ v w. w };
 
-    ghost spent = { spent_view };
+    ghost spent = { newcomer };
 }

@@ -16,8 +16,7 @@ use Rattle.ltm_core.proofs.Logs.{length_batches, first_scenario}
 use Rattle.ltm_session.specs.Analysts.{state_of}
 use Rattle.ltm_board.specs.Lists.{PostData, list_of, opening_posts, entries_of_batches, joined, LeadsTo, IsLoadingOf}
 use Rattle.ltm_board.specs.Leads.{ListsLead}
-use Rattle.ltm_board.specs.Boards.{board_list}
-use Rattle.ltm_board.specs.declared.ends.Board.{Board}
+use Rattle.ltm_board.specs.Boards.{BoardData, board_list}
 use Rattle.ltm_viewing.specs.declared.boards.Boards.{Boards}
 use Rattle.ltm_viewing.specs.Hung.{first_of, shown_list, AllHave}
 use Rattle.ltm_viewing.proofs.Growing.{Grows}
@@ -120,7 +119,7 @@ pub shown_newer : (d e : CoreData) (k : ℕ) → Grows (state_of d) (state_of e)
 shown_newer d e k grown is = ⊎_elim (λ p. inl (p ∙ sym is)) (λ p. inr p) grown.shown
 
 -- ---- a post
-pub grown : (b b' : Board) (list : List LogEntry) (more : List LogEntry) → board_list b' ≡ board_list b ++ more ∷ [] → joined (board_list b) ≡ list → joined (board_list b') ≡ list ++ more
+pub grown : (b b' : BoardData) (list : List LogEntry) (more : List LogEntry) → board_list b' ≡ board_list b ++ more ∷ [] → joined (board_list b) ≡ list → joined (board_list b') ≡ list ++ more
 grown b b' list more posted same = ap joined posted ∙ (joined_more (board_list b) more ∙ ap (λ l. l ++ more) same)
 
 pub alike : (boards : Boards) (list : List LogEntry) → AllHave boards list → AllHave boards (joined (board_list boards.first))

@@ -1,26 +1,24 @@
 -- The boards on which a session's loadings are posted, and the viewers at them.
 use Rattle.std.specs.Prelude.{◌≡◌, ℕ, List, take, Option, Some, None, option_map, IfSome}
-use Rattle.atomic_table.specs.Seated.{TableId}
 use Rattle.ltm_flows.specs.Shown.{version_of}
 use Rattle.ltm_core.specs.declared.entry.LogEntry.{LogEntry}
 use Rattle.ltm_core.specs.Log.{Log, batches_of}
 use Rattle.ltm_core.specs.Cores.{CoreData}
-use Rattle.ltm_board.specs.Lists.{list_of, joined}
-use Rattle.ltm_board.specs.Boards.{board_id, board_list, board_links, viewer_id, viewer_links}
-use Rattle.ltm_board.specs.declared.ends.Board.{Board}
+use Rattle.ltm_board.specs.Lists.{PostData, list_of, joined}
+use Rattle.ltm_board.specs.Boards.{BoardData, board_opening, board_list, board_links, viewer_opening, viewer_links}
 use Rattle.ltm_viewing.specs.declared.boards.Boards.{Boards}
 use Rattle.ltm_viewing.specs.declared.watch.Watch.{Watch}
 use Rattle.ltm_viewing.specs.declared.watches.Watches.{Watches}
 
--- ---- which board it is, and how many links it tells of
+-- ---- what a board opened with, and how many links it tells of
 abbrev pub Hook : Type 0
-Hook = TableId × ℕ
+Hook = List PostData × ℕ
 
-abbrev pub board_hook : Board → Hook
-board_hook b = (board_id b, board_links b)
+abbrev pub board_hook : BoardData → Hook
+board_hook b = (board_opening b, board_links b)
 
 abbrev pub watch_hook : Watch → Hook
-watch_hook w = (viewer_id w.viewer, viewer_links w.viewer)
+watch_hook w = (viewer_opening w.viewer, viewer_links w.viewer)
 
 abbrev pub board_hooks : Boards → Hook × Option Hook
 board_hooks boards = (board_hook boards.first, option_map board_hook boards.second)

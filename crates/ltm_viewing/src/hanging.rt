@@ -18,17 +18,30 @@ use ltm_setting::link_count;
 use ltm_units::NoMemory;
 use ltm_workers::Bench;
 use std::alloc::Global;
+use std::sync::Wait;
 
-/// What a view works with.
-#[derive(Drop)]
+/// What a view works with. It is not `Drop`: end it by `end`.
 pub(crate) struct Stage {
     pub(crate) seat: Seat,
     pub(crate) boards: Boards,
     pub(crate) watches: Watches,
 }
 
+impl Stage {
+    /// Ends the viewers and their boards.
+    pub(crate) fn end<R: Wait>(self, rt: &R) {
+        let Stage {
+            seat: _seat,
+            boards,
+            watches,
+        } = self;
+        drop(watches);
+        boards.end(rt);
+    }
+}
+
 /// A board with the loading that a core shows, which has accepted nothing, and its viewer.
-fn hang_one(alloc: Global, core: &Core) -> Result<(Board, Watch), NoMemory>
+fn hang_one<R: Wait>(rt: &R, alloc: Global, core: &Core) -> Result<(Board, Watch), NoMemory>
     requires { version_now core.now.log ≡ 0 }
     ensures list { IfOk result (λ r. joined (board_list r.0) ≡ shown_list core.now) }
     ensures hook { IfOk result (λ r. watch_hook r.1 ≡ board_hook r.0) }
@@ -38,7 +51,7 @@ fn hang_one(alloc: Global, core: &Core) -> Result<(Board, Watch), NoMemory>
     let links = link_count(core.scenario());
     let sheet = Sheet::create(alloc, links)?;
     let spare = Sheet::create(alloc, links)?;
-    let (board, viewer) = Board::create(alloc, core.scenario(), core.shown())?;
+    let (board, viewer) = Board::create(rt, alloc, core.scenario(), core.shown())?;
     Ok((
         board,
         Watch {
@@ -50,13 +63,18 @@ fn hang_one(alloc: Global, core: &Core) -> Result<(Board, Watch), NoMemory>
 }
 
 /// A board for each of so many viewers, one or two, and the viewers.
-fn hang(alloc: Global, core: &Core, viewers: u32) -> Result<(Boards, Watches), NoMemory>
+fn hang<R: Wait>(
+    rt: &R,
+    alloc: Global,
+    core: &Core,
+    viewers: u32,
+) -> Result<(Boards, Watches), NoMemory>
     requires few { (0 < viewers) × (viewers ≤ 2) }
     requires fresh { version_now core.now.log ≡ 0 }
     ensures lists { IfOk result (λ r. AllHave r.0 (shown_list core.now)) }
     ensures hooks { IfOk result (λ r. (watch_hooks r.1 ≡ board_hooks r.0) × (how_many (board_hooks r.0) ≡ viewers)) }
 {
-    let (board, watch) = hang_one(alloc, core)?;
+    let (board, watch) = hang_one(rt, alloc, core)?;
     if viewers == 1 {
         let boards = Boards {
             first: board,
@@ -68,16 +86,24 @@ fn hang(alloc: Global, core: &Core, viewers: u32) -> Result<(Boards, Watches), N
         };
         return Ok((boards, watches));
     }
-    let (next_board, next_watch) = hang_one(alloc, core)?;
-    let boards = Boards {
-        first: board,
-        second: Some(next_board),
-    };
-    let watches = Watches {
-        first: watch,
-        second: Some(next_watch),
-    };
-    Ok((boards, watches))
+    match hang_one(rt, alloc, core) {
+        Ok((next_board, next_watch)) => {
+            let boards = Boards {
+                first: board,
+                second: Some(next_board),
+            };
+            let watches = Watches {
+                first: watch,
+                second: Some(next_watch),
+            };
+            return Ok((boards, watches));
+        }
+        Err(fault) => {
+            drop(watch);
+            board.end(rt);
+            return Err(fault);
+        }
+    }
 }
 
 /// Takes the memory that a script needs beside its answers.
@@ -97,7 +123,12 @@ fn take_seat(alloc: Global, core: &Core) -> Result<Seat, NoMemory>
 }
 
 /// Takes all memory that a view needs beside its answers and its posts.
-pub(crate) fn take_stage(alloc: Global, core: &Core, viewers: u32) -> Result<Stage, NoMemory>
+pub(crate) fn take_stage<R: Wait>(
+    rt: &R,
+    alloc: Global,
+    core: &Core,
+    viewers: u32,
+) -> Result<Stage, NoMemory>
     requires few { (0 < viewers) × (viewers ≤ 2) }
     requires fresh { version_now core.now.log ≡ 0 }
     ensures max { IfOk result (λ s. max_of s.seat.lines ≡ 65536) }
@@ -107,7 +138,7 @@ pub(crate) fn take_stage(alloc: Global, core: &Core, viewers: u32) -> Result<Sta
     ensures hooks { IfOk result (λ s. (watch_hooks s.watches ≡ board_hooks s.boards) × (how_many (board_hooks s.boards) ≡ viewers)) }
 {
     let seat = take_seat(alloc, core)?;
-    let (boards, watches) = hang(alloc, core, viewers)?;
+    let (boards, watches) = hang(rt, alloc, core, viewers)?;
     Ok(Stage {
         seat,
         boards,

@@ -28,12 +28,12 @@ fn tell_one<R: Wait>(
     alloc: Global,
     core: &Core,
     number: u32,
-    board: &mut Board,
+    board: &Board,
     watch: &mut Watch,
     into: &mut Vec<u8>,
 ) -> Result<(), NoMemory>
-    requires hook { watch_hook watch.old ≡ board_hook board.old }
-    requires posted { joined (board_list board.old) ≡ shown_list core.now }
+    requires hook { watch_hook watch.old ≡ board_hook board.now }
+    requires posted { joined (board_list board.now) ≡ shown_list core.now }
     ensures { OnOk result ((line : List ℕ) × ReportsShown (state_of core.now) (viewer_report number) line × (into.new.items ≡ into.old.items ++ line)) }
 {
     logs_tell_all();
@@ -49,24 +49,16 @@ pub(crate) fn tell_all<R: Wait>(
     rt: &R,
     alloc: Global,
     core: &Core,
-    boards: &mut Boards,
+    boards: &Boards,
     watches: &mut Watches,
     into: &mut Vec<u8>,
 ) -> Result<(), NoMemory>
-    requires hooks { watch_hooks watches.old ≡ board_hooks boards.old }
-    requires posted { AllHave boards.old (shown_list core.now) }
-    ensures { OnOk result ((lines : List ℕ) × ViewersTell (how_many (board_hooks boards.old)) (state_of core.now) lines × (into.new.items ≡ into.old.items ++ lines)) }
+    requires hooks { watch_hooks watches.old ≡ board_hooks boards.now }
+    requires posted { AllHave boards.now (shown_list core.now) }
+    ensures { OnOk result ((lines : List ℕ) × ViewersTell (how_many (board_hooks boards.now)) (state_of core.now) lines × (into.new.items ≡ into.old.items ++ lines)) }
 {
-    tell_one(
-        rt,
-        alloc,
-        core,
-        1,
-        &mut boards.first,
-        &mut watches.first,
-        into,
-    )?;
-    match (&mut boards.second, &mut watches.second) {
+    tell_one(rt, alloc, core, 1, &boards.first, &mut watches.first, into)?;
+    match (&boards.second, &mut watches.second) {
         (Some(board), Some(watch)) => tell_one(rt, alloc, core, 2, board, watch, into),
         _ => Ok(()),
     }
@@ -77,13 +69,13 @@ pub(crate) fn tell_last<R: Wait, W: Sink>(
     rt: &R,
     alloc: Global,
     core: &Core,
-    boards: &mut Boards,
+    boards: &Boards,
     watches: &mut Watches,
     sink: &mut W,
 ) -> SessionEnd
-    requires hooks { watch_hooks watches.old ≡ board_hooks boards.old }
-    requires posted { AllHave boards.old (shown_list core.now) }
-    ensures tells { TellsLast (how_many (board_hooks boards.old)) (state_of core.now) result (W.written sink.old) (W.written sink.new) }
+    requires hooks { watch_hooks watches.old ≡ board_hooks boards.now }
+    requires posted { AllHave boards.now (shown_list core.now) }
+    ensures tells { TellsLast (how_many (board_hooks boards.now)) (state_of core.now) result (W.written sink.old) (W.written sink.new) }
     ensures later { W.faults sink.old ≤ W.faults sink.new }
     ensures fault { result ≡ SessionEnd.WriteFault → Rose (W.faults sink.old) (W.faults sink.new) }
 {

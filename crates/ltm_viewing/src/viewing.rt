@@ -238,8 +238,12 @@ pub fn view<R: Threads + Wait + Sync, S: Source, W: Sink>(
     ensures later { W.faults sink.old ≤ W.faults sink.new }
 {
     core.holds();
-    match take_stage(alloc, core, viewers) {
-        Ok(mut stage) => view_from(rt, core, &mut stage, source, sink),
-        Err(_) => SessionEnd::NoMemory,
+    match take_stage(rt, alloc, core, viewers) {
+        Ok(mut stage) => {
+            let end = view_from(rt, core, &mut stage, source, sink);
+            stage.end(rt);
+            return end;
+        }
+        Err(_) => return SessionEnd::NoMemory,
     }
 }

@@ -38,11 +38,10 @@ pub(crate) fn look_on<R: Wait>(rt: &R, news: &News, watch: &mut Watch)
 
 /// Learns what its board has published, and reads once more. The sheet is that of this read where the list that was read is
 /// as long as the board's own, else it is the one that the board itself gives. Answers how many batches the list has.
-pub(crate) fn look_last<R: Wait>(rt: &R, board: &mut Board, watch: &mut Watch) -> u64
-    requires { watch_hook watch.old ≡ board_hook board.old }
-    ensures sheet { IsSheetAfter (joined (board_list board.old)) watch.new.sheet }
-    ensures count { result + 1 ≡ length (joined (board_list board.old)) }
-    ensures board { (board_hook board.new ≡ board_hook board.old) × (board_list board.new ≡ board_list board.old) }
+pub(crate) fn look_last<R: Wait>(rt: &R, board: &Board, watch: &mut Watch) -> u64
+    requires { watch_hook watch.old ≡ board_hook board.now }
+    ensures sheet { IsSheetAfter (joined (board_list board.now)) watch.new.sheet }
+    ensures count { result + 1 ≡ length (joined (board_list board.now)) }
     ensures watch { watch_hook watch.new ≡ watch_hook watch.old }
 {
     let Watch {
@@ -51,7 +50,7 @@ pub(crate) fn look_last<R: Wait>(rt: &R, board: &mut Board, watch: &mut Watch) -
         spare,
     } = watch;
     let count = board.sheet(spare);
-    viewer.learn(board.note());
+    viewer.learn(rt, board.note());
     let read = viewer.read(rt, sheet);
     if read != count {
         sheet.copy_from(spare);

@@ -34,10 +34,10 @@ fn with_sheet<R: Threads + Wait + Sync>(
     requires links { links_on sheet.old ≡ (setting_of opening.now).links }
 {
     lists_lead();
-    match Board::create(alloc, opening, first) {
+    match Board::create(rt, alloc, opening, first) {
         Ok((mut board, mut viewer)) => {
             let played = play(rt, &mut board, &mut viewer, sheet, batch, next, second);
-            board.close(viewer);
+            board.close(rt, viewer);
             Some(played)
         }
         Err(_) => None,

@@ -3,7 +3,7 @@ ghost use Rattle.std.specs.Prelude.{◌≡◌, ◌++◌, [], ◌∷◌, true, fa
 ghost use Rattle.std.specs.Thread.{IsSync};
 ghost use Rattle.ltm_board.specs.Sheets.{links_on};
 ghost use Rattle.ltm_board.specs.Lists.{IsLoadingOf, LeadsTo, joined, entries_of_batches};
-ghost use Rattle.ltm_board.specs.Boards.{board_id, board_list, board_links, viewer_id, viewer_links};
+ghost use Rattle.ltm_board.specs.Boards.{board_opening, board_list, board_links, viewer_opening, viewer_links};
 
 use crate::reads::{Read, read_of};
 use ltm_board::{Board, Sheet, Viewer};
@@ -16,7 +16,7 @@ use std::thread::{Threads, join_mut};
 /// One read.
 fn look<R: Wait>(rt: &R, viewer: &mut Viewer, sheet: &mut Sheet) -> Read
     requires { links_on sheet.old ≡ viewer_links viewer.old }
-    ensures viewer { (viewer_id viewer.new ≡ viewer_id viewer.old) × (viewer_links viewer.new ≡ viewer_links viewer.old) }
+    ensures viewer { (viewer_opening viewer.new ≡ viewer_opening viewer.old) × (viewer_links viewer.new ≡ viewer_links viewer.old) }
     ensures sheet { links_on sheet.new ≡ links_on sheet.old }
 {
     let length = viewer.read(rt, sheet);
@@ -31,7 +31,7 @@ fn look_twice<R: Wait>(
     sheet: &mut Sheet,
 ) -> [Read; 2]
     requires { links_on sheet.old ≡ viewer_links viewer.old }
-    ensures viewer { (viewer_id viewer.new ≡ viewer_id viewer.old) × (viewer_links viewer.new ≡ viewer_links viewer.old) }
+    ensures viewer { (viewer_opening viewer.new ≡ viewer_opening viewer.old) × (viewer_links viewer.new ≡ viewer_links viewer.old) }
     ensures sheet { links_on sheet.new ≡ links_on sheet.old }
 {
     let older = look(rt, viewer, sheet);
@@ -51,7 +51,7 @@ fn post_between<R: Wait>(
 ) -> bool
     requires leads { LeadsTo (joined (board_list board.old) ++ entries_of_batches (batch.now ∷ [])) scenario.now }
     requires loading { IsLoadingOf scenario.now loading.now }
-    ensures board { (board_id board.new ≡ board_id board.old) × (board_links board.new ≡ board_links board.old) }
+    ensures board { (board_opening board.new ≡ board_opening board.old) × (board_links board.new ≡ board_links board.old) }
     ensures refused { result ≡ false → board_list board.new ≡ board_list board.old }
 {
     barrier.wait(rt);
@@ -84,23 +84,23 @@ pub fn play<R: Threads + Wait + Sync>(
     scenario: &Scenario,
     loading: &Loading,
 ) -> Played
-    requires one { viewer_id viewer.old ≡ board_id board.old }
+    requires one { viewer_opening viewer.old ≡ board_opening board.old }
     requires links { (links_on sheet.old ≡ viewer_links viewer.old) × (viewer_links viewer.old ≡ board_links board.old) }
     requires leads { LeadsTo (joined (board_list board.old) ++ entries_of_batches (batch.now ∷ [])) scenario.now }
     requires loading { IsLoadingOf scenario.now loading.now }
-    ensures { viewer_id viewer.new ≡ board_id board.new }
+    ensures { viewer_opening viewer.new ≡ board_opening board.new }
 {
     let barrier = Barrier::new(2);
     let ([older, newer], at_once) = join_mut(
         rt,
         &mut || -> [Read; 2]
             requires { IsSync R.row × (links_on sheet.now ≡ viewer_links viewer.now) }
-            ensures viewer { (viewer_id viewer.exit.now ≡ viewer_id viewer.entry.now) × (viewer_links viewer.exit.now ≡ viewer_links viewer.entry.now) }
+            ensures viewer { (viewer_opening viewer.exit.now ≡ viewer_opening viewer.entry.now) × (viewer_links viewer.exit.now ≡ viewer_links viewer.entry.now) }
             ensures sheet { links_on sheet.exit.now ≡ links_on sheet.entry.now }
         { look_twice(rt, &barrier, viewer, sheet) },
         &mut || -> bool
             requires { IsSync R.row × LeadsTo (joined (board_list board.now) ++ entries_of_batches (batch.now ∷ [])) scenario.now × IsLoadingOf scenario.now loading.now }
-            ensures board { (board_id board.exit.now ≡ board_id board.entry.now) × (board_links board.exit.now ≡ board_links board.entry.now) }
+            ensures board { (board_opening board.exit.now ≡ board_opening board.entry.now) × (board_links board.exit.now ≡ board_links board.entry.now) }
             ensures refused { result ≡ false → board_list board.exit.now ≡ board_list board.entry.now }
         { post_between(rt, &barrier, board, batch, scenario, loading) },
     );
@@ -108,7 +108,7 @@ pub fn play<R: Threads + Wait + Sync>(
         || board
             .post(rt, slice::from_ref(batch), scenario, loading)
             .is_ok();
-    viewer.learn(board.note());
+    viewer.learn(rt, board.note());
     let last = look(rt, viewer, sheet);
     let length = board.sheet(sheet);
     Played {
