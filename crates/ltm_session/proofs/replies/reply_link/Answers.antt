@@ -1,4 +1,4 @@
-use Rattle.std.proofs.Common.{List, ℕ, refl, ap, ◌∙◌}
+use Rattle.std.proofs.Common.{refl, ap, ◌∙◌}
 use Rattle.ltm_network.specs.Network.{NetworkData, find_link}
 use Rattle.ltm_report.specs.Refusals.{unknown_link_line}
 use Rattle.ltm_session.specs.Analysts.{state_of}
