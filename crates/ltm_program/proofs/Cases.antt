@@ -1,68 +1,84 @@
--- A session of the case that the files describe, or the line that refuses it.
-use Rattle.std.proofs.Common.{ℕ, ◌≡◌, ◌⊎◌, inl, inr, refl, ap, sym, subst, ◌∙◌, List, Option, Some, Ok, Err}
-use Rattle.std.specs.Prelude.{Result}
+-- A run of the case that the files describe, or the line that refuses it.
+use Rattle.std.proofs.Common.{ℕ, ◌≡◌, ◌⊎◌, inl, inr, refl, ap, sym, subst, ◌∙◌, List, Option, Ok, Err}
+use Rattle.std.specs.Prelude.{IfSome}
+use Rattle.ltm_io.specs.declared.doc.Doc.{Doc}
 use Rattle.ltm_io.specs.Folder.{Files}
+use Rattle.ltm_io.specs.Faults.{Rose}
 use Rattle.ltm_io.specs.Sink.{appended, AppendsFront}
 use Rattle.ltm_scenario.specs.Data.{ScenarioData}
-use Rattle.ltm_casefile.specs.declared.faults.File.{File}
 use Rattle.ltm_casefile.specs.declared.faults.CaseFault.{CaseFault}
 use Rattle.ltm_casefile.specs.declared.faults.CaseFault.TheVariants as fault
-use Rattle.ltm_casefile.specs.Case.{case_of}
+use Rattle.ltm_casefile.specs.Faults.{Agrees, HasRisen, WasAsked}
+use Rattle.ltm_casefile.specs.Case.{case_of, asks_for}
+use Rattle.ltm_checking.specs.declared.refusal.Refusal.TheVariants as checked
 use Rattle.ltm_core.specs.Log.{version_now}
 use Rattle.ltm_core.specs.Cores.{CoreData}
 use Rattle.ltm_core.specs.CoreAnswers.{IsOpeningCore}
 use Rattle.ltm_session.specs.declared.ends.SessionEnd.{SessionEnd}
-use Rattle.ltm_session.specs.Session.{Answering, end_of}
 use Rattle.ltm_texts.specs.declared.status.Status.{Status}
 use Rattle.ltm_texts.specs.declared.status.Status.TheVariants as ending
+use Rattle.ltm_texts.specs.declared.words.Command.TheVariants as command
 use Rattle.ltm_texts.specs.Answers.{Describes}
-use Rattle.ltm_texts.specs.Program.{IsWhole, case_status, refusal_of}
-use Rattle.ltm_program.specs.Sessions.{IsServed, IsSessionUnder, WritesSessionFront, session_status, status_of_end}
+use Rattle.ltm_texts.specs.Program.{IsWhole, IsTold, IsMissing, Fetches, case_status, refusal_of}
+use Rattle.ltm_texts.specs.Run.{Outside, outside, WritesFront, IsRun}
+use Rattle.ltm_texts.proofs.MissingFile.{failed}
+use Rattle.ltm_texts.proofs.Running.{Unread, missed, run_refused}
+use Rattle.ltm_texts.proofs.Told.{told_given, never_ok, never_read}
+use Rattle.ltm_program.specs.Sessions.{EndsUnder, IsCaseUnder}
 
 -- ---- a core that has just begun
-pub begins : (s : ScenarioData) (d : CoreData) → IsOpeningCore s d → d.log.opening ≡ s
+begins : (s : ScenarioData) (d : CoreData) → IsOpeningCore s d → d.log.opening ≡ s
 begins s d opens = ap (λ log. log.opening) opens.log
 
 pub nothing_accepted : (s : ScenarioData) (d : CoreData) → IsOpeningCore s d → version_now d.log ≡ 0
 unfolding version_now
 nothing_accepted s d opens = ap version_now opens.log
 
+pub run_begun : (Of : ScenarioData → SessionEnd → List ℕ → Type 0) (s : ScenarioData) (d : CoreData) (status : Status) (b a : Outside) → IsOpeningCore s d
+    → IsRun (EndsUnder (Of d.log.opening)) (λ e. ⊥) (Unit {0}) status b a → IsRun (EndsUnder (Of s)) (λ e. ⊥) (Unit {0}) status b a
+run_begun Of s d status b a opens run = subst (λ x. IsRun (EndsUnder (Of x)) (λ e. ⊥) (Unit {0}) status b a) (begins s d opens) run
+
+-- ---- a case that is read
+front_in : (Of : ScenarioData → SessionEnd → List ℕ → Type 0) (s : ScenarioData) (told : Option Files) (status : Status) (old new : Option (List ℕ)) → Describes told (Ok s)
+    → WritesFront (EndsUnder (Of s)) status old new → WritesFront (IsCaseUnder Of told) status old new
+front_in Of s told status old new describes (inl same) = inl same
+front_in Of s told status old new describes (inr (due, t, given, under, front)) = inr (due, t, given, inr (s, describes, under), front)
+
+-- a run of it, after its files were fetched
+pub run_case : (Of : ScenarioData → SessionEnd → List ℕ → Type 0) (s : ScenarioData) (status : Status) (told : Option Files) (before : Doc → ℕ) (m a : Outside)
+    → m.told ≡ told → ((d : Doc) → (Fetches command.Load told d → ⊥) → m.faults d ≡ before d) → Describes told (Ok s) → IsRun (EndsUnder (Of s)) (λ d. ⊥) (Unit {0}) status m a
+    → IsRun (IsCaseUnder Of told) (Fetches command.Load told) (Unit {0}) status (outside told before m.left m.read_faults m.written m.write_faults) a
+run_case Of s status told before m a keeps stays describes run = record {
+  touches = (run.touches.0 ∙ keeps, λ d out. run.touches.1 d (λ none. none) ∙ stays d out);
+  reads = run.reads;
+  faults = (λ is. absurd ((run.faults.0 is).0.1), run.faults.1, run.faults.2);
+  whole = λ is. let h = run.whole is in (h.0, inr (s, describes, h.1), h.2);
+  front = front_in Of s told status m.written a.written describes run.front;
+}
+
 -- ---- a case that is refused
-pub refused_whole : {answers : Answering} (told : Option Files) (script old new : Option (List ℕ)) (f : CaseFault) (result : Status) → Describes told (Err f)
-    → (result ≡ case_status f) ⊎ ((result ≡ ending.WriteFault) ⊎ (result ≡ ending.NoMemory)) → (result ≡ case_status f → new ≡ appended (refusal_of f) old)
-    → IsWhole result → (text : List ℕ) × IsSessionUnder answers told script result text × (new ≡ appended text old)
-refused_whole told script old new f result describes (inl well) wrote whole = (refusal_of f, inl (f, describes, well, refl), wrote well)
-refused_whole told script old new f result describes (inr (inl failed)) wrote whole = absurd (subst IsWhole failed whole)
-refused_whole told script old new f result describes (inr (inr none)) wrote whole = absurd (subst IsWhole none whole)
+told_describes : (told : Option Files) (f : CaseFault) → IsTold (checked.Case f) → IfSome told (λ files. Agrees (case_of files) f) → Describes told (Err f)
+told_describes told (fault.Folder x) is agrees = absurd is
+told_describes told (fault.TooLong x) is agrees = agrees
+told_describes told (fault.Bad x row cause) is agrees = agrees
+told_describes told fault.NoMemory is agrees = absurd is
 
-pub refused_front : {answers : Answering} (told : Option Files) (script old new : Option (List ℕ)) (f : CaseFault) → Describes told (Err f) → (new ≡ old) ⊎ AppendsFront old new (refusal_of f)
-    → WritesSessionFront answers told script old new
-refused_front told script old new f describes (inl same) = inl same
-refused_front told script old new f describes (inr front) = inr (case_status f, refusal_of f, inl (f, describes, refl, refl), front)
+fetch_failed : (told : Option Files) (before now : Doc → ℕ) (f : CaseFault) → IfSome told (λ files. WasAsked (asks_for files) f) → HasRisen before now f → IsMissing (checked.Case f)
+    → (d : Doc) × Fetches command.Load told d × Rose (before d) (now d)
+fetch_failed told before now (fault.Folder x) asked rose is = missed command.Load told before now (failed told before now x asked rose)
+fetch_failed told before now (fault.TooLong x) asked rose is = absurd is
+fetch_failed told before now (fault.Bad x row cause) asked rose is = absurd is
+fetch_failed told before now fault.NoMemory asked rose is = absurd is
 
-pub completes_refused : (told : Option Files) (files : Files) (script : List ℕ) (f : CaseFault) (result : Status) → Describes told (Err f) → told ≡ Some files → (result ≡ ending.WriteFault → ⊥)
-    → (result ≡ case_status f) ⊎ ((result ≡ ending.WriteFault) ⊎ (result ≡ ending.NoMemory)) → (result ≡ session_status (case_of files) script) ⊎ (result ≡ ending.NoMemory)
-completes_refused told files script f result describes is quiet (inl well) =
-    inl (well ∙ ap (λ said. session_status said script) (sym (subst (λ o. Describes o (Err f)) is describes)))
-completes_refused told files script f result describes is quiet (inr (inl failed)) = absurd (quiet failed)
-completes_refused told files script f result describes is quiet (inr (inr none)) = inr none
-
--- ---- a case that is served
-pub case_whole : {answers : Answering} (told : Option Files) (script old new : Option (List ℕ)) (s : ScenarioData) (result : Status) → Describes told (Ok s)
-    → (IsWhole result → (end : SessionEnd) × (text : List ℕ) × (result ≡ status_of_end end) × IsServed answers s script end text × (new ≡ appended text old))
-    → IsWhole result → (text : List ℕ) × IsSessionUnder answers told script result text × (new ≡ appended text old)
-case_whole told script old new s result describes serves whole =
-    let (end, text, is, served, wrote) = serves whole in (text, inr (s, end, describes, is, served), wrote)
-
-pub case_front : {answers : Answering} (told : Option Files) (script old new : Option (List ℕ)) (s : ScenarioData) → Describes told (Ok s)
-    → (new ≡ old) ⊎ ((end : SessionEnd) × (text : List ℕ) × IsServed answers s script end text × AppendsFront old new text) → WritesSessionFront answers told script old new
-case_front told script old new s describes (inl same) = inl same
-case_front told script old new s describes (inr (end, text, served, front)) = inr (status_of_end end, text, inr (s, end, describes, refl, served), front)
-
-pub completes_case : (told : Option Files) (files : Files) (script : List ℕ) (s : ScenarioData) (result : Status) → Describes told (Ok s) → told ≡ Some files
-    → (result ≡ status_of_end (end_of script)) ⊎ (result ≡ ending.NoMemory) → (result ≡ session_status (case_of files) script) ⊎ (result ≡ ending.NoMemory)
-completes_case told files script s result describes is (inl well) =
-    inl (well ∙ ap (λ said. session_status said script) (sym (subst (λ o. Describes o (Ok s)) is describes)))
-completes_case told files script s result describes is (inr none) = inr none
-
--- ---- a file that is missing
+pub run_unread : (Of : ScenarioData → SessionEnd → List ℕ → Type 0) (f : CaseFault) (status : Status) (b a : Outside)
+    → (a.told ≡ b.told) × ((d : Doc) → (Fetches command.Load b.told d → ⊥) → a.faults d ≡ b.faults d) → Unread b a
+    → IfSome b.told (λ files. Agrees (case_of files) f) → IfSome b.told (λ files. WasAsked (asks_for files) f) → HasRisen b.faults a.faults f
+    → (IsWhole status → IsTold (checked.Case f) × (status ≡ case_status f) × (a.written ≡ appended (refusal_of f) b.written))
+    → (a.written ≡ b.written) ⊎ (IsTold (checked.Case f) × AppendsFront b.written a.written (refusal_of f))
+    → (status ≡ ending.FolderFault → IsMissing (checked.Case f) × (a.written ≡ b.written))
+    → (status ≡ ending.WriteFault → IsTold (checked.Case f) × Rose b.write_faults a.write_faults)
+    → IsRun (IsCaseUnder Of b.told) (Fetches command.Load b.told) (Unit {0}) status b a
+run_unread Of f status b a touches unread agrees asked rose whole front folder write =
+    run_refused (IsCaseUnder Of b.told) (Fetches command.Load b.told) (Unit {0}) (IsTold (checked.Case f)) (IsMissing (checked.Case f)) status (case_status f) (refusal_of f) b a touches unread
+    (λ is. inl (f, told_describes b.told f is agrees, refl, refl)) (told_given (checked.Case f)) (λ is. never_ok (checked.Case f) (sym is)) (λ is. never_read (checked.Case f) (sym is))
+    (fetch_failed b.told b.faults a.faults f asked rose) whole front folder write

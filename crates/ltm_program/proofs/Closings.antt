@@ -1,7 +1,8 @@
 -- What a session leaves written, with the line that closes it.
 use Rattle.std.proofs.Common.{ℕ, ◌≡◌, ◌≤◌, ◌⊎◌, inl, inr, refl, ap, sym, subst, ◌∙◌, arith, List, [], ◌++◌, length, Option, Some, None}
-use Rattle.std.specs.Prelude.{take}
+use Rattle.std.specs.Prelude.{IfSome, take}
 use Rattle.std.proofs.lemmas.List.{append-nil, take-append-le, length-append}
+use Rattle.ltm_io.specs.declared.doc.Doc.{Doc}
 use Rattle.ltm_io.specs.Faults.{Rose}
 use Rattle.ltm_io.specs.Sink.{appended, AppendsFront}
 use Rattle.ltm_io.specs.Script.{lines_of}
@@ -14,7 +15,8 @@ use Rattle.ltm_session.proofs.Progress.{nothing_more, appended_more, whole_front
 use Rattle.ltm_texts.specs.declared.status.Status.{Status}
 use Rattle.ltm_texts.specs.declared.status.Status.TheVariants as ending
 use Rattle.ltm_texts.specs.Program.{IsWhole}
-use Rattle.ltm_program.specs.Sessions.{closing_of, status_of_end, IsServed, ServesWhole}
+use Rattle.ltm_texts.specs.Run.{Outside, IsRun}
+use Rattle.ltm_program.specs.Sessions.{closing_of, status_of_end, EndsUnder, ServesWhole}
 
 -- ---- fronts
 -- nothing more
@@ -35,7 +37,7 @@ closed_early : (old now new : Option (List ℕ)) (output : List ℕ) → Appends
 closed_early old now new output front (inl same) = longer old new output [] (subst (λ o. AppendsFront old o output) (sym same) front)
 closed_early old now new output front (inr more) = longer old new output [] (subst (λ o. AppendsFront old o output) (sym (none_more now new more)) front)
 
-pub closed_front : (e : SessionEnd) (old now new : Option (List ℕ)) (output : List ℕ) → Wrote e old now output → (new ≡ now) ⊎ AppendsFront now new (closing_of e) → AppendsFront old new (output ++ closing_of e)
+closed_front : (e : SessionEnd) (old now new : Option (List ℕ)) (output : List ℕ) → Wrote e old now output → (new ≡ now) ⊎ AppendsFront now new (closing_of e) → AppendsFront old new (output ++ closing_of e)
 closed_front end.Ended old now new output wrote more = closed_after old now new output [] wrote more
 closed_front (end.LineTooLong n) old now new output wrote more = closed_after old now new output (closing_of (end.LineTooLong n)) wrote more
 closed_front end.TooManyCommands old now new output wrote more = closed_after old now new output (closing_of end.TooManyCommands) wrote more
@@ -45,23 +47,13 @@ closed_front end.NoMemory old now new output wrote more = closed_early old now n
 
 -- ---- whole texts
 -- under a status of a whole text all of the output was written
-pub wrote_whole : (e : SessionEnd) (old now : Option (List ℕ)) (output : List ℕ) → IsWhole (status_of_end e) → Wrote e old now output → now ≡ appended output old
+wrote_whole : (e : SessionEnd) (old now : Option (List ℕ)) (output : List ℕ) → IsWhole (status_of_end e) → Wrote e old now output → now ≡ appended output old
 wrote_whole end.Ended old now output whole wrote = wrote
 wrote_whole (end.LineTooLong n) old now output whole wrote = wrote
 wrote_whole end.TooManyCommands old now output whole wrote = wrote
 wrote_whole end.ReadFault old now output whole wrote = wrote
 wrote_whole end.WriteFault old now output whole wrote = absurd whole
 wrote_whole end.NoMemory old now output whole wrote = absurd whole
-
-pub closed_whole : {answers : Answering} (s : ScenarioData) (script old now new : Option (List ℕ)) (e : SessionEnd) (output : List ℕ) (t : Analysts) (result : Status)
-    → IsSession answers s script e output t → Wrote e old now output → (result ≡ status_of_end e) ⊎ ((result ≡ ending.WriteFault) ⊎ (result ≡ ending.NoMemory))
-    → (IsWhole result → new ≡ appended (closing_of e) now) → IsWhole result
-    → (end : SessionEnd) × (text : List ℕ) × (result ≡ status_of_end end) × IsServed answers s script end text × (new ≡ appended text old)
-closed_whole s script old now new e output t result so wrote (inl well) closed whole =
-    let all : now ≡ appended output old = wrote_whole e old now output (subst IsWhole well whole) wrote in
-    (e, output ++ closing_of e, well, (output, t, so, refl), closed whole ∙ ap (appended (closing_of e)) all ∙ appended_more old output (closing_of e))
-closed_whole s script old now new e output t result so wrote (inr (inl failed)) closed whole = absurd (subst IsWhole failed whole)
-closed_whole s script old now new e output t result so wrote (inr (inr none)) closed whole = absurd (subst IsWhole none whole)
 
 -- ---- a session that ended well
 -- an output by this rule of answers
@@ -78,20 +70,6 @@ ended_whole {answers = answers} s (Some lines) left old now e output t is so wro
     let all : lines_of lines ≡ so.answered = cut ∙ ap (λ r. so.answered ++ r) none ∙ append-nil so.answered in
     let runs = subst (λ ls. AnswersLines answers (opening_state s) ls output t) (sym all) so.runs in
     (output, (t, runs), subst (λ x. Wrote x old now output) is wrote, read lines refl is)
-
--- and no line closes it
-pub ended_well : {answers : Answering} (s : ScenarioData) (script left old now new : Option (List ℕ)) (e : SessionEnd) (output : List ℕ) (t : Analysts) → e ≡ end.Ended
-    → IsSession answers s script e output t → Wrote e old now output → ((lines : List ℕ) → script ≡ Some lines → e ≡ end.Ended → left ≡ Some [])
-    → new ≡ appended (closing_of e) now → ServesWhole (IsOutputBy answers) s script left old new
-ended_well {answers = answers} s script left old now new e output t is so wrote read closed =
-    subst (λ x. ServesWhole (IsOutputBy answers) s script left old x) (sym (closed ∙ ap (λ k. appended (closing_of k) now) is ∙ sym (nothing_more now)))
-    (ended_whole s script left old now e output t is so wrote read)
-
--- ---- fronts of a whole session
-pub served_front : {answers : Answering} (s : ScenarioData) (script old now new : Option (List ℕ)) (e : SessionEnd) (output : List ℕ) (t : Analysts)
-    → IsSession answers s script e output t → Wrote e old now output → (new ≡ now) ⊎ AppendsFront now new (closing_of e)
-    → (new ≡ old) ⊎ ((end : SessionEnd) × (text : List ℕ) × IsServed answers s script end text × AppendsFront old new text)
-served_front s script old now new e output t so wrote front = inr (e, output ++ closing_of e, (output, t, so, refl), closed_front e old now new output wrote front)
 
 -- ---- statuses
 -- what a closing line leaves: the status of the end, or that it was not written
@@ -131,16 +109,48 @@ no_files e result (inr (inr none)) = (λ x. cc, λ x. cc)
 
 -- ---- faults of the output
 -- a count that rose in a part rose in the whole
-pub rose_after : (a b c : ℕ) → a ≤ b → Rose b c → Rose a c
+rose_after : (a b c : ℕ) → a ≤ b → Rose b c → Rose a c
 rose_after a b c later rose = omega (arith, later, rose)
 
-pub rose_before : (a b c : ℕ) → Rose a b → b ≤ c → Rose a c
+rose_before : (a b c : ℕ) → Rose a b → b ≤ c → Rose a c
 rose_before a b c rose later = omega (arith, later, rose)
 
-pub failed_writing : (e : SessionEnd) (result : Status) (a b c : ℕ) → result ≡ ending.WriteFault → (result ≡ ending.WriteFault → (e ≡ end.WriteFault) ⊎ Rose b c) → (e ≡ end.WriteFault → Rose a b)
+failed_writing : (e : SessionEnd) (result : Status) (a b c : ℕ) → result ≡ ending.WriteFault → (result ≡ ending.WriteFault → (e ≡ end.WriteFault) ⊎ Rose b c) → (e ≡ end.WriteFault → Rose a b)
     → a ≤ b → b ≤ c → Rose a c
 failed_writing e result a b c is cause first later last =
     elim (cause is) [
       | inl failed ↦ rose_before a b c (first failed) last
       | inr rose ↦ rose_after a b c later rose
     ]
+
+-- ---- runs
+read_out : (script left : Option (List ℕ)) → ((lines : List ℕ) → script ≡ Some lines → left ≡ Some []) → IfSome script (λ x. left ≡ Some [])
+read_out None left read = tt
+read_out (Some lines) left read = read lines refl
+
+-- a script was served up to an end, and the line was written that closes it; no file was fetched
+pub run_served : (IsOutput : SessionEnd → List ℕ → Type 0) (e : SessionEnd) (output : List ℕ) (status : Status) (now : Option (List ℕ)) (writes : ℕ) (b a : Outside)
+    → (a.told ≡ b.told) × ((d : Doc) → a.faults d ≡ b.faults d) → IsOutput e output → Wrote e b.written now output
+    → ((lines : List ℕ) → b.left ≡ Some lines → e ≡ end.Ended → a.left ≡ Some []) → (e ≡ end.ReadFault → Rose b.read_faults a.read_faults)
+    → (e ≡ end.WriteFault → Rose b.write_faults writes) → b.write_faults ≤ writes → writes ≤ a.write_faults
+    → Closes e status → (IsWhole status → a.written ≡ appended (closing_of e) now) → (a.written ≡ now) ⊎ AppendsFront now a.written (closing_of e)
+    → (status ≡ ending.WriteFault → (e ≡ end.WriteFault) ⊎ Rose writes a.write_faults) → (status ≡ ending.Ok → e ≡ end.Ended) → (status ≡ ending.ReadFault → e ≡ end.ReadFault)
+    → IsRun (EndsUnder IsOutput) (λ d. ⊥) (Unit {0}) status b a
+run_served IsOutput e output status now writes b a stays is wrote read heard failed later last closes closed front cause well cut = record {
+  touches = (stays.0, λ d out. stays.1 d);
+  reads = (λ blind. absurd (blind tt), λ reads ok. read_out b.left a.left (λ lines told. read lines told (well ok)));
+  faults = (
+    λ missing. absurd ((no_files e status closes).1 missing),
+    λ stopped. (tt, heard (cut stopped)),
+    λ unwritten. failed_writing e status b.write_faults writes a.write_faults unwritten cause failed later last,
+  );
+  whole = λ all. whole closes all;
+  front = inr (status_of_end e, output ++ closing_of e, (of_no_files e).1, (e, output, is, refl, refl), closed_front e b.written now a.written output wrote front);
+}
+  where
+    whole : Closes e status → IsWhole status → (t : List ℕ) × EndsUnder IsOutput status t × (a.written ≡ appended t b.written)
+    whole (inl same) all =
+        let written : now ≡ appended output b.written = wrote_whole e b.written now output (subst IsWhole same all) wrote in
+        (output ++ closing_of e, (e, output, is, same, refl), closed all ∙ ap (appended (closing_of e)) written ∙ appended_more b.written output (closing_of e))
+    whole (inr (inl unwritten)) all = absurd (subst IsWhole unwritten all)
+    whole (inr (inr none)) all = absurd (subst IsWhole none all)

@@ -1,17 +1,19 @@
 -- What editors write of a folder's files.
-use Rattle.std.proofs.Common.{ℕ, ◌≡◌, ◌⊎◌, inl, inr, refl, sym, subst, ◌∙◌, List, Option, Some, Ok, Err}
+use Rattle.std.proofs.Common.{ℕ, ◌≡◌, ◌⊎◌, inl, inr, refl, ap, sym, subst, ◌∙◌, List, Option, None, Some, Ok, Err, Bool, false}
+use Rattle.std.specs.Prelude.{IfSome}
+use Rattle.std.specs.List.{Contains}
 use Rattle.ltm_io.specs.declared.doc.Doc.{Doc}
 use Rattle.ltm_io.specs.Folder.{Files}
-use Rattle.ltm_io.specs.Faults.{Rose}
 use Rattle.ltm_io.specs.Sink.{appended, AppendsFront}
 use Rattle.ltm_scenario.specs.declared.edit.Edit.{Edit}
 use Rattle.ltm_scenario.specs.Data.{ScenarioData}
 use Rattle.ltm_casefile.specs.declared.faults.CaseFault.{CaseFault}
 use Rattle.ltm_casefile.specs.declared.faults.CaseFault.TheVariants as fault
+use Rattle.ltm_casefile.specs.Case.{is_case_file, asks_for}
 use Rattle.ltm_checking.specs.declared.refusal.Refusal.TheVariants as checked
-use Rattle.ltm_editing.specs.declared.fault.EditsFault.{EditsFault}
 use Rattle.ltm_editing.specs.declared.fault.EditsFault.TheVariants as edits
 use Rattle.ltm_editing.specs.declared.fault.LineCause.{LineCause}
+use Rattle.ltm_editing.specs.Files.{docs_of}
 use Rattle.ltm_editing.specs.declared.refusal.Refusal.{Refusal}
 use Rattle.ltm_editing.specs.declared.refusal.Refusal.TheVariants as refusal
 use Rattle.ltm_editing.specs.Lines.{bad_script_line}
@@ -21,7 +23,8 @@ use Rattle.ltm_texts.specs.declared.status.Status.{Status}
 use Rattle.ltm_texts.specs.declared.status.Status.TheVariants as ending
 use Rattle.ltm_texts.specs.Program as texts
 use Rattle.ltm_texts.specs.Program.{IsWhole, case_status, refusal_of}
-use Rattle.ltm_program.specs.Editors.{editing_words, editing_status, IsEditingUnder, WritesEditingFront, HasScripts, IsCalmFor}
+use Rattle.ltm_texts.proofs.Running.{kept}
+use Rattle.ltm_program.specs.Editors.{editing_words, editing_status, IsEditingUnder, HasScripts, IsCalmFor}
 
 -- ---- a fault of the case is told as other commands tell it
 told_case : (f : CaseFault) → texts.IsTold (checked.Case f) → IsTold (refusal.Case f)
@@ -35,12 +38,6 @@ missing_case (fault.Folder x) is = tt
 missing_case (fault.TooLong x) is = absurd is
 missing_case (fault.Bad x row cause) is = absurd is
 missing_case fault.NoMemory is = absurd is
-
-case_missing : (f : CaseFault) → IsMissing (refusal.Case f) → texts.IsMissing (checked.Case f)
-case_missing (fault.Folder x) is = tt
-case_missing (fault.TooLong x) is = absurd is
-case_missing (fault.Bad x row cause) is = absurd is
-case_missing fault.NoMemory is = absurd is
 
 module _ (r : Refusal) (f : CaseFault) (is : r ≡ refusal.Case f) where
   pub case_whole : (old new : Option (List ℕ)) (result : Status) → (IsWhole result → texts.IsTold (checked.Case f) × (result ≡ case_status f) × (new ≡ appended (refusal_of f) old)) → IsWhole result
@@ -58,64 +55,66 @@ module _ (r : Refusal) (f : CaseFault) (is : r ≡ refusal.Case f) where
   pub case_fails : (old new : Option (List ℕ)) (result : Status) → (result ≡ ending.FolderFault → texts.IsMissing (checked.Case f) × (new ≡ old)) → result ≡ ending.FolderFault → IsMissing r × (new ≡ old)
   case_fails old new result gives failed = let h = gives failed in subst (λ (x : Refusal). IsMissing x × (new ≡ old)) (sym is) (missing_case f h.0, h.1)
 
-  pub case_gives : (P : Type 0) → (texts.IsMissing (checked.Case f) → P) → IsMissing r → P
-  case_gives P gives missing = gives (case_missing f (subst (λ (x : Refusal). IsMissing x) is missing))
+  pub case_writes : (Rises : Type 0) (result : Status) → (result ≡ ending.WriteFault → texts.IsTold (checked.Case f) × Rises) → result ≡ ending.WriteFault → IsTold r × Rises
+  case_writes Rises result gives failed = let h = gives failed in (subst (λ (x : Refusal). IsTold x) (sym is) (told_case f h.0), h.1)
 
-  pub memory_case : (P : Type 0) → (f ≡ fault.NoMemory → P) → (r ≡ refusal.Case fault.NoMemory) ⊎ (r ≡ refusal.Edits edits.NoMemory) → P
-  memory_case P so (inl none) = let same : f ≡ fault.NoMemory = cc in so same
-  memory_case P so (inr none) = absurd (cc)
+-- ---- files that stay
+at_other : (P : Doc → Type 0) (docs : List Doc) (told : Option Files) (second : Files → Doc → Bool) (d : Doc) → (Contains docs d → ⊥)
+    → IfSome told (λ files. (e : Doc) → second files e ≡ false → (Contains docs e → ⊥) → P e) → IfSome told (λ files. second files d ≡ false → P d)
+at_other P docs None second d other stay = tt
+at_other P docs (Some files) second d other stay = λ is. stay d is other
 
-pub memory_edits : (r : Refusal) (f : EditsFault) → r ≡ refusal.Edits f → (P : Type 0) → (f ≡ edits.NoMemory → P) → (r ≡ refusal.Case fault.NoMemory) ⊎ (r ≡ refusal.Edits edits.NoMemory) → P
-memory_edits r f is P so (inl none) = absurd (cc)
-memory_edits r f is P so (inr none) = let same : f ≡ edits.NoMemory = cc in so same
-
--- ---- whole texts and fronts
-pub front_text : (editors : ℕ) (told : Option Files) (text : List ℕ) (old new : Option (List ℕ)) → AnswersEditing told editors (Ok text) → AppendsFront old new text → WritesEditingFront editors told old new
-front_text editors told text old new says front = inr (ending.Ok, text, (Ok text, says, refl, refl), front)
-
-pub whole_text : (editors : ℕ) (told : Option Files) (text : List ℕ) (old new : Option (List ℕ)) (result : Status) → AnswersEditing told editors (Ok text) → (result ≡ ending.Ok) ⊎ ((result ≡ ending.WriteFault) ⊎ (result ≡ ending.NoMemory))
-    → (result ≡ ending.Ok → new ≡ appended text old) → IsWhole result → (t : List ℕ) × IsEditingUnder editors told result t × (new ≡ appended t old)
-whole_text editors told text old new result says (inl well) wrote whole = (text, (Ok text, says, well, refl), wrote well)
-whole_text editors told text old new result says (inr (inl failed)) wrote whole = absurd (subst IsWhole failed whole)
-whole_text editors told text old new result says (inr (inr none)) wrote whole = absurd (subst IsWhole none whole)
-
-pub whole_refused : (editors : ℕ) (told : Option Files) (e : Refusal) (old new : Option (List ℕ)) (result : Status) → (IsTold e → AnswersEditing told editors (Err e))
-    → (IsWhole result → IsTold e × (result ≡ editing_status (Err e)) × (new ≡ appended (editing_words (Err e)) old)) → IsWhole result → (t : List ℕ) × IsEditingUnder editors told result t × (new ≡ appended t old)
-whole_refused editors told e old new result says wrote whole = let h = wrote whole in (editing_words (Err e), (Err e, says h.0, h.1, refl), h.2)
-
-pub front_refused : (editors : ℕ) (told : Option Files) (e : Refusal) (old new : Option (List ℕ)) → (IsTold e → AnswersEditing told editors (Err e)) → (new ≡ old) ⊎ (IsTold e × AppendsFront old new (editing_words (Err e)))
-    → WritesEditingFront editors told old new
-front_refused editors told e old new says (inl same) = inl same
-front_refused editors told e old new says (inr (is, front)) = inr (editing_status (Err e), editing_words (Err e), (Err e, says is, refl, refl), front)
+pub stays : (before now : Doc → ℕ) (editors : ℕ) (told : Option Files) → ((d : Doc) → is_case_file d ≡ false → (Contains (docs_of editors) d → ⊥) → now d ≡ before d)
+    → IfSome told (λ files. (d : Doc) → asks_for files d ≡ false → (Contains (docs_of editors) d → ⊥) → now d ≡ before d) → (d : Doc) → (MayAsk told editors d → ⊥) → now d ≡ before d
+stays before now editors told others unasked d out =
+    kept (now d ≡ before d) told (is_case_file d) (λ files. asks_for files d) (λ both. out (inl both)) (λ is. others d is (λ has. out (inr has)))
+    (at_other (λ e. now e ≡ before e) (docs_of editors) told asks_for d (λ has. out (inr has)) unasked)
 
 -- ---- statuses that are never reached
-no_refused_usage : (e : Refusal) → editing_status (Err e) ≡ ending.Usage → ⊥
-no_refused_usage (refusal.Case (fault.Folder x)) is = cc
-no_refused_usage (refusal.Case (fault.TooLong x)) is = cc
-no_refused_usage (refusal.Case (fault.Bad x row cause)) is = cc
-no_refused_usage (refusal.Case fault.NoMemory) is = cc
-no_refused_usage (refusal.Edits (edits.Missing editor)) is = cc
-no_refused_usage (refusal.Edits (edits.TooLong editor)) is = cc
-no_refused_usage (refusal.Edits edits.TooMany) is = cc
-no_refused_usage (refusal.Edits (edits.BadLine editor line cause)) is = cc
-no_refused_usage (refusal.Edits edits.NoMemory) is = cc
+pub never_usage : (e : Refusal) → editing_status (Err e) ≡ ending.Usage → ⊥
+never_usage (refusal.Case (fault.Folder x)) is = cc
+never_usage (refusal.Case (fault.TooLong x)) is = cc
+never_usage (refusal.Case (fault.Bad x row cause)) is = cc
+never_usage (refusal.Case fault.NoMemory) is = cc
+never_usage (refusal.Edits (edits.Missing editor)) is = cc
+never_usage (refusal.Edits (edits.TooLong editor)) is = cc
+never_usage (refusal.Edits edits.TooMany) is = cc
+never_usage (refusal.Edits (edits.BadLine editor line cause)) is = cc
+never_usage (refusal.Edits edits.NoMemory) is = cc
 
-no_refused_read : (e : Refusal) → editing_status (Err e) ≡ ending.ReadFault → ⊥
-no_refused_read (refusal.Case (fault.Folder x)) is = cc
-no_refused_read (refusal.Case (fault.TooLong x)) is = cc
-no_refused_read (refusal.Case (fault.Bad x row cause)) is = cc
-no_refused_read (refusal.Case fault.NoMemory) is = cc
-no_refused_read (refusal.Edits (edits.Missing editor)) is = cc
-no_refused_read (refusal.Edits (edits.TooLong editor)) is = cc
-no_refused_read (refusal.Edits edits.TooMany) is = cc
-no_refused_read (refusal.Edits (edits.BadLine editor line cause)) is = cc
-no_refused_read (refusal.Edits edits.NoMemory) is = cc
+pub never_read : (e : Refusal) → editing_status (Err e) ≡ ending.ReadFault → ⊥
+never_read (refusal.Case (fault.Folder x)) is = cc
+never_read (refusal.Case (fault.TooLong x)) is = cc
+never_read (refusal.Case (fault.Bad x row cause)) is = cc
+never_read (refusal.Case fault.NoMemory) is = cc
+never_read (refusal.Edits (edits.Missing editor)) is = cc
+never_read (refusal.Edits (edits.TooLong editor)) is = cc
+never_read (refusal.Edits edits.TooMany) is = cc
+never_read (refusal.Edits (edits.BadLine editor line cause)) is = cc
+never_read (refusal.Edits edits.NoMemory) is = cc
 
-pub refused_usage : (e : Refusal) (old new : Option (List ℕ)) (result : Status) → (IsWhole result → IsTold e × (result ≡ editing_status (Err e)) × (new ≡ appended (editing_words (Err e)) old)) → result ≡ ending.Usage → ⊥
-refused_usage e old new result wrote is = let h = wrote (subst IsWhole (sym is) tt) in no_refused_usage e (sym h.1 ∙ is)
+pub never_ok : (e : Refusal) → editing_status (Err e) ≡ ending.Ok → ⊥
+never_ok (refusal.Case (fault.Folder x)) is = cc
+never_ok (refusal.Case (fault.TooLong x)) is = cc
+never_ok (refusal.Case (fault.Bad x row cause)) is = cc
+never_ok (refusal.Case fault.NoMemory) is = cc
+never_ok (refusal.Edits (edits.Missing editor)) is = cc
+never_ok (refusal.Edits (edits.TooLong editor)) is = cc
+never_ok (refusal.Edits edits.TooMany) is = cc
+never_ok (refusal.Edits (edits.BadLine editor line cause)) is = cc
+never_ok (refusal.Edits edits.NoMemory) is = cc
 
-pub refused_read : (e : Refusal) (old new : Option (List ℕ)) (result : Status) → (IsWhole result → IsTold e × (result ≡ editing_status (Err e)) × (new ≡ appended (editing_words (Err e)) old)) → result ≡ ending.ReadFault → ⊥
-refused_read e old new result wrote is = let h = wrote (subst IsWhole (sym is) tt) in no_refused_read e (sym h.1 ∙ is)
+-- a line tells of no missing file
+pub told_given : (e : Refusal) → IsTold e → editing_status (Err e) ≡ ending.FolderFault → ⊥
+told_given (refusal.Case (fault.Folder x)) told is = absurd told
+told_given (refusal.Case (fault.TooLong x)) told is = cc
+told_given (refusal.Case (fault.Bad x row cause)) told is = cc
+told_given (refusal.Case fault.NoMemory) told is = cc
+told_given (refusal.Edits (edits.Missing editor)) told is = absurd told
+told_given (refusal.Edits (edits.TooLong editor)) told is = cc
+told_given (refusal.Edits edits.TooMany) told is = cc
+told_given (refusal.Edits (edits.BadLine editor line cause)) told is = cc
+told_given (refusal.Edits edits.NoMemory) told is = cc
 
 -- ---- a file that is missing
 only_refused : (files : Files) (editors : ℕ) (e : Refusal) (answer : Answer) → AnswersEditing (Some files) editors (Err e) → AnswersEditing (Some files) editors answer → answer ≡ Err e
@@ -128,52 +127,31 @@ only_refused files editors e answer (Err f, scripts, (described, read), same) (c
     let first : case ≡ Err f = sym also ∙ described in
     subst (λ x. EditingAnswer x said answer) first more ∙ sym same
 
-pub missing_no_text : (told : Option Files) (files : Files) (editors : ℕ) (e : Refusal) (text : List ℕ) → told ≡ Some files → AnswersEditing (Some files) editors (Err e) → AnswersEditing told editors (Ok text) → ⊥
-missing_no_text told files editors e text is none says =
-    let same : Ok text ≡ Err e = only_refused files editors e (Ok text) none (subst (λ (o : Option Files). AnswersEditing o editors (Ok text)) is says) in cc
+pub missing_is : (e : Refusal) → IsMissing e → ending.FolderFault ≡ editing_status (Err e)
+missing_is (refusal.Case (fault.Folder x)) is = refl
+missing_is (refusal.Case (fault.TooLong x)) is = absurd is
+missing_is (refusal.Case (fault.Bad x row cause)) is = absurd is
+missing_is (refusal.Case fault.NoMemory) is = absurd is
+missing_is (refusal.Edits (edits.Missing editor)) is = refl
+missing_is (refusal.Edits (edits.TooLong editor)) is = absurd is
+missing_is (refusal.Edits edits.TooMany) is = absurd is
+missing_is (refusal.Edits (edits.BadLine editor line cause)) is = absurd is
+missing_is (refusal.Edits edits.NoMemory) is = absurd is
 
-never_told : (told : Option Files) (files : Files) (editors : ℕ) (e other : Refusal) → told ≡ Some files → IsMissing e → AnswersEditing (Some files) editors (Err e) → (IsTold other → AnswersEditing told editors (Err other)) → IsTold other
-    → (IsMissing other → ⊥) → ⊥
-never_told told files editors e other is missing none says lies given =
-    let same : Err other ≡ Err e = only_refused files editors e (Err other) none (subst (λ (o : Option Files). AnswersEditing o editors (Err other)) is (says lies)) in
-    let one : e ≡ other = cc in given (subst IsMissing one missing)
-
-pub missing_refused : (told : Option Files) (files : Files) (editors : ℕ) (e other : Refusal) (result : Status) → told ≡ Some files → IsMissing e → AnswersEditing (Some files) editors (Err e) → (IsTold other → AnswersEditing told editors (Err other))
-    → (IsMissing other → result ≡ ending.FolderFault) → ((other ≡ refusal.Case fault.NoMemory) ⊎ (other ≡ refusal.Edits edits.NoMemory) → result ≡ ending.NoMemory) → (result ≡ ending.FolderFault) ⊎ (result ≡ ending.NoMemory)
-missing_refused told files editors e (refusal.Case (fault.Folder x)) result is missing none says gives memory = inl (gives tt)
-missing_refused told files editors e (refusal.Case (fault.TooLong x)) result is missing none says gives memory = absurd (never_told told files editors e (refusal.Case (fault.TooLong x)) is missing none says tt (λ m. m))
-missing_refused told files editors e (refusal.Case (fault.Bad x row cause)) result is missing none says gives memory = absurd (never_told told files editors e (refusal.Case (fault.Bad x row cause)) is missing none says tt (λ m. m))
-missing_refused told files editors e (refusal.Case fault.NoMemory) result is missing none says gives memory = inr (memory (inl refl))
-missing_refused told files editors e (refusal.Edits (edits.Missing editor)) result is missing none says gives memory = inl (gives tt)
-missing_refused told files editors e (refusal.Edits (edits.TooLong editor)) result is missing none says gives memory = absurd (never_told told files editors e (refusal.Edits (edits.TooLong editor)) is missing none says tt (λ m. m))
-missing_refused told files editors e (refusal.Edits edits.TooMany) result is missing none says gives memory = absurd (never_told told files editors e (refusal.Edits edits.TooMany) is missing none says tt (λ m. m))
-missing_refused told files editors e (refusal.Edits (edits.BadLine editor line cause)) result is missing none says gives memory =
-    absurd (never_told told files editors e (refusal.Edits (edits.BadLine editor line cause)) is missing none says tt (λ m. m))
-missing_refused told files editors e (refusal.Edits edits.NoMemory) result is missing none says gives memory = inr (memory (inr refl))
+-- so no other status has a text
+pub only_lacking : (editors : ℕ) (told : Option Files) (files : Files) (due : Status) (t u : List ℕ) → told ≡ Some files → IsEditingUnder editors told ending.FolderFault t → IsEditingUnder editors told due u
+    → due ≡ ending.FolderFault
+only_lacking editors told files due t u is (Ok v, none, ends, at) other = absurd (cc)
+only_lacking editors told files due t u is (Err e, none, ends, at) (answer, says, under, also) =
+    let same : answer ≡ Err e = only_refused files editors e answer (subst (λ (o : Option Files). AnswersEditing o editors (Err e)) is none) (subst (λ (o : Option Files). AnswersEditing o editors answer) is says) in
+    under ∙ ap editing_status same ∙ sym ends
 
 -- ---- with no fault of the outside
-missed_in_calm : (editors : ℕ) (told : Option Files) (files : Files) (before now : Doc → ℕ) → told ≡ Some files → IsCalmFor editors files before now → Missed told editors before now → ⊥
+pub missed_in_calm : (editors : ℕ) (told : Option Files) (files : Files) (before now : Doc → ℕ) → told ≡ Some files → IsCalmFor editors files before now → Missed told editors before now → ⊥
 missed_in_calm editors told files before now is calm (d, may, rose) = calm d (subst (λ (o : Option Files). MayAsk o editors d) is may) rose
 
-told_answer : (editors : ℕ) (told : Option Files) (files : Files) (result : Status) → told ≡ Some files → (text : List ℕ) × IsEditingUnder editors told result text → (answer : Answer) × AnswersEditing (Some files) editors answer × (result ≡ editing_status answer)
+pub told_answer : (editors : ℕ) (told : Option Files) (files : Files) (result : Status) → told ≡ Some files → (text : List ℕ) × IsEditingUnder editors told result text → (answer : Answer) × AnswersEditing (Some files) editors answer × (result ≡ editing_status answer)
 told_answer editors told files result is (text, (answer, says, status, text_is)) = (answer, subst (λ (o : Option Files). AnswersEditing o editors answer) is says, status)
-
-pub completes : (editors : ℕ) (told : Option Files) (files : Files) (before now : Doc → ℕ) (wrote writes : ℕ) (result : Status)
-    → (result ≡ ending.FolderFault → Missed told editors before now) → (result ≡ ending.WriteFault → Rose wrote writes)
-    → (IsWhole result → (text : List ℕ) × IsEditingUnder editors told result text) → told ≡ Some files → IsCalmFor editors files before now → (Rose wrote writes → ⊥)
-    → ((answer : Answer) × AnswersEditing (Some files) editors answer × (result ≡ editing_status answer)) ⊎ (result ≡ ending.NoMemory)
-completes editors told files before now wrote writes ending.Ok failed faulted whole is calm quiet = inl (told_answer editors told files ending.Ok is (whole tt))
-completes editors told files before now wrote writes ending.Usage failed faulted whole is calm quiet = inl (told_answer editors told files ending.Usage is (whole tt))
-completes editors told files before now wrote writes ending.FolderFault failed faulted whole is calm quiet = absurd (missed_in_calm editors told files before now is calm (failed refl))
-completes editors told files before now wrote writes ending.ReadFault failed faulted whole is calm quiet = inl (told_answer editors told files ending.ReadFault is (whole tt))
-completes editors told files before now wrote writes ending.WriteFault failed faulted whole is calm quiet = absurd (quiet (faulted refl))
-completes editors told files before now wrote writes ending.BadCase failed faulted whole is calm quiet = inl (told_answer editors told files ending.BadCase is (whole tt))
-completes editors told files before now wrote writes ending.TooLong failed faulted whole is calm quiet = inl (told_answer editors told files ending.TooLong is (whole tt))
-completes editors told files before now wrote writes ending.TooManyCommands failed faulted whole is calm quiet = inl (told_answer editors told files ending.TooManyCommands is (whole tt))
-completes editors told files before now wrote writes ending.NoMemory failed faulted whole is calm quiet = inr refl
-completes editors told files before now wrote writes ending.BadCurves failed faulted whole is calm quiet = inl (told_answer editors told files ending.BadCurves is (whole tt))
-completes editors told files before now wrote writes ending.NotLoading failed faulted whole is calm quiet = inl (told_answer editors told files ending.NotLoading is (whole tt))
-completes editors told files before now wrote writes ending.BadScript failed faulted whole is calm quiet = inl (told_answer editors told files ending.BadScript is (whole tt))
 
 -- ---- what belongs to a status
 text_in : (told : Option Files) (editors : ℕ) (text t : List ℕ) → t ≡ text → AnswersEditing told editors (Ok text) → (s : ScenarioData) × (scripts : List (List (List Edit))) × HasScripts told editors s scripts × IsEditingText s scripts text

@@ -1,8 +1,6 @@
 mod Closings
 mod Cases
-mod Sorting
-mod Crews
 mod Editing
-mod Choosing
 mod Viewings
-mod Viewers
+mod Runs
+mod Lawful

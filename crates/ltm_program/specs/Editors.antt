@@ -1,9 +1,8 @@
 -- What several editors write, and with which status the program ends.
-use Rattle.std.specs.Prelude.{ℕ, ◌≡◌, ◌⊎◌, List, [], Option, IfSome, Ok, Err, Some}
+use Rattle.std.specs.Prelude.{ℕ, ◌≡◌, List, [], Option, IfSome, Ok, Err, Some}
 use Rattle.ltm_io.specs.declared.doc.Doc.{Doc}
 use Rattle.ltm_io.specs.Folder.{Files}
 use Rattle.ltm_io.specs.Faults.{Rose}
-use Rattle.ltm_io.specs.Sink.{AppendsFront}
 use Rattle.ltm_scenario.specs.declared.edit.Edit.{Edit}
 use Rattle.ltm_scenario.specs.Data.{ScenarioData}
 use Rattle.ltm_casefile.specs.Case.{case_of}
@@ -48,11 +47,6 @@ editing_status (Err (refusal.Edits fault)) = edits_status fault
 -- the whole text that belongs to so many editors and a status
 abbrev pub IsEditingUnder : ℕ → Option Files → Status → List ℕ → Type 0
 IsEditingUnder editors told status text = (answer : Answer) × AnswersEditing told editors answer × (status ≡ editing_status answer) × (text ≡ editing_words answer)
-
--- nothing was written, or a front of such a text
-abbrev pub WritesEditingFront : ℕ → Option Files → Option (List ℕ) → Option (List ℕ) → Type 0
-WritesEditingFront editors told old new =
-    (new ≡ old) ⊎ ((status : Status) × (text : List ℕ) × IsEditingUnder editors told status text × AppendsFront old new text)
 
 -- the files describe this case, and the lines of the files of edits are these batches
 abbrev pub HasScripts : Option Files → ℕ → ScenarioData → List (List (List Edit)) → Type 0

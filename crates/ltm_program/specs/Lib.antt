@@ -1,5 +1,5 @@
 pub mod Sessions
-pub mod Whole
-pub mod Editors
 pub mod Views
-pub mod Run
+pub mod Editors
+pub mod Ran
+pub mod RanLaws

@@ -1,7 +1,7 @@
 -- What a session writes, and with which status it ends.
 use Rattle.std.specs.Prelude.{ℕ, ◌≡◌, ◌⊎◌, List, [], ◌++◌, Option, IfSome, Result, Ok, Err, Some}
 use Rattle.ltm_io.specs.Folder.{Files}
-use Rattle.ltm_io.specs.Sink.{appended, AppendsFront}
+use Rattle.ltm_io.specs.Sink.{appended}
 use Rattle.ltm_scenario.specs.Data.{ScenarioData}
 use Rattle.ltm_casefile.specs.declared.faults.CaseFault.{CaseFault}
 use Rattle.ltm_report.specs.Refusals.{long_script_line, too_many_line}
@@ -32,20 +32,23 @@ status_of_end (end.LineTooLong number) = ending.TooLong
 status_of_end end.TooManyCommands = ending.TooManyCommands
 status_of_end end.NoMemory = ending.NoMemory
 
--- a session by this rule of answers, of a scenario with a script, up to this end: its output, and the line that closes it
-abbrev pub IsServed : Answering → ScenarioData → Option (List ℕ) → SessionEnd → List ℕ → Type 0
-IsServed answers s script end text = (output : List ℕ) × (t : Analysts) × IsSession answers s script end output t × (text ≡ output ++ closing_of end)
+-- what is written up to an end, by the outputs that belong to it: one of them and the line that closes it; and the status
+abbrev pub EndsUnder : (SessionEnd → List ℕ → Type 0) → Status → List ℕ → Type 0
+EndsUnder IsOutput status text = (end : SessionEnd) × (output : List ℕ) × IsOutput end output × (status ≡ status_of_end end) × (text ≡ output ++ closing_of end)
 
--- the whole text that belongs to a status: the line that refuses the case, or what a session of the case writes
-abbrev pub IsSessionUnder : Answering → Option Files → Option (List ℕ) → Status → List ℕ → Type 0
-IsSessionUnder answers told script status text =
+-- the whole text that belongs to a status: the line that refuses the case, or what is written of a case up to an end
+abbrev pub IsCaseUnder : (ScenarioData → SessionEnd → List ℕ → Type 0) → Option Files → Status → List ℕ → Type 0
+IsCaseUnder IsOutput told status text =
     ((fault : CaseFault) × Describes told (Err fault) × (status ≡ case_status fault) × (text ≡ refusal_of fault))
-    ⊎ ((s : ScenarioData) × (end : SessionEnd) × Describes told (Ok s) × (status ≡ status_of_end end) × IsServed answers s script end text)
+    ⊎ ((s : ScenarioData) × Describes told (Ok s) × EndsUnder (IsOutput s) status text)
 
--- nothing was written, or a front of a text that belongs to a session
-abbrev pub WritesSessionFront : Answering → Option Files → Option (List ℕ) → Option (List ℕ) → Option (List ℕ) → Type 0
-WritesSessionFront answers told script old new =
-    (new ≡ old) ⊎ ((status : Status) × (text : List ℕ) × IsSessionUnder answers told script status text × AppendsFront old new text)
+-- the outputs of a session of a scenario, by this rule of answers, with a script and up to an end
+abbrev pub IsServed : Answering → Option (List ℕ) → ScenarioData → SessionEnd → List ℕ → Type 0
+IsServed answers script s end output = (t : Analysts) × IsSession answers s script end output t
+
+-- the whole text that belongs to a session and a status
+abbrev pub IsSessionUnder : Answering → Option Files → Option (List ℕ) → Status → List ℕ → Type 0
+IsSessionUnder answers told script = IsCaseUnder (IsServed answers script) told
 
 -- with which status a session ends where nothing of the outside fails and memory is found
 abbrev pub session_status : Result ScenarioData CaseFault → List ℕ → Status

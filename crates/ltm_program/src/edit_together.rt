@@ -1,43 +1,24 @@
 //! The command `editors K`: so many editors edit the folder's case, each in a thread of its own.
-ghost use Rattle.std.specs.Prelude.{◌≡◌, ◌⊎◌, ◌<◌, ◌≤◌, ℕ, List, map, string_bytes, Some, Ok, Err, IfSome, true, false};
-ghost use Rattle.std.specs.List.{Contains};
+ghost use Rattle.std.specs.Prelude.{◌≡◌, ◌⊎◌, ◌≤◌, ℕ, List, Option, Some, Err};
 ghost use Rattle.ltm_io.specs.Faults.{Rose};
 ghost use Rattle.ltm_io.specs.Sink.{appended, AppendsFront};
-ghost use Rattle.ltm_io.specs.Folder.{Files};
-ghost use Rattle.ltm_io.specs.declared.doc.Doc.{Doc};
-ghost use Rattle.ltm_scenario.specs.declared.edit.Edit.{Edit};
-ghost use Rattle.ltm_scenario.specs.Data.{ScenarioData};
-ghost use Rattle.ltm_casefile.specs.declared.faults.CaseFault.{CaseFault};
-ghost use Rattle.ltm_casefile.specs.Case.{is_case_file, asks_for};
 ghost use Rattle.ltm_editing.specs.declared.fault.EditsFault.{EditsFault};
-ghost use Rattle.ltm_editing.specs.Files.{docs_of};
 ghost use Rattle.ltm_editing.specs.declared.refusal.Refusal.{Refusal};
 ghost use Rattle.ltm_editing.specs.Lines.{long_edits_line, bad_script_line};
-ghost use Rattle.ltm_editing.specs.Editing.{IsEditingText};
-ghost use Rattle.ltm_editing.specs.Answers.{Answer, AnswersEditing, IsTold, IsMissing, Missed};
-ghost use Rattle.ltm_texts.specs.Words.{AsksEditors};
+ghost use Rattle.ltm_editing.specs.Answers.{IsTold, IsMissing};
+ghost use Rattle.ltm_texts.specs.declared.words.Command.{Command};
 ghost use Rattle.ltm_texts.specs.Program.{IsWhole};
-ghost use Rattle.ltm_program.specs.Editors.{edits_refusal, edits_status, editing_words, editing_status, IsEditingUnder, WritesEditingFront, HasScripts, IsCalmFor};
+ghost use Rattle.ltm_texts.specs.Run.{outside};
+ghost use Rattle.ltm_program.specs.Editors.{edits_refusal, edits_status, editing_words, editing_status};
+ghost use Rattle.ltm_program.specs.Ran.{Ran};
 
 use crate::serve::close_many;
 use ltm_editing::{EditsFault, LineCause, Refusal, bad_script_text, editing_text, long_edits_text};
 use ltm_io::{Folder, Sink};
-use ltm_texts::{Status, editors_of, refuse_fault, write_text};
+use ltm_texts::{Status, refuse_fault, write_text};
 use std::alloc::Global;
 use std::sync::Wait;
 use std::thread::Threads;
-
-/// For how many editors the words ask; none where they ask for something else.
-pub(crate) fn editors_in(words: &[String]) -> u32
-    ensures few { result ≤ 8 }
-    ensures crews { (n : ℕ) → AsksEditors (map string_bytes words.now) n → n ≡ result }
-    ensures asked { 0 < result → AsksEditors (map string_bytes words.now) result }
-{
-    match editors_of(words) {
-        Some(editors) => editors,
-        None => 0,
-    }
-}
 
 /// Says that a file of edits has more bytes than are read.
 fn refuse_long<W: Sink>(alloc: Global, editor: u32, output: &mut W) -> Status
@@ -80,9 +61,7 @@ fn refuse_edits<W: Sink>(alloc: Global, fault: EditsFault, output: &mut W) -> St
     ensures front { (W.written output.new ≡ W.written output.old)
         ⊎ (IsTold (Refusal.Edits fault) × AppendsFront (W.written output.old) (W.written output.new) (edits_refusal fault)) }
     ensures folder_fault { result ≡ Status.FolderFault → IsMissing (Refusal.Edits fault) × (W.written output.new ≡ W.written output.old) }
-    ensures missing { IsMissing (Refusal.Edits fault) → result ≡ Status.FolderFault }
-    ensures memory { fault ≡ EditsFault.NoMemory → result ≡ Status.NoMemory }
-    ensures cause { result ≡ Status.WriteFault → Rose (W.faults output.old) (W.faults output.new) }
+    ensures cause { result ≡ Status.WriteFault → IsTold (Refusal.Edits fault) × Rose (W.faults output.old) (W.faults output.new) }
 {
     match fault {
         EditsFault::Missing(_) => Status::FolderFault,
@@ -104,9 +83,7 @@ fn refuse<W: Sink>(alloc: Global, refusal: Refusal, output: &mut W) -> Status
     ensures front { (W.written output.new ≡ W.written output.old)
         ⊎ (IsTold refusal × AppendsFront (W.written output.old) (W.written output.new) (editing_words (Err refusal))) }
     ensures folder_fault { result ≡ Status.FolderFault → IsMissing refusal × (W.written output.new ≡ W.written output.old) }
-    ensures missing { IsMissing refusal → result ≡ Status.FolderFault }
-    ensures memory { (refusal ≡ Refusal.Case CaseFault.NoMemory) ⊎ (refusal ≡ Refusal.Edits EditsFault.NoMemory) → result ≡ Status.NoMemory }
-    ensures cause { result ≡ Status.WriteFault → Rose (W.faults output.old) (W.faults output.new) }
+    ensures cause { result ≡ Status.WriteFault → IsTold refusal × Rose (W.faults output.old) (W.faults output.new) }
 {
     match refusal {
         Refusal::Case(fault) => refuse_fault(alloc, fault, output),
@@ -114,7 +91,8 @@ fn refuse<W: Sink>(alloc: Global, refusal: Refusal, output: &mut W) -> Status
     }
 }
 
-/// Has so many editors edit the folder's case, and writes what they made, or says why there is nothing to write.
+/// Has so many editors edit the folder's case, and writes what they made, or says why there is nothing to write; whatever the
+/// input holds, it stays as it is.
 pub fn edit_together<R: Threads + Wait + Sync, F: Folder, W: Sink>(
     rt: &R,
     alloc: Global,
@@ -123,20 +101,9 @@ pub fn edit_together<R: Threads + Wait + Sync, F: Folder, W: Sink>(
     output: &mut W,
 ) -> Status
     requires { editors ≤ 8 }
-    ensures keeps { F.told folder.new ≡ F.told folder.old }
-    ensures others { (d : Doc) → is_case_file d ≡ false → (Contains (docs_of editors) d → ⊥) → F.faults folder.new d ≡ F.faults folder.old d }
-    ensures unasked { IfSome (F.told folder.old) (λ files. (d : Doc) → asks_for files d ≡ false → (Contains (docs_of editors) d → ⊥)
-        → F.faults folder.new d ≡ F.faults folder.old d) }
-    ensures usage { result ≡ Status.Usage → ⊥ }
-    ensures folder_fault { result ≡ Status.FolderFault → Missed (F.told folder.old) editors (F.faults folder.old) (F.faults folder.new)
-        × (W.written output.new ≡ W.written output.old) }
-    ensures read_fault { result ≡ Status.ReadFault → ⊥ }
-    ensures write_fault { result ≡ Status.WriteFault → Rose (W.faults output.old) (W.faults output.new) }
-    ensures whole { IsWhole result → (text : List ℕ) × IsEditingUnder editors (F.told folder.old) result text
-        × (W.written output.new ≡ appended text (W.written output.old)) }
-    ensures front { WritesEditingFront editors (F.told folder.old) (W.written output.old) (W.written output.new) }
-    ensures missing { (files : Files) (refusal : Refusal) → F.told folder.old ≡ Some files → IsMissing refusal → AnswersEditing (Some files) editors (Err refusal)
-        → (result ≡ Status.FolderFault) ⊎ (result ≡ Status.NoMemory) }
+    ensures { (left : Option (List ℕ)) (read_faults : ℕ) → Ran (Some (Command.Editors editors)) result
+        (outside (F.told folder.old) (F.faults folder.old) left read_faults (W.written output.old) (W.faults output.old))
+        (outside (F.told folder.new) (F.faults folder.new) left read_faults (W.written output.new) (W.faults output.new)) }
 {
     match editing_text(rt, alloc, editors, folder) {
         Ok(text) => write_text(output, text.as_slice(), Status::Ok),

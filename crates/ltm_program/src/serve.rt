@@ -1,30 +1,26 @@
 //! The command `session 0`: the folder's case is read, and the script of the input is served on one thread.
-ghost use Rattle.std.specs.Prelude.{◌≡◌, ◌≤◌, ◌⊎◌, ℕ, List, [], Some, Ok, Err, IfSome, false};
+ghost use Rattle.std.specs.Prelude.{◌≡◌, ◌≤◌, ◌⊎◌, ℕ, Option, Some};
 ghost use Rattle.ltm_io.specs.Faults.{Rose};
 ghost use Rattle.ltm_io.specs.Sink.{appended, AppendsFront};
 ghost use Rattle.ltm_io.specs.Folder.{Files};
 ghost use Rattle.ltm_io.specs.declared.doc.Doc.{Doc};
-ghost use Rattle.ltm_scenario.specs.Data.{ScenarioData};
 ghost use Rattle.ltm_scenario.specs.Valid.{IsValid};
-ghost use Rattle.ltm_casefile.specs.declared.faults.File.{File};
-ghost use Rattle.ltm_casefile.specs.declared.faults.CaseFault.{CaseFault};
-ghost use Rattle.ltm_casefile.specs.Case.{case_of, is_case_file, asks_for};
 ghost use Rattle.ltm_core.specs.Log.{version_now};
 ghost use Rattle.ltm_session.specs.declared.ends.SessionEnd.{SessionEnd};
 ghost use Rattle.ltm_session.specs.Answers.{AnswersAlone};
-ghost use Rattle.ltm_session.specs.Session.{IsOutputAlone, end_of};
 ghost use Rattle.ltm_texts.specs.declared.words.Command.{Command};
-ghost use Rattle.ltm_texts.specs.Answers.{Describes};
-ghost use Rattle.ltm_texts.specs.Program.{FileFailed, IsCalm, IsWhole};
-ghost use Rattle.ltm_program.specs.Sessions.{IsServed, IsSessionUnder, WritesSessionFront, ServesWhole, closing_of, status_of_end, session_status};
+ghost use Rattle.ltm_texts.specs.Program.{IsWhole};
+ghost use Rattle.ltm_texts.specs.Run.{IsRun, outside};
+ghost use Rattle.ltm_program.specs.Sessions.{EndsUnder, IsServed, closing_of, status_of_end};
+ghost use Rattle.ltm_program.specs.Ran.{Ran};
 
-use ltm_casefile::{CaseFault, read_case};
+use ltm_casefile::read_case;
 use ltm_core::Core;
 use ltm_io::{Folder, Sink, Source};
 use ltm_report::{long_script_text, too_many_text};
 use ltm_scenario::Scenario;
 use ltm_session::{Served, SessionEnd, serve_alone};
-use ltm_texts::{Status, refuse_case, refuse_length, write_text};
+use ltm_texts::{Status, refuse_fault, write_text};
 use std::alloc::Global;
 
 /// Says that a line of the script has more bytes than are read.
@@ -83,7 +79,7 @@ pub(crate) fn close<W: Sink>(alloc: Global, end: SessionEnd, output: &mut W) -> 
 /// Lets a core go.
 pub(crate) fn let_go(_core: Core) {}
 
-/// Serves the script of the input over a core.
+/// Serves the script of the input over a core, whatever the folder holds.
 fn serve_core<S: Source, W: Sink>(
     alloc: Global,
     core: Core,
@@ -91,16 +87,10 @@ fn serve_core<S: Source, W: Sink>(
     output: &mut W,
 ) -> Status
     requires fresh { version_now core.log ≡ 0 }
-    ensures whole { IsWhole result → (end : SessionEnd) × (text : List ℕ) × (result ≡ status_of_end end)
-        × IsServed AnswersAlone core.log.opening (S.left input.old) end text × (W.written output.new ≡ appended text (W.written output.old)) }
-    ensures front { (W.written output.new ≡ W.written output.old) ⊎ ((end : SessionEnd) × (text : List ℕ)
-        × IsServed AnswersAlone core.log.opening (S.left input.old) end text × AppendsFront (W.written output.old) (W.written output.new) text) }
-    ensures of_no_files { (result ≡ Status.Usage → ⊥) × (result ≡ Status.FolderFault → ⊥) }
-    ensures read_fault { result ≡ Status.ReadFault → Rose (S.faults input.old) (S.faults input.new) }
-    ensures write_fault { result ≡ Status.WriteFault → Rose (W.faults output.old) (W.faults output.new) }
-    ensures session { result ≡ Status.Ok → ServesWhole IsOutputAlone core.log.opening (S.left input.old) (S.left input.new) (W.written output.old) (W.written output.new) }
-    ensures ends { (script : List ℕ) → S.left input.old ≡ Some script → (Rose (S.faults input.old) (S.faults input.new) → ⊥)
-        → (Rose (W.faults output.old) (W.faults output.new) → ⊥) → (result ≡ status_of_end (end_of script)) ⊎ (result ≡ Status.NoMemory) }
+    ensures { (told : Option Files) (faults : Doc → ℕ)
+        → IsRun (EndsUnder (IsServed AnswersAlone (S.left input.old) core.log.opening)) (λ d. ⊥) (Unit {0}) result
+        (outside told faults (S.left input.old) (S.faults input.old) (W.written output.old) (W.faults output.old))
+        (outside told faults (S.left input.new) (S.faults input.new) (W.written output.new) (W.faults output.new)) }
 {
     let Served { end, core } = serve_alone(alloc, core, input, output);
     let_go(core);
@@ -115,16 +105,10 @@ fn serve_case<S: Source, W: Sink>(
     output: &mut W,
 ) -> Status
     requires { IsValid scenario }
-    ensures whole { IsWhole result → (end : SessionEnd) × (text : List ℕ) × (result ≡ status_of_end end)
-        × IsServed AnswersAlone scenario (S.left input.old) end text × (W.written output.new ≡ appended text (W.written output.old)) }
-    ensures front { (W.written output.new ≡ W.written output.old) ⊎ ((end : SessionEnd) × (text : List ℕ)
-        × IsServed AnswersAlone scenario (S.left input.old) end text × AppendsFront (W.written output.old) (W.written output.new) text) }
-    ensures of_no_files { (result ≡ Status.Usage → ⊥) × (result ≡ Status.FolderFault → ⊥) }
-    ensures read_fault { result ≡ Status.ReadFault → Rose (S.faults input.old) (S.faults input.new) }
-    ensures write_fault { result ≡ Status.WriteFault → Rose (W.faults output.old) (W.faults output.new) }
-    ensures session { result ≡ Status.Ok → ServesWhole IsOutputAlone scenario (S.left input.old) (S.left input.new) (W.written output.old) (W.written output.new) }
-    ensures ends { (script : List ℕ) → S.left input.old ≡ Some script → (Rose (S.faults input.old) (S.faults input.new) → ⊥)
-        → (Rose (W.faults output.old) (W.faults output.new) → ⊥) → (result ≡ status_of_end (end_of script)) ⊎ (result ≡ Status.NoMemory) }
+    ensures { (told : Option Files) (faults : Doc → ℕ)
+        → IsRun (EndsUnder (IsServed AnswersAlone (S.left input.old) scenario)) (λ d. ⊥) (Unit {0}) result
+        (outside told faults (S.left input.old) (S.faults input.old) (W.written output.old) (W.faults output.old))
+        (outside told faults (S.left input.new) (S.faults input.new) (W.written output.new) (W.faults output.new)) }
 {
     match Core::create(alloc, scenario) {
         Ok(core) => serve_core(alloc, core, input, output),
@@ -139,30 +123,12 @@ pub fn serve<F: Folder, S: Source, W: Sink>(
     input: &mut S,
     output: &mut W,
 ) -> Status
-    ensures keeps { F.told folder.new ≡ F.told folder.old }
-    ensures others { (d : Doc) → is_case_file d ≡ false → F.faults folder.new d ≡ F.faults folder.old d }
-    ensures unasked { IfSome (F.told folder.old) (λ files. (d : Doc) → asks_for files d ≡ false → F.faults folder.new d ≡ F.faults folder.old d) }
-    ensures usage { result ≡ Status.Usage → ⊥ }
-    ensures folder_fault { result ≡ Status.FolderFault → FileFailed Command.Load (F.told folder.old) (F.faults folder.old) (F.faults folder.new)
-        × (W.written output.new ≡ W.written output.old) }
-    ensures read_fault { result ≡ Status.ReadFault → Rose (S.faults input.old) (S.faults input.new) }
-    ensures write_fault { result ≡ Status.WriteFault → Rose (W.faults output.old) (W.faults output.new) }
-    ensures whole { IsWhole result → (text : List ℕ) × IsSessionUnder AnswersAlone (F.told folder.old) (S.left input.old) result text
-        × (W.written output.new ≡ appended text (W.written output.old)) }
-    ensures front { WritesSessionFront AnswersAlone (F.told folder.old) (S.left input.old) (W.written output.old) (W.written output.new) }
-    ensures session { result ≡ Status.Ok → (s : ScenarioData) × Describes (F.told folder.old) (Ok s)
-        × ServesWhole IsOutputAlone s (S.left input.old) (S.left input.new) (W.written output.old) (W.written output.new) }
-    ensures complete { (files : Files) (script : List ℕ) → F.told folder.old ≡ Some files → S.left input.old ≡ Some script
-        → IsCalm Command.Load files (F.faults folder.old) (F.faults folder.new) → (Rose (S.faults input.old) (S.faults input.new) → ⊥)
-        → (Rose (W.faults output.old) (W.faults output.new) → ⊥) → (result ≡ session_status (case_of files) script) ⊎ (result ≡ Status.NoMemory) }
-    ensures missing { (files : Files) (file : File) → F.told folder.old ≡ Some files → case_of files ≡ Err (CaseFault.Folder file)
-        → (result ≡ Status.FolderFault) ⊎ (result ≡ Status.NoMemory) }
+    ensures { Ran (Some (Command.Session 0)) result
+        (outside (F.told folder.old) (F.faults folder.old) (S.left input.old) (S.faults input.old) (W.written output.old) (W.faults output.old))
+        (outside (F.told folder.new) (F.faults folder.new) (S.left input.new) (S.faults input.new) (W.written output.new) (W.faults output.new)) }
 {
     match read_case(alloc, folder) {
         Ok(scenario) => serve_case(alloc, scenario, input, output),
-        Err(CaseFault::Folder(_)) => Status::FolderFault,
-        Err(CaseFault::TooLong(file)) => refuse_length(alloc, file, output),
-        Err(CaseFault::Bad { file, row, cause }) => refuse_case(alloc, file, row, cause, output),
-        Err(CaseFault::NoMemory) => Status::NoMemory,
+        Err(fault) => refuse_fault(alloc, fault, output),
     }
 }

@@ -1,37 +1,29 @@
 //! The command `session N`: the folder's case is read, and the script of the input is served beside workers.
-ghost use Rattle.std.specs.Prelude.{◌≡◌, ◌≤◌, ◌⊎◌, ℕ, List, [], Some, Ok, Err, IfSome, false};
-ghost use Rattle.ltm_io.specs.Faults.{Rose};
-ghost use Rattle.ltm_io.specs.Sink.{appended, AppendsFront};
+ghost use Rattle.std.specs.Prelude.{◌≡◌, ◌≤◌, ◌<◌, ℕ, Option, Some, false};
 ghost use Rattle.ltm_io.specs.Folder.{Files};
 ghost use Rattle.ltm_io.specs.declared.doc.Doc.{Doc};
-ghost use Rattle.ltm_scenario.specs.Data.{ScenarioData};
 ghost use Rattle.ltm_scenario.specs.Valid.{IsValid};
-ghost use Rattle.ltm_casefile.specs.declared.faults.File.{File};
-ghost use Rattle.ltm_casefile.specs.declared.faults.CaseFault.{CaseFault};
-ghost use Rattle.ltm_casefile.specs.Case.{case_of, is_case_file, asks_for};
 ghost use Rattle.ltm_core.specs.Log.{version_now};
-ghost use Rattle.ltm_session.specs.declared.ends.SessionEnd.{SessionEnd};
 ghost use Rattle.ltm_session.specs.Answers.{AnswersBeside};
-ghost use Rattle.ltm_session.specs.Session.{IsSessionOutput, end_of};
 ghost use Rattle.ltm_texts.specs.declared.words.Command.{Command};
-ghost use Rattle.ltm_texts.specs.Answers.{Describes};
-ghost use Rattle.ltm_texts.specs.Program.{FileFailed, IsCalm, IsWhole};
-ghost use Rattle.ltm_program.specs.Sessions.{IsServed, IsSessionUnder, WritesSessionFront, ServesWhole, closing_of, status_of_end, session_status};
+ghost use Rattle.ltm_texts.specs.Run.{IsRun, outside};
+ghost use Rattle.ltm_program.specs.Sessions.{EndsUnder, IsServed};
+ghost use Rattle.ltm_program.specs.Ran.{Ran};
 
 use crate::serve::{close, let_go};
-use ltm_casefile::{CaseFault, read_case};
+use ltm_casefile::read_case;
 use ltm_core::Core;
 use ltm_crew::serve;
 use ltm_io::{Folder, Sink, Source};
 use ltm_scenario::Scenario;
 use ltm_session::Served;
-use ltm_texts::{Status, refuse_case, refuse_length};
+use ltm_texts::{Status, refuse_fault};
 use ltm_workers::Gate;
 use std::alloc::Global;
 use std::sync::Wait;
 use std::thread::Threads;
 
-/// Serves the script of the input over a core, beside so many workers.
+/// Serves the script of the input over a core, beside so many workers, whatever the folder holds.
 fn serve_core<R: Threads + Wait + Sync, S: Source, W: Sink, G: Gate>(
     rt: &R,
     alloc: Global,
@@ -44,16 +36,10 @@ fn serve_core<R: Threads + Wait + Sync, S: Source, W: Sink, G: Gate>(
     requires workers { workers ≤ 64 }
     requires fresh { version_now core.log ≡ 0 }
     requires running { core.stopped ≡ false }
-    ensures whole { IsWhole result → (end : SessionEnd) × (text : List ℕ) × (result ≡ status_of_end end)
-        × IsServed AnswersBeside core.log.opening (S.left input.old) end text × (W.written output.new ≡ appended text (W.written output.old)) }
-    ensures front { (W.written output.new ≡ W.written output.old) ⊎ ((end : SessionEnd) × (text : List ℕ)
-        × IsServed AnswersBeside core.log.opening (S.left input.old) end text × AppendsFront (W.written output.old) (W.written output.new) text) }
-    ensures of_no_files { (result ≡ Status.Usage → ⊥) × (result ≡ Status.FolderFault → ⊥) }
-    ensures read_fault { result ≡ Status.ReadFault → Rose (S.faults input.old) (S.faults input.new) }
-    ensures write_fault { result ≡ Status.WriteFault → Rose (W.faults output.old) (W.faults output.new) }
-    ensures session { result ≡ Status.Ok → ServesWhole IsSessionOutput core.log.opening (S.left input.old) (S.left input.new) (W.written output.old) (W.written output.new) }
-    ensures ends { (script : List ℕ) → S.left input.old ≡ Some script → (Rose (S.faults input.old) (S.faults input.new) → ⊥)
-        → (Rose (W.faults output.old) (W.faults output.new) → ⊥) → (result ≡ status_of_end (end_of script)) ⊎ (result ≡ Status.NoMemory) }
+    ensures { (told : Option Files) (faults : Doc → ℕ)
+        → IsRun (EndsUnder (IsServed AnswersBeside (S.left input.old) core.log.opening)) (λ d. ⊥) (Unit {0}) result
+        (outside told faults (S.left input.old) (S.faults input.old) (W.written output.old) (W.faults output.old))
+        (outside told faults (S.left input.new) (S.faults input.new) (W.written output.new) (W.faults output.new)) }
 {
     let Served { end, core } = serve(rt, alloc, core, workers, input, output, gate);
     let_go(core);
@@ -72,16 +58,10 @@ fn serve_case<R: Threads + Wait + Sync, S: Source, W: Sink, G: Gate>(
 ) -> Status
     requires workers { workers ≤ 64 }
     requires valid { IsValid scenario }
-    ensures whole { IsWhole result → (end : SessionEnd) × (text : List ℕ) × (result ≡ status_of_end end)
-        × IsServed AnswersBeside scenario (S.left input.old) end text × (W.written output.new ≡ appended text (W.written output.old)) }
-    ensures front { (W.written output.new ≡ W.written output.old) ⊎ ((end : SessionEnd) × (text : List ℕ)
-        × IsServed AnswersBeside scenario (S.left input.old) end text × AppendsFront (W.written output.old) (W.written output.new) text) }
-    ensures of_no_files { (result ≡ Status.Usage → ⊥) × (result ≡ Status.FolderFault → ⊥) }
-    ensures read_fault { result ≡ Status.ReadFault → Rose (S.faults input.old) (S.faults input.new) }
-    ensures write_fault { result ≡ Status.WriteFault → Rose (W.faults output.old) (W.faults output.new) }
-    ensures session { result ≡ Status.Ok → ServesWhole IsSessionOutput scenario (S.left input.old) (S.left input.new) (W.written output.old) (W.written output.new) }
-    ensures ends { (script : List ℕ) → S.left input.old ≡ Some script → (Rose (S.faults input.old) (S.faults input.new) → ⊥)
-        → (Rose (W.faults output.old) (W.faults output.new) → ⊥) → (result ≡ status_of_end (end_of script)) ⊎ (result ≡ Status.NoMemory) }
+    ensures { (told : Option Files) (faults : Doc → ℕ)
+        → IsRun (EndsUnder (IsServed AnswersBeside (S.left input.old) scenario)) (λ d. ⊥) (Unit {0}) result
+        (outside told faults (S.left input.old) (S.faults input.old) (W.written output.old) (W.faults output.old))
+        (outside told faults (S.left input.new) (S.faults input.new) (W.written output.new) (W.faults output.new)) }
 {
     match Core::create(alloc, scenario) {
         Ok(core) => serve_core(rt, alloc, core, workers, input, output, gate),
@@ -99,31 +79,13 @@ pub fn serve_beside<R: Threads + Wait + Sync, F: Folder, S: Source, W: Sink, G: 
     output: &mut W,
     gate: &G,
 ) -> Status
-    requires { workers ≤ 64 }
-    ensures keeps { F.told folder.new ≡ F.told folder.old }
-    ensures others { (d : Doc) → is_case_file d ≡ false → F.faults folder.new d ≡ F.faults folder.old d }
-    ensures unasked { IfSome (F.told folder.old) (λ files. (d : Doc) → asks_for files d ≡ false → F.faults folder.new d ≡ F.faults folder.old d) }
-    ensures usage { result ≡ Status.Usage → ⊥ }
-    ensures folder_fault { result ≡ Status.FolderFault → FileFailed Command.Load (F.told folder.old) (F.faults folder.old) (F.faults folder.new)
-        × (W.written output.new ≡ W.written output.old) }
-    ensures read_fault { result ≡ Status.ReadFault → Rose (S.faults input.old) (S.faults input.new) }
-    ensures write_fault { result ≡ Status.WriteFault → Rose (W.faults output.old) (W.faults output.new) }
-    ensures whole { IsWhole result → (text : List ℕ) × IsSessionUnder AnswersBeside (F.told folder.old) (S.left input.old) result text
-        × (W.written output.new ≡ appended text (W.written output.old)) }
-    ensures front { WritesSessionFront AnswersBeside (F.told folder.old) (S.left input.old) (W.written output.old) (W.written output.new) }
-    ensures session { result ≡ Status.Ok → (s : ScenarioData) × Describes (F.told folder.old) (Ok s)
-        × ServesWhole IsSessionOutput s (S.left input.old) (S.left input.new) (W.written output.old) (W.written output.new) }
-    ensures complete { (files : Files) (script : List ℕ) → F.told folder.old ≡ Some files → S.left input.old ≡ Some script
-        → IsCalm Command.Load files (F.faults folder.old) (F.faults folder.new) → (Rose (S.faults input.old) (S.faults input.new) → ⊥)
-        → (Rose (W.faults output.old) (W.faults output.new) → ⊥) → (result ≡ session_status (case_of files) script) ⊎ (result ≡ Status.NoMemory) }
-    ensures missing { (files : Files) (file : File) → F.told folder.old ≡ Some files → case_of files ≡ Err (CaseFault.Folder file)
-        → (result ≡ Status.FolderFault) ⊎ (result ≡ Status.NoMemory) }
+    requires { (0 < workers) × (workers ≤ 64) }
+    ensures { Ran (Some (Command.Session workers)) result
+        (outside (F.told folder.old) (F.faults folder.old) (S.left input.old) (S.faults input.old) (W.written output.old) (W.faults output.old))
+        (outside (F.told folder.new) (F.faults folder.new) (S.left input.new) (S.faults input.new) (W.written output.new) (W.faults output.new)) }
 {
     match read_case(alloc, folder) {
         Ok(scenario) => serve_case(rt, alloc, scenario, workers, input, output, gate),
-        Err(CaseFault::Folder(_)) => Status::FolderFault,
-        Err(CaseFault::TooLong(file)) => refuse_length(alloc, file, output),
-        Err(CaseFault::Bad { file, row, cause }) => refuse_case(alloc, file, row, cause, output),
-        Err(CaseFault::NoMemory) => Status::NoMemory,
+        Err(fault) => refuse_fault(alloc, fault, output),
     }
 }

@@ -1,6 +1,6 @@
 -- What a command answers, from what its crate says of the files.
 use Rattle.std.proofs.Common.{ℕ, ◌≡◌, refl, List, Option, Ok, Err}
-use Rattle.std.specs.Prelude.{IfSome}
+use Rattle.std.specs.Prelude.{IfSome, IfOk, Result}
 use Rattle.ltm_io.specs.Folder.{Files}
 use Rattle.ltm_scenario.specs.Data.{ScenarioData}
 use Rattle.ltm_casefile.specs.declared.faults.CaseFault.{CaseFault}
@@ -9,6 +9,7 @@ use Rattle.ltm_casefile.specs.Faults.{Agrees}
 use Rattle.ltm_casefile.specs.Case.{case_of}
 use Rattle.ltm_routing.specs.declared.lines.RouteLines.TheVariants as lines
 use Rattle.ltm_routing.specs.Routing as routing
+use Rattle.ltm_routing.specs.File.{IsSplitsFile, IsTimesFile}
 use Rattle.ltm_texts.specs.declared.words.Command.TheVariants as command
 use Rattle.ltm_report.specs.Reports.{IsReport}
 use Rattle.ltm_checking.specs.declared.refusal.Refusal.{Refusal}
@@ -29,22 +30,27 @@ load_fault told (fault.TooLong f) agrees = refused told (fault.TooLong f) agrees
 load_fault told (fault.Bad f row cause) agrees = refused told (fault.Bad f row cause) agrees
 load_fault told fault.NoMemory agrees = tt
 
-pub routes_told : (told : Option Files) (text : List ℕ) → routing.AnswersRoutes lines.Splits told (Ok text) → Answers command.Routes told (Ok text)
-routes_told told text says = (Ok text, says, refl)
+-- where two facts are known of what was answered, so is what follows from both
+pub joined : {A E : Type 0} (r : Result A E) (P Q R : A → Type 0) → ((x : A) → P x → Q x → R x) → IfOk r P → IfOk r Q → IfOk r R
+joined (Ok x) P Q R follows p q = follows x p q
+joined (Err e) P Q R follows p q = tt
 
-pub times_told : (told : Option Files) (text : List ℕ) → routing.AnswersRoutes lines.Times told (Ok text) → Answers command.RouteTimes told (Ok text)
-times_told told text says = (Ok text, says, refl)
+pub routes_told : (told : Option Files) (text : List ℕ) → routing.AnswersRoutes lines.Splits told (Ok text) → IsSplitsFile told text → Answers command.Routes told (Ok text)
+routes_told told text says file = ((Ok text, says, refl), file)
+
+pub times_told : (told : Option Files) (text : List ℕ) → routing.AnswersRoutes lines.Times told (Ok text) → IsTimesFile told text → Answers command.RouteTimes told (Ok text)
+times_told told text says file = ((Ok text, says, refl), file)
 
 pub routes_fault : (told : Option Files) (e : CaseFault) → routing.AnswersFault lines.Splits told e → AnswersFault command.Routes told (refusal.Case e)
 routes_fault told (fault.Folder f) says = tt
-routes_fault told (fault.TooLong f) says = (Err (fault.TooLong f), says, refl)
-routes_fault told (fault.Bad f row cause) says = (Err (fault.Bad f row cause), says, refl)
+routes_fault told (fault.TooLong f) says = ((Err (fault.TooLong f), says, refl), tt)
+routes_fault told (fault.Bad f row cause) says = ((Err (fault.Bad f row cause), says, refl), tt)
 routes_fault told fault.NoMemory says = tt
 
 pub times_fault : (told : Option Files) (e : CaseFault) → routing.AnswersFault lines.Times told e → AnswersFault command.RouteTimes told (refusal.Case e)
 times_fault told (fault.Folder f) says = tt
-times_fault told (fault.TooLong f) says = (Err (fault.TooLong f), says, refl)
-times_fault told (fault.Bad f row cause) says = (Err (fault.Bad f row cause), says, refl)
+times_fault told (fault.TooLong f) says = ((Err (fault.TooLong f), says, refl), tt)
+times_fault told (fault.Bad f row cause) says = ((Err (fault.Bad f row cause), says, refl), tt)
 times_fault told fault.NoMemory says = tt
 
 pub curves_told : (told : Option Files) (text : List ℕ) → AnswersCurves told (Ok text) → Answers command.Curves told (Ok text)

@@ -1,5 +1,5 @@
-mod Asked
-pub mod Choice
 mod Answering
 pub mod MissingFile
+pub mod Reading
+pub mod Running
 pub mod Told

@@ -1,5 +1,5 @@
 -- What each command answers, a text or a fault of the files, and which files it fetches.
-use Rattle.std.specs.Prelude.{ℕ, ◌≡◌, ◌≤◌, Bool, false, List, Option, IfSome, Result, Ok, Err}
+use Rattle.std.specs.Prelude.{ℕ, ◌≡◌, Bool, false, List, Option, IfSome, IfOk, Result, Ok, Err}
 use Rattle.ltm_io.specs.declared.doc.Doc.{Doc}
 use Rattle.ltm_io.specs.Folder.{Files}
 use Rattle.ltm_scenario.specs.Data.{ScenarioData}
@@ -10,6 +10,7 @@ use Rattle.ltm_casefile.specs.Roads.{is_of_roads}
 use Rattle.ltm_routing.specs.declared.lines.RouteLines.{RouteLines}
 use Rattle.ltm_routing.specs.declared.lines.RouteLines.TheVariants as lines
 use Rattle.ltm_routing.specs.Routing.{AnswersRoutes}
+use Rattle.ltm_routing.specs.File.{IsSplitsFile, IsTimesFile}
 use Rattle.ltm_texts.specs.declared.words.Command.{Command}
 use Rattle.ltm_texts.specs.declared.words.Command.TheVariants as command
 use Rattle.ltm_trial.specs.Trial.{IsTrial}
@@ -45,14 +46,15 @@ RouteAnswer lines told answer = (said : Result (List ℕ) CaseFault) × AnswersR
 abbrev pub CurvesAnswer : Option Files → Answer → Type 0
 CurvesAnswer told answer = (said : Result (List ℕ) CaseFault) × AnswersCurves told said × (answer ≡ answer_of said)
 
--- what a command answers to what a folder tells of its files
+-- what a command answers to what a folder tells of its files; those that are served make no such answer
 abbrev pub Answers : Command → Option Files → Answer → Type 0
 Answers command.Load told answer = (said : Result ScenarioData CaseFault) × Describes told said × LoadAnswer said answer
-Answers command.Routes told answer = RouteAnswer lines.Splits told answer
-Answers command.RouteTimes told answer = RouteAnswer lines.Times told answer
+Answers command.Routes told answer = RouteAnswer lines.Splits told answer × IfOk answer (IsSplitsFile told)
+Answers command.RouteTimes told answer = RouteAnswer lines.Times told answer × IfOk answer (IsTimesFile told)
 Answers (command.Try start nodes) told answer = (text : List ℕ) × IsTrial start nodes text × (answer ≡ Ok text)
 Answers command.Curves told answer = CurvesAnswer told answer
 Answers command.Check told answer = AnswersCheck told answer
+Answers c told answer = ⊥
 
 -- a refusal that lies in the files is the answer; that a folder did not give a file, or memory was not found, does not lie
 -- in them
@@ -67,14 +69,12 @@ AnswersFault command told (refusal.BadCurves row cause) = Answers command told (
 AnswersFault command told refusal.NoStart = Answers command told (Err refusal.NoStart)
 AnswersFault command told (refusal.NoStep node slot) = Answers command told (Err (refusal.NoStep node slot))
 
--- a made case has 4 to 400 nodes
-abbrev pub IsSized : Command → Type 0
-IsSized command.Load = Unit {0}
-IsSized command.Routes = Unit {0}
-IsSized command.RouteTimes = Unit {0}
-IsSized (command.Try start nodes) = (4 ≤ nodes) × (nodes ≤ 400)
-IsSized command.Curves = Unit {0}
-IsSized command.Check = Unit {0}
+-- the whole text of the command is made before any of it is written; the others are served
+abbrev pub HasText : Command → Type 0
+HasText (command.Session workers) = ⊥
+HasText (command.View viewers) = ⊥
+HasText (command.Editors editors) = ⊥
+HasText c = Unit {0}
 
 -- ---- files
 -- the files that a command may fetch
@@ -82,15 +82,15 @@ abbrev pub may_fetch : Command → Doc → Bool
 may_fetch command.Load d = is_case_file d
 may_fetch command.Routes d = is_of_roads d
 may_fetch command.RouteTimes d = is_of_roads d
-may_fetch (command.Try start nodes) d = false
 may_fetch command.Curves d = is_case_file d
 may_fetch command.Check d = is_check_file d
+may_fetch c d = false
 
 -- the files that it fetches from a folder with these files
 abbrev pub fetches : Command → Files → Doc → Bool
 fetches command.Load files d = asks_for files d
 fetches command.Routes files d = is_of_roads d
 fetches command.RouteTimes files d = is_of_roads d
-fetches (command.Try start nodes) files d = false
 fetches command.Curves files d = asks_for files d
 fetches command.Check files d = check_asks_for files d
+fetches c files d = false

@@ -1,9 +1,8 @@
--- What the program writes, and with which status it ends.
-use Rattle.std.specs.Prelude.{ℕ, ◌≡◌, ◌⊎◌, true, List, [], Option, IfSome, Ok, Err}
+-- What belongs to an answer: its text and its status; and whose file failed.
+use Rattle.std.specs.Prelude.{ℕ, ◌≡◌, true, List, [], Option, IfSome, Ok, Err}
 use Rattle.ltm_io.specs.declared.doc.Doc.{Doc}
 use Rattle.ltm_io.specs.Folder.{Files}
 use Rattle.ltm_io.specs.Faults.{Rose}
-use Rattle.ltm_io.specs.Sink.{AppendsFront}
 use Rattle.ltm_casefile.specs.declared.faults.CaseFault.{CaseFault}
 use Rattle.ltm_casefile.specs.declared.faults.CaseFault.TheVariants as fault
 use Rattle.ltm_report.specs.CaseFaults.{bad_case_line, too_long_line}
@@ -13,7 +12,6 @@ use Rattle.ltm_checking.specs.Lines.{bad_curves_line, no_start_line, no_step_lin
 use Rattle.ltm_texts.specs.declared.status.Status.{Status}
 use Rattle.ltm_texts.specs.declared.status.Status.TheVariants as ending
 use Rattle.ltm_texts.specs.declared.words.Command.{Command}
-use Rattle.ltm_texts.specs.Words.{Asks, AsksNoText, usage_line}
 use Rattle.ltm_texts.specs.Answers.{Answer, Answers, may_fetch, fetches}
 
 -- the line that refuses a case, and nothing where a file is missing
@@ -98,22 +96,6 @@ IsLong (refusal.NoStep node slot) = ⊥
 abbrev pub IsAnswerUnder : Command → Option Files → Status → List ℕ → Type 0
 IsAnswerUnder command told status text = (answer : Answer) × Answers command told answer × (status ≡ status_of answer) × (text ≡ text_of answer)
 
--- the whole text that belongs to words and a status: the usage line, or what a command answers
-abbrev pub IsTextUnder : List (List ℕ) → Option Files → Status → List ℕ → Type 0
-IsTextUnder words told status text =
-    (AsksNoText words × (status ≡ ending.Usage) × (text ≡ usage_line))
-    ⊎ ((command : Command) × Asks words command × IsAnswerUnder command told status text)
-
--- nothing was written, or a front of a text that belongs to a command
-abbrev pub WritesAnswerFront : Command → Option Files → Option (List ℕ) → Option (List ℕ) → Type 0
-WritesAnswerFront command told old new =
-    (new ≡ old) ⊎ ((status : Status) × (text : List ℕ) × IsAnswerUnder command told status text × AppendsFront old new text)
-
--- nothing was written, or a front of a text that belongs to the words
-abbrev pub WritesFront : List (List ℕ) → Option Files → Option (List ℕ) → Option (List ℕ) → Type 0
-WritesFront words told old new =
-    (new ≡ old) ⊎ ((status : Status) × (text : List ℕ) × IsTextUnder words told status text × AppendsFront old new text)
-
 -- no fault of the outside and no want of memory: the whole text is written
 abbrev pub IsWhole : Status → Type 0
 IsWhole ending.Ok = Unit {0}
@@ -130,6 +112,10 @@ IsWhole ending.NotLoading = Unit {0}
 IsWhole ending.BadScript = Unit {0}
 
 -- ---- faults of the folder
+-- a command may fetch the file: one of its own, and where the folder tells its files one that it asks them for
+abbrev pub Fetches : Command → Option Files → Doc → Type 0
+Fetches command told d = (may_fetch command d ≡ true) × IfSome told (λ files. fetches command files d ≡ true)
+
 -- the count of faults rose of a file that the command may fetch and that it fetches from this folder, where that is told
 abbrev pub FileFailed : Command → Option Files → (Doc → ℕ) → (Doc → ℕ) → Type 0
 FileFailed command told before now = (d : Doc) × (may_fetch command d ≡ true) × IfSome told (λ files. fetches command files d ≡ true) × Rose (before d) (now d)

@@ -5,10 +5,10 @@ ghost use Rattle.ltm_casefile.specs.declared.faults.File.{File};
 ghost use Rattle.ltm_casefile.specs.declared.faults.CaseFault.{CaseFault};
 ghost use Rattle.ltm_casefile.specs.Case.{is_case_file, asks_for};
 ghost use Rattle.ltm_casefile.specs.Roads.{is_of_roads};
-ghost use Rattle.ltm_routing.specs.File.{IsSplitsFile, IsTimesFile};
 ghost use Rattle.ltm_texts.specs.declared.words.Command.{Command};
 ghost use Rattle.ltm_trial.specs.Trial.{IsTrial};
-ghost use Rattle.ltm_texts.specs.Answers.{Answers, AnswersFault, IsSized, may_fetch, fetches};
+ghost use Rattle.ltm_texts.specs.Words.{IsSized};
+ghost use Rattle.ltm_texts.specs.Answers.{Answers, AnswersFault, HasText, may_fetch, fetches};
 ghost use Rattle.ltm_texts.specs.Program.{FileFailed, IsMissing};
 ghost use Rattle.ltm_checking.specs.declared.refusal.Refusal.{Refusal};
 ghost use Rattle.ltm_checking.specs.Checks.{is_check_file, check_asks_for};
@@ -32,7 +32,6 @@ fn route_splits<F: Folder>(alloc: Global, folder: &mut F) -> Result<Vec<u8>, Cas
     ensures fault { IfErr result (λ e. AnswersFault Command.Routes (F.told folder.old) (Refusal.Case e)) }
     ensures failed { (file : File) → result ≡ Err (CaseFault.Folder file)
         → FileFailed Command.Routes (F.told folder.old) (F.faults folder.old) (F.faults folder.new) }
-    ensures splits { IfOk result (λ text. IsSplitsFile (F.told folder.old) text.items) }
 {
     route_text(alloc, RouteLines::Splits, folder)
 }
@@ -46,7 +45,6 @@ fn route_times<F: Folder>(alloc: Global, folder: &mut F) -> Result<Vec<u8>, Case
     ensures fault { IfErr result (λ e. AnswersFault Command.RouteTimes (F.told folder.old) (Refusal.Case e)) }
     ensures failed { (file : File) → result ≡ Err (CaseFault.Folder file)
         → FileFailed Command.RouteTimes (F.told folder.old) (F.faults folder.old) (F.faults folder.new) }
-    ensures times { IfOk result (λ text. IsTimesFile (F.told folder.old) text.items) }
 {
     route_text(alloc, RouteLines::Times, folder)
 }
@@ -99,6 +97,7 @@ fn case_answer<F: Folder>(
     command: Command,
     folder: &mut F,
 ) -> Result<Vec<u8>, CaseFault>
+    requires text { HasText command }
     requires sized { IsSized command }
     requires no_check { command ≢ Command.Check }
     ensures keeps { F.told folder.new ≡ F.told folder.old }
@@ -108,8 +107,6 @@ fn case_answer<F: Folder>(
     ensures fault { IfErr result (λ e. AnswersFault command (F.told folder.old) (Refusal.Case e)) }
     ensures failed { (file : File) → result ≡ Err (CaseFault.Folder file)
         → FileFailed command (F.told folder.old) (F.faults folder.old) (F.faults folder.new) }
-    ensures splits { command ≡ Command.Routes → IfOk result (λ text. IsSplitsFile (F.told folder.old) text.items) }
-    ensures times { command ≡ Command.RouteTimes → IfOk result (λ text. IsTimesFile (F.told folder.old) text.items) }
 {
     match command {
         Command::Load => report_case(alloc, folder),
@@ -118,11 +115,15 @@ fn case_answer<F: Folder>(
         Command::Try { start, nodes } => trial(alloc, start, nodes),
         Command::Curves => curves(alloc, folder),
         Command::Check => unreachable!(),
+        Command::Session { .. } => unreachable!(),
+        Command::View { .. } => unreachable!(),
+        Command::Editors { .. } => unreachable!(),
     }
 }
 
 /// A text, or the fault of a case as a refusal.
 fn told<F: Folder>(alloc: Global, command: Command, folder: &mut F) -> Result<Vec<u8>, Refusal>
+    requires text { HasText command }
     requires sized { IsSized command }
     requires no_check { command ≢ Command.Check }
     ensures keeps { F.told folder.new ≡ F.told folder.old }
@@ -132,8 +133,6 @@ fn told<F: Folder>(alloc: Global, command: Command, folder: &mut F) -> Result<Ve
     ensures fault { IfErr result (AnswersFault command (F.told folder.old)) }
     ensures failed { (refusal : Refusal) → result ≡ Err refusal → IsMissing refusal
         → FileFailed command (F.told folder.old) (F.faults folder.old) (F.faults folder.new) }
-    ensures splits { command ≡ Command.Routes → IfOk result (λ text. IsSplitsFile (F.told folder.old) text.items) }
-    ensures times { command ≡ Command.RouteTimes → IfOk result (λ text. IsTimesFile (F.told folder.old) text.items) }
 {
     match case_answer(alloc, command, folder) {
         Ok(text) => Ok(text),
@@ -147,7 +146,8 @@ pub fn answer<F: OpenFolder>(
     command: Command,
     folder: &mut F,
 ) -> Result<Vec<u8>, Refusal>
-    requires { IsSized command }
+    requires text { HasText command }
+    requires sized { IsSized command }
     ensures keeps { F.told folder.new ≡ F.told folder.old }
     ensures others { (d : Doc) → may_fetch command d ≡ false → F.faults folder.new d ≡ F.faults folder.old d }
     ensures unasked { IfSome (F.told folder.old) (λ files. (d : Doc) → fetches command files d ≡ false → F.faults folder.new d ≡ F.faults folder.old d) }
@@ -155,8 +155,6 @@ pub fn answer<F: OpenFolder>(
     ensures fault { IfErr result (AnswersFault command (F.told folder.old)) }
     ensures failed { (refusal : Refusal) → result ≡ Err refusal → IsMissing refusal
         → FileFailed command (F.told folder.old) (F.faults folder.old) (F.faults folder.new) }
-    ensures splits { command ≡ Command.Routes → IfOk result (λ text. IsSplitsFile (F.told folder.old) text.items) }
-    ensures times { command ≡ Command.RouteTimes → IfOk result (λ text. IsTimesFile (F.told folder.old) text.items) }
 {
     match command {
         Command::Check => check(alloc, folder),

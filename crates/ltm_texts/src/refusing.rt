@@ -79,9 +79,7 @@ pub fn refuse_fault<W: Sink>(alloc: Global, fault: CaseFault, output: &mut W) ->
     ensures front { (W.written output.new ≡ W.written output.old)
         ⊎ (IsTold (Refusal.Case fault) × AppendsFront (W.written output.old) (W.written output.new) (words_of (Refusal.Case fault))) }
     ensures folder_fault { result ≡ Status.FolderFault → IsMissing (Refusal.Case fault) × (W.written output.new ≡ W.written output.old) }
-    ensures missing { IsMissing (Refusal.Case fault) → result ≡ Status.FolderFault }
-    ensures memory { fault ≡ CaseFault.NoMemory → result ≡ Status.NoMemory }
-    ensures cause { result ≡ Status.WriteFault → Rose (W.faults output.old) (W.faults output.new) }
+    ensures cause { result ≡ Status.WriteFault → IsTold (Refusal.Case fault) × Rose (W.faults output.old) (W.faults output.new) }
 {
     match fault {
         CaseFault::Folder(_) => Status::FolderFault,
@@ -98,9 +96,7 @@ pub fn refuse<W: Sink>(alloc: Global, refusal: Refusal, output: &mut W) -> Statu
     ensures front { (W.written output.new ≡ W.written output.old)
         ⊎ (IsTold refusal × AppendsFront (W.written output.old) (W.written output.new) (words_of refusal)) }
     ensures folder_fault { result ≡ Status.FolderFault → IsMissing refusal × (W.written output.new ≡ W.written output.old) }
-    ensures missing { IsMissing refusal → result ≡ Status.FolderFault }
-    ensures memory { refusal ≡ Refusal.Case CaseFault.NoMemory → result ≡ Status.NoMemory }
-    ensures cause { result ≡ Status.WriteFault → Rose (W.faults output.old) (W.faults output.new) }
+    ensures cause { result ≡ Status.WriteFault → IsTold refusal × Rose (W.faults output.old) (W.faults output.new) }
 {
     match refusal {
         Refusal::Case(fault) => refuse_fault(alloc, fault, output),

@@ -1,113 +1,133 @@
 //! The words of the command line.
-ghost use Rattle.std.specs.Prelude.{◌≡◌, ◌↔◌, ℕ, ◌≤◌, List, [], ◌∷◌, map, string_bytes, codes, length, Some, None, true};
-ghost use Rattle.ltm_units.specs.Numbers.{whole as whole_number};
+ghost use Rattle.std.specs.Prelude.{◌≡◌, ◌≤◌, ◌<◌, ◌^◌, ℕ, List, map, string_bytes, option_map, codes, IfSome, Some, None};
+ghost use Rattle.ltm_trial.specs.Words.{start_of, nodes_of};
 ghost use Rattle.ltm_texts.specs.declared.words.Command.{Command};
-ghost use Rattle.ltm_texts.specs.Words.{Asks, AsksSession, usage_line};
+ghost use Rattle.ltm_texts.specs.Words as says;
+ghost use Rattle.ltm_texts.specs.Words.{IsSized, OneReading, usage_line};
 
 use ltm_trial::{read_nodes, read_start};
-use ltm_units::read_whole;
+use ltm_units::read_number;
 
-/// What the program can be asked for, of which it makes the whole text before it writes any.
-#[derive(Clone, Copy, Debug, PartialEq, Eq)]
+/// All that the program can be asked for.
+#[derive(Clone, Copy)]
 pub enum Command {
     /// The report of the case's loading.
     Load,
+    /// The loading of the case as a curve file.
+    Curves,
+    /// Whether the curve file beside the case is its loading.
+    Check,
     /// A whole `splits.csv` of least free-flow routes, for the roads and the demand of the case.
     Routes,
     /// The least free-flow times that these routes take.
     RouteTimes,
     /// A trial of a made case: where its words start, and how many nodes it has.
     Try { start: u64, nodes: u32 },
-    /// The loading of the case as a curve file.
-    Curves,
-    /// Whether the curve file beside the case is its loading.
-    Check,
+    /// The script of the input, served beside so many workers.
+    Session { workers: u32 },
+    /// The script of the input, served while so many viewers look on.
+    View { viewers: u32 },
+    /// Files of edits, made by so many editors.
+    Editors { editors: u32 },
 }
 
-fn is_load(word: &str) -> bool
-    ensures { result ≡ true ↔ (word.now ≡ codes "load") }
+/// The number that a word names, of so few digits, from the least to the most.
+fn number_of(word: &str, digits: usize, least: u32, most: u32) -> Option<u32>
+    ensures { result ≡ says.number_of digits least most word.now }
 {
-    word == "load"
+    match read_number(word.as_bytes(), digits, u64::from(most)) {
+        Some(number) if number >= u64::from(least) => Some(number as u32),
+        _ => None,
+    }
 }
 
-fn is_routes(word: &str) -> bool
-    ensures { result ≡ true ↔ (word.now ≡ codes "routes") }
+fn session(word: &str) -> Option<Command>
+    ensures { result ≡ option_map Command.Session (says.workers_of word.now) }
 {
-    word == "routes"
+    let workers = number_of(word, 2, 0, 64)?;
+    Some(Command::Session { workers })
 }
 
-fn is_times(word: &str) -> bool
-    ensures { result ≡ true ↔ (word.now ≡ codes "times") }
+fn view(word: &str) -> Option<Command>
+    ensures { result ≡ option_map Command.View (says.viewers_of word.now) }
 {
-    word == "times"
+    let viewers = number_of(word, 1, 1, 2)?;
+    Some(Command::View { viewers })
 }
 
-fn is_try(word: &str) -> bool
-    ensures { result ≡ true ↔ (word.now ≡ codes "try") }
+fn editors(word: &str) -> Option<Command>
+    ensures { result ≡ option_map Command.Editors (says.editors_of word.now) }
 {
-    word == "try"
+    let editors = number_of(word, 1, 1, 8)?;
+    Some(Command::Editors { editors })
 }
 
-fn is_curves(word: &str) -> bool
-    ensures { result ≡ true ↔ (word.now ≡ codes "curves") }
+fn trial(start: &str, nodes: &str) -> Option<Command>
+    ensures { result ≡ says.trial_of (start_of start.now) (nodes_of nodes.now) }
 {
-    word == "curves"
-}
-
-fn is_check(word: &str) -> bool
-    ensures { result ≡ true ↔ (word.now ≡ codes "check") }
-{
-    word == "check"
+    let start = read_start(start.as_bytes())?;
+    let nodes = read_nodes(nodes.as_bytes())?;
+    Some(Command::Try { start, nodes })
 }
 
 fn one_word(word: &str) -> Option<Command>
-    ensures { (command : Command) → (result ≡ Some command) ↔ Asks (word.now ∷ []) command }
+    ensures { result ≡ says.one_word word.now }
 {
-    if is_load(word) {
+    if word == "load" {
         return Some(Command::Load);
     }
-    if is_routes(word) {
-        return Some(Command::Routes);
-    }
-    if is_curves(word) {
+    if word == "curves" {
         return Some(Command::Curves);
     }
-    if is_check(word) {
+    if word == "check" {
         return Some(Command::Check);
+    }
+    if word == "routes" {
+        return Some(Command::Routes);
+    }
+    None
+}
+
+fn routes(word: &str) -> Option<Command>
+    ensures { result ≡ says.when word.now (codes "times") (Some Command.RouteTimes) None }
+{
+    if word == "times" {
+        return Some(Command::RouteTimes);
     }
     None
 }
 
 fn two_words(first: &str, second: &str) -> Option<Command>
-    ensures { (command : Command) → (result ≡ Some command) ↔ Asks (first.now ∷ second.now ∷ []) command }
+    ensures { result ≡ says.two_words first.now second.now }
 {
-    if !is_routes(first) {
-        return None;
+    if first == "routes" {
+        return routes(second);
     }
-    if !is_times(second) {
-        return None;
+    if first == "session" {
+        return session(second);
     }
-    Some(Command::RouteTimes)
+    if first == "view" {
+        return view(second);
+    }
+    if first == "editors" {
+        return editors(second);
+    }
+    None
 }
 
 fn three_words(first: &str, second: &str, third: &str) -> Option<Command>
-    ensures { (command : Command) → (result ≡ Some command) ↔ Asks (first.now ∷ second.now ∷ third.now ∷ []) command }
+    ensures { result ≡ says.when first.now (codes "try") (says.trial_of (start_of second.now) (nodes_of third.now)) None }
 {
-    if !is_try(first) {
-        return None;
+    if first == "try" {
+        return trial(second, third);
     }
-    let Some(start) = read_start(second.as_bytes()) else {
-        return None;
-    };
-    let Some(nodes) = read_nodes(third.as_bytes()) else {
-        return None;
-    };
-    Some(Command::Try { start, nodes })
+    None
 }
 
 /// The command that the words ask for, none where they ask for none.
 pub fn command_of(words: &[String]) -> Option<Command>
-    ensures { (command : Command) → (result ≡ Some command) ↔ Asks (map string_bytes words.now) command }
+    ensures reading { result ≡ says.command_of (map string_bytes words.now) }
+    ensures sized { IfSome result IsSized }
 {
     match words {
         [word] => one_word(word.as_str()),
@@ -117,44 +137,10 @@ pub fn command_of(words: &[String]) -> Option<Command>
     }
 }
 
-fn is_session(word: &str) -> bool
-    ensures { result ≡ true ↔ (word.now ≡ codes "session") }
-{
-    word == "session"
-}
-
-/// The number of workers that a word names.
-fn workers_of(word: &str) -> Option<u32>
-    ensures { (n : ℕ) → (result ≡ Some n) ↔ ((length word.now ≤ 2) × (whole_number word.now ≡ Some n) × (n ≤ 64)) }
-{
-    let digits = word.as_bytes();
-    if digits.len() > 2 {
-        return None;
-    }
-    match read_whole(digits) {
-        Some(workers) if workers <= 64 => Some(workers),
-        _ => None,
-    }
-}
-
-fn session_words(first: &str, second: &str) -> Option<u32>
-    ensures { (n : ℕ) → (result ≡ Some n) ↔ AsksSession (first.now ∷ second.now ∷ []) n }
-{
-    if !is_session(first) {
-        return None;
-    }
-    workers_of(second)
-}
-
-/// With how many workers the words ask for a session, none where they ask for none.
-pub fn session_of(words: &[String]) -> Option<u32>
-    ensures { (n : ℕ) → (result ≡ Some n) ↔ AsksSession (map string_bytes words.now) n }
-{
-    match words {
-        [first, second] => session_words(first.as_str(), second.as_str()),
-        _ => None,
-    }
-}
+/// The reading gives exactly the command that the words ask for.
+pub fn one_reading()
+    ensures { OneReading }
+{}
 
 /// What the usage line says, with its newline.
 #[tactic(auto, unfolding(crate::specs::Words::usage_line))]

@@ -1,30 +1,21 @@
-use Rattle.ltm_program.proofs.Editing.{whole_text, whole_refused, front_text, front_refused, refused_usage, refused_read, missing_no_text, missing_refused}
+use Rattle.std.proofs.Common.{refl, Ok, Err}
+use Rattle.ltm_editing.specs.Answers.{IsTold, IsMissing}
+use Rattle.ltm_texts.specs.declared.status.Status.TheVariants as ending
+use Rattle.ltm_texts.proofs.Running.{run_written, run_refused}
+use Rattle.ltm_program.specs.Editors.{editing_status, editing_words}
+use Rattle.ltm_program.proofs.Editing.{stays, told_given, never_ok, never_read}
 use Rattle.ltm_program.proofs.edit_together.edit_together.Goals as goal
 
-pub returns-in-Ok-clause-whole : goal.returns-in-Ok-clause-whole
-returns-in-Ok-clause-whole g c =
-    whole_text c.args.editors _ c.in-Ok.text.items _ _ _ c.in-Ok.ensures.text c.write_text.ensures.answers (λ ok. rw c.as_slice.ensures.value at (c.write_text.ensures.wrote (λ e. cc) (λ e. cc) ok))
+pub returns-in-Ok : goal.returns-in-Ok
+returns-in-Ok g c = λ left read_faults.
+    run_written _ _ _ ending.Ok c.in-Ok.text.items _ _ (c.editing_text.ensures.keeps, stays _ _ c.args.editors _ c.editing_text.ensures.others c.editing_text.ensures.unasked) (refl, refl) tt (λ is. cc)
+    (Ok c.in-Ok.text.items, c.in-Ok.ensures.text, refl, refl) c.write_text.ensures.answers
+    (λ ok. rw c.as_slice.ensures.value at (c.write_text.ensures.wrote (λ e. cc) (λ e. cc) ok)) (rw c.as_slice.ensures.value at c.write_text.ensures.front) (c.write_text.ensures.cause (λ e. cc))
 
-pub returns-in-Ok-clause-front : goal.returns-in-Ok-clause-front
-returns-in-Ok-clause-front g c = front_text c.args.editors _ c.in-Ok.text.items _ _ c.in-Ok.ensures.text (rw c.as_slice.ensures.value at c.write_text.ensures.front)
-
-pub returns-in-Ok-clause-missing : goal.returns-in-Ok-clause-missing
-returns-in-Ok-clause-missing g c = λ files e is missing none. absurd (missing_no_text _ files c.args.editors e c.in-Ok.text.items is none c.in-Ok.ensures.text)
-
-pub returns-in-Err-clause-usage : goal.returns-in-Err-clause-usage
-returns-in-Err-clause-usage g c = refused_usage c.in-Err.refusal _ _ _ c.refuse.ensures.whole
-
-pub returns-in-Err-clause-read_fault : goal.returns-in-Err-clause-read_fault
-returns-in-Err-clause-read_fault g c = refused_read c.in-Err.refusal _ _ _ c.refuse.ensures.whole
-
-pub returns-in-Err-clause-folder_fault : goal.returns-in-Err-clause-folder_fault
-returns-in-Err-clause-folder_fault g c = λ is. let h = c.refuse.ensures.folder_fault is in (c.in-Err.ensures.missed h.0, h.1)
-
-pub returns-in-Err-clause-whole : goal.returns-in-Err-clause-whole
-returns-in-Err-clause-whole g c = whole_refused c.args.editors _ c.in-Err.refusal _ _ _ c.in-Err.ensures.fault c.refuse.ensures.whole
-
-pub returns-in-Err-clause-front : goal.returns-in-Err-clause-front
-returns-in-Err-clause-front g c = front_refused c.args.editors _ c.in-Err.refusal _ _ c.in-Err.ensures.fault c.refuse.ensures.front
-
-pub returns-in-Err-clause-missing : goal.returns-in-Err-clause-missing
-returns-in-Err-clause-missing g c = λ files e is missing none. missing_refused _ files c.args.editors e c.in-Err.refusal _ is missing none c.in-Err.ensures.fault c.refuse.ensures.missing c.refuse.ensures.memory
+pub returns-in-Err : goal.returns-in-Err
+returns-in-Err g c = λ left read_faults.
+    let e = c.in-Err.refusal in
+    run_refused _ _ _ (IsTold e) (IsMissing e) _ (editing_status (Err e)) (editing_words (Err e)) _ _
+    (c.editing_text.ensures.keeps, stays _ _ c.args.editors _ c.editing_text.ensures.others c.editing_text.ensures.unasked) (refl, refl)
+    (λ told. (Err e, c.in-Err.ensures.fault told, refl, refl)) (told_given e) (never_ok e) (never_read e) c.in-Err.ensures.missed
+    c.refuse.ensures.whole c.refuse.ensures.front c.refuse.ensures.folder_fault c.refuse.ensures.cause

@@ -1,41 +1,9 @@
-use Rattle.std.proofs.Common.{sym, subst}
-use Rattle.ltm_texts.specs.Program.{IsWhole}
-use Rattle.ltm_program.proofs.Closings.{closed_whole, served_front, no_files, failed_writing, ended_well, ends_well, rose_before}
+use Rattle.std.proofs.Common.{refl}
+use Rattle.ltm_program.proofs.Closings.{run_served}
 use Rattle.ltm_program.proofs.serve.serve_core.Goals as goal
 
-pub returns-clause-whole : goal.returns-clause-whole
-returns-clause-whole g c =
+pub returns : goal.returns
+returns g c = λ told faults.
     let (output, so, wrote) = c.serve_alone-end.ensures.session in
-    closed_whole c.args.core.log.opening (g.S.Source.left c.args.input.now) (g.W.Sink.written c.args.output.now) (g.W.Sink.written c.serve_alone-end.new.sink) (g.W.Sink.written c.close.new.output)
-    c.serve_alone-end.result.end output _ c.close.result so wrote c.close.ensures.answers c.close.ensures.wrote
-
-pub returns-clause-front : goal.returns-clause-front
-returns-clause-front g c =
-    let (output, so, wrote) = c.serve_alone-end.ensures.session in
-    served_front c.args.core.log.opening (g.S.Source.left c.args.input.now) (g.W.Sink.written c.args.output.now) (g.W.Sink.written c.serve_alone-end.new.sink) (g.W.Sink.written c.close.new.output)
-    c.serve_alone-end.result.end output _ so wrote c.close.ensures.front
-
-pub returns-clause-of_no_files : goal.returns-clause-of_no_files
-returns-clause-of_no_files g c = no_files c.serve_alone-end.result.end c.close.result c.close.ensures.answers
-
-pub returns-clause-read_fault : goal.returns-clause-read_fault
-returns-clause-read_fault g c = λ is. c.serve_alone-end.ensures.read_fault (c.close.ensures.read_fault is)
-
-pub returns-clause-write_fault : goal.returns-clause-write_fault
-returns-clause-write_fault g c = λ is.
-    failed_writing c.serve_alone-end.result.end c.close.result (g.W.Sink.faults c.args.output.now) (g.W.Sink.faults c.serve_alone-end.new.sink) (g.W.Sink.faults c.close.new.output) is c.close.ensures.cause
-    c.serve_alone-end.ensures.write_fault c.serve_alone-end.ensures.later c.close.ensures.later
-
-pub returns-clause-session : goal.returns-clause-session
-returns-clause-session g c = λ ok.
-    let (output, so, wrote) = c.serve_alone-end.ensures.session in
-    ended_well c.args.core.log.opening (g.S.Source.left c.args.input.now) (g.S.Source.left c.serve_alone-end.new.source) (g.W.Sink.written c.args.output.now) (g.W.Sink.written c.serve_alone-end.new.sink)
-    (g.W.Sink.written c.close.new.output) c.serve_alone-end.result.end output _ (c.close.ensures.plain ok) so wrote c.serve_alone-end.ensures.read (c.close.ensures.wrote (subst IsWhole (sym ok) tt))
-
-pub returns-clause-ends : goal.returns-clause-ends
-returns-clause-ends g c = λ script is read_quiet write_quiet.
-    ends_well c.serve_alone-end.result.end script c.close.result (c.serve_alone-end.ensures.end script is) (λ failed. read_quiet (c.serve_alone-end.ensures.read_fault failed))
-    (λ failed. write_quiet (rose_before (g.W.Sink.faults c.args.output.now) (g.W.Sink.faults c.serve_alone-end.new.sink) (g.W.Sink.faults c.close.new.output) (c.serve_alone-end.ensures.write_fault failed) c.close.ensures.later))
-    (λ failed.
-    write_quiet (failed_writing c.serve_alone-end.result.end c.close.result (g.W.Sink.faults c.args.output.now) (g.W.Sink.faults c.serve_alone-end.new.sink) (g.W.Sink.faults c.close.new.output) failed c.close.ensures.cause
-    c.serve_alone-end.ensures.write_fault c.serve_alone-end.ensures.later c.close.ensures.later)) c.close.ensures.answers
+    run_served _ c.serve_alone-end.result.end output c.close.result (g.W.Sink.written c.serve_alone-end.new.sink) (g.W.Sink.faults c.serve_alone-end.new.sink) _ _ (refl, λ d. refl) (_, so) wrote c.serve_alone-end.ensures.read c.serve_alone-end.ensures.read_fault
+    c.serve_alone-end.ensures.write_fault c.serve_alone-end.ensures.later c.close.ensures.later c.close.ensures.answers c.close.ensures.wrote c.close.ensures.front c.close.ensures.cause c.close.ensures.plain c.close.ensures.read_fault

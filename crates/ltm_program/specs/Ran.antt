@@ -1,0 +1,55 @@
+-- What belongs to each command: its texts, the files that it may fetch, and whether it reads the input; and so what a run did.
+use Rattle.std.specs.Prelude.{ℕ, zero, suc, ◌≡◌, nat_lt, Bool, true, false, List, Option, None, Some}
+use Rattle.ltm_io.specs.declared.doc.Doc.{Doc}
+use Rattle.ltm_io.specs.Folder.{Files}
+use Rattle.ltm_session.specs.Answers.{AnswersAlone, AnswersBeside}
+use Rattle.ltm_session.specs.Session.{Answering}
+use Rattle.ltm_editing.specs.Answers.{MayAsk}
+use Rattle.ltm_texts.specs.declared.status.Status.{Status}
+use Rattle.ltm_texts.specs.declared.status.Status.TheVariants as ending
+use Rattle.ltm_texts.specs.declared.words.Command.{Command}
+use Rattle.ltm_texts.specs.declared.words.Command.TheVariants as command
+use Rattle.ltm_texts.specs.Words.{usage_line}
+use Rattle.ltm_texts.specs.Program.{IsAnswerUnder, Fetches}
+use Rattle.ltm_texts.specs.Run.{Outside, IsRun}
+use Rattle.ltm_program.specs.Sessions.{IsSessionUnder}
+use Rattle.ltm_program.specs.Views.{IsViewUnder}
+use Rattle.ltm_program.specs.Editors.{IsEditingUnder}
+
+-- the rule of answers of a session with so many workers
+abbrev pub rule_of : ℕ → Answering
+rule_of zero = AnswersAlone
+rule_of (suc workers) = AnswersBeside
+
+-- the whole text that belongs to a command and a status, before this outside
+abbrev pub IsTextUnder : Option Command → Outside → Status → List ℕ → Type 0
+IsTextUnder None b status t = (status ≡ ending.Usage) × (t ≡ usage_line)
+IsTextUnder (Some (command.Session workers)) b status t = IsSessionUnder (rule_of workers) b.told b.left status t
+IsTextUnder (Some (command.View viewers)) b status t = IsViewUnder viewers b.told b.left status t
+IsTextUnder (Some (command.Editors editors)) b status t = IsEditingUnder editors b.told status t
+IsTextUnder (Some c) b status t = IsAnswerUnder c b.told status t
+
+-- a command may fetch the file
+abbrev pub MayFetch : Option Command → Option Files → Doc → Type 0
+MayFetch None told d = ⊥
+MayFetch (Some (command.Session workers)) told d = Fetches command.Load told d
+MayFetch (Some (command.View viewers)) told d = Fetches command.Load told d
+MayFetch (Some (command.Editors editors)) told d = MayAsk told editors d
+MayFetch (Some c) told d = Fetches c told d
+
+-- a command reads the input
+abbrev pub ReadsInput : Option Command → Type 0
+ReadsInput (Some (command.Session workers)) = Unit {0}
+ReadsInput (Some (command.View viewers)) = Unit {0}
+ReadsInput c = ⊥
+
+-- a command starts threads
+abbrev pub needs_threads : Option Command → Bool
+needs_threads (Some (command.Session workers)) = nat_lt 0 workers
+needs_threads (Some (command.View viewers)) = true
+needs_threads (Some (command.Editors editors)) = true
+needs_threads c = false
+
+-- a command, or words that ask for none, ran: the status, and how the outside stands before and after
+abbrev pub Ran : Option Command → Status → Outside → Outside → Type 0
+Ran c status b a = IsRun (IsTextUnder c b) (MayFetch c b.told) (ReadsInput c) status b a
