@@ -7,6 +7,7 @@
 
 #[cfg(test)]
 mod cases;
+mod delays;
 #[cfg(test)]
 mod horizons;
 #[cfg(test)]

@@ -1,0 +1,26 @@
+//! Queues and delays of what is shown.
+use crate::cases::{Case, expect_answers};
+
+// By hand: half a vehicle enters in each of the slots 0 and 1. Two and a half slots later a quarter could leave by boundary 3
+// and three quarters by boundary 4. Where the exit is shut in slot 2 none leaves in it and a half, the capacity, in slot 3.
+#[test]
+fn a_shut_exit_makes_a_queue_once_it_is_settled(rt: HostRuntime) {
+    let script =
+        "{\"do\":\"edit\",\"edits\":[{\"kind\":\"exit\",\"link\":\"a\",\"from\":2,\"to\":3,\"vehicles\":\"0\"}]}\n\
+        {\"do\":\"delay\"}\n\
+        {\"do\":\"settle\"}\n\
+        {\"do\":\"delay\"}\n\
+        {\"do\":\"queue\",\"link\":\"a\",\"slot\":2}\n\
+        {\"do\":\"queue\",\"link\":\"a\",\"slot\":4}\n\
+        {\"do\":\"queue\",\"link\":\"a\",\"slot\":5}\n\
+        {\"do\":\"queue\",\"link\":\"z\",\"slot\":5}\n";
+    let output = "accepted version 1\n\
+        version 0 spent 2.500000 queued 0.000000 waited 0.000000\n\
+        settled version 1 recomputed 2\n\
+        version 1 spent 3.000000 queued 0.500000 waited 0.000000\n\
+        version 1 link a slot 2 in 1.000 out 0.000 queue 0.000\n\
+        version 1 link a slot 4 in 1.000 out 0.500 queue 0.250\n\
+        refused queue BadSlots\n\
+        refused queue UnknownName\n";
+    expect_answers(&rt, rt.alloc(), Case::LongerRoad, script, output);
+}
