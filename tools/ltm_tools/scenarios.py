@@ -86,7 +86,7 @@ class Runner:
         session.settle()
         told = [vehicles_text(units) for units in session.totals()[1:]]
         if self.delay:
-            told += [seconds_text(time) for time in session.delay()[1:]]
+            told += [seconds_text(time) for time in times(session)]
         for link in self.links:
             told += [vehicles_text(units) for units in session.link(link)[1:]]
         self.asked += 2 + self.delay + len(self.links)
@@ -112,6 +112,15 @@ class Runner:
         if self.session is not None:
             session, self.session = self.session, None
             session.close()
+
+
+def times(session: Session) -> tuple[int, int, int]:
+    """The vehicle times of the loading that a session shows."""
+    try:
+        _, spent, queued, waited = session.delay()
+    except Refused as refused:
+        raise Fault(f"the sessions of this program tell no delay: {refused}") from None
+    return spent, queued, waited
 
 
 def batches(made: Sequence[Edit]) -> Iterator[Sequence[Edit]]:

@@ -165,6 +165,9 @@ COMMANDS: dict[str, Members] = {
     "totals": {},
     "link": {"link": NAME},
     "time": {"link": NAME, "slot": WHOLE},
+    "delay": {},
+    "queue": {"link": NAME, "slot": WHOLE},
+    "origin": {"node": NAME, "slot": WHOLE},
     "settle": {},
 }
 LIMIT: Members = {"link": NAME, "from": WHOLE, "to": WHOLE, "vehicles": AMOUNT}

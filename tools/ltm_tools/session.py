@@ -197,19 +197,19 @@ class Session:
         return LinkTime(int(words[1]), None if words[7] == "none" else int(words[7]))
 
     def delay(self) -> Delays:
-        """The vehicle time of the loading that is shown, and the delay in it; Refused where the program has no such question."""
+        """The vehicle time of the loading that is shown, and the delay in it."""
         words = self.ask(do="delay")
         return Delays(int(words[1]), *(told_time(words[place]) for place in (3, 5, 7)))
 
     def queue(self, name: str, slot: int) -> LinkQueue:
         """What has entered and left a link by the beginning of a slot, and its queue, in the loading that is shown. The slot may be the
-        first behind the horizon; Refused where the program has no such question."""
+        first behind the horizon."""
         words = self.ask(do="queue", link=name, slot=slot)
         return LinkQueue(int(words[1]), *(told_units(words[place]) for place in (7, 9, 11)))
 
     def origin(self, name: str, slot: int) -> OriginQueue:
         """What the demand of a node has produced by the beginning of a slot, what has left it, and how many wait there, in the loading that
-        is shown. The slot may be the first behind the horizon; Refused where the program has no such question."""
+        is shown. The slot may be the first behind the horizon."""
         words = self.ask(do="origin", node=name, slot=slot)
         return OriginQueue(int(words[1]), *(told_units(words[place]) for place in (7, 9, 11)))
 

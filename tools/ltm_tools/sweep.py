@@ -14,7 +14,7 @@ from .case import Case
 from .errors import Fault
 from .files import write_records
 from .listing import csv_text
-from .program import add_program_argument, find_program, has_command
+from .program import add_program_argument, find_program
 from .scenarios import Row, Runner, Scenario, header, read_scenarios
 
 NAME = "sweep"
@@ -80,7 +80,7 @@ def add_arguments(parser: argparse.ArgumentParser) -> None:
     parser.add_argument("scenarios", metavar="SCENARIOS", help="a file of scenarios, a JSON object a line, or - for the standard input")
     parser.add_argument("-o", "--output", metavar="FILE", default="-", help="the CSV file to write (else the standard output)")
     parser.add_argument("--links", metavar="NAME", nargs="+", default=[], help="tell also what has entered and left these links")
-    parser.add_argument("--delay", action="store_true", help="tell also the vehicle time spent, queued and waited in vehicle seconds, by a program that has the command delay")
+    parser.add_argument("--delay", action="store_true", help="tell also the vehicle time spent, queued and waited, in vehicle seconds")
     parser.add_argument("--sessions", metavar="N", type=int, default=os.cpu_count() or 1, help="how many sessions run here at once (one a processor)")
     parser.add_argument("--scheduler", metavar="ADDRESS", help="the scheduler of a cluster of Dask, as tcp://10.0.0.7:8786")
     parser.add_argument("--progress", action="store_true", help="show how far it is, also where the standard error is no terminal")
@@ -110,10 +110,7 @@ def run(args: argparse.Namespace) -> int:
 def pieces(args: argparse.Namespace, found: Sequence[Scenario]) -> Iterable[list[Row]]:
     """The rows of results, piece by piece in order."""
     if args.scheduler is None:
-        program = str(find_program(args.program))
-        if args.delay and not has_command("delay", program):
-            raise Fault(f"{program} tells no delay: --delay needs a program with that command")
-        return here(args.case, program, args.links, args.delay, found, min(args.sessions, max(1, len(chunks(found)))))
+        return here(args.case, str(find_program(args.program)), args.links, args.delay, found, min(args.sessions, max(1, len(chunks(found)))))
     from .cluster import there
 
     return there(args.scheduler, args.case, args.program, args.links, args.delay, chunks(found))

@@ -1,8 +1,6 @@
 """Tests of tools/contracts: what a contract is, which arguments count, and what is over a measure."""
 
 import contextlib
-import importlib.machinery
-import importlib.util
 import io
 import sys
 import tempfile
@@ -10,23 +8,9 @@ import unittest
 from pathlib import Path
 from unittest import mock
 
-PROGRAM = Path(__file__).resolve().parent.parent / "contracts"
+from support import script
 
-
-def loaded():
-    loader = importlib.machinery.SourceFileLoader("contracts", str(PROGRAM))
-    spec = importlib.util.spec_from_loader("contracts", loader)
-    module = importlib.util.module_from_spec(spec)
-    sys.modules["contracts"] = module  # what a dataclass looks itself up in
-    was, sys.dont_write_bytecode = sys.dont_write_bytecode, True
-    try:
-        loader.exec_module(module)
-    finally:
-        sys.dont_write_bytecode = was
-    return module
-
-
-contracts = loaded()
+contracts = script("contracts")
 
 SOURCE = """\
 pub trait Gate {

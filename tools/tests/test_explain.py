@@ -2,6 +2,7 @@
 
 The lines of the program are worked out by hand after FORMATS; where the program is at hand it has to write them too.
 """
+import json
 import subprocess
 import unittest
 from pathlib import Path
@@ -10,6 +11,7 @@ from support import BUILT, FolderTest, ROAD, needs_program
 from ltm_tools.explain import explain
 from ltm_tools.script import read_line
 
+DATA = Path(__file__).resolve().parent / "data" / "delay"
 LINKS = "link,from,to,length_m,free_kmh,wave_kmh,jam_per_km\n"
 DEMAND = "origin,destination,from_slot,to_slot,vehicles\n"
 SPLITS = "node,destination,from_slot,weights\n"
@@ -212,7 +214,7 @@ class Scripts(FolderTest):
             ('{"do": "totals", "a": ' + "[" * 127 + "]" * 127 + "}", "NotJson", "too deep"),
             ('["do"]', "NotCommand 0", 'the member do was looked for, and ["do"] is no object'),
             ('{"Do": "totals"}', "NotCommand 0", "the member do was looked for, and is not there; there is Do"),
-            ('{"do": "total"}', "NotCommand 0", 'the member do is "total", and it is one of edit, totals, link, time, settle'),
+            ('{"do": "total"}', "NotCommand 0", 'the member do is "total", and it is one of edit, totals, link, time, delay, queue, origin, settle'),
             ('{"do": "link"}', "NotCommand 0", "the member link was looked for, and is not there"),
             ('{"do": "time", "link": "a", "slot": "3"}', "NotCommand 0", 'the member slot is "3", and a whole number from 0 to 4294967295 is wanted: "3" as the number 3'),
             ('{"do": "time", "link": "a", "slot": 3.0}', "NotCommand 0", "the member slot is 3.0"),
@@ -231,6 +233,19 @@ class Scripts(FolderTest):
                 said = read_line(line.encode())
                 self.assertEqual(said.cause, cause)
                 self.assertIn(part, said.reason)
+
+    def test_questions_on_queues_and_delay(self) -> None:
+        """The program's own answers to these lines, by an engine that was written without it: which are commands, and which are not."""
+        none = 0
+        for line, answer in json.loads((DATA / "answers.json").read_text()):
+            none += answer.startswith("refused command ")
+            with self.subTest(line):
+                self.assertEqual(read_line(line.encode()).cause, answer.removeprefix("refused command ") if answer.startswith("refused command ") else None)
+        self.assertGreater(none, 20)
+        case = self.case()
+        for line in ('{"do": "delay"}', '{"do": "queue", "link": "a", "slot": 0}', '{"do": "origin", "node": "n1", "slot": 0}'):
+            (case / "edits1.jsonl").write_text(line + "\n")
+            self.assertIn("stands there, and a file of edits has edits alone", explain(str(case), 13, "bad script edits1 line 1 NotEdit")[0])
 
     def test_members_that_are_passed_over(self) -> None:
         script = self.folder / "script.jsonl"

@@ -102,9 +102,6 @@ class Sweeps(FolderTest):
 # a session that accepts each edit but those of a link z, and tells of the delay how many edits it has accepted
 SESSION = """
 import json
-if len(sys.argv) == 1:
-    print("usage: ltm load{more} | ltm session N")
-    sys.exit(2)
 made = 0
 for line in sys.stdin:
     told = json.loads(line)
@@ -112,6 +109,8 @@ for line in sys.stdin:
         bad = any(edit.get("link") == "z" for edit in told["edits"])
         made += 0 if bad else len(told["edits"])
         print("refused edit 1 UnknownName" if bad else f"accepted version {{made}}", flush=True)
+    elif told["do"] not in {asked!r}:
+        print("refused command NotCommand 0", flush=True)
     else:
         print({{"settle": f"settled version {{made}} recomputed 0", "totals": f"version {{made}} generated 1.000 arrived 0.750 on_links 0.250 waiting 0.000",
                "delay": f"version {{made}} spent {{made}}.500000 queued 0.000001 waited 4.000000", "link": f"version {{made}} link a in 1.000 out 0.500"}}[told["do"]], flush=True)
@@ -119,20 +118,20 @@ for line in sys.stdin:
 
 
 class WithDelay(FolderTest):
-    def sweep(self, more: str) -> tuple[int, str, str]:
+    def sweep(self, *asked: str) -> tuple[int, str, str]:
         scenarios = self.folder / "scenarios.jsonl"
         scenarios.write_text("".join(json.dumps({"edits": [edits.limit(link, 0, 1, 0)]}) + "\n" for link in ("a", "z")))
-        return commands.run("sweep", str(self.case()), str(scenarios), "--delay", "--links", "a", "--sessions", "1", "--program", str(self.program(SESSION.format(more=more))))
+        return commands.run("sweep", str(self.case()), str(scenarios), "--delay", "--links", "a", "--sessions", "1", "--program", str(self.program(SESSION.format(asked=("settle", "totals", "link", *asked)))))
 
     def test_delay(self) -> None:
-        self.assertEqual(self.sweep(" | ltm delay"), (0, "line,name,status,generated,arrived,on_links,waiting,spent,queued,waited,in:a,out:a\n"
+        self.assertEqual(self.sweep("delay"), (0, "line,name,status,generated,arrived,on_links,waiting,spent,queued,waited,in:a,out:a\n"
                                                       "1,,ok,1.000,0.750,0.250,0.000,1.500000,0.000001,4.000000,1.000,0.500\n"
                                                       "2,,batch 1 refused edit 1 UnknownName: links.csv has no link z,,,,,,,,,\n", ""))
 
     def test_a_program_that_tells_none(self) -> None:
-        status, out, err = self.sweep("")
+        status, out, err = self.sweep()
         self.assertEqual((status, out), (1, ""))
-        self.assertIn("tells no delay: --delay needs a program with that command", err)
+        self.assertEqual(err, "ltm-tools sweep: the sessions of this program tell no delay: refused command NotCommand 0\n")
 
 
 @needs_program
