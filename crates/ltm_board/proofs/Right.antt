@@ -71,6 +71,3 @@ links_opening make s sheet is = links_after make (list_of s []) sheet is ∙ sym
 
 pub told_opening : (s : ScenarioData) (posts : List PostData) → posts ≡ opening_posts s → links_told (joined (opening_of posts)) ≡ (setting_of s).links
 told_opening s posts is = ap (λ (l : List PostData). links_told (joined (opening_of l))) is ∙ sym (links_in s)
-
-pub opened_opening : (s : ScenarioData) (posts : List PostData) → posts ≡ opening_posts s → is_opened (joined (opening_of posts)) ≡ true
-opened_opening s posts is = ap (λ (l : List PostData). is_opened (joined (opening_of l))) is

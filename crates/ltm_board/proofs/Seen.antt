@@ -29,18 +29,9 @@ same_head x y xs ys e = cc
 begins_behind : (x y : PostData) (xs ys : List PostData) → x ≡ y → IsPrefix xs ys → IsPrefix (x ∷ xs) (y ∷ ys)
 begins_behind x y xs ys h (rest, f) = (rest, λ i. h i ∷ f i)
 
--- with the same opening, posts begin with a note's where their batches do
-pub begins_with_note : (note panel : Panel) (seen : List PostData) → is_opened (joined (opening_of seen)) ≡ true → opening_of (posts_of note) ≡ opening_of seen → IsPrefix seen (posts_of panel)
-    → IsPrefix (batches_in note.posts.items) (batches_in panel.posts.items) → IsPrefix (posts_of note) (posts_of panel)
-begins_with_note note panel seen opened same up found =
-    begins_behind _ _ _ _ (same_head _ _ (map entries_of_batches (batches_in note.posts.items)) (map entries_of_batches (batches_in panel.posts.items)) (same ∙ sym (opening_stays seen (posts_of panel) opened up))) (map_begins entries_of_batches _ _ found)
-
 -- who saw the posts `now`, and took in a list with which they begin, knows that list too
 pub seen_more : (old now list : List PostData) (known before : List (List PostData)) → HasSeen old known → IsPrefix old now → IsPrefix list now → before ≡ known → HasSeen now (list ∷ before)
 seen_more old now list known before had up begins same = record {
   opened = opened_stays old now had.opened up;
   begins = (begins, subst (λ ls. BeginsWith now ls) (sym same) (all_later old now known up had.begins));
 }
-
-pub seen_opening : (posts : List PostData) → is_opened (joined (opening_of posts)) ≡ true → HasSeen posts (posts ∷ [])
-seen_opening posts opened = record { opened = opened; begins = (itself posts, tt) }

@@ -16,9 +16,6 @@ some_out s u i l m = grind (arith, common_steps)
 origin_group : (s : Setting) (u i : ℕ) → s.ins u ≤ i → arm_group s u i ≡ dep_of s u
 origin_group s u i l = grind (arith, nat_tests)
 
-origin_there : (s : Setting) (u : ℕ) → 0 < s.outs u → s.ins u < arms_of s u
-origin_there s u o = grind (arith, common_steps)
-
 -- what holds of each in-link and of the origin holds of each arm
 pub all_arms : (s : Setting) (u : ℕ) (P : ℕ → ℕ → Type 0) → ((i : ℕ) → i < s.ins u → P i (arm_group s u i)) → (0 < s.outs u → P (s.ins u) (dep_of s u)) → (i : ℕ) → i < arms_of s u → P i (arm_group s u i)
 all_arms s u P links origin i l = elim (cases_lt i (s.ins u)) [

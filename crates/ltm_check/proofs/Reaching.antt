@@ -64,9 +64,6 @@ reach_all s records c next shape all done none =
       keeps_all s (rows_of records) c shape keeps,
     )
 
-no_records : (records : List Fields) → records ≡ [] → is_headed records ≡ false
-no_records records e = ap is_headed e
-
 pub reach_short : (s : ScenarioData) (records : List Fields) (c : Curves) (next : ℕ) → 0 < next → next ≤ record_count s → IsReadTo s records c next → drop next records ≡ [] → IsFault s records (Bad (next + 1) Rows)
 reach_short s records c next some short done none =
     let at : next ≡ next - 1 + 1 = omega arith in

@@ -178,14 +178,6 @@ alone m rows n last xs h e long d l =
     let here : slice_index (slice_set xs 0 n) 0 ≡ n = get_or-set_same xs 0 n 0 (omega arith) in
     let P : ℕ → Type 0 = λ z. slice_index (slice_set xs 0 n) z ≡ n in subst P at here ∙ only_one m rows n last h e d l
 
--- an end at which something is left over is not the last boundary
-end_before : (m : ℕ) (rows : ℕ → ℕ → ℕ) (n last k : ℕ) → IsPart m rows n last → k ≤ last → 0 < n - total m rows k → k < last
-end_before m rows n last k h below some =
-    elim (cases_lt k last) [
-      | inl low ↦ low
-      | inr high ↦ let at : k ≡ last = omega arith in let f : total m rows k ≡ total m rows last = ap (total m rows) at in absurd (omega (arith, h.within))
-    ]
-
 -- the last boundary with at most so many units has at most so many
 pub end_within : (m : ℕ) (rows : ℕ → ℕ → ℕ) (n last k : ℕ) → IsPart m rows n last → k ≡ last_within (total m rows) n last → total m rows k ≤ n
 end_within m rows n last k h e = omega (arith, (end_is_last m rows n last h).within, ap (total m rows) e)

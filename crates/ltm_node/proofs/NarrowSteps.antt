@@ -74,9 +74,6 @@ leaves_to_sink n i own =
 pub leaves_to_out : (n : Inputs) (i : ℕ) → is_own n.shape 0 ≡ false → n.shape.outs ≡ 1 → leaves n i ≡ moved n 1 whole i 0 0
 leaves_to_out n i elsewhere one = omega (arith, sum_of_one n.shape.outs (λ j. moved n 1 whole i 0 j) one, sunk_elsewhere n 1 whole i 0 elsewhere)
 
-pub nothing_without_out : (n : Inputs) (i : ℕ) → is_own n.shape 0 ≡ false → n.shape.outs ≡ 0 → leaves n i ≡ 0
-nothing_without_out n i elsewhere none = omega (arith, sum_of_none n.shape.outs (λ j. moved n 1 whole i 0 j) none, sunk_elsewhere n 1 whole i 0 elsewhere)
-
 pub all_to_out : (n : Inputs) (i : ℕ) → is_own n.shape 0 ≡ false → n.shape.outs ≡ 1 → 0 < weight n 0 0 → leaves n i ≡ sending n i 0
 all_to_out n i elsewhere one some =
     leaves_to_out n i elsewhere one ∙ (moved_out n i elsewhere ∙ split_all (weights n 0) (sending n i 0) (few_weights n (omega arith)) (omega (arith, weight_of n 0 0 (omega arith))))

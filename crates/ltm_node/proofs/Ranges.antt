@@ -95,12 +95,6 @@ weight_within [] k = omega arith
 weight_within (x ∷ xs) zero = omega (arith, sum_by-cons (λ y. y) x xs)
 weight_within (x ∷ xs) (suc k) = omega (arith, weight_within xs k, sum_by-cons (λ y. y) x xs)
 
--- where no weight is above 0, nothing is split
-pub split_none : (xs : List ℕ) (m k : ℕ) → sum xs ≡ 0 → slice_index (nested_split m xs) k ≡ 0
-split_none xs m k none =
-    let least : slice_index (nested_split 0 xs) k ≤ 0 = nested_split-le xs 0 k in
-    ap (λ z. slice_index z k) (nested_split-zero xs m none) ∙ omega arith
-
 -- ---- the destination that is the node, and the others
 
 pub part_is : (n : Inputs) (amount i d j x : ℕ) → is_own n.shape d ≡ false → amount ≡ sending n i d → x ≡ slice_index (nested_split amount (weights n d)) j → x ≡ part n i d j
@@ -132,6 +126,3 @@ sunk_nothing n e p i d none = nothing_of (p i) e (to_sink n i d) (omega (arith, 
 -- a part that is 0 moves nothing
 pub moved_none : (n : Inputs) (e : ℕ) (p : ℕ → ℕ) (i d j : ℕ) → part n i d j ≡ 0 → moved n e p i d j ≡ 0
 moved_none n e p i d j none = nothing_of (p i) e (part n i d j) none
-
-part_at : (n : Inputs) (i d j x : ℕ) → is_own n.shape d ≡ false → slice_index (nested_split (sending n i d) (weights n d)) j ≡ x → part n i d j ≡ x
-part_at n i d j x elsewhere is = sym (part_is n (sending n i d) i d j x elsewhere refl (sym is))

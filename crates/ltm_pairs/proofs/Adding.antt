@@ -42,15 +42,3 @@ adds_both s k m n old mid new f g first second = record {
   from = λ h. second.from (first.from h);
   all_new = second.all_new ∙ first.all_new;
 }
-
--- the same test in other words, and room for more
-pub adds_as : (s : Setting) (k m n : ℕ) (old new : SpreadData) (f g : ℕ → ℕ → Bool) → Adds s k m old new f → ((w v : ℕ) → f w v ≡ g w v) → m ≤ n → Adds s k n old new g
-adds_as s k m n old new f g adds same fits = record {
-  each = λ w v l. adds.each w v l ∙ ap (λ b. lies_in_one old.reaches w v || b) (same w v);
-  more = omega (adds.more, fits, arith);
-  from = adds.from;
-  all_new = adds.all_new;
-}
-
-pub one_more : (n : ℕ) (f : ℕ → Bool) → some_below (n + 1) f ≡ some_below n f || f n
-one_more n f = rw add-one refl

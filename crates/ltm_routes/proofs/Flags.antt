@@ -37,16 +37,6 @@ least_told : (r : Roads) (from to a : ℕ) (o : Option Millis) → IsLeast r fro
 least_told r from to a None x told = let ta = x.taken in absurd (told ta.0 ta.1)
 least_told r from to a (Some t) x told = (t, refl, least_is r from to t.0 a told x)
 
-begins_tight : (r : Roads) (to link : ℕ) (tail head : Option Millis) → IsLeastTime r (r.tail link) to tail → IsLeastTime r (r.head link) to head → Begins r to link → is_tight tail (r.free_time link) head ≡ true
-begins_tight r to link tail head from_tail from_head b =
-    let t = least_told r (r.tail link) to b.from_tail tail b.least_from_tail from_tail in
-    let h = least_told r (r.head link) to b.from_head head b.least_from_head from_head in
-    subst (λ o. is_tight o (r.free_time link) head ≡ true) (sym t.1) (subst (λ o. is_tight (Some t.0) (r.free_time link) o ≡ true) (sym h.1)
-    (same (t.0) (h.0) (r.free_time link) (t.2 ∙ sym b.sum ∙ ap (λ n. r.free_time link + n) (sym h.2))))
-  where
-    same : (t h : Millis) (n : ℕ) → t.0 ≡ n + h.0 → (t.0 == n + h.0) ≡ true
-    same t h n e = grind (arith, nat_tests)
-
 -- ---- one more
 pub pushed_at : {A : Type 0} (xs : List A) (x d : A) → slice_index_or (xs ++ x ∷ []) (length xs) d ≡ x
 pushed_at [] x d = refl

@@ -100,9 +100,6 @@ only_long (refusal.BadCurves row cause) is = cc
 only_long refusal.NoStart is = cc
 only_long (refusal.NoStep node slot) is = cc
 
-one_refusal : (x e : Refusal) (answer : Answer) → answer ≡ Err x → answer ≡ Err e → e ≡ x
-one_refusal x e answer first second = cc
-
 -- ---- what belongs to a status
 pub loaded : (told : Option Files) (text : List ℕ) → IsAnswerUnder ask.Load told ending.Ok text → (s : ScenarioData) × Describes told (Ok s) × IsReport s text
 loaded told text (Ok t, (Ok s, describes, (u, report, same)), ok, is) =
