@@ -23,12 +23,6 @@ opening_stays (x ∷ xs) (y ∷ ys) opened (a, f) = let h : y ≡ x = (cc) in λ
 pub opened_stays : (seen now : List PostData) → is_opened (joined (opening_of seen)) ≡ true → IsPrefix seen now → is_opened (joined (opening_of now)) ≡ true
 opened_stays seen now opened up = ap (λ (l : List PostData). is_opened (joined l)) (opening_stays seen now opened up) ∙ opened
 
-same_head : (x y : PostData) (xs ys : List PostData) → opening_of (x ∷ xs) ≡ opening_of (y ∷ ys) → x ≡ y
-same_head x y xs ys e = cc
-
-begins_behind : (x y : PostData) (xs ys : List PostData) → x ≡ y → IsPrefix xs ys → IsPrefix (x ∷ xs) (y ∷ ys)
-begins_behind x y xs ys h (rest, f) = (rest, λ i. h i ∷ f i)
-
 -- who saw the posts `now`, and took in a list with which they begin, knows that list too
 pub seen_more : (old now list : List PostData) (known before : List (List PostData)) → HasSeen old known → IsPrefix old now → IsPrefix list now → before ≡ known → HasSeen now (list ∷ before)
 seen_more old now list known before had up begins same = record {

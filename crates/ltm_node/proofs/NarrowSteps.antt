@@ -34,9 +34,6 @@ sum_of_one k f one = let e : sum_below k f ≡ sum_below 1 f = ap (λ z. sum_bel
 pub sum_of_two : (k : ℕ) (f : ℕ → ℕ) → k ≡ 2 → sum_below k f ≡ f 0 + f 1
 sum_of_two k f two = let e : sum_below k f ≡ sum_below 2 f = ap (λ z. sum_below z f) two in omega arith
 
-sum_of_none : (k : ℕ) (f : ℕ → ℕ) → k ≡ 0 → sum_below k f ≡ 0
-sum_of_none k f none = let e : sum_below k f ≡ sum_below 0 f = ap (λ z. sum_below z f) none in omega arith
-
 at_one : (x : ℕ) → 1 * x / 1 ≡ x
 at_one x = mul-div_right x (omega arith)
 
