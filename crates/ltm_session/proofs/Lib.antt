@@ -7,4 +7,11 @@ pub mod Besides
 mod SameReports
 mod OneOutput
 pub mod Looking
+mod Pieces
+pub mod OneLine
+mod Named
+mod ReportLines
+mod AnswerLines
+mod Promised
+pub mod Kept
 pub mod Standing

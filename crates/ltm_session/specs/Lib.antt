@@ -2,6 +2,8 @@ pub mod Reports
 pub mod Analysts
 pub mod Answers
 pub mod Session
+pub mod OneLine
+pub mod Promise
 pub mod Ready
 pub mod Settles
 pub mod Serving

@@ -1,5 +1,5 @@
 //! What holds of the outputs of sessions. Each law is the contract of a function that does nothing.
-ghost use Rattle.ltm_session.specs.Laws.{AloneIsASession, OneOutput};
+ghost use Rattle.ltm_session.specs.Laws.{AloneIsASession, AnswersAreLines, FrontsKeepThePromise, OneOutput, OutputsKeepThePromise};
 
 use ltm_core::logs_tell_all;
 use ltm_loading::one_loading;
@@ -19,3 +19,18 @@ pub fn one_output()
     scenarios_are_settings();
     one_loading();
 }
+
+/// The promise: every report that a session writes between a settle and the next accepted edit is that of the one loading of
+/// the scenario as the accepted edits leave it, and every other report is that of a finished loading of a prefix of those
+/// edits, never shorter than one shown before. It holds of each whole output, and of whatever front of one was written.
+pub fn sessions_keep_the_promise()
+    ensures whole { OutputsKeepThePromise }
+    ensures fronts { FrontsKeepThePromise }
+{
+    logs_tell_all();
+}
+
+/// Each answer is one line, so an output has one cut into answers: behind each newline.
+pub fn answers_are_lines()
+    ensures { AnswersAreLines }
+{}

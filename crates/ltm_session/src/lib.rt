@@ -21,7 +21,7 @@ mod settling;
 
 pub use answering::answer;
 pub use ends::SessionEnd;
-pub use laws::{alone_is_a_session, one_output};
+pub use laws::{alone_is_a_session, answers_are_lines, one_output, sessions_keep_the_promise};
 pub use replies::{reply, reply_fault};
 pub use script::{LONGEST_LINE, MOST_LINES, end_of_lines, next_line};
 pub use serving::{Served, serve_alone, serve_line, write_answer};

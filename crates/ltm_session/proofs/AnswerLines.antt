@@ -1,0 +1,64 @@
+-- Each answer is one line.
+use Rattle.std.proofs.Common.{ℕ, ◌≡◌, inl, inr, List, sym, subst, length, ◌+◌, Option, None, Some, Result, Ok, Err}
+use Rattle.std.specs.Prelude.{MatchResult, MatchOption}
+use Rattle.ltm_curve.specs.Counts.{Counts}
+use Rattle.ltm_network.specs.Network.{find_link}
+use Rattle.ltm_scenario.specs.declared.edit.Edit.{Edit}
+use Rattle.ltm_scenario.specs.declared.edit.EditFault.{EditFault}
+use Rattle.ltm_scenario.specs.Data.{ScenarioData}
+use Rattle.ltm_scenario.specs.Edits.{edited_all}
+use Rattle.ltm_loading.specs.Setting.{Setting}
+use Rattle.ltm_setting.specs.Setting.{setting_of}
+use Rattle.ltm_script.specs.declared.command.Command.{Command}
+use Rattle.ltm_script.specs.declared.command.Command.TheVariants as command
+use Rattle.ltm_script.specs.declared.command.CommandFault.{CommandFault}
+use Rattle.ltm_report.specs.Answers.{accepted_line, settled_line}
+use Rattle.ltm_report.specs.EditFaults.{edit_fault_line}
+use Rattle.ltm_report.specs.CommandFaults.{command_fault_line}
+use Rattle.ltm_report.specs.Refusals.{unknown_link_line, unknown_time_line, time_slots_line}
+use Rattle.ltm_report.specs.Reports.{totals_report, link_report}
+use Rattle.ltm_core.specs.Log.{after_batches}
+use Rattle.ltm_session.specs.Reports.{time_report}
+use Rattle.ltm_session.specs.OneLine.{IsOneLine}
+use Rattle.ltm_session.specs.Promise.{Standing, Report, Tells, OfSlot, slots_after, IsAnswer}
+use Rattle.ltm_session.proofs.Named.{HasName}
+use Rattle.ltm_session.proofs.ReportLines.{edit_fault_one, command_fault_one, unknown_link_one, unknown_time_one, time_slots_one, accepted_one, settled_one, totals_report_one, link_report_one, time_report_one}
+
+one_as : (text line : List ℕ) → IsOneLine line → text ≡ line → IsOneLine text
+one_as text line one is = subst IsOneLine (sym is) one
+
+edit_one : (made : Result ScenarioData EditFault) (version : ℕ) (text : List ℕ)
+    → MatchResult made (λ next. text ≡ accepted_line version) (λ fault. text ≡ edit_fault_line fault) → IsOneLine text
+edit_one (Ok next) version text is = one_as text (accepted_line version) (accepted_one version) is
+edit_one (Err fault) version text is = one_as text (edit_fault_line fault) (edit_fault_one fault) is
+
+tells_one : (s : ScenarioData) (batches : List (List Edit)) (report : Report) (text : List ℕ)
+    → ((version : ℕ) (s : Setting) (c : Counts) → IsOneLine (report version s c)) → Tells s batches report text → IsOneLine text
+tells_one s batches report text one (c, scenario, loads, is) =
+    one_as text (report (length batches) (setting_of (after_batches s batches)) c) (one (length batches) (setting_of (after_batches s batches)) c) is
+
+named_one : (found : Option ℕ) (refusal text : List ℕ) (Told : ℕ → Type 0) → IsOneLine refusal → ((k : ℕ) → Told k → IsOneLine text)
+    → MatchOption found (text ≡ refusal) Told → IsOneLine text
+named_one None refusal text Told one more is = one_as text refusal one is
+named_one (Some k) refusal text Told one more is = more k is
+
+slot_one : (slots slot : ℕ) (refusal text : List ℕ) (Told : Type 0) → IsOneLine refusal → (Told → IsOneLine text)
+    → OfSlot slots slot refusal text Told → IsOneLine text
+slot_one slots slot refusal text Told one more (inl (low, told)) = more told
+slot_one slots slot refusal text Told one more (inr (high, is)) = one_as text refusal one is
+
+pub answer_one : (s : ScenarioData) (now : Standing) (shown : List (List Edit)) (said : Result Command CommandFault) (text : List ℕ)
+    → HasName said → IsAnswer s now shown said text → IsOneLine text
+answer_one s now shown (Ok (command.Edit batch)) text name is =
+    edit_one (edited_all (after_batches s now.accepted) batch) (length now.accepted + 1) text is
+answer_one s now shown (Ok command.Settle) text name (n, is) = one_as text (settled_line (length now.accepted) n) (settled_one (length now.accepted) n) is
+answer_one s now shown (Ok command.Totals) text name is = tells_one s shown totals_report text totals_report_one is
+answer_one s now shown (Ok (command.Link name)) text named is =
+    named_one (find_link s.network name) unknown_link_line text (λ link. Tells s shown (λ version. link_report version name link) text) unknown_link_one
+    (λ link. tells_one s shown (λ version. link_report version name link) text (λ version z c. link_report_one version name link z c named)) is
+answer_one s now shown (Ok (command.Time name slot)) text named is =
+    named_one (find_link s.network name) unknown_time_line text
+    (λ link. OfSlot (slots_after s shown) slot time_slots_line text (Tells s shown (λ version. time_report version name link slot) text)) unknown_time_one
+    (λ link. slot_one (slots_after s shown) slot time_slots_line text (Tells s shown (λ version. time_report version name link slot) text) time_slots_one
+    (tells_one s shown (λ version. time_report version name link slot) text (λ version z c. time_report_one version name link slot z c named))) is
+answer_one s now shown (Err fault) text name is = one_as text (command_fault_line fault) (command_fault_one fault) is
