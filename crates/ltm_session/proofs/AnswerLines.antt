@@ -15,14 +15,16 @@ use Rattle.ltm_script.specs.declared.command.CommandFault.{CommandFault}
 use Rattle.ltm_report.specs.Answers.{accepted_line, settled_line}
 use Rattle.ltm_report.specs.EditFaults.{edit_fault_line}
 use Rattle.ltm_report.specs.CommandFaults.{command_fault_line}
-use Rattle.ltm_report.specs.Refusals.{unknown_link_line, unknown_time_line, time_slots_line}
+use Rattle.ltm_report.specs.Refusals.{unknown_link_line, unknown_time_line, time_slots_line, unknown_queue_line, queue_slots_line}
 use Rattle.ltm_report.specs.Reports.{totals_report, link_report}
+use Rattle.ltm_report.specs.DelayReports.{delay_report, queue_report}
 use Rattle.ltm_core.specs.Log.{after_batches}
 use Rattle.ltm_session.specs.Reports.{time_report}
 use Rattle.ltm_session.specs.OneLine.{IsOneLine}
-use Rattle.ltm_session.specs.Promise.{Standing, Report, Tells, OfSlot, slots_after, IsAnswer}
+use Rattle.ltm_session.specs.Promise.{Standing, Report, Tells, OfSlot, OfBoundary, slots_after, IsAnswer}
 use Rattle.ltm_session.proofs.Named.{HasName}
 use Rattle.ltm_session.proofs.ReportLines.{edit_fault_one, command_fault_one, unknown_link_one, unknown_time_one, time_slots_one, accepted_one, settled_one, totals_report_one, link_report_one, time_report_one}
+use Rattle.ltm_session.proofs.DelayLines.{unknown_queue_one, queue_slots_one, delay_report_one, queue_report_one}
 
 one_as : (text line : List ℕ) → IsOneLine line → text ≡ line → IsOneLine text
 one_as text line one is = subst IsOneLine (sym is) one
@@ -47,6 +49,11 @@ slot_one : (slots slot : ℕ) (refusal text : List ℕ) (Told : Type 0) → IsOn
 slot_one slots slot refusal text Told one more (inl (low, told)) = more told
 slot_one slots slot refusal text Told one more (inr (high, is)) = one_as text refusal one is
 
+boundary_one : (last boundary : ℕ) (refusal text : List ℕ) (Told : Type 0) → IsOneLine refusal → (Told → IsOneLine text)
+    → OfBoundary last boundary refusal text Told → IsOneLine text
+boundary_one last boundary refusal text Told one more (inl (low, told)) = more told
+boundary_one last boundary refusal text Told one more (inr (high, is)) = one_as text refusal one is
+
 pub answer_one : (s : ScenarioData) (now : Standing) (shown : List (List Edit)) (said : Result Command CommandFault) (text : List ℕ)
     → HasName said → IsAnswer s now shown said text → IsOneLine text
 answer_one s now shown (Ok (command.Edit batch)) text name is =
@@ -61,4 +68,11 @@ answer_one s now shown (Ok (command.Time name slot)) text named is =
     (λ link. OfSlot (slots_after s shown) slot time_slots_line text (Tells s shown (λ version. time_report version name link slot) text)) unknown_time_one
     (λ link. slot_one (slots_after s shown) slot time_slots_line text (Tells s shown (λ version. time_report version name link slot) text) time_slots_one
     (tells_one s shown (λ version. time_report version name link slot) text (λ version z c. time_report_one version name link slot z c named))) is
+answer_one s now shown (Ok command.Delay) text name is = tells_one s shown delay_report text delay_report_one is
+answer_one s now shown (Ok (command.Queue name boundary)) text named is =
+    named_one (find_link s.network name) unknown_queue_line text
+    (λ link. OfBoundary (slots_after s shown) boundary queue_slots_line text (Tells s shown (λ version. queue_report version name link boundary) text)) unknown_queue_one
+    (λ link. boundary_one (slots_after s shown) boundary queue_slots_line text (Tells s shown (λ version. queue_report version name link boundary) text) queue_slots_one
+    (tells_one s shown (λ version. queue_report version name link boundary) text (λ version z c. queue_report_one version name link boundary z c named)))
+    is
 answer_one s now shown (Err fault) text name is = one_as text (command_fault_line fault) (command_fault_one fault) is

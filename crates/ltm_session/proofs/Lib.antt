@@ -11,6 +11,7 @@ mod Pieces
 pub mod OneLine
 mod Named
 mod ReportLines
+mod DelayLines
 mod AnswerLines
 mod Promised
 pub mod Kept

@@ -16,15 +16,16 @@ use Rattle.ltm_script.specs.declared.command.CommandFault.{CommandFault}
 use Rattle.ltm_script.specs.declared.command.CommandFault.TheVariants as fault
 use Rattle.ltm_report.specs.Answers.{accepted_line, settled_line}
 use Rattle.ltm_report.specs.EditFaults.{edit_fault_line}
-use Rattle.ltm_report.specs.Refusals.{unknown_link_line, unknown_time_line, time_slots_line}
+use Rattle.ltm_report.specs.Refusals.{unknown_link_line, unknown_time_line, time_slots_line, unknown_queue_line, queue_slots_line}
 use Rattle.ltm_report.specs.Reports.{totals_report, link_report}
+use Rattle.ltm_report.specs.DelayReports.{delay_report, queue_report}
 use Rattle.ltm_core.specs.Log.{Log, with_batch, batches_of, version_now, scenario_at, scenario_now, after_batches}
 use Rattle.ltm_core.specs.Settling.{IsSettleCount}
 use Rattle.ltm_core.proofs.Logs.{length_batches, opening_batch, batches_more, opening_marked, batches_marked}
 use Rattle.ltm_session.specs.Reports.{time_report}
 use Rattle.ltm_session.specs.Analysts.{Analysts, opening_state, settled, IsShownLater}
-use Rattle.ltm_session.specs.Answers.{ReportsShown, TellsTimeAt, Answers}
-use Rattle.ltm_session.specs.Promise.{Standing, at_first, after_edit, after_command, Report, Tells, OfLink, OfSlot, slots_after, IsAnswer}
+use Rattle.ltm_session.specs.Answers.{ReportsShown, TellsTimeAt, TellsQueueAt, Answers}
+use Rattle.ltm_session.specs.Promise.{Standing, at_first, after_edit, after_command, Report, Tells, OfLink, OfSlot, OfBoundary, slots_after, IsAnswer}
 
 -- the machine stands as the lines say
 pub record Agrees (s : ScenarioData) (now : Standing) (u : Analysts) : Type 0 where
@@ -73,6 +74,10 @@ of_link s u name refusal text P Q opening more is =
 of_slot : (a b slot : ℕ) (refusal text : List ℕ) (P Q : Type 0) → a ≡ b → (P → Q) → ((slot < a) × P) ⊎ ((a ≤ slot) × (text ≡ refusal)) → OfSlot b slot refusal text Q
 of_slot a b slot refusal text P Q same more (inl (low, told)) = inl (omega (arith, same, low), more told)
 of_slot a b slot refusal text P Q same more (inr (high, is)) = inr (omega (arith, same, high), is)
+
+of_boundary : (a b boundary : ℕ) (refusal text : List ℕ) (P Q : Type 0) → a ≡ b → (P → Q) → ((boundary ≤ a) × P) ⊎ ((a < boundary) × (text ≡ refusal)) → OfBoundary b boundary refusal text Q
+of_boundary a b boundary refusal text P Q same more (inl (low, told)) = inl (omega (arith, same, low), more told)
+of_boundary a b boundary refusal text P Q same more (inr (high, is)) = inr (omega (arith, same, high), is)
 
 slots_are : (s : ScenarioData) (now : Standing) (u : Analysts) → Agrees s now u → (scenario_at u.log u.shown).setup.slots ≡ slots_after s (shown_by now u)
 slots_are s now u g = ap (λ (z : ScenarioData). z.setup.slots) (shown_is s now u g)
@@ -147,6 +152,17 @@ step s now u (Ok (command.Time name slot)) text t g (is, same) =
           (λ link. of_slot (scenario_at u.log u.shown).setup.slots (slots_after s (shown_by now u)) slot time_slots_line text
           (ReportsShown u (λ version. time_report version name link slot) text) (Tells s (shown_by now u) (λ version. time_report version name link slot) text)
           (slots_are s now u g) (tells s now u (λ version. time_report version name link slot) text g)) is,
+      there.0,
+      there.1,
+    )
+step s now u (Ok command.Delay) text t g (is, same) = let there = stays s now u t g same in (tells s now u delay_report text g is, there.0, there.1)
+step s now u (Ok (command.Queue name boundary)) text t g (is, same) =
+    let there = stays s now u t g same in (
+      of_link s u name unknown_queue_line text (λ link. TellsQueueAt u name boundary link text)
+          (λ link. OfBoundary (slots_after s (shown_by now u)) boundary queue_slots_line text (Tells s (shown_by now u) (λ version. queue_report version name link boundary) text)) g.opening
+          (λ link. of_boundary (scenario_at u.log u.shown).setup.slots (slots_after s (shown_by now u)) boundary queue_slots_line text
+          (ReportsShown u (λ version. queue_report version name link boundary) text) (Tells s (shown_by now u) (λ version. queue_report version name link boundary) text)
+          (slots_are s now u g) (tells s now u (λ version. queue_report version name link boundary) text g)) is,
       there.0,
       there.1,
     )

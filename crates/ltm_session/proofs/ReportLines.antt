@@ -113,7 +113,7 @@ settled_one version count = one_line (number_piece (codes "settled version ") ve
     (plain_number (codes " recomputed ") count (plain_words (codes " recomputed ") refl)))
 
 -- ---- reports
-version_plain : (version : ℕ) → IsPlain (version_piece version)
+pub version_plain : (version : ℕ) → IsPlain (version_piece version)
 unfolding version_piece
 version_plain version = plain_number (codes "version ") version (plain_words (codes "version ") refl)
 
@@ -139,11 +139,11 @@ pub totals_report_one : (version : ℕ) (s : Setting) (c : Counts) → IsOneLine
 unfolding totals_report
 totals_report_one version s c = totals_one version (generated s s.slots) (arrived s c s.slots) (on_links s c s.slots) (waiting s c s.slots)
 
-name_plain : (name : List ℕ) → is_name name ≡ true → IsPlain (name_piece name)
+pub name_plain : (name : List ℕ) → is_name name ≡ true → IsPlain (name_piece name)
 unfolding name_piece
 name_plain name is = plain_append (codes "link ") name (plain_words (codes "link ") refl) (plain_name name is)
 
-through_plain : (a b : ℕ) → IsPlain (through_piece a b)
+pub through_plain : (a b : ℕ) → IsPlain (through_piece a b)
 unfolding through_piece
 through_plain a b = plain_append (amount_piece (codes " in ") a) (amount_piece (codes " out ") b)
     (plain_amount (codes " in ") a (plain_words (codes " in ") refl))
@@ -155,7 +155,7 @@ load_link_one name a b is = one_line (name_piece name ++ through_piece a b)
     (plain_append (name_piece name) (through_piece a b) (name_plain name is) (through_plain a b))
 
 -- the words of every report of something that has a name: its version and a space
-opens_plain : (version : ℕ) → IsPlain (version_piece version ++ codes " ")
+pub opens_plain : (version : ℕ) → IsPlain (version_piece version ++ codes " ")
 opens_plain version = plain_append (version_piece version) (codes " ") (version_plain version) (plain_words (codes " ") refl)
 
 pub link_report_one : (version : ℕ) (name : List ℕ) (link : ℕ) (s : Setting) (c : Counts) → is_name name ≡ true → IsOneLine (link_report version name link s c)
@@ -169,7 +169,7 @@ unfolding time_words
 time_plain None = plain_words (codes " time none") refl
 time_plain (Some time) = plain_number (codes " time ") time (plain_words (codes " time ") refl)
 
-slot_plain : (slot : ℕ) → IsPlain (slot_piece slot)
+pub slot_plain : (slot : ℕ) → IsPlain (slot_piece slot)
 unfolding slot_piece
 slot_plain slot = plain_number (codes " slot ") slot (plain_words (codes " slot ") refl)
 

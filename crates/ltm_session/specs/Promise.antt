@@ -23,8 +23,9 @@ use Rattle.ltm_script.specs.declared.command.CommandFault.{CommandFault}
 use Rattle.ltm_report.specs.Answers.{accepted_line, settled_line}
 use Rattle.ltm_report.specs.EditFaults.{edit_fault_line}
 use Rattle.ltm_report.specs.CommandFaults.{command_fault_line}
-use Rattle.ltm_report.specs.Refusals.{unknown_link_line, unknown_time_line, time_slots_line}
+use Rattle.ltm_report.specs.Refusals.{unknown_link_line, unknown_time_line, time_slots_line, unknown_queue_line, queue_slots_line}
 use Rattle.ltm_report.specs.Reports.{totals_report, link_report}
+use Rattle.ltm_report.specs.DelayReports.{delay_report, queue_report}
 use Rattle.ltm_core.specs.Log.{after_batches}
 use Rattle.ltm_session.specs.Reports.{time_report}
 use Rattle.ltm_session.specs.OneLine.{IsPlain, IsOneLine}
@@ -82,6 +83,11 @@ OfLink s name refusal text Told = MatchOption (find_link s.network name) (text �
 abbrev pub OfSlot : ℕ → ℕ → List ℕ → List ℕ → Type 0 → Type 0
 OfSlot slots slot refusal text Told = ((slot < slots) × Told) ⊎ ((slots ≤ slot) × (text ≡ refusal))
 
+-- and one that names a boundary is refused where the last one comes before it
+abbrev pub OfBoundary : ℕ → ℕ → List ℕ → List ℕ → Type 0 → Type 0
+OfBoundary last boundary refusal text Told =
+    ((boundary ≤ last) × Told) ⊎ ((last < boundary) × (text ≡ refusal))
+
 abbrev pub slots_after : ScenarioData → List (List Edit) → ℕ
 slots_after s batches = (after_batches s batches).setup.slots
 
@@ -100,6 +106,10 @@ IsAnswer s now shown (Ok (command.Link name)) text = OfLink s name unknown_link_
 IsAnswer s now shown (Ok (command.Time name slot)) text = OfLink s name unknown_time_line text
     (λ link. OfSlot (slots_after s shown) slot time_slots_line text
     (Tells s shown (λ version. time_report version name link slot) text))
+IsAnswer s now shown (Ok command.Delay) text = Tells s shown delay_report text
+IsAnswer s now shown (Ok (command.Queue name boundary)) text = OfLink s name unknown_queue_line text
+    (λ link. OfBoundary (slots_after s shown) boundary queue_slots_line text
+    (Tells s shown (λ version. queue_report version name link boundary) text))
 IsAnswer s now shown (Err fault) text = text ≡ command_fault_line fault
 
 -- a line of the script, the text that answers it, and how many of the accepted batches the loading has that is
