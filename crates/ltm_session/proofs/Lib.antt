@@ -2,6 +2,8 @@ mod Reported
 mod Settled
 pub mod Opening
 pub mod Progress
+pub mod Loops
+pub mod OneMachine
 pub mod Ending
 pub mod Besides
 mod SameReports

@@ -7,4 +7,5 @@ pub mod Promise
 pub mod Ready
 pub mod Settles
 pub mod Serving
+pub mod Answerers
 pub mod Laws

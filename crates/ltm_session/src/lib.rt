@@ -8,10 +8,13 @@
 //! - **When to change it here**: when there is another command, another answer, or another end of a session.
 #![tactic(auto)]
 
+mod alone;
+mod answerer;
 mod answering;
 mod edits;
 mod ends;
 mod laws;
+mod looping;
 mod queues;
 mod replies;
 mod reports;
@@ -19,9 +22,11 @@ mod script;
 mod serving;
 mod settling;
 
+pub use answerer::Answerer;
 pub use answering::answer;
 pub use ends::SessionEnd;
 pub use laws::{alone_is_a_session, answers_are_lines, one_output, sessions_keep_the_promise};
+pub use looping::serve_lines;
 pub use replies::{reply, reply_fault};
-pub use script::{LONGEST_LINE, MOST_LINES, end_of_lines, next_line};
+pub use script::{LONGEST_LINE, MOST_LINES, Script, end_of_lines, next_line};
 pub use serving::{Served, serve_alone, serve_line, write_answer};

@@ -7,12 +7,37 @@ ghost use Rattle.ltm_session.specs.Serving.{EndsIfTold};
 
 use crate::ends::SessionEnd;
 use ltm_io::{Line, Lines, Source};
+use ltm_units::NoMemory;
+use std::alloc::Global;
 
 /// The most bytes of a line.
 pub const LONGEST_LINE: u32 = 65_536;
 
 /// The most lines of a script.
 pub const MOST_LINES: u32 = 100_000;
+
+/// What a script is served with: what reads its lines, and room for an answer.
+#[derive(Drop)]
+pub struct Script {
+    pub(crate) lines: Lines,
+    pub(crate) text: Vec<u8>,
+}
+
+impl Script {
+    ghost use Rattle.std.specs.Prelude.{IfOk};
+    ghost use Rattle.ltm_session.specs.Answerers.{IsUnread};
+
+    /// Takes the memory with which the lines of a script are read.
+    pub fn create(alloc: Global) -> Result<Script, NoMemory>
+        ensures unread { IfOk result (λ script. IsUnread script) }
+    {
+        let lines = Lines::create(alloc, LONGEST_LINE)?;
+        Ok(Script {
+            lines,
+            text: Vec::new(alloc),
+        })
+    }
+}
 
 /// Reads the next line after so many, or says how the session ends.
 pub fn next_line<S: Source>(

@@ -2,30 +2,24 @@
 ghost use Rattle.std.specs.Prelude.{◌≡◌, ◌≢◌, ◌++◌, ◌≤◌, ℕ, List, [], Some, None, Err, OnOk, OnErr, IfOk, IfErr, ◌⊎◌};
 ghost use Rattle.ltm_io.specs.Faults.{Rose};
 ghost use Rattle.ltm_io.specs.Sink.{appended, AppendsFront};
-ghost use Rattle.ltm_io.specs.Lines.{max_of, taken_by, kept_by};
 ghost use Rattle.ltm_core.specs.Log.{version_now};
 ghost use Rattle.ltm_session.specs.Analysts.{state_of, opening_state};
 ghost use Rattle.ltm_session.specs.Answers.{AnswersAlone};
 ghost use Rattle.ltm_session.specs.Ready.{AwaitsLine};
+ghost use Rattle.ltm_session.specs.Answerers.{IsUnread};
 ghost use Rattle.ltm_session.specs.Session.{AnswersLine, IsSession, Wrote, end_of};
 ghost use Rattle.ltm_session.specs.Serving.{StopsAt};
 
+use crate::alone::Alone;
 use crate::answering::answer;
 use crate::ends::SessionEnd;
-use crate::script::{LONGEST_LINE, MOST_LINES, end_of_lines, next_line};
+use crate::looping::serve_lines;
+use crate::script::Script;
 use ltm_core::Core;
-use ltm_io::{Lines, Sink, SinkError, Source, write_all_known};
+use ltm_io::{Sink, SinkError, Source, write_all_known};
 use ltm_units::NoMemory;
 use ltm_workers::Bench;
 use std::alloc::Global;
-
-/// What a session works with.
-#[derive(Drop)]
-struct Seat {
-    lines: Lines,
-    bench: Bench,
-    text: Vec<u8>,
-}
 
 /// How a session ended, and the core that it leaves.
 #[derive(Drop)]
@@ -35,18 +29,12 @@ pub struct Served {
 }
 
 /// Takes the memory that a session needs beside its answers.
-fn take_seat(alloc: Global, core: &Core) -> Result<Seat, NoMemory>
-    ensures max { IfOk result (λ seat. max_of seat.lines ≡ 65536) }
-    ensures taken { IfOk result (λ seat. taken_by seat.lines ≡ []) }
-    ensures kept { IfOk result (λ seat. kept_by seat.lines ≡ None) }
+fn take_seat(alloc: Global, core: &Core) -> Result<(Script, Bench), NoMemory>
+    ensures { IfOk result (λ seat. IsUnread seat.0) }
 {
-    let lines = Lines::create(alloc, LONGEST_LINE)?;
+    let script = Script::create(alloc)?;
     let bench = Bench::create(core)?;
-    Ok(Seat {
-        lines,
-        bench,
-        text: Vec::new(alloc),
-    })
+    Ok((script, bench))
 }
 
 /// Writes an answer.
@@ -87,45 +75,6 @@ pub fn serve_line<W: Sink>(
     write_answer(text.as_slice(), sink)
 }
 
-/// Serves a script line by line, and says how that ends.
-fn serve_lines<S: Source, W: Sink>(
-    alloc: Global,
-    core: &mut Core,
-    seat: &mut Seat,
-    source: &mut S,
-    sink: &mut W,
-) -> SessionEnd
-    requires fresh { state_of core.old ≡ opening_state core.old.log.opening }
-    requires awaits { AwaitsLine core.old }
-    requires max { max_of seat.old.lines ≡ 65536 }
-    requires taken { taken_by seat.old.lines ≡ [] }
-    requires kept { kept_by seat.old.lines ≡ None }
-    ensures session { (output : List ℕ) × IsSession AnswersAlone core.old.log.opening (S.left source.old) result output (state_of core.new)
-        × Wrote result (W.written sink.old) (W.written sink.new) output }
-    ensures awaits { AwaitsLine core.new }
-    ensures read_fault { result ≡ SessionEnd.ReadFault → Rose (S.faults source.old) (S.faults source.new) }
-    ensures write_fault { result ≡ SessionEnd.WriteFault → Rose (W.faults sink.old) (W.faults sink.new) }
-    ensures read { (script : List ℕ) → S.left source.old ≡ Some script → result ≡ SessionEnd.Ended → S.left source.new ≡ Some [] }
-    ensures later { W.faults sink.old ≤ W.faults sink.new }
-{
-    for answered in 0..MOST_LINES {
-        if let Err(end) = next_line(&mut seat.lines, source, answered) {
-            return end;
-        }
-        if let Err(end) = serve_line(
-            alloc,
-            core,
-            &mut seat.bench,
-            seat.lines.text(),
-            &mut seat.text,
-            sink,
-        ) {
-            return end;
-        }
-    }
-    end_of_lines(&mut seat.lines, source)
-}
-
 /// Serves a script without workers: each line is answered in order, and its answer is written whole before the next line is
 /// read.
 ///
@@ -152,12 +101,15 @@ pub fn serve_alone<S: Source, W: Sink>(
     ensures write_fault { result.end ≡ SessionEnd.WriteFault → Rose (W.faults sink.old) (W.faults sink.new) }
     ensures later { W.faults sink.old ≤ W.faults sink.new }
 {
-    let mut core = core;
     core.holds();
     match take_seat(alloc, &core) {
-        Ok(mut seat) => {
-            let end = serve_lines(alloc, &mut core, &mut seat, source, sink);
-            return Served { end, core };
+        Ok((script, bench)) => {
+            let alone = Alone { alloc, core, bench };
+            let (alone, end) = serve_lines(alone, script, source, sink);
+            return Served {
+                end,
+                core: alone.core,
+            };
         }
         Err(_) => {
             return Served {
