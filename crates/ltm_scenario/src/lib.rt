@@ -26,5 +26,6 @@ pub use edit::{Edit, EditCause, EditFault};
 pub use faults::{DestinationFault, HorizonFault, LinkFault, ScenarioFault};
 pub use laws::edits_make;
 pub use scenario::Scenario;
-pub use setup::{Setup, SetupFault};
+pub use setup::{MOST_CELLS, Setup, SetupFault};
+pub use side::Side;
 pub use weights::Weights;
