@@ -1,5 +1,5 @@
 -- What comes of the files, once some were fetched.
-use Rattle.std.proofs.Common.{◌≡◌, ℕ, ◌≤◌, ◌&&◌, ◌||◌, List, Bool, true, false, Option, Some, None, Ok, IfSome, refl, sym, ap, ◌∙◌, subst, arith}
+use Rattle.std.proofs.Common.{◌≡◌, ℕ, ◌≤◌, ◌||◌, List, Bool, true, false, Option, Some, None, Ok, IfSome, refl, sym, ap, ◌∙◌, subst, arith}
 use Rattle.std.specs.Prelude.{IsSomeAnd}
 use Rattle.ltm_io.specs.declared.doc.Doc.{Doc}
 use Rattle.std.proofs.Math.Bool.{or-true}
@@ -10,8 +10,9 @@ use Rattle.ltm_scenario.specs.Build.{◌>>=◌}
 use Rattle.ltm_records.specs.Left.{records_of}
 use Rattle.ltm_casefile.specs.declared.faults.CaseFault.{CaseFault}
 use Rattle.ltm_casefile.specs.declared.faults.CaseFault.TheVariants.{Folder, TooLong, Bad, NoMemory}
+use Rattle.ltm_casefile.specs.declared.setup.Asked.{Asked}
 use Rattle.ltm_casefile.specs.declared.setup.Opened.{Opened}
-use Rattle.ltm_casefile.specs.Case.{CaseTexts, texts_of, signals_of, parts_of, opened_of, has_signals, is_of_each, is_signals, asks_for}
+use Rattle.ltm_casefile.specs.Case.{CaseTexts, texts_of, limit_texts_of, parts_of, opened_of, asked_by, is_of_each, is_asked, is_case_file, asks_for}
 use Rattle.ltm_casefile.specs.Setup.{setup_of}
 use Rattle.ltm_casefile.specs.Folder.{doc_of}
 use Rattle.ltm_casefile.specs.Faults.{Agrees, NotGiven, HasRisen, WasAsked}
@@ -31,24 +32,26 @@ risen_since before mid now e later rose = not_given (λ d. Rose (mid d) (now d))
 pub is_opened : (files : Files) (texts : CaseTexts) (opened : Opened) → texts_of files ≡ Ok texts → setup_of (records_of texts.roads.setup) ≡ Ok opened → opened_of files ≡ Ok opened
 is_opened files texts opened there is = ap (λ r. r >>= λ t. setup_of (records_of t.roads.setup)) there ∙ is
 
--- what the signals make of the parts
-parts_from : (files : Files) (texts : CaseTexts) (opened : Opened) → texts_of files ≡ Ok texts → setup_of (records_of texts.roads.setup) ≡ Ok opened → parts_of files ≡ (signals_of files opened.has_signals >>= λ signals. Ok (record { scenario = opened.scenario; texts = texts; signals = signals }))
+-- what the limits make of the parts
+parts_from : (files : Files) (texts : CaseTexts) (opened : Opened) → texts_of files ≡ Ok texts → setup_of (records_of texts.roads.setup) ≡ Ok opened → parts_of files ≡ (limit_texts_of files opened.asked >>= λ limits. Ok (record { scenario = opened.scenario; texts = texts; limits = limits }))
 unfolding parts_of
 parts_from files texts opened there is = rw (there, is) refl
 
--- a fault of the signals is the fault of the parts
-pub signals_fault : (files : Files) (texts : CaseTexts) (opened : Opened) (e : CaseFault) → texts_of files ≡ Ok texts → setup_of (records_of texts.roads.setup) ≡ Ok opened → Agrees (signals_of files opened.has_signals) e → Agrees (parts_of files) e
-signals_fault files texts opened (Folder f) there is said = tt
-signals_fault files texts opened (TooLong f) there is said = parts_from files texts opened there is ∙ ap (λ r. r >>= λ signals. Ok (record { scenario = opened.scenario; texts = texts; signals = signals })) said
-signals_fault files texts opened (Bad f row cause) there is said = parts_from files texts opened there is ∙ ap (λ r. r >>= λ signals. Ok (record { scenario = opened.scenario; texts = texts; signals = signals })) said
-signals_fault files texts opened NoMemory there is said = tt
+-- a fault of the limits is the fault of the parts
+limits_fault : (files : Files) (texts : CaseTexts) (opened : Opened) (e : CaseFault) → texts_of files ≡ Ok texts → setup_of (records_of texts.roads.setup) ≡ Ok opened → Agrees (limit_texts_of files opened.asked) e → Agrees (parts_of files) e
+limits_fault files texts opened (Folder f) there is said = tt
+limits_fault files texts opened (TooLong f) there is said = parts_from files texts opened there is ∙ ap (λ r. r >>= λ limits. Ok (record { scenario = opened.scenario; texts = texts; limits = limits })) said
+limits_fault files texts opened (Bad f row cause) there is said = parts_from files texts opened there is ∙ ap (λ r. r >>= λ limits. Ok (record { scenario = opened.scenario; texts = texts; limits = limits })) said
+limits_fault files texts opened NoMemory there is said = tt
 
--- the signals are asked for where the setup has them
-pub signals_asked : (files : Files) (texts : CaseTexts) (opened : Opened) (e : CaseFault) → texts_of files ≡ Ok texts → setup_of (records_of texts.roads.setup) ≡ Ok opened → WasAsked (λ d. is_signals d && opened.has_signals) e → WasAsked (asks_for files) e
-signals_asked files texts opened e there is asked =
-    let same : has_signals (opened_of files) ≡ opened.has_signals = ap has_signals (is_opened files texts opened there is) in
-    not_given (λ d. (is_signals d && opened.has_signals) ≡ true) (λ d. asks_for files d ≡ true) e
-    (λ d h. ap (λ b. is_of_each d || (is_signals d && b)) same ∙ ap (λ b. is_of_each d || b) h ∙ or-true (is_of_each d))
+-- the files that the setup asks for are those that are asked for
+same_asked : (files : Files) (texts : CaseTexts) (opened : Opened) → texts_of files ≡ Ok texts → setup_of (records_of texts.roads.setup) ≡ Ok opened → (d : Doc) → asks_for files d ≡ (is_of_each d || is_asked opened.asked d)
+same_asked files texts opened there is d = ap (λ r. is_of_each d || is_asked (asked_by r) d) (is_opened files texts opened there is)
+
+limits_asked : (files : Files) (texts : CaseTexts) (opened : Opened) (e : CaseFault) → texts_of files ≡ Ok texts → setup_of (records_of texts.roads.setup) ≡ Ok opened → WasAsked (is_asked opened.asked) e → WasAsked (asks_for files) e
+limits_asked files texts opened e there is asked =
+    not_given (λ d. is_asked opened.asked d ≡ true) (λ d. asks_for files d ≡ true) e
+    (λ d h. same_asked files texts opened there is d ∙ ap (λ b. is_of_each d || b) h ∙ or-true (is_of_each d))
     asked
 
 left_false : (a b : Bool) → (a || b) ≡ false → a ≡ false
@@ -59,36 +62,41 @@ right_false : (a b : Bool) → (a || b) ≡ false → b ≡ false
 right_false true b h = cc
 right_false false b h = h
 
-signals_false : (d : Doc) (has : Bool) → (is_signals d && has) ≡ false → has ≡ true → d ≡ doc.Signals → ⊥
-signals_false d has none is signals =
-    let e : true ≡ false = sym (ap (λ x. is_signals x && has) signals ∙ is) ∙ none in cc
-
 -- no other file was asked for
-pub others_stay : (files : Files) (texts : CaseTexts) (opened : Opened) (before mid now : Doc → ℕ) → texts_of files ≡ Ok texts → setup_of (records_of texts.roads.setup) ≡ Ok opened → ((d : Doc) → is_of_each d ≡ false → mid d ≡ before d) → ((d : Doc) → (d ≡ doc.Signals → ⊥) → now d ≡ mid d) → (opened.has_signals ≡ false → (d : Doc) → now d ≡ mid d) → (d : Doc) → asks_for files d ≡ false → now d ≡ before d
-others_stay files texts opened before mid now there is first then unasked d none =
-    let same : has_signals (opened_of files) ≡ opened.has_signals = ap has_signals (is_opened files texts opened there is) in
-    let each : is_of_each d ≡ false = left_false (is_of_each d) (is_signals d && has_signals (opened_of files)) none in
-    let signals : (is_signals d && opened.has_signals) ≡ false = ap (λ b. is_signals d && b) (sym same) ∙ right_false (is_of_each d) (is_signals d && has_signals (opened_of files)) none in
-    let late : now d ≡ mid d =
-    elim opened.has_signals as (λ b. opened.has_signals ≡ b → now d ≡ mid d) [
-      | true ↦ λ yes. then d (signals_false d opened.has_signals signals yes)
-      | false ↦ λ no. unasked no d
-    ] refl in
-    late ∙ first d each
+others_stay : (files : Files) (texts : CaseTexts) (opened : Opened) (before mid now : Doc → ℕ) → texts_of files ≡ Ok texts → setup_of (records_of texts.roads.setup) ≡ Ok opened → ((d : Doc) → is_of_each d ≡ false → mid d ≡ before d) → ((d : Doc) → is_asked opened.asked d ≡ false → now d ≡ mid d) → (d : Doc) → asks_for files d ≡ false → now d ≡ before d
+others_stay files texts opened before mid now there is first then d none =
+    let neither : (is_of_each d || is_asked opened.asked d) ≡ false = sym (same_asked files texts opened there is d) ∙ none in
+    then d (right_false (is_of_each d) (is_asked opened.asked d) neither) ∙ first d (left_false (is_of_each d) (is_asked opened.asked d) neither)
+
+-- a file that no case has is not asked for
+pub never_asked : (asked : Asked) (d : Doc) → is_case_file d ≡ false → is_asked asked d ≡ false
+never_asked asked doc.Signals none = cc
+never_asked asked doc.Limits none = cc
+never_asked asked other none = refl
+
+pub never_each : (d : Doc) → is_case_file d ≡ false → is_of_each d ≡ false
+never_each d none = left_false (is_of_each d) _ none
+
+-- ---- one of the two files
+pub no_signals : (asked : Asked) (d : Doc) → is_asked asked d ≡ false → Some doc.Signals ≡ Some d → asked.signals ≡ false
+no_signals asked d none is = let same : d ≡ doc.Signals = cc in ap (is_asked asked) (sym same) ∙ none
+
+pub no_limits : (asked : Asked) (d : Doc) → is_asked asked d ≡ false → Some doc.Limits ≡ Some d → asked.limits ≡ false
+no_limits asked d none is = let same : d ≡ doc.Limits = cc in ap (is_asked asked) (sym same) ∙ none
 
 -- ---- the same, where the folder tells its files
-pub told_fault : (told mid : Option Files) (texts : CaseTexts) (bytes : List ℕ) (opened : Opened) (e : CaseFault) → mid ≡ told → IfSome told (λ files. texts_of files ≡ Ok texts) → bytes ≡ texts.roads.setup → setup_of (records_of bytes) ≡ Ok opened → IfSome mid (λ files. Agrees (signals_of files opened.has_signals) e) → IfSome told (λ files. Agrees (parts_of files) e)
+pub told_fault : (told mid : Option Files) (texts : CaseTexts) (bytes : List ℕ) (opened : Opened) (e : CaseFault) → mid ≡ told → IfSome told (λ files. texts_of files ≡ Ok texts) → bytes ≡ texts.roads.setup → setup_of (records_of bytes) ≡ Ok opened → IfSome mid (λ files. Agrees (limit_texts_of files opened.asked) e) → IfSome told (λ files. Agrees (parts_of files) e)
 told_fault None mid texts bytes opened e keeps there is opens said = tt
 told_fault (Some files) mid texts bytes opened e keeps there is opens said =
-    signals_fault files texts opened e there (ap (λ b. setup_of (records_of b)) (sym is) ∙ opens)
-    (subst (λ o. IfSome o (λ fs. Agrees (signals_of fs opened.has_signals) e)) keeps said)
+    limits_fault files texts opened e there (ap (λ b. setup_of (records_of b)) (sym is) ∙ opens)
+    (subst (λ o. IfSome o (λ fs. Agrees (limit_texts_of fs opened.asked) e)) keeps said)
 
-pub told_asked : (told : Option Files) (texts : CaseTexts) (bytes : List ℕ) (opened : Opened) (e : CaseFault) → IfSome told (λ files. texts_of files ≡ Ok texts) → bytes ≡ texts.roads.setup → setup_of (records_of bytes) ≡ Ok opened → WasAsked (λ d. is_signals d && opened.has_signals) e → IfSome told (λ files. WasAsked (asks_for files) e)
+pub told_asked : (told : Option Files) (texts : CaseTexts) (bytes : List ℕ) (opened : Opened) (e : CaseFault) → IfSome told (λ files. texts_of files ≡ Ok texts) → bytes ≡ texts.roads.setup → setup_of (records_of bytes) ≡ Ok opened → WasAsked (is_asked opened.asked) e → IfSome told (λ files. WasAsked (asks_for files) e)
 told_asked None texts bytes opened e there is opens asked = tt
 told_asked (Some files) texts bytes opened e there is opens asked =
-    signals_asked files texts opened e there (ap (λ b. setup_of (records_of b)) (sym is) ∙ opens) asked
+    limits_asked files texts opened e there (ap (λ b. setup_of (records_of b)) (sym is) ∙ opens) asked
 
-pub told_others : (told : Option Files) (texts : CaseTexts) (bytes : List ℕ) (opened : Opened) (before mid now : Doc → ℕ) → IfSome told (λ files. texts_of files ≡ Ok texts) → bytes ≡ texts.roads.setup → setup_of (records_of bytes) ≡ Ok opened → ((d : Doc) → is_of_each d ≡ false → mid d ≡ before d) → ((d : Doc) → (d ≡ doc.Signals → ⊥) → now d ≡ mid d) → (opened.has_signals ≡ false → (d : Doc) → now d ≡ mid d) → IfSome told (λ files. (d : Doc) → asks_for files d ≡ false → now d ≡ before d)
-told_others None texts bytes opened before mid now there is opens first then unasked = tt
-told_others (Some files) texts bytes opened before mid now there is opens first then unasked =
-    others_stay files texts opened before mid now there (ap (λ b. setup_of (records_of b)) (sym is) ∙ opens) first then unasked
+pub told_others : (told : Option Files) (texts : CaseTexts) (bytes : List ℕ) (opened : Opened) (before mid now : Doc → ℕ) → IfSome told (λ files. texts_of files ≡ Ok texts) → bytes ≡ texts.roads.setup → setup_of (records_of bytes) ≡ Ok opened → ((d : Doc) → is_of_each d ≡ false → mid d ≡ before d) → ((d : Doc) → is_asked opened.asked d ≡ false → now d ≡ mid d) → IfSome told (λ files. (d : Doc) → asks_for files d ≡ false → now d ≡ before d)
+told_others None texts bytes opened before mid now there is opens first then = tt
+told_others (Some files) texts bytes opened before mid now there is opens first then =
+    others_stay files texts opened before mid now there (ap (λ b. setup_of (records_of b)) (sym is) ∙ opens) first then

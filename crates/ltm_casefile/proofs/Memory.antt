@@ -13,12 +13,14 @@ use Rattle.ltm_diagram.specs.declared.diagram.Diagram.{Diagram}
 use Rattle.ltm_diagram.specs.declared.diagram.DiagramFault.{DiagramFault}
 use Rattle.ltm_diagram.specs.Limits.{limits_of}
 use Rattle.ltm_scenario.specs.Data.{ScenarioData}
-use Rattle.ltm_scenario.specs.Build.{◌>>=◌, with_link, of_network, of_diagram, are_slots, with_destination, with_demand, with_split, with_exit}
+use Rattle.ltm_scenario.specs.Build.{◌>>=◌, with_link, of_network, of_diagram, are_slots, with_destination, with_demand, with_split, with_limit_set}
 use Rattle.ltm_scenario.specs.Reads.{has_no_out_link}
 use Rattle.ltm_scenario.specs.Edits.{is_out_link, weights_at}
 use Rattle.ltm_splits.specs.Rows.{key_of}
 use Rattle.ltm_scenario.specs.Check.{Checked, checked}
-use Rattle.ltm_scenario.specs.Setup.{setup_checked}
+use Rattle.ltm_scenario.specs.Setup.{setup_checked, default_cells}
+use Rattle.ltm_scenario.specs.declared.side.Side.{Side}
+use Rattle.ltm_scenario.specs.declared.side.Side.TheVariants as side
 use Rattle.ltm_scenario.specs.declared.faults.LinkFault.{LinkFault}
 use Rattle.ltm_scenario.specs.declared.setup.SetupFault.{SetupFault}
 use Rattle.ltm_scenario.specs.declared.setup.SetupFault.TheVariants as setup_fault
@@ -33,21 +35,24 @@ use Rattle.ltm_casefile.specs.declared.faults.File.{File}
 use Rattle.ltm_casefile.specs.declared.faults.File.TheVariants as file
 use Rattle.ltm_casefile.specs.declared.tables.Table.{Table}
 use Rattle.ltm_casefile.specs.declared.tables.Table.TheVariants as table
+use Rattle.ltm_casefile.specs.declared.columns.Columns.{Columns}
+use Rattle.ltm_casefile.specs.declared.setup.Asked.{Asked}
 use Rattle.ltm_casefile.specs.declared.setup.SetupRecord.{SetupRecord}
 use Rattle.ltm_casefile.specs.declared.demand.DemandRecord.{DemandRecord}
 use Rattle.ltm_casefile.specs.declared.splits.SplitRecord.{SplitRecord}
 use Rattle.ltm_casefile.specs.Causes.{taken}
 use Rattle.ltm_casefile.specs.Rows.{at_row, rows_from, below_header}
 use Rattle.ltm_casefile.specs.Fields.{has_width, name_in, number_in, amount_in, weights_in}
-use Rattle.ltm_casefile.specs.Setup.{signals_in, setup_record, in_range, opened, setup_read, only_row, setup_of, heads_setup}
+use Rattle.ltm_casefile.specs.Setup.{number_if, setup_record, flags_checked, in_range, opened, setup_read, only_row, setup_of}
+use Rattle.ltm_casefile.specs.Columns.{limits_field, cells_field, width_of, columns_of, is_setup_header}
 use Rattle.ltm_casefile.specs.Links.{link_record, cause_of_link, link_added}
 use Rattle.ltm_casefile.specs.Links as links
 use Rattle.ltm_casefile.specs.Demand.{demand_record, demand_ends, demand_row, place_of, with_demand_record, demand_added}
 use Rattle.ltm_casefile.specs.Splits.{split_record, split_ends, with_split_record, split_added}
-use Rattle.ltm_casefile.specs.Signals.{signal_record, with_signal_record, signal_added}
+use Rattle.ltm_casefile.specs.SideLimits.{limit_record, with_limit_record, limit_added}
 use Rattle.ltm_casefile.specs.Folder.{sized, doc_of, text_of}
-use Rattle.ltm_casefile.specs.Tables.{table_added, rows_added, row_added, heads, file_of, with_file}
-use Rattle.ltm_casefile.specs.Case.{texts_of, signals_of, with_signals, filled, sound, whole, CaseTexts, CaseParts, parts_of, built, case_of}
+use Rattle.ltm_casefile.specs.Tables.{table_added, rows_added, row_added, heads, file_of, with_file, with_file_if}
+use Rattle.ltm_casefile.specs.Case.{texts_of, text_if, limit_texts_of, limited, filled, sound, whole, CaseTexts, LimitTexts, CaseParts, parts_of, built, case_of}
 use Rattle.ltm_casefile.specs.Roads.{RoadTexts, road_texts_of, roads_filled, roads_in, unsplit_case_of}
 use Rattle.ltm_casefile.specs.Faults.{Says, IsNoWant, HidesNoMemory}
 
@@ -211,47 +216,50 @@ split_clean s fields =
     then_clean (taken (with_destination s ends.1) cause.TooManyDestinations) _ (kept (with_destination s ends.1) cause.TooManyDestinations tt) (λ next.
     kept (with_split next (key_of ends.0 (place_of next ends.1) r.from) (weights_at s ends.0 r.weights)) cause.TooManyRows tt))))
 
--- ---- signals
-signal_record_clean : (fields : Fields) → Clean (signal_record fields)
-unfolding signal_record
-signal_record_clean fields =
+-- ---- signals and entry limits
+limit_record_clean : (fields : Fields) → Clean (limit_record fields)
+unfolding limit_record
+limit_record_clean fields =
     then_clean (has_width fields 4) _ (refused _ cause.Width tt) (λ _.
     then_clean (name_in fields 1) _ (looked _ (cause.Field 1) tt) (λ link.
     then_clean (number_in fields 2) _ (looked _ (cause.Field 2) tt) (λ from.
     then_clean (number_in fields 3) _ (looked _ (cause.Field 3) tt) (λ to.
     then_clean (amount_in fields 4) _ (looked _ (cause.Field 4) tt) (λ amount. fine _ _)))))
 
-signal_clean : (s : ScenarioData) (fields : Fields) → Clean (signal_added s fields)
-signal_clean s fields =
-    then_clean (signal_record fields) (λ r. with_signal_record s r) (signal_record_clean fields) (λ r.
+limit_clean : (side : Side) (s : ScenarioData) (fields : Fields) → Clean (limit_added side s fields)
+limit_clean side s fields =
+    then_clean (limit_record fields) (λ r. with_limit_record side s r) (limit_record_clean fields) (λ r.
     then_clean (found (find_link s.network r.link) (cause.Unknown 1)) _ (looked (find_link s.network r.link) (cause.Unknown 1) tt) (λ link.
-    kept (with_exit s link r.from r.to r.amount.0) cause.BadSlots tt))
+    kept (with_limit_set s side link r.from r.to r.amount.0) cause.BadSlots tt))
 
 -- ---- the setup
-signals_in_clean : (width : ℕ) (fields : Fields) → Clean (signals_in width fields)
-signals_in_clean width fields = chosen (width == 4)
-  where
-    chosen : (b : Bool) → Clean (if b then number_in fields 4 else Ok 0)
-    chosen true = looked _ (cause.Field 4) tt
-    chosen false = fine IsNoWant 0
+number_clean : (there : Bool) (absent : ℕ) (fields : Fields) (field : ℕ) → Clean (number_if there absent fields field)
+number_clean true absent fields field = looked _ (cause.Field field) tt
+number_clean false absent fields field = fine IsNoWant absent
 
-setup_record_clean : (width : ℕ) (fields : Fields) → Clean (setup_record width fields)
+setup_record_clean : (columns : Columns) (fields : Fields) → Clean (setup_record columns fields)
 unfolding setup_record
-setup_record_clean width fields =
-    then_clean (has_width fields width) _ (refused _ cause.Width tt) (λ _.
+setup_record_clean columns fields =
+    then_clean (has_width fields (width_of columns)) _ (refused _ cause.Width tt) (λ _.
     then_clean (number_in fields 1) _ (looked _ (cause.Field 1) tt) (λ step.
     then_clean (number_in fields 2) _ (looked _ (cause.Field 2) tt) (λ slots.
     then_clean (amount_in fields 3) _ (looked _ (cause.Field 3) tt) (λ capacity.
-    then_clean (signals_in width fields) _ (signals_in_clean width fields) (λ signals. fine _ _)))))
+    then_clean (number_if columns.signals 0 fields 4) _ (number_clean columns.signals 0 fields 4) (λ signals.
+    then_clean (number_if columns.limits 0 fields (limits_field columns)) _ (number_clean columns.limits 0 fields (limits_field columns)) (λ limits.
+    then_clean (number_if columns.cells default_cells fields (cells_field columns)) _ (number_clean columns.cells default_cells fields (cells_field columns)) (λ cells. fine _ _)))))))
 
-in_range_clean : (r : Result (Unit {0}) SetupFault) → Clean (in_range r)
-in_range_clean (Ok x) = fine IsNoWant tt
-in_range_clean (Err (setup_fault.Range field)) = wrong IsNoWant _ tt
+flags_clean : (columns : Columns) (r : SetupRecord) → Clean (flags_checked columns r)
+flags_clean columns r =
+    then_clean (refuse (nat_lt 1 r.signals) (cause.Range 4)) _ (refused (nat_lt 1 r.signals) (cause.Range 4) tt) (λ _.
+    refused (nat_lt 1 r.limits) (cause.Range (limits_field columns)) tt)
 
-opened_clean : (r : SetupRecord) → Clean (opened r)
-opened_clean r =
-    then_clean (in_range (setup_checked r.setup)) _ (in_range_clean (setup_checked r.setup)) (λ _.
-    then_clean (refuse (nat_lt 1 r.signals) (cause.Range 4)) _ (refused (nat_lt 1 r.signals) (cause.Range 4) tt) (λ _. fine _ _))
+in_range_clean : (columns : Columns) (r : SetupRecord) (checked : Result (Unit {0}) SetupFault) → Clean (in_range columns r checked)
+in_range_clean columns r (Ok x) = flags_clean columns r
+in_range_clean columns r (Err (setup_fault.Range field)) = wrong IsNoWant _ tt
+in_range_clean columns r (Err setup_fault.MostCells) = then_clean (flags_checked columns r) _ (flags_clean columns r) (λ _. wrong IsNoWant _ tt)
+
+opened_clean : (columns : Columns) (r : SetupRecord) → Clean (opened columns r)
+opened_clean columns r = then_clean (in_range columns r (setup_checked r.setup)) _ (in_range_clean columns r (setup_checked r.setup)) (λ _. fine _ _)
 
 -- ---- faults
 abbrev Hides : {A : Type 0} → Result A CaseFault → Type 0
@@ -276,21 +284,22 @@ row_clean : (t : Table) (s : ScenarioData) (fields : Fields) → Clean (row_adde
 row_clean table.Links s fields = link_clean s fields
 row_clean table.Demand s fields = demand_clean s fields
 row_clean table.Splits s fields = split_clean s fields
-row_clean table.Signals s fields = signal_clean s fields
+row_clean table.Signals s fields = limit_clean side.Exit s fields
+row_clean table.Limits s fields = limit_clean side.Entry s fields
 
 table_hides : (t : Table) (s : ScenarioData) (rows : List Fields) → Hides (table_added t s rows)
 unfolding table_added
 table_hides t s rows = header_hides (file_of t) (heads t) (λ _. rows_added t 2 s) (λ header rest. rows_hide (file_of t) (row_added t) (row_clean t) 2 s rest) rows
 
-only_row_hides : (width : ℕ) (rows : List Fields) → Hides (only_row width rows)
-only_row_hides width [] = wrong HidesNoMemory _ tt
-only_row_hides width (row ∷ rows) =
-    then_hides (at_row file.Setup 2 (setup_read width row)) _ (at_hides file.Setup 2 (setup_read width row) (then_clean (setup_record width row) _ (setup_record_clean width row) opened_clean)) (λ o.
+only_row_hides : (columns : Columns) (rows : List Fields) → Hides (only_row columns rows)
+only_row_hides columns [] = wrong HidesNoMemory _ tt
+only_row_hides columns (row ∷ rows) =
+    then_hides (at_row file.Setup 2 (setup_read columns row)) _ (at_hides file.Setup 2 (setup_read columns row) (then_clean (setup_record columns row) _ (setup_record_clean columns row) (opened_clean columns))) (λ o.
     then_hides (at_row file.Setup 3 (refuse _ cause.Rows)) _ (at_hides file.Setup 3 (refuse _ cause.Rows) (refused _ cause.Rows tt)) (λ _. fine _ _))
 
 setup_hides : (rows : List Fields) → Hides (setup_of rows)
 unfolding setup_of
-setup_hides rows = header_hides file.Setup heads_setup _ (λ header rest. only_row_hides _ rest) rows
+setup_hides rows = header_hides file.Setup is_setup_header _ (λ header rest. only_row_hides (columns_of header) rest) rows
 
 -- ---- the files
 sized_hides : (f : File) (o : Option (List ℕ)) → Hides (sized f o)
@@ -317,20 +326,31 @@ texts_hide files =
     then_hides (road_texts_of files) _ (road_texts_hide files) (λ roads.
     then_hides (text_of files file.Splits) _ (text_hides files file.Splits) (λ splits. fine HidesNoMemory (record { roads = roads; splits = splits })))
 
-signals_hide : (files : Files) (asked : Bool) → Hides (signals_of files asked)
-signals_hide files true = then_hides (text_of files file.Signals) _ (text_hides files file.Signals) (λ bytes. fine _ _)
-signals_hide files false = fine HidesNoMemory None
+text_if_hides : (asked : Bool) (files : Files) (f : File) → Hides (text_if asked files f)
+text_if_hides true files f = then_hides (text_of files f) _ (text_hides files f) (λ bytes. fine _ _)
+text_if_hides false files f = fine HidesNoMemory None
+
+limit_texts_hide : (files : Files) (asked : Asked) → Hides (limit_texts_of files asked)
+unfolding limit_texts_of
+limit_texts_hide files asked =
+    then_hides (text_if asked.signals files file.Signals) _ (text_if_hides asked.signals files file.Signals) (λ signals.
+    then_hides (text_if asked.limits files file.Limits) _ (text_if_hides asked.limits files file.Limits) (λ limits. fine _ _))
 
 parts_hide : (files : Files) → Hides (parts_of files)
 unfolding parts_of
 parts_hide files =
     then_hides (texts_of files) _ (texts_hide files) (λ texts.
     then_hides (setup_of (records_of texts.roads.setup)) _ (setup_hides (records_of texts.roads.setup)) (λ opened.
-    then_hides (signals_of files opened.has_signals) _ (signals_hide files opened.has_signals) (λ signals. fine _ _)))
+    then_hides (limit_texts_of files opened.asked) _ (limit_texts_hide files opened.asked) (λ limits. fine _ _)))
 
-with_signals_hides : (s : ScenarioData) (signals : Option (List ℕ)) → Hides (with_signals s signals)
-with_signals_hides s None = fine HidesNoMemory s
-with_signals_hides s (Some bytes) = table_hides table.Signals s (records_of bytes)
+file_if_hides : (t : Table) (s : ScenarioData) (text : Option (List ℕ)) → Hides (with_file_if t s text)
+file_if_hides t s None = fine HidesNoMemory s
+file_if_hides t s (Some bytes) = table_hides t s (records_of bytes)
+
+limited_hides : (s : ScenarioData) (texts : LimitTexts) → Hides (limited s texts)
+limited_hides s texts =
+    then_hides (with_file_if table.Signals s texts.signals) _ (file_if_hides table.Signals s texts.signals) (λ signalled.
+    file_if_hides table.Limits signalled texts.limits)
 
 roads_filled_hides : (s : ScenarioData) (texts : RoadTexts) → Hides (roads_filled s texts)
 unfolding roads_filled
@@ -338,12 +358,12 @@ roads_filled_hides s texts =
     then_hides (with_file table.Links s texts.links) _ (table_hides table.Links s (records_of texts.links)) (λ linked.
     table_hides table.Demand linked (records_of texts.demand))
 
-filled_hides : (s : ScenarioData) (texts : CaseTexts) (signals : Option (List ℕ)) → Hides (filled s texts signals)
+filled_hides : (s : ScenarioData) (texts : CaseTexts) (limits : LimitTexts) → Hides (filled s texts limits)
 unfolding filled
-filled_hides s texts signals =
+filled_hides s texts limits =
     then_hides (roads_filled s texts.roads) _ (roads_filled_hides s texts.roads) (λ demanded.
     then_hides (with_file table.Splits demanded texts.splits) _ (table_hides table.Splits demanded (records_of texts.splits)) (λ split.
-    with_signals_hides split signals))
+    limited_hides split limits))
 
 sound_hides : (s : ScenarioData) (c : Checked) → Hides (sound s c)
 sound_hides s (Ok x) = fine HidesNoMemory s
@@ -351,7 +371,7 @@ sound_hides s (Err (broken.NoSplit node destination)) = wrong HidesNoMemory _ tt
 sound_hides s (Err (broken.CellsOver cells)) = wrong HidesNoMemory _ tt
 
 built_hides : (parts : CaseParts) → Hides (built parts)
-built_hides parts = then_hides (filled parts.scenario parts.texts parts.signals) (λ s. whole s) (filled_hides parts.scenario parts.texts parts.signals) (λ s. sound_hides s (checked s))
+built_hides parts = then_hides (filled parts.scenario parts.texts parts.limits) (λ s. whole s) (filled_hides parts.scenario parts.texts parts.limits) (λ s. sound_hides s (checked s))
 
 pub case_hides : (files : Files) → IfErr (case_of files) HidesNoMemory
 case_hides files = told HidesNoMemory (case_of files) (then_hides (parts_of files) (λ parts. built parts) (parts_hide files) built_hides)

@@ -1,5 +1,5 @@
 -- The scenario that the files of a folder describe, or the first fault.
-use Rattle.std.specs.Prelude.{ℕ, Bool, true, false, ◌&&◌, ◌||◌, if◌then◌else◌, List, Option, Some, None, Result, Ok, Err}
+use Rattle.std.specs.Prelude.{ℕ, Bool, true, false, ◌||◌, if◌then◌else◌, List, Option, Some, None, Result, Ok, Err}
 use Rattle.ltm_io.specs.declared.doc.Doc.{Doc}
 use Rattle.ltm_io.specs.declared.doc.Doc.TheVariants as doc
 use Rattle.ltm_io.specs.Folder.{Files}
@@ -14,11 +14,13 @@ use Rattle.ltm_casefile.specs.declared.faults.CaseCause.TheVariants.{NoSplit, Ce
 use Rattle.ltm_casefile.specs.declared.faults.CaseFault.{CaseFault}
 use Rattle.ltm_casefile.specs.declared.faults.CaseFault.TheVariants.{Bad}
 use Rattle.ltm_casefile.specs.declared.faults.File.TheVariants as file
+use Rattle.ltm_casefile.specs.declared.faults.File.{File}
+use Rattle.ltm_casefile.specs.declared.setup.Asked.{Asked}
 use Rattle.ltm_casefile.specs.declared.setup.Opened.{Opened}
 use Rattle.ltm_casefile.specs.declared.tables.Table.TheVariants as table
 use Rattle.ltm_casefile.specs.Setup.{setup_of}
 use Rattle.ltm_casefile.specs.Folder.{text_of}
-use Rattle.ltm_casefile.specs.Tables.{with_file}
+use Rattle.ltm_casefile.specs.Tables.{with_file, with_file_if}
 use Rattle.ltm_casefile.specs.Roads.{RoadTexts, road_texts_of, roads_filled, is_of_roads}
 
 -- the bytes of the files that each case has
@@ -32,20 +34,30 @@ texts_of files =
     text_of files file.Splits >>= λ splits.
     Ok (record { roads = roads; splits = splits })
 
--- the bytes of the signals, where the setup asks for them
-abbrev pub signals_of : Files → Bool → Result (Option (List ℕ)) CaseFault
-signals_of files asked = if asked then (text_of files file.Signals >>= λ bytes. Ok (Some bytes)) else Ok None
+-- the bytes of the signals and of the entry limits, each where the setup asks for them
+pub record LimitTexts : Type 0 where
+  pub signals : Option (List ℕ)
+  pub limits : Option (List ℕ)
 
-abbrev pub with_signals : ScenarioData → Option (List ℕ) → Result ScenarioData CaseFault
-with_signals s None = Ok s
-with_signals s (Some bytes) = with_file table.Signals s bytes
+abbrev pub text_if : Bool → Files → File → Result (Option (List ℕ)) CaseFault
+text_if asked files f = if asked then (text_of files f >>= λ bytes. Ok (Some bytes)) else Ok None
+
+unfoldable pub limit_texts_of : Files → Asked → Result LimitTexts CaseFault
+limit_texts_of files asked =
+    text_if asked.signals files file.Signals >>= λ signals.
+    text_if asked.limits files file.Limits >>= λ limits.
+    Ok (record { signals = signals; limits = limits })
+
+-- the scenario with its signals, and then with its entry limits
+abbrev pub limited : ScenarioData → LimitTexts → Result ScenarioData CaseFault
+limited s texts = with_file_if table.Signals s texts.signals >>= λ signalled. with_file_if table.Limits signalled texts.limits
 
 -- the scenario with what the files say, in their order
-unfoldable pub filled : ScenarioData → CaseTexts → Option (List ℕ) → Result ScenarioData CaseFault
-filled s texts signals =
+unfoldable pub filled : ScenarioData → CaseTexts → LimitTexts → Result ScenarioData CaseFault
+filled s texts limits =
     roads_filled s texts.roads >>= λ demanded.
     with_file table.Splits demanded texts.splits >>= λ split.
-    with_signals split signals
+    limited split limits
 
 abbrev pub cause_of_whole : ScenarioFault → CaseCause
 cause_of_whole (broken.NoSplit node destination) = NoSplit node destination
@@ -64,7 +76,7 @@ whole s = sound s (checked s)
 pub record CaseParts : Type 0 where
   pub scenario : ScenarioData
   pub texts : CaseTexts
-  pub signals : Option (List ℕ)
+  pub limits : LimitTexts
 
 -- what the setup opens, once the files are there that each case has
 abbrev pub opened_of : Files → Result Opened CaseFault
@@ -75,12 +87,12 @@ unfoldable pub parts_of : Files → Result CaseParts CaseFault
 parts_of files =
     texts_of files >>= λ texts.
     setup_of (records_of texts.roads.setup) >>= λ opened.
-    signals_of files opened.has_signals >>= λ signals.
-    Ok (record { scenario = opened.scenario; texts = texts; signals = signals })
+    limit_texts_of files opened.asked >>= λ limits.
+    Ok (record { scenario = opened.scenario; texts = texts; limits = limits })
 
 -- the files fill the scenario, and then it is whole
 abbrev pub built : CaseParts → Result ScenarioData CaseFault
-built parts = filled parts.scenario parts.texts parts.signals >>= λ s. whole s
+built parts = filled parts.scenario parts.texts parts.limits >>= λ s. whole s
 
 abbrev pub case_of : Files → Result ScenarioData CaseFault
 case_of files = parts_of files >>= λ parts. built parts
@@ -94,18 +106,20 @@ is_splits other = false
 abbrev pub is_of_each : Doc → Bool
 is_of_each d = is_of_roads d || is_splits d
 
-abbrev pub is_signals : Doc → Bool
-is_signals doc.Signals = true
-is_signals other = false
+-- those of signals and limits that are asked for
+abbrev pub is_asked : Asked → Doc → Bool
+is_asked asked doc.Signals = asked.signals
+is_asked asked doc.Limits = asked.limits
+is_asked asked other = false
 
 -- the files that a case may have
 abbrev pub is_case_file : Doc → Bool
-is_case_file d = is_of_each d || is_signals d
+is_case_file d = is_of_each d || is_asked (record { signals = true; limits = true }) d
 
-abbrev pub has_signals : Result Opened CaseFault → Bool
-has_signals (Ok opened) = opened.has_signals
-has_signals (Err fault) = false
+abbrev pub asked_by : Result Opened CaseFault → Asked
+asked_by (Ok opened) = opened.asked
+asked_by (Err fault) = record { signals = false; limits = false }
 
--- the files that a case has: the signals where its setup asks for them
+-- the files that a case has: signals and limits where its setup asks for them
 abbrev pub asks_for : Files → Doc → Bool
-asks_for files d = is_of_each d || (is_signals d && has_signals (opened_of files))
+asks_for files d = is_of_each d || is_asked (asked_by (opened_of files)) d

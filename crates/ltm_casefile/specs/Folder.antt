@@ -15,6 +15,7 @@ doc_of file.Links = Some doc.Links
 doc_of file.Demand = Some doc.Demand
 doc_of file.Splits = Some doc.Splits
 doc_of file.Signals = Some doc.Signals
+doc_of file.Limits = Some doc.Limits
 doc_of file.Whole = None
 
 -- the bytes of a file that is there and has at most 16,777,216 of them

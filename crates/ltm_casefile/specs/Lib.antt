@@ -1,5 +1,6 @@
 pub mod Case
 pub mod Causes
+pub mod Columns
 pub mod Demand
 pub mod Faults
 pub mod Fields
@@ -8,6 +9,6 @@ pub mod Links
 pub mod Roads
 pub mod Rows
 pub mod Setup
-pub mod Signals
+pub mod SideLimits
 pub mod Splits
 pub mod Tables

@@ -30,7 +30,7 @@ road_texts_of files =
 unfoldable pub roads_filled : ScenarioData → RoadTexts → Result ScenarioData CaseFault
 roads_filled s texts = with_file table.Links s texts.links >>= λ linked. with_file table.Demand linked texts.demand
 
--- what the setup says of signals is read, and no signals come with it
+-- what the setup says of signals and limits is read, and neither file comes with it
 unfoldable pub roads_in : RoadTexts → Result ScenarioData CaseFault
 roads_in texts = setup_of (records_of texts.setup) >>= λ opened. roads_filled opened.scenario texts
 

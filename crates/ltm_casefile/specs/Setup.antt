@@ -1,69 +1,69 @@
 -- What the setup says.
-use Rattle.std.specs.Prelude.{ℕ, ◌==◌, ◌||◌, ◌&&◌, codes, not, nat_lt, Bool, if◌then◌else◌, List, [], ◌∷◌, length, Result, Ok, Err}
+use Rattle.std.specs.Prelude.{ℕ, ◌==◌, not, nat_lt, Bool, if◌then◌else◌, List, [], ◌∷◌, length, Result, Ok, Err}
 use Rattle.ltm_units.specs.Results.{refuse}
 use Rattle.ltm_scenario.specs.declared.setup.SetupFault.{SetupFault}
-use Rattle.ltm_scenario.specs.declared.setup.SetupFault.TheVariants.{Range as OutOfRange}
-use Rattle.ltm_scenario.specs.Setup.{setup_checked}
+use Rattle.ltm_scenario.specs.declared.setup.SetupFault.TheVariants.{Range as OutOfRange, MostCells}
+use Rattle.ltm_scenario.specs.Setup.{setup_checked, default_cells}
 use Rattle.ltm_scenario.specs.Data.{empty_scenario}
 use Rattle.ltm_scenario.specs.Build.{◌>>=◌}
-use Rattle.ltm_records.specs.Fields.{Fields, has}
+use Rattle.ltm_records.specs.Fields.{Fields}
 use Rattle.ltm_casefile.specs.declared.faults.CaseCause.{CaseCause}
 use Rattle.ltm_casefile.specs.declared.faults.CaseCause.TheVariants.{Range, Rows}
 use Rattle.ltm_casefile.specs.declared.faults.CaseFault.{CaseFault}
 use Rattle.ltm_casefile.specs.declared.faults.CaseFault.TheVariants.{Bad}
 use Rattle.ltm_casefile.specs.declared.faults.File.TheVariants as file
+use Rattle.ltm_casefile.specs.declared.columns.Columns.{Columns}
 use Rattle.ltm_casefile.specs.declared.setup.SetupRecord.{SetupRecord}
 use Rattle.ltm_casefile.specs.declared.setup.Opened.{Opened}
+use Rattle.ltm_casefile.specs.Columns.{limits_field, cells_field, width_of, columns_of, is_setup_header}
 use Rattle.ltm_casefile.specs.Fields.{has_width, number_in, amount_in}
 use Rattle.ltm_casefile.specs.Rows.{at_row, below_header}
 
-abbrev pub is_setup_header : Fields → Bool
-is_setup_header fields = (length fields == 3) && has fields 0 (codes "step_ms") && has fields 1 (codes "slots") && has fields 2 (codes "origin_capacity")
+-- the number of a column that the header has, or what stands for one that it lacks
+abbrev pub number_if : Bool → ℕ → Fields → ℕ → Result ℕ CaseCause
+number_if there absent fields field = if there then number_in fields field else Ok absent
 
--- the header of a setup that also tells whether there is a file of signals
-abbrev pub is_setup_header_with_signals : Fields → Bool
-is_setup_header_with_signals fields =
-    (length fields == 4) && has fields 0 (codes "step_ms") && has fields 1 (codes "slots") && has fields 2 (codes "origin_capacity") && has fields 3 (codes "signals")
-
-abbrev pub heads_setup : Fields → Bool
-heads_setup fields = is_setup_header fields || is_setup_header_with_signals fields
-
--- the fourth field, in a record that has one
-abbrev pub signals_in : ℕ → Fields → Result ℕ CaseCause
-signals_in width fields = if width == 4 then number_in fields 4 else Ok 0
-
--- step in milliseconds, slots, origin capacity, signals, in a record as wide as its header
-unfoldable pub setup_record : ℕ → Fields → Result SetupRecord CaseCause
-setup_record width fields =
-    has_width fields width >>= λ _.
+-- step in milliseconds, slots, origin capacity, and then signals, limits and cells, below a header with these columns
+unfoldable pub setup_record : Columns → Fields → Result SetupRecord CaseCause
+setup_record columns fields =
+    has_width fields (width_of columns) >>= λ _.
     number_in fields 1 >>= λ step.
     number_in fields 2 >>= λ slots.
     amount_in fields 3 >>= λ capacity.
-    signals_in width fields >>= λ signals.
-    Ok (record { setup = record { step = record { 0 = step }; slots = slots; origin_capacity = capacity }; signals = signals })
+    number_if columns.signals 0 fields 4 >>= λ signals.
+    number_if columns.limits 0 fields (limits_field columns) >>= λ limits.
+    number_if columns.cells default_cells fields (cells_field columns) >>= λ cells.
+    Ok (record { setup = record { step = record { 0 = step }; slots = slots; origin_capacity = capacity; most_cells = cells }; signals = signals; limits = limits })
 
-abbrev pub in_range : Result (Unit {0}) SetupFault → Result (Unit {0}) CaseCause
-in_range (Ok x) = Ok tt
-in_range (Err (OutOfRange field)) = Err (Range field)
-
--- a scenario without links, and whether signals come with it
-abbrev pub opened : SetupRecord → Result Opened CaseCause
-opened r =
-    in_range (setup_checked r.setup) >>= λ _.
+-- signals and limits are 0 or 1
+abbrev pub flags_checked : Columns → SetupRecord → Result (Unit {0}) CaseCause
+flags_checked columns r =
     refuse (nat_lt 1 r.signals) (Range 4) >>= λ _.
-    Ok (record { scenario = empty_scenario r.setup; has_signals = r.signals == 1 })
+    refuse (nat_lt 1 r.limits) (Range (limits_field columns))
 
-abbrev pub setup_read : ℕ → Fields → Result Opened CaseCause
-setup_read width fields = setup_record width fields >>= λ r. opened r
+-- the first field that is out of its limits, in the order of the header: signals and limits stand before the cells
+abbrev pub in_range : Columns → SetupRecord → Result (Unit {0}) SetupFault → Result (Unit {0}) CaseCause
+in_range columns r (Ok x) = flags_checked columns r
+in_range columns r (Err (OutOfRange field)) = Err (Range field)
+in_range columns r (Err MostCells) = flags_checked columns r >>= λ _. Err (Range (cells_field columns))
 
--- exactly one record, below a header of that width
-abbrev pub only_row : ℕ → List Fields → Result Opened CaseFault
-only_row width [] = Err (Bad file.Setup 2 Rows)
-only_row width (row ∷ rows) =
-    at_row file.Setup 2 (setup_read width row) >>= λ o.
+-- a scenario without links, and which files of limits come with it
+abbrev pub opened : Columns → SetupRecord → Result Opened CaseCause
+opened columns r =
+    in_range columns r (setup_checked r.setup) >>= λ _.
+    Ok (record { scenario = empty_scenario r.setup; asked = record { signals = r.signals == 1; limits = r.limits == 1 } })
+
+abbrev pub setup_read : Columns → Fields → Result Opened CaseCause
+setup_read columns fields = setup_record columns fields >>= λ r. opened columns r
+
+-- exactly one record, below a header with these columns
+abbrev pub only_row : Columns → List Fields → Result Opened CaseFault
+only_row columns [] = Err (Bad file.Setup 2 Rows)
+only_row columns (row ∷ rows) =
+    at_row file.Setup 2 (setup_read columns row) >>= λ o.
     at_row file.Setup 3 (refuse (not (length rows == 0)) Rows) >>= λ _.
     Ok o
 
 -- what the records of the setup say
 unfoldable pub setup_of : List Fields → Result Opened CaseFault
-setup_of rows = below_header file.Setup heads_setup (λ header. only_row (length header)) rows
+setup_of rows = below_header file.Setup is_setup_header (λ header. only_row (columns_of header)) rows

@@ -4,11 +4,11 @@ ghost use Rattle.ltm_io.specs.Folder.{Files};
 ghost use Rattle.ltm_io.specs.Faults.{Rose};
 ghost use Rattle.ltm_io.specs.declared.doc.Doc.{Doc};
 ghost use Rattle.ltm_scenario.specs.Valid.{IsValid};
-ghost use Rattle.ltm_casefile.specs.Case.{case_of, built, filled, with_signals, whole, cause_of_whole, is_case_file, asks_for};
+ghost use Rattle.ltm_casefile.specs.Case.{case_of, built, filled, limited, whole, cause_of_whole, is_case_file, asks_for};
 ghost use Rattle.ltm_casefile.specs.Faults.{Agrees, Says, HasRisen, WasAsked, HidesNoMemory};
 
 use crate::faults::{CaseCause, CaseFault, File};
-use crate::fetch::{FileText, Texts};
+use crate::fetch::{LimitTexts, Texts};
 use crate::fetch_case::{Parts, fetch_parts};
 use crate::roads::fill_roads;
 use crate::tables::Table;
@@ -16,31 +16,28 @@ use ltm_io::Folder;
 use ltm_scenario::{Scenario, ScenarioFault};
 use std::alloc::Global;
 
-fn add_signals(
-    alloc: Global,
-    scenario: &mut Scenario,
-    signals: &Option<FileText>,
-) -> Result<(), CaseFault>
-    ensures ok { OnOk result (with_signals scenario.old signals.now ≡ Ok scenario.new) }
-    ensures fault { IfErr result (Says (with_signals scenario.old signals.now)) }
+fn add_limits(alloc: Global, scenario: &mut Scenario, texts: &LimitTexts) -> Result<(), CaseFault>
+    ensures ok { OnOk result (limited scenario.old texts.now ≡ Ok scenario.new) }
+    ensures fault { IfErr result (Says (limited scenario.old texts.now)) }
 {
-    match signals {
-        Some(text) => return Table::Signals.add_to(alloc, scenario, text),
-        None => return Ok(()),
+    match Table::Signals.add_if(alloc, scenario, &texts.signals) {
+        Ok(()) => {}
+        Err(fault) => return Err(fault),
     }
+    Table::Limits.add_if(alloc, scenario, &texts.limits)
 }
 
-/// Adds what the files say to a scenario without split rows: links, demand, splits, signals.
+/// Adds what the files say to a scenario without split rows: links, demand, splits, signals, entry limits.
 #[tactic(auto, unfolding(crate::specs::Case::filled))]
 fn fill(
     alloc: Global,
     scenario: &mut Scenario,
     texts: &Texts,
-    signals: &Option<FileText>,
+    limits: &LimitTexts,
 ) -> Result<(), CaseFault>
     requires { scenario.old.splits ≡ [] }
-    ensures ok { OnOk result (filled scenario.old texts.now signals.now ≡ Ok scenario.new) }
-    ensures fault { IfErr result (Says (filled scenario.old texts.now signals.now)) }
+    ensures ok { OnOk result (filled scenario.old texts.now limits.now ≡ Ok scenario.new) }
+    ensures fault { IfErr result (Says (filled scenario.old texts.now limits.now)) }
 {
     match fill_roads(alloc, scenario, &texts.roads) {
         Ok(()) => {}
@@ -50,7 +47,7 @@ fn fill(
         Ok(()) => {}
         Err(fault) => return Err(fault),
     }
-    add_signals(alloc, scenario, signals)
+    add_limits(alloc, scenario, limits)
 }
 
 fn cause_of(fault: ScenarioFault) -> CaseCause
@@ -88,16 +85,17 @@ fn build(alloc: Global, parts: Parts) -> Result<Scenario, CaseFault>
     let Parts {
         mut scenario,
         texts,
-        signals,
+        limits,
     } = parts;
-    fill(alloc, &mut scenario, &texts, &signals)?;
+    fill(alloc, &mut scenario, &texts, &limits)?;
     check_case(&scenario)?;
     Ok(scenario)
 }
 
 /// The valid scenario that the files of a folder describe, or the first fault: first a file that is missing, cannot be
-/// read or is too long, in the order setup, links, demand, splits; then what the setup says; then the file of signals,
-/// where the setup asks for it, likewise; then what links, demand, splits and signals say; then the whole case.
+/// read or is too long, in the order setup, links, demand, splits; then what the setup says; then the file of signals and
+/// that of entry limits, each where the setup asks for it, likewise; then what links, demand, splits, signals and entry
+/// limits say; then the whole case.
 ///
 /// Each file is fetched once, and its records are read up to its first fault.
 #[tactic(auto, using(crate::proofs::Memory::built_said))]

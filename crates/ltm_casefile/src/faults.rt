@@ -14,6 +14,7 @@ pub enum File {
     Demand,
     Splits,
     Signals,
+    Limits,
     /// What no file says alone.
     Whole,
 }
@@ -51,7 +52,7 @@ pub enum CaseCause {
     TooManyRows,
     /// The node and the destination lack the split row that a rule asks for: any at all, or one from slot 0 on.
     NoSplit { node: Name, destination: Name },
-    /// The cells are more than 54,000,000; this many.
+    /// The cells are more than the case may have; this many.
     CellsOver(u128),
 }
 

@@ -1,13 +1,14 @@
 //! Fetches the files of a case, as bytes.
-ghost use Rattle.std.specs.Prelude.{◌≡◌, ◌&&◌, ◌≤◌, ℕ, length, Ok, Err, IfOk, IfErr, IfSome, IsSome, Some, None, true, false};
+ghost use Rattle.std.specs.Prelude.{◌≡◌, ◌≤◌, ℕ, length, Ok, Err, IfOk, IfErr, IfSome, IsSome, Some, None, true, false};
 ghost use Rattle.ltm_io.specs.declared.doc.Doc.{Doc};
 ghost use Rattle.ltm_casefile.specs.declared.faults.File.{File};
 ghost use Rattle.ltm_casefile.specs.Folder.{doc_of, text_of};
-ghost use Rattle.ltm_casefile.specs.Case.{texts_of, signals_of, is_of_each, is_signals};
+ghost use Rattle.ltm_casefile.specs.Case.{texts_of, text_if, limit_texts_of, is_of_each, is_asked};
 ghost use Rattle.ltm_casefile.specs.Roads.{road_texts_of, is_of_roads};
 ghost use Rattle.ltm_casefile.specs.Faults.{Agrees, HasRisen, WasAsked, HidesNoMemory};
 
 use crate::faults::{CaseFault, File};
+use crate::setup::Asked;
 use ltm_io::{Doc, Fetched, Folder};
 use std::alloc::Global;
 use std::marker::Model;
@@ -26,6 +27,7 @@ impl File {
             File::Demand => Some(Doc::Demand),
             File::Splits => Some(Doc::Splits),
             File::Signals => Some(Doc::Signals),
+            File::Limits => Some(Doc::Limits),
             File::Whole => None,
         }
     }
@@ -122,6 +124,30 @@ impl Texts {
     }
 }
 
+/// The bytes of the signals and of the entry limits, each where the setup asks for them.
+pub struct LimitTexts {
+    pub signals: Option<FileText>,
+    pub limits: Option<FileText>,
+}
+
+// By hand, as above.
+impl Drop for LimitTexts {
+    fn drop(self) {
+        let LimitTexts {
+            signals: _signals,
+            limits: _limits,
+        } = self;
+    }
+}
+
+impl Model for LimitTexts {
+    ghost use Rattle.ltm_casefile.specs.Case.{LimitTexts as LimitTextsData};
+
+    ghost Value = { LimitTextsData };
+
+    ghost view = { λ t. record { signals = t.signals; limits = t.limits } };
+}
+
 /// The bytes of one file of the folder.
 fn fetch<F: Folder>(alloc: Global, folder: &mut F, file: File) -> Result<FileText, CaseFault>
     requires { IsSome (doc_of file) }
@@ -185,25 +211,47 @@ pub fn fetch_texts<F: Folder>(alloc: Global, folder: &mut F) -> Result<Texts, Ca
     Ok(Texts { roads, splits })
 }
 
-/// The bytes of the signals, fetched where they are asked for.
-pub fn fetch_signals<F: Folder>(
+/// The bytes of a file, fetched where it is asked for.
+fn fetch_if<F: Folder>(
     alloc: Global,
     folder: &mut F,
     asked: bool,
+    file: File,
 ) -> Result<Option<FileText>, CaseFault>
+    requires { IsSome (doc_of file) }
     ensures keeps { F.told folder.new ≡ F.told folder.old }
     ensures later { (d : Doc) → F.faults folder.old d ≤ F.faults folder.new d }
-    ensures others { (d : Doc) → (d ≡ Doc.Signals → ⊥) → F.faults folder.new d ≡ F.faults folder.old d }
-    ensures unasked { asked ≡ false → (d : Doc) → F.faults folder.new d ≡ F.faults folder.old d }
-    ensures ok { IfOk result (λ v. IfSome (F.told folder.old) (λ files. signals_of files asked ≡ Ok v)) }
-    ensures fault { IfErr result (λ e. IfSome (F.told folder.old) (λ files. Agrees (signals_of files asked) e)) }
+    ensures others { (d : Doc) → (doc_of file ≡ Some d → asked ≡ false) → F.faults folder.new d ≡ F.faults folder.old d }
+    ensures ok { IfOk result (λ v. IfSome (F.told folder.old) (λ files. text_if asked files file ≡ Ok v)) }
+    ensures fault { IfErr result (λ e. IfSome (F.told folder.old) (λ files. Agrees (text_if asked files file) e)) }
     ensures risen { IfErr result (HasRisen (F.faults folder.old) (F.faults folder.new)) }
-    ensures asked { IfErr result (WasAsked (λ d. is_signals d && asked)) }
+    ensures given { (f : File) → result ≡ Err (CaseFault.Folder f) → (f ≡ file) × (asked ≡ true) }
     ensures memory { IfErr result HidesNoMemory }
 {
     if !asked {
         return Ok(None);
     }
-    let text = fetch(alloc, folder, File::Signals)?;
+    let text = fetch(alloc, folder, file)?;
     Ok(Some(text))
+}
+
+/// The bytes of the signals and then of the entry limits, each fetched where they are asked for.
+#[tactic(auto, unfolding(crate::specs::Case::limit_texts_of))]
+pub fn fetch_limits<F: Folder>(
+    alloc: Global,
+    folder: &mut F,
+    asked: Asked,
+) -> Result<LimitTexts, CaseFault>
+    ensures keeps { F.told folder.new ≡ F.told folder.old }
+    ensures later { (d : Doc) → F.faults folder.old d ≤ F.faults folder.new d }
+    ensures others { (d : Doc) → is_asked asked d ≡ false → F.faults folder.new d ≡ F.faults folder.old d }
+    ensures ok { IfOk result (λ t. IfSome (F.told folder.old) (λ files. limit_texts_of files asked ≡ Ok t)) }
+    ensures fault { IfErr result (λ e. IfSome (F.told folder.old) (λ files. Agrees (limit_texts_of files asked) e)) }
+    ensures risen { IfErr result (HasRisen (F.faults folder.old) (F.faults folder.new)) }
+    ensures asked { IfErr result (WasAsked (is_asked asked)) }
+    ensures memory { IfErr result HidesNoMemory }
+{
+    let signals = fetch_if(alloc, folder, asked.signals, File::Signals)?;
+    let limits = fetch_if(alloc, folder, asked.limits, File::Limits)?;
+    Ok(LimitTexts { signals, limits })
 }

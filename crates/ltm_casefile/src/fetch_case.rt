@@ -1,4 +1,4 @@
-//! Fetches a case from its folder: the files that each case has, and the signals where the setup asks for them.
+//! Fetches a case from its folder: the files that each case has, and signals and limits where the setup asks for them.
 ghost use Rattle.std.specs.Prelude.{◌≡◌, ◌≤◌, ℕ, [], Ok, Err, IfOk, IfErr, IfSome, Some, None, true, false};
 ghost use Rattle.ltm_io.specs.Folder.{Files};
 ghost use Rattle.ltm_io.specs.declared.doc.Doc.{Doc};
@@ -6,7 +6,7 @@ ghost use Rattle.ltm_casefile.specs.Case.{parts_of, is_case_file, asks_for};
 ghost use Rattle.ltm_casefile.specs.Faults.{Agrees, HasRisen, WasAsked, HidesNoMemory};
 
 use crate::faults::CaseFault;
-use crate::fetch::{FileText, Texts, fetch_signals, fetch_texts};
+use crate::fetch::{LimitTexts, Texts, fetch_limits, fetch_texts};
 use crate::setup::open_setup;
 use ltm_io::Folder;
 use ltm_scenario::Scenario;
@@ -18,8 +18,8 @@ use std::marker::Model;
 pub struct Parts {
     pub scenario: Scenario,
     pub texts: Texts,
-    /// The signals, where the setup asks for them.
-    pub signals: Option<FileText>,
+    /// The signals and the entry limits, each where the setup asks for them.
+    pub limits: LimitTexts,
 }
 
 impl Model for Parts {
@@ -27,10 +27,10 @@ impl Model for Parts {
 
     ghost Value = { CaseParts };
 
-    ghost view = { λ p. record { scenario = p.scenario; texts = p.texts; signals = p.signals } };
+    ghost view = { λ p. record { scenario = p.scenario; texts = p.texts; limits = p.limits } };
 }
 
-/// Fetches the files that each case has, then reads the setup, and then fetches the signals where it asks for them.
+/// Fetches the files that each case has, then reads the setup, then fetches signals and limits where it asks for them.
 #[tactic(auto, unfolding(crate::specs::Case::parts_of), using(crate::proofs::Memory::setup_said))]
 pub fn fetch_parts<F: Folder>(alloc: Global, folder: &mut F) -> Result<Parts, CaseFault>
     ensures ok { IfOk result (λ parts. IfSome (F.told folder.old) (λ files. parts_of files ≡ Ok parts)) }
@@ -47,11 +47,11 @@ pub fn fetch_parts<F: Folder>(alloc: Global, folder: &mut F) -> Result<Parts, Ca
 {
     let texts = fetch_texts(alloc, folder)?;
     let opened = open_setup(alloc, texts.setup())?;
-    match fetch_signals(alloc, folder, opened.has_signals) {
-        Ok(signals) => return Ok(Parts {
+    match fetch_limits(alloc, folder, opened.asked) {
+        Ok(limits) => return Ok(Parts {
             scenario: opened.scenario,
             texts,
-            signals,
+            limits,
         }),
         Err(fault) => return Err(fault),
     }

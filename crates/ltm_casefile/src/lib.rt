@@ -1,5 +1,5 @@
-//! - **What it is**: a case from the files of its folder (setup, links, demand, splits, and signals where the setup asks
-//!   for them), or the first fault, by file, row and cause.
+//! - **What it is**: a case from the files of its folder (setup, links, demand, splits, and signals and entry limits where
+//!   the setup asks for them), or the first fault, by file, row and cause.
 //! - **On what it stands**: `ltm_scenario`, which it builds call by call, and `ltm_records`, which gives the records of a
 //!   file one at a time.
 //! - **What a call costs**: a record costs a few look-ups by name; a file is fetched once and read as far as its first fault.
@@ -7,6 +7,7 @@
 #![tactic(auto)]
 
 mod case;
+mod columns;
 mod demand;
 mod faults;
 mod fetch;
@@ -16,7 +17,7 @@ mod laws;
 mod links;
 mod roads;
 mod setup;
-mod signals;
+mod side_limits;
 mod splits;
 mod tables;
 

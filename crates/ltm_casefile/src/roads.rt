@@ -52,7 +52,7 @@ fn build_roads(alloc: Global, texts: &RoadTexts) -> Result<Scenario, CaseFault>
 /// first a file that is missing, cannot be read or is too long, in this order; then what they say, in this order. Whether
 /// the case is whole is not asked.
 ///
-/// The setup may ask for signals; they are not fetched.
+/// The setup may ask for signals and for entry limits; neither is fetched.
 #[tactic(auto, using(crate::proofs::Memory::roads_said))]
 pub fn read_roads<F: Folder>(alloc: Global, folder: &mut F) -> Result<Scenario, CaseFault>
     ensures ok { IfOk result (λ scenario. IfSome (F.told folder.old) (λ files. unsplit_case_of files ≡ Ok scenario)) }

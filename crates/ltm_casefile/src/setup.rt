@@ -1,15 +1,17 @@
 //! The record of the setup.
-ghost use Rattle.std.specs.Prelude.{◌≡◌, [], Ok, Err, IfOk, IfErr};
+ghost use Rattle.std.specs.Prelude.{◌≡◌, ◌≤◌, [], Ok, Err, IfOk, IfErr};
 ghost use Rattle.csv.specs.Records.{fields_of};
 ghost use Rattle.ltm_records.specs.Left.{records_of};
 ghost use Rattle.ltm_casefile.specs.Faults.{Says};
-ghost use Rattle.ltm_casefile.specs.Setup.{is_setup_header, is_setup_header_with_signals, signals_in, setup_record, opened, setup_read, heads_setup, only_row, setup_of};
+ghost use Rattle.ltm_casefile.specs.Columns.{columns_of};
+ghost use Rattle.ltm_casefile.specs.Setup.{number_if, setup_record, flags_checked, in_range, opened, setup_read, only_row, setup_of};
 
+use crate::columns::{Columns, is_setup_header};
 use crate::faults::{CaseCause, CaseFault, File};
 use crate::fields::{check_width, read_amount, read_number};
 use csv::ByteRecord;
-use ltm_records::{Records, has, width};
-use ltm_scenario::{Scenario, Setup, SetupFault};
+use ltm_records::Records;
+use ltm_scenario::{MOST_CELLS, Scenario, Setup, SetupFault};
 use ltm_units::Millis;
 use std::alloc::Global;
 
@@ -19,96 +21,114 @@ pub struct SetupRecord {
     pub setup: Setup,
     /// 1 where a file of signals comes with the case.
     pub signals: u32,
+    /// 1 where a file of entry limits comes with the case.
+    pub limits: u32,
 }
 
-/// A scenario without links, and whether a file of signals comes with the case.
+/// Which files of limits the setup asks for.
+#[derive(Clone, Copy)]
+pub struct Asked {
+    /// The exit limits.
+    pub signals: bool,
+    /// The entry limits.
+    pub limits: bool,
+}
+
+/// A scenario without links, and which files of limits come with the case.
 #[derive(Drop)]
 pub struct Opened {
     pub scenario: Scenario,
-    pub has_signals: bool,
+    pub asked: Asked,
 }
 
-/// Whether the record is `step_ms,slots,origin_capacity`.
-fn is_setup_header(row: &ByteRecord) -> bool
-    ensures { result ≡ is_setup_header (fields_of row.now) }
+fn read_if(there: bool, absent: u32, row: &ByteRecord, field: u32) -> Result<u32, CaseCause>
+    requires { 1 ≤ field }
+    ensures { result ≡ number_if there absent (fields_of row.now) field }
 {
-    width(row) == 3
-        && has(row, 0, b"step_ms")
-        && has(row, 1, b"slots")
-        && has(row, 2, b"origin_capacity")
-}
-
-/// Whether the record is `step_ms,slots,origin_capacity,signals`.
-fn is_setup_header_with_signals(row: &ByteRecord) -> bool
-    ensures { result ≡ is_setup_header_with_signals (fields_of row.now) }
-{
-    width(row) == 4
-        && has(row, 0, b"step_ms")
-        && has(row, 1, b"slots")
-        && has(row, 2, b"origin_capacity")
-        && has(row, 3, b"signals")
-}
-
-fn heads_setup(row: &ByteRecord) -> bool
-    ensures { result ≡ heads_setup (fields_of row.now) }
-{
-    is_setup_header(row) || is_setup_header_with_signals(row)
-}
-
-fn read_signals(width: usize, row: &ByteRecord) -> Result<u32, CaseCause>
-    ensures { result ≡ signals_in width (fields_of row.now) }
-{
-    if width == 4 {
-        read_number(row, 4)
+    if there {
+        read_number(row, field)
     } else {
-        Ok(0)
+        Ok(absent)
     }
 }
 
 #[tactic(auto, unfolding(crate::specs::Setup::setup_record))]
-fn read_record(width: usize, row: &ByteRecord) -> Result<SetupRecord, CaseCause>
-    ensures { result ≡ setup_record width (fields_of row.now) }
+fn read_record(columns: Columns, row: &ByteRecord) -> Result<SetupRecord, CaseCause>
+    ensures { result ≡ setup_record columns (fields_of row.now) }
 {
-    check_width(row, width)?;
+    check_width(row, columns.width())?;
     let step = read_number(row, 1)?;
     let slots = read_number(row, 2)?;
     let origin_capacity = read_amount(row, 3)?;
-    let signals = read_signals(width, row)?;
+    let signals = read_if(columns.signals, 0, row, 4)?;
+    let limits = read_if(columns.limits, 0, row, columns.limits_field())?;
+    let most_cells = read_if(columns.cells, MOST_CELLS, row, columns.cells_field())?;
     let setup = Setup {
         step: Millis(u64::from(step)),
         slots,
         origin_capacity,
+        most_cells,
     };
-    Ok(SetupRecord { setup, signals })
+    Ok(SetupRecord {
+        setup,
+        signals,
+        limits,
+    })
 }
 
-fn open(alloc: Global, said: &SetupRecord) -> Result<Opened, CaseCause>
-    ensures ok { IfOk result (λ o. opened said.now ≡ Ok o) }
-    ensures empty { IfOk result (λ o. o.scenario.splits ≡ []) }
-    ensures cause { IfErr result (λ e. opened said.now ≡ Err e) }
+fn check_flags(columns: Columns, said: &SetupRecord) -> Result<(), CaseCause>
+    ensures { result ≡ flags_checked columns said.now }
 {
-    match Scenario::create(alloc, said.setup) {
-        Err(SetupFault::Range(field)) => return Err(CaseCause::Range(field)),
-        Ok(scenario) => {
-            if said.signals > 1 {
-                return Err(CaseCause::Range(4));
-            }
-            return Ok(Opened {
-                scenario,
-                has_signals: said.signals == 1,
-            });
-        }
+    if said.signals > 1 {
+        return Err(CaseCause::Range(4));
+    }
+    if said.limits > 1 {
+        return Err(CaseCause::Range(columns.limits_field()));
+    }
+    Ok(())
+}
+
+/// The field that is out of its limits where the setup has this fault.
+fn cause_of(columns: Columns, said: &SetupRecord, fault: SetupFault) -> CaseCause
+    ensures { in_range columns said.now (Err fault) ≡ Err result }
+{
+    match fault {
+        SetupFault::Range(field) => CaseCause::Range(field),
+        SetupFault::MostCells => match check_flags(columns, said) {
+            Ok(()) => CaseCause::Range(columns.cells_field()),
+            Err(cause) => cause,
+        },
     }
 }
 
-/// The scenario of a setup without links, from a record below a header of that width.
-fn open_row(alloc: Global, width: usize, row: &ByteRecord) -> Result<Opened, CaseCause>
-    ensures ok { IfOk result (λ o. setup_read width (fields_of row.now) ≡ Ok o) }
+fn open(alloc: Global, columns: Columns, said: &SetupRecord) -> Result<Opened, CaseCause>
+    ensures ok { IfOk result (λ o. opened columns said.now ≡ Ok o) }
     ensures empty { IfOk result (λ o. o.scenario.splits ≡ []) }
-    ensures cause { IfErr result (λ e. setup_read width (fields_of row.now) ≡ Err e) }
+    ensures cause { IfErr result (λ e. opened columns said.now ≡ Err e) }
 {
-    let said = read_record(width, row)?;
-    open(alloc, &said)
+    let scenario = match Scenario::create(alloc, said.setup) {
+        Ok(scenario) => scenario,
+        Err(fault) => return Err(cause_of(columns, said, fault)),
+    };
+    match check_flags(columns, said) {
+        Ok(()) => {}
+        Err(cause) => return Err(cause),
+    }
+    let asked = Asked {
+        signals: said.signals == 1,
+        limits: said.limits == 1,
+    };
+    Ok(Opened { scenario, asked })
+}
+
+/// The scenario of a setup without links, from a record below a header with these columns.
+fn open_row(alloc: Global, columns: Columns, row: &ByteRecord) -> Result<Opened, CaseCause>
+    ensures ok { IfOk result (λ o. setup_read columns (fields_of row.now) ≡ Ok o) }
+    ensures empty { IfOk result (λ o. o.scenario.splits ≡ []) }
+    ensures cause { IfErr result (λ e. setup_read columns (fields_of row.now) ≡ Err e) }
+{
+    let said = read_record(columns, row)?;
+    open(alloc, columns, &said)
 }
 
 fn bad(row: u32, cause: CaseCause) -> CaseFault
@@ -121,21 +141,21 @@ fn bad(row: u32, cause: CaseCause) -> CaseFault
     }
 }
 
-/// What the one record below a header of that width says.
+/// What the one record below a header with these columns says.
 fn open_only_row(
     alloc: Global,
-    width: usize,
+    columns: Columns,
     records: &mut Records,
     row: &mut ByteRecord,
 ) -> Result<Opened, CaseFault>
-    ensures ok { IfOk result (λ o. only_row width records.old ≡ Ok o) }
+    ensures ok { IfOk result (λ o. only_row columns records.old ≡ Ok o) }
     ensures empty { IfOk result (λ o. o.scenario.splits ≡ []) }
-    ensures fault { IfErr result (Says (only_row width records.old)) }
+    ensures fault { IfErr result (Says (only_row columns records.old)) }
 {
     if !records.next(row)? {
         return Err(bad(2, CaseCause::Rows));
     }
-    let opened = match open_row(alloc, width, row) {
+    let opened = match open_row(alloc, columns, row) {
         Ok(opened) => opened,
         Err(cause) => return Err(bad(2, cause)),
     };
@@ -145,7 +165,7 @@ fn open_only_row(
     Ok(opened)
 }
 
-/// The scenario of a setup without links, and whether a file of signals comes with the case.
+/// The scenario of a setup without links, and which files of limits come with the case.
 #[tactic(auto, unfolding(crate::specs::Setup::setup_of))]
 pub fn open_setup(alloc: Global, text: &[u8]) -> Result<Opened, CaseFault>
     ensures ok { IfOk result (λ o. setup_of (records_of text.now) ≡ Ok o) }
@@ -154,9 +174,9 @@ pub fn open_setup(alloc: Global, text: &[u8]) -> Result<Opened, CaseFault>
 {
     let mut records = Records::of(alloc, text);
     let mut row = ByteRecord::new(alloc);
-    if !records.next(&mut row)? || !heads_setup(&row) {
+    if !records.next(&mut row)? || !is_setup_header(&row) {
         return Err(bad(1, CaseCause::Header));
     }
-    let fields = width(&row);
-    open_only_row(alloc, fields, &mut records, &mut row)
+    let columns = Columns::of(&row);
+    open_only_row(alloc, columns, &mut records, &mut row)
 }

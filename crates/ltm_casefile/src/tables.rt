@@ -4,17 +4,17 @@ ghost use Rattle.csv.specs.Records.{fields_of};
 ghost use Rattle.ltm_records.specs.Left.{records_of};
 ghost use Rattle.ltm_casefile.specs.Causes.{Tells};
 ghost use Rattle.ltm_casefile.specs.Faults.{Says};
-ghost use Rattle.ltm_casefile.specs.Tables.{file_of, heads, row_added, rows_added, table_added};
+ghost use Rattle.ltm_casefile.specs.Tables.{file_of, heads, row_added, rows_added, table_added, with_file_if};
 
 use crate::demand::{add_demand, is_demand_header};
 use crate::faults::{CaseCause, CaseFault, File, StepFault};
 use crate::fetch::FileText;
 use crate::links::{add_link, is_links_header};
-use crate::signals::{add_signal, is_signals_header};
+use crate::side_limits::{add_limit, is_limits_header};
 use crate::splits::{add_split, is_splits_header};
 use csv::ByteRecord;
 use ltm_records::Records;
-use ltm_scenario::Scenario;
+use ltm_scenario::{Scenario, Side};
 use std::alloc::Global;
 
 /// A file with any number of records.
@@ -23,7 +23,10 @@ pub enum Table {
     Links,
     Demand,
     Splits,
+    /// Exit limits.
     Signals,
+    /// Entry limits.
+    Limits,
 }
 
 impl Table {
@@ -35,6 +38,7 @@ impl Table {
             Table::Demand => File::Demand,
             Table::Splits => File::Splits,
             Table::Signals => File::Signals,
+            Table::Limits => File::Limits,
         }
     }
 
@@ -45,7 +49,8 @@ impl Table {
             Table::Links => is_links_header(row),
             Table::Demand => is_demand_header(row),
             Table::Splits => is_splits_header(row),
-            Table::Signals => is_signals_header(row),
+            Table::Signals => is_limits_header(row),
+            Table::Limits => is_limits_header(row),
         }
     }
 
@@ -59,7 +64,8 @@ impl Table {
             Table::Links => return add_link(scenario, row),
             Table::Demand => return add_demand(scenario, row),
             Table::Splits => return add_split(scenario, row),
-            Table::Signals => return add_signal(scenario, row),
+            Table::Signals => return add_limit(scenario, Side::Exit, row),
+            Table::Limits => return add_limit(scenario, Side::Entry, row),
         }
     }
 
@@ -113,5 +119,22 @@ impl Table {
             });
         }
         self.add_rows(scenario, &mut records, &mut row)
+    }
+
+    /// Adds the records of a file that is there.
+    pub fn add_if(
+        self,
+        alloc: Global,
+        scenario: &mut Scenario,
+        text: &Option<FileText>,
+    ) -> Result<(), CaseFault>
+        requires { self ≡ Table.Links → scenario.old.splits ≡ [] }
+        ensures ok { OnOk result (with_file_if self scenario.old text.now ≡ Ok scenario.new) }
+        ensures fault { IfErr result (Says (with_file_if self scenario.old text.now)) }
+    {
+        match text {
+            Some(text) => return self.add_to(alloc, scenario, text),
+            None => return Ok(()),
+        }
     }
 }

@@ -66,6 +66,7 @@ not_given told before now file.Links asked rose = (doc.Links, refl, asked, rose)
 not_given told before now file.Demand asked rose = (doc.Demand, refl, asked, rose)
 not_given told before now file.Splits asked rose = (doc.Splits, refl, asked, rose)
 not_given told before now file.Signals asked rose = (doc.Signals, refl, asked, rose)
+not_given told before now file.Limits asked rose = (doc.Limits, refl, asked, rose)
 not_given told before now file.Whole asked rose = absurd rose
 
 pub case_missed : (told : Option Files) (editors : ℕ) (before now : Doc → ℕ) (f : CaseFault) → HasRisen before now f → IfSome told (λ files. WasAsked (asks_for files) f) → IsMissing (refusal.Case f) → Missed told editors before now

@@ -1,7 +1,7 @@
 -- The names and the places of the files.
 use Rattle.std.specs.Prelude.{ℕ, List, codes}
 use Rattle.ltm_io.specs.declared.doc.Doc.{Doc}
-use Rattle.ltm_io.specs.declared.doc.Doc.TheVariants.{Setup, Links, Demand, Splits, Signals, Curves, Edits1, Edits2, Edits3, Edits4, Edits5, Edits6, Edits7, Edits8}
+use Rattle.ltm_io.specs.declared.doc.Doc.TheVariants.{Setup, Links, Demand, Splits, Signals, Limits, Curves, Edits1, Edits2, Edits3, Edits4, Edits5, Edits6, Edits7, Edits8}
 
 -- the name under which a file stands in its folder
 abbrev pub name_of : Doc → List ℕ
@@ -10,6 +10,7 @@ name_of Links = codes "links.csv"
 name_of Demand = codes "demand.csv"
 name_of Splits = codes "splits.csv"
 name_of Signals = codes "signals.csv"
+name_of Limits = codes "limits.csv"
 name_of Curves = codes "curves.csv"
 name_of Edits1 = codes "edits1.jsonl"
 name_of Edits2 = codes "edits2.jsonl"
@@ -27,12 +28,13 @@ place_of Links = 1
 place_of Demand = 2
 place_of Splits = 3
 place_of Signals = 4
-place_of Curves = 5
-place_of Edits1 = 6
-place_of Edits2 = 7
-place_of Edits3 = 8
-place_of Edits4 = 9
-place_of Edits5 = 10
-place_of Edits6 = 11
-place_of Edits7 = 12
-place_of Edits8 = 13
+place_of Limits = 5
+place_of Curves = 6
+place_of Edits1 = 7
+place_of Edits2 = 8
+place_of Edits3 = 9
+place_of Edits4 = 10
+place_of Edits5 = 11
+place_of Edits6 = 12
+place_of Edits7 = 13
+place_of Edits8 = 14

@@ -3,9 +3,9 @@ ghost use Rattle.std.specs.Prelude.{◌≡◌, ◌<◌};
 ghost use Rattle.ltm_io.specs.Doc.{name_of, place_of};
 
 /// How many files there are.
-pub const DOC_COUNT: usize = 14;
+pub const DOC_COUNT: usize = 15;
 
-/// A file of a folder: one of the case, the signals, the curves, or one of eight lists of edits.
+/// A file of a folder: one of the case (signals and entry limits among them), the curves, or one of eight lists of edits.
 #[derive(Clone, Copy, Debug, PartialEq, Eq)]
 pub enum Doc {
     Setup,
@@ -13,6 +13,7 @@ pub enum Doc {
     Demand,
     Splits,
     Signals,
+    Limits,
     Curves,
     Edits1,
     Edits2,
@@ -35,6 +36,7 @@ impl Doc {
             Doc::Demand => "demand.csv",
             Doc::Splits => "splits.csv",
             Doc::Signals => "signals.csv",
+            Doc::Limits => "limits.csv",
             Doc::Curves => "curves.csv",
             Doc::Edits1 => "edits1.jsonl",
             Doc::Edits2 => "edits2.jsonl",
@@ -58,15 +60,16 @@ impl Doc {
             Doc::Demand => 2,
             Doc::Splits => 3,
             Doc::Signals => 4,
-            Doc::Curves => 5,
-            Doc::Edits1 => 6,
-            Doc::Edits2 => 7,
-            Doc::Edits3 => 8,
-            Doc::Edits4 => 9,
-            Doc::Edits5 => 10,
-            Doc::Edits6 => 11,
-            Doc::Edits7 => 12,
-            Doc::Edits8 => 13,
+            Doc::Limits => 5,
+            Doc::Curves => 6,
+            Doc::Edits1 => 7,
+            Doc::Edits2 => 8,
+            Doc::Edits3 => 9,
+            Doc::Edits4 => 10,
+            Doc::Edits5 => 11,
+            Doc::Edits6 => 12,
+            Doc::Edits7 => 13,
+            Doc::Edits8 => 14,
         }
     }
 }

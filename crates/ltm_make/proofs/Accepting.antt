@@ -55,7 +55,7 @@ pub batch_accepted : (s : ScenarioData) (nodes width j last : ℕ) → IsLaid no
     has_split s.splits (number s.network last) 0 ≡ true → length s.demand < 10000 → IsOk (edited_all s (two_edits j last))
 batch_accepted s nodes width j last h net l in_grid pos has few =
     let first : ScenarioData = with_limit_at s Entry j 5 15 1000 in
-    let laid : IsLaid nodes width (with_limit_at s Entry j 5 15 1000) = record { grid = h.grid; slots = h.slots; along = h.along; ends = h.ends } in
+    let laid : IsLaid nodes width (with_limit_at s Entry j 5 15 1000) = record { grid = h.grid; slots = h.slots; most_cells = h.most_cells; along = h.along; ends = h.ends } in
     let limit : limit_edited s Entry (name_of_link j) 5 15 1000 ≡ Ok (with_limit_at s Entry j 5 15 1000) =
     ap (λ (r : Result ℕ EditCause). r >>= λ link. Ok (with_limit_at s Entry link 5 15 1000)) (limited s nodes width j h net l) in
     let row = row_found (with_limit_at s Entry j 5 15 1000) nodes width last laid in_grid pos has in

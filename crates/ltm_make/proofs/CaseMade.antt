@@ -4,6 +4,7 @@ use Rattle.std.proofs.lemmas.Bool.{cases_lt}
 use Rattle.ltm_network.specs.Names.{place_of}
 use Rattle.ltm_network.specs.Network.{NetworkData}
 use Rattle.ltm_splits.specs.Rows.{SplitRow}
+use Rattle.ltm_scenario.specs.Setup.{default_cells}
 use Rattle.ltm_scenario.specs.Data.{ScenarioData}
 use Rattle.ltm_scenario.specs.Reads.{destination_node, has_split}
 use Rattle.ltm_scenario.specs.Valid.{IsValid}
@@ -36,21 +37,23 @@ one_width nodes v w a b =
 -- ---- links leave all else as it is
 pub record IsFresh (s : ScenarioData) : Type 0 where
   pub slots : s.setup.slots ≡ 60
+  pub most_cells : s.setup.most_cells ≡ default_cells
   pub destinations : s.destinations ≡ []
   pub splits : s.splits ≡ []
   pub demand : s.demand ≡ []
 
 roads_fresh : (m : Making) (list : List Road) → IsFresh m.scenario → IsFresh (with_roads m list).scenario
 roads_fresh m [] h = h
-roads_fresh m (r ∷ list) h = roads_fresh (with_road m r) list (record { slots = h.slots; destinations = h.destinations; splits = h.splits; demand = h.demand })
+roads_fresh m (r ∷ list) h = roads_fresh (with_road m r) list (record { slots = h.slots; most_cells = h.most_cells; destinations = h.destinations; splits = h.splits; demand = h.demand })
 
 pub grid_fresh : (start nodes width : ℕ) → IsFresh (with_grid nodes width (opened start)).scenario
-grid_fresh start nodes width = roads_fresh (opened start) (roads nodes width nodes) (record { slots = refl; destinations = refl; splits = refl; demand = refl })
+grid_fresh start nodes width = roads_fresh (opened start) (roads nodes width nodes) (record { slots = refl; most_cells = refl; destinations = refl; splits = refl; demand = refl })
 
 pub ends_laid : (start nodes width : ℕ) → IsGrid nodes width → IsLaid nodes width (with_ends width (with_grid nodes width (opened start))).scenario
 ends_laid start nodes width g = record {
   grid = g;
   slots = (grid_fresh start nodes width).slots;
+  most_cells = (grid_fresh start nodes width).most_cells;
   along = made_along (opened start) (roads nodes width nodes) refl;
   ends = refl;
 }
@@ -149,6 +152,7 @@ made_valid start nodes width g is =
     is_valid (made_from start nodes width).scenario is (record {
       two = ap length h.ends;
       slots = h.slots;
+      most_cells = h.most_cells;
       begun = subst Begun (sym (made_splits start nodes width)) (splits_begun nodes width nodes (ends_of start nodes width) (grid_fresh start nodes width).splits);
       covered = covered_at start nodes width g is;
     })

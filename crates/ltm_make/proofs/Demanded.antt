@@ -58,7 +58,7 @@ row_is_set s row within few =
 
 -- ---- what stays
 row_stays_laid : (nodes width k destination : ℕ) (m : Making) → IsLaid nodes width m.scenario → IsLaid nodes width (with_demand_row k destination m).scenario
-row_stays_laid nodes width k destination m h = record { grid = h.grid; slots = h.slots; along = h.along; ends = h.ends }
+row_stays_laid nodes width k destination m h = record { grid = h.grid; slots = h.slots; most_cells = h.most_cells; along = h.along; ends = h.ends }
 
 if_laid : (nodes width : ℕ) (b : Bool) (m next : Making) → IsLaid nodes width m.scenario → IsLaid nodes width next.scenario → IsLaid nodes width (cond b m next).scenario
 if_laid nodes width true m next h g = h

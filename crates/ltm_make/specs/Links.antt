@@ -3,6 +3,7 @@ use Rattle.std.specs.Prelude.{ℕ, ◌≡◌, ◌+◌, ◌*◌, ◌%◌, List, [
 use Rattle.ltm_diagram.specs.declared.diagram.Diagram.{Diagram}
 use Rattle.ltm_network.specs.Network.{NetworkData, linked as network_linked}
 use Rattle.ltm_scenario.specs.declared.setup.Setup.{Setup}
+use Rattle.ltm_scenario.specs.Setup.{setup_of}
 use Rattle.ltm_scenario.specs.Data.{ScenarioData, empty_scenario}
 use Rattle.ltm_scenario.specs.Build.{linked}
 use Rattle.ltm_make.specs.declared.grid.Road.{Road}
@@ -38,7 +39,7 @@ pub record TakesLinks (s : ScenarioData) : Type 0 where
 
 -- 60 slots of 10 seconds, and 32 vehicles a slot from an origin
 abbrev pub made_setup : Setup
-made_setup = record { step = record { 0 = 10000 }; slots = 60; origin_capacity = record { 0 = 32000 } }
+made_setup = setup_of (record { 0 = 10000 }) 60 (record { 0 = 32000 })
 
 -- nothing yet but the words of a number
 abbrev pub opened : ℕ → Making

@@ -5,6 +5,7 @@ use Rattle.rand_pcg.specs.Lcg.{Lcg}
 use Rattle.ltm_network.specs.Names.{place_of}
 use Rattle.ltm_network.specs.Network.{NetworkData, head_of, out_links, out_link}
 use Rattle.ltm_splits.specs.Rows.{key_of, put_in}
+use Rattle.ltm_scenario.specs.Setup.{default_cells}
 use Rattle.ltm_scenario.specs.Data.{ScenarioData}
 use Rattle.ltm_scenario.specs.Reads.{destination_node}
 use Rattle.ltm_make.specs.declared.branches.Branch.{Branch}
@@ -92,5 +93,6 @@ pub record IsGrid (nodes width : ℕ) : Type 0 where
 pub record IsLaid (nodes width : ℕ) (s : ScenarioData) : Type 0 where
   pub grid : IsGrid nodes width
   pub slots : s.setup.slots ≡ 60
+  pub most_cells : s.setup.most_cells ≡ default_cells
   pub along : IsAlong s.network (roads nodes width nodes)
   pub ends : s.destinations ≡ number s.network 0 ∷ number s.network (width - 1) ∷ []

@@ -58,12 +58,7 @@ impl From<NoMemory> for MakeFault {
 fn open(alloc: Global, start: u64) -> Making
     ensures { result ≡ opened start }
 {
-    let setup = Setup {
-        step: Millis(10_000),
-        slots: 60,
-        origin_capacity: Units(32_000),
-    };
-    match Scenario::create(alloc, setup) {
+    match Scenario::create(alloc, Setup::of(Millis(10_000), 60, Units(32_000))) {
         Ok(scenario) => Making {
             scenario,
             words: generator(start),

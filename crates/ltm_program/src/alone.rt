@@ -59,7 +59,7 @@ fn do_alone<F: OpenFolder, S: Source, W: Sink>(
 ///   or why not.
 ///
 /// Everything is decided in this order: the words, the fetches, what the files say, the script line by line, the writing.
-/// `signals.csv` alone is fetched once the setup was read, and only where the setup asks for it.
+/// `signals.csv` and `limits.csv` alone are fetched once the setup was read, each only where the setup asks for it.
 pub fn run_alone<F: OpenFolder, S: Source, W: Sink>(
     alloc: Global,
     words: &[String],

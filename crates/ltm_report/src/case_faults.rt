@@ -18,6 +18,7 @@ fn word_of_file(file: File) -> &'static [u8]
         File::Demand => b"demand",
         File::Splits => b"splits",
         File::Signals => b"signals",
+        File::Limits => b"limits",
         File::Whole => b"whole",
     }
 }

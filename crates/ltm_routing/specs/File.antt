@@ -45,15 +45,16 @@ pub record IsTimesOf (roads : ScenarioData) (text : List ℕ) : Type 0 where
   pub least : AreAllRoutes roads routes
   pub text_is : text ≡ routes_text lines.Times roads routes
 
--- the `splits.csv` of what a folder tells of roads and demand; where the setup asks for no signals, the files with this text
--- are that valid case
+-- the `splits.csv` of what a folder tells of roads and demand; where the setup asks for neither signals nor limits, the files
+-- with this text are that valid case
 pub record IsSplitsFile (told : Option Files) (text : List ℕ) : Type 0 where
   pub roads : ScenarioData
   pub split : ScenarioData
   pub said : IfSome told (λ files. unsplit_case_of files ≡ Ok roads)
   pub scenario : IsScenario roads
   pub splits : IsSplitsOf roads split text
-  pub whole_case : IfSome told (λ files. asks_for (with_splits_file files text) doc.Signals ≡ false → case_of (with_splits_file files text) ≡ Ok split)
+  pub whole_case : IfSome told (λ files. asks_for (with_splits_file files text) doc.Signals ≡ false → asks_for (with_splits_file files text) doc.Limits ≡ false
+      → case_of (with_splits_file files text) ≡ Ok split)
 
 -- the least times of what a folder tells of roads and demand
 pub record IsTimesFile (told : Option Files) (text : List ℕ) : Type 0 where

@@ -75,8 +75,8 @@ fn text_over(alloc: Global, lines: RouteLines, roads: Scenario) -> Result<Vec<u8
 /// destination with a route, in order of destination, then of node, the record of its split row or the time of its routes.
 ///
 /// The first fault is told: of the three files as `read_roads` has it; then more than 50,000 route splits; then the first
-/// rule of a valid case that is broken once they are set, with row 0 of the whole case. The setup may ask for signals; they
-/// are not fetched.
+/// rule of a valid case that is broken once they are set, with row 0 of the whole case. The setup may ask for signals
+/// and for entry limits; neither is fetched.
 pub fn route_text<F: Folder>(
     alloc: Global,
     lines: RouteLines,

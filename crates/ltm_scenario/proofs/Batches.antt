@@ -20,7 +20,7 @@ Keeps old new = SameShape old new × (IsValid old → IsValid new)
 alike : (s next : ScenarioData) → next.setup ≡ s.setup → next.network ≡ s.network → next.destinations ≡ s.destinations → SameShape s next
 alike s next setup network destinations =
     let slots : next.setup.slots ≡ s.setup.slots = ap (λ (z : Setup). z.slots) setup in
-    record { step = ap (λ (z : Setup). z.step) setup; slots = omega (arith, slots); origin_capacity = ap (λ (z : Setup). z.origin_capacity) setup; network = network; destinations = destinations }
+    record { step = ap (λ (z : Setup). z.step) setup; slots = omega (arith, slots); origin_capacity = ap (λ (z : Setup). z.origin_capacity) setup; most_cells = ap (λ (z : Setup). z.most_cells) setup; network = network; destinations = destinations }
 
 pub shape_stays : (s : ScenarioData) → SameShape s s
 shape_stays s = alike s s refl refl refl
@@ -30,6 +30,7 @@ shape_through a b c p q = record {
   step = q.step ∙ p.step;
   slots = omega (arith, p.slots, q.slots);
   origin_capacity = q.origin_capacity ∙ p.origin_capacity;
+  most_cells = q.most_cells ∙ p.most_cells;
   network = q.network ∙ p.network;
   destinations = q.destinations ∙ p.destinations;
 }
@@ -48,7 +49,7 @@ kept_by_edit s next edit (diagram name new link named sets) =
 kept_by_edit s next edit (exit name from to amount link said) =
     (alike s next refl refl refl, λ valid. exit_kept s (with_limit_at s Exit link from to amount.0).exit valid)
 kept_by_edit s next edit (horizon slots said) =
-    (record { step = refl; slots = omega (arith, said.longer); origin_capacity = refl; network = refl; destinations = refl }, λ valid. horizon_kept s slots valid said.small)
+    (record { step = refl; slots = omega (arith, said.longer); origin_capacity = refl; most_cells = refl; network = refl; destinations = refl }, λ valid. horizon_kept s slots valid said.small)
 
 -- ---- a batch
 pub placed : {A : Type 0} (place : ℕ) (r : Result A EditCause) (x : A) → at_place place r ≡ Ok x → r ≡ Ok x

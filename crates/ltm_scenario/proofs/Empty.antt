@@ -10,7 +10,7 @@ use Rattle.ltm_demand.specs.Kept.{AreDemandRows}
 use Rattle.ltm_splits.specs.Weights.{AreWeights}
 use Rattle.ltm_scenario.specs.declared.setup.Setup.{Setup}
 use Rattle.ltm_scenario.specs.declared.setup.SetupFault.{SetupFault}
-use Rattle.ltm_scenario.specs.declared.setup.SetupFault.TheVariants.{Range}
+use Rattle.ltm_scenario.specs.declared.setup.SetupFault.TheVariants.{Range, MostCells}
 use Rattle.ltm_scenario.specs.Setup.{IsSetup, setup_checked, is_between}
 use Rattle.ltm_scenario.specs.Data.{empty_scenario}
 use Rattle.ltm_scenario.specs.IsScenario.{IsScenario, IsDemandOf, IsSplitOf}
@@ -28,10 +28,12 @@ is_setup setup is =
     let a = chosen (is_between 1 60000 setup.step.0) _ (Range 1) is in
     let b = chosen (is_between 1 10000 setup.slots) _ (Range 2) a.1 in
     let c = chosen (is_between 1 32000 setup.origin_capacity.0) _ (Range 3) b.1 in
+    let d = chosen (is_between 1 2000000000 setup.most_cells) _ MostCells c.1 in
     let step = between 1 60000 setup.step.0 a.0 in
     let slots = between 1 10000 setup.slots b.0 in
     let capacity = between 1 32000 setup.origin_capacity.0 c.0 in
-    record { step_least = step.0; step_most = step.1; slots_least = slots.0; slots_most = slots.1; capacity_least = capacity.0; capacity_most = capacity.1 }
+    let cells = between 1 2000000000 setup.most_cells d.0 in
+    record { step_least = step.0; step_most = step.1; slots_least = slots.0; slots_most = slots.1; capacity_least = capacity.0; capacity_most = capacity.1; cells_least = cells.0; cells_most = cells.1 }
 
 no_rows : (slots : ℕ) → AreDemandRows slots []
 unfolding IsStrictlySortedBy

@@ -33,7 +33,7 @@ rows_within slots more rows longer are = record {
 
 pub longer_is_scenario : (s : ScenarioData) (slots : ℕ) → IsScenario s → s.setup.slots ≤ slots → slots ≤ 10000 → IsScenario (with_slots s slots)
 longer_is_scenario s slots is longer most = record {
-  setup = record { step_least = is.setup.step_least; step_most = is.setup.step_most; slots_least = omega (arith, is.setup.slots_least, longer); slots_most = most; capacity_least = is.setup.capacity_least; capacity_most = is.setup.capacity_most };
+  setup = record { step_least = is.setup.step_least; step_most = is.setup.step_most; slots_least = omega (arith, is.setup.slots_least, longer); slots_most = most; capacity_least = is.setup.capacity_least; capacity_most = is.setup.capacity_most; cells_least = is.setup.cells_least; cells_most = is.setup.cells_most };
   network = is.network;
   diagram_for_each = is.diagram_for_each;
   limits = is.limits;

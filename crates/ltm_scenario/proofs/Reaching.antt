@@ -44,4 +44,4 @@ batch_reaches place s next edits is valid scenario =
     let shape = batch_keeps_shape place s next edits is in
     let small = (batch_keeps_valid place s next edits is valid).small in
     subst (MayReach s) (batch_sets_horizon place s next edits is)
-    (record { longer = shape.slots; most = scenario.setup.slots_most; small = subst (λ n. n ≤ most_cells s) (cells_there s next shape) (few (cells next) (most_cells next) small) })
+    (record { longer = shape.slots; most = scenario.setup.slots_most; small = subst (λ n. n ≤ most_cells s) (cells_there s next shape) (subst (λ n. cells next ≤ n) shape.most_cells (few (cells next) (most_cells next) small)) })

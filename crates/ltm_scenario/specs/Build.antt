@@ -91,8 +91,11 @@ with_limits_at s Exit limits = record s { exit = limits }
 abbrev pub with_limit_at : ScenarioData → Side → ℕ → ℕ → ℕ → ℕ → ScenarioData
 with_limit_at s side link from to amount = with_limits_at s side (with_limit (limits_at s side) link from to (as_limit amount))
 
+abbrev pub with_limit_set : ScenarioData → Side → ℕ → ℕ → ℕ → ℕ → Result ScenarioData DemandFault
+with_limit_set s side link from to amount = if are_slots s from to then Ok (with_limit_at s side link from to amount) else Err BadSlots
+
 abbrev pub with_exit : ScenarioData → ℕ → ℕ → ℕ → ℕ → Result ScenarioData DemandFault
-with_exit s link from to amount = if are_slots s from to then Ok (with_limit_at s Exit link from to amount) else Err BadSlots
+with_exit s link from to amount = with_limit_set s Exit link from to amount
 
 -- no split row stands at the node
 abbrev pub HasNoSplitAt : ScenarioData → ℕ → Type 0

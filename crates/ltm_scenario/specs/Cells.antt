@@ -38,4 +38,4 @@ cells s = cells_with s s.setup.slots
 
 -- the most cells that the case may have
 abbrev pub most_cells : ScenarioData → ℕ
-most_cells s = 54000000
+most_cells s = s.setup.most_cells

@@ -8,7 +8,7 @@ use Rattle.ltm_demand.specs.Rows.{DemandData}
 use Rattle.ltm_splits.specs.Rows.{SplitRow, SplitsData}
 
 pub record ScenarioData : Type 0 where
-  -- the step, the slots of the horizon, the most that leaves an origin in a slot
+  -- the step, the slots of the horizon, the most that leaves an origin in a slot, the most cells
   pub setup : Setup
   -- nodes by name in order of first being named; links in order of adding, each with its name and its ends
   pub network : NetworkData

@@ -51,7 +51,7 @@ impl From<NoMemory> for DestinationFault {
 pub enum HorizonFault {
     /// The slots are no more than there are, or more than 10,000.
     BadSlots,
-    /// The cells would be more than 54,000,000; this many.
+    /// The cells would be more than the case may have; this many.
     CellsOver(u128),
     /// Memory was not found. `Scenario::lengthen` takes none, so it never comes from there.
     NoMemory,
@@ -62,6 +62,6 @@ pub enum HorizonFault {
 pub enum ScenarioFault {
     /// The node and the destination lack the split row that a rule asks for: any at all, or one from slot 0 on.
     NoSplit { node: Name, destination: Name },
-    /// The cells are more than 54,000,000; this many.
+    /// The cells are more than the case may have; this many.
     CellsOver(u128),
 }

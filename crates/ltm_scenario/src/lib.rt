@@ -28,5 +28,6 @@ pub use faults::{DestinationFault, HorizonFault, LinkFault, ScenarioFault};
 pub use laws::edits_make;
 pub use same::{same_batch, same_edit};
 pub use scenario::Scenario;
-pub use setup::{Setup, SetupFault};
+pub use setup::{MOST_CELLS, Setup, SetupFault};
+pub use side::Side;
 pub use weights::Weights;

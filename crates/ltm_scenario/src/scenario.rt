@@ -141,7 +141,7 @@ impl Scenario {
         }
     }
 
-    /// The step, the slots and the capacity of origins.
+    /// The step, the slots, the capacity of origins and the most cells.
     pub fn setup(&self) -> &Setup
         ensures setup { result.now ≡ self.now.setup }
         ensures scenario { IsScenario self.now }

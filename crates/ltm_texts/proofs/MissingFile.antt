@@ -24,6 +24,7 @@ failed told before now file.Links asked rose = (doc.Links, refl, asked, rose)
 failed told before now file.Demand asked rose = (doc.Demand, refl, asked, rose)
 failed told before now file.Splits asked rose = (doc.Splits, refl, asked, rose)
 failed told before now file.Signals asked rose = (doc.Signals, refl, asked, rose)
+failed told before now file.Limits asked rose = (doc.Limits, refl, asked, rose)
 failed told before now file.Whole asked rose = absurd rose
 
 -- the same of the roads and the demand
@@ -40,6 +41,7 @@ roads_failed told before now file.Links asked rose = of_roads told before now do
 roads_failed told before now file.Demand asked rose = of_roads told before now doc.Demand asked rose
 roads_failed told before now file.Splits asked rose = of_roads told before now doc.Splits asked rose
 roads_failed told before now file.Signals asked rose = of_roads told before now doc.Signals asked rose
+roads_failed told before now file.Limits asked rose = of_roads told before now doc.Limits asked rose
 roads_failed told before now file.Whole asked rose = absurd rose
 
 pub routes_failed : (told : Option Files) (before now : Doc → ℕ) (f : File) → WasAsked is_of_roads (fault.Folder f) → HasRisen before now (fault.Folder f) → FileFailed command.Routes told before now

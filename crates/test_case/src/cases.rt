@@ -70,11 +70,7 @@ pub fn setup_of(case: Case) -> Setup {
         Case::Corridor(slots) => slots,
         Case::UnsplitRoad | Case::ClosedCopy | Case::ThreeLinks => 4,
     };
-    Setup {
-        step: Millis(1000),
-        slots,
-        origin_capacity: Units(1000),
-    }
+    Setup::of(Millis(1000), slots, Units(1000))
 }
 
 /// Whether a link may start at the node of that name.

@@ -2,7 +2,7 @@
 use crate::folders::{Base, Put, fill, folder_of};
 use ltm_casefile::{CaseFault, read_case};
 use ltm_io::{Doc, MemFolder};
-use ltm_scenario::Scenario;
+use ltm_scenario::{Scenario, Side};
 use ltm_units::{LinkId, NoMemory, NodeId};
 use std::alloc::Global;
 use std::process::Abort;
@@ -27,6 +27,8 @@ pub struct Read {
     pub last_weight: Option<u32>,
     /// The exit limit of the first link in the first five slots, in thousandths.
     pub exits: [Option<u64>; 5],
+    /// Its entry limit likewise.
+    pub entries: [Option<u64>; 5],
 }
 
 fn ends(nodes: &[NodeId]) -> [Option<u32>; 2] {
@@ -55,20 +57,23 @@ fn last_weight(scenario: &Scenario) -> Option<u32> {
     weights.first().copied()
 }
 
-/// The exit limit of the first link, in a slot of the horizon.
-fn exit_limit(scenario: &Scenario, slot: u32) -> Option<u64> {
+/// A limit of the first link, in a slot of the horizon.
+fn limit(scenario: &Scenario, side: Side, slot: u32) -> Option<u64> {
     if scenario.network().links() == 0 || slot >= scenario.setup().slots {
         return None;
     }
-    Some(scenario.exit_limit(LinkId(0), slot).0)
+    match side {
+        Side::Entry => Some(scenario.entry_limit(LinkId(0), slot).0),
+        Side::Exit => Some(scenario.exit_limit(LinkId(0), slot).0),
+    }
 }
 
-fn exits(scenario: &Scenario) -> [Option<u64>; 5] {
-    let mut exits = [None; 5];
+fn limits(scenario: &Scenario, side: Side) -> [Option<u64>; 5] {
+    let mut limits = [None; 5];
     for slot in 0..5u32 {
-        exits[slot as usize] = exit_limit(scenario, slot);
+        limits[slot as usize] = limit(scenario, side, slot);
     }
-    exits
+    limits
 }
 
 fn look(scenario: &Scenario) -> Read {
@@ -83,7 +88,8 @@ fn look(scenario: &Scenario) -> Read {
         split_rows: scenario.splits().row_count(),
         weights: weights(scenario),
         last_weight: last_weight(scenario),
-        exits: exits(scenario),
+        exits: limits(scenario, Side::Exit),
+        entries: limits(scenario, Side::Entry),
     }
 }
 

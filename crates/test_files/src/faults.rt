@@ -113,7 +113,7 @@ fn headers_name_all_fields(rt: HostRuntime) {
     expect(&rt, rt.alloc(), HEADERS);
 }
 
-const SIGNALLED: Base = Base::Signals("1000,4,1,1\n");
+const SIGNALLED: Base = Base::Setup("step_ms,slots,origin_capacity,signals\n1000,4,1,1\n");
 
 const SIGNALS: &[(Base, Put, &str)] = &[
     (SIGNALLED, Put::Nothing, "no Signals"),
@@ -144,12 +144,12 @@ const SIGNALS: &[(Base, Put, &str)] = &[
     ),
     (SIGNALLED, Put::Rows(Doc::Signals, "a,0,4,1\n"), "good"),
     (
-        Base::Signals("1000,4,1,0\n"),
+        Base::Setup("step_ms,slots,origin_capacity,signals\n1000,4,1,0\n"),
         Put::Text(Doc::Signals, "no signals"),
         "good",
     ),
     (
-        Base::Signals("1000,4,1,2\n"),
+        Base::Setup("step_ms,slots,origin_capacity,signals\n1000,4,1,2\n"),
         Put::Nothing,
         "Setup 2 Range(4)",
     ),
@@ -158,6 +158,91 @@ const SIGNALS: &[(Base, Put, &str)] = &[
 #[test]
 fn signals_are_read_where_the_setup_asks(rt: HostRuntime) {
     expect(&rt, rt.alloc(), SIGNALS);
+}
+
+// The one road has 102 cells.
+const COLUMNS: &[(Base, Put, &str)] = &[
+    (
+        Base::Setup("step_ms,slots,origin_capacity,signals,limits,cells\n0,0,0,2,2,x\n"),
+        Put::Nothing,
+        "Setup 2 Field(6)",
+    ),
+    (
+        Base::Setup("step_ms,slots,origin_capacity,signals,limits,cells\n1000,4,1,2,2,0\n"),
+        Put::Nothing,
+        "Setup 2 Range(4)",
+    ),
+    (
+        Base::Setup("step_ms,slots,origin_capacity,signals,limits,cells\n1000,4,1,0,2,0\n"),
+        Put::Nothing,
+        "Setup 2 Range(5)",
+    ),
+    (
+        Base::Setup("step_ms,slots,origin_capacity,signals,cells\n1000,4,1,0,0\n"),
+        Put::Nothing,
+        "Setup 2 Range(5)",
+    ),
+    (
+        Base::Setup("step_ms,slots,origin_capacity,limits,cells\n1000,4,0,2,0\n"),
+        Put::Nothing,
+        "Setup 2 Range(3)",
+    ),
+    (
+        Base::Setup("step_ms,slots,origin_capacity,cells\n1000,4,1,2000000001\n"),
+        Put::Nothing,
+        "Setup 2 Range(4)",
+    ),
+    (
+        Base::Setup("step_ms,slots,origin_capacity,limits\n1000,4,1\n"),
+        Put::Nothing,
+        "Setup 2 Width",
+    ),
+    (
+        Base::Setup("step_ms,slots,origin_capacity,limits,signals\n1000,4,1,0,0\n"),
+        Put::Nothing,
+        "Setup 1 Header",
+    ),
+    (
+        Base::Setup("step_ms,slots,origin_capacity,cells\n1000,4,1,101\n"),
+        Put::Nothing,
+        "Whole 0 CellsOver(102)",
+    ),
+    (
+        Base::Setup("step_ms,slots,origin_capacity,signals,limits,cells\n1000,4,1,0,0,102\n"),
+        Put::Nothing,
+        "good",
+    ),
+];
+
+#[test]
+fn columns_follow_in_one_order(rt: HostRuntime) {
+    expect(&rt, rt.alloc(), COLUMNS);
+}
+
+const LIMITED: Base = Base::Setup("step_ms,slots,origin_capacity,signals,limits\n1000,4,1,0,1\n");
+
+const LIMITS: &[(Base, Put, &str)] = &[
+    (LIMITED, Put::Nothing, "no Limits"),
+    (
+        LIMITED,
+        Put::Text(Doc::Limits, "no limits"),
+        "Limits 1 Header",
+    ),
+    (
+        LIMITED,
+        Put::Rows(Doc::Limits, "a,0,5,1\n"),
+        "Limits 2 BadSlots",
+    ),
+    (
+        Base::Setup("step_ms,slots,origin_capacity,signals,limits\n1000,4,1,1,1\n"),
+        Put::Rows(Doc::Limits, "z,0,4,1\n"),
+        "no Signals",
+    ),
+];
+
+#[test]
+fn limits_are_read_where_the_setup_asks(rt: HostRuntime) {
+    expect(&rt, rt.alloc(), LIMITS);
 }
 
 const FETCHED: &[(Base, Put, &str)] = &[

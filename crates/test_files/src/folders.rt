@@ -12,7 +12,8 @@ pub const DEMAND: &str = "origin,destination,from_slot,to_slot,vehicles\n";
 
 pub const SPLITS: &str = "node,destination,from_slot,weights\n";
 
-const SIGNALS: &str = "link,from_slot,to_slot,vehicles\n";
+/// Of signals and of entry limits.
+const SIDE_LIMITS: &str = "link,from_slot,to_slot,vehicles\n";
 
 /// What a folder holds at first.
 #[derive(Clone, Copy)]
@@ -21,8 +22,8 @@ pub enum Base {
     Empty,
     /// One road `a` from `n1` to `n2`, and one vehicle.
     OneRoad,
-    /// The same, with a setup whose header has the field of the signals, and this record.
-    Signals(&'static str),
+    /// The same, with this setup.
+    Setup(&'static str),
     /// ```text
     ///              n2
     ///         a  ↗    ↘  b
@@ -58,7 +59,7 @@ fn header(doc: Doc) -> &'static str {
         Doc::Links => LINKS,
         Doc::Demand => DEMAND,
         Doc::Splits => SPLITS,
-        _ => SIGNALS,
+        _ => SIDE_LIMITS,
     }
 }
 
@@ -71,11 +72,6 @@ fn road_with(alloc: Global, setup: &str) -> Result<MemFolder, NoMemory> {
         "origin,destination,from_slot,to_slot,vehicles\nn1,n2,0,2,1\n",
         "node,destination,from_slot,weights\nn1,n2,0,a=1\n",
     )
-}
-
-fn with_signals(alloc: Global, row: &str) -> Result<MemFolder, NoMemory> {
-    let setup = format!(in alloc; "step_ms,slots,origin_capacity,signals\n{row}")?;
-    road_with(alloc, &setup)
 }
 
 fn three_roads(alloc: Global) -> Result<MemFolder, NoMemory> {
@@ -94,7 +90,7 @@ pub fn folder_of(alloc: Global, base: Base) -> Result<MemFolder, NoMemory> {
     match base {
         Base::Empty => MemFolder::create(alloc, &[]),
         Base::OneRoad => road_with(alloc, "step_ms,slots,origin_capacity\n1000,4,1\n"),
-        Base::Signals(row) => with_signals(alloc, row),
+        Base::Setup(setup) => road_with(alloc, setup),
         Base::ThreeRoads => three_roads(alloc),
         Base::ManyLinks => many_links(alloc),
         Base::ManyDemands => many_demands(alloc),

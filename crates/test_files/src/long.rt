@@ -86,6 +86,7 @@ const LINKS_READ: Read = Read {
     weights: [None; 3],
     last_weight: None,
     exits: FOUR_SLOTS,
+    entries: FOUR_SLOTS,
 };
 
 #[test]
@@ -105,6 +106,7 @@ const DEMANDS_READ: Read = Read {
     weights: [Some(1), None, None],
     last_weight: None,
     exits: MORE_SLOTS,
+    entries: MORE_SLOTS,
 };
 
 // The records that stay ask for 69,900 to 69,999 vehicles.
@@ -131,6 +133,7 @@ const SPLITS_READ: Read = Read {
     weights: [Some(1), None, None],
     last_weight: Some(10_000),
     exits: MORE_SLOTS,
+    entries: MORE_SLOTS,
 };
 
 #[test]

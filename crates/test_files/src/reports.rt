@@ -159,6 +159,12 @@ fn refuses_cases(rt: HostRuntime) {
             "bad case signals row 2 Unknown 1\n",
         ),
         (
+            File::Limits,
+            3,
+            CaseCause::BadSlots,
+            "bad case limits row 3 BadSlots\n",
+        ),
+        (
             File::Links,
             3,
             CaseCause::Network(NetworkFault::TwiceNamed),

@@ -65,11 +65,7 @@ fn add_split(
 
 // A links to B, which links to C; of 600 units that start at B within three slots for C, 200 start in each.
 fn corridor(rt: &impl Abort, alloc: Global) -> Scenario {
-    let setup = Setup {
-        step: Millis(1000),
-        slots: 3,
-        origin_capacity: Units(500),
-    };
+    let setup = Setup::of(Millis(1000), 3, Units(500));
     let Ok(mut scenario) = Scenario::create(alloc, setup) else {
         panic!(rt; "no scenario");
     };

@@ -37,11 +37,7 @@ fn add_links(rt: &impl Abort, scenario: &mut Scenario)
 
 // The two links over 12 slots of 1000 ms.
 fn corridor(rt: &impl Abort, alloc: Global) -> Option<Scenario> {
-    let setup = Setup {
-        step: Millis(1000),
-        slots: 12,
-        origin_capacity: Units(1000),
-    };
+    let setup = Setup::of(Millis(1000), 12, Units(1000));
     let mut scenario = Scenario::create(alloc, setup).ok()?;
     add_links(rt, &mut scenario);
     Some(scenario)

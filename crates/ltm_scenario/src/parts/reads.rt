@@ -126,11 +126,11 @@ impl Parts {
             && self.all_lead_on(destination, other_links, other_weights)
     }
 
-    /// The most cells that the case may have: the same for every case.
+    /// The most cells that the case may have.
     pub fn most_cells(&self) -> u128
         ensures { result ≡ most_cells (scenario_in self.now) }
     {
-        54_000_000
+        u128::from(self.setup.most_cells)
     }
 
     /// How many it would have over that many slots.

@@ -1,15 +1,16 @@
-//! What builds a scenario up: links, destinations, rows, and exit limits.
+//! What builds a scenario up: links, destinations, rows, entry and exit limits.
 ghost use Rattle.std.specs.Prelude.{◌≡◌, ◌≢◌, ℕ, ◌<◌, ◌≤◌, length, Ok, Err, OnOk, OnErr, IfOk, IfErr};
 ghost use Rattle.ltm_diagram.specs.Limits.{limits_of};
 ghost use Rattle.ltm_network.specs.Network.{checked, linked as linked_network};
 ghost use Rattle.ltm_network.specs.Names.{number_of};
 ghost use Rattle.ltm_splits.specs.Rows.{key_of};
 ghost use Rattle.ltm_scenario.specs.Reads.{destination_of};
-ghost use Rattle.ltm_scenario.specs.Build.{with_link, linked, with_destination, with_demand, with_split, with_exit, HasNoSplitAt};
+ghost use Rattle.ltm_scenario.specs.Build.{with_link, linked, with_destination, with_demand, with_split, with_limit_set, with_exit, HasNoSplitAt};
 ghost use Rattle.ltm_scenario.specs.IsScenario.{IsDemandOf, IsSplitOf};
 
 use crate::faults::{DestinationFault, LinkFault};
 use crate::scenario::Scenario;
+use crate::side::Side;
 use ltm_demand::{DemandFault, DemandRow};
 use ltm_diagram::{Diagram, Limits};
 use ltm_network::networks_stay_networks;
@@ -140,8 +141,31 @@ impl Scenario {
         }
     }
 
+    /// Sets the limit at a side of a link for the slots `from` to `to - 1`: the amount, at most 32 vehicles.
+    pub fn set_limit(
+        &mut self,
+        side: Side,
+        link: LinkId,
+        from: u32,
+        to: u32,
+        amount: Units,
+    ) -> Result<(), DemandFault>
+        requires { link.0 < length self.old.network.links }
+        ensures ok { OnOk result (with_limit_set self.old side link.0 from to amount.0 ≡ Ok self.new) }
+        ensures err { OnErr result (self.new ≡ self.old) }
+        ensures cause { IfErr result (λ e. e ≢ DemandFault.NoMemory
+            → with_limit_set self.old side link.0 from to amount.0 ≡ Err e) }
+    {
+        if !self.parts.are_slots(from, to) {
+            return Err(DemandFault::BadSlots);
+        }
+        match self.parts.change_limit(side, link.0, from, to, amount) {
+            Ok(_) => return Ok(()),
+            Err(_) => return Err(DemandFault::NoMemory),
+        }
+    }
+
     /// Sets the exit limit of a link for the slots `from` to `to - 1`: the amount, at most 32 vehicles.
-    #[tactic(auto, using(crate::proofs::Kept::exit_is_scenario))]
     pub fn set_exit(
         &mut self,
         link: LinkId,
@@ -155,16 +179,6 @@ impl Scenario {
         ensures cause { IfErr result (λ e. e ≢ DemandFault.NoMemory
             → with_exit self.old link.0 from to amount.0 ≡ Err e) }
     {
-        if from >= to || to > self.parts.setup.slots {
-            return Err(DemandFault::BadSlots);
-        }
-        match self
-            .parts
-            .exit
-            .set(link.0, from, to, amount.0.min(32_000) as u16)
-        {
-            Ok(_) => return Ok(()),
-            Err(_) => return Err(DemandFault::NoMemory),
-        }
+        self.set_limit(Side::Exit, link, from, to, amount)
     }
 }
