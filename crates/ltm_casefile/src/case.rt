@@ -100,28 +100,33 @@ fn build(alloc: Global, parts: Parts) -> Result<Scenario, CaseFault>
 /// Each file is fetched once, and its records are read up to its first fault.
 #[tactic(auto, using(crate::proofs::Memory::built_said))]
 pub fn read_case<F: Folder>(alloc: Global, folder: &mut F) -> Result<Scenario, CaseFault>
-    ensures ok { IfOk result (λ scenario. IfSome (F.told folder.old) (λ files. case_of files ≡ Ok scenario)) }
+    ensures ok { IfOk result (λ scenario. IfSome (F.told folder.old) (λ files. case_of files
+        ≡ Ok scenario)) }
     ensures valid { IfOk result IsValid }
 
     // Too long a file and a bad case are told as they are.
-    ensures fault { IfErr result (λ e. IfSome (F.told folder.old) (λ files. Agrees (case_of files) e)) }
+    ensures fault { IfErr result (λ e. IfSome (F.told folder.old)
+        (λ files. Agrees (case_of files) e)) }
 
     // Nor is want of memory ever told as a bad case.
     ensures memory { IfErr result HidesNoMemory }
 
     // A file is not given only where its count of faults rose in this call, and the case has such a file.
     ensures risen { IfErr result (HasRisen (F.faults folder.old) (F.faults folder.new)) }
-    ensures asked { IfErr result (λ e. IfSome (F.told folder.old) (λ files. WasAsked (asks_for files) e)) }
+    ensures asked { IfErr result (λ e. IfSome (F.told folder.old)
+        (λ files. WasAsked (asks_for files) e)) }
 
     ensures keeps { F.told folder.new ≡ F.told folder.old }
     ensures later { (d : Doc) → F.faults folder.old d ≤ F.faults folder.new d }
-    ensures others { (d : Doc) → is_case_file d ≡ false → F.faults folder.new d ≡ F.faults folder.old d }
+    ensures others { (d : Doc) → is_case_file d ≡ false
+        → F.faults folder.new d ≡ F.faults folder.old d }
     ensures unasked { IfSome (F.told folder.old) (λ files.
         (d : Doc) → asks_for files d ≡ false → F.faults folder.new d ≡ F.faults folder.old d) }
 
     // Where no count rose of a file that the case has, the answer is the one of the files, or memory was not found.
     ensures complete { (files : Files) → F.told folder.old ≡ Some files
-        → ((d : Doc) → asks_for files d ≡ true → Rose (F.faults folder.old d) (F.faults folder.new d) → ⊥)
+        → ((d : Doc) → asks_for files d ≡ true
+        → Rose (F.faults folder.old d) (F.faults folder.new d) → ⊥)
         → (result ≡ case_of files) ⊎ (result ≡ Err CaseFault.NoMemory) }
 {
     match fetch_parts(alloc, folder) {

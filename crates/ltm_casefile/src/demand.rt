@@ -96,7 +96,8 @@ fn find_ends(scenario: &Scenario, row: &DemandRecord) -> Result<(NodeId, NodeId)
 pub fn add_destination(scenario: &mut Scenario, node: NodeId) -> Result<u32, StepFault>
     requires { node.0 < length scenario.old.network.nodes }
     ensures ok { OnOk result (with_destination scenario.old node.0 ≡ Ok scenario.new) }
-    ensures cause { IfErr result (Tells (taken (with_destination scenario.old node.0) TooManyDestinations)) }
+    ensures cause { IfErr result (Tells (taken
+        (with_destination scenario.old node.0) TooManyDestinations)) }
     ensures place { IfOk result (λ place. place_of scenario.new node.0 ≡ place) }
     ensures there { IfOk result (λ place. place < length scenario.new.destinations) }
     ensures node { IfOk result (λ place. destination_node scenario.new place ≡ node.0) }

@@ -153,9 +153,12 @@ fn fetch<F: Folder>(alloc: Global, folder: &mut F, file: File) -> Result<FileTex
     requires { IsSome (doc_of file) }
     ensures keeps { F.told folder.new ≡ F.told folder.old }
     ensures later { (d : Doc) → F.faults folder.old d ≤ F.faults folder.new d }
-    ensures others { (d : Doc) → (doc_of file ≡ Some d → ⊥) → F.faults folder.new d ≡ F.faults folder.old d }
-    ensures ok { IfOk result (λ v. IfSome (F.told folder.old) (λ files. text_of files file ≡ Ok v)) }
-    ensures fault { IfErr result (λ e. IfSome (F.told folder.old) (λ files. Agrees (text_of files file) e)) }
+    ensures others { (d : Doc) → (doc_of file ≡ Some d → ⊥)
+        → F.faults folder.new d ≡ F.faults folder.old d }
+    ensures ok { IfOk result (λ v. IfSome (F.told folder.old) (λ files. text_of files file
+        ≡ Ok v)) }
+    ensures fault { IfErr result (λ e. IfSome (F.told folder.old)
+        (λ files. Agrees (text_of files file) e)) }
     ensures risen { IfErr result (HasRisen (F.faults folder.old) (F.faults folder.new)) }
     ensures given { (f : File) → result ≡ Err (CaseFault.Folder f) → f ≡ file }
     ensures memory { IfErr result HidesNoMemory }
@@ -177,9 +180,12 @@ fn fetch<F: Folder>(alloc: Global, folder: &mut F, file: File) -> Result<FileTex
 pub fn fetch_road_texts<F: Folder>(alloc: Global, folder: &mut F) -> Result<RoadTexts, CaseFault>
     ensures keeps { F.told folder.new ≡ F.told folder.old }
     ensures later { (d : Doc) → F.faults folder.old d ≤ F.faults folder.new d }
-    ensures others { (d : Doc) → is_of_roads d ≡ false → F.faults folder.new d ≡ F.faults folder.old d }
-    ensures ok { IfOk result (λ t. IfSome (F.told folder.old) (λ files. road_texts_of files ≡ Ok t)) }
-    ensures fault { IfErr result (λ e. IfSome (F.told folder.old) (λ files. Agrees (road_texts_of files) e)) }
+    ensures others { (d : Doc) → is_of_roads d ≡ false
+        → F.faults folder.new d ≡ F.faults folder.old d }
+    ensures ok { IfOk result (λ t. IfSome (F.told folder.old) (λ files. road_texts_of files
+        ≡ Ok t)) }
+    ensures fault { IfErr result (λ e. IfSome (F.told folder.old)
+        (λ files. Agrees (road_texts_of files) e)) }
     ensures risen { IfErr result (HasRisen (F.faults folder.old) (F.faults folder.new)) }
     ensures asked { IfErr result (WasAsked is_of_roads) }
     ensures memory { IfErr result HidesNoMemory }
@@ -199,9 +205,11 @@ pub fn fetch_road_texts<F: Folder>(alloc: Global, folder: &mut F) -> Result<Road
 pub fn fetch_texts<F: Folder>(alloc: Global, folder: &mut F) -> Result<Texts, CaseFault>
     ensures keeps { F.told folder.new ≡ F.told folder.old }
     ensures later { (d : Doc) → F.faults folder.old d ≤ F.faults folder.new d }
-    ensures others { (d : Doc) → is_of_each d ≡ false → F.faults folder.new d ≡ F.faults folder.old d }
+    ensures others { (d : Doc) → is_of_each d ≡ false
+        → F.faults folder.new d ≡ F.faults folder.old d }
     ensures ok { IfOk result (λ t. IfSome (F.told folder.old) (λ files. texts_of files ≡ Ok t)) }
-    ensures fault { IfErr result (λ e. IfSome (F.told folder.old) (λ files. Agrees (texts_of files) e)) }
+    ensures fault { IfErr result (λ e. IfSome (F.told folder.old)
+        (λ files. Agrees (texts_of files) e)) }
     ensures risen { IfErr result (HasRisen (F.faults folder.old) (F.faults folder.new)) }
     ensures asked { IfErr result (WasAsked is_of_each) }
     ensures memory { IfErr result HidesNoMemory }
@@ -221,9 +229,12 @@ fn fetch_if<F: Folder>(
     requires { IsSome (doc_of file) }
     ensures keeps { F.told folder.new ≡ F.told folder.old }
     ensures later { (d : Doc) → F.faults folder.old d ≤ F.faults folder.new d }
-    ensures others { (d : Doc) → (doc_of file ≡ Some d → asked ≡ false) → F.faults folder.new d ≡ F.faults folder.old d }
-    ensures ok { IfOk result (λ v. IfSome (F.told folder.old) (λ files. text_if asked files file ≡ Ok v)) }
-    ensures fault { IfErr result (λ e. IfSome (F.told folder.old) (λ files. Agrees (text_if asked files file) e)) }
+    ensures others { (d : Doc) → (doc_of file ≡ Some d → asked ≡ false)
+        → F.faults folder.new d ≡ F.faults folder.old d }
+    ensures ok { IfOk result (λ v. IfSome (F.told folder.old) (λ files. text_if asked files file
+        ≡ Ok v)) }
+    ensures fault { IfErr result (λ e. IfSome (F.told folder.old)
+        (λ files. Agrees (text_if asked files file) e)) }
     ensures risen { IfErr result (HasRisen (F.faults folder.old) (F.faults folder.new)) }
     ensures given { (f : File) → result ≡ Err (CaseFault.Folder f) → (f ≡ file) × (asked ≡ true) }
     ensures memory { IfErr result HidesNoMemory }
@@ -244,9 +255,12 @@ pub fn fetch_limits<F: Folder>(
 ) -> Result<LimitTexts, CaseFault>
     ensures keeps { F.told folder.new ≡ F.told folder.old }
     ensures later { (d : Doc) → F.faults folder.old d ≤ F.faults folder.new d }
-    ensures others { (d : Doc) → is_asked asked d ≡ false → F.faults folder.new d ≡ F.faults folder.old d }
-    ensures ok { IfOk result (λ t. IfSome (F.told folder.old) (λ files. limit_texts_of files asked ≡ Ok t)) }
-    ensures fault { IfErr result (λ e. IfSome (F.told folder.old) (λ files. Agrees (limit_texts_of files asked) e)) }
+    ensures others { (d : Doc) → is_asked asked d ≡ false
+        → F.faults folder.new d ≡ F.faults folder.old d }
+    ensures ok { IfOk result (λ t. IfSome (F.told folder.old) (λ files. limit_texts_of files asked
+        ≡ Ok t)) }
+    ensures fault { IfErr result (λ e. IfSome (F.told folder.old)
+        (λ files. Agrees (limit_texts_of files asked) e)) }
     ensures risen { IfErr result (HasRisen (F.faults folder.old) (F.faults folder.new)) }
     ensures asked { IfErr result (WasAsked (is_asked asked)) }
     ensures memory { IfErr result HidesNoMemory }

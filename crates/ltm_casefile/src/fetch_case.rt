@@ -33,15 +33,19 @@ impl Model for Parts {
 /// Fetches the files that each case has, then reads the setup, then fetches signals and limits where it asks for them.
 #[tactic(auto, unfolding(crate::specs::Case::parts_of), using(crate::proofs::Memory::setup_said))]
 pub fn fetch_parts<F: Folder>(alloc: Global, folder: &mut F) -> Result<Parts, CaseFault>
-    ensures ok { IfOk result (λ parts. IfSome (F.told folder.old) (λ files. parts_of files ≡ Ok parts)) }
+    ensures ok { IfOk result (λ parts. IfSome (F.told folder.old) (λ files. parts_of files
+        ≡ Ok parts)) }
     ensures empty { IfOk result (λ parts. parts.scenario.splits ≡ []) }
-    ensures fault { IfErr result (λ e. IfSome (F.told folder.old) (λ files. Agrees (parts_of files) e)) }
+    ensures fault { IfErr result (λ e. IfSome (F.told folder.old)
+        (λ files. Agrees (parts_of files) e)) }
     ensures risen { IfErr result (HasRisen (F.faults folder.old) (F.faults folder.new)) }
-    ensures asked { IfErr result (λ e. IfSome (F.told folder.old) (λ files. WasAsked (asks_for files) e)) }
+    ensures asked { IfErr result (λ e. IfSome (F.told folder.old)
+        (λ files. WasAsked (asks_for files) e)) }
     ensures memory { IfErr result HidesNoMemory }
     ensures keeps { F.told folder.new ≡ F.told folder.old }
     ensures later { (d : Doc) → F.faults folder.old d ≤ F.faults folder.new d }
-    ensures others { (d : Doc) → is_case_file d ≡ false → F.faults folder.new d ≡ F.faults folder.old d }
+    ensures others { (d : Doc) → is_case_file d ≡ false
+        → F.faults folder.new d ≡ F.faults folder.old d }
     ensures unasked { IfSome (F.told folder.old) (λ files.
         (d : Doc) → asks_for files d ≡ false → F.faults folder.new d ≡ F.faults folder.old d) }
 {

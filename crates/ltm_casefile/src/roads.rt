@@ -55,11 +55,13 @@ fn build_roads(alloc: Global, texts: &RoadTexts) -> Result<Scenario, CaseFault>
 /// The setup may ask for signals and for entry limits; neither is fetched.
 #[tactic(auto, using(crate::proofs::Memory::roads_said))]
 pub fn read_roads<F: Folder>(alloc: Global, folder: &mut F) -> Result<Scenario, CaseFault>
-    ensures ok { IfOk result (λ scenario. IfSome (F.told folder.old) (λ files. unsplit_case_of files ≡ Ok scenario)) }
+    ensures ok { IfOk result (λ scenario. IfSome (F.told folder.old) (λ files. unsplit_case_of files
+        ≡ Ok scenario)) }
     ensures unsplit { IfOk result (λ scenario. scenario.splits ≡ []) }
 
     // Too long a file and bad records are told as they are.
-    ensures fault { IfErr result (λ e. IfSome (F.told folder.old) (λ files. Agrees (unsplit_case_of files) e)) }
+    ensures fault { IfErr result (λ e. IfSome (F.told folder.old)
+        (λ files. Agrees (unsplit_case_of files) e)) }
 
     // Nor is want of memory ever told as bad records.
     ensures memory { IfErr result HidesNoMemory }
@@ -70,11 +72,13 @@ pub fn read_roads<F: Folder>(alloc: Global, folder: &mut F) -> Result<Scenario, 
 
     ensures keeps { F.told folder.new ≡ F.told folder.old }
     ensures later { (d : Doc) → F.faults folder.old d ≤ F.faults folder.new d }
-    ensures others { (d : Doc) → is_of_roads d ≡ false → F.faults folder.new d ≡ F.faults folder.old d }
+    ensures others { (d : Doc) → is_of_roads d ≡ false
+        → F.faults folder.new d ≡ F.faults folder.old d }
 
     // Where no count rose of these files, the answer is the one of the files, or memory was not found.
     ensures complete { (files : Files) → F.told folder.old ≡ Some files
-        → ((d : Doc) → is_of_roads d ≡ true → Rose (F.faults folder.old d) (F.faults folder.new d) → ⊥)
+        → ((d : Doc) → is_of_roads d ≡ true
+        → Rose (F.faults folder.old d) (F.faults folder.new d) → ⊥)
         → (result ≡ unsplit_case_of files) ⊎ (result ≡ Err CaseFault.NoMemory) }
 {
     match fetch_road_texts(alloc, folder) {

@@ -56,7 +56,8 @@ impl Table {
 
     fn add_row(self, scenario: &mut Scenario, row: &ByteRecord) -> Result<(), StepFault>
         requires { self ≡ Table.Links → scenario.old.splits ≡ [] }
-        ensures ok { OnOk result (row_added self scenario.old (fields_of row.now) ≡ Ok scenario.new) }
+        ensures ok { OnOk result (row_added self scenario.old (fields_of row.now)
+            ≡ Ok scenario.new) }
         ensures cause { IfErr result (Tells (row_added self scenario.old (fields_of row.now))) }
         ensures splits { self ≡ Table.Links → scenario.new.splits ≡ [] }
     {
@@ -106,7 +107,8 @@ impl Table {
         text: &FileText,
     ) -> Result<(), CaseFault>
         requires { self ≡ Table.Links → scenario.old.splits ≡ [] }
-        ensures ok { OnOk result (table_added self scenario.old (records_of text.now) ≡ Ok scenario.new) }
+        ensures ok { OnOk result (table_added self scenario.old (records_of text.now)
+            ≡ Ok scenario.new) }
         ensures fault { IfErr result (Says (table_added self scenario.old (records_of text.now))) }
     {
         let mut records = Records::of(alloc, text.bytes());

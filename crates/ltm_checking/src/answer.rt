@@ -31,7 +31,9 @@ use std::alloc::Global;
 fn said_of(alloc: Global, scenario: &Scenario, curves: &Curves) -> Result<Checked, NoMemory>
     requires { IsShaped (setting_of scenario.now) curves.now }
     ensures kept { IfOk result (IsVerdict (setting_of scenario.now) (counts_of curves.now)) }
-    ensures told { IfOk result (λ said. (counts : Counts) → Keeps (setting_of scenario.now) counts curves.now → IsVerdict (setting_of scenario.now) counts said) }
+    ensures told { IfOk result (λ said. (counts : Counts)
+        → Keeps (setting_of scenario.now) counts curves.now
+        → IsVerdict (setting_of scenario.now) counts said) }
 {
     is_setting(scenario);
     kept_answers_alike();
@@ -65,9 +67,12 @@ fn say_yes(alloc: Global) -> Result<Vec<u8>, Refusal>
 /// What is answered to a curve file whose counts curves keep.
 fn answer_curves(alloc: Global, scenario: &Scenario, curves: &Curves) -> Result<Vec<u8>, Refusal>
     requires { IsShaped (setting_of scenario.now) curves.now }
-    ensures text { IfOk result (λ text. (records : List Fields) → KeepsRecords scenario.now records curves.now → RecordsAnswer scenario.now records (Ok text.items)) }
+    ensures text { IfOk result (λ text. (records : List Fields)
+        → KeepsRecords scenario.now records curves.now
+        → RecordsAnswer scenario.now records (Ok text.items)) }
     ensures fault { IfErr result (λ e. (e ≡ Refusal.Case CaseFault.NoMemory)
-        ⊎ ((records : List Fields) → KeepsRecords scenario.now records curves.now → Refuses scenario.now records e)) }
+        ⊎ ((records : List Fields) → KeepsRecords scenario.now records curves.now
+        → Refuses scenario.now records e)) }
 {
     match said_of(alloc, scenario, curves) {
         Ok(Checked::Yes) => say_yes(alloc),
@@ -85,12 +90,15 @@ pub fn check_text<F: OpenFolder>(alloc: Global, folder: &mut F) -> Result<Vec<u8
     ensures fault { IfErr result (AnswersRefusal (F.told folder.old)) }
 
     // A file is not given only where its count of faults rose in this call, and it is one of the case or the curves.
-    ensures missed { IfErr result (HasMissed (F.told folder.old) (F.faults folder.old) (F.faults folder.new)) }
+    ensures missed { IfErr result (HasMissed (F.told folder.old) (F.faults folder.old)
+        (F.faults folder.new)) }
 
     ensures keeps { F.told folder.new ≡ F.told folder.old }
     ensures later { (d : Doc) → F.faults folder.old d ≤ F.faults folder.new d }
-    ensures others { (d : Doc) → is_check_file d ≡ false → F.faults folder.new d ≡ F.faults folder.old d }
-    ensures unasked { IfSome (F.told folder.old) (λ files. (d : Doc) → check_asks_for files d ≡ false → F.faults folder.new d ≡ F.faults folder.old d) }
+    ensures others { (d : Doc) → is_check_file d ≡ false
+        → F.faults folder.new d ≡ F.faults folder.old d }
+    ensures unasked { IfSome (F.told folder.old) (λ files. (d : Doc)
+        → check_asks_for files d ≡ false → F.faults folder.new d ≡ F.faults folder.old d) }
 {
     let scenario = match read_case(alloc, folder) {
         Ok(scenario) => scenario,

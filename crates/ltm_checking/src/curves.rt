@@ -23,7 +23,8 @@ const MOST: u64 = 268_435_456;
 /// Why a file is refused.
 fn refused(fault: FileFault) -> Refusal
     ensures missing { result ≡ Refusal.NoCurves → fault ≡ FileFault.ReadFault }
-    ensures told { (s : ScenarioData) (bytes : List ℕ) → AnswersFile s most_bytes bytes (Err fault) → RefusesBytes s bytes result }
+    ensures told { (s : ScenarioData) (bytes : List ℕ) → AnswersFile s most_bytes bytes (Err fault)
+        → RefusesBytes s bytes result }
 {
     match fault {
         FileFault::Curves(CurvesFault::Bad { row, cause }) => Refusal::BadCurves { row, cause },
@@ -43,7 +44,8 @@ pub(crate) fn read_file<F: OpenFolder>(
 ) -> Result<Curves, Refusal>
     ensures file { IfOk result (KeepsFile scenario.now (F.told folder.old)) }
     ensures fault { IfErr result (RefusesFile scenario.now (F.told folder.old)) }
-    ensures missing { result ≡ Err Refusal.NoCurves → Rose (F.faults folder.old Doc.Curves) (F.faults folder.new Doc.Curves) }
+    ensures missing { result ≡ Err Refusal.NoCurves
+        → Rose (F.faults folder.old Doc.Curves) (F.faults folder.new Doc.Curves) }
     ensures keeps { F.told folder.new ≡ F.told folder.old }
     ensures later { (d : Doc) → F.faults folder.old d ≤ F.faults folder.new d }
     ensures others { (d : Doc) → d ≢ Doc.Curves → F.faults folder.new d ≡ F.faults folder.old d }

@@ -32,13 +32,17 @@ fn loading_text(alloc: Global, scenario: &Scenario) -> Result<Vec<u8>, NoMemory>
 /// `read_case` has it.
 pub fn case_curves<F: Folder>(alloc: Global, folder: &mut F) -> Result<Vec<u8>, CaseFault>
     ensures text { IfOk result (λ text. AnswersCurves (F.told folder.old) (Ok text.items)) }
-    ensures fault { IfErr result (λ e. IfSome (F.told folder.old) (λ files. Agrees (case_of files) e)) }
+    ensures fault { IfErr result (λ e. IfSome (F.told folder.old)
+        (λ files. Agrees (case_of files) e)) }
     ensures risen { IfErr result (HasRisen (F.faults folder.old) (F.faults folder.new)) }
-    ensures asked { IfErr result (λ e. IfSome (F.told folder.old) (λ files. WasAsked (asks_for files) e)) }
+    ensures asked { IfErr result (λ e. IfSome (F.told folder.old)
+        (λ files. WasAsked (asks_for files) e)) }
     ensures keeps { F.told folder.new ≡ F.told folder.old }
     ensures later { (d : Doc) → F.faults folder.old d ≤ F.faults folder.new d }
-    ensures others { (d : Doc) → is_case_file d ≡ false → F.faults folder.new d ≡ F.faults folder.old d }
-    ensures unasked { IfSome (F.told folder.old) (λ files. (d : Doc) → asks_for files d ≡ false → F.faults folder.new d ≡ F.faults folder.old d) }
+    ensures others { (d : Doc) → is_case_file d ≡ false
+        → F.faults folder.new d ≡ F.faults folder.old d }
+    ensures unasked { IfSome (F.told folder.old) (λ files. (d : Doc) → asks_for files d ≡ false
+        → F.faults folder.new d ≡ F.faults folder.old d) }
 {
     let scenario = read_case(alloc, folder)?;
     let text = loading_text(alloc, &scenario)?;

@@ -30,8 +30,10 @@ fn write_groups(
     requires outputs { outputs.now.shape ≡ shape_at (setting_of scenario.now) node.0 }
     requires small { (i : ℕ) → slice_index outputs.now.row i < 2 ^ 31 }
     ensures shape { IsShaped (setting_of scenario.now) curves.new }
-    ensures sets { SetsGroups (setting_of scenario.now) boundary (group_count (setting_of scenario.now) node.0)
-        (node_group (setting_of scenario.now) node.0) (in_row (setting_of scenario.now) outputs.now.row)
+    ensures sets { SetsGroups (setting_of scenario.now) boundary
+        (group_count (setting_of scenario.now) node.0)
+        (node_group (setting_of scenario.now) node.0)
+        (in_row (setting_of scenario.now) outputs.now.row)
         (counts_of curves.old) (counts_of curves.new) }
 {
     is_setting(scenario);
@@ -49,7 +51,8 @@ fn write_sink(scenario: &Scenario, curves: &mut Curves, node: NodeId, boundary: 
     requires small { arrived < 2 ^ 31 }
     requires no_sink { (setting_of scenario.now).own node.0 ≡ None → arrived ≡ 0 }
     ensures shape { IsShaped (setting_of scenario.now) curves.new }
-    ensures sets { SetsSink (setting_of scenario.now) node.0 boundary arrived (counts_of curves.old) (counts_of curves.new) }
+    ensures sets { SetsSink (setting_of scenario.now) node.0 boundary arrived (counts_of curves.old)
+        (counts_of curves.new) }
 {
     if let Some(destination) = own(scenario, node) {
         let group = arr_of(scenario);
@@ -64,7 +67,8 @@ pub fn apply(scenario: &Scenario, curves: &mut Curves, pair: Pair, outputs: &Nod
     requires shape { IsShaped (setting_of scenario.now) curves.old }
     requires outputs { outputs.now.shape ≡ shape_at (setting_of scenario.now) pair.node.0 }
     requires small { (i : ℕ) → slice_index outputs.now.row i < 2 ^ 31 }
-    requires no_sink { (setting_of scenario.now).own pair.node.0 ≡ None → arrived_after outputs.now ≡ 0 }
+    requires no_sink { (setting_of scenario.now).own pair.node.0 ≡ None
+        → arrived_after outputs.now ≡ 0 }
     ensures shape { IsShaped (setting_of scenario.now) curves.new }
     ensures applies { Applies (setting_of scenario.now) pair.node.0 (pair.slot + 1) outputs.now.row
         (counts_of curves.old) (counts_of curves.new) }

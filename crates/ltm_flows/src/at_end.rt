@@ -28,7 +28,8 @@ fn generated_at_end(scenario: &Scenario) -> u64
 /// What curves of a scenario come to in all at the last boundary. Takes no memory.
 pub fn totals_at_end(scenario: &Scenario, curves: &Curves) -> Totals
     requires { IsShaped (setting_of scenario.now) curves.now }
-    ensures { AreTotals (setting_of scenario.now) (counts_of curves.now) (setting_of scenario.now).slots result }
+    ensures { AreTotals (setting_of scenario.now) (counts_of curves.now)
+        (setting_of scenario.now).slots result }
 {
     let generated = generated_at_end(scenario);
     let links = link_count(scenario);

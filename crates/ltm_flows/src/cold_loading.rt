@@ -89,11 +89,13 @@ pub fn move_pair(
     requires node { pair.node.0 < (setting_of scenario.now).nodes }
     requires slot { pair.slot < (setting_of scenario.now).slots }
     requires working { IsWorkingAt (setting_of scenario.now) curves.old pair.slot pair.node.0 }
-    requires reads { IsUncountedPair (setting_of scenario.now) (counts_of curves.old) pair.node.0 pair.slot inputs.now }
+    requires reads { IsUncountedPair (setting_of scenario.now)
+        (counts_of curves.old) pair.node.0 pair.slot inputs.now }
     requires solvable { IsSolvable inputs.now }
     requires room { HasRoom (setting_of scenario.now) outputs.old.room }
     ensures working { IsWorkingAt (setting_of scenario.now) curves.new pair.slot (pair.node.0 + 1) }
-    ensures stays { (g d k : ℕ) → g < groups (setting_of scenario.now) → d < (setting_of scenario.now).destinations → k ≤ pair.slot
+    ensures stays { (g d k : ℕ) → g < groups (setting_of scenario.now)
+        → d < (setting_of scenario.now).destinations → k ≤ pair.slot
         → counts_of curves.new g d k ≡ counts_of curves.old g d k }
     ensures room { outputs.new.room ≡ outputs.old.room }
 {
@@ -135,7 +137,8 @@ pub fn begin_slot(scenario: &Scenario, curves: &mut Curves, slot: u32)
     requires slot { slot < (setting_of scenario.now).slots }
     requires working { IsWorking (setting_of scenario.now) curves.old slot }
     ensures working { IsWorkingAt (setting_of scenario.now) curves.new slot 0 }
-    ensures stays { (g d k : ℕ) → g < groups (setting_of scenario.now) → d < (setting_of scenario.now).destinations → k ≤ slot
+    ensures stays { (g d k : ℕ) → g < groups (setting_of scenario.now)
+        → d < (setting_of scenario.now).destinations → k ≤ slot
         → counts_of curves.new g d k ≡ counts_of curves.old g d k }
 {
     inputs_read_only();

@@ -95,7 +95,8 @@ impl Loading {
     ) -> Result<Loading, NoMemory>
         requires shape { IsShaped (setting_of scenario.now) curves.now }
         requires loading { IsLoading (setting_of scenario.now) (counts_of curves.now) }
-        ensures { IfOk result (ShowsCounts (setting_of scenario.now) version (counts_of curves.now)) }
+        ensures { IfOk result (ShowsCounts (setting_of scenario.now) version
+            (counts_of curves.now)) }
     {
         totals_small();
         never_fall();
@@ -126,7 +127,8 @@ impl Loading {
     /// Makes room for so many slots. Nothing else that is seen changes.
     pub fn reserve(&mut self, slots: u32) -> Result<(), NoMemory>
         ensures same { SameLoading self.old self.new }
-        ensures shows { (s : Setting) (version : ℕ) (c : Counts) → ShowsCounts s version c self.old → ShowsCounts s version c self.new }
+        ensures shows { (s : Setting) (version : ℕ) (c : Counts) → ShowsCounts s version c self.old
+            → ShowsCounts s version c self.new }
         ensures room { OnOk result (slots ≤ loading_room self.new) }
         ensures no_less { loading_room self.old ≤ loading_room self.new }
     {
@@ -138,7 +140,8 @@ impl Loading {
     pub fn renew_production(&mut self, scenario: &Scenario, node: NodeId, behind: u32)
         requires node { node.0 < nodes_of self.old }
         ensures same { SameButProduction self.old self.new }
-        ensures renews { RenewsProduction (setting_of scenario.now) node.0 behind self.old self.new }
+        ensures renews { RenewsProduction
+            (setting_of scenario.now) node.0 behind self.old self.new }
     {
         let last = self.curves.slots();
         if behind < last {
@@ -155,7 +158,8 @@ impl Loading {
         requires fits { Fits (setting_of scenario.now) self.old }
         requires shape { IsShaped (setting_of scenario.now) curves.now }
         requires loading { IsLoading (setting_of scenario.now) (counts_of curves.now) }
-        requires cells { HasCells changed.now (groups (setting_of scenario.now)) (setting_of scenario.now).slots }
+        requires cells { HasCells changed.now (groups (setting_of scenario.now))
+            (setting_of scenario.now).slots }
         requires outside { AgreesOutside self.old curves.now changed.now }
         requires produced { HasProduction (setting_of scenario.now) self.old }
         ensures { ShowsCounts (setting_of scenario.now) version (counts_of curves.now) self.new }
@@ -182,7 +186,8 @@ impl Loading {
     /// The totals of its groups by boundary, of which none falls.
     pub fn curves(&self) -> &TotalCurves
         ensures value { result.now ≡ curves_of self.now }
-        ensures groups { total_groups (curves_of self.now) ≡ 2 * links_of self.now + nodes_of self.now + 1 }
+        ensures groups { total_groups (curves_of self.now)
+            ≡ 2 * links_of self.now + nodes_of self.now + 1 }
         ensures rises { (g k : ℕ) → g < total_groups (curves_of self.now) → k < last_of self.now
             → total_at (curves_of self.now) g k ≤ total_at (curves_of self.now) g (k + 1) }
     {

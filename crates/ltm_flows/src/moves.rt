@@ -30,12 +30,16 @@ fn add_arms(
     requires boundary { boundary ≤ (setting_of scenario.now).slots }
     requires shape { IsShaped (setting_of scenario.now) curves.old }
     requires moves { moves.now.shape ≡ shape_at (setting_of scenario.now) node.0 }
-    requires small { (i d : ℕ) → i < arms_of (setting_of scenario.now) node.0 → d < (setting_of scenario.now).destinations
-        → with_moves (counts_of curves.old) boundary (arm_group (setting_of scenario.now) node.0) (left_after moves.now) i d < 2 ^ 31 }
+    requires small { (i d : ℕ) → i < arms_of (setting_of scenario.now) node.0
+        → d < (setting_of scenario.now).destinations
+        → with_moves (counts_of curves.old) boundary (arm_group (setting_of scenario.now) node.0)
+        (left_after moves.now) i d < 2 ^ 31 }
     ensures shape { IsShaped (setting_of scenario.now) curves.new }
-    ensures sets { SetsGroups (setting_of scenario.now) boundary (arms_of (setting_of scenario.now) node.0)
+    ensures sets { SetsGroups (setting_of scenario.now) boundary
+        (arms_of (setting_of scenario.now) node.0)
         (arm_group (setting_of scenario.now) node.0)
-        (with_moves (counts_of curves.old) boundary (arm_group (setting_of scenario.now) node.0) (left_after moves.now))
+        (with_moves (counts_of curves.old) boundary (arm_group (setting_of scenario.now) node.0)
+        (left_after moves.now))
         (counts_of curves.old) (counts_of curves.new) }
 {
     let _links = link_count(scenario);
@@ -62,12 +66,16 @@ fn add_outs(
     requires boundary { boundary ≤ (setting_of scenario.now).slots }
     requires shape { IsShaped (setting_of scenario.now) curves.old }
     requires moves { moves.now.shape ≡ shape_at (setting_of scenario.now) node.0 }
-    requires small { (j d : ℕ) → j < (setting_of scenario.now).outs node.0 → d < (setting_of scenario.now).destinations
-        → with_moves (counts_of curves.old) boundary (out_group (setting_of scenario.now) node.0) (entered_after moves.now) j d < 2 ^ 31 }
+    requires small { (j d : ℕ) → j < (setting_of scenario.now).outs node.0
+        → d < (setting_of scenario.now).destinations
+        → with_moves (counts_of curves.old) boundary (out_group (setting_of scenario.now) node.0)
+        (entered_after moves.now) j d < 2 ^ 31 }
     ensures shape { IsShaped (setting_of scenario.now) curves.new }
-    ensures sets { SetsGroups (setting_of scenario.now) boundary ((setting_of scenario.now).outs node.0)
+    ensures sets { SetsGroups (setting_of scenario.now) boundary
+        ((setting_of scenario.now).outs node.0)
         (out_group (setting_of scenario.now) node.0)
-        (with_moves (counts_of curves.old) boundary (out_group (setting_of scenario.now) node.0) (entered_after moves.now))
+        (with_moves (counts_of curves.old) boundary (out_group (setting_of scenario.now) node.0)
+        (entered_after moves.now))
         (counts_of curves.old) (counts_of curves.new) }
 {
     let _links = link_count(scenario);
@@ -80,11 +88,13 @@ fn add_outs(
 fn add_sink(scenario: &Scenario, curves: &mut Curves, node: NodeId, boundary: u32, arrives: u64)
     requires boundary { boundary ≤ (setting_of scenario.now).slots }
     requires shape { IsShaped (setting_of scenario.now) curves.old }
-    requires small { arrived_by (setting_of scenario.now) (counts_of curves.old) ((setting_of scenario.now).own node.0) boundary + arrives < 2 ^ 31 }
+    requires small { arrived_by (setting_of scenario.now) (counts_of curves.old)
+        ((setting_of scenario.now).own node.0) boundary + arrives < 2 ^ 31 }
     requires no_sink { (setting_of scenario.now).own node.0 ≡ None → arrives ≡ 0 }
     ensures shape { IsShaped (setting_of scenario.now) curves.new }
     ensures sets { SetsSink (setting_of scenario.now) node.0 boundary
-        (arrived_by (setting_of scenario.now) (counts_of curves.old) ((setting_of scenario.now).own node.0) boundary + arrives)
+        (arrived_by (setting_of scenario.now) (counts_of curves.old)
+        ((setting_of scenario.now).own node.0) boundary + arrives)
         (counts_of curves.old) (counts_of curves.new) }
 {
     if let Some(destination) = own(scenario, node) {
@@ -101,11 +111,15 @@ pub(crate) fn add_moves(scenario: &Scenario, curves: &mut Curves, pair: Pair, mo
     requires slot { pair.slot < (setting_of scenario.now).slots }
     requires shape { IsShaped (setting_of scenario.now) curves.old }
     requires moves { moves.now.shape ≡ shape_at (setting_of scenario.now) pair.node.0 }
-    requires small { (i : ℕ) → slice_index (moved_on (setting_of scenario.now) (counts_of curves.old) pair.node.0 (pair.slot + 1) moves.now.row) i < 2 ^ 31 }
-    requires no_sink { (setting_of scenario.now).own pair.node.0 ≡ None → arrived_after moves.now ≡ 0 }
+    requires small { (i : ℕ)
+        → slice_index (moved_on (setting_of scenario.now) (counts_of curves.old) pair.node.0
+        (pair.slot + 1) moves.now.row) i < 2 ^ 31 }
+    requires no_sink { (setting_of scenario.now).own pair.node.0 ≡ None
+        → arrived_after moves.now ≡ 0 }
     ensures shape { IsShaped (setting_of scenario.now) curves.new }
     ensures applies { Applies (setting_of scenario.now) pair.node.0 (pair.slot + 1)
-        (moved_on (setting_of scenario.now) (counts_of curves.old) pair.node.0 (pair.slot + 1) moves.now.row)
+        (moved_on (setting_of scenario.now) (counts_of curves.old) pair.node.0 (pair.slot
+        + 1) moves.now.row)
         (counts_of curves.old) (counts_of curves.new) }
 {
     is_setting(scenario);

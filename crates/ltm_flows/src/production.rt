@@ -42,7 +42,8 @@ fn zeros(alloc: Global, many: usize) -> Result<Vec<u64>, NoMemory>
 /// Puts zeros behind amounts, up to so many.
 fn add_zeros(amounts: &mut Vec<u64>, many: usize) -> Result<(), NoMemory>
     requires { length amounts.old.items ≤ many }
-    ensures ok { OnOk result (amounts.new.items ≡ amounts.old.items ++ replicate (many - length amounts.old.items) 0) }
+    ensures ok { OnOk result (amounts.new.items
+        ≡ amounts.old.items ++ replicate (many - length amounts.old.items) 0) }
     ensures err { OnErr result (amounts.new.items ≡ amounts.old.items) }
 {
     amounts.resize(many, 0).map_err(|_| NoMemory)
@@ -117,7 +118,8 @@ impl Production {
     pub fn reserve(&mut self, room: u32) -> Result<(), NoMemory>
         ensures nodes { self.new.nodes ≡ self.old.nodes }
         ensures same { (n k : ℕ) → n ≤ self.old.nodes → k ≤ self.old.room
-            → amount_at self.new.amounts.items self.old.nodes n k ≡ amount_at self.old.amounts.items self.old.nodes n k }
+            → amount_at self.new.amounts.items self.old.nodes n k
+            ≡ amount_at self.old.amounts.items self.old.nodes n k }
         ensures room { OnOk result (room ≤ self.new.room) }
         ensures no_less { self.old.room ≤ self.new.room }
     {
@@ -159,7 +161,8 @@ impl Production {
     /// Writes what the origin of each node has produced by a boundary.
     fn renew_boundary(&mut self, scenario: &Scenario, boundary: u32)
         requires { boundary ≤ self.old.room }
-        ensures { RenewsNodes (setting_of scenario.now) self.old.nodes boundary (boundary + 1) self.old self.new }
+        ensures { RenewsNodes (setting_of scenario.now) self.old.nodes boundary (boundary
+            + 1) self.old self.new }
     {
         for node in 0..self.nodes {
             let amount = produced_total(scenario, NodeId(node), boundary);

@@ -58,7 +58,8 @@ fn on_links<T: GroupTotals>(totals: &T, links: u32, boundary: u32) -> u64
     requires few { links ≤ 4000 }
     requires groups { 2 * links ≤ T.groups totals.now }
     requires boundary { boundary ≤ T.last totals.now }
-    ensures { result ≡ sum_below links (λ l. T.totals totals.now (up_of l) boundary - T.totals totals.now (down_of l) boundary) }
+    ensures { result ≡ sum_below links (λ l. T.totals totals.now
+        (up_of l) boundary - T.totals totals.now (down_of l) boundary) }
 {
     let mut sum = 0;
     for link in 0..links {

@@ -14,7 +14,8 @@ use std::alloc::Global;
 pub(crate) fn free_times(alloc: Global, scenario: &Scenario) -> Result<Vec<Millis>, NoMemory>
     ensures count { IfOk result (λ times. length times.items ≡ (setting_of scenario.now).links) }
     ensures times { IfOk result (λ times. (l : ℕ) → l < (setting_of scenario.now).links
-        → slice_index (map (λ time. time.0) times.items) l ≡ (setting_of scenario.now).free_time l) }
+        → slice_index (map (λ time. time.0) times.items) l
+        ≡ (setting_of scenario.now).free_time l) }
 {
     let mut times = vec![in alloc; Millis(0); link_count(scenario) as usize]?;
     write_free_times(scenario, &mut times);
@@ -36,7 +37,8 @@ pub(crate) fn write_free_times(scenario: &Scenario, into: &mut [Millis])
 pub(crate) fn production(alloc: Global, scenario: &Scenario) -> Result<Production, NoMemory>
     ensures nodes { IfOk result (λ p. p.nodes ≡ (setting_of scenario.now).nodes) }
     ensures room { IfOk result (λ p. p.room ≡ (setting_of scenario.now).slots) }
-    ensures amounts { IfOk result (λ p. (n k : ℕ) → n < (setting_of scenario.now).nodes → k ≤ (setting_of scenario.now).slots
+    ensures amounts { IfOk result (λ p. (n k : ℕ) → n < (setting_of scenario.now).nodes
+        → k ≤ (setting_of scenario.now).slots
         → produced_in p n k ≡ produced_in_all (setting_of scenario.now) n k) }
 {
     let last = slot_count(scenario);

@@ -57,7 +57,8 @@ impl<R: Files + Drop + Copy> Folder for DiskFolder<R> {
     /// As the trait says.
     fn fetch(&mut self, doc: Doc, into: &mut Vec<u8>, max: u64) -> Fetched
         // What the trait promises. The clauses on what is told say nothing here.
-        ensures failed { result ≡ Fetched.Failed → Rose (faults_of self.old doc) (faults_of self.new doc) }
+        ensures failed { result ≡ Fetched.Failed
+            → Rose (faults_of self.old doc) (faults_of self.new doc) }
         ensures size { length into.new.items ≤ max }
         ensures emptied { result ≢ Fetched.Found → into.new.items ≡ [] }
         ensures later { (d : Doc) → faults_of self.old d ≤ faults_of self.new d }
@@ -75,7 +76,8 @@ impl<R: Files + Drop + Copy> OpenFolder for DiskFolder<R> {
     /// As the trait says.
     fn open(&mut self, _alloc: Global, doc: Doc) -> Result<RealFile<R::File>, OpenFault>
         ensures faultless { IfOk result (λ file. real.faults_of file ≡ 0) }
-        ensures failed { result ≡ Err OpenFault.Failed → Rose (faults_of self.old doc) (faults_of self.new doc) }
+        ensures failed { result ≡ Err OpenFault.Failed
+            → Rose (faults_of self.old doc) (faults_of self.new doc) }
         ensures later { (d : Doc) → faults_of self.old d ≤ faults_of self.new d }
         ensures others { (d : Doc) → d ≢ doc → faults_of self.new d ≡ faults_of self.old d }
     {
@@ -93,7 +95,8 @@ impl<R: Files + Drop + Copy> OpenFolder for DiskFolder<R> {
 
     /// As the trait says.
     fn close(&mut self, doc: Doc, file: RealFile<R::File>)
-        ensures failed { 0 < real.faults_of file → Rose (faults_of self.old doc) (faults_of self.new doc) }
+        ensures failed { 0 < real.faults_of file
+            → Rose (faults_of self.old doc) (faults_of self.new doc) }
         ensures later { (d : Doc) → faults_of self.old d ≤ faults_of self.new d }
         ensures others { (d : Doc) → d ≢ doc → faults_of self.new d ≡ faults_of self.old d }
     {

@@ -36,8 +36,10 @@ pub trait Folder {
         ensures found { result ≡ Fetched.Found
             → IfSome (told self.old) (λ files. files doc ≡ Some into.new.items) }
         ensures too_long { result ≡ Fetched.TooLong
-            → IfSome (told self.old) (λ files. IsSomeAnd (files doc) (λ bytes. max < length bytes)) }
-        ensures failed { result ≡ Fetched.Failed → Rose (faults self.old doc) (faults self.new doc) }
+            → IfSome (told self.old) (λ files. IsSomeAnd (files doc)
+            (λ bytes. max < length bytes)) }
+        ensures failed { result ≡ Fetched.Failed
+            → Rose (faults self.old doc) (faults self.new doc) }
 
         // A longer file is never found, told or not.
         ensures size { length into.new.items ≤ max }

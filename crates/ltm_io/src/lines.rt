@@ -86,8 +86,10 @@ impl Lines {
         ensures answer { kept_by self.old ≡ None → result ≢ Line.ReadFault
             → Answers (max_of self.old) result (coming self.old (S.left source.old)) }
         ensures line { kept_by self.old ≡ None → result ≡ Line.Text
-            → GivesLine (coming self.old (S.left source.old)) (text_of self.new) (coming self.new (S.left source.new)) }
-        ensures fits { kept_by self.old ≡ None → result ≡ Line.Text → length (text_of self.new) ≤ max_of self.old }
+            → GivesLine (coming self.old (S.left source.old)) (text_of self.new)
+            (coming self.new (S.left source.new)) }
+        ensures fits { kept_by self.old ≡ None → result ≡ Line.Text
+            → length (text_of self.new) ≤ max_of self.old }
         ensures end { kept_by self.old ≡ None → result ≡ Line.End
             → coming self.new (S.left source.new) ≡ coming self.old (S.left source.old) }
         ensures all { kept_by self.old ≡ None → result ≡ Line.End → taken_by self.new ≡ [] }
@@ -117,7 +119,8 @@ impl Lines {
         ensures answer { result ≢ Line.ReadFault
             → Answers (max_of self.old) result (coming self.old (S.left source.old)) }
         ensures line { result ≡ Line.Text
-            → GivesLine (coming self.old (S.left source.old)) (text_of self.new) (coming self.new (S.left source.new)) }
+            → GivesLine (coming self.old (S.left source.old)) (text_of self.new)
+            (coming self.new (S.left source.new)) }
         ensures fits { result ≡ Line.Text → length (text_of self.new) ≤ max_of self.old }
         ensures end { result ≡ Line.End
             → coming self.new (S.left source.new) ≡ coming self.old (S.left source.old) }

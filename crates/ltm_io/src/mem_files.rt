@@ -17,8 +17,10 @@ impl OpenFolder for MemFolder {
 
     /// As the trait says. The file is fetched, and its reads never fail.
     fn open(&mut self, alloc: Global, doc: Doc) -> Result<SureSource, OpenFault>
-        ensures opened { IfOk result (λ file. IsSomeAnd (file_of self.old doc) (λ bytes. Some (left_of file) ≡ Some bytes)) }
-        ensures failed { result ≡ Err OpenFault.Failed → Rose (faults_of self.old doc) (faults_of self.new doc) }
+        ensures opened { IfOk result (λ file. IsSomeAnd (file_of self.old doc)
+            (λ bytes. Some (left_of file) ≡ Some bytes)) }
+        ensures failed { result ≡ Err OpenFault.Failed
+            → Rose (faults_of self.old doc) (faults_of self.new doc) }
         ensures keeps { Some (file_of self.new) ≡ Some (file_of self.old) }
         ensures later { (d : Doc) → faults_of self.old d ≤ faults_of self.new d }
         ensures others { (d : Doc) → d ≢ doc → faults_of self.new d ≡ faults_of self.old d }

@@ -66,7 +66,8 @@ impl MemFolder {
         ensures links { IfOk result (λ folder. file_of folder Doc.Links ≡ Some links.now) }
         ensures demand { IfOk result (λ folder. file_of folder Doc.Demand ≡ Some demand.now) }
         ensures splits { IfOk result (λ folder. file_of folder Doc.Splits ≡ Some splits.now) }
-        ensures others { IfOk result (λ folder. (d : Doc) → 4 ≤ place_of d → file_of folder d ≡ None) }
+        ensures others { IfOk result (λ folder. (d : Doc) → 4 ≤ place_of d
+            → file_of folder d ≡ None) }
         ensures faultless { IfOk result (λ folder. (d : Doc) → faults_of folder d ≡ 0) }
         ensures calls { IfOk result (λ folder. calls_of folder ≡ 0) }
         ensures failing { IfOk result (λ folder. failing_of folder ≡ failing.now) }

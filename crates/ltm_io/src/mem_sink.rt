@@ -64,10 +64,12 @@ impl Sink for MemSink {
         ensures count { IfOk result (λ n. n ≤ length piece.now) }
         ensures some { IfOk result (λ n. 0 < length piece.now → 0 < n) }
         ensures took { IfOk result
-            (λ n. Some (written_to self.new) ≡ appended (take n piece.now) (Some (written_to self.old))) }
+            (λ n. Some (written_to self.new)
+            ≡ appended (take n piece.now) (Some (written_to self.old))) }
         ensures refused { OnErr result (Some (written_to self.new) ≡ Some (written_to self.old)) }
         ensures later { faults_of self.old ≤ faults_of self.new }
-        ensures cause { IsErrOf result SinkError.WriteFault → Rose (faults_of self.old) (faults_of self.new) }
+        ensures cause { IsErrOf result SinkError.WriteFault
+            → Rose (faults_of self.old) (faults_of self.new) }
 
         // The exact answer, to which want of memory is the one exception, and the exact counts.
         ensures fails { IsErrOf result SinkError.WriteFault ↔ IsTrue (fails_next self.old) }

@@ -24,14 +24,16 @@ pub trait OpenFolder: Folder {
         ensures opened { IfOk result (λ file. IfSome (Self.told self.old)
             (λ files. IsSomeAnd (files doc) (λ bytes. Self.File.left file ≡ Some bytes))) }
         ensures faultless { IfOk result (λ file. Self.File.faults file ≡ 0) }
-        ensures failed { result ≡ Err OpenFault.Failed → Rose (Self.faults self.old doc) (Self.faults self.new doc) }
+        ensures failed { result ≡ Err OpenFault.Failed
+            → Rose (Self.faults self.old doc) (Self.faults self.new doc) }
         ensures keeps { Self.told self.new ≡ Self.told self.old }
         ensures later { (d : Doc) → Self.faults self.old d ≤ Self.faults self.new d }
         ensures others { (d : Doc) → d ≢ doc → Self.faults self.new d ≡ Self.faults self.old d };
 
     /// Lets a file go. Where one of its reads failed, the folder's count of faults of the file rises.
     fn close(&mut self, doc: Doc, file: Self::File)
-        ensures failed { 0 < Self.File.faults file → Rose (Self.faults self.old doc) (Self.faults self.new doc) }
+        ensures failed { 0 < Self.File.faults file
+            → Rose (Self.faults self.old doc) (Self.faults self.new doc) }
         ensures keeps { Self.told self.new ≡ Self.told self.old }
         ensures later { (d : Doc) → Self.faults self.old d ≤ Self.faults self.new d }
         ensures others { (d : Doc) → d ≢ doc → Self.faults self.new d ≡ Self.faults self.old d };

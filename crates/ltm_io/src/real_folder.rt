@@ -50,7 +50,8 @@ impl<R: Files + Drop> Folder for RealFolder<R> {
         ensures others { (d : Doc) → d ≢ doc → faults_of self.new d ≡ faults_of self.old d }
 
         // The exact count.
-        ensures counts { result ≡ Fetched.Failed → faults_of self.new doc ≡ raised (faults_of self.old doc) }
+        ensures counts { result ≡ Fetched.Failed
+            → faults_of self.new doc ≡ raised (faults_of self.old doc) }
         ensures stays { result ≢ Fetched.Failed → faults_of self.new doc ≡ faults_of self.old doc }
     {
         into.clear();

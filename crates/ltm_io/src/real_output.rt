@@ -50,7 +50,8 @@ impl<W: Write + Drop> Sink for RealOutput<W> {
         // The exact count.
         ensures counts { IsErrOf result SinkError.WriteFault
             → faults_of self.new ≡ raised (faults_of self.old) }
-        ensures stays { result ≢ Err SinkError.WriteFault → faults_of self.new ≡ faults_of self.old }
+        ensures stays { result ≢ Err SinkError.WriteFault
+            → faults_of self.new ≡ faults_of self.old }
     {
         let answer = write_some(&mut self.writer, piece);
         if answer == Err(SinkError::WriteFault) {

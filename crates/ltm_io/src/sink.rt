@@ -31,7 +31,8 @@ pub trait Sink {
             (λ n. written self.new ≡ appended (take n piece.now) (written self.old)) }
         ensures refused { OnErr result (written self.new ≡ written self.old) }
         ensures later { faults self.old ≤ faults self.new }
-        ensures cause { IsErrOf result SinkError.WriteFault → Rose (faults self.old) (faults self.new) };
+        ensures cause { IsErrOf result SinkError.WriteFault
+            → Rose (faults self.old) (faults self.new) };
 }
 
 /// Writes all of the bytes, in as many writes as the sink asks for.

@@ -22,7 +22,8 @@ pub trait Source {
     /// A read that fails takes nothing; what then stands in `into` says nothing.
     fn read(&mut self, into: &mut [u8]) -> Result<usize, ReadFault>
         ensures count { IfOk result (λ n. n ≤ length into.new) }
-        ensures took { IfOk result (λ n. left self.old ≡ prepended (take n into.new) (left self.new)) }
+        ensures took { IfOk result (λ n. left self.old
+            ≡ prepended (take n into.new) (left self.new)) }
         ensures end { IfOk result
             (λ n. n ≡ 0 → 0 < length into.new → IfSome (left self.old) (λ bytes. bytes ≡ [])) }
         ensures refused { OnErr result (left self.new ≡ left self.old) }

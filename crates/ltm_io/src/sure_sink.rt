@@ -51,7 +51,8 @@ impl Sink for SureSink {
         ensures count { IfOk result (λ n. n ≤ length piece.now) }
         ensures some { IfOk result (λ n. 0 < length piece.now → 0 < n) }
         ensures took { IfOk result
-            (λ n. Some (written_to self.new) ≡ appended (take n piece.now) (Some (written_to self.old))) }
+            (λ n. Some (written_to self.new)
+            ≡ appended (take n piece.now) (Some (written_to self.old))) }
         ensures refused { OnErr result (Some (written_to self.new) ≡ Some (written_to self.old)) }
         ensures later { 0 ≤ 0 }
         ensures cause { IsErrOf result SinkError.WriteFault → Rose 0 0 }

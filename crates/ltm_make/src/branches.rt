@@ -131,7 +131,8 @@ pub(crate) fn weights_of(
 ) -> Result<Vec<u32>, NoMemory>
     requires { node.0 < length network.now.nodes }
     ensures { IfOk result (λ weights. weights.items
-        ≡ map (λ link. weight_to first second (head_of network.now link)) (out_links network.now node.0)) }
+        ≡ map (λ link. weight_to first second (head_of network.now link))
+        (out_links network.now node.0)) }
 {
     let mut weights = Vec::new(alloc);
     for link in network.out_links(node) {

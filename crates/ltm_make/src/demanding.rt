@@ -30,7 +30,8 @@ fn put_row(scenario: &mut Scenario, row: DemandRow) -> Result<(), NoMemory>
     requires row { IsDemandOf scenario.old row }
     requires slots { has_slots scenario.old.setup.slots row ≡ true }
     requires few { length scenario.old.demand < 10000 }
-    ensures { OnOk result (scenario.new ≡ record scenario.old { demand = edited scenario.old.demand row }) }
+    ensures { OnOk result (scenario.new
+        ≡ record scenario.old { demand = edited scenario.old.demand row }) }
 {
     match scenario.set_demand(row) {
         Ok(()) => Ok(()),

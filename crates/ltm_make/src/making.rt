@@ -45,7 +45,8 @@ fn join(
     requires few { choice < 4 }
     requires taken { checked scenario.old.network name tail head ≡ Ok tt }
     ensures { OnOk result (scenario.new
-        ≡ linked scenario.old (network_linked scenario.old.network name tail head) (diagram_of choice)) }
+        ≡ linked scenario.old (network_linked scenario.old.network name tail head)
+        (diagram_of choice)) }
 {
     let diagram = Diagram {
         length_m: 200 + 100 * choice,
@@ -66,7 +67,9 @@ impl Making {
     /// Adds a link for a road. Its length is drawn.
     pub(crate) fn add_road(&mut self, alloc: Global, road: Road) -> Result<(), NoMemory>
         requires bare { TakesLinks self.old.scenario }
-        requires taken { checked self.old.scenario.network (name_of_link (length self.old.scenario.network.links)) (name_of_node road.from) (name_of_node road.to) ≡ Ok tt }
+        requires taken { checked self.old.scenario.network
+            (name_of_link (length self.old.scenario.network.links)) (name_of_node road.from)
+            (name_of_node road.to) ≡ Ok tt }
         ensures { OnOk result (self.new ≡ with_road self.old road) }
     {
         let name = link_name(alloc, self.scenario.network().links())?;

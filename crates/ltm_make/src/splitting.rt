@@ -29,7 +29,8 @@ fn add_end(scenario: &mut Scenario, node: NodeId) -> Result<(), NoMemory>
     requires there { node.0 < length scenario.old.network.nodes }
     requires few { length scenario.old.destinations < 64 }
     requires new { destination_of scenario.old.destinations node.0 ≡ None }
-    ensures { OnOk result (scenario.new ≡ record scenario.old { destinations = scenario.old.destinations ++ node.0 ∷ [] }) }
+    ensures { OnOk result (scenario.new
+        ≡ record scenario.old { destinations = scenario.old.destinations ++ node.0 ∷ [] }) }
 {
     match scenario.add_destination(node) {
         Ok(_) => Ok(()),
@@ -61,7 +62,10 @@ fn put_row(
     requires few { length scenario.old.splits < 50000 }
     requires slots { scenario.old.setup.slots ≡ 60 }
     ensures { OnOk result (scenario.new
-        ≡ record scenario.old { splits = put_in scenario.old.splits (key_of node.0 destination 0) weights.now }) }
+        ≡ record scenario.old {
+          splits = put_in scenario.old.splits
+              (key_of node.0 destination 0) weights.now;
+        }) }
 {
     match scenario.set_split(node, destination, 0, weights) {
         Ok(()) => Ok(()),
@@ -79,7 +83,8 @@ impl Making {
         requires found { IsFound self.old.scenario.network branch.to }
         requires least { branch.least ≤ 1 }
         requires few { branch.choices ≤ 3 }
-        ensures way { IfOk result (λ way. way ≡ way_of self.old.scenario.network branch self.old.words) }
+        ensures way { IfOk result (λ way. way
+            ≡ way_of self.old.scenario.network branch self.old.words) }
         ensures words { OnOk result (self.new.words ≡ words_after branch self.old.words) }
         ensures scenario { self.new.scenario ≡ self.old.scenario }
     {
@@ -98,7 +103,8 @@ impl Making {
     ) -> Result<(), NoMemory>
         requires room { HasRoom self.old.scenario node destination }
         requires branches { AreBranches self.old.scenario.network node branches.0 branches.1 }
-        ensures { OnOk result (self.new ≡ with_split_row node destination branches.0 branches.1 self.old) }
+        ensures { OnOk result (self.new
+            ≡ with_split_row node destination branches.0 branches.1 self.old) }
     {
         let at = node_at(alloc, self.scenario.network(), node)?;
         let first = self.draw_way(alloc, branches.0)?;
@@ -113,7 +119,8 @@ impl Making {
     /// Makes the first node, and the end of the first row, the two destinations.
     pub(crate) fn add_ends(&mut self, alloc: Global, grid: Grid) -> Result<(), NoMemory>
         requires grid { IsGrid grid.nodes grid.width }
-        requires along { IsAlong self.old.scenario.network (roads grid.nodes grid.width grid.nodes) }
+        requires along { IsAlong self.old.scenario.network
+            (roads grid.nodes grid.width grid.nodes) }
         requires none { self.old.scenario.destinations ≡ [] }
         ensures { OnOk result (self.new ≡ with_ends grid.width self.old) }
     {

@@ -21,8 +21,10 @@ fn push_name(
 ) -> Result<(), NoMemory>
     requires link { link.0 < length network.now.links }
     requires flag_for_each { length routes.now.begins ≡ length network.now.links }
-    ensures names { OnOk result (into.new.items ≡ into.old.items ++ (if begins_at routes.now link.0 then link_name network.now link.0 ∷ [] else [])) }
-    ensures named { All (λ name. is_name name ≡ true) into.old.items → OnOk result (All (λ name. is_name name ≡ true) into.new.items) }
+    ensures names { OnOk result (into.new.items
+        ≡ into.old.items ++ (if begins_at routes.now link.0 then link_name network.now link.0 ∷ [] else [])) }
+    ensures named { All (λ name. is_name name ≡ true) into.old.items
+        → OnOk result (All (λ name. is_name name ≡ true) into.new.items) }
 {
     if !routes.on_route(link) {
         return Ok(());
@@ -43,7 +45,9 @@ pub fn names_of(
 ) -> Result<Vec<Name>, NoMemory>
     requires node { node.0 < length scenario.now.network.nodes }
     requires flag_for_each { length routes.now.begins ≡ length scenario.now.network.links }
-    ensures names { IfOk result (λ names. names.items ≡ names_over scenario.now.network (key_of node.0 destination 0, route_split scenario.now routes.now node.0)) }
+    ensures names { IfOk result (λ names. names.items
+        ≡ names_over scenario.now.network
+        (key_of node.0 destination 0, route_split scenario.now routes.now node.0)) }
     ensures named { IfOk result (λ names. All (λ name. is_name name ≡ true) names.items) }
 {
     let network = scenario.network();

@@ -56,7 +56,8 @@ fn text_over(alloc: Global, lines: RouteLines, roads: Scenario) -> Result<Vec<u8
     ensures text { IfOk result (λ text. RoutesAnswer lines (Ok roads) (Ok text.items)) }
     ensures fault { IfErr result (SaysOfRoutes roads) }
     ensures scenario { OnOk result (IsScenario roads) }
-    ensures splits { lines ≡ RouteLines.Splits → IfOk result (λ text. (split : ScenarioData) × IsSplitsOf roads split text.items) }
+    ensures splits { lines ≡ RouteLines.Splits
+        → IfOk result (λ text. (split : ScenarioData) × IsSplitsOf roads split text.items) }
     ensures times { lines ≡ RouteLines.Times → IfOk result (λ text. IsTimesOf roads text.items) }
 {
     names_are_found();
@@ -86,8 +87,10 @@ pub fn route_text<F: Folder>(
     ensures fault { IfErr result (AnswersFault lines (F.told folder.old)) }
 
     // The splits are read back as they were set, and the times are the least.
-    ensures splits { lines ≡ RouteLines.Splits → IfOk result (λ text. IsSplitsFile (F.told folder.old) text.items) }
-    ensures times { lines ≡ RouteLines.Times → IfOk result (λ text. IsTimesFile (F.told folder.old) text.items) }
+    ensures splits { lines ≡ RouteLines.Splits
+        → IfOk result (λ text. IsSplitsFile (F.told folder.old) text.items) }
+    ensures times { lines ≡ RouteLines.Times
+        → IfOk result (λ text. IsTimesFile (F.told folder.old) text.items) }
 
     // A file is not given only where its count of faults rose in this call, and it is one of these three.
     ensures risen { IfErr result (HasRisen (F.faults folder.old) (F.faults folder.new)) }
@@ -95,7 +98,8 @@ pub fn route_text<F: Folder>(
 
     ensures keeps { F.told folder.new ≡ F.told folder.old }
     ensures later { (d : Doc) → F.faults folder.old d ≤ F.faults folder.new d }
-    ensures others { (d : Doc) → is_of_roads d ≡ false → F.faults folder.new d ≡ F.faults folder.old d }
+    ensures others { (d : Doc) → is_of_roads d ≡ false
+        → F.faults folder.new d ≡ F.faults folder.old d }
 {
     match read_roads(alloc, folder) {
         Ok(roads) => return text_over(alloc, lines, roads),

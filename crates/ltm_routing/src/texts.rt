@@ -43,8 +43,11 @@ fn push_record(
     requires destination { destination < length scenario.now.destinations }
     requires node { node.0 < length scenario.now.network.nodes }
     requires flag_for_each { length routes.now.begins ≡ length scenario.now.network.links }
-    ensures record { OnOk result (into.new.items ≡ into.old.items ++ record_of scenario.now (key_of node.0 destination 0, route_split scenario.now routes.now node.0)) }
-    ensures named { OnOk result (IsNamed scenario.now.network scenario.now.destinations (key_of node.0 destination 0, route_split scenario.now routes.now node.0)) }
+    ensures record { OnOk result (into.new.items
+        ≡ into.old.items ++ record_of scenario.now
+        (key_of node.0 destination 0, route_split scenario.now routes.now node.0)) }
+    ensures named { OnOk result (IsNamed scenario.now.network scenario.now.destinations
+        (key_of node.0 destination 0, route_split scenario.now routes.now node.0)) }
 {
     let names = names_of(alloc, scenario, routes, node, destination)?;
     let name = name_of(scenario.network(), node);
@@ -75,7 +78,9 @@ fn push_time(
     requires destination { destination < length scenario.now.destinations }
     requires node { node.0 < length scenario.now.network.nodes }
     requires potential_for_each { length routes.now.potentials ≡ length scenario.now.network.nodes }
-    ensures { OnOk result (into.new.items ≡ into.old.items ++ time_of scenario.now routes.now (key_of node.0 destination 0, route_split scenario.now routes.now node.0)) }
+    ensures { OnOk result (into.new.items
+        ≡ into.old.items ++ time_of scenario.now routes.now
+        (key_of node.0 destination 0, route_split scenario.now routes.now node.0)) }
 {
     let name = name_of(scenario.network(), node);
     let end = name_of(scenario.network(), scenario.destination_node(destination));
@@ -94,9 +99,14 @@ fn push_line(
 ) -> Result<(), NoMemory>
     requires destination { destination < length scenario.now.destinations }
     requires node { node.0 < length scenario.now.network.nodes }
-    requires routes { AreRoutes (roads_of scenario.now) (destination_node scenario.now destination) routes.now }
-    ensures line { OnOk result (into.new.items ≡ into.old.items ++ flat_map (line_of lines scenario.now routes.now) (rows_from scenario.now destination routes.now node.0)) }
-    ensures named { lines ≡ RouteLines.Splits → OnOk result (All (IsNamed scenario.now.network scenario.now.destinations) (rows_from scenario.now destination routes.now node.0)) }
+    requires routes { AreRoutes (roads_of scenario.now)
+        (destination_node scenario.now destination) routes.now }
+    ensures line { OnOk result (into.new.items
+        ≡ into.old.items ++ flat_map (line_of lines scenario.now routes.now)
+        (rows_from scenario.now destination routes.now node.0)) }
+    ensures named { lines ≡ RouteLines.Splits
+        → OnOk result (All (IsNamed scenario.now.network scenario.now.destinations)
+        (rows_from scenario.now destination routes.now node.0)) }
 {
     if !is_routed(scenario, destination, routes, node) {
         return Ok(());
@@ -117,9 +127,13 @@ fn push_lines_to(
     into: &mut Vec<u8>,
 ) -> Result<(), NoMemory>
     requires destination { destination < length scenario.now.destinations }
-    requires routes { AreRoutes (roads_of scenario.now) (destination_node scenario.now destination) routes.now }
-    ensures lines { OnOk result (into.new.items ≡ into.old.items ++ lines_to lines scenario.now routes.now destination) }
-    ensures named { lines ≡ RouteLines.Splits → OnOk result (All (IsNamed scenario.now.network scenario.now.destinations) (rows_to scenario.now destination routes.now)) }
+    requires routes { AreRoutes (roads_of scenario.now)
+        (destination_node scenario.now destination) routes.now }
+    ensures lines { OnOk result (into.new.items
+        ≡ into.old.items ++ lines_to lines scenario.now routes.now destination) }
+    ensures named { lines ≡ RouteLines.Splits
+        → OnOk result (All (IsNamed scenario.now.network scenario.now.destinations)
+        (rows_to scenario.now destination routes.now)) }
 {
     let nodes = scenario.network().nodes();
     for node in 0..nodes {
@@ -156,7 +170,9 @@ pub fn routes_text(
 ) -> Result<Vec<u8>, NoMemory>
     requires { AreAllRoutes scenario.now all.now }
     ensures text { IfOk result (λ text. text.items ≡ routes_text lines scenario.now all.now) }
-    ensures named { lines ≡ RouteLines.Splits → IfOk result (λ _. All (IsNamed scenario.now.network scenario.now.destinations) (route_splits scenario.now all.now)) }
+    ensures named { lines ≡ RouteLines.Splits
+        → IfOk result (λ _. All (IsNamed scenario.now.network scenario.now.destinations)
+        (route_splits scenario.now all.now)) }
 {
     let _setup = scenario.setup();
     let destinations = scenario.destinations().len() as u32;

@@ -45,7 +45,8 @@ impl Batch {
     pub fn of(alloc: Global, edits: &[Edit]) -> Result<Batch, BatchFault>
         ensures ok { IfOk result (λ batch. batch ≡ edits.now) }
         ensures fits { OnOk result (is_count (length edits.now) ≡ true) }
-        ensures cause { IfErr result (λ e. e ≢ BatchFault.NoMemory → (e ≡ BatchFault.Count) × (is_count (length edits.now) ≡ false)) }
+        ensures cause { IfErr result (λ e. e ≢ BatchFault.NoMemory
+            → (e ≡ BatchFault.Count) × (is_count (length edits.now) ≡ false)) }
     {
         if edits.is_empty() || edits.len() > MOST_EDITS {
             return Err(BatchFault::Count);

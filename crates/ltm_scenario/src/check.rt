@@ -80,7 +80,8 @@ impl Scenario {
     ) -> Result<(), ScenarioFault>
         requires destination { destination < length self.now.destinations }
         requires links { All (λ link. link.0 < length self.now.network.links) links.now }
-        ensures { result ≡ first_over (weight_checked self.now destination) (zip (map (λ link. link.0) links.now) weights.now) }
+        ensures { result ≡ first_over (weight_checked self.now destination)
+            (zip (map (λ link. link.0) links.now) weights.now) }
     {
         let Some((link, other_links)) = links.split_first() else {
             return Ok(());

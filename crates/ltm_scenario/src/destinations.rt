@@ -76,7 +76,8 @@ impl Destinations {
     #[tactic(auto, using(crate::proofs::Added::place_there))]
     pub fn place(&self, node: NodeId) -> Option<u32>
         ensures place { result ≡ destination_of self.now node.0 }
-        ensures there { IfSome result (λ place. (place < length self.now) × (slice_index self.now place ≡ node.0)) }
+        ensures there { IfSome result (λ place. (place < length self.now)
+            × (slice_index self.now place ≡ node.0)) }
     {
         if (node.0 as usize) < self.places.len() {
             return self.places[node.0 as usize];
@@ -86,7 +87,8 @@ impl Destinations {
 
     /// The place of the node, which becomes the last destination where it was none.
     pub fn add(&mut self, node: NodeId) -> Result<u32, DestinationFault>
-        ensures ok { OnOk result (added self.old node.0 (destination_of self.old node.0) ≡ Ok self.new) }
+        ensures ok { OnOk result (added self.old node.0 (destination_of self.old node.0)
+            ≡ Ok self.new) }
         ensures place { IfOk result (λ place. destination_of self.new node.0 ≡ Some place) }
         ensures err { OnErr result (self.new ≡ self.old) }
         ensures cause { IfErr result (λ e. e ≢ DestinationFault.NoMemory
@@ -133,7 +135,8 @@ impl Destinations {
 /// Sees to it that the places reach as far as the node. No place changes.
 #[tactic(auto, using(crate::proofs::Places::none_padded))]
 fn reach(places: &mut Vec<Option<u32>>, node: NodeId) -> Result<(), NoMemory>
-    ensures same { (n : ℕ) → slice_index_or places.new.items n None ≡ slice_index_or places.old.items n None }
+    ensures same { (n : ℕ)
+        → slice_index_or places.new.items n None ≡ slice_index_or places.old.items n None }
     ensures ok { OnOk result (node.0 < vec_len places.new) }
 {
     let count = node.0 as usize + 1;

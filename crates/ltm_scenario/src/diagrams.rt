@@ -68,7 +68,8 @@ impl Diagrams {
 
     pub fn limits(&self, link: u32) -> Limits
         requires { link < length self.now.diagrams }
-        ensures limits { (diagram : Diagram) → slice_get self.now.diagrams link ≡ Some diagram → limits_of diagram self.now.step ≡ Ok result }
+        ensures limits { (diagram : Diagram) → slice_get self.now.diagrams link ≡ Some diagram
+            → limits_of diagram self.now.step ≡ Ok result }
     {
         self.timed[link as usize].limits
     }
@@ -76,7 +77,8 @@ impl Diagrams {
     /// The times of a link, counted in slots.
     pub fn delays(&self, link: u32) -> Delays
         requires { link < length self.now.diagrams }
-        ensures delays { (diagram : Diagram) → (limits : Limits) → slice_get self.now.diagrams link ≡ Some diagram
+        ensures delays { (diagram : Diagram) → (limits : Limits)
+            → slice_get self.now.diagrams link ≡ Some diagram
             → limits_of diagram self.now.step ≡ Ok limits → AreDelays self.now.step limits result }
     {
         self.timed[link as usize].delays

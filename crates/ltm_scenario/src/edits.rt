@@ -46,7 +46,8 @@ impl Parts {
         requires parts { AreParts self.old }
         requires places { place + length edits.now < 2 ^ 32 }
         requires amounts { HaveAmounts edits.now }
-        ensures ok { OnOk result (edited_from place (scenario_in self.old) edits.now ≡ Ok (scenario_in self.new)) }
+        ensures ok { OnOk result (edited_from place (scenario_in self.old) edits.now
+            ≡ Ok (scenario_in self.new)) }
         ensures err { OnErr result (scenario_in self.new ≡ scenario_in self.old) }
         ensures cause { IfErr result (λ fault. fault.cause ≢ EditCause.NoMemory
             → edited_from place (scenario_in self.old) edits.now ≡ Err fault) }
@@ -72,10 +73,12 @@ impl Parts {
     fn apply(&mut self, edit: &Edit) -> Result<Undo, EditCause>
         requires parts { AreParts self.old }
         requires amount { amount_of edit.now ≤ 1000000000 }
-        ensures ok { OnOk result (edited (scenario_in self.old) edit.now ≡ Ok (scenario_in self.new)) }
+        ensures ok { OnOk result (edited (scenario_in self.old) edit.now
+            ≡ Ok (scenario_in self.new)) }
         ensures undo { IfOk result (Undoes (state_in self.old) (state_in self.new)) }
         ensures err { OnErr result (scenario_in self.new ≡ scenario_in self.old) }
-        ensures cause { IfErr result (λ e. e ≢ EditCause.NoMemory → edited (scenario_in self.old) edit.now ≡ Err e) }
+        ensures cause { IfErr result (λ e. e ≢ EditCause.NoMemory
+            → edited (scenario_in self.old) edit.now ≡ Err e) }
         ensures room { KeepsRoom (state_in self.old) (state_in self.new) }
         ensures parts { AreParts self.new }
     {
@@ -121,11 +124,13 @@ impl Parts {
         requires parts { AreParts self.old }
         requires amount { amount.0 ≤ 1000000000 }
         ensures ok { OnOk result
-            (demand_edited (scenario_in self.old) origin.now destination.now from to amount.0 ≡ Ok (scenario_in self.new)) }
+            (demand_edited (scenario_in self.old) origin.now destination.now from to amount.0
+            ≡ Ok (scenario_in self.new)) }
         ensures undo { IfOk result (Undoes (state_in self.old) (state_in self.new)) }
         ensures err { OnErr result (scenario_in self.new ≡ scenario_in self.old) }
         ensures cause { IfErr result (λ e. e ≢ EditCause.NoMemory
-            → demand_edited (scenario_in self.old) origin.now destination.now from to amount.0 ≡ Err e) }
+            → demand_edited (scenario_in self.old) origin.now destination.now from to amount.0
+            ≡ Err e) }
         ensures room { KeepsRoom (state_in self.old) (state_in self.new) }
         ensures parts { AreParts self.new }
     {
@@ -149,7 +154,8 @@ impl Parts {
         to: u32,
         amount: Units,
     ) -> Result<DemandRow, EditCause>
-        ensures row { result ≡ demand_row (scenario_in self.now) origin.now destination.now from to amount.0 }
+        ensures row { result
+            ≡ demand_row (scenario_in self.now) origin.now destination.now from to amount.0 }
         ensures is_row { IfOk result (IsDemandOf (scenario_in self.now)) }
         ensures amount { IfOk result (λ row. row.amount ≡ amount) }
     {
@@ -208,7 +214,8 @@ impl Parts {
         amount: Units,
     ) -> Result<Undo, EditCause>
         requires parts { AreParts self.old }
-        ensures ok { OnOk result (limit_edited (scenario_in self.old) side name.now from to amount.0 ≡ Ok (scenario_in self.new)) }
+        ensures ok { OnOk result (limit_edited (scenario_in self.old) side name.now from to amount.0
+            ≡ Ok (scenario_in self.new)) }
         ensures undo { IfOk result (Undoes (state_in self.old) (state_in self.new)) }
         ensures err { OnErr result (scenario_in self.new ≡ scenario_in self.old) }
         ensures cause { IfErr result (λ e. e ≢ EditCause.NoMemory
@@ -229,7 +236,8 @@ impl Parts {
     #[tactic(auto, unfolding(crate::specs::Edits::diagram_edited))]
     fn edit_diagram(&mut self, name: &Name, diagram: Diagram) -> Result<Undo, EditCause>
         requires parts { AreParts self.old }
-        ensures ok { OnOk result (diagram_edited (scenario_in self.old) name.now diagram ≡ Ok (scenario_in self.new)) }
+        ensures ok { OnOk result (diagram_edited (scenario_in self.old) name.now diagram
+            ≡ Ok (scenario_in self.new)) }
         ensures undo { IfOk result (Undoes (state_in self.old) (state_in self.new)) }
         ensures err { OnErr result (scenario_in self.new ≡ scenario_in self.old) }
         ensures cause { IfErr result (λ e. e ≢ EditCause.NoMemory
@@ -248,7 +256,8 @@ impl Parts {
 
     fn edit_horizon(&mut self, slots: u32) -> Result<Undo, EditCause>
         requires parts { AreParts self.old }
-        ensures ok { OnOk result (horizon_edited (scenario_in self.old) slots ≡ Ok (scenario_in self.new)) }
+        ensures ok { OnOk result (horizon_edited (scenario_in self.old) slots
+            ≡ Ok (scenario_in self.new)) }
         ensures undo { IfOk result (Undoes (state_in self.old) (state_in self.new)) }
         ensures err { OnErr result (scenario_in self.new ≡ scenario_in self.old) }
         ensures cause { IfErr result (λ e. horizon_edited (scenario_in self.old) slots ≡ Err e) }

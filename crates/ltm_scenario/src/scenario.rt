@@ -130,9 +130,12 @@ impl Scenario {
 
         ensures valid { IsValid self.new }
         ensures shape { SameShape self.old self.new }
-        ensures horizon { OnOk result (self.new.setup.slots ≡ horizon_after self.old.setup.slots batch.now) }
-        ensures reach { OnOk result (MayReach self.old (horizon_after self.old.setup.slots batch.now)) }
-        ensures cells { self.new.setup.slots ≡ self.old.setup.slots → cells self.new ≡ cells self.old }
+        ensures horizon { OnOk result (self.new.setup.slots
+            ≡ horizon_after self.old.setup.slots batch.now) }
+        ensures reach { OnOk result (MayReach self.old
+            (horizon_after self.old.setup.slots batch.now)) }
+        ensures cells { self.new.setup.slots ≡ self.old.setup.slots
+            → cells self.new ≡ cells self.old }
     {
         let edits = batch.edits();
         match self.parts.accept_from(1, edits) {
@@ -176,8 +179,10 @@ impl Scenario {
     /// The times of a link, counted in slots.
     pub fn delays(&self, link: LinkId) -> Delays
         requires { link.0 < length self.now.network.links }
-        ensures { (diagram : Diagram) → (limits : Limits) → slice_get self.now.diagrams link.0 ≡ Some diagram
-            → limits_of diagram self.now.setup.step.0 ≡ Ok limits → AreDelays self.now.setup.step.0 limits result }
+        ensures { (diagram : Diagram) → (limits : Limits)
+            → slice_get self.now.diagrams link.0 ≡ Some diagram
+            → limits_of diagram self.now.setup.step.0 ≡ Ok limits
+            → AreDelays self.now.setup.step.0 limits result }
     {
         self.parts.diagrams.delays(link.0)
     }

@@ -19,7 +19,8 @@ use std::alloc::Global;
 /// Says how large a core's scenario is.
 #[tactic(auto, unfolding(crate::specs::Trial::size_of))]
 pub(crate) fn push_size(alloc: Global, core: &Core, into: &mut Vec<u8>) -> Result<(), NoMemory>
-    ensures { OnOk result (into.new.items ≡ into.old.items ++ size_of (setting_of core.now.scenario)) }
+    ensures { OnOk result (into.new.items
+        ≡ into.old.items ++ size_of (setting_of core.now.scenario)) }
 {
     let pairs = core.pairs();
     let nodes = node_count(core.scenario());
@@ -36,7 +37,8 @@ pub(crate) fn push_work(
     into: &mut Vec<u8>,
 ) -> Result<(), NoMemory>
     ensures { (s : Setting) (version : ℕ) (c : Counts) → ShowsCounts s version c loading.now
-        → OnOk result (into.new.items ≡ into.old.items ++ work_line recomputed solved (time_spent s c)) }
+        → OnOk result (into.new.items
+        ≡ into.old.items ++ work_line recomputed solved (time_spent s c)) }
 {
     work_text(alloc, recomputed, solved, time_spent(loading), into)
 }

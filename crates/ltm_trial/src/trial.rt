@@ -24,7 +24,8 @@ use std::alloc::Global;
 
 /// The first two lines: of what is shown before the batch.
 fn push_before(alloc: Global, core: &Core, into: &mut Vec<u8>) -> Result<(), NoMemory>
-    ensures { (s : Setting) (c : Counts) → ShowsCounts s 0 c core.now.shown → OnOk result (into.new.items ≡ into.old.items
+    ensures { (s : Setting) (c : Counts) → ShowsCounts s 0 c core.now.shown
+        → OnOk result (into.new.items ≡ into.old.items
         ++ size_of (setting_of core.now.scenario) ++ totals_report 0 s c) }
 {
     push_size(alloc, core, into)?;
@@ -40,7 +41,8 @@ fn push_after(
     solved: u64,
     into: &mut Vec<u8>,
 ) -> Result<(), NoMemory>
-    ensures { (s : Setting) (c : Counts) → ShowsCounts s 1 c core.now.shown → OnOk result (into.new.items ≡ into.old.items
+    ensures { (s : Setting) (c : Counts) → ShowsCounts s 1 c core.now.shown
+        → OnOk result (into.new.items ≡ into.old.items
         ++ totals_report 1 s c ++ work_line recomputed solved (time_spent s c)) }
 {
     totals_text(alloc, core.shown(), into)?;

@@ -36,11 +36,13 @@ impl Parts {
     ) -> Result<Undo, EditCause>
         requires parts { AreParts self.old }
         ensures ok { OnOk result
-            (split_edited (scenario_in self.old) node.now destination.now from weights.now ≡ Ok (scenario_in self.new)) }
+            (split_edited (scenario_in self.old) node.now destination.now from weights.now
+            ≡ Ok (scenario_in self.new)) }
         ensures undo { IfOk result (Undoes (state_in self.old) (state_in self.new)) }
         ensures err { OnErr result (scenario_in self.new ≡ scenario_in self.old) }
         ensures cause { IfErr result (λ e. e ≢ EditCause.NoMemory
-            → split_edited (scenario_in self.old) node.now destination.now from weights.now ≡ Err e) }
+            → split_edited (scenario_in self.old) node.now destination.now from weights.now
+            ≡ Err e) }
         ensures room { KeepsRoom (state_in self.old) (state_in self.new) }
         ensures parts { AreParts self.new }
     {
@@ -67,10 +69,14 @@ impl Parts {
         from: u32,
         weights: &[(Name, u32)],
     ) -> Result<SplitKey, EditCause>
-        ensures key { result ≡ split_key (scenario_in self.now) node.now destination.now from weights.now }
-        ensures node { IfOk result (λ key. key.node.0 < length (scenario_in self.now).network.nodes) }
-        ensures destination { IfOk result (λ key. key.destination < length (scenario_in self.now).destinations) }
-        ensures ends { IfOk result (λ key. (key.node.0 == destination_node (scenario_in self.now) key.destination) ≡ false) }
+        ensures key { result
+            ≡ split_key (scenario_in self.now) node.now destination.now from weights.now }
+        ensures node { IfOk result (λ key. key.node.0 < length
+            (scenario_in self.now).network.nodes) }
+        ensures destination { IfOk result
+            (λ key. key.destination < length (scenario_in self.now).destinations) }
+        ensures ends { IfOk result (λ key.
+            (key.node.0 == destination_node (scenario_in self.now) key.destination) ≡ false) }
     {
         let Some(node) = self.network.find_node(node) else {
             return Err(EditCause::UnknownName);
@@ -102,10 +108,14 @@ impl Parts {
     fn split_row(&self, key: SplitKey, weights: &[(Name, u32)]) -> Result<RowWeights, EditCause>
         requires node { key.node.0 < length (scenario_in self.now).network.nodes }
         requires destination { key.destination < length (scenario_in self.now).destinations }
-        ensures ok { IfOk result (λ row. split_row (scenario_in self.now) key (weights_at (scenario_in self.now) key.node.0 weights.now) ≡ Ok (key, row)) }
-        ensures cause { IfErr result (λ e. split_row (scenario_in self.now) key (weights_at (scenario_in self.now) key.node.0 weights.now) ≡ Err e) }
-        ensures row { IfOk result (λ row. row ≡ weights_at (scenario_in self.now) key.node.0 weights.now) }
-        ensures each { IfOk result (λ row. length row ≡ length (out_links (scenario_in self.now).network key.node.0)) }
+        ensures ok { IfOk result (λ row. split_row (scenario_in self.now) key
+            (weights_at (scenario_in self.now) key.node.0 weights.now) ≡ Ok (key, row)) }
+        ensures cause { IfErr result (λ e. split_row (scenario_in self.now) key
+            (weights_at (scenario_in self.now) key.node.0 weights.now) ≡ Err e) }
+        ensures row { IfOk result (λ row. row
+            ≡ weights_at (scenario_in self.now) key.node.0 weights.now) }
+        ensures each { IfOk result (λ row. length row
+            ≡ length (out_links (scenario_in self.now).network key.node.0)) }
     {
         let Some(row) = self.weights_at(key.node, weights) else {
             return Err(EditCause::ZeroWeight);

@@ -23,10 +23,12 @@ impl Parts {
         requires parts { AreParts self.old }
         requires amount { row.amount.0 ≤ 1000000000 }
         requires row { IsDemandOf (scenario_in self.old) row }
-        ensures ok { OnOk result (with_demand (scenario_in self.old) row ≡ Ok (scenario_in self.new)) }
+        ensures ok { OnOk result (with_demand (scenario_in self.old) row
+            ≡ Ok (scenario_in self.new)) }
         ensures undo { IfOk result (Undoes (state_in self.old) (state_in self.new)) }
         ensures err { OnErr result (scenario_in self.new ≡ scenario_in self.old) }
-        ensures cause { IfErr result (λ e. e ≢ DemandFault.NoMemory → with_demand (scenario_in self.old) row ≡ Err e) }
+        ensures cause { IfErr result (λ e. e ≢ DemandFault.NoMemory
+            → with_demand (scenario_in self.old) row ≡ Err e) }
         ensures room { KeepsRoom (state_in self.old) (state_in self.new) }
         ensures parts { AreParts self.new }
     {
@@ -51,7 +53,8 @@ impl Parts {
         requires parts { AreParts self.old }
         requires link { link < length (scenario_in self.old).network.links }
         requires slots { are_slots (scenario_in self.old) from to ≡ true }
-        ensures ok { OnOk result (scenario_in self.new ≡ with_limit_at (scenario_in self.old) side link from to amount.0) }
+        ensures ok { OnOk result (scenario_in self.new
+            ≡ with_limit_at (scenario_in self.old) side link from to amount.0) }
         ensures undo { IfOk result (Undoes (state_in self.old) (state_in self.new)) }
         ensures err { OnErr result (scenario_in self.new ≡ scenario_in self.old) }
         ensures room { KeepsRoom (state_in self.old) (state_in self.new) }
@@ -94,10 +97,12 @@ impl Parts {
     pub fn change_split(&mut self, key: SplitKey, weights: &[u32]) -> Result<Undo, SplitFault>
         requires parts { AreParts self.old }
         requires row { IsSplitOf (scenario_in self.old) (key, weights.now) }
-        ensures ok { OnOk result (with_split (scenario_in self.old) key weights.now ≡ Ok (scenario_in self.new)) }
+        ensures ok { OnOk result (with_split (scenario_in self.old) key weights.now
+            ≡ Ok (scenario_in self.new)) }
         ensures undo { IfOk result (Undoes (state_in self.old) (state_in self.new)) }
         ensures err { OnErr result (scenario_in self.new ≡ scenario_in self.old) }
-        ensures cause { IfErr result (λ e. e ≢ SplitFault.NoMemory → with_split (scenario_in self.old) key weights.now ≡ Err e) }
+        ensures cause { IfErr result (λ e. e ≢ SplitFault.NoMemory
+            → with_split (scenario_in self.old) key weights.now ≡ Err e) }
         ensures room { KeepsRoom (state_in self.old) (state_in self.new) }
         ensures parts { AreParts self.new }
     {

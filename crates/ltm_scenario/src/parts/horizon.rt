@@ -15,7 +15,8 @@ impl Parts {
     /// Raises the horizon, and gives what undoes it.
     pub fn lengthen(&mut self, slots: u32) -> Result<Undo, HorizonFault>
         requires parts { AreParts self.old }
-        ensures ok { OnOk result (with_horizon (scenario_in self.old) slots ≡ Ok (scenario_in self.new)) }
+        ensures ok { OnOk result (with_horizon (scenario_in self.old) slots
+            ≡ Ok (scenario_in self.new)) }
         ensures undo { IfOk result (Undoes (state_in self.old) (state_in self.new)) }
         ensures err { OnErr result (scenario_in self.new ≡ scenario_in self.old) }
         ensures cause { IfErr result (λ e. with_horizon (scenario_in self.old) slots ≡ Err e) }
@@ -31,7 +32,8 @@ impl Parts {
     /// Why the horizon is not raised so far.
     #[tactic(auto, unfolding(crate::specs::Horizon::with_horizon))]
     fn check_horizon(&self, slots: u32) -> Result<(), HorizonFault>
-        ensures ok { OnOk result (with_horizon (scenario_in self.now) slots ≡ Ok (with_slots (scenario_in self.now) slots)) }
+        ensures ok { OnOk result (with_horizon (scenario_in self.now) slots
+            ≡ Ok (with_slots (scenario_in self.now) slots)) }
         ensures longer { OnOk result ((scenario_in self.now).setup.slots < slots) }
         ensures most { OnOk result (slots ≤ 10000) }
         ensures cause { IfErr result (λ e. with_horizon (scenario_in self.now) slots ≡ Err e) }
@@ -71,7 +73,8 @@ impl Parts {
     pub fn shorten(&mut self, slots: u32)
         requires parts { AreParts self.old }
         requires can { CanUndo (state_in self.old) (Undo.Horizon slots) }
-        ensures scenario { scenario_in self.new ≡ undone (scenario_in self.old) (Undo.Horizon slots) }
+        ensures scenario { scenario_in self.new
+            ≡ undone (scenario_in self.old) (Undo.Horizon slots) }
         ensures room { KeepsRoom (state_in self.old) (state_in self.new) }
         ensures parts { AreParts self.new }
     {

@@ -42,7 +42,8 @@ impl Parts {
 
     /// Whether all weights are those of out-links of the node.
     pub fn are_out_links(&self, node: NodeId, weights: &[(Name, u32)]) -> bool
-        ensures { result ≡ list_all (λ w. is_out_link (scenario_in self.now) node.0 w.0) weights.now }
+        ensures { result ≡ list_all (λ w. is_out_link
+            (scenario_in self.now) node.0 w.0) weights.now }
     {
         weights
             .iter()
@@ -62,7 +63,8 @@ impl Parts {
     /// A weight for each out-link of the node, in order of link number, and how many these are.
     fn named_row(&self, node: NodeId, weights: &[(Name, u32)]) -> ([u32; 4], usize)
         requires { node.0 < length (scenario_in self.now).network.nodes }
-        ensures row { take result.1 result.0 ≡ weights_at (scenario_in self.now) node.0 weights.now }
+        ensures row { take result.1 result.0
+            ≡ weights_at (scenario_in self.now) node.0 weights.now }
         ensures each { result.1 ≡ length (out_links (scenario_in self.now).network node.0) }
         ensures few { result.1 ≤ 4 }
     {
@@ -83,7 +85,8 @@ impl Parts {
         requires { node.0 < length (scenario_in self.now).network.nodes }
         ensures weights { let row = weights_at (scenario_in self.now) node.0 weights.now in
             result ≡ (if sum row == 0 then None else Some row) }
-        ensures each { IfSome result (λ row. length row ≡ length (out_links (scenario_in self.now).network node.0)) }
+        ensures each { IfSome result (λ row. length row
+            ≡ length (out_links (scenario_in self.now).network node.0)) }
     {
         let (row, count) = self.named_row(node, weights);
         RowWeights::of(&row[..count])
@@ -113,8 +116,10 @@ impl Parts {
     /// Whether all links lead on with these weights.
     pub fn all_lead_on(&self, destination: u32, links: &[LinkId], weights: &[u32]) -> bool
         requires destination { destination < length (scenario_in self.now).destinations }
-        requires links { All (λ link. link.0 < length (scenario_in self.now).network.links) links.now }
-        ensures { result ≡ list_all (λ p. leads_on (scenario_in self.now) destination p.0 p.1) (zip (map (λ link. link.0) links.now) weights.now) }
+        requires links { All (λ link. link.0 < length
+            (scenario_in self.now).network.links) links.now }
+        ensures { result ≡ list_all (λ p. leads_on (scenario_in self.now) destination p.0 p.1)
+            (zip (map (λ link. link.0) links.now) weights.now) }
     {
         let Some((link, other_links)) = links.split_first() else {
             return true;

@@ -84,7 +84,8 @@ impl Parts {
     fn restore_limit(&mut self, side: Side, link: u32, from: u32, was: Vec<u16>)
         requires parts { AreParts self.old }
         requires can { CanUndo (state_in self.old) (Undo.Limit side link from was) }
-        ensures scenario { scenario_in self.new ≡ undone (scenario_in self.old) (Undo.Limit side link from was) }
+        ensures scenario { scenario_in self.new
+            ≡ undone (scenario_in self.old) (Undo.Limit side link from was) }
         ensures room { KeepsRoom (state_in self.old) (state_in self.new) }
         ensures parts { AreParts self.new }
     {
@@ -99,7 +100,8 @@ impl Parts {
     fn take_out_split(&mut self, key: SplitKey)
         requires parts { AreParts self.old }
         requires can { CanUndo (state_in self.old) (Undo.NewSplit key) }
-        ensures scenario { scenario_in self.new ≡ undone (scenario_in self.old) (Undo.NewSplit key) }
+        ensures scenario { scenario_in self.new
+            ≡ undone (scenario_in self.old) (Undo.NewSplit key) }
         ensures room { KeepsRoom (state_in self.old) (state_in self.new) }
         ensures parts { AreParts self.new }
     {
@@ -110,7 +112,8 @@ impl Parts {
     fn restore_split(&mut self, key: SplitKey, was: Vec<u32>)
         requires parts { AreParts self.old }
         requires can { CanUndo (state_in self.old) (Undo.OldSplit key was) }
-        ensures scenario { scenario_in self.new ≡ undone (scenario_in self.old) (Undo.OldSplit key was) }
+        ensures scenario { scenario_in self.new
+            ≡ undone (scenario_in self.old) (Undo.OldSplit key was) }
         ensures room { KeepsRoom (state_in self.old) (state_in self.new) }
         ensures parts { AreParts self.new }
     {
@@ -122,7 +125,8 @@ impl Parts {
     fn restore_diagram(&mut self, link: u32, diagram: Diagram, limits: Limits)
         requires parts { AreParts self.old }
         requires can { CanUndo (state_in self.old) (Undo.Diagram link diagram limits) }
-        ensures scenario { scenario_in self.new ≡ undone (scenario_in self.old) (Undo.Diagram link diagram limits) }
+        ensures scenario { scenario_in self.new
+            ≡ undone (scenario_in self.old) (Undo.Diagram link diagram limits) }
         ensures room { KeepsRoom (state_in self.old) (state_in self.new) }
         ensures parts { AreParts self.new }
     {

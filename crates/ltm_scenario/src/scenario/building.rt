@@ -88,7 +88,8 @@ impl Scenario {
     pub fn add_destination(&mut self, node: NodeId) -> Result<u32, DestinationFault>
         requires { node.0 < length self.old.network.nodes }
         ensures ok { OnOk result (with_destination self.old node.0 ≡ Ok self.new) }
-        ensures place { IfOk result (λ place. destination_of self.new.destinations node.0 ≡ Some place) }
+        ensures place { IfOk result (λ place. destination_of self.new.destinations node.0
+            ≡ Some place) }
         ensures err { OnErr result (self.new ≡ self.old) }
         ensures cause { IfErr result (λ e. e ≢ DestinationFault.NoMemory
             → with_destination self.old node.0 ≡ Err e) }
@@ -108,7 +109,8 @@ impl Scenario {
         requires row { IsDemandOf self.old row }
         ensures ok { OnOk result (with_demand self.old row ≡ Ok self.new) }
         ensures err { OnErr result (self.new ≡ self.old) }
-        ensures cause { IfErr result (λ e. e ≢ DemandFault.NoMemory → with_demand self.old row ≡ Err e) }
+        ensures cause { IfErr result (λ e. e ≢ DemandFault.NoMemory
+            → with_demand self.old row ≡ Err e) }
     {
         let answer = self.parts.demand.set(row);
         // What every demand keeps of its rows is kept of the scenario's.
@@ -151,7 +153,8 @@ impl Scenario {
         amount: Units,
     ) -> Result<(), DemandFault>
         requires { link.0 < length self.old.network.links }
-        ensures ok { OnOk result (with_limit_set self.old side link.0 from to amount.0 ≡ Ok self.new) }
+        ensures ok { OnOk result (with_limit_set self.old side link.0 from to amount.0
+            ≡ Ok self.new) }
         ensures err { OnErr result (self.new ≡ self.old) }
         ensures cause { IfErr result (λ e. e ≢ DemandFault.NoMemory
             → with_limit_set self.old side link.0 from to amount.0 ≡ Err e) }

@@ -37,8 +37,10 @@ impl Scenario {
     /// where they are all 0.
     pub fn weights_at(&self, node: NodeId, weights: &[(Name, u32)]) -> Option<RowWeights>
         requires { node.0 < length self.now.network.nodes }
-        ensures weights { let row = weights_at self.now node.0 weights.now in result ≡ (if sum row == 0 then None else Some row) }
-        ensures each { IfSome result (λ row. length row ≡ length (out_links self.now.network node.0)) }
+        ensures weights { let row = weights_at self.now node.0 weights.now in result
+            ≡ (if sum row == 0 then None else Some row) }
+        ensures each { IfSome result (λ row. length row
+            ≡ length (out_links self.now.network node.0)) }
     {
         self.parts.weights_at(node, weights)
     }
