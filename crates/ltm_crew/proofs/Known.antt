@@ -1,7 +1,7 @@
 -- What the editor knows after an answer.
 use Rattle.std.proofs.Common.{ℕ, ◌≡◌, ◌⊎◌, inl, inr, ◌++◌, ◌+◌, ◌<◌, ◌≤◌, List, [], ◌∷◌, length, refl, ap, sym, subst, ◌∙◌, arith}
 use Rattle.std.proofs.lemmas.List.{append-nil}
-use Rattle.std.specs.Prelude.{Option, Some, None, Result, Ok, Err, MatchResult, OnOk, OnErr}
+use Rattle.std.specs.Prelude.{Option, Some, None, Result, Ok, Err, MatchResult, OnOk, OnErr, IfErr}
 use Rattle.ltm_scenario.specs.declared.edit.Edit.{Edit}
 use Rattle.ltm_scenario.specs.declared.edit.EditFault.{EditFault}
 use Rattle.ltm_scenario.specs.Edits.{edited_all}
@@ -28,12 +28,12 @@ use Rattle.ltm_session.specs.declared.ends.SessionEnd.TheVariants.{Ended, ReadFa
 use Rattle.ltm_session.specs.Analysts.{Analysts, opening_state, state_of, settled, IsShownLater}
 use Rattle.ltm_session.specs.Answers.{Replies, Answers, AnswersAlone, AnswersBeside}
 use Rattle.ltm_session.specs.Session.{IsSession, Wrote, end_of, longest_line, most_lines}
-use Rattle.ltm_session.specs.Serving.{EndsIfTold}
-use Rattle.ltm_crew.specs.Beside.{IsKnown, SaidBeside, LineBeside, StopsBeside, ServingBeside, SessionBeside, StaysTold, ReadsAll}
+use Rattle.ltm_session.specs.Answerers.{Leads, AnswersBy, StopsBy, Serves}
+use Rattle.ltm_crew.specs.Beside.{IsKnown, SaidBeside, LineBeside, StopsBeside, SessionBeside, ReadsAll}
 use Rattle.ltm_session.proofs.Besides.{lines_beside}
 use Rattle.ltm_session.proofs.Ending.{ends_as_told}
 use Rattle.ltm_session.proofs.Looking.{looks_state}
-use Rattle.ltm_session.proofs.Progress.{nothing_ahead, serving_begins, serving_more, serving_ends, serving_stops, never_begun}
+use Rattle.ltm_session.proofs.Progress.{never_begun}
 
 pub stays_shown : (s : Analysts) → s.shown ≤ version_now s.log → IsShownLater s s
 stays_shown s finished = record { log = refl; later = omega arith; finished = finished }
@@ -171,36 +171,36 @@ stops_text line words bytes items before end old new list list' seen seen' fails
     (subst (λ b. AppendsFront old new b) (same ∙ longer ∙ ap (λ b. b ++ words) none) front)
 
 -- ---- the whole session
-pub serving_beside_begins : (told coming written : Option (List ℕ)) (list : List LogEntry) (seen : ℕ) → coming ≡ told → ServingBeside told coming written written 0 list seen list seen
-unfolding ServingBeside
-serving_beside_begins told coming written list seen same = λ o known. (opening_state o, serving_begins AnswersBeside o told coming written same, known)
+pub never_begun_beside : (told w : Option (List ℕ)) (list : List LogEntry) (seen : ℕ) → SessionBeside told NoMemory w w list seen list seen
+unfolding SessionBeside
+never_begun_beside told w list seen = λ o known. let (output, session, wrote) = never_begun AnswersBeside o told w in (output, opening_state o, session, wrote, known)
 
-pub serving_beside_more : (told now new w w1 w2 : Option (List ℕ)) (count : ℕ) (line text : List ℕ) (list list1 list2 : List LogEntry) (seen seen1 seen2 : ℕ)
-    → ServingBeside told now w w1 count list seen list1 seen1 → GivesLine now line new → length line ≤ longest_line
-    → LineBeside line text list1 seen1 list2 seen2 → w2 ≡ appended text w1 → ServingBeside told new w w2 (count + 1) list seen list2 seen2
-unfolding ServingBeside LineBeside
-serving_beside_more told now new w w1 w2 count line text list list1 list2 seen seen1 seen2 so reads fits is wrote = λ o known.
-    let (t, serving, knows) = so o known in
-    let (u, answered, then_knows) = is t knows in
-    (u, serving_more AnswersBeside o told now new w w1 w2 count t u line text serving reads fits answered wrote, then_knows)
+-- ---- an answerer of any kind
+-- a line was answered, and a session stopped at one
+pub answered_beside : {A B : Type 0} (line : List ℕ) (list list' : List LogEntry) (seen seen' : ℕ) (old new : Option (List ℕ)) (r : Result A B)
+    → OnOk r ((words : List ℕ) × LineBeside line words list seen list' seen' × (new ≡ appended words old))
+    → OnOk r ((words : List ℕ) × AnswersBy AnswersBeside (λ s. IsKnown s list seen) (λ s. IsKnown s list' seen') line words × (new ≡ appended words old))
+unfolding LineBeside Leads
+answered_beside line list list' seen seen' old new (Ok x) (words, is, wrote) = (words, is, wrote)
+answered_beside line list list' seen seen' old new (Err x) is = tt
 
-pub serving_beside_ends : (told now new w w1 : Option (List ℕ)) (count : ℕ) (end : SessionEnd) (list list1 : List LogEntry) (seen seen1 : ℕ)
-    → ServingBeside told now w w1 count list seen list1 seen1 → count ≤ most_lines → EndsIfTold end count now new → SessionBeside told end w w1 list seen list1 seen1
-unfolding ServingBeside SessionBeside
-serving_beside_ends told now new w w1 count end list list1 seen seen1 so few ends = λ o known.
-    let (t, serving, knows) = so o known in
-    let (output, session, wrote) = serving_ends AnswersBeside o told now new w w1 count t end serving few ends in
-    (output, t, session, wrote, knows)
+pub stopped_beside : {A : Type 0} (line : List ℕ) (list list' : List LogEntry) (seen seen' : ℕ) (old new : Option (List ℕ)) (r : Result A SessionEnd)
+    → IfErr r (λ end. StopsBeside line end old new list seen list' seen') → IfErr r (λ end. (end ≡ WriteFault) ⊎ (end ≡ NoMemory))
+    → IfErr r (λ end. StopsBy AnswersBeside (λ s. IsKnown s list seen) (λ s. IsKnown s list' seen') line end old new)
+unfolding StopsBeside Leads
+stopped_beside line list list' seen seen' old new (Ok x) is which = tt
+stopped_beside line list list' seen seen' old new (Err end) is which = record { which = which; leads = is }
 
-pub serving_beside_stops : (told now new w w1 w2 : Option (List ℕ)) (count : ℕ) (line : List ℕ) (end : SessionEnd) (list list1 list2 : List LogEntry) (seen seen1 seen2 : ℕ)
-    → ServingBeside told now w w1 count list seen list1 seen1 → count < most_lines → GivesLine now line new → length line ≤ longest_line
-    → StopsBeside line end w1 w2 list1 seen1 list2 seen2 → SessionBeside told end w w2 list seen list2 seen2
-unfolding ServingBeside StopsBeside SessionBeside
-serving_beside_stops told now new w w1 w2 count line end list list1 list2 seen seen1 seen2 so few reads fits stops = λ o known.
-    let (t, serving, knows) = so o known in
-    let (u, stopped, then_knows) = stops t knows in
-    let (output, session, wrote) = serving_stops AnswersBeside o told now new w w1 w2 count t u line end serving few reads fits stopped in
-    (output, u, session, wrote, then_knows)
+-- a script was served
+pub session_served : (told left w w1 : Option (List ℕ)) (end : SessionEnd) (list list' : List LogEntry) (seen seen' : ℕ)
+    → Serves AnswersBeside (λ s. IsKnown s list seen) (λ s. IsKnown s list' seen') told left end w w1 → SessionBeside told end w w1 list seen list' seen'
+unfolding SessionBeside
+session_served told left w w1 end list list' seen seen' served = served.session
+
+pub script_read : (told left w w1 : Option (List ℕ)) (end : SessionEnd) (list list' : List LogEntry) (seen seen' : ℕ)
+    → Serves AnswersBeside (λ s. IsKnown s list seen) (λ s. IsKnown s list' seen') told left end w w1 → ReadsAll told end left
+unfolding ReadsAll
+script_read told left w w1 end list list' seen seen' served = served.read
 
 -- what is known later
 pub session_later : (told w w1 : Option (List ℕ)) (end : SessionEnd) (list list1 list2 : List LogEntry) (seen seen1 seen2 : ℕ) → SessionBeside told end w w1 list seen list1 seen1
@@ -222,41 +222,6 @@ pub grown_list : (found mine : List LogEntry) (held d e : CoreData) → d ≡ he
     → ((rest : List LogEntry) × (entries_of d.log ++ rest ≡ entries_of e.log)) → (rest : List LogEntry) × (found ++ rest ≡ entries_of e.log)
 grown_list found mine held d e at had is (rest, longer) =
     (rest, ap (λ l. l ++ rest) (is ∙ sym had ∙ ap (λ (x : CoreData). entries_of x.log) (sym at)) ∙ longer)
-
--- ---- the ends of a line
-pub no_fault_read : (end : SessionEnd) → (end ≡ WriteFault) ⊎ (end ≡ NoMemory) → end ≡ ReadFault → ⊥
-no_fault_read end (inl is) read = cc
-no_fault_read end (inr is) read = cc
-
-pub not_ended : (end : SessionEnd) → (end ≡ WriteFault) ⊎ (end ≡ NoMemory) → end ≡ Ended → ⊥
-not_ended end (inl is) ended = cc
-not_ended end (inr is) ended = cc
-
--- ---- the source
--- nothing was read ahead
-pub coming_first : (taken : List ℕ) (told : Option (List ℕ)) → taken ≡ [] → prepended taken told ≡ told
-coming_first taken told none = ap (λ (bytes : List ℕ). prepended bytes told) none ∙ nothing_ahead told
-
-pub begins_told : (told coming : Option (List ℕ)) → coming ≡ told → StaysTold told coming
-begins_told None coming same = tt
-begins_told (Some script) coming same = (script, same)
-
-pub told_more : (told now new : Option (List ℕ)) (line : List ℕ) → StaysTold told now → GivesLine now line new → StaysTold told new
-told_more None now new line stays reads = tt
-told_more (Some script) now new line (rest, at) reads =
-    let (first, left) = subst (λ n. GivesLine n line new) at reads in (after_line rest, left)
-
--- a session that ended has read its source to the end
-pub reads_all : (told now left : Option (List ℕ)) (end : SessionEnd) (count : ℕ) → StaysTold told now → EndsIfTold end count now left → ReadsAll told end left
-unfolding ReadsAll
-reads_all told now left end count stays ends = λ script is ended.
-    let (rest, at) = subst (λ t. StaysTold t now) is stays in
-    let (before, read) = subst (λ n. EndsIfTold end count n left) at ends in
-    read ended
-
-pub reads_none : (told left : Option (List ℕ)) (end : SessionEnd) → (end ≡ Ended → ⊥) → ReadsAll told end left
-unfolding ReadsAll
-reads_none told left end other = λ script is ended. absurd (other ended)
 
 pub read_whole : (told left : Option (List ℕ)) (end : SessionEnd) → ReadsAll told end left → (script : List ℕ) → told ≡ Some script → end ≡ Ended → left ≡ Some []
 unfolding ReadsAll

@@ -10,7 +10,7 @@ use Rattle.ltm_session.specs.declared.ends.SessionEnd.TheVariants.{Ended}
 use Rattle.ltm_session.specs.Analysts.{Analysts, opening_state}
 use Rattle.ltm_session.specs.Answers.{AnswersBeside}
 use Rattle.ltm_session.specs.Session.{AnswersLine, IsSession, Wrote}
-use Rattle.ltm_session.specs.Serving.{StopsAt, IsServing}
+use Rattle.ltm_session.specs.Serving.{StopsAt}
 
 -- the machine as an editor knows it, by the list that it last left and the greatest number that it has seen
 pub record IsKnown (s : Analysts) (list : List LogEntry) (seen : ℕ) : Type 0 where
@@ -31,20 +31,10 @@ unfoldable pub StopsBeside : List ℕ → SessionEnd → Option (List ℕ) → O
 StopsBeside line end old new list seen list' seen' = (s : Analysts) → IsKnown s list seen →
     (t : Analysts) × StopsAt AnswersBeside s line t end old new × IsKnown t list' seen'
 
--- so many lines were read and answered, from an opening scenario that was known
-unfoldable pub ServingBeside : Option (List ℕ) → Option (List ℕ) → Option (List ℕ) → Option (List ℕ) → ℕ → List LogEntry → ℕ → List LogEntry → ℕ → Type 0
-ServingBeside told coming old new count list seen list' seen' = (o : ScenarioData) → IsKnown (opening_state o) list seen →
-    (t : Analysts) × IsServing AnswersBeside o told coming old new count t × IsKnown t list' seen'
-
 -- a session was served, from an opening scenario that was known
 unfoldable pub SessionBeside : Option (List ℕ) → SessionEnd → Option (List ℕ) → Option (List ℕ) → List LogEntry → ℕ → List LogEntry → ℕ → Type 0
 SessionBeside told end old new list seen list' seen' = (o : ScenarioData) → IsKnown (opening_state o) list seen →
     (output : List ℕ) × (t : Analysts) × IsSession AnswersBeside o told end output t × Wrote end old new output × IsKnown t list' seen'
-
--- what was told of a script is told of what is coming
-abbrev pub StaysTold : Option (List ℕ) → Option (List ℕ) → Type 0
-StaysTold None coming = Unit {0}
-StaysTold (Some script) coming = (rest : List ℕ) × (coming ≡ Some rest)
 
 -- with Ended a script that is told was read to its end
 unfoldable pub ReadsAll : Option (List ℕ) → SessionEnd → Option (List ℕ) → Type 0

@@ -1,15 +1,15 @@
 //! An editor and its workers.
-ghost use Rattle.std.specs.Prelude.{◌≡◌, ◌+◌, ◌≤◌, ℕ, List, [], Some, None, IfSome, IsSomeAnd};
+ghost use Rattle.std.specs.Prelude.{◌≡◌, ◌+◌, ◌≤◌, ℕ, List, None, IfSome, IsSomeAnd};
 ghost use Rattle.std.specs.Thread.{IsSync};
 ghost use Rattle.ltm_io.specs.Faults.{Rose};
-ghost use Rattle.ltm_io.specs.Lines.{max_of, taken_by, kept_by};
 ghost use Rattle.ltm_turn.specs.Passes.{turn_id, editor_turn, worker_turn, editor_list, editor_seen, editor_workers};
+ghost use Rattle.ltm_session.specs.Answerers.{IsUnread};
 ghost use Rattle.ltm_crew.specs.Beside.{SessionBeside, ReadsAll};
 
-use crate::answering::line_beside;
+use crate::beside::Beside;
 use ltm_core::{Core, Scratch};
-use ltm_io::{Lines, Sink, Source};
-use ltm_session::{MOST_LINES, SessionEnd, end_of_lines, next_line};
+use ltm_io::{Sink, Source};
+use ltm_session::{Script, SessionEnd, serve_lines};
 use ltm_turn::{EditorPass, Turn, WorkerPass};
 use ltm_workers::{Gate, stop_beside, work};
 use std::alloc::Global;
@@ -20,8 +20,7 @@ use std::thread::{Threads, join_mut};
 #[derive(Drop)]
 pub(crate) struct Gear {
     pub(crate) alloc: Global,
-    pub(crate) lines: Lines,
-    pub(crate) text: Vec<u8>,
+    pub(crate) script: Script,
     pub(crate) scratch: Scratch,
     pub(crate) scratches: Vec<Scratch>,
 }
@@ -36,9 +35,7 @@ fn edit<R: Wait, S: Source, W: Sink>(
     sink: &mut W,
 ) -> (EditorPass<Core>, SessionEnd)
     requires turn { editor_turn editor ≡ turn_id turn.now }
-    requires max { max_of gear.lines ≡ 65536 }
-    requires taken { taken_by gear.lines ≡ [] }
-    requires kept { kept_by gear.lines ≡ None }
+    requires unread { IsUnread gear.script }
     ensures turn { (editor_turn result.0 ≡ turn_id turn.now) × (editor_workers result.0 ≡ editor_workers editor) }
     ensures session { SessionBeside (S.left source.old) result.1 (W.written sink.old) (W.written sink.new) (editor_list editor) (editor_seen editor) (editor_list result.0) (editor_seen result.0) }
     ensures read_fault { result.1 ≡ SessionEnd.ReadFault → Rose (S.faults source.old) (S.faults source.new) }
@@ -48,34 +45,25 @@ fn edit<R: Wait, S: Source, W: Sink>(
 {
     let Gear {
         alloc,
-        mut lines,
-        mut text,
+        script,
         scratch,
         scratches: _,
     } = gear;
-    let mut editor = editor;
-    let mut scratch = scratch;
-    for answered in 0..MOST_LINES {
-        if let Err(end) = next_line(&mut lines, source, answered) {
-            return (editor, end);
-        }
-        let (after, idle, done) = line_beside(
-            rt,
-            alloc,
-            turn,
-            editor,
-            scratch,
-            lines.text(),
-            &mut text,
-            sink,
-        );
-        editor = after;
-        scratch = idle;
-        if let Err(end) = done {
-            return (editor, end);
-        }
-    }
-    let end = end_of_lines(&mut lines, source);
+    let beside = Beside {
+        rt,
+        alloc,
+        turn,
+        editor,
+        scratch,
+    };
+    let (beside, end) = serve_lines(beside, script, source, sink);
+    let Beside {
+        rt: _,
+        alloc: _,
+        turn: _,
+        editor,
+        scratch: _,
+    } = beside;
     (editor, end)
 }
 
@@ -89,9 +77,7 @@ fn edit_and_stop<R: Wait, S: Source, W: Sink>(
     sink: &mut W,
 ) -> (EditorPass<Core>, SessionEnd)
     requires turn { editor_turn editor ≡ turn_id turn.now }
-    requires max { max_of gear.lines ≡ 65536 }
-    requires taken { taken_by gear.lines ≡ [] }
-    requires kept { kept_by gear.lines ≡ None }
+    requires unread { IsUnread gear.script }
     ensures turn { (editor_turn result.0 ≡ turn_id turn.now) × (editor_workers result.0 ≡ editor_workers editor) }
     ensures session { SessionBeside (S.left source.old) result.1 (W.written sink.old) (W.written sink.new) (editor_list editor) (editor_seen editor) (editor_list result.0) (editor_seen result.0) }
     ensures read_fault { result.1 ≡ SessionEnd.ReadFault → Rose (S.faults source.old) (S.faults source.new) }
@@ -117,9 +103,7 @@ pub(crate) fn crew<R: Threads + Wait + Sync, S: Source, W: Sink, G: Gate>(
 ) -> (EditorPass<Core>, SessionEnd)
     requires turn { editor_turn editor ≡ turn_id turn.now }
     requires room { editor_workers editor + workers ≤ 64 }
-    requires max { max_of gear.lines ≡ 65536 }
-    requires taken { taken_by gear.lines ≡ [] }
-    requires kept { kept_by gear.lines ≡ None }
+    requires unread { IsUnread gear.script }
     ensures turn { (editor_turn result.0 ≡ turn_id turn.now) × (editor_workers result.0 ≡ editor_workers editor) }
     ensures session { SessionBeside (S.left source.old) result.1 (W.written sink.old) (W.written sink.new) (editor_list editor) (editor_seen editor) (editor_list result.0) (editor_seen result.0) }
     ensures read_fault { result.1 ≡ SessionEnd.ReadFault → Rose (S.faults source.old) (S.faults source.new) }
@@ -152,7 +136,7 @@ pub(crate) fn crew<R: Threads + Wait + Sync, S: Source, W: Sink, G: Gate>(
         },
         &mut || -> (EditorPass<Core>, SessionEnd)
             requires { IsSync R.row × IsSync G.row × IsSomeAnd desk (λ e. (editor_turn e.0 ≡ turn_id turn.now) × (editor_workers e.0 + rest ≤ 64)
-                × (max_of e.1.lines ≡ 65536) × (taken_by e.1.lines ≡ []) × (kept_by e.1.lines ≡ None)) }
+                × IsUnread e.1.script) }
             ensures none { desk.exit ≡ None }
             ensures turn { IfSome desk.entry (λ e. (editor_turn result.0 ≡ turn_id turn.entry.now) × (editor_workers result.0 ≡ editor_workers e.0)) }
             ensures session { IfSome desk.entry (λ e. SessionBeside (S.left source.entry.now) result.1 (W.written sink.entry.now) (W.written sink.exit.now)

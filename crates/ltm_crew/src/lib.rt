@@ -8,6 +8,7 @@
 #![tactic(auto)]
 
 mod answering;
+mod beside;
 mod crew;
 mod serving;
 

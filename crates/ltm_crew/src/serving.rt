@@ -1,16 +1,16 @@
 //! A session beside workers.
 ghost use Rattle.std.specs.Prelude.{◌≡◌, ◌≢◌, ◌≤◌, ℕ, List, [], Some, None, IfOk, false, vec_len};
 ghost use Rattle.ltm_io.specs.Faults.{Rose};
-ghost use Rattle.ltm_io.specs.Lines.{max_of, taken_by, kept_by};
 ghost use Rattle.ltm_core.specs.Log.{version_now};
 ghost use Rattle.ltm_session.specs.Analysts.{Analysts, state_of};
+ghost use Rattle.ltm_session.specs.Answerers.{IsUnread};
 ghost use Rattle.ltm_session.specs.Answers.{AnswersAlone, AnswersBeside};
 ghost use Rattle.ltm_session.specs.Session.{IsSession, Wrote, end_of};
 
 use crate::crew::{Gear, crew};
 use ltm_core::{Core, Scratch, logs_tell_all};
-use ltm_io::{Lines, Sink, Source};
-use ltm_session::{LONGEST_LINE, Served, SessionEnd, serve_alone};
+use ltm_io::{Sink, Source};
+use ltm_session::{Script, Served, SessionEnd, serve_alone};
 use ltm_turn::Turn;
 use ltm_units::NoMemory;
 use ltm_workers::Gate;
@@ -29,17 +29,14 @@ fn scratches_of(alloc: Global, core: &Core, workers: u32) -> Result<Vec<Scratch>
 
 /// Takes the memory that an editor and so many workers need beside the answers.
 fn take_gear(alloc: Global, core: &Core, workers: u32) -> Result<Gear, NoMemory>
-    ensures max { IfOk result (λ gear. max_of gear.lines ≡ 65536) }
-    ensures taken { IfOk result (λ gear. taken_by gear.lines ≡ []) }
-    ensures kept { IfOk result (λ gear. kept_by gear.lines ≡ None) }
+    ensures { IfOk result (λ gear. IsUnread gear.script) }
 {
-    let lines = Lines::create(alloc, LONGEST_LINE)?;
+    let script = Script::create(alloc)?;
     let scratch = core.scratch()?;
     let scratches = scratches_of(alloc, core, workers)?;
     Ok(Gear {
         alloc,
-        lines,
-        text: Vec::new(alloc),
+        script,
         scratch,
         scratches,
     })

@@ -1,0 +1,65 @@
+//! An editor that answers lines beside workers.
+ghost use Rattle.std.specs.Prelude.{◌≡◌};
+ghost use Rattle.ltm_turn.specs.Passes.{turn_id, editor_turn, editor_list, editor_seen, editor_workers};
+ghost use Rattle.ltm_session.specs.Answers.{AnswersBeside};
+ghost use Rattle.ltm_crew.specs.Beside.{IsKnown};
+
+use crate::answering::line_beside;
+use ltm_core::{Core, Scratch};
+use ltm_io::Sink;
+use ltm_session::{Answerer, SessionEnd};
+use ltm_turn::{EditorPass, Turn};
+use std::alloc::Global;
+use std::sync::Wait;
+
+/// An editor, and what it answers lines with.
+pub(crate) struct Beside<'a, R> {
+    pub(crate) rt: &'a R,
+    pub(crate) alloc: Global,
+    pub(crate) turn: &'a Turn<Core>,
+    pub(crate) editor: EditorPass<Core>,
+    pub(crate) scratch: Scratch,
+}
+
+impl<'a, R: Wait> Answerer for Beside<'a, R> {
+    ghost rule = { AnswersBeside };
+
+    ghost knows = { λ b s. IsKnown s (editor_list b.editor) (editor_seen b.editor) };
+
+    ghost awaits = { λ b. editor_turn b.editor ≡ turn_id b.turn.now };
+
+    ghost keeps = { λ a b. (editor_turn b.editor ≡ editor_turn a.editor)
+        × (editor_workers b.editor ≡ editor_workers a.editor) };
+
+    fn serve_line<W: Sink>(
+        self,
+        line: &[u8],
+        text: &mut Vec<u8>,
+        sink: &mut W,
+    ) -> (Beside<'a, R>, Result<(), SessionEnd>) {
+        let Beside {
+            rt,
+            alloc,
+            turn,
+            editor,
+            scratch,
+        } = self;
+        let (editor, scratch, done) = line_beside(
+            rt, alloc, turn, editor, scratch, line, text, sink,
+        );
+        let beside = Beside {
+            rt,
+            alloc,
+            turn,
+            editor,
+            scratch,
+        };
+        (beside, done)
+    }
+
+    ghost use Rattle.std.proofs.Common.{refl, ◌∙◌};
+
+    ghost stays = { λ a. (refl, refl) };
+
+    ghost goes_on = { λ a b c p q. (q.0 ∙ p.0, q.1 ∙ p.1) };
+}
