@@ -151,7 +151,7 @@ class Random(FolderTest):
             written, shown = self.one(pick, EXAMPLES / name, folder)
             self.assertEqual(written, shown, (number, name))
             limited += (folder / "limits.csv").exists()
-        self.assertGreater(limited, SCRIPTS // 2)
+        self.assertGreater(limited, SCRIPTS // 5)
 
     def one(self, pick: random.Random, folder: Path, to: Path) -> tuple[list[str], list[str]]:
         """The report of the case that a session of random edits saves, and what that session shows."""

@@ -7,7 +7,7 @@ import commands
 from support import BUILT, EXAMPLES, FolderTest, needs_program
 from ltm_tools import curves as curve_files
 from ltm_tools import delay
-from ltm_tools.case import Case, Demand
+from ltm_tools.case import Case, Demand, Link, Setup
 from ltm_tools.curves import Curves, less, total
 from ltm_tools.errors import Fault
 from ltm_tools.loaded import loaded
@@ -54,6 +54,14 @@ class ByHand(unittest.TestCase):
         self.assertEqual(list(delay.waiting(curves, case, "n2")), [0] * 17)
         # a(4): 2 slots before, 1000 had entered, and 400 have left
         self.assertEqual(list(delay.queue(curves, case.link("a")))[:5], [0, 0, 0, 300, 600])
+
+    def test_one_road(self) -> None:
+        """Of 20 m nobody queues; of 25 m, 2500 ms, with its exit shut in slot 2, 250 are ready at boundary 3 and none has gone."""
+        for metres, down, told in ((20, "0 0 0 500 1000", delay.Delay(2_000_000, 0, 0, 0)), (25, "0 0 0 0 500", delay.Delay(3_000_000, 500_000, 250, 3))):
+            case = Case(Setup(1000, 4, 1000), [Link("a", "n1", "n2", metres, 36, 18, 150)], [Demand("n1", "n2", 0, 2, 1000)])
+            lines = ["kind,name,destination,counts", "up,a,n2,0 500 1000 1000 1000", f"down,a,n2,{down}", "dep,n1,n2,0 500 1000 1000 1000", "dep,n2,n2,0 0 0 0 0", f"arr,n2,n2,{down}"]
+            found = delay.report(Curves.of_lines([f"{line}\n".encode() for line in lines], "made", 1000, 5), case)
+            self.assertEqual((found.links, found.origins), ({"a": told}, {"n1": delay.Wait(0, 0, 0)}))
 
     def test_texts(self) -> None:
         self.assertEqual(delay.seconds_text(64_900_000), "64.900000")
