@@ -1,19 +1,17 @@
 -- What origins have produced stays over batches that do not change it, so that what is renewed after the others is right.
-use Rattle.std.proofs.Common.{◌≡◌, ◌≢◌, ℕ, ◌+◌, ◌-◌, ◌<◌, ◌≤◌, ◌⊎◌, ◌&&◌, ◌||◌, ◌==◌, nat_lt, if◌then◌else◌, Bool, true, false, List, [], ◌∷◌, ◌++◌, take, Option, inl, inr, refl, ap, sym, subst, ◌∙◌, arith}
-use Rattle.std.specs.Prelude.{Ok, Err, Result, drop, length}
-use Rattle.std.specs.List.{list_any}
-use Rattle.std.specs.Option.{option_map_or}
+use Rattle.std.proofs.Common.{◌≡◌, ◌≢◌, ℕ, ◌+◌, ◌-◌, ◌<◌, ◌≤◌, ◌⊎◌, ◌==◌, if◌then◌else◌, Bool, true, false, List, [], ◌∷◌, ◌++◌, take, inl, inr, refl, ap, sym, subst, ◌∙◌, arith}
+use Rattle.std.specs.Prelude.{Ok, drop, length}
 use Rattle.std.proofs.lemmas.Bool.{cases_lt, eq-eqb}
 use Rattle.std.proofs.lemmas.List.{take-append-drop}
 use Rattle.ltm_units.proofs.Sums.{sum_below-same}
 use Rattle.ltm_curve.specs.Counts.{total}
-use Rattle.ltm_network.specs.Network.{NetworkData, find_node}
+use Rattle.ltm_network.specs.Network.{NetworkData}
 use Rattle.ltm_demand.specs.declared.row.DemandRow.{DemandRow}
 use Rattle.ltm_demand.specs.Produced.{by_end, IsSilent}
 use Rattle.ltm_demand.specs.Rows.{edited as edited_rows}
 use Rattle.ltm_scenario.specs.declared.edit.Edit.{Edit}
 use Rattle.ltm_scenario.specs.Data.{ScenarioData}
-use Rattle.ltm_scenario.specs.Edits.{edited, edited_from, edited_all, at_place}
+use Rattle.ltm_scenario.specs.Edits.{edited, edited_from, at_place}
 use Rattle.ltm_scenario.specs.Makes.{Makes, EditsMake, demand, entry, exit, split, diagram, horizon}
 use Rattle.ltm_setting.specs.Setting.{setting_of, produced_by}
 use Rattle.ltm_flows.specs.declared.loading.Loading.{Loading}

@@ -1,13 +1,12 @@
 -- What is renewed edit by edit.
-use Rattle.std.proofs.Common.{◌≡◌, ◌≢◌, ℕ, ◌+◌, ◌<◌, ◌≤◌, ◌⊎◌, ◌&&◌, ◌||◌, ◌==◌, nat_lt, Bool, true, false, List, take, length, Option, Some, None, option_map, arith, inl, inr, refl, ap, subst, sym, ◌∙◌}
-use Rattle.std.specs.List.{list_any}
+use Rattle.std.proofs.Common.{◌≡◌, ◌≢◌, ℕ, ◌<◌, ◌≤◌, ◌⊎◌, ◌&&◌, ◌||◌, ◌==◌, nat_lt, Bool, true, false, List, Option, Some, None, arith, inl, inr, refl, ap, subst, sym, ◌∙◌}
 use Rattle.std.specs.Option.{option_map_or}
 use Rattle.std.proofs.lemmas.Bool.{cases_lt, eqb-true, eq-eqb, ltb-true, lt-ltb}
 use Rattle.ltm_network.specs.Network.{NetworkData, find_node}
 use Rattle.ltm_loading.specs.Setting.{Setting}
 use Rattle.ltm_flows.specs.declared.loading.Loading.{Loading}
 use Rattle.ltm_flows.specs.Origins.{produced_in_all}
-use Rattle.ltm_flows.specs.Shown.{nodes_of, last_of, curves_of, produced_of, SameButProduction, RenewsProduction, Fits, AgreesOutside}
+use Rattle.ltm_flows.specs.Shown.{nodes_of, last_of, produced_of, SameButProduction, RenewsProduction, Fits, AgreesOutside}
 use Rattle.ltm_curve.specs.TotalCurves.{total_groups, total_slots, total_at}
 use Rattle.ltm_curve.specs.declared.curves.Curves.{Curves}
 use Rattle.ltm_curve.specs.declared.changed.Changed.{Changed}

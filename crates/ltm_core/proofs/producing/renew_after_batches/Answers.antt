@@ -1,4 +1,4 @@
-use Rattle.std.proofs.Common.{◌≡◌, ◌+◌, ◌||◌, ◌∙◌, ℕ, Bool, List, take, ap, sym, slice_index_or}
+use Rattle.std.proofs.Common.{◌+◌, ◌||◌, ◌∙◌, List, take, ap, sym}
 use Rattle.std.proofs.lemmas.List.Folds.{list_any_more}
 use Rattle.ltm_scenario.specs.declared.edit.Edit.{Edit}
 use Rattle.ltm_setting.specs.Setting.{setting_of}
