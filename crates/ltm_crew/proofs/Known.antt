@@ -1,16 +1,13 @@
 -- What the editor knows after an answer.
-use Rattle.std.proofs.Common.{ℕ, ◌≡◌, ◌⊎◌, inl, inr, ◌++◌, ◌+◌, ◌<◌, ◌≤◌, List, [], ◌∷◌, length, refl, ap, sym, subst, ◌∙◌, arith}
+use Rattle.std.proofs.Common.{ℕ, ◌≡◌, ◌⊎◌, inl, inr, ◌++◌, ◌≤◌, List, [], ◌∷◌, refl, ap, sym, subst, ◌∙◌, arith}
 use Rattle.std.proofs.lemmas.List.{append-nil}
-use Rattle.std.specs.Prelude.{Option, Some, None, Result, Ok, Err, MatchResult, OnOk, OnErr, IfErr}
+use Rattle.std.specs.Prelude.{Option, Some, Result, Ok, Err, MatchResult, OnOk, OnErr, IfErr}
 use Rattle.ltm_scenario.specs.declared.edit.Edit.{Edit}
 use Rattle.ltm_scenario.specs.declared.edit.EditFault.{EditFault}
 use Rattle.ltm_scenario.specs.Edits.{edited_all}
 use Rattle.ltm_scenario.specs.Data.{ScenarioData}
 use Rattle.ltm_flows.specs.Shown.{version_of}
 use Rattle.ltm_io.specs.Sink.{appended, AppendsFront}
-use Rattle.ltm_io.specs.Source.{prepended}
-use Rattle.ltm_io.specs.Script.{after_line}
-use Rattle.ltm_io.specs.Answers.{GivesLine}
 use Rattle.ltm_script.specs.Line.{reading}
 use Rattle.ltm_script.specs.declared.command.Command.{Command}
 use Rattle.ltm_script.specs.declared.command.Command.TheVariants as command
@@ -27,7 +24,7 @@ use Rattle.ltm_session.specs.declared.ends.SessionEnd.{SessionEnd}
 use Rattle.ltm_session.specs.declared.ends.SessionEnd.TheVariants.{Ended, ReadFault, WriteFault, NoMemory}
 use Rattle.ltm_session.specs.Analysts.{Analysts, opening_state, state_of, settled, IsShownLater}
 use Rattle.ltm_session.specs.Answers.{Replies, Answers, AnswersAlone, AnswersBeside}
-use Rattle.ltm_session.specs.Session.{IsSession, Wrote, end_of, longest_line, most_lines}
+use Rattle.ltm_session.specs.Session.{IsSession, Wrote, end_of}
 use Rattle.ltm_session.specs.Answerers.{Leads, AnswersBy, StopsBy, Serves}
 use Rattle.ltm_crew.specs.Beside.{IsKnown, SaidBeside, LineBeside, StopsBeside, SessionBeside, ReadsAll}
 use Rattle.ltm_session.proofs.Besides.{lines_beside}

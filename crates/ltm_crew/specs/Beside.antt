@@ -1,5 +1,5 @@
 -- A session whose core is behind a turn: what was answered, between what its editor knew of the machine before and knows after.
-use Rattle.std.specs.Prelude.{◌≡◌, ℕ, ◌≤◌, List, [], Option, Some, None, Result}
+use Rattle.std.specs.Prelude.{◌≡◌, ℕ, ◌≤◌, List, [], Option, Some, Result}
 use Rattle.ltm_scenario.specs.Data.{ScenarioData}
 use Rattle.ltm_script.specs.declared.command.Command.{Command}
 use Rattle.ltm_script.specs.declared.command.CommandFault.{CommandFault}

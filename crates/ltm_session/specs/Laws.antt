@@ -12,7 +12,8 @@ use Rattle.ltm_session.specs.Promise.{texts_in, KeepsPromise, KeepsPromiseSoFar}
 
 -- an output of a session without workers is one of a session
 abbrev pub AloneIsASession : Type 0
-AloneIsASession = (s : ScenarioData) (script output : List ℕ) → IsOutputAlone s script output → IsSessionOutput s script output
+AloneIsASession = (s : ScenarioData) (script output : List ℕ)
+    → IsOutputAlone s script output → IsSessionOutput s script output
 
 -- without workers a scenario and a script have one output
 abbrev pub OneOutput : Type 0
@@ -21,12 +22,15 @@ OneOutput = (s : ScenarioData) (script a b : List ℕ) → IsOutputAlone s scrip
 -- ---- the promise
 -- whole outputs keep it: those of sessions beside any number of workers, and those without
 pub record OutputsKeepThePromise : Type 0 where
-  pub beside : (s : ScenarioData) (script output : List ℕ) → IsSessionOutput s script output → KeepsPromise s (lines_of script) output
-  pub alone : (s : ScenarioData) (script output : List ℕ) → IsOutputAlone s script output → KeepsPromise s (lines_of script) output
+  pub beside : (s : ScenarioData) (script output : List ℕ)
+      → IsSessionOutput s script output → KeepsPromise s (lines_of script) output
+  pub alone : (s : ScenarioData) (script output : List ℕ)
+      → IsOutputAlone s script output → KeepsPromise s (lines_of script) output
 
 -- whatever front was written of what a session by a rule answered keeps it so far, however the session ended
 abbrev pub FrontsKeepIt : Answering → Type 0
-FrontsKeepIt answers = (s : ScenarioData) (told : Option (List ℕ)) (end : SessionEnd) (output : List ℕ) (t : Analysts) (n : ℕ)
+FrontsKeepIt answers =
+    (s : ScenarioData) (told : Option (List ℕ)) (end : SessionEnd) (output : List ℕ) (t : Analysts) (n : ℕ)
     → IsSession answers s told end output t → KeepsPromiseSoFar s told (take n output)
 
 pub record FrontsKeepThePromise : Type 0 where

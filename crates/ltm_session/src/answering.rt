@@ -50,7 +50,8 @@ pub fn answer(
 ) -> Result<(), NoMemory>
     requires { AwaitsLine core.old }
     // What is answered, and the log and what is shown after it.
-    ensures ok { OnOk result ((text : List ℕ) × AnswersLine AnswersAlone (state_of core.old) line.now text (state_of core.new)
+    ensures ok { OnOk result ((text : List ℕ)
+        × AnswersLine AnswersAlone (state_of core.old) line.now text (state_of core.new)
         × (into.new.items ≡ into.old.items ++ text)) }
     // After a settle the core is at rest.
     ensures rest { OnOk result (reading line.now ≡ Ok Command.Settle → IsResting core.new) }

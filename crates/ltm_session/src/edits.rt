@@ -20,7 +20,8 @@ fn make_edits(core: &mut Core, batch: Batch) -> Result<(), EditFault>
     requires { HaveAmounts batch }
     ensures ok { OnOk result (AcceptsBatch core.old batch core.new) }
     ensures err { OnErr result (LooksAs core.old core.new) }
-    ensures cause { IfErr result (λ fault. fault.cause ≢ EditCause.NoMemory → edited_all (scenario_now core.old.log) batch ≡ Err fault) }
+    ensures cause { IfErr result (λ fault. fault.cause ≢ EditCause.NoMemory
+        → edited_all (scenario_now core.old.log) batch ≡ Err fault) }
 {
     match core.accept(batch) {
         Ok(()) => return Ok(()),
@@ -30,7 +31,8 @@ fn make_edits(core: &mut Core, batch: Batch) -> Result<(), EditFault>
 
 /// Appends why a batch was refused.
 fn push_refusal(alloc: Global, fault: EditFault, into: &mut Vec<u8>) -> Result<(), NoMemory>
-    ensures ok { OnOk result ((fault.cause ≢ EditCause.NoMemory) × (into.new.items ≡ into.old.items ++ edit_fault_line fault)) }
+    ensures ok { OnOk result ((fault.cause ≢ EditCause.NoMemory)
+        × (into.new.items ≡ into.old.items ++ edit_fault_line fault)) }
     ensures err { OnErr result (into.new.items ≡ into.old.items) }
 {
     if fault.cause == EditCause::NoMemory {
@@ -49,7 +51,8 @@ pub(crate) fn reply_edit(
     into: &mut Vec<u8>,
 ) -> Result<(), NoMemory>
     requires { HaveAmounts batch }
-    ensures ok { OnOk result ((text : List ℕ) × Replies (state_of core.old) (Ok (command.Edit batch)) text (state_of core.new)
+    ensures ok { OnOk result ((text : List ℕ)
+        × Replies (state_of core.old) (Ok (command.Edit batch)) text (state_of core.new)
         × (into.new.items ≡ into.old.items ++ text)) }
     ensures err { OnErr result ((into.new.items ≡ into.old.items) × LooksAs core.old core.new) }
     ensures awaits { AwaitsLine core.old → AwaitsLine core.new }

@@ -1,5 +1,6 @@
 //! What holds of the outputs of sessions. Each law is the contract of a function that does nothing.
-ghost use Rattle.ltm_session.specs.Laws.{AloneIsASession, AnswersAreLines, FrontsKeepThePromise, OneOutput, OutputsKeepThePromise};
+ghost use Rattle.ltm_session.specs.Laws.{AloneIsASession, AnswersAreLines, OneOutput};
+ghost use Rattle.ltm_session.specs.Laws.{FrontsKeepThePromise, OutputsKeepThePromise};
 
 use ltm_core::logs_tell_all;
 use ltm_loading::one_loading;
@@ -20,9 +21,10 @@ pub fn one_output()
     one_loading();
 }
 
-/// The promise: every report that a session writes between a settle and the next accepted edit is that of the one loading of
-/// the scenario as the accepted edits leave it, and every other report is that of a finished loading of a prefix of those
-/// edits, never shorter than one shown before. It holds of each whole output, and of whatever front of one was written.
+/// The promise: every report that a session writes between a settle and the next accepted edit is that of the one
+/// loading of the scenario as the accepted edits leave it, and every other report is that of a finished loading of a
+/// prefix of those edits, never shorter than one shown before. It holds of each whole output, and of whatever front of
+/// one was written.
 pub fn sessions_keep_the_promise()
     ensures whole { OutputsKeepThePromise }
     ensures fronts { FrontsKeepThePromise }

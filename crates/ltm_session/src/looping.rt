@@ -8,8 +8,8 @@ use crate::ends::SessionEnd;
 use crate::script::{MOST_LINES, Script, end_of_lines, next_line};
 use ltm_io::{Sink, Source};
 
-/// Has each line of a script answered in order, its answer written whole before the next line is read, and says how that
-/// ends.
+/// Has each line of a script answered in order, its answer written whole before the next line is read, and says how
+/// that ends.
 pub fn serve_lines<A: Answerer, S: Source, W: Sink>(
     answerer: A,
     script: Script,
@@ -18,8 +18,8 @@ pub fn serve_lines<A: Answerer, S: Source, W: Sink>(
 ) -> (A, SessionEnd)
     requires unread { IsUnread script }
     requires awaits { A.awaits answerer }
-    ensures serves { Serves A.rule (A.knows answerer) (A.knows result.0) (S.left source.old) (S.left source.new) result.1
-        (W.written sink.old) (W.written sink.new) }
+    ensures serves { Serves A.rule (A.knows answerer) (A.knows result.0) (S.left source.old) (S.left source.new)
+        result.1 (W.written sink.old) (W.written sink.new) }
     ensures awaits { A.awaits result.0 }
     ensures keeps { A.keeps answerer result.0 }
     ensures read_fault { result.1 ≡ SessionEnd.ReadFault → Rose (S.faults source.old) (S.faults source.new) }

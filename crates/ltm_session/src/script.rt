@@ -48,12 +48,15 @@ pub fn next_line<S: Source>(
     requires unkept { kept_by lines.old ≡ None }
     requires max { max_of lines.old ≡ 65536 }
     requires few { answered < 100000 }
-    ensures line { OnOk result (GivesLine (coming lines.old (S.left source.old)) (text_of lines.new) (coming lines.new (S.left source.new))) }
+    ensures line { OnOk result (GivesLine (coming lines.old (S.left source.old)) (text_of lines.new)
+        (coming lines.new (S.left source.new))) }
     ensures fits { OnOk result (length (text_of lines.new) ≤ 65536) }
     ensures unkept { OnOk result (kept_by lines.new ≡ None) }
     ensures max { max_of lines.new ≡ 65536 }
-    ensures end { IfErr result (λ end. EndsIfTold end answered (coming lines.old (S.left source.old)) (S.left source.new)) }
-    ensures read { IfErr result (λ end. (end ≡ SessionEnd.Ended) ⊎ ((end ≡ SessionEnd.ReadFault) ⊎ (end ≡ SessionEnd.LineTooLong (answered + 1)))) }
+    ensures end { IfErr result (λ end. EndsIfTold end answered (coming lines.old (S.left source.old))
+        (S.left source.new)) }
+    ensures read { IfErr result (λ end. (end ≡ SessionEnd.Ended)
+        ⊎ ((end ≡ SessionEnd.ReadFault) ⊎ (end ≡ SessionEnd.LineTooLong (answered + 1)))) }
     ensures later { S.faults source.old ≤ S.faults source.new }
     ensures fault { result ≡ Err SessionEnd.ReadFault → Rose (S.faults source.old) (S.faults source.new) }
 {
@@ -70,7 +73,8 @@ pub fn end_of_lines<S: Source>(lines: &mut Lines, source: &mut S) -> SessionEnd
     requires unkept { kept_by lines.old ≡ None }
     requires max { max_of lines.old ≡ 65536 }
     ensures end { EndsIfTold result 100000 (coming lines.old (S.left source.old)) (S.left source.new) }
-    ensures read { (result ≡ SessionEnd.Ended) ⊎ ((result ≡ SessionEnd.ReadFault) ⊎ (result ≡ SessionEnd.TooManyCommands)) }
+    ensures read { (result ≡ SessionEnd.Ended)
+        ⊎ ((result ≡ SessionEnd.ReadFault) ⊎ (result ≡ SessionEnd.TooManyCommands)) }
     ensures later { S.faults source.old ≤ S.faults source.new }
     ensures fault { result ≡ SessionEnd.ReadFault → Rose (S.faults source.old) (S.faults source.new) }
 {
