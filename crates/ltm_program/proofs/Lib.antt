@@ -4,3 +4,4 @@ mod Editing
 mod Viewings
 mod Runs
 mod Lawful
+mod Headlines

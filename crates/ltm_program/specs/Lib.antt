@@ -3,3 +3,4 @@ pub mod Views
 pub mod Editors
 pub mod Ran
 pub mod RanLaws
+pub mod Headline

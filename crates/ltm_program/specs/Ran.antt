@@ -1,4 +1,4 @@
--- What belongs to each command: its texts, the files that it may fetch, and whether it reads the input; and so what a run did.
+-- What belongs to each command: its texts, its files, and whether it reads the input; and so what a run of it did.
 use Rattle.std.specs.Prelude.{ℕ, zero, suc, ◌≡◌, nat_lt, Bool, true, false, List, Option, None, Some}
 use Rattle.ltm_io.specs.declared.doc.Doc.{Doc}
 use Rattle.ltm_io.specs.Folder.{Files}

@@ -71,18 +71,23 @@ pub record TextsSay : Type 0 where
       → (s : ScenarioData) × (t : List ℕ) × Describes b.told (Ok s) × IsLoadingText s t × Wrote t b a
   -- a check says yes only where the curve file tells the loading of the case, and wherever it does
   pub check : (b a : Outside) → Ran (Some command.Check) ending.Ok b a
-      → (s : ScenarioData) × (bytes : List ℕ) × HasCurves b.told s bytes × TellsLoading s (records_of bytes) × Wrote yes_line b a
-  pub check_complete : (b a : Outside) (status : Status) (files : Files) (s : ScenarioData) (bytes : List ℕ) → Ran (Some command.Check) status b a
-      → b.told ≡ Some files → HasCurves (Some files) s bytes → length bytes ≤ most_bytes → TellsLoading s (records_of bytes)
+      → (s : ScenarioData) × (bytes : List ℕ) × HasCurves b.told s bytes × TellsLoading s (records_of bytes)
+      × Wrote yes_line b a
+  pub check_complete : (b a : Outside) (status : Status) (files : Files) (s : ScenarioData) (bytes : List ℕ)
+      → Ran (Some command.Check) status b a
+      → b.told ≡ Some files → HasCurves (Some files) s bytes → length bytes ≤ most_bytes
+      → TellsLoading s (records_of bytes)
       → IsCalm command.Check files b.faults a.faults → IsQuiet b a → (status ≡ ending.Ok) ⊎ (status ≡ ending.NoMemory)
-  pub routes : (b a : Outside) → Ran (Some command.Routes) ending.Ok b a → (t : List ℕ) × IsSplitsFile b.told t × Wrote t b a
-  pub times : (b a : Outside) → Ran (Some command.RouteTimes) ending.Ok b a → (t : List ℕ) × IsTimesFile b.told t × Wrote t b a
+  pub routes : (b a : Outside)
+      → Ran (Some command.Routes) ending.Ok b a → (t : List ℕ) × IsSplitsFile b.told t × Wrote t b a
+  pub times : (b a : Outside)
+      → Ran (Some command.RouteTimes) ending.Ok b a → (t : List ℕ) × IsTimesFile b.told t × Wrote t b a
   pub trial : (b a : Outside) (start nodes : ℕ) → Ran (Some (command.Try start nodes)) ending.Ok b a
       → (t : List ℕ) × IsTrial start nodes t × Wrote t b a
 
 -- ---- sessions, and viewers at one
 pub record SessionsSay : Type 0 where
-  -- one that ends well has written an output of the case that the files describe and the whole input, which was read to its end
+  -- one that ends well has written an output of the case that the files describe and the whole input, read to its end
   pub session : (b a : Outside) (n : ℕ) → Ran (Some (command.Session n)) ending.Ok b a
       → (s : ScenarioData) × Describes b.told (Ok s) × ServesWhole IsSessionOutput s b.left a.left b.written a.written
   pub session_alone : (b a : Outside) → Ran (Some (command.Session 0)) ending.Ok b a
@@ -90,31 +95,45 @@ pub record SessionsSay : Type 0 where
   pub view : (b a : Outside) (n : ℕ) → Ran (Some (command.View n)) ending.Ok b a
       → (s : ScenarioData) × Describes b.told (Ok s) × ServesWhole (IsViewOutput n) s b.left a.left b.written a.written
   -- with no fault of the outside the status is that of the case and the script
-  pub session_complete : (b a : Outside) (status : Status) (files : Files) (script : List ℕ) (n : ℕ) → Ran (Some (command.Session n)) status b a
-      → b.told ≡ Some files → b.left ≡ Some script → IsCalm command.Load files b.faults a.faults → HeardAll b a → IsQuiet b a
+  pub session_complete : (b a : Outside) (status : Status) (files : Files) (script : List ℕ) (n : ℕ)
+      → Ran (Some (command.Session n)) status b a
+      → b.told ≡ Some files → b.left ≡ Some script
+      → IsCalm command.Load files b.faults a.faults → HeardAll b a → IsQuiet b a
       → (status ≡ session_status (case_of files) script) ⊎ (status ≡ ending.NoMemory)
-  pub view_complete : (b a : Outside) (status : Status) (files : Files) (script : List ℕ) (n : ℕ) → Ran (Some (command.View n)) status b a
-      → b.told ≡ Some files → b.left ≡ Some script → IsCalm command.Load files b.faults a.faults → HeardAll b a → IsQuiet b a
+  pub view_complete : (b a : Outside) (status : Status) (files : Files) (script : List ℕ) (n : ℕ)
+      → Ran (Some (command.View n)) status b a
+      → b.told ≡ Some files → b.left ≡ Some script
+      → IsCalm command.Load files b.faults a.faults → HeardAll b a → IsQuiet b a
       → (status ≡ session_status (case_of files) script) ⊎ (status ≡ ending.NoMemory)
   -- a missing file is told
-  pub session_missing : (b a : Outside) (status : Status) (files : Files) (f : File) (n : ℕ) → Ran (Some (command.Session n)) status b a
+  pub session_missing : (b a : Outside) (status : Status) (files : Files) (f : File) (n : ℕ)
+      → Ran (Some (command.Session n)) status b a
       → b.told ≡ Some files → case_of files ≡ Err (fault.Folder f) → TellsMissing status
-  pub view_missing : (b a : Outside) (status : Status) (files : Files) (f : File) (n : ℕ) → Ran (Some (command.View n)) status b a
+  pub view_missing : (b a : Outside) (status : Status) (files : Files) (f : File) (n : ℕ)
+      → Ran (Some (command.View n)) status b a
       → b.told ≡ Some files → case_of files ≡ Err (fault.Folder f) → TellsMissing status
 
 -- ---- several editors
 pub record EditorsSay : Type 0 where
-  -- those that end well have written one legal history of the case and the lines of their files, and the totals that it leaves
-  pub editors : (b a : Outside) (n : ℕ) → Ran (Some (command.Editors n)) ending.Ok b a → (s : ScenarioData) × (scripts : List (List (List Edit)))
+  -- those that end well have written one legal history of the case and the lines of their files, and its totals
+  pub editors : (b a : Outside) (n : ℕ)
+      → Ran (Some (command.Editors n)) ending.Ok b a → (s : ScenarioData) × (scripts : List (List (List Edit)))
       × (t : List ℕ) × HasScripts b.told n s scripts × IsEditingText s scripts t × Wrote t b a
-  pub editors_answer : (b a : Outside) (status : Status) (n : ℕ) → Ran (Some (command.Editors n)) status b a → IsWhole status
-      → (answer : Editing) × AnswersEditing b.told n answer × (status ≡ editing_status answer) × Wrote (editing_words answer) b a
-  pub bad_script : (b a : Outside) (n : ℕ) → Ran (Some (command.Editors n)) ending.BadScript b a → (editor : ℕ) × (line : ℕ) × (cause : LineCause)
-      × AnswersEditing b.told n (Err (unedited.Edits (edits.BadLine editor line cause))) × Wrote (bad_script_line editor line cause) b a
-  pub editors_complete : (b a : Outside) (status : Status) (files : Files) (n : ℕ) → Ran (Some (command.Editors n)) status b a
+  pub editors_answer : (b a : Outside) (status : Status) (n : ℕ)
+      → Ran (Some (command.Editors n)) status b a → IsWhole status
+      → (answer : Editing) × AnswersEditing b.told n answer × (status ≡ editing_status answer)
+      × Wrote (editing_words answer) b a
+  pub bad_script : (b a : Outside) (n : ℕ)
+      → Ran (Some (command.Editors n)) ending.BadScript b a → (editor : ℕ) × (line : ℕ) × (cause : LineCause)
+      × AnswersEditing b.told n (Err (unedited.Edits (edits.BadLine editor line cause)))
+      × Wrote (bad_script_line editor line cause) b a
+  pub editors_complete : (b a : Outside) (status : Status) (files : Files) (n : ℕ)
+      → Ran (Some (command.Editors n)) status b a
       → b.told ≡ Some files → IsCalmFor n files b.faults a.faults → IsQuiet b a
-      → ((answer : Editing) × AnswersEditing (Some files) n answer × (status ≡ editing_status answer)) ⊎ (status ≡ ending.NoMemory)
-  pub editors_missing : (b a : Outside) (status : Status) (files : Files) (n : ℕ) (e : Unedited) → Ran (Some (command.Editors n)) status b a
+      → ((answer : Editing) × AnswersEditing (Some files) n answer
+      × (status ≡ editing_status answer)) ⊎ (status ≡ ending.NoMemory)
+  pub editors_missing : (b a : Outside) (status : Status) (files : Files) (n : ℕ) (e : Unedited)
+      → Ran (Some (command.Editors n)) status b a
       → b.told ≡ Some files → IsUngiven e → AnswersEditing (Some files) n (Err e) → TellsMissing status
 
 -- ---- what decides
@@ -124,7 +143,8 @@ pub record RefusalsSay : Type 0 where
   pub asked : (b a : Outside) (status : Status) → Ran None status b a
       → (status ≡ ending.Usage) ⊎ ((status ≡ ending.WriteFault) ⊎ (status ≡ ending.NoMemory))
   -- what the files say decides between the text of a command and a refusal
-  pub bad_case : (b a : Outside) (c : Command) → HasText c → Ran (Some c) ending.BadCase b a → (f : File) × (row : ℕ) × (cause : CaseCause)
+  pub bad_case : (b a : Outside) (c : Command)
+      → HasText c → Ran (Some c) ending.BadCase b a → (f : File) × (row : ℕ) × (cause : CaseCause)
       × Answers c b.told (Err (refusal.Case (fault.Bad f row cause))) × Wrote (bad_case_line f row cause) b a
   pub too_long : (b a : Outside) (c : Command) → HasText c → Ran (Some c) ending.TooLong b a
       → (e : Refusal) × IsLong e × Answers c b.told (Err e) × Wrote (words_of e) b a
@@ -133,19 +153,23 @@ pub record RefusalsSay : Type 0 where
       → b.told ≡ Some files → IsCalm c files b.faults a.faults → IsQuiet b a
       → ((answer : Answer) × Answers c (Some files) answer × (status ≡ status_of answer)) ⊎ (status ≡ ending.NoMemory)
   -- a missing file is told
-  pub missing : (b a : Outside) (status : Status) (files : Files) (c : Command) (e : Refusal) → HasText c → Ran (Some c) status b a
+  pub missing : (b a : Outside) (status : Status) (files : Files) (c : Command) (e : Refusal)
+      → HasText c → Ran (Some c) status b a
       → b.told ≡ Some files → IsMissing e → Answers c (Some files) (Err e) → TellsMissing status
 
 -- ---- what stays
 pub record FilesStay : Type 0 where
   pub untouched : (b a : Outside) (status : Status) → Ran None status b a → (d : Doc) → Stays b a d
-  pub others : (b a : Outside) (status : Status) (c : Command) → HasText c → Ran (Some c) status b a → (d : Doc) → may_fetch c d ≡ false → Stays b a d
+  pub others : (b a : Outside) (status : Status) (c : Command)
+      → HasText c → Ran (Some c) status b a → (d : Doc) → may_fetch c d ≡ false → Stays b a d
   pub unasked : (b a : Outside) (status : Status) (c : Command) → HasText c → Ran (Some c) status b a
       → IfSome b.told (λ files. (d : Doc) → fetches c files d ≡ false → Stays b a d)
-  pub session_others : (b a : Outside) (status : Status) (n : ℕ) → Ran (Some (command.Session n)) status b a → (d : Doc) → is_case_file d ≡ false → Stays b a d
+  pub session_others : (b a : Outside) (status : Status) (n : ℕ)
+      → Ran (Some (command.Session n)) status b a → (d : Doc) → is_case_file d ≡ false → Stays b a d
   pub session_unasked : (b a : Outside) (status : Status) (n : ℕ) → Ran (Some (command.Session n)) status b a
       → IfSome b.told (λ files. (d : Doc) → asks_for files d ≡ false → Stays b a d)
-  pub view_others : (b a : Outside) (status : Status) (n : ℕ) → Ran (Some (command.View n)) status b a → (d : Doc) → is_case_file d ≡ false → Stays b a d
+  pub view_others : (b a : Outside) (status : Status) (n : ℕ)
+      → Ran (Some (command.View n)) status b a → (d : Doc) → is_case_file d ≡ false → Stays b a d
   pub view_unasked : (b a : Outside) (status : Status) (n : ℕ) → Ran (Some (command.View n)) status b a
       → IfSome b.told (λ files. (d : Doc) → asks_for files d ≡ false → Stays b a d)
   pub editors_others : (b a : Outside) (status : Status) (n : ℕ) → Ran (Some (command.Editors n)) status b a

@@ -32,9 +32,10 @@ status_of_end (end.LineTooLong number) = ending.TooLong
 status_of_end end.TooManyCommands = ending.TooManyCommands
 status_of_end end.NoMemory = ending.NoMemory
 
--- what is written up to an end, by the outputs that belong to it: one of them and the line that closes it; and the status
+-- what is written up to an end, by the outputs that belong to it: one of them, and the line that closes it
 abbrev pub EndsUnder : (SessionEnd → List ℕ → Type 0) → Status → List ℕ → Type 0
-EndsUnder IsOutput status text = (end : SessionEnd) × (output : List ℕ) × IsOutput end output × (status ≡ status_of_end end) × (text ≡ output ++ closing_of end)
+EndsUnder IsOutput status text = (end : SessionEnd) × (output : List ℕ) × IsOutput end output
+    × (status ≡ status_of_end end) × (text ≡ output ++ closing_of end)
 
 -- the whole text that belongs to a status: the line that refuses the case, or what is written of a case up to an end
 abbrev pub IsCaseUnder : (ScenarioData → SessionEnd → List ℕ → Type 0) → Option Files → Status → List ℕ → Type 0

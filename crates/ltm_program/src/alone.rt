@@ -32,8 +32,10 @@ fn do_alone<F: OpenFolder, S: Source, W: Sink>(
     requires sized { IsSized command }
     requires alone { needs_threads (Some command) ≡ false }
     ensures { Ran (Some command) result
-        (outside (F.told folder.old) (F.faults folder.old) (S.left input.old) (S.faults input.old) (W.written output.old) (W.faults output.old))
-        (outside (F.told folder.new) (F.faults folder.new) (S.left input.new) (S.faults input.new) (W.written output.new) (W.faults output.new)) }
+        (outside (F.told folder.old) (F.faults folder.old) (S.left input.old) (S.faults input.old)
+        (W.written output.old) (W.faults output.old))
+        (outside (F.told folder.new) (F.faults folder.new) (S.left input.new) (S.faults input.new)
+        (W.written output.new) (W.faults output.new)) }
 {
     match command {
         Command::Session { workers: _ } => serve(alloc, folder, input, output),
@@ -69,8 +71,10 @@ pub fn run_alone<F: OpenFolder, S: Source, W: Sink>(
 ) -> Status
     requires { needs_threads (words_say.command_of (map string_bytes words.now)) ≡ false }
     ensures { Ran (words_say.command_of (map string_bytes words.now)) result
-        (outside (F.told folder.old) (F.faults folder.old) (S.left input.old) (S.faults input.old) (W.written output.old) (W.faults output.old))
-        (outside (F.told folder.new) (F.faults folder.new) (S.left input.new) (S.faults input.new) (W.written output.new) (W.faults output.new)) }
+        (outside (F.told folder.old) (F.faults folder.old) (S.left input.old) (S.faults input.old)
+        (W.written output.old) (W.faults output.old))
+        (outside (F.told folder.new) (F.faults folder.new) (S.left input.new) (S.faults input.new)
+        (W.written output.new) (W.faults output.new)) }
 {
     match command_of(words) {
         Some(command) => do_alone(alloc, command, folder, input, output),

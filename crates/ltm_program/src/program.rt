@@ -30,8 +30,10 @@ fn serve_session<R: Threads + Wait + Sync, F: Folder, S: Source, W: Sink, G: Gat
 ) -> Status
     requires { workers ≤ 64 }
     ensures { Ran (Some (Command.Session workers)) result
-        (outside (F.told folder.old) (F.faults folder.old) (S.left input.old) (S.faults input.old) (W.written output.old) (W.faults output.old))
-        (outside (F.told folder.new) (F.faults folder.new) (S.left input.new) (S.faults input.new) (W.written output.new) (W.faults output.new)) }
+        (outside (F.told folder.old) (F.faults folder.old) (S.left input.old) (S.faults input.old)
+        (W.written output.old) (W.faults output.old))
+        (outside (F.told folder.new) (F.faults folder.new) (S.left input.new) (S.faults input.new)
+        (W.written output.new) (W.faults output.new)) }
 {
     if workers == 0 {
         return serve(alloc, folder, input, output);
@@ -51,8 +53,10 @@ fn do_command<R: Threads + Wait + Sync, F: OpenFolder, S: Source, W: Sink, G: Ga
 ) -> Status
     requires { IsSized command }
     ensures { Ran (Some command) result
-        (outside (F.told folder.old) (F.faults folder.old) (S.left input.old) (S.faults input.old) (W.written output.old) (W.faults output.old))
-        (outside (F.told folder.new) (F.faults folder.new) (S.left input.new) (S.faults input.new) (W.written output.new) (W.faults output.new)) }
+        (outside (F.told folder.old) (F.faults folder.old) (S.left input.old) (S.faults input.old)
+        (W.written output.old) (W.faults output.old))
+        (outside (F.told folder.new) (F.faults folder.new) (S.left input.new) (S.faults input.new)
+        (W.written output.new) (W.faults output.new)) }
 {
     match command {
         Command::Session { workers } => serve_session(
@@ -84,8 +88,10 @@ pub fn run<R: Threads + Wait + Sync, F: OpenFolder, S: Source, W: Sink, G: Gate>
     gate: &G,
 ) -> Status
     ensures { Ran (words_say.command_of (map string_bytes words.now)) result
-        (outside (F.told folder.old) (F.faults folder.old) (S.left input.old) (S.faults input.old) (W.written output.old) (W.faults output.old))
-        (outside (F.told folder.new) (F.faults folder.new) (S.left input.new) (S.faults input.new) (W.written output.new) (W.faults output.new)) }
+        (outside (F.told folder.old) (F.faults folder.old) (S.left input.old) (S.faults input.old)
+        (W.written output.old) (W.faults output.old))
+        (outside (F.told folder.new) (F.faults folder.new) (S.left input.new) (S.faults input.new)
+        (W.written output.new) (W.faults output.new)) }
 {
     match command_of(words) {
         Some(command) => do_command(rt, alloc, command, folder, input, output, gate),

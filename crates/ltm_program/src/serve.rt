@@ -124,8 +124,10 @@ pub fn serve<F: Folder, S: Source, W: Sink>(
     output: &mut W,
 ) -> Status
     ensures { Ran (Some (Command.Session 0)) result
-        (outside (F.told folder.old) (F.faults folder.old) (S.left input.old) (S.faults input.old) (W.written output.old) (W.faults output.old))
-        (outside (F.told folder.new) (F.faults folder.new) (S.left input.new) (S.faults input.new) (W.written output.new) (W.faults output.new)) }
+        (outside (F.told folder.old) (F.faults folder.old) (S.left input.old) (S.faults input.old)
+        (W.written output.old) (W.faults output.old))
+        (outside (F.told folder.new) (F.faults folder.new) (S.left input.new) (S.faults input.new)
+        (W.written output.new) (W.faults output.new)) }
 {
     match read_case(alloc, folder) {
         Ok(scenario) => serve_case(alloc, scenario, input, output),

@@ -81,8 +81,10 @@ pub fn serve_beside<R: Threads + Wait + Sync, F: Folder, S: Source, W: Sink, G: 
 ) -> Status
     requires { (0 < workers) × (workers ≤ 64) }
     ensures { Ran (Some (Command.Session workers)) result
-        (outside (F.told folder.old) (F.faults folder.old) (S.left input.old) (S.faults input.old) (W.written output.old) (W.faults output.old))
-        (outside (F.told folder.new) (F.faults folder.new) (S.left input.new) (S.faults input.new) (W.written output.new) (W.faults output.new)) }
+        (outside (F.told folder.old) (F.faults folder.old) (S.left input.old) (S.faults input.old)
+        (W.written output.old) (W.faults output.old))
+        (outside (F.told folder.new) (F.faults folder.new) (S.left input.new) (S.faults input.new)
+        (W.written output.new) (W.faults output.new)) }
 {
     match read_case(alloc, folder) {
         Ok(scenario) => serve_case(rt, alloc, scenario, workers, input, output, gate),

@@ -76,8 +76,10 @@ pub fn serve_viewed<R: Threads + Wait + Sync, F: Folder, S: Source, W: Sink>(
 ) -> Status
     requires { (0 < viewers) × (viewers ≤ 2) }
     ensures { Ran (Some (Command.View viewers)) result
-        (outside (F.told folder.old) (F.faults folder.old) (S.left input.old) (S.faults input.old) (W.written output.old) (W.faults output.old))
-        (outside (F.told folder.new) (F.faults folder.new) (S.left input.new) (S.faults input.new) (W.written output.new) (W.faults output.new)) }
+        (outside (F.told folder.old) (F.faults folder.old) (S.left input.old) (S.faults input.old)
+        (W.written output.old) (W.faults output.old))
+        (outside (F.told folder.new) (F.faults folder.new) (S.left input.new) (S.faults input.new)
+        (W.written output.new) (W.faults output.new)) }
 {
     match read_case(alloc, folder) {
         Ok(scenario) => view_case(rt, alloc, scenario, viewers, input, output),
