@@ -1,10 +1,9 @@
 -- What has been seen of a board, and what begins with it.
-use Rattle.std.proofs.Common.{◌≡◌, true, List, [], ◌∷◌, map, refl, sym, ap, ◌∙◌, subst}
+use Rattle.std.proofs.Common.{◌≡◌, true, List, [], ◌∷◌, map, sym, ap, ◌∙◌, subst}
 use Rattle.std.specs.Prelude.{Option, Some, IfSome}
 use mathlib.Core.List.{IsPrefix}
-use Rattle.ltm_core.specs.declared.entry.LogEntry.{LogEntry}
 use Rattle.ltm_board.specs.declared.panel.Panel.{Panel}
-use Rattle.ltm_board.specs.Lists.{PostData, list_of, joined, entries_of_batches, opening_of, is_opened}
+use Rattle.ltm_board.specs.Lists.{PostData, joined, entries_of_batches, opening_of, is_opened}
 use Rattle.ltm_board.specs.Begins.{BeginsWith}
 use Rattle.ltm_board.specs.Panels.{batches_in, posts_of}
 use Rattle.ltm_board.specs.Known.{HasSeen}

@@ -1,7 +1,6 @@
 -- What contracts see of a board, its viewer and its notes.
 use Rattle.std.specs.Prelude.{ℕ, List, [], Option, Some, None}
 use Rattle.ltm_units.specs.declared.quantities.Units.{Units}
-use Rattle.ltm_flows.specs.declared.in_all.Totals.{Totals}
 use Rattle.ltm_board.specs.Sheets.{SheetData, links_on}
 use Rattle.ltm_board.specs.Lists.{PostData, joined, links_told, opening_of}
 use Rattle.ltm_board.specs.Panels.{posts_of}

@@ -79,7 +79,7 @@ impl Viewer {
     }
 
     /// Takes a note in: each later read begins with its list. It looks until the list that it finds does, as it does at the
-    /// first look where the note is of its own board; at another board's note, with as like an opening, it may look for ever.
+    /// first look where the note is of its own board; at a note of another board with an equal opening it may look for ever.
     pub fn learn<R: Wait>(&mut self, rt: &R, note: Note<'_>)
         requires { note_opening note ≡ viewer_opening self.old }
         ensures lists { viewer_lists self.new ≡ note_list note.entry ∷ viewer_lists self.old }
