@@ -56,9 +56,12 @@ impl Board {
         loading: &Loading,
     ) -> Result<(Board, Viewer), NoMemory>
         requires { IsLoadingOf opening.now loading.now }
-        ensures list { IfOk result (λ r. (board_list r.0 ≡ opening_posts opening.now) × (viewer_lists r.1 ≡ opening_posts opening.now ∷ [])) }
-        ensures sheet { IfOk result (λ r. IsSheetAfter (joined (board_list r.0)) (board_sheet r.0)) }
-        ensures links { IfOk result (λ r. (board_links r.0 ≡ (setting_of opening.now).links) × (viewer_links r.1 ≡ (setting_of opening.now).links)) }
+        ensures list { IfOk result (λ r. (board_list r.0 ≡ opening_posts opening.now)
+            × (viewer_lists r.1 ≡ opening_posts opening.now ∷ [])) }
+        ensures sheet { IfOk result (λ r. IsSheetAfter (joined (board_list r.0))
+            (board_sheet r.0)) }
+        ensures links { IfOk result (λ r. (board_links r.0 ≡ (setting_of opening.now).links)
+            × (viewer_links r.1 ≡ (setting_of opening.now).links)) }
         ensures one { IfOk result (λ r. viewer_opening r.1 ≡ board_opening r.0) }
     {
         edits_make();
@@ -102,13 +105,18 @@ impl Board {
         scenario: &Scenario,
         loading: &Loading,
     ) -> Result<(), NoMemory>
-        requires leads { LeadsTo (joined (board_list self.old) ++ entries_of_batches batches.now) scenario.now }
+        requires leads { LeadsTo (joined (board_list self.old)
+            ++ entries_of_batches batches.now) scenario.now }
         requires loading { IsLoadingOf scenario.now loading.now }
         // All batches are one post, behind those before it.
-        ensures list { OnOk result (board_list self.new ≡ board_list self.old ++ entries_of_batches batches.now ∷ []) }
-        ensures sheet { OnOk result (IsSheetAfter (joined (board_list self.new)) (board_sheet self.new)) }
-        ensures refused { OnErr result ((board_list self.new ≡ board_list self.old) × (board_sheet self.new ≡ board_sheet self.old)) }
-        ensures board { (board_opening self.new ≡ board_opening self.old) × (board_links self.new ≡ board_links self.old) }
+        ensures list { OnOk result (board_list self.new
+            ≡ board_list self.old ++ entries_of_batches batches.now ∷ []) }
+        ensures sheet { OnOk result (IsSheetAfter (joined (board_list self.new))
+            (board_sheet self.new)) }
+        ensures refused { OnErr result ((board_list self.new ≡ board_list self.old)
+            × (board_sheet self.new ≡ board_sheet self.old)) }
+        ensures board { (board_opening self.new ≡ board_opening self.old)
+            × (board_links self.new ≡ board_links self.old) }
     {
         let _after = scenario;
         let panel = self.shown();

@@ -31,7 +31,8 @@ pub struct Found {
 fn read_once(reader: BoardReader, into: &mut Sheet) -> Result<(Found, BoardReader), BoardReader>
     requires opened { is_opened (joined (opening_of (view reader.place).seen)) ≡ true }
     requires links { links_on into.old ≡ links_told (joined (opening_of (view reader.place).seen)) }
-    ensures read { MatchResult result (λ r. HasRead (view reader.place).seen (view r.1.place).seen r.0 into.new) (λ r. view r.place ≡ view reader.place) }
+    ensures read { MatchResult result (λ r. HasRead (view reader.place).seen
+        (view r.1.place).seen r.0 into.new) (λ r. view r.place ≡ view reader.place) }
     ensures links { links_on into.new ≡ links_on into.old }
 {
     edits_make();

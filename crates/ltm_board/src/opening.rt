@@ -16,7 +16,8 @@ use std::snapshot::Snapshot;
 use std::sync::Wait;
 
 fn panel_of(alloc: Global, opening: &Scenario, sheet: Sheet) -> Panel
-    ensures { (result.opening.value ≡ opening.now) × (result.posts.items ≡ []) × (result.count ≡ 0) × (result.sheet ≡ sheet) }
+    ensures { (result.opening.value ≡ opening.now) × (result.posts.items ≡ []) × (result.count ≡ 0)
+        × (result.sheet ≡ sheet) }
 {
     Panel {
         opening: Snapshot::of(opening),
@@ -57,7 +58,8 @@ pub(crate) fn open<R: Wait>(
 
 /// The reader of a board that shows the opening alone. It is told of the opening, once and for all.
 pub(crate) fn seat(writer: &mut BoardWriter) -> Result<BoardReader, AllocError>
-    ensures writer { (writer.new.desk.shown ≡ writer.old.desk.shown) × (writer.new.log ≡ writer.old.log) × (writer.new.behind ≡ writer.old.behind) }
+    ensures writer { (writer.new.desk.shown ≡ writer.old.desk.shown)
+        × (writer.new.log ≡ writer.old.log) × (writer.new.behind ≡ writer.old.behind) }
     ensures seen { IfOk result (λ r. (view r.place).seen ≡ (view writer.old.desk.place).seen) }
 {
     let mut reader = writer.factory().reader()?;

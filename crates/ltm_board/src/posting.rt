@@ -25,15 +25,22 @@ pub(crate) fn post_on<R: Wait>(
     sheet: Sheet,
 ) -> (BoardWriter, Result<(), AllocError>)
     requires right { IsRight writer.desk.shown.value }
-    requires keeps { AllKeep (length writer.desk.shown.value.posts.items) (drop writer.behind writer.log.items) }
-    requires sheet { IsSheetAfter (joined (posts_of writer.desk.shown.value) ++ entries_of_batches batches.items) sheet }
-    requires count { count + 1 ≡ length (joined (posts_of writer.desk.shown.value) ++ entries_of_batches batches.items) }
+    requires keeps { AllKeep (length writer.desk.shown.value.posts.items)
+        (drop writer.behind writer.log.items) }
+    requires sheet { IsSheetAfter (joined (posts_of writer.desk.shown.value)
+        ++ entries_of_batches batches.items) sheet }
+    requires count { count + 1
+        ≡ length (joined (posts_of writer.desk.shown.value) ++ entries_of_batches batches.items) }
     ensures right { IsRight result.0.desk.shown.value }
-    ensures keeps { AllKeep (length result.0.desk.shown.value.posts.items) (drop result.0.behind result.0.log.items) }
-    ensures ok { OnOk result.1 (posts_of result.0.desk.shown.value ≡ posts_of writer.desk.shown.value ++ entries_of_batches batches.items ∷ []) }
+    ensures keeps { AllKeep (length result.0.desk.shown.value.posts.items)
+        (drop result.0.behind result.0.log.items) }
+    ensures ok { OnOk result.1 (posts_of result.0.desk.shown.value
+        ≡ posts_of writer.desk.shown.value ++ entries_of_batches batches.items ∷ []) }
     ensures err { OnErr result.1 (result.0.desk.shown.value ≡ writer.desk.shown.value) }
-    ensures opening { opening_of (posts_of result.0.desk.shown.value) ≡ opening_of (posts_of writer.desk.shown.value) }
-    ensures links { links_on result.0.desk.shown.value.sheet ≡ links_on writer.desk.shown.value.sheet }
+    ensures opening { opening_of (posts_of result.0.desk.shown.value)
+        ≡ opening_of (posts_of writer.desk.shown.value) }
+    ensures links { links_on result.0.desk.shown.value.sheet
+        ≡ links_on writer.desk.shown.value.sheet }
 {
     edits_make();
     let posting = Posting {

@@ -78,7 +78,8 @@ impl Sheet {
 
     /// The sheet of a loading.
     pub fn of(alloc: Global, loading: &Loading) -> Result<Sheet, NoMemory>
-        ensures { IfOk result (λ sheet. (s : Setting) (version : ℕ) (c : Counts) → ShowsCounts s version c loading.now → IsSheet s c sheet) }
+        ensures { IfOk result (λ sheet. (s : Setting) (version : ℕ) (c : Counts)
+            → ShowsCounts s version c loading.now → IsSheet s c sheet) }
     {
         let through = through_links(alloc, loading)?;
         Ok(Sheet {

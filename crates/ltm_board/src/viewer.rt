@@ -62,11 +62,13 @@ impl Viewer {
     /// that of each note that it learnt. It takes no memory, and waits for no post.
     pub fn read<R: Wait>(&mut self, rt: &R, into: &mut Sheet) -> u64
         requires { links_on into.old ≡ viewer_links self.old }
-        ensures list { viewer_lists self.new ≡ newest (viewer_lists self.new) ∷ viewer_lists self.old }
+        ensures list { viewer_lists self.new
+            ≡ newest (viewer_lists self.new) ∷ viewer_lists self.old }
         ensures begins { BeginsWith (newest (viewer_lists self.new)) (viewer_lists self.old) }
         ensures sheet { IsSheetAfter (joined (newest (viewer_lists self.new))) into.new }
         ensures count { result + 1 ≡ length (joined (newest (viewer_lists self.new))) }
-        ensures viewer { (viewer_opening self.new ≡ viewer_opening self.old) × (viewer_links self.new ≡ viewer_links self.old) }
+        ensures viewer { (viewer_opening self.new ≡ viewer_opening self.old)
+            × (viewer_links self.new ≡ viewer_links self.old) }
         ensures links { links_on into.new ≡ links_on into.old }
     {
         let Some(reader) = self.reader.take() else {
@@ -83,7 +85,8 @@ impl Viewer {
     pub fn learn<R: Wait>(&mut self, rt: &R, note: Note<'_>)
         requires { note_opening note ≡ viewer_opening self.old }
         ensures lists { viewer_lists self.new ≡ note_list note.entry ∷ viewer_lists self.old }
-        ensures viewer { (viewer_opening self.new ≡ viewer_opening self.old) × (viewer_links self.new ≡ viewer_links self.old) }
+        ensures viewer { (viewer_opening self.new ≡ viewer_opening self.old)
+            × (viewer_links self.new ≡ viewer_links self.old) }
     {
         let Some(reader) = self.reader.take() else {
             unreachable!()

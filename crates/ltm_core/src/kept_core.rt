@@ -222,7 +222,8 @@ impl Core {
 
     /// How many pairs of node and slot there are.
     pub fn pairs(&self) -> u64
-        ensures { result ≡ (setting_of self.now.scenario).nodes * (setting_of self.now.scenario).slots }
+        ensures { result ≡ (setting_of self.now.scenario).nodes *
+            (setting_of self.now.scenario).slots }
     {
         u64::from(node_count(&self.scenario)) * u64::from(slot_count(&self.scenario))
     }

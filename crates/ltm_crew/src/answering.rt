@@ -32,12 +32,15 @@ fn reply_held(
 ) -> Result<(), NoMemory>
     requires amounts { HasAmounts command }
     requires other { command ≢ Command.Settle }
-    ensures ok { OnOk result ((words : List ℕ) × Replies (state_of core.old) (Ok command) words (state_of core.new)
+    ensures ok { OnOk result ((words : List ℕ)
+        × Replies (state_of core.old) (Ok command) words (state_of core.new)
         × (text.new.items ≡ text.old.items ++ words)) }
     ensures err { OnErr result ((text.new.items ≡ text.old.items) × (core.new.log ≡ core.old.log)) }
-    ensures grows { (rest : List LogEntry) × (entries_of core.old.log ++ rest ≡ entries_of core.new.log) }
+    ensures grows { (rest : List LogEntry)
+        × (entries_of core.old.log ++ rest ≡ entries_of core.new.log) }
     ensures shown { version_of core.new.shown ≡ version_of core.old.shown }
-    ensures finished { (version_of core.old.shown ≤ version_now core.old.log) × (version_of core.new.shown ≤ version_now core.new.log) }
+    ensures finished { (version_of core.old.shown ≤ version_now core.old.log)
+        × (version_of core.new.shown ≤ version_now core.new.log) }
 {
     logs_tell_all();
     let _before = core.shown();
@@ -63,10 +66,15 @@ fn reply_beside<R: Wait>(
     requires turn { editor_turn editor ≡ turn_id turn.now }
     requires amounts { HasAmounts command }
     requires other { command ≢ Command.Settle }
-    ensures turn { (editor_turn result.0 ≡ turn_id turn.now) × (editor_workers result.0 ≡ editor_workers editor) }
-    ensures ok { OnOk result.1 ((words : List ℕ) × SaidBeside (Ok command) words (editor_list editor) (editor_seen editor) (editor_list result.0) (editor_seen result.0)
+    ensures turn { (editor_turn result.0 ≡ turn_id turn.now)
+        × (editor_workers result.0 ≡ editor_workers editor) }
+    ensures ok { OnOk result.1 ((words : List ℕ)
+        × SaidBeside (Ok command) words (editor_list editor) (editor_seen editor)
+        (editor_list result.0) (editor_seen result.0)
         × (text.new.items ≡ text.old.items ++ words)) }
-    ensures err { OnErr result.1 ((text.new.items ≡ text.old.items) × (editor_list result.0 ≡ editor_list editor) × (editor_seen editor ≤ editor_seen result.0)) }
+    ensures err { OnErr result.1 ((text.new.items ≡ text.old.items)
+        × (editor_list result.0 ≡ editor_list editor)
+        × (editor_seen editor ≤ editor_seen result.0)) }
 {
     logs_tell_all();
     let mut held = turn.take_editor(rt, editor);
@@ -100,8 +108,11 @@ fn settle_in_room<R: Wait>(
 ) -> (EditorPass<Core>, Scratch)
     requires turn { editor_turn editor ≡ turn_id turn.now }
     requires room { vec_len text.old + answer_room ≤ vec_capacity text.old }
-    ensures turn { (editor_turn result.0 ≡ turn_id turn.now) × (editor_workers result.0 ≡ editor_workers editor) }
-    ensures told { (words : List ℕ) × SaidBeside (Ok Command.Settle) words (editor_list editor) (editor_seen editor) (editor_list result.0) (editor_seen result.0)
+    ensures turn { (editor_turn result.0 ≡ turn_id turn.now)
+        × (editor_workers result.0 ≡ editor_workers editor) }
+    ensures told { (words : List ℕ)
+        × SaidBeside (Ok Command.Settle) words (editor_list editor) (editor_seen editor)
+        (editor_list result.0) (editor_seen result.0)
         × (text.new.items ≡ text.old.items ++ words) }
 {
     logs_tell_all();
@@ -119,10 +130,15 @@ fn settle_line<R: Wait>(
     text: &mut Vec<u8>,
 ) -> (EditorPass<Core>, Scratch, Result<(), NoMemory>)
     requires { editor_turn editor ≡ turn_id turn.now }
-    ensures turn { (editor_turn result.0 ≡ turn_id turn.now) × (editor_workers result.0 ≡ editor_workers editor) }
-    ensures ok { OnOk result.2 ((words : List ℕ) × SaidBeside (Ok Command.Settle) words (editor_list editor) (editor_seen editor) (editor_list result.0) (editor_seen result.0)
+    ensures turn { (editor_turn result.0 ≡ turn_id turn.now)
+        × (editor_workers result.0 ≡ editor_workers editor) }
+    ensures ok { OnOk result.2 ((words : List ℕ)
+        × SaidBeside (Ok Command.Settle) words (editor_list editor) (editor_seen editor)
+        (editor_list result.0) (editor_seen result.0)
         × (text.new.items ≡ text.old.items ++ words)) }
-    ensures err { OnErr result.2 ((text.new.items ≡ text.old.items) × (editor_list result.0 ≡ editor_list editor) × (editor_seen editor ≤ editor_seen result.0)) }
+    ensures err { OnErr result.2 ((text.new.items ≡ text.old.items)
+        × (editor_list result.0 ≡ editor_list editor)
+        × (editor_seen editor ≤ editor_seen result.0)) }
 {
     match text.reserve(ANSWER_ROOM) {
         Ok(()) => {
@@ -144,10 +160,15 @@ fn answer_beside<R: Wait>(
     text: &mut Vec<u8>,
 ) -> (EditorPass<Core>, Scratch, Result<(), NoMemory>)
     requires { editor_turn editor ≡ turn_id turn.now }
-    ensures turn { (editor_turn result.0 ≡ turn_id turn.now) × (editor_workers result.0 ≡ editor_workers editor) }
-    ensures ok { OnOk result.2 ((words : List ℕ) × LineBeside line.now words (editor_list editor) (editor_seen editor) (editor_list result.0) (editor_seen result.0)
+    ensures turn { (editor_turn result.0 ≡ turn_id turn.now)
+        × (editor_workers result.0 ≡ editor_workers editor) }
+    ensures ok { OnOk result.2 ((words : List ℕ)
+        × LineBeside line.now words (editor_list editor) (editor_seen editor) (editor_list result.0)
+        (editor_seen result.0)
         × (text.new.items ≡ text.old.items ++ words)) }
-    ensures err { OnErr result.2 ((text.new.items ≡ text.old.items) × (editor_list result.0 ≡ editor_list editor) × (editor_seen editor ≤ editor_seen result.0)) }
+    ensures err { OnErr result.2 ((text.new.items ≡ text.old.items)
+        × (editor_list result.0 ≡ editor_list editor)
+        × (editor_seen editor ≤ editor_seen result.0)) }
 {
     match read_command(alloc, line) {
         Ok(Command::Settle) => return settle_line(rt, turn, editor, scratch, text),
@@ -175,13 +196,20 @@ pub(crate) fn line_beside<R: Wait, W: Sink>(
     sink: &mut W,
 ) -> (EditorPass<Core>, Scratch, Result<(), SessionEnd>)
     requires { editor_turn editor ≡ turn_id turn.now }
-    ensures turn { (editor_turn result.0 ≡ turn_id turn.now) × (editor_workers result.0 ≡ editor_workers editor) }
-    ensures ok { OnOk result.2 ((words : List ℕ) × LineBeside line.now words (editor_list editor) (editor_seen editor) (editor_list result.0) (editor_seen result.0)
+    ensures turn { (editor_turn result.0 ≡ turn_id turn.now)
+        × (editor_workers result.0 ≡ editor_workers editor) }
+    ensures ok { OnOk result.2 ((words : List ℕ)
+        × LineBeside line.now words (editor_list editor) (editor_seen editor) (editor_list result.0)
+        (editor_seen result.0)
         × (W.written sink.new ≡ appended words (W.written sink.old))) }
-    ensures err { IfErr result.2 (λ end. StopsBeside line.now end (W.written sink.old) (W.written sink.new) (editor_list editor) (editor_seen editor) (editor_list result.0) (editor_seen result.0)) }
-    ensures which { IfErr result.2 (λ end. (end ≡ SessionEnd.WriteFault) ⊎ (end ≡ SessionEnd.NoMemory)) }
+    ensures err { IfErr result.2 (λ end. StopsBeside line.now end (W.written sink.old)
+        (W.written sink.new) (editor_list editor) (editor_seen editor) (editor_list result.0)
+        (editor_seen result.0)) }
+    ensures which { IfErr result.2 (λ end. (end ≡ SessionEnd.WriteFault)
+        ⊎ (end ≡ SessionEnd.NoMemory)) }
     ensures later { W.faults sink.old ≤ W.faults sink.new }
-    ensures fault { result.2 ≡ Err SessionEnd.WriteFault → Rose (W.faults sink.old) (W.faults sink.new) }
+    ensures fault { result.2 ≡ Err SessionEnd.WriteFault
+        → Rose (W.faults sink.old) (W.faults sink.new) }
 {
     text.clear();
     let (editor, scratch, done) = answer_beside(rt, alloc, turn, editor, scratch, line, text);

@@ -36,10 +36,15 @@ fn edit<R: Wait, S: Source, W: Sink>(
 ) -> (EditorPass<Core>, SessionEnd)
     requires turn { editor_turn editor ≡ turn_id turn.now }
     requires unread { IsUnread gear.script }
-    ensures turn { (editor_turn result.0 ≡ turn_id turn.now) × (editor_workers result.0 ≡ editor_workers editor) }
-    ensures session { SessionBeside (S.left source.old) result.1 (W.written sink.old) (W.written sink.new) (editor_list editor) (editor_seen editor) (editor_list result.0) (editor_seen result.0) }
-    ensures read_fault { result.1 ≡ SessionEnd.ReadFault → Rose (S.faults source.old) (S.faults source.new) }
-    ensures write_fault { result.1 ≡ SessionEnd.WriteFault → Rose (W.faults sink.old) (W.faults sink.new) }
+    ensures turn { (editor_turn result.0 ≡ turn_id turn.now)
+        × (editor_workers result.0 ≡ editor_workers editor) }
+    ensures session { SessionBeside (S.left source.old) result.1 (W.written sink.old)
+        (W.written sink.new) (editor_list editor) (editor_seen editor) (editor_list result.0)
+        (editor_seen result.0) }
+    ensures read_fault { result.1 ≡ SessionEnd.ReadFault
+        → Rose (S.faults source.old) (S.faults source.new) }
+    ensures write_fault { result.1 ≡ SessionEnd.WriteFault
+        → Rose (W.faults sink.old) (W.faults sink.new) }
     ensures read { ReadsAll (S.left source.old) result.1 (S.left source.new) }
     ensures later { W.faults sink.old ≤ W.faults sink.new }
 {
@@ -78,10 +83,15 @@ fn edit_and_stop<R: Wait, S: Source, W: Sink>(
 ) -> (EditorPass<Core>, SessionEnd)
     requires turn { editor_turn editor ≡ turn_id turn.now }
     requires unread { IsUnread gear.script }
-    ensures turn { (editor_turn result.0 ≡ turn_id turn.now) × (editor_workers result.0 ≡ editor_workers editor) }
-    ensures session { SessionBeside (S.left source.old) result.1 (W.written sink.old) (W.written sink.new) (editor_list editor) (editor_seen editor) (editor_list result.0) (editor_seen result.0) }
-    ensures read_fault { result.1 ≡ SessionEnd.ReadFault → Rose (S.faults source.old) (S.faults source.new) }
-    ensures write_fault { result.1 ≡ SessionEnd.WriteFault → Rose (W.faults sink.old) (W.faults sink.new) }
+    ensures turn { (editor_turn result.0 ≡ turn_id turn.now)
+        × (editor_workers result.0 ≡ editor_workers editor) }
+    ensures session { SessionBeside (S.left source.old) result.1 (W.written sink.old)
+        (W.written sink.new) (editor_list editor) (editor_seen editor) (editor_list result.0)
+        (editor_seen result.0) }
+    ensures read_fault { result.1 ≡ SessionEnd.ReadFault
+        → Rose (S.faults source.old) (S.faults source.new) }
+    ensures write_fault { result.1 ≡ SessionEnd.WriteFault
+        → Rose (W.faults sink.old) (W.faults sink.new) }
     ensures read { ReadsAll (S.left source.old) result.1 (S.left source.new) }
     ensures later { W.faults sink.old ≤ W.faults sink.new }
 {
@@ -104,10 +114,15 @@ pub(crate) fn crew<R: Threads + Wait + Sync, S: Source, W: Sink, G: Gate>(
     requires turn { editor_turn editor ≡ turn_id turn.now }
     requires room { editor_workers editor + workers ≤ 64 }
     requires unread { IsUnread gear.script }
-    ensures turn { (editor_turn result.0 ≡ turn_id turn.now) × (editor_workers result.0 ≡ editor_workers editor) }
-    ensures session { SessionBeside (S.left source.old) result.1 (W.written sink.old) (W.written sink.new) (editor_list editor) (editor_seen editor) (editor_list result.0) (editor_seen result.0) }
-    ensures read_fault { result.1 ≡ SessionEnd.ReadFault → Rose (S.faults source.old) (S.faults source.new) }
-    ensures write_fault { result.1 ≡ SessionEnd.WriteFault → Rose (W.faults sink.old) (W.faults sink.new) }
+    ensures turn { (editor_turn result.0 ≡ turn_id turn.now)
+        × (editor_workers result.0 ≡ editor_workers editor) }
+    ensures session { SessionBeside (S.left source.old) result.1 (W.written sink.old)
+        (W.written sink.new) (editor_list editor) (editor_seen editor) (editor_list result.0)
+        (editor_seen result.0) }
+    ensures read_fault { result.1 ≡ SessionEnd.ReadFault
+        → Rose (S.faults source.old) (S.faults source.new) }
+    ensures write_fault { result.1 ≡ SessionEnd.WriteFault
+        → Rose (W.faults sink.old) (W.faults sink.new) }
     ensures read { ReadsAll (S.left source.old) result.1 (S.left source.new) }
     ensures later { W.faults sink.old ≤ W.faults sink.new }
 {
@@ -126,7 +141,8 @@ pub(crate) fn crew<R: Threads + Wait + Sync, S: Source, W: Sink, G: Gate>(
     let ((worker, _idle), (mut editor, end)) = join_mut(
         rt,
         &mut || -> (WorkerPass<Core>, Scratch)
-            requires { IsSync R.row × IsSync G.row × IsSomeAnd hand (λ p. worker_turn p.0 ≡ turn_id turn.now) }
+            requires { IsSync R.row × IsSync G.row
+                × IsSomeAnd hand (λ p. worker_turn p.0 ≡ turn_id turn.now) }
             ensures { (worker_turn result.0 ≡ turn_id turn.entry.now) × (hand.exit ≡ None) }
         {
             let Some((pass, idle)) = hand.take() else {
@@ -135,14 +151,21 @@ pub(crate) fn crew<R: Threads + Wait + Sync, S: Source, W: Sink, G: Gate>(
             work(rt, turn, pass, gate, idle)
         },
         &mut || -> (EditorPass<Core>, SessionEnd)
-            requires { IsSync R.row × IsSync G.row × IsSomeAnd desk (λ e. (editor_turn e.0 ≡ turn_id turn.now) × (editor_workers e.0 + rest ≤ 64)
+            requires { IsSync R.row × IsSync G.row
+                × IsSomeAnd desk (λ e. (editor_turn e.0 ≡ turn_id turn.now)
+                × (editor_workers e.0 + rest ≤ 64)
                 × IsUnread e.1.script) }
             ensures none { desk.exit ≡ None }
-            ensures turn { IfSome desk.entry (λ e. (editor_turn result.0 ≡ turn_id turn.entry.now) × (editor_workers result.0 ≡ editor_workers e.0)) }
-            ensures session { IfSome desk.entry (λ e. SessionBeside (S.left source.entry.now) result.1 (W.written sink.entry.now) (W.written sink.exit.now)
+            ensures turn { IfSome desk.entry (λ e. (editor_turn result.0 ≡ turn_id turn.entry.now)
+                × (editor_workers result.0 ≡ editor_workers e.0)) }
+            ensures session { IfSome desk.entry
+                (λ e. SessionBeside (S.left source.entry.now) result.1 (W.written sink.entry.now)
+                (W.written sink.exit.now)
                 (editor_list e.0) (editor_seen e.0) (editor_list result.0) (editor_seen result.0)) }
-            ensures read_fault { result.1 ≡ SessionEnd.ReadFault → Rose (S.faults source.entry.now) (S.faults source.exit.now) }
-            ensures write_fault { result.1 ≡ SessionEnd.WriteFault → Rose (W.faults sink.entry.now) (W.faults sink.exit.now) }
+            ensures read_fault { result.1 ≡ SessionEnd.ReadFault
+                → Rose (S.faults source.entry.now) (S.faults source.exit.now) }
+            ensures write_fault { result.1 ≡ SessionEnd.WriteFault
+                → Rose (W.faults sink.entry.now) (W.faults sink.exit.now) }
             ensures read { ReadsAll (S.left source.entry.now) result.1 (S.left source.exit.now) }
             ensures later { W.faults sink.entry.now ≤ W.faults sink.exit.now }
         {

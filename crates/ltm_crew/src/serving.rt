@@ -60,17 +60,26 @@ pub fn serve<R: Threads + Wait + Sync, S: Source, W: Sink, G: Gate>(
     requires fresh { version_now core.log ≡ 0 }
     requires running { core.stopped ≡ false }
     // What was answered, what was written of it, how that ended, and the log then.
-    ensures session { (output : List ℕ) × (t : Analysts) × IsSession AnswersBeside core.log.opening (S.left source.old) result.end output t
-        × Wrote result.end (W.written sink.old) (W.written sink.new) output × (result.core.log ≡ t.log) }
-    ensures alone { workers ≡ 0 → (output : List ℕ) × IsSession AnswersAlone core.log.opening (S.left source.old) result.end output (state_of result.core)
+    ensures session { (output : List ℕ) × (t : Analysts)
+        × IsSession AnswersBeside core.log.opening (S.left source.old) result.end output t
+        × Wrote result.end (W.written sink.old) (W.written sink.new) output
+        × (result.core.log ≡ t.log) }
+    ensures alone { workers ≡ 0
+        → (output : List ℕ)
+        × IsSession AnswersAlone core.log.opening (S.left source.old) result.end output
+        (state_of result.core)
         × Wrote result.end (W.written sink.old) (W.written sink.new) output }
     // Where nothing failed, the session ended as its script says.
-    ensures end { (script : List ℕ) → S.left source.old ≡ Some script → result.end ≢ SessionEnd.ReadFault → result.end ≢ SessionEnd.WriteFault
+    ensures end { (script : List ℕ) → S.left source.old ≡ Some script
+        → result.end ≢ SessionEnd.ReadFault → result.end ≢ SessionEnd.WriteFault
         → result.end ≢ SessionEnd.NoMemory → result.end ≡ end_of script }
-    ensures read { (script : List ℕ) → S.left source.old ≡ Some script → result.end ≡ SessionEnd.Ended → S.left source.new ≡ Some [] }
+    ensures read { (script : List ℕ) → S.left source.old ≡ Some script
+        → result.end ≡ SessionEnd.Ended → S.left source.new ≡ Some [] }
     // A fault of the outside is told only where a count of faults rose.
-    ensures read_fault { result.end ≡ SessionEnd.ReadFault → Rose (S.faults source.old) (S.faults source.new) }
-    ensures write_fault { result.end ≡ SessionEnd.WriteFault → Rose (W.faults sink.old) (W.faults sink.new) }
+    ensures read_fault { result.end ≡ SessionEnd.ReadFault
+        → Rose (S.faults source.old) (S.faults source.new) }
+    ensures write_fault { result.end ≡ SessionEnd.WriteFault
+        → Rose (W.faults sink.old) (W.faults sink.new) }
     ensures later { W.faults sink.old ≤ W.faults sink.new }
 {
     logs_tell_all();

@@ -27,16 +27,21 @@ pub fn editing_text<R: Threads + Wait + Sync, F: Folder>(
     folder: &mut F,
 ) -> Result<Vec<u8>, Refusal>
     requires { editors ≤ 8 }
-    ensures text { IfOk result (λ text. AnswersEditing (F.told folder.old) editors (Ok text.items)) }
-    ensures fault { IfErr result (λ e. IsTold e → AnswersEditing (F.told folder.old) editors (Err e)) }
+    ensures text { IfOk result (λ text. AnswersEditing (F.told folder.old) editors
+        (Ok text.items)) }
+    ensures fault { IfErr result (λ e. IsTold e
+        → AnswersEditing (F.told folder.old) editors (Err e)) }
 
     // A file is not given only where its count of faults rose in this call, and it is one of the case or of the edits.
-    ensures missed { IfErr result (λ e. IsMissing e → Missed (F.told folder.old) editors (F.faults folder.old) (F.faults folder.new)) }
+    ensures missed { IfErr result (λ e. IsMissing e
+        → Missed (F.told folder.old) editors (F.faults folder.old) (F.faults folder.new)) }
 
     ensures keeps { F.told folder.new ≡ F.told folder.old }
     ensures later { (d : Doc) → F.faults folder.old d ≤ F.faults folder.new d }
-    ensures others { (d : Doc) → is_case_file d ≡ false → (Contains (docs_of editors) d → ⊥) → F.faults folder.new d ≡ F.faults folder.old d }
-    ensures unasked { IfSome (F.told folder.old) (λ files. (d : Doc) → asks_for files d ≡ false → (Contains (docs_of editors) d → ⊥)
+    ensures others { (d : Doc) → is_case_file d ≡ false → (Contains (docs_of editors) d → ⊥)
+        → F.faults folder.new d ≡ F.faults folder.old d }
+    ensures unasked { IfSome (F.told folder.old) (λ files. (d : Doc) → asks_for files d ≡ false
+        → (Contains (docs_of editors) d → ⊥)
         → F.faults folder.new d ≡ F.faults folder.old d) }
 {
     let scenario = match read_case(alloc, folder) {

@@ -46,7 +46,8 @@ pub(crate) fn crew<R: Threads + Wait + Sync>(
     ensures made { (seat_place result.0).made ≡ (seat_place first).made + editors }
     ensures others { (seat_place result.0).others ≡ (seat_place first).others }
     ensures opening { (seat_place result.0).opening ≡ (seat_place first).opening }
-    ensures all { OnOk result.1 (MadeAll (seat_place first).made scripts.items (seat_place result.0).numbers (seat_seen result.0)) }
+    ensures all { OnOk result.1 (MadeAll (seat_place first).made scripts.items
+        (seat_place result.0).numbers (seat_seen result.0)) }
 {
     if editors == 0 {
         return (first, Ok(()));
@@ -59,19 +60,26 @@ pub(crate) fn crew<R: Threads + Wait + Sync>(
     let ((seat, one), (mut first, others)) = join(
         rt,
         || -> (Seat<Office>, Result<(), NoMemory>)
-            requires { IsSync R.row × ((seat_place seat).desk ≡ desk_id desk.now) × Contains (seat_place seat).numbers (seat_place seat).number × All HaveAmounts script }
+            requires { IsSync R.row × ((seat_place seat).desk ≡ desk_id desk.now)
+                × Contains (seat_place seat).numbers (seat_place seat).number
+                × All HaveAmounts script }
             ensures place { seat_place result.0 ≡ seat_place seat }
-            ensures all { OnOk result.1 (batches_by (seat_place seat).number (seat_seen result.0) ≡ batches_by (seat_place seat).number (seat_seen seat) ++ script) }
+            ensures all { OnOk result.1 (batches_by (seat_place seat).number (seat_seen result.0)
+                ≡ batches_by (seat_place seat).number (seat_seen seat) ++ script) }
         { edit(rt, desk, seat, script) },
         || -> (Seat<Office>, Result<(), NoMemory>)
-            requires { IsSync R.row × ((seat_place first).desk ≡ desk_id desk.now) × ((seat_place first).number ≡ 0) × ((seat_place first).numbers ≡ 0 ∷ []) × (seat_seen first ≡ [])
-                × (length scripts.items ≡ rest) × ((seat_place first).made + rest ≤ 9) × All (All HaveAmounts) scripts.items }
+            requires { IsSync R.row × ((seat_place first).desk ≡ desk_id desk.now)
+                × ((seat_place first).number ≡ 0) × ((seat_place first).numbers ≡ 0 ∷ [])
+                × (seat_seen first ≡ [])
+                × (length scripts.items ≡ rest) × ((seat_place first).made + rest ≤ 9)
+                × All (All HaveAmounts) scripts.items }
             ensures desk { (seat_place result.0).desk ≡ desk_id desk.entry.now }
             ensures first { (seat_place result.0).number ≡ 0 }
             ensures made { (seat_place result.0).made ≡ (seat_place first).made + rest }
             ensures others { (seat_place result.0).others ≡ (seat_place first).others }
             ensures opening { (seat_place result.0).opening ≡ (seat_place first).opening }
-            ensures all { OnOk result.1 (MadeAll (seat_place first).made scripts.items (seat_place result.0).numbers (seat_seen result.0)) }
+            ensures all { OnOk result.1 (MadeAll (seat_place first).made scripts.items
+                (seat_place result.0).numbers (seat_seen result.0)) }
         { crew(rt, desk, first, rest, scripts) },
     );
     desk.join(&mut first, seat);

@@ -26,7 +26,8 @@ fn newline_at(text: &[u8]) -> usize
 /// How many bytes the first line of a text has.
 pub(crate) fn line_len(text: &[u8]) -> usize
     ensures within { result ≤ length text.now }
-    ensures first { text.now ≢ [] → lines_of text.now ≡ take result text.now ∷ lines_of (drop (result + 1) text.now) }
+    ensures first { text.now ≢ []
+        → lines_of text.now ≡ take result text.now ∷ lines_of (drop (result + 1) text.now) }
 {
     newline_at(text)
 }

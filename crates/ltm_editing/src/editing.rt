@@ -29,7 +29,8 @@ fn edit_office<R: Threads + Wait + Sync>(
     requires few { length scripts.items ≤ 8 }
     requires amounts { All (All HaveAmounts) scripts.items }
     ensures opening { opening_of result.0 ≡ opening_of office }
-    ensures calls { OnOk result.1 ((n : ℕ) → batches_by n result.0.history ≡ script_by scripts.items n) }
+    ensures calls { OnOk result.1 ((n : ℕ)
+        → batches_by n result.0.history ≡ script_by scripts.items n) }
 {
     let editors = scripts.len() as u32;
     match Desk::create(alloc, office) {

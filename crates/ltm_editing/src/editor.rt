@@ -35,7 +35,8 @@ fn call<R: Wait>(
     requires own { Contains (seat_place seat).numbers (seat_place seat).number }
     requires amounts { HaveAmounts batch }
     ensures place { seat_place result.0 ≡ seat_place seat }
-    ensures put { OnOk result.1 (batches_by (seat_place seat).number (seat_seen result.0) ≡ batches_by (seat_place seat).number (seat_seen seat) ++ batch ∷ []) }
+    ensures put { OnOk result.1 (batches_by (seat_place seat).number (seat_seen result.0)
+        ≡ batches_by (seat_place seat).number (seat_seen seat) ++ batch ∷ []) }
 {
     let mut held = desk.take(rt, seat);
     let done = ask(&mut held, batch);
@@ -53,7 +54,8 @@ pub(crate) fn edit<R: Wait>(
     requires own { Contains (seat_place seat).numbers (seat_place seat).number }
     requires amounts { All HaveAmounts script }
     ensures place { seat_place result.0 ≡ seat_place seat }
-    ensures all { OnOk result.1 (batches_by (seat_place seat).number (seat_seen result.0) ≡ batches_by (seat_place seat).number (seat_seen seat) ++ script) }
+    ensures all { OnOk result.1 (batches_by (seat_place seat).number (seat_seen result.0)
+        ≡ batches_by (seat_place seat).number (seat_seen seat) ++ script) }
 {
     let mut seat = seat;
     for batch in script.into_batches() {

@@ -42,20 +42,24 @@ pub fn read_edits<F: Folder>(
     folder: &mut F,
 ) -> Result<Vec<Script>, EditsFault>
     requires { editors ≤ 8 }
-    ensures ok { IfOk result (λ scripts. IfSome (F.told folder.old) (λ files. scripts_of files editors ≡ Ok scripts.items)) }
+    ensures ok { IfOk result (λ scripts. IfSome (F.told folder.old)
+        (λ files. scripts_of files editors ≡ Ok scripts.items)) }
     ensures count { IfOk result (λ scripts. length scripts.items ≡ editors) }
 
     // Each amount is within what a scenario asks for.
     ensures amounts { IfOk result (λ scripts. All (All HaveAmounts) scripts.items) }
 
-    ensures fault { IfErr result (λ e. IfSome (F.told folder.old) (λ files. Agrees (scripts_of files editors) e)) }
+    ensures fault { IfErr result (λ e. IfSome (F.told folder.old)
+        (λ files. Agrees (scripts_of files editors) e)) }
 
     // A file is not given only where its count of faults rose in this call, and it is an editor's.
-    ensures missed { IfErr result (IfMissing ((d : Doc) × Contains (docs_of editors) d × Rose (F.faults folder.old d) (F.faults folder.new d))) }
+    ensures missed { IfErr result (IfMissing ((d : Doc) × Contains (docs_of editors) d
+        × Rose (F.faults folder.old d) (F.faults folder.new d))) }
 
     ensures keeps { F.told folder.new ≡ F.told folder.old }
     ensures later { (d : Doc) → F.faults folder.old d ≤ F.faults folder.new d }
-    ensures others { (d : Doc) → (Contains (docs_of editors) d → ⊥) → F.faults folder.new d ≡ F.faults folder.old d }
+    ensures others { (d : Doc) → (Contains (docs_of editors) d → ⊥)
+        → F.faults folder.new d ≡ F.faults folder.old d }
 {
     let files = all_files();
     let texts = match fetch_texts(alloc, folder, &files[..editors as usize]) {

@@ -22,9 +22,12 @@ fn fetch_text<F: Folder>(
     editor: u32,
     doc: Doc,
 ) -> Result<Text, EditsFault>
-    ensures ok { IfOk result (λ text. IfSome (F.told folder.old) (λ files. sized editor (files doc) ≡ Ok text)) }
-    ensures fault { IfErr result (λ e. IfSome (F.told folder.old) (λ files. Agrees (sized editor (files doc)) e)) }
-    ensures missed { IfErr result (IfMissing (Rose (F.faults folder.old doc) (F.faults folder.new doc))) }
+    ensures ok { IfOk result (λ text. IfSome (F.told folder.old) (λ files. sized editor (files doc)
+        ≡ Ok text)) }
+    ensures fault { IfErr result (λ e. IfSome (F.told folder.old)
+        (λ files. Agrees (sized editor (files doc)) e)) }
+    ensures missed { IfErr result (IfMissing
+        (Rose (F.faults folder.old doc) (F.faults folder.new doc))) }
     ensures keeps { F.told folder.new ≡ F.told folder.old }
     ensures later { (d : Doc) → F.faults folder.old d ≤ F.faults folder.new d }
     ensures others { (d : Doc) → d ≢ doc → F.faults folder.new d ≡ F.faults folder.old d }
@@ -45,13 +48,17 @@ pub(crate) fn fetch_texts<F: Folder>(
     docs: &[Doc],
 ) -> Result<Vec<Text>, EditsFault>
     requires { length docs.now ≤ 8 }
-    ensures ok { IfOk result (λ texts. IfSome (F.told folder.old) (λ files. each_from (text_at files) 1 docs.now ≡ Ok texts.items)) }
+    ensures ok { IfOk result (λ texts. IfSome (F.told folder.old)
+        (λ files. each_from (text_at files) 1 docs.now ≡ Ok texts.items)) }
     ensures count { IfOk result (λ texts. length texts.items ≡ length docs.now) }
-    ensures fault { IfErr result (λ e. IfSome (F.told folder.old) (λ files. Agrees (each_from (text_at files) 1 docs.now) e)) }
-    ensures missed { IfErr result (IfMissing ((d : Doc) × Contains docs.now d × Rose (F.faults folder.old d) (F.faults folder.new d))) }
+    ensures fault { IfErr result (λ e. IfSome (F.told folder.old)
+        (λ files. Agrees (each_from (text_at files) 1 docs.now) e)) }
+    ensures missed { IfErr result (IfMissing ((d : Doc) × Contains docs.now d
+        × Rose (F.faults folder.old d) (F.faults folder.new d))) }
     ensures keeps { F.told folder.new ≡ F.told folder.old }
     ensures later { (d : Doc) → F.faults folder.old d ≤ F.faults folder.new d }
-    ensures others { (d : Doc) → (Contains docs.now d → ⊥) → F.faults folder.new d ≡ F.faults folder.old d }
+    ensures others { (d : Doc) → (Contains docs.now d → ⊥)
+        → F.faults folder.new d ≡ F.faults folder.old d }
 {
     let mut texts = Vec::new(alloc);
     let mut editor: u32 = 1;

@@ -29,7 +29,8 @@ fn bad_line(editor: u32, line: u32, cause: LineCause) -> EditsFault
 fn read_line(alloc: Global, editor: u32, line: u32, bytes: &[u8]) -> Result<Batch, EditsFault>
     ensures ok { IfOk result (λ batch. batch_at editor line bytes.now ≡ Ok batch) }
     ensures amounts { IfOk result HaveAmounts }
-    ensures fault { IfErr result (λ e. (e ≡ EditsFault.NoMemory) ⊎ (batch_at editor line bytes.now ≡ Err e)) }
+    ensures fault { IfErr result (λ e. (e ≡ EditsFault.NoMemory)
+        ⊎ (batch_at editor line bytes.now ≡ Err e)) }
     ensures given { IfErr result (IfMissing ⊥) }
 {
     match read_command(alloc, bytes) {
@@ -48,7 +49,8 @@ fn read_script(alloc: Global, editor: u32, text: &[u8]) -> Result<Script, EditsF
     requires { length text.now ≤ 16777216 }
     ensures ok { IfOk result (λ script. script_of editor text.now ≡ Ok script) }
     ensures amounts { IfOk result (All HaveAmounts) }
-    ensures fault { IfErr result (λ e. (e ≡ EditsFault.NoMemory) ⊎ (script_of editor text.now ≡ Err e)) }
+    ensures fault { IfErr result (λ e. (e ≡ EditsFault.NoMemory)
+        ⊎ (script_of editor text.now ≡ Err e)) }
     ensures given { IfErr result (IfMissing ⊥) }
 {
     let mut batches = Vec::new(alloc);
@@ -76,7 +78,8 @@ pub(crate) fn read_scripts(alloc: Global, texts: &[Text]) -> Result<Vec<Script>,
     ensures ok { IfOk result (λ scripts. each_from script_of 1 texts.now ≡ Ok scripts.items) }
     ensures count { IfOk result (λ scripts. length scripts.items ≡ length texts.now) }
     ensures amounts { IfOk result (λ scripts. All (All HaveAmounts) scripts.items) }
-    ensures fault { IfErr result (λ e. (e ≡ EditsFault.NoMemory) ⊎ (each_from script_of 1 texts.now ≡ Err e)) }
+    ensures fault { IfErr result (λ e. (e ≡ EditsFault.NoMemory)
+        ⊎ (each_from script_of 1 texts.now ≡ Err e)) }
     ensures given { IfErr result (IfMissing ⊥) }
 {
     let mut scripts = Vec::new(alloc);

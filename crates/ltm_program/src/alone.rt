@@ -14,7 +14,8 @@ use std::alloc::Global;
 
 /// Says what could have been asked for, where the words ask for no command; whatever else there is stays as it is.
 pub(crate) fn refuse_words<W: Sink>(output: &mut W) -> Status
-    ensures { (told : Option Files) (faults : Doc → ℕ) (left : Option (List ℕ)) (read_faults : ℕ) → Ran None result
+    ensures { (told : Option Files) (faults : Doc → ℕ) (left : Option (List ℕ)) (read_faults : ℕ)
+        → Ran None result
         (outside told faults left read_faults (W.written output.old) (W.faults output.old))
         (outside told faults left read_faults (W.written output.new) (W.faults output.new)) }
 {

@@ -22,8 +22,10 @@ use std::thread::Threads;
 
 /// Says that a file of edits has more bytes than are read.
 fn refuse_long<W: Sink>(alloc: Global, editor: u32, output: &mut W) -> Status
-    ensures answers { (result ≡ Status.TooLong) ⊎ ((result ≡ Status.WriteFault) ⊎ (result ≡ Status.NoMemory)) }
-    ensures wrote { result ≡ Status.TooLong → W.written output.new ≡ appended (long_edits_line editor) (W.written output.old) }
+    ensures answers { (result ≡ Status.TooLong)
+        ⊎ ((result ≡ Status.WriteFault) ⊎ (result ≡ Status.NoMemory)) }
+    ensures wrote { result ≡ Status.TooLong
+        → W.written output.new ≡ appended (long_edits_line editor) (W.written output.old) }
     ensures front { (W.written output.new ≡ W.written output.old)
         ⊎ AppendsFront (W.written output.old) (W.written output.new) (long_edits_line editor) }
     ensures cause { result ≡ Status.WriteFault → Rose (W.faults output.old) (W.faults output.new) }
@@ -42,10 +44,14 @@ fn refuse_line<W: Sink>(
     cause: LineCause,
     output: &mut W,
 ) -> Status
-    ensures answers { (result ≡ Status.BadScript) ⊎ ((result ≡ Status.WriteFault) ⊎ (result ≡ Status.NoMemory)) }
-    ensures wrote { result ≡ Status.BadScript → W.written output.new ≡ appended (bad_script_line editor line cause) (W.written output.old) }
+    ensures answers { (result ≡ Status.BadScript)
+        ⊎ ((result ≡ Status.WriteFault) ⊎ (result ≡ Status.NoMemory)) }
+    ensures wrote { result ≡ Status.BadScript
+        → W.written output.new
+        ≡ appended (bad_script_line editor line cause) (W.written output.old) }
     ensures front { (W.written output.new ≡ W.written output.old)
-        ⊎ AppendsFront (W.written output.old) (W.written output.new) (bad_script_line editor line cause) }
+        ⊎ AppendsFront (W.written output.old) (W.written output.new)
+        (bad_script_line editor line cause) }
     ensures cause { result ≡ Status.WriteFault → Rose (W.faults output.old) (W.faults output.new) }
 {
     match bad_script_text(alloc, editor, line, cause) {
@@ -59,9 +65,12 @@ fn refuse_edits<W: Sink>(alloc: Global, fault: EditsFault, output: &mut W) -> St
     ensures whole { IsWhole result → IsTold (Refusal.Edits fault) × (result ≡ edits_status fault)
         × (W.written output.new ≡ appended (edits_refusal fault) (W.written output.old)) }
     ensures front { (W.written output.new ≡ W.written output.old)
-        ⊎ (IsTold (Refusal.Edits fault) × AppendsFront (W.written output.old) (W.written output.new) (edits_refusal fault)) }
-    ensures folder_fault { result ≡ Status.FolderFault → IsMissing (Refusal.Edits fault) × (W.written output.new ≡ W.written output.old) }
-    ensures cause { result ≡ Status.WriteFault → IsTold (Refusal.Edits fault) × Rose (W.faults output.old) (W.faults output.new) }
+        ⊎ (IsTold (Refusal.Edits fault)
+        × AppendsFront (W.written output.old) (W.written output.new) (edits_refusal fault)) }
+    ensures folder_fault { result ≡ Status.FolderFault
+        → IsMissing (Refusal.Edits fault) × (W.written output.new ≡ W.written output.old) }
+    ensures cause { result ≡ Status.WriteFault
+        → IsTold (Refusal.Edits fault) × Rose (W.faults output.old) (W.faults output.new) }
 {
     match fault {
         EditsFault::Missing(_) => Status::FolderFault,
@@ -81,9 +90,13 @@ fn refuse<W: Sink>(alloc: Global, refusal: Refusal, output: &mut W) -> Status
     ensures whole { IsWhole result → IsTold refusal × (result ≡ editing_status (Err refusal))
         × (W.written output.new ≡ appended (editing_words (Err refusal)) (W.written output.old)) }
     ensures front { (W.written output.new ≡ W.written output.old)
-        ⊎ (IsTold refusal × AppendsFront (W.written output.old) (W.written output.new) (editing_words (Err refusal))) }
-    ensures folder_fault { result ≡ Status.FolderFault → IsMissing refusal × (W.written output.new ≡ W.written output.old) }
-    ensures cause { result ≡ Status.WriteFault → IsTold refusal × Rose (W.faults output.old) (W.faults output.new) }
+        ⊎ (IsTold refusal
+        × AppendsFront (W.written output.old) (W.written output.new)
+        (editing_words (Err refusal))) }
+    ensures folder_fault { result ≡ Status.FolderFault
+        → IsMissing refusal × (W.written output.new ≡ W.written output.old) }
+    ensures cause { result ≡ Status.WriteFault
+        → IsTold refusal × Rose (W.faults output.old) (W.faults output.new) }
 {
     match refusal {
         Refusal::Case(fault) => refuse_fault(alloc, fault, output),
@@ -101,9 +114,12 @@ pub fn edit_together<R: Threads + Wait + Sync, F: Folder, W: Sink>(
     output: &mut W,
 ) -> Status
     requires { editors ≤ 8 }
-    ensures { (left : Option (List ℕ)) (read_faults : ℕ) → Ran (Some (Command.Editors editors)) result
-        (outside (F.told folder.old) (F.faults folder.old) left read_faults (W.written output.old) (W.faults output.old))
-        (outside (F.told folder.new) (F.faults folder.new) left read_faults (W.written output.new) (W.faults output.new)) }
+    ensures { (left : Option (List ℕ)) (read_faults : ℕ)
+        → Ran (Some (Command.Editors editors)) result
+        (outside (F.told folder.old) (F.faults folder.old) left read_faults (W.written output.old)
+        (W.faults output.old))
+        (outside (F.told folder.new) (F.faults folder.new) left read_faults (W.written output.new)
+        (W.faults output.new)) }
 {
     match editing_text(rt, alloc, editors, folder) {
         Ok(text) => write_text(output, text.as_slice(), Status::Ok),

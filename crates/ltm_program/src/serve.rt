@@ -25,10 +25,14 @@ use std::alloc::Global;
 
 /// Says that a line of the script has more bytes than are read.
 fn close_long<W: Sink>(alloc: Global, number: u32, output: &mut W) -> Status
-    ensures answers { (result ≡ Status.TooLong) ⊎ ((result ≡ Status.WriteFault) ⊎ (result ≡ Status.NoMemory)) }
-    ensures wrote { result ≡ Status.TooLong → W.written output.new ≡ appended (closing_of (SessionEnd.LineTooLong number)) (W.written output.old) }
+    ensures answers { (result ≡ Status.TooLong)
+        ⊎ ((result ≡ Status.WriteFault) ⊎ (result ≡ Status.NoMemory)) }
+    ensures wrote { result ≡ Status.TooLong
+        → W.written output.new
+        ≡ appended (closing_of (SessionEnd.LineTooLong number)) (W.written output.old) }
     ensures front { (W.written output.new ≡ W.written output.old)
-        ⊎ AppendsFront (W.written output.old) (W.written output.new) (closing_of (SessionEnd.LineTooLong number)) }
+        ⊎ AppendsFront (W.written output.old) (W.written output.new)
+        (closing_of (SessionEnd.LineTooLong number)) }
     ensures cause { result ≡ Status.WriteFault → Rose (W.faults output.old) (W.faults output.new) }
     ensures later { W.faults output.old ≤ W.faults output.new }
 {
@@ -41,10 +45,14 @@ fn close_long<W: Sink>(alloc: Global, number: u32, output: &mut W) -> Status
 
 /// Says that the script has more lines than are answered.
 pub(crate) fn close_many<W: Sink>(alloc: Global, output: &mut W) -> Status
-    ensures answers { (result ≡ Status.TooManyCommands) ⊎ ((result ≡ Status.WriteFault) ⊎ (result ≡ Status.NoMemory)) }
-    ensures wrote { result ≡ Status.TooManyCommands → W.written output.new ≡ appended (closing_of SessionEnd.TooManyCommands) (W.written output.old) }
+    ensures answers { (result ≡ Status.TooManyCommands)
+        ⊎ ((result ≡ Status.WriteFault) ⊎ (result ≡ Status.NoMemory)) }
+    ensures wrote { result ≡ Status.TooManyCommands
+        → W.written output.new
+        ≡ appended (closing_of SessionEnd.TooManyCommands) (W.written output.old) }
     ensures front { (W.written output.new ≡ W.written output.old)
-        ⊎ AppendsFront (W.written output.old) (W.written output.new) (closing_of SessionEnd.TooManyCommands) }
+        ⊎ AppendsFront (W.written output.old) (W.written output.new)
+        (closing_of SessionEnd.TooManyCommands) }
     ensures cause { result ≡ Status.WriteFault → Rose (W.faults output.old) (W.faults output.new) }
     ensures later { W.faults output.old ≤ W.faults output.new }
 {
@@ -57,11 +65,14 @@ pub(crate) fn close_many<W: Sink>(alloc: Global, output: &mut W) -> Status
 
 /// Writes the line that closes a session, where there is one, and says how the program ends.
 pub(crate) fn close<W: Sink>(alloc: Global, end: SessionEnd, output: &mut W) -> Status
-    ensures answers { (result ≡ status_of_end end) ⊎ ((result ≡ Status.WriteFault) ⊎ (result ≡ Status.NoMemory)) }
-    ensures wrote { IsWhole result → W.written output.new ≡ appended (closing_of end) (W.written output.old) }
+    ensures answers { (result ≡ status_of_end end)
+        ⊎ ((result ≡ Status.WriteFault) ⊎ (result ≡ Status.NoMemory)) }
+    ensures wrote { IsWhole result
+        → W.written output.new ≡ appended (closing_of end) (W.written output.old) }
     ensures front { (W.written output.new ≡ W.written output.old)
         ⊎ AppendsFront (W.written output.old) (W.written output.new) (closing_of end) }
-    ensures cause { result ≡ Status.WriteFault → (end ≡ SessionEnd.WriteFault) ⊎ Rose (W.faults output.old) (W.faults output.new) }
+    ensures cause { result ≡ Status.WriteFault
+        → (end ≡ SessionEnd.WriteFault) ⊎ Rose (W.faults output.old) (W.faults output.new) }
     ensures later { W.faults output.old ≤ W.faults output.new }
     ensures plain { result ≡ Status.Ok → end ≡ SessionEnd.Ended }
     ensures read_fault { result ≡ Status.ReadFault → end ≡ SessionEnd.ReadFault }
@@ -88,9 +99,12 @@ fn serve_core<S: Source, W: Sink>(
 ) -> Status
     requires fresh { version_now core.log ≡ 0 }
     ensures { (told : Option Files) (faults : Doc → ℕ)
-        → IsRun (EndsUnder (IsServed AnswersAlone (S.left input.old) core.log.opening)) (λ d. ⊥) (Unit {0}) result
-        (outside told faults (S.left input.old) (S.faults input.old) (W.written output.old) (W.faults output.old))
-        (outside told faults (S.left input.new) (S.faults input.new) (W.written output.new) (W.faults output.new)) }
+        → IsRun (EndsUnder (IsServed AnswersAlone (S.left input.old) core.log.opening)) (λ d. ⊥)
+        (Unit {0}) result
+        (outside told faults (S.left input.old) (S.faults input.old) (W.written output.old)
+        (W.faults output.old))
+        (outside told faults (S.left input.new) (S.faults input.new) (W.written output.new)
+        (W.faults output.new)) }
 {
     let Served { end, core } = serve_alone(alloc, core, input, output);
     let_go(core);
@@ -106,9 +120,12 @@ fn serve_case<S: Source, W: Sink>(
 ) -> Status
     requires { IsValid scenario }
     ensures { (told : Option Files) (faults : Doc → ℕ)
-        → IsRun (EndsUnder (IsServed AnswersAlone (S.left input.old) scenario)) (λ d. ⊥) (Unit {0}) result
-        (outside told faults (S.left input.old) (S.faults input.old) (W.written output.old) (W.faults output.old))
-        (outside told faults (S.left input.new) (S.faults input.new) (W.written output.new) (W.faults output.new)) }
+        → IsRun (EndsUnder (IsServed AnswersAlone (S.left input.old) scenario)) (λ d. ⊥)
+        (Unit {0}) result
+        (outside told faults (S.left input.old) (S.faults input.old) (W.written output.old)
+        (W.faults output.old))
+        (outside told faults (S.left input.new) (S.faults input.new) (W.written output.new)
+        (W.faults output.new)) }
 {
     match Core::create(alloc, scenario) {
         Ok(core) => serve_core(alloc, core, input, output),

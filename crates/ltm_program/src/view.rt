@@ -33,9 +33,12 @@ fn view_core<R: Threads + Wait + Sync, S: Source, W: Sink>(
     requires few { (0 < viewers) × (viewers ≤ 2) }
     requires fresh { version_now core.log ≡ 0 }
     ensures { (told : Option Files) (faults : Doc → ℕ)
-        → IsRun (EndsUnder (IsViewed viewers (S.left input.old) core.log.opening)) (λ d. ⊥) (Unit {0}) result
-        (outside told faults (S.left input.old) (S.faults input.old) (W.written output.old) (W.faults output.old))
-        (outside told faults (S.left input.new) (S.faults input.new) (W.written output.new) (W.faults output.new)) }
+        → IsRun (EndsUnder (IsViewed viewers (S.left input.old) core.log.opening)) (λ d. ⊥)
+        (Unit {0}) result
+        (outside told faults (S.left input.old) (S.faults input.old) (W.written output.old)
+        (W.faults output.old))
+        (outside told faults (S.left input.new) (S.faults input.new) (W.written output.new)
+        (W.faults output.new)) }
 {
     let mut core = core;
     let end = view(rt, alloc, &mut core, viewers, input, output);
@@ -55,9 +58,12 @@ fn view_case<R: Threads + Wait + Sync, S: Source, W: Sink>(
     requires few { (0 < viewers) × (viewers ≤ 2) }
     requires valid { IsValid scenario }
     ensures { (told : Option Files) (faults : Doc → ℕ)
-        → IsRun (EndsUnder (IsViewed viewers (S.left input.old) scenario)) (λ d. ⊥) (Unit {0}) result
-        (outside told faults (S.left input.old) (S.faults input.old) (W.written output.old) (W.faults output.old))
-        (outside told faults (S.left input.new) (S.faults input.new) (W.written output.new) (W.faults output.new)) }
+        → IsRun (EndsUnder (IsViewed viewers (S.left input.old) scenario)) (λ d. ⊥)
+        (Unit {0}) result
+        (outside told faults (S.left input.old) (S.faults input.old) (W.written output.old)
+        (W.faults output.old))
+        (outside told faults (S.left input.new) (S.faults input.new) (W.written output.new)
+        (W.faults output.new)) }
 {
     match Core::create(alloc, scenario) {
         Ok(core) => view_core(rt, alloc, core, viewers, input, output),

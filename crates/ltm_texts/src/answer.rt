@@ -27,11 +27,15 @@ use std::alloc::Global;
 #[tactic(auto, using(crate::proofs::MissingFile::routes_failed, crate::proofs::Answering::routes_told, crate::proofs::Answering::routes_fault))]
 fn route_splits<F: Folder>(alloc: Global, folder: &mut F) -> Result<Vec<u8>, CaseFault>
     ensures keeps { F.told folder.new ≡ F.told folder.old }
-    ensures others { (d : Doc) → is_of_roads d ≡ false → F.faults folder.new d ≡ F.faults folder.old d }
-    ensures text { IfOk result (λ text. Answers Command.Routes (F.told folder.old) (Ok text.items)) }
-    ensures fault { IfErr result (λ e. AnswersFault Command.Routes (F.told folder.old) (Refusal.Case e)) }
+    ensures others { (d : Doc) → is_of_roads d ≡ false
+        → F.faults folder.new d ≡ F.faults folder.old d }
+    ensures text { IfOk result (λ text. Answers Command.Routes (F.told folder.old)
+        (Ok text.items)) }
+    ensures fault { IfErr result (λ e. AnswersFault Command.Routes (F.told folder.old)
+        (Refusal.Case e)) }
     ensures failed { (file : File) → result ≡ Err (CaseFault.Folder file)
-        → FileFailed Command.Routes (F.told folder.old) (F.faults folder.old) (F.faults folder.new) }
+        → FileFailed Command.Routes (F.told folder.old) (F.faults folder.old)
+        (F.faults folder.new) }
 {
     route_text(alloc, RouteLines::Splits, folder)
 }
@@ -40,11 +44,15 @@ fn route_splits<F: Folder>(alloc: Global, folder: &mut F) -> Result<Vec<u8>, Cas
 #[tactic(auto, using(crate::proofs::MissingFile::times_failed, crate::proofs::Answering::times_told, crate::proofs::Answering::times_fault))]
 fn route_times<F: Folder>(alloc: Global, folder: &mut F) -> Result<Vec<u8>, CaseFault>
     ensures keeps { F.told folder.new ≡ F.told folder.old }
-    ensures others { (d : Doc) → is_of_roads d ≡ false → F.faults folder.new d ≡ F.faults folder.old d }
-    ensures text { IfOk result (λ text. Answers Command.RouteTimes (F.told folder.old) (Ok text.items)) }
-    ensures fault { IfErr result (λ e. AnswersFault Command.RouteTimes (F.told folder.old) (Refusal.Case e)) }
+    ensures others { (d : Doc) → is_of_roads d ≡ false
+        → F.faults folder.new d ≡ F.faults folder.old d }
+    ensures text { IfOk result (λ text. Answers Command.RouteTimes (F.told folder.old)
+        (Ok text.items)) }
+    ensures fault { IfErr result (λ e. AnswersFault Command.RouteTimes (F.told folder.old)
+        (Refusal.Case e)) }
     ensures failed { (file : File) → result ≡ Err (CaseFault.Folder file)
-        → FileFailed Command.RouteTimes (F.told folder.old) (F.faults folder.old) (F.faults folder.new) }
+        → FileFailed Command.RouteTimes (F.told folder.old) (F.faults folder.old)
+        (F.faults folder.new) }
 {
     route_text(alloc, RouteLines::Times, folder)
 }
@@ -67,12 +75,17 @@ fn trial(alloc: Global, start: u64, nodes: u32) -> Result<Vec<u8>, CaseFault>
 #[tactic(auto, using(crate::proofs::MissingFile::curves_failed, crate::proofs::Answering::curves_told, crate::proofs::Answering::curves_fault))]
 fn curves<F: Folder>(alloc: Global, folder: &mut F) -> Result<Vec<u8>, CaseFault>
     ensures keeps { F.told folder.new ≡ F.told folder.old }
-    ensures others { (d : Doc) → is_case_file d ≡ false → F.faults folder.new d ≡ F.faults folder.old d }
-    ensures unasked { IfSome (F.told folder.old) (λ files. (d : Doc) → asks_for files d ≡ false → F.faults folder.new d ≡ F.faults folder.old d) }
-    ensures text { IfOk result (λ text. Answers Command.Curves (F.told folder.old) (Ok text.items)) }
-    ensures fault { IfErr result (λ e. AnswersFault Command.Curves (F.told folder.old) (Refusal.Case e)) }
+    ensures others { (d : Doc) → is_case_file d ≡ false
+        → F.faults folder.new d ≡ F.faults folder.old d }
+    ensures unasked { IfSome (F.told folder.old) (λ files. (d : Doc) → asks_for files d ≡ false
+        → F.faults folder.new d ≡ F.faults folder.old d) }
+    ensures text { IfOk result (λ text. Answers Command.Curves (F.told folder.old)
+        (Ok text.items)) }
+    ensures fault { IfErr result (λ e. AnswersFault Command.Curves (F.told folder.old)
+        (Refusal.Case e)) }
     ensures failed { (file : File) → result ≡ Err (CaseFault.Folder file)
-        → FileFailed Command.Curves (F.told folder.old) (F.faults folder.old) (F.faults folder.new) }
+        → FileFailed Command.Curves (F.told folder.old) (F.faults folder.old)
+        (F.faults folder.new) }
 {
     case_curves(alloc, folder)
 }
@@ -81,8 +94,10 @@ fn curves<F: Folder>(alloc: Global, folder: &mut F) -> Result<Vec<u8>, CaseFault
 #[tactic(auto, using(crate::proofs::MissingFile::check_failed, crate::proofs::Answering::check_fault))]
 fn check<F: OpenFolder>(alloc: Global, folder: &mut F) -> Result<Vec<u8>, Refusal>
     ensures keeps { F.told folder.new ≡ F.told folder.old }
-    ensures others { (d : Doc) → is_check_file d ≡ false → F.faults folder.new d ≡ F.faults folder.old d }
-    ensures unasked { IfSome (F.told folder.old) (λ files. (d : Doc) → check_asks_for files d ≡ false → F.faults folder.new d ≡ F.faults folder.old d) }
+    ensures others { (d : Doc) → is_check_file d ≡ false
+        → F.faults folder.new d ≡ F.faults folder.old d }
+    ensures unasked { IfSome (F.told folder.old) (λ files. (d : Doc)
+        → check_asks_for files d ≡ false → F.faults folder.new d ≡ F.faults folder.old d) }
     ensures text { IfOk result (λ text. Answers Command.Check (F.told folder.old) (Ok text.items)) }
     ensures fault { IfErr result (AnswersFault Command.Check (F.told folder.old)) }
     ensures failed { (refusal : Refusal) → result ≡ Err refusal → IsMissing refusal
@@ -101,8 +116,10 @@ fn case_answer<F: Folder>(
     requires sized { IsSized command }
     requires no_check { command ≢ Command.Check }
     ensures keeps { F.told folder.new ≡ F.told folder.old }
-    ensures others { (d : Doc) → may_fetch command d ≡ false → F.faults folder.new d ≡ F.faults folder.old d }
-    ensures unasked { IfSome (F.told folder.old) (λ files. (d : Doc) → fetches command files d ≡ false → F.faults folder.new d ≡ F.faults folder.old d) }
+    ensures others { (d : Doc) → may_fetch command d ≡ false
+        → F.faults folder.new d ≡ F.faults folder.old d }
+    ensures unasked { IfSome (F.told folder.old) (λ files. (d : Doc)
+        → fetches command files d ≡ false → F.faults folder.new d ≡ F.faults folder.old d) }
     ensures text { IfOk result (λ text. Answers command (F.told folder.old) (Ok text.items)) }
     ensures fault { IfErr result (λ e. AnswersFault command (F.told folder.old) (Refusal.Case e)) }
     ensures failed { (file : File) → result ≡ Err (CaseFault.Folder file)
@@ -127,8 +144,10 @@ fn told<F: Folder>(alloc: Global, command: Command, folder: &mut F) -> Result<Ve
     requires sized { IsSized command }
     requires no_check { command ≢ Command.Check }
     ensures keeps { F.told folder.new ≡ F.told folder.old }
-    ensures others { (d : Doc) → may_fetch command d ≡ false → F.faults folder.new d ≡ F.faults folder.old d }
-    ensures unasked { IfSome (F.told folder.old) (λ files. (d : Doc) → fetches command files d ≡ false → F.faults folder.new d ≡ F.faults folder.old d) }
+    ensures others { (d : Doc) → may_fetch command d ≡ false
+        → F.faults folder.new d ≡ F.faults folder.old d }
+    ensures unasked { IfSome (F.told folder.old) (λ files. (d : Doc)
+        → fetches command files d ≡ false → F.faults folder.new d ≡ F.faults folder.old d) }
     ensures text { IfOk result (λ text. Answers command (F.told folder.old) (Ok text.items)) }
     ensures fault { IfErr result (AnswersFault command (F.told folder.old)) }
     ensures failed { (refusal : Refusal) → result ≡ Err refusal → IsMissing refusal
@@ -149,8 +168,10 @@ pub fn answer<F: OpenFolder>(
     requires text { HasText command }
     requires sized { IsSized command }
     ensures keeps { F.told folder.new ≡ F.told folder.old }
-    ensures others { (d : Doc) → may_fetch command d ≡ false → F.faults folder.new d ≡ F.faults folder.old d }
-    ensures unasked { IfSome (F.told folder.old) (λ files. (d : Doc) → fetches command files d ≡ false → F.faults folder.new d ≡ F.faults folder.old d) }
+    ensures others { (d : Doc) → may_fetch command d ≡ false
+        → F.faults folder.new d ≡ F.faults folder.old d }
+    ensures unasked { IfSome (F.told folder.old) (λ files. (d : Doc)
+        → fetches command files d ≡ false → F.faults folder.new d ≡ F.faults folder.old d) }
     ensures text { IfOk result (λ text. Answers command (F.told folder.old) (Ok text.items)) }
     ensures fault { IfErr result (AnswersFault command (F.told folder.old)) }
     ensures failed { (refusal : Refusal) → result ≡ Err refusal → IsMissing refusal

@@ -12,10 +12,13 @@ use std::alloc::Global;
 
 /// Writes a whole text, and says how the program ends where that went well.
 pub fn write_text<W: Sink>(output: &mut W, text: &[u8], well: Status) -> Status
-    ensures answers { (result ≡ well) ⊎ ((result ≡ Status.WriteFault) ⊎ (result ≡ Status.NoMemory)) }
-    ensures wrote { (well ≡ Status.WriteFault → ⊥) → (well ≡ Status.NoMemory → ⊥) → result ≡ well → W.written output.new ≡ appended text.now (W.written output.old) }
+    ensures answers { (result ≡ well)
+        ⊎ ((result ≡ Status.WriteFault) ⊎ (result ≡ Status.NoMemory)) }
+    ensures wrote { (well ≡ Status.WriteFault → ⊥) → (well ≡ Status.NoMemory → ⊥) → result ≡ well
+        → W.written output.new ≡ appended text.now (W.written output.old) }
     ensures front { AppendsFront (W.written output.old) (W.written output.new) text.now }
-    ensures cause { (well ≡ Status.WriteFault → ⊥) → result ≡ Status.WriteFault → Rose (W.faults output.old) (W.faults output.new) }
+    ensures cause { (well ≡ Status.WriteFault → ⊥) → result ≡ Status.WriteFault
+        → Rose (W.faults output.old) (W.faults output.new) }
     ensures later { W.faults output.old ≤ W.faults output.new }
 {
     match write_all_known(output, text) {
@@ -27,8 +30,10 @@ pub fn write_text<W: Sink>(output: &mut W, text: &[u8], well: Status) -> Status
 
 /// Says that a file has more bytes than are read.
 pub fn refuse_length<W: Sink>(alloc: Global, file: File, output: &mut W) -> Status
-    ensures answers { (result ≡ Status.TooLong) ⊎ ((result ≡ Status.WriteFault) ⊎ (result ≡ Status.NoMemory)) }
-    ensures wrote { result ≡ Status.TooLong → W.written output.new ≡ appended (too_long_line file) (W.written output.old) }
+    ensures answers { (result ≡ Status.TooLong)
+        ⊎ ((result ≡ Status.WriteFault) ⊎ (result ≡ Status.NoMemory)) }
+    ensures wrote { result ≡ Status.TooLong
+        → W.written output.new ≡ appended (too_long_line file) (W.written output.old) }
     ensures front { (W.written output.new ≡ W.written output.old)
         ⊎ AppendsFront (W.written output.old) (W.written output.new) (too_long_line file) }
     ensures cause { result ≡ Status.WriteFault → Rose (W.faults output.old) (W.faults output.new) }
@@ -48,10 +53,13 @@ pub fn refuse_case<W: Sink>(
     cause: CaseCause,
     output: &mut W,
 ) -> Status
-    ensures answers { (result ≡ Status.BadCase) ⊎ ((result ≡ Status.WriteFault) ⊎ (result ≡ Status.NoMemory)) }
-    ensures wrote { result ≡ Status.BadCase → W.written output.new ≡ appended (bad_case_line file row cause) (W.written output.old) }
+    ensures answers { (result ≡ Status.BadCase)
+        ⊎ ((result ≡ Status.WriteFault) ⊎ (result ≡ Status.NoMemory)) }
+    ensures wrote { result ≡ Status.BadCase
+        → W.written output.new ≡ appended (bad_case_line file row cause) (W.written output.old) }
     ensures front { (W.written output.new ≡ W.written output.old)
-        ⊎ AppendsFront (W.written output.old) (W.written output.new) (bad_case_line file row cause) }
+        ⊎ AppendsFront (W.written output.old) (W.written output.new)
+        (bad_case_line file row cause) }
     ensures cause { result ≡ Status.WriteFault → Rose (W.faults output.old) (W.faults output.new) }
 {
     let fault = CaseFault::Bad { file, row, cause };

@@ -19,10 +19,13 @@ use std::alloc::Global;
 #[tactic(auto, using(crate::proofs::MissingFile::failed, crate::proofs::Answering::load_told, crate::proofs::Answering::load_fault))]
 pub fn report_case<F: Folder>(alloc: Global, folder: &mut F) -> Result<Vec<u8>, CaseFault>
     ensures keeps { F.told folder.new ≡ F.told folder.old }
-    ensures others { (d : Doc) → is_case_file d ≡ false → F.faults folder.new d ≡ F.faults folder.old d }
-    ensures unasked { IfSome (F.told folder.old) (λ files. (d : Doc) → asks_for files d ≡ false → F.faults folder.new d ≡ F.faults folder.old d) }
+    ensures others { (d : Doc) → is_case_file d ≡ false
+        → F.faults folder.new d ≡ F.faults folder.old d }
+    ensures unasked { IfSome (F.told folder.old) (λ files. (d : Doc) → asks_for files d ≡ false
+        → F.faults folder.new d ≡ F.faults folder.old d) }
     ensures text { IfOk result (λ text. Answers Command.Load (F.told folder.old) (Ok text.items)) }
-    ensures fault { IfErr result (λ e. AnswersFault Command.Load (F.told folder.old) (Refusal.Case e)) }
+    ensures fault { IfErr result (λ e. AnswersFault Command.Load (F.told folder.old)
+        (Refusal.Case e)) }
     ensures failed { (file : File) → result ≡ Err (CaseFault.Folder file)
         → FileFailed Command.Load (F.told folder.old) (F.faults folder.old) (F.faults folder.new) }
 {

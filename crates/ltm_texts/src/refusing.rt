@@ -18,8 +18,10 @@ use std::alloc::Global;
 
 /// Says that the curve file has more bytes than are read.
 fn refuse_long<W: Sink>(alloc: Global, output: &mut W) -> Status
-    ensures answers { (result ≡ Status.TooLong) ⊎ ((result ≡ Status.WriteFault) ⊎ (result ≡ Status.NoMemory)) }
-    ensures wrote { result ≡ Status.TooLong → W.written output.new ≡ appended long_curves_line (W.written output.old) }
+    ensures answers { (result ≡ Status.TooLong)
+        ⊎ ((result ≡ Status.WriteFault) ⊎ (result ≡ Status.NoMemory)) }
+    ensures wrote { result ≡ Status.TooLong
+        → W.written output.new ≡ appended long_curves_line (W.written output.old) }
     ensures front { (W.written output.new ≡ W.written output.old)
         ⊎ AppendsFront (W.written output.old) (W.written output.new) long_curves_line }
     ensures cause { result ≡ Status.WriteFault → Rose (W.faults output.old) (W.faults output.new) }
@@ -32,8 +34,10 @@ fn refuse_long<W: Sink>(alloc: Global, output: &mut W) -> Status
 
 /// Says what is wrong with the curve file.
 fn refuse_bad<W: Sink>(alloc: Global, row: u32, cause: CurvesCause, output: &mut W) -> Status
-    ensures answers { (result ≡ Status.BadCurves) ⊎ ((result ≡ Status.WriteFault) ⊎ (result ≡ Status.NoMemory)) }
-    ensures wrote { result ≡ Status.BadCurves → W.written output.new ≡ appended (bad_curves_line row cause) (W.written output.old) }
+    ensures answers { (result ≡ Status.BadCurves)
+        ⊎ ((result ≡ Status.WriteFault) ⊎ (result ≡ Status.NoMemory)) }
+    ensures wrote { result ≡ Status.BadCurves
+        → W.written output.new ≡ appended (bad_curves_line row cause) (W.written output.old) }
     ensures front { (W.written output.new ≡ W.written output.old)
         ⊎ AppendsFront (W.written output.old) (W.written output.new) (bad_curves_line row cause) }
     ensures cause { result ≡ Status.WriteFault → Rose (W.faults output.old) (W.faults output.new) }
@@ -46,8 +50,10 @@ fn refuse_bad<W: Sink>(alloc: Global, row: u32, cause: CurvesCause, output: &mut
 
 /// Says that the curves do not start as a loading does.
 fn refuse_start<W: Sink>(alloc: Global, output: &mut W) -> Status
-    ensures answers { (result ≡ Status.NotLoading) ⊎ ((result ≡ Status.WriteFault) ⊎ (result ≡ Status.NoMemory)) }
-    ensures wrote { result ≡ Status.NotLoading → W.written output.new ≡ appended no_start_line (W.written output.old) }
+    ensures answers { (result ≡ Status.NotLoading)
+        ⊎ ((result ≡ Status.WriteFault) ⊎ (result ≡ Status.NoMemory)) }
+    ensures wrote { result ≡ Status.NotLoading
+        → W.written output.new ≡ appended no_start_line (W.written output.old) }
     ensures front { (W.written output.new ≡ W.written output.old)
         ⊎ AppendsFront (W.written output.old) (W.written output.new) no_start_line }
     ensures cause { result ≡ Status.WriteFault → Rose (W.faults output.old) (W.faults output.new) }
@@ -60,8 +66,10 @@ fn refuse_start<W: Sink>(alloc: Global, output: &mut W) -> Status
 
 /// Says at which node and slot the curves are not the loading.
 fn refuse_step<W: Sink>(alloc: Global, node: Name, slot: u32, output: &mut W) -> Status
-    ensures answers { (result ≡ Status.NotLoading) ⊎ ((result ≡ Status.WriteFault) ⊎ (result ≡ Status.NoMemory)) }
-    ensures wrote { result ≡ Status.NotLoading → W.written output.new ≡ appended (no_step_line node slot) (W.written output.old) }
+    ensures answers { (result ≡ Status.NotLoading)
+        ⊎ ((result ≡ Status.WriteFault) ⊎ (result ≡ Status.NoMemory)) }
+    ensures wrote { result ≡ Status.NotLoading
+        → W.written output.new ≡ appended (no_step_line node slot) (W.written output.old) }
     ensures front { (W.written output.new ≡ W.written output.old)
         ⊎ AppendsFront (W.written output.old) (W.written output.new) (no_step_line node slot) }
     ensures cause { result ≡ Status.WriteFault → Rose (W.faults output.old) (W.faults output.new) }
@@ -74,12 +82,17 @@ fn refuse_step<W: Sink>(alloc: Global, node: Name, slot: u32, output: &mut W) ->
 
 /// Says what is wrong with the case, where something is; writes nothing where a file was not given or memory not found.
 pub fn refuse_fault<W: Sink>(alloc: Global, fault: CaseFault, output: &mut W) -> Status
-    ensures whole { IsWhole result → IsTold (Refusal.Case fault) × (result ≡ refusal_status (Refusal.Case fault))
+    ensures whole { IsWhole result
+        → IsTold (Refusal.Case fault) × (result ≡ refusal_status (Refusal.Case fault))
         × (W.written output.new ≡ appended (words_of (Refusal.Case fault)) (W.written output.old)) }
     ensures front { (W.written output.new ≡ W.written output.old)
-        ⊎ (IsTold (Refusal.Case fault) × AppendsFront (W.written output.old) (W.written output.new) (words_of (Refusal.Case fault))) }
-    ensures folder_fault { result ≡ Status.FolderFault → IsMissing (Refusal.Case fault) × (W.written output.new ≡ W.written output.old) }
-    ensures cause { result ≡ Status.WriteFault → IsTold (Refusal.Case fault) × Rose (W.faults output.old) (W.faults output.new) }
+        ⊎ (IsTold (Refusal.Case fault)
+        × AppendsFront (W.written output.old) (W.written output.new)
+        (words_of (Refusal.Case fault))) }
+    ensures folder_fault { result ≡ Status.FolderFault
+        → IsMissing (Refusal.Case fault) × (W.written output.new ≡ W.written output.old) }
+    ensures cause { result ≡ Status.WriteFault
+        → IsTold (Refusal.Case fault) × Rose (W.faults output.old) (W.faults output.new) }
 {
     match fault {
         CaseFault::Folder(_) => Status::FolderFault,
@@ -94,9 +107,12 @@ pub fn refuse<W: Sink>(alloc: Global, refusal: Refusal, output: &mut W) -> Statu
     ensures whole { IsWhole result → IsTold refusal × (result ≡ refusal_status refusal)
         × (W.written output.new ≡ appended (words_of refusal) (W.written output.old)) }
     ensures front { (W.written output.new ≡ W.written output.old)
-        ⊎ (IsTold refusal × AppendsFront (W.written output.old) (W.written output.new) (words_of refusal)) }
-    ensures folder_fault { result ≡ Status.FolderFault → IsMissing refusal × (W.written output.new ≡ W.written output.old) }
-    ensures cause { result ≡ Status.WriteFault → IsTold refusal × Rose (W.faults output.old) (W.faults output.new) }
+        ⊎ (IsTold refusal
+        × AppendsFront (W.written output.old) (W.written output.new) (words_of refusal)) }
+    ensures folder_fault { result ≡ Status.FolderFault
+        → IsMissing refusal × (W.written output.new ≡ W.written output.old) }
+    ensures cause { result ≡ Status.WriteFault
+        → IsTold refusal × Rose (W.faults output.old) (W.faults output.new) }
 {
     match refusal {
         Refusal::Case(fault) => refuse_fault(alloc, fault, output),

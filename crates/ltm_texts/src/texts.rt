@@ -23,9 +23,12 @@ pub fn run_command<F: OpenFolder, W: Sink>(
     requires text { HasText command }
     requires sized { IsSized command }
     ensures { (left : Option (List ℕ)) (read_faults : ℕ)
-        → IsRun (IsAnswerUnder command (F.told folder.old)) (Fetches command (F.told folder.old)) ⊥ result
-        (outside (F.told folder.old) (F.faults folder.old) left read_faults (W.written output.old) (W.faults output.old))
-        (outside (F.told folder.new) (F.faults folder.new) left read_faults (W.written output.new) (W.faults output.new)) }
+        → IsRun (IsAnswerUnder command (F.told folder.old))
+        (Fetches command (F.told folder.old)) ⊥ result
+        (outside (F.told folder.old) (F.faults folder.old) left read_faults (W.written output.old)
+        (W.faults output.old))
+        (outside (F.told folder.new) (F.faults folder.new) left read_faults (W.written output.new)
+        (W.faults output.new)) }
 {
     match answer(alloc, command, folder) {
         Ok(text) => write_text(output, text.as_slice(), Status::Ok),

@@ -116,7 +116,8 @@ fn two_words(first: &str, second: &str) -> Option<Command>
 }
 
 fn three_words(first: &str, second: &str, third: &str) -> Option<Command>
-    ensures { result ≡ says.when first.now (codes "try") (says.trial_of (start_of second.now) (nodes_of third.now)) None }
+    ensures { result ≡ says.when first.now (codes "try")
+        (says.trial_of (start_of second.now) (nodes_of third.now)) None }
 {
     if first == "try" {
         return trial(second, third);

@@ -72,7 +72,8 @@ fn hang<R: Wait>(
     requires few { (0 < viewers) × (viewers ≤ 2) }
     requires fresh { version_now core.now.log ≡ 0 }
     ensures lists { IfOk result (λ r. AllHave r.0 (shown_list core.now)) }
-    ensures hooks { IfOk result (λ r. (watch_hooks r.1 ≡ board_hooks r.0) × (how_many (board_hooks r.0) ≡ viewers)) }
+    ensures hooks { IfOk result (λ r. (watch_hooks r.1 ≡ board_hooks r.0)
+        × (how_many (board_hooks r.0) ≡ viewers)) }
 {
     let (board, watch) = hang_one(rt, alloc, core)?;
     if viewers == 1 {
@@ -135,7 +136,8 @@ pub(crate) fn take_stage<R: Wait>(
     ensures taken { IfOk result (λ s. taken_by s.seat.lines ≡ []) }
     ensures kept { IfOk result (λ s. kept_by s.seat.lines ≡ None) }
     ensures lists { IfOk result (λ s. AllHave s.boards (shown_list core.now)) }
-    ensures hooks { IfOk result (λ s. (watch_hooks s.watches ≡ board_hooks s.boards) × (how_many (board_hooks s.boards) ≡ viewers)) }
+    ensures hooks { IfOk result (λ s. (watch_hooks s.watches ≡ board_hooks s.boards)
+        × (how_many (board_hooks s.boards) ≡ viewers)) }
 {
     let seat = take_seat(alloc, core)?;
     let (boards, watches) = hang(rt, alloc, core, viewers)?;

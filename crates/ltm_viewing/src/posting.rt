@@ -24,9 +24,11 @@ fn post_all<R: Wait>(
     loading: &Loading,
 ) -> Result<(), NoMemory>
     requires alike { AllHave boards.old (joined (board_list boards.old.first)) }
-    requires leads { LeadsTo (joined (board_list boards.old.first) ++ entries_of_batches batches.now) scenario.now }
+    requires leads { LeadsTo (joined (board_list boards.old.first)
+        ++ entries_of_batches batches.now) scenario.now }
     requires loading { IsLoadingOf scenario.now loading.now }
-    ensures ok { OnOk result (AllHave boards.new (joined (board_list boards.old.first) ++ entries_of_batches batches.now)) }
+    ensures ok { OnOk result (AllHave boards.new (joined (board_list boards.old.first)
+        ++ entries_of_batches batches.now)) }
     ensures hooks { board_hooks boards.new ≡ board_hooks boards.old }
 {
     let Boards { first, second } = boards;
@@ -55,7 +57,8 @@ pub(crate) fn post_newer<R: Wait>(
 ) -> Result<(), NoMemory>
     requires posted { AllHave boards.old (first_of core.now.log before) }
     requires few { before ≤ version_now core.now.log }
-    requires newer { (version_of core.now.shown ≡ before) ⊎ (version_of core.now.shown ≡ version_now core.now.log) }
+    requires newer { (version_of core.now.shown ≡ before)
+        ⊎ (version_of core.now.shown ≡ version_now core.now.log) }
     ensures ok { OnOk result (AllHave boards.new (shown_list core.now)) }
     ensures hooks { board_hooks boards.new ≡ board_hooks boards.old }
 {

@@ -44,14 +44,17 @@ fn serve_and_post<R: Wait, W: Sink>(
 ) -> Result<(), SessionEnd>
     requires awaits { AwaitsLine core.old }
     requires posted { AllHave boards.old (shown_list core.old) }
-    ensures ok { OnOk result ((words : List ℕ) × AnswersLine AnswersAlone (state_of core.old) line.now words (state_of core.new)
+    ensures ok { OnOk result ((words : List ℕ)
+        × AnswersLine AnswersAlone (state_of core.old) line.now words (state_of core.new)
         × (W.written sink.new ≡ appended words (W.written sink.old))) }
     ensures posted { OnOk result (AllHave boards.new (shown_list core.new)) }
-    ensures err { IfErr result (λ end. StopsAt AnswersAlone (state_of core.old) line.now (state_of core.new) end (W.written sink.old) (W.written sink.new)) }
+    ensures err { IfErr result (λ end. StopsAt AnswersAlone (state_of core.old) line.now
+        (state_of core.new) end (W.written sink.old) (W.written sink.new)) }
     ensures hooks { board_hooks boards.new ≡ board_hooks boards.old }
     ensures awaits { AwaitsLine core.new }
     ensures later { W.faults sink.old ≤ W.faults sink.new }
-    ensures fault { result ≡ Err SessionEnd.WriteFault → Rose (W.faults sink.old) (W.faults sink.new) }
+    ensures fault { result ≡ Err SessionEnd.WriteFault
+        → Rose (W.faults sink.old) (W.faults sink.new) }
 {
     let before = core.shown().version();
     serve_line(alloc, core, bench, line, text, sink)?;
@@ -77,11 +80,14 @@ pub(crate) fn serve_lines<R: Wait, S: Source, W: Sink>(
     requires max { max_of seat.old.lines ≡ 65536 }
     requires taken { taken_by seat.old.lines ≡ [] }
     requires kept { kept_by seat.old.lines ≡ None }
-    ensures script { IsScripted core.old (S.left source.old) (S.left source.new) result (W.written sink.old) (W.written sink.new) core.new }
+    ensures script { IsScripted core.old (S.left source.old) (S.left source.new) result
+        (W.written sink.old) (W.written sink.new) core.new }
     ensures posted { result ≡ SessionEnd.Ended → AllHave boards.new (shown_list core.new) }
     ensures hooks { board_hooks boards.new ≡ board_hooks boards.old }
-    ensures read_fault { result ≡ SessionEnd.ReadFault → Rose (S.faults source.old) (S.faults source.new) }
-    ensures write_fault { result ≡ SessionEnd.WriteFault → Rose (W.faults sink.old) (W.faults sink.new) }
+    ensures read_fault { result ≡ SessionEnd.ReadFault
+        → Rose (S.faults source.old) (S.faults source.new) }
+    ensures write_fault { result ≡ SessionEnd.WriteFault
+        → Rose (W.faults sink.old) (W.faults sink.new) }
     ensures later { W.faults sink.old ≤ W.faults sink.new }
 {
     for answered in 0..MOST_LINES {

@@ -34,7 +34,9 @@ fn tell_one<R: Wait>(
 ) -> Result<(), NoMemory>
     requires hook { watch_hook watch.old ≡ board_hook board.now }
     requires posted { joined (board_list board.now) ≡ shown_list core.now }
-    ensures { OnOk result ((line : List ℕ) × ReportsShown (state_of core.now) (viewer_report number) line × (into.new.items ≡ into.old.items ++ line)) }
+    ensures { OnOk result ((line : List ℕ)
+        × ReportsShown (state_of core.now) (viewer_report number) line
+        × (into.new.items ≡ into.old.items ++ line)) }
 {
     logs_tell_all();
     lists_lead();
@@ -55,7 +57,9 @@ pub(crate) fn tell_all<R: Wait>(
 ) -> Result<(), NoMemory>
     requires hooks { watch_hooks watches.old ≡ board_hooks boards.now }
     requires posted { AllHave boards.now (shown_list core.now) }
-    ensures { OnOk result ((lines : List ℕ) × ViewersTell (how_many (board_hooks boards.now)) (state_of core.now) lines × (into.new.items ≡ into.old.items ++ lines)) }
+    ensures { OnOk result ((lines : List ℕ)
+        × ViewersTell (how_many (board_hooks boards.now)) (state_of core.now) lines
+        × (into.new.items ≡ into.old.items ++ lines)) }
 {
     tell_one(rt, alloc, core, 1, &boards.first, &mut watches.first, into)?;
     match (&boards.second, &mut watches.second) {
@@ -75,7 +79,8 @@ pub(crate) fn tell_last<R: Wait, W: Sink>(
 ) -> SessionEnd
     requires hooks { watch_hooks watches.old ≡ board_hooks boards.now }
     requires posted { AllHave boards.now (shown_list core.now) }
-    ensures tells { TellsLast (how_many (board_hooks boards.now)) (state_of core.now) result (W.written sink.old) (W.written sink.new) }
+    ensures tells { TellsLast (how_many (board_hooks boards.now)) (state_of core.now) result
+        (W.written sink.old) (W.written sink.new) }
     ensures later { W.faults sink.old ≤ W.faults sink.new }
     ensures fault { result ≡ SessionEnd.WriteFault → Rose (W.faults sink.old) (W.faults sink.new) }
 {

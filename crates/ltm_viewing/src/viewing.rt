@@ -42,11 +42,14 @@ fn serve_and_end<R: Wait, S: Source, W: Sink>(
     requires max { max_of seat.old.lines ≡ 65536 }
     requires taken { taken_by seat.old.lines ≡ [] }
     requires kept { kept_by seat.old.lines ≡ None }
-    ensures script { IsScripted core.old (S.left source.old) (S.left source.new) result (W.written sink.old) (W.written sink.new) core.new }
+    ensures script { IsScripted core.old (S.left source.old) (S.left source.new) result
+        (W.written sink.old) (W.written sink.new) core.new }
     ensures posted { result ≡ SessionEnd.Ended → AllHave boards.new (shown_list core.new) }
     ensures hooks { board_hooks boards.new ≡ board_hooks boards.old }
-    ensures read_fault { result ≡ SessionEnd.ReadFault → Rose (S.faults source.old) (S.faults source.new) }
-    ensures write_fault { result ≡ SessionEnd.WriteFault → Rose (W.faults sink.old) (W.faults sink.new) }
+    ensures read_fault { result ≡ SessionEnd.ReadFault
+        → Rose (S.faults source.old) (S.faults source.new) }
+    ensures write_fault { result ≡ SessionEnd.WriteFault
+        → Rose (W.faults sink.old) (W.faults sink.new) }
     ensures later { W.faults sink.old ≤ W.faults sink.new }
 {
     let end = serve_lines(rt, core, seat, boards, news, source, sink);
@@ -71,11 +74,14 @@ fn serve_beside_one<R: Threads + Wait + Sync, S: Source, W: Sink>(
     requires max { max_of seat.old.lines ≡ 65536 }
     requires taken { taken_by seat.old.lines ≡ [] }
     requires kept { kept_by seat.old.lines ≡ None }
-    ensures script { IsScripted core.old (S.left source.old) (S.left source.new) result (W.written sink.old) (W.written sink.new) core.new }
+    ensures script { IsScripted core.old (S.left source.old) (S.left source.new) result
+        (W.written sink.old) (W.written sink.new) core.new }
     ensures posted { result ≡ SessionEnd.Ended → AllHave boards.new (shown_list core.new) }
     ensures hooks { board_hooks boards.new ≡ board_hooks boards.old }
-    ensures read_fault { result ≡ SessionEnd.ReadFault → Rose (S.faults source.old) (S.faults source.new) }
-    ensures write_fault { result ≡ SessionEnd.WriteFault → Rose (W.faults sink.old) (W.faults sink.new) }
+    ensures read_fault { result ≡ SessionEnd.ReadFault
+        → Rose (S.faults source.old) (S.faults source.new) }
+    ensures write_fault { result ≡ SessionEnd.WriteFault
+        → Rose (W.faults sink.old) (W.faults sink.new) }
     ensures later { W.faults sink.old ≤ W.faults sink.new }
     ensures watch { watch_hook watch.new ≡ watch_hook watch.old }
 {
@@ -86,13 +92,20 @@ fn serve_beside_one<R: Threads + Wait + Sync, S: Source, W: Sink>(
             ensures { watch_hook watch.exit.now ≡ watch_hook watch.entry.now }
         { look_on(rt, news, watch) },
         &mut || -> SessionEnd
-            requires { IsSync R.row × (state_of core.now ≡ opening_state core.now.log.opening) × AwaitsLine core.now × AllHave boards.now (shown_list core.now)
-                × (max_of seat.now.lines ≡ 65536) × (taken_by seat.now.lines ≡ []) × (kept_by seat.now.lines ≡ None) }
-            ensures script { IsScripted core.entry.now (S.left source.entry.now) (S.left source.exit.now) result (W.written sink.entry.now) (W.written sink.exit.now) core.exit.now }
-            ensures posted { result ≡ SessionEnd.Ended → AllHave boards.exit.now (shown_list core.exit.now) }
+            requires { IsSync R.row × (state_of core.now ≡ opening_state core.now.log.opening)
+                × AwaitsLine core.now × AllHave boards.now (shown_list core.now)
+                × (max_of seat.now.lines ≡ 65536) × (taken_by seat.now.lines ≡ [])
+                × (kept_by seat.now.lines ≡ None) }
+            ensures script { IsScripted core.entry.now (S.left source.entry.now)
+                (S.left source.exit.now) result (W.written sink.entry.now)
+                (W.written sink.exit.now) core.exit.now }
+            ensures posted { result ≡ SessionEnd.Ended
+                → AllHave boards.exit.now (shown_list core.exit.now) }
             ensures hooks { board_hooks boards.exit.now ≡ board_hooks boards.entry.now }
-            ensures read_fault { result ≡ SessionEnd.ReadFault → Rose (S.faults source.entry.now) (S.faults source.exit.now) }
-            ensures write_fault { result ≡ SessionEnd.WriteFault → Rose (W.faults sink.entry.now) (W.faults sink.exit.now) }
+            ensures read_fault { result ≡ SessionEnd.ReadFault
+                → Rose (S.faults source.entry.now) (S.faults source.exit.now) }
+            ensures write_fault { result ≡ SessionEnd.WriteFault
+                → Rose (W.faults sink.entry.now) (W.faults sink.exit.now) }
             ensures later { W.faults sink.entry.now ≤ W.faults sink.exit.now }
         { serve_and_end(rt, core, seat, boards, news, source, sink) },
     );
@@ -116,11 +129,14 @@ fn serve_beside_second<R: Threads + Wait + Sync, S: Source, W: Sink>(
     requires max { max_of seat.old.lines ≡ 65536 }
     requires taken { taken_by seat.old.lines ≡ [] }
     requires kept { kept_by seat.old.lines ≡ None }
-    ensures script { IsScripted core.old (S.left source.old) (S.left source.new) result (W.written sink.old) (W.written sink.new) core.new }
+    ensures script { IsScripted core.old (S.left source.old) (S.left source.new) result
+        (W.written sink.old) (W.written sink.new) core.new }
     ensures posted { result ≡ SessionEnd.Ended → AllHave boards.new (shown_list core.new) }
     ensures hooks { board_hooks boards.new ≡ board_hooks boards.old }
-    ensures read_fault { result ≡ SessionEnd.ReadFault → Rose (S.faults source.old) (S.faults source.new) }
-    ensures write_fault { result ≡ SessionEnd.WriteFault → Rose (W.faults sink.old) (W.faults sink.new) }
+    ensures read_fault { result ≡ SessionEnd.ReadFault
+        → Rose (S.faults source.old) (S.faults source.new) }
+    ensures write_fault { result ≡ SessionEnd.WriteFault
+        → Rose (W.faults sink.old) (W.faults sink.new) }
     ensures later { W.faults sink.old ≤ W.faults sink.new }
     ensures watch { option_map watch_hook second.new ≡ option_map watch_hook second.old }
 {
@@ -146,11 +162,14 @@ fn serve_beside<R: Threads + Wait + Sync, S: Source, W: Sink>(
     requires max { max_of seat.old.lines ≡ 65536 }
     requires taken { taken_by seat.old.lines ≡ [] }
     requires kept { kept_by seat.old.lines ≡ None }
-    ensures script { IsScripted core.old (S.left source.old) (S.left source.new) result (W.written sink.old) (W.written sink.new) core.new }
+    ensures script { IsScripted core.old (S.left source.old) (S.left source.new) result
+        (W.written sink.old) (W.written sink.new) core.new }
     ensures posted { result ≡ SessionEnd.Ended → AllHave boards.new (shown_list core.new) }
     ensures hooks { board_hooks boards.new ≡ board_hooks boards.old }
-    ensures read_fault { result ≡ SessionEnd.ReadFault → Rose (S.faults source.old) (S.faults source.new) }
-    ensures write_fault { result ≡ SessionEnd.WriteFault → Rose (W.faults sink.old) (W.faults sink.new) }
+    ensures read_fault { result ≡ SessionEnd.ReadFault
+        → Rose (S.faults source.old) (S.faults source.new) }
+    ensures write_fault { result ≡ SessionEnd.WriteFault
+        → Rose (W.faults sink.old) (W.faults sink.new) }
     ensures later { W.faults sink.old ≤ W.faults sink.new }
     ensures watches { watch_hooks watches.new ≡ watch_hooks watches.old }
 {
@@ -163,15 +182,23 @@ fn serve_beside<R: Threads + Wait + Sync, S: Source, W: Sink>(
             ensures { watch_hook first.exit.now ≡ watch_hook first.entry.now }
         { look_on(rt, &news, first) },
         &mut || -> SessionEnd
-            requires { IsSync R.row × (state_of core.now ≡ opening_state core.now.log.opening) × AwaitsLine core.now × AllHave boards.now (shown_list core.now)
-                × (max_of seat.now.lines ≡ 65536) × (taken_by seat.now.lines ≡ []) × (kept_by seat.now.lines ≡ None) }
-            ensures script { IsScripted core.entry.now (S.left source.entry.now) (S.left source.exit.now) result (W.written sink.entry.now) (W.written sink.exit.now) core.exit.now }
-            ensures posted { result ≡ SessionEnd.Ended → AllHave boards.exit.now (shown_list core.exit.now) }
+            requires { IsSync R.row × (state_of core.now ≡ opening_state core.now.log.opening)
+                × AwaitsLine core.now × AllHave boards.now (shown_list core.now)
+                × (max_of seat.now.lines ≡ 65536) × (taken_by seat.now.lines ≡ [])
+                × (kept_by seat.now.lines ≡ None) }
+            ensures script { IsScripted core.entry.now (S.left source.entry.now)
+                (S.left source.exit.now) result (W.written sink.entry.now)
+                (W.written sink.exit.now) core.exit.now }
+            ensures posted { result ≡ SessionEnd.Ended
+                → AllHave boards.exit.now (shown_list core.exit.now) }
             ensures hooks { board_hooks boards.exit.now ≡ board_hooks boards.entry.now }
-            ensures read_fault { result ≡ SessionEnd.ReadFault → Rose (S.faults source.entry.now) (S.faults source.exit.now) }
-            ensures write_fault { result ≡ SessionEnd.WriteFault → Rose (W.faults sink.entry.now) (W.faults sink.exit.now) }
+            ensures read_fault { result ≡ SessionEnd.ReadFault
+                → Rose (S.faults source.entry.now) (S.faults source.exit.now) }
+            ensures write_fault { result ≡ SessionEnd.WriteFault
+                → Rose (W.faults sink.entry.now) (W.faults sink.exit.now) }
             ensures later { W.faults sink.entry.now ≤ W.faults sink.exit.now }
-            ensures watch { option_map watch_hook second.exit.now ≡ option_map watch_hook second.entry.now }
+            ensures watch { option_map watch_hook second.exit.now
+                ≡ option_map watch_hook second.entry.now }
         { serve_beside_second(rt, core, seat, boards, second, &news, source, sink) },
     );
     end
@@ -192,9 +219,12 @@ fn view_from<R: Threads + Wait + Sync, S: Source, W: Sink>(
     requires max { max_of stage.old.seat.lines ≡ 65536 }
     requires taken { taken_by stage.old.seat.lines ≡ [] }
     requires kept { kept_by stage.old.seat.lines ≡ None }
-    ensures view { Views (how_many (board_hooks stage.old.boards)) core.old (S.left source.old) (S.left source.new) result (W.written sink.old) (W.written sink.new) core.new }
-    ensures read_fault { result ≡ SessionEnd.ReadFault → Rose (S.faults source.old) (S.faults source.new) }
-    ensures write_fault { result ≡ SessionEnd.WriteFault → Rose (W.faults sink.old) (W.faults sink.new) }
+    ensures view { Views (how_many (board_hooks stage.old.boards)) core.old (S.left source.old)
+        (S.left source.new) result (W.written sink.old) (W.written sink.new) core.new }
+    ensures read_fault { result ≡ SessionEnd.ReadFault
+        → Rose (S.faults source.old) (S.faults source.new) }
+    ensures write_fault { result ≡ SessionEnd.WriteFault
+        → Rose (W.faults sink.old) (W.faults sink.new) }
     ensures later { W.faults sink.old ≤ W.faults sink.new }
 {
     let Stage {
@@ -226,15 +256,20 @@ pub fn view<R: Threads + Wait + Sync, S: Source, W: Sink>(
     requires few { (0 < viewers) × (viewers ≤ 2) }
     requires fresh { version_now core.old.log ≡ 0 }
     // What was answered and told, what was written of it, how that ended, and the log and what is shown then.
-    ensures view { (output : List ℕ) × IsView viewers core.old.log.opening (S.left source.old) result output (state_of core.new)
+    ensures view { (output : List ℕ)
+        × IsView viewers core.old.log.opening (S.left source.old) result output (state_of core.new)
         × Wrote result (W.written sink.old) (W.written sink.new) output }
     // Where nothing failed, it ended as the script says.
-    ensures end { (script : List ℕ) → S.left source.old ≡ Some script → result ≢ SessionEnd.ReadFault → result ≢ SessionEnd.WriteFault
+    ensures end { (script : List ℕ) → S.left source.old ≡ Some script
+        → result ≢ SessionEnd.ReadFault → result ≢ SessionEnd.WriteFault
         → result ≢ SessionEnd.NoMemory → result ≡ end_of script }
-    ensures read { (script : List ℕ) → S.left source.old ≡ Some script → result ≡ SessionEnd.Ended → S.left source.new ≡ Some [] }
+    ensures read { (script : List ℕ) → S.left source.old ≡ Some script → result ≡ SessionEnd.Ended
+        → S.left source.new ≡ Some [] }
     // A fault of the outside is told only where a count of faults rose.
-    ensures read_fault { result ≡ SessionEnd.ReadFault → Rose (S.faults source.old) (S.faults source.new) }
-    ensures write_fault { result ≡ SessionEnd.WriteFault → Rose (W.faults sink.old) (W.faults sink.new) }
+    ensures read_fault { result ≡ SessionEnd.ReadFault
+        → Rose (S.faults source.old) (S.faults source.new) }
+    ensures write_fault { result ≡ SessionEnd.WriteFault
+        → Rose (W.faults sink.old) (W.faults sink.new) }
     ensures later { W.faults sink.old ≤ W.faults sink.new }
 {
     core.holds();

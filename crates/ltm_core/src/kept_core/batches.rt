@@ -55,7 +55,8 @@ fn reserve_slots(table: &mut Table, shown: &mut Loading, slots: u32) -> Result<(
     requires { slots ≤ 10000 }
     ensures table { TableSeenAs table.old table.new }
     ensures shown { SameLoading shown.old shown.new }
-    ensures shows { (s : Setting) (version : ℕ) (c : Counts) → ShowsCounts s version c shown.old → ShowsCounts s version c shown.new }
+    ensures shows { (s : Setting) (version : ℕ) (c : Counts) → ShowsCounts s version c shown.old
+        → ShowsCounts s version c shown.new }
     ensures no_less { loading_room shown.old ≤ loading_room shown.new }
     ensures table_room { OnOk result (TableHasRoom table.new slots) }
     ensures shown_room { OnOk result (slots ≤ loading_room shown.new) }
@@ -80,7 +81,8 @@ fn reserve_all(
     ensures marks { marks.new.items ≡ marks.old.items }
     ensures table { TableSeenAs table.old table.new }
     ensures shown { SameLoading shown.old shown.new }
-    ensures shows { (s : Setting) (version : ℕ) (c : Counts) → ShowsCounts s version c shown.old → ShowsCounts s version c shown.new }
+    ensures shows { (s : Setting) (version : ℕ) (c : Counts) → ShowsCounts s version c shown.old
+        → ShowsCounts s version c shown.new }
     ensures no_less { loading_room shown.old ≤ loading_room shown.new }
     ensures batch_room { OnOk result (vec_len batches.new < vec_capacity batches.new) }
     ensures mark_room { OnOk result (vec_len marks.new < vec_capacity marks.new) }
@@ -108,7 +110,8 @@ fn take_batch(
     requires room { TableHasRoom table.old (horizon_after scenario.old.setup.slots batch) }
     requires ready { IsReady (setting_of scenario.old) table.old }
     ensures ok { OnOk result (TakesBatch scenario.old scenario.new table.old table.new batch) }
-    ensures slots { OnOk result ((setting_of scenario.new).slots ≡ horizon_after scenario.old.setup.slots batch) }
+    ensures slots { OnOk result ((setting_of scenario.new).slots
+        ≡ horizon_after scenario.old.setup.slots batch) }
     ensures batches { OnOk result (batches.new.items ≡ batches.old.items ++ batch ∷ []) }
     ensures marks { OnOk result (marks.new.items ≡ marks.old.items ++ false ∷ []) }
     ensures few { OnOk result (length batches.new.items < 2 ^ 63) }
@@ -117,7 +120,8 @@ fn take_batch(
     ensures same_batches { OnErr result (batches.new.items ≡ batches.old.items) }
     ensures same_marks { OnErr result (marks.new.items ≡ marks.old.items) }
     ensures back { IfErr result (λ e. e.0 ≡ batch) }
-    ensures cause { IfErr result (λ e. e.1.cause ≢ EditCause.NoMemory → edited_all scenario.old batch ≡ Err e.1) }
+    ensures cause { IfErr result (λ e. e.1.cause ≢ EditCause.NoMemory
+        → edited_all scenario.old batch ≡ Err e.1) }
 {
     batch_touches_readers();
     tables_fit();
@@ -142,7 +146,8 @@ fn refuse(scenario: &mut Scenario, batch: Batch) -> (Batch, EditFault)
     requires beyond { MayReach scenario.old (horizon_after scenario.old.setup.slots batch) → ⊥ }
     ensures same { scenario.new ≡ scenario.old }
     ensures back { result.0 ≡ batch }
-    ensures cause { result.1.cause ≢ EditCause.NoMemory → edited_all scenario.old batch ≡ Err result.1 }
+    ensures cause { result.1.cause ≢ EditCause.NoMemory
+        → edited_all scenario.old batch ≡ Err result.1 }
 {
     match scenario.accept(&batch) {
         Ok(()) => unreachable!(),
@@ -177,7 +182,8 @@ impl Core {
         requires amounts { HaveAmounts batch }
         ensures answer { TellsAccept self.old batch result self.new }
         ensures shown { SameLoading self.old.shown self.new.shown }
-        ensures beyond { (MayReach self.old.scenario (horizon_after self.old.scenario.setup.slots batch) → ⊥) → self.new ≡ self.old }
+        ensures beyond { (MayReach self.old.scenario
+            (horizon_after self.old.scenario.setup.slots batch) → ⊥) → self.new ≡ self.old }
     {
         repair_laws();
         let slots = batch.horizon(self.scenario.setup().slots);
