@@ -1,5 +1,5 @@
 -- Lines with the queues and delays of a loading are those of its report.
-use Rattle.std.proofs.Common.{ℕ, ◌≡◌, ◌≢◌, ◌++◌, List, [], length, ◌∙◌, ap, sym, arith, cond, nat_eq}
+use Rattle.std.proofs.Common.{ℕ, ◌≡◌, ◌≢◌, ◌++◌, List, [], length, ◌∙◌, ap, arith, cond, nat_eq}
 use Rattle.std.proofs.lemmas.Bool.Decides.{nat_tests}
 use Rattle.ltm_curve.specs.Counts.{Counts}
 use Rattle.ltm_units.specs.Texts.{texts_below}
