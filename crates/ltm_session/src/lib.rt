@@ -12,6 +12,7 @@ mod answering;
 mod edits;
 mod ends;
 mod laws;
+mod origins;
 mod queues;
 mod replies;
 mod reports;
