@@ -203,7 +203,7 @@ pub core_same : (d v : CoreData) (next : ScenarioData) → d ≡ v → next ≡ 
 core_same d v next same back = ap (λ (z : ScenarioData). record d { scenario = z }) back ∙ same
 
 looks_same : (d : CoreData) → LooksAs d d
-looks_same d = record { log = refl; scenario = refl; commits = refl; stopped = refl; shown = record { version = refl; step = refl; links = refl; nodes = refl; shape = record { same_groups = refl; same_slots = refl }; totals = refl; free = λ i. refl; generated = λ k x. refl }; desk = refl; repair = refl }
+looks_same d = record { log = refl; scenario = refl; commits = refl; stopped = refl; shown = record { version = refl; step = refl; links = refl; nodes = refl; shape = record { same_groups = refl; same_slots = refl }; totals = refl; free = λ i. refl; produced = λ n k x y. refl; generated = λ k x. refl }; desk = refl; repair = refl }
 
 pub refused_tells : (d v : CoreData) (next : ScenarioData) (batch : List Edit) (e : List Edit × EditFault) → d ≡ v → IsCore d → next ≡ d.scenario → e.0 ≡ batch → (e.1.cause ≢ NoMemory → edited_all d.scenario batch ≡ Err e.1) →
     TellsAccept v batch (Err e) (record d { scenario = next })

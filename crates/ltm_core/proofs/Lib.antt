@@ -10,4 +10,5 @@ pub mod Looking
 pub mod Batches
 pub mod Beginnings
 pub mod Running
+pub mod Renewing
 pub mod Production

@@ -167,6 +167,7 @@ same_loading l = record {
   shape = record { same_groups = refl; same_slots = refl };
   totals = refl;
   free = λ i. refl;
+  produced = λ n k x m. refl;
   generated = λ k m. refl;
 }
 

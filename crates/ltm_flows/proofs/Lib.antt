@@ -3,4 +3,6 @@ pub mod Writing
 pub mod Steps
 pub mod Progress
 pub mod Showing
-pub mod Amounts
+pub mod Places
+pub mod Producing
+pub mod Renewing

@@ -11,6 +11,17 @@ use Rattle.ltm_flows.specs.Shown.{links_of, nodes_of, curves_of, last_of, genera
 abbrev pub arrived_of : Loading → ℕ → ℕ
 arrived_of l boundary = total_at (curves_of l) (2 * links_of l + nodes_of l) boundary
 
+-- what has left the origin of a node by a boundary
+abbrev pub departed_by : Loading → ℕ → ℕ → ℕ
+departed_by l node boundary = total_at (curves_of l) (2 * links_of l + node) boundary
+
+-- what has entered and has left a link by a boundary
+abbrev pub entered_by : Loading → ℕ → ℕ → ℕ
+entered_by l link boundary = total_at (curves_of l) (up_of link) boundary
+
+abbrev pub left_by : Loading → ℕ → ℕ → ℕ
+left_by l link boundary = total_at (curves_of l) (down_of link) boundary
+
 -- what has entered and has left a link by the last boundary
 abbrev pub entered_of : Loading → ℕ → ℕ
 entered_of l link = total_at (curves_of l) (up_of link) (last_of l)

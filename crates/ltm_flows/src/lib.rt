@@ -14,6 +14,7 @@ mod cold_loading;
 mod in_all;
 mod loading;
 mod moves;
+mod production;
 mod summing;
 mod sums;
 mod tables;

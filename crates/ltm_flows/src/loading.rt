@@ -1,5 +1,5 @@
 //! A finished loading, as others read it.
-ghost use Rattle.std.specs.Prelude.{◌≡◌, ◌≤◌, ◌<◌, ◌+◌, ◌*◌, ℕ, length, IfOk, IsFalse, OnOk};
+ghost use Rattle.std.specs.Prelude.{◌≡◌, ◌≤◌, ◌<◌, ◌+◌, ◌*◌, ◌^◌, ℕ, length, IfOk, OnOk};
 ghost use Rattle.ltm_curve.specs.Cells.{HasCells};
 ghost use Rattle.ltm_curve.specs.Counts.{Counts};
 ghost use Rattle.ltm_curve.specs.Table.{counts_of};
@@ -7,31 +7,34 @@ ghost use Rattle.ltm_curve.specs.TotalCurves.{total_groups, total_slots, total_a
 ghost use Rattle.ltm_loading.specs.Setting.{Setting, IsSetting};
 ghost use Rattle.ltm_loading.specs.Groups.{groups};
 ghost use Rattle.ltm_loading.specs.Loading.{IsLoading};
-ghost use Rattle.ltm_loading.specs.Totals.{generated, arrived, entered_link, left_link};
+ghost use Rattle.ltm_loading.specs.Totals.{arrived, entered_link, left_link};
 ghost use Rattle.ltm_setting.specs.Setting.{setting_of};
 ghost use Rattle.ltm_loading.specs.Shaped.{IsShaped};
+ghost use Rattle.ltm_flows.specs.Origins.{produced_in_all, departed_from};
 
 use crate::in_all::Totals;
+use crate::production::Production;
 use crate::sums::sum_up;
-use crate::tables::{free_times, generated_by_boundary, renew_generated, write_free_times};
+use crate::tables::{free_times, production, write_free_times};
 use ltm_curve::{Changed, Curves, TotalCurves};
-use ltm_loading::{arr_behind, down_of, never_fall, totals_small, up_of};
+use ltm_loading::{arr_behind, dep_behind, down_of, never_fall, totals_small, up_of};
 use ltm_scenario::Scenario;
 use ltm_setting::{is_setting, link_count, node_count, step};
-use ltm_units::{LinkId, Millis, NoMemory, Units};
+use ltm_units::{LinkId, Millis, NoMemory, NodeId, Units};
 use std::alloc::Global;
 
-/// A finished loading with its version, the totals of its groups by boundary, the free-flow times of its links and what its
-/// origins have produced. Counts by destination are not kept.
+/// A finished loading with its version, the totals of its groups by boundary, the free-flow times of its links and what
+/// each of its origins has produced. Counts by destination are not kept.
 ///
-/// It stands on its own: the scenario may change once the loading is made.
+/// It stands on its own: the scenario may change once the loading is made. What origins have produced takes 8 bytes for each
+/// node and boundary.
 pub struct Loading {
     version: u64,
     step: Millis,
     links: u32,
     nodes: u32,
     free: Vec<Millis>,
-    generated: Vec<Units>,
+    production: Production,
     curves: TotalCurves,
     ghost some_step: { 1 ≤ step.0 },
     ghost short_step: { step.0 ≤ 60000 },
@@ -39,7 +42,9 @@ pub struct Loading {
     ghost few_nodes: { nodes ≤ 8000 },
     ghost groups: { total_groups curves ≡ 2 * links + nodes + 1 },
     ghost times: { length free.items ≡ links },
-    ghost amounts: { total_slots curves + 1 ≤ length generated.items },
+    ghost few_slots: { total_slots curves ≤ 10000 },
+    ghost origins: { production.nodes ≡ nodes },
+    ghost amounts: { total_slots curves ≤ production.room },
     ghost rises: { (g k : ℕ) → g < total_groups curves → k < total_slots curves → total_at curves g k ≤ total_at curves g (k + 1) },
 }
 
@@ -52,7 +57,7 @@ impl Drop for Loading {
             links: _links,
             nodes: _nodes,
             free: _free,
-            generated: _generated,
+            production: _production,
             curves: _curves,
         } = self;
     }
@@ -67,15 +72,19 @@ impl Loading {
       curves_of,
       last_of,
       free_of,
+      produced_of,
       generated_of,
       loading_room,
       ShowsCounts,
       Fits,
       AgreesOutside,
+      HasProduction,
+      SameButProduction,
+      RenewsProduction,
       SameLoading,
     };
     ghost use Rattle.ltm_flows.specs.InAll.{AreTotals};
-    ghost use Rattle.ltm_flows.specs.Counted.{arrived_of, entered_of, left_of, SumsUp};
+    ghost use Rattle.ltm_flows.specs.Counted.{arrived_of, entered_of, left_of, departed_by, entered_by, left_by, SumsUp};
 
     /// The loading of a scenario, from its finished curves, of which the totals are kept.
     pub fn create(
@@ -92,7 +101,7 @@ impl Loading {
         never_fall();
         is_setting(scenario);
         let free = free_times(alloc, scenario)?;
-        let generated = generated_by_boundary(alloc, scenario)?;
+        let production = production(alloc, scenario)?;
         let curves = TotalCurves::of(alloc, curves)?;
         Ok(Loading {
             version,
@@ -100,7 +109,7 @@ impl Loading {
             links: link_count(scenario),
             nodes: node_count(scenario),
             free,
-            generated,
+            production,
             curves,
         })
     }
@@ -111,13 +120,7 @@ impl Loading {
         ensures value { result ≡ loading_room self.now }
         ensures within { last_of self.now ≤ result }
     {
-        let curves = self.curves.room();
-        let amounts = self.generated.len() - 1;
-        if amounts < curves as usize {
-            amounts as u32
-        } else {
-            curves
-        }
+        self.curves.room().min(self.production.room())
     }
 
     /// Makes room for so many slots. Nothing else that is seen changes.
@@ -128,38 +131,41 @@ impl Loading {
         ensures no_less { loading_room self.old ≤ loading_room self.new }
     {
         self.curves.reserve(slots)?;
-        let size = slots as usize + 1;
-        if size <= self.generated.len() {
-            return Ok(());
+        self.production.reserve(slots)
+    }
+
+    /// Writes what the origin of a node produces in another scenario, by each boundary behind one. Takes no memory.
+    pub fn renew_production(&mut self, scenario: &Scenario, node: NodeId, behind: u32)
+        requires node { node.0 < nodes_of self.old }
+        ensures same { SameButProduction self.old self.new }
+        ensures renews { RenewsProduction (setting_of scenario.now) node.0 behind self.old self.new }
+    {
+        let last = self.curves.slots();
+        if behind < last {
+            self.production
+                .renew_node(scenario, node, behind + 1, last + 1);
         }
-        self.generated.resize(size, Units(0)).map_err(|_| NoMemory)
     }
 
     /// Becomes the loading of another scenario with as many links, nodes and destinations and no fewer slots, for which
     /// there is room, from its finished curves, of which the changed cells alone are copied: outside them the totals are
-    /// the same, and at later boundaries 0. What its origins produce is added up where that is to be done anew; else it is
-    /// what they produced before. Takes no memory.
-    pub fn refresh(
-        &mut self,
-        scenario: &Scenario,
-        curves: &Curves,
-        changed: &Changed,
-        version: u64,
-        anew: bool,
-    )
+    /// the same, and at later boundaries 0. What its origins produce by the boundaries that it had stands already; behind
+    /// them it is written. Takes no memory.
+    pub fn refresh(&mut self, scenario: &Scenario, curves: &Curves, changed: &Changed, version: u64)
         requires fits { Fits (setting_of scenario.now) self.old }
         requires shape { IsShaped (setting_of scenario.now) curves.now }
         requires loading { IsLoading (setting_of scenario.now) (counts_of curves.now) }
         requires cells { HasCells changed.now (groups (setting_of scenario.now)) (setting_of scenario.now).slots }
         requires outside { AgreesOutside self.old curves.now changed.now }
-        requires produced { IsFalse anew → (k : ℕ) → k ≤ (setting_of scenario.now).slots → generated_of self.old k ≡ generated (setting_of scenario.now) k }
+        requires produced { HasProduction (setting_of scenario.now) self.old }
         ensures { ShowsCounts (setting_of scenario.now) version (counts_of curves.now) self.new }
     {
         totals_small();
         never_fall();
         is_setting(scenario);
         write_free_times(scenario, &mut self.free);
-        renew_generated(scenario, anew, &mut self.generated);
+        self.production
+            .renew(scenario, self.curves.slots() + 1, curves.slots() + 1);
         self.curves.lengthen(curves.slots());
         self.curves.copy_changed(curves, changed);
         self.step = step(scenario);
@@ -222,12 +228,25 @@ impl Loading {
         self.free[link.0 as usize]
     }
 
+    /// What the origin of a node has produced by a boundary, in thousandths of a vehicle; of a node that is no origin it
+    /// is 0.
+    pub fn produced(&self, node: NodeId, boundary: u32) -> Units
+        requires node { node.0 < nodes_of self.now }
+        requires boundary { boundary ≤ last_of self.now }
+        ensures counted { result.0 ≡ produced_of self.now node.0 boundary }
+        ensures small { result.0 ≤ 10000000000000 }
+        ensures shown { (s : Setting) (version : ℕ) (c : Counts) → ShowsCounts s version c self.now
+            → result.0 ≡ produced_in_all s node.0 boundary }
+    {
+        Units(self.production.produced(node, boundary))
+    }
+
     /// What all origins have produced by a boundary.
     pub fn generated(&self, boundary: u32) -> Units
         requires { boundary ≤ last_of self.now }
         ensures { result.0 ≡ generated_of self.now boundary }
     {
-        self.generated[boundary as usize]
+        Units(self.production.all(boundary))
     }
 
     /// What has arrived at its destination by a boundary.
@@ -259,6 +278,42 @@ impl Loading {
             → result.0 ≡ left_link s c link.0 s.slots }
     {
         Units(self.curves.total(down_of(link), self.curves.slots()))
+    }
+
+    /// What has left the origin of a node by a boundary.
+    pub fn departed(&self, node: NodeId, boundary: u32) -> Units
+        requires node { node.0 < nodes_of self.now }
+        requires boundary { boundary ≤ last_of self.now }
+        ensures counted { result.0 ≡ departed_by self.now node.0 boundary }
+        ensures small { result.0 ≤ 2 ^ 37 }
+        ensures shown { (s : Setting) (version : ℕ) (c : Counts) → ShowsCounts s version c self.now
+            → result.0 ≡ departed_from s c node.0 boundary }
+    {
+        Units(self.curves.total(dep_behind(self.links, node), boundary))
+    }
+
+    /// What has entered a link by a boundary.
+    pub fn entered_by(&self, link: LinkId, boundary: u32) -> Units
+        requires link { link.0 < links_of self.now }
+        requires boundary { boundary ≤ last_of self.now }
+        ensures counted { result.0 ≡ entered_by self.now link.0 boundary }
+        ensures small { result.0 ≤ 2 ^ 37 }
+        ensures shown { (s : Setting) (version : ℕ) (c : Counts) → ShowsCounts s version c self.now
+            → result.0 ≡ entered_link s c link.0 boundary }
+    {
+        Units(self.curves.total(up_of(link), boundary))
+    }
+
+    /// What has left a link by a boundary.
+    pub fn left_by(&self, link: LinkId, boundary: u32) -> Units
+        requires link { link.0 < links_of self.now }
+        requires boundary { boundary ≤ last_of self.now }
+        ensures counted { result.0 ≡ left_by self.now link.0 boundary }
+        ensures small { result.0 ≤ 2 ^ 37 }
+        ensures shown { (s : Setting) (version : ℕ) (c : Counts) → ShowsCounts s version c self.now
+            → result.0 ≡ left_link s c link.0 boundary }
+    {
+        Units(self.curves.total(down_of(link), boundary))
     }
 
     /// What the loading comes to in all at the last boundary.

@@ -4,7 +4,8 @@ ghost use Rattle.std.specs.Prelude.{◌≡◌, ◌-◌, ◌<◌, true, length, s
 use super::Core;
 use crate::answers::Published;
 use crate::laws::repair_laws;
-use crate::producing::leave_production;
+use crate::producing::renew_since;
+use ltm_demand::production_stays;
 use ltm_scenario::edits_make;
 use ltm_setting::is_setting;
 
@@ -21,26 +22,28 @@ fn mark_last(marks: &mut Vec<bool>)
 impl Core {
     ghost use Rattle.ltm_core.specs.CoreAnswers.{TellsPublish, TellsSettle};
 
-    /// Shows the totals of the working counts, where no pair is active or claimed, with their horizon. The changed cells alone are copied,
-    /// and what origins produce is added up only after an edit of demand or of the horizon. Takes no memory.
+    /// Shows the totals of the working counts, where no pair is active or claimed, with their horizon. The changed cells
+    /// alone are copied. Of what origins have produced that of the origins of edits of demand alone is renewed, each from
+    /// the slot on at which its edit begins, and what a longer horizon adds is written. Takes no memory.
     pub fn publish(&mut self) -> Published
         ensures answer { TellsPublish self.old result self.new }
         ensures log { self.new.log ≡ self.old.log }
     {
         repair_laws();
         edits_make();
+        production_stays();
         is_setting(&self.scenario);
         if !self.table.is_at_rest(&self.scenario) {
             return Published::NotAtRest;
         }
         let version = self.batches.len() as u64;
-        let left = leave_production(&self.batches, self.shown.version());
+        let shown_at = self.shown.version();
+        renew_since(&self.scenario, &self.batches, shown_at, &mut self.shown);
         self.shown.refresh(
             &self.scenario,
             self.table.curves(),
             self.table.cells(),
             version,
-            !left,
         );
         let _room = self.shown.room();
         self.table.clear_changed();

@@ -1,7 +1,6 @@
-use Rattle.std.proofs.Common.{◌∙◌, ◌≡◌, ◌<◌, ℕ, arith, ap, subst}
+use Rattle.std.proofs.Common.{ℕ, subst}
 use Rattle.ltm_curve.specs.declared.curves.Curves.{Curves}
 use Rattle.ltm_curve.specs.Table.{counts_of, total_of}
-use Rattle.ltm_loading.specs.Totals.{generated}
 use Rattle.ltm_setting.specs.Setting.{setting_of}
 use Rattle.ltm_flows.specs.InAll.{AreSums}
 use Rattle.ltm_flows.proofs.Showing.{shaped_total, sums_are_totals}

@@ -1,7 +1,7 @@
 use Rattle.std.proofs.Common.{arith}
 use Rattle.ltm_units.specs.declared.quantities.Millis.{Millis}
 use Rattle.ltm_setting.specs.Setting.{setting_of}
-use Rattle.ltm_flows.proofs.Amounts.{written}
+use Rattle.ltm_flows.proofs.Places.{written}
 use Rattle.ltm_flows.proofs.tables.write_free_times.Goals as goal
 
 pub loop-link-preserved : goal.loop-link-preserved

@@ -8,7 +8,8 @@ use Rattle.ltm_core.specs.Log.{log_of, version_now}
 use Rattle.ltm_core.proofs.Logs.{kept_version}
 use Rattle.ltm_core.proofs.Cores.{rest_here, not_resting_at}
 use Rattle.ltm_core.proofs.Showings.{shown_low, ShowsTable, core_fits, core_agrees, core_after_publish, core_publishes_at}
-use Rattle.ltm_core.proofs.Production.{shown_production}
+use Rattle.ltm_core.proofs.Renewing.{fits_same, agrees_same}
+use Rattle.ltm_core.proofs.Production.{nodes_are, shown_production}
 use Rattle.ltm_core.proofs.kept_core.Core.publish.Goals as goal
 
 pub is_at_rest-requires : goal.is_at_rest-requires
@@ -18,7 +19,7 @@ pub returns-then-not-is_at_rest-clause-answer : goal.returns-then-not-is_at_rest
 returns-then-not-is_at_rest-clause-answer c = (not_resting_at _ _ c.is_at_rest.result c.self.view_is c.self.invariant.0 c.is_at_rest.ensures c.if-not-is_at_rest.true, refl)
 
 pub refresh-requires-clause-fits : goal.refresh-requires-clause-fits
-refresh-requires-clause-fits c = core_fits _ c.self.invariant.0
+refresh-requires-clause-fits c = fits_same (setting_of c.self.inside.scenario) c.self.inside.shown c.renew_since.new.shown c.renew_since.ensures.same (core_fits _ c.self.invariant.0)
 
 pub refresh-requires-clause-loading : goal.refresh-requires-clause-loading
 refresh-requires-clause-loading c =
@@ -27,13 +28,17 @@ refresh-requires-clause-loading c =
 
 pub refresh-requires-clause-outside : goal.refresh-requires-clause-outside
 refresh-requires-clause-outside c =
-    core_agrees _ c.curves.result.now c.cells.result.now c.self.invariant.0 (c.curves.ensures.shape (setting_of c.self.inside.scenario) c.self.invariant.0.ready) (c.curves.ensures.counts (setting_of c.self.inside.scenario))
-    (λ g k x l. c.cells.ensures.changed (setting_of c.self.inside.scenario) g k x l)
+    agrees_same c.curves.result.now c.cells.result.now c.self.inside.shown c.renew_since.new.shown c.renew_since.ensures.same
+    (core_agrees _ c.curves.result.now c.cells.result.now c.self.invariant.0 (c.curves.ensures.shape (setting_of c.self.inside.scenario) c.self.invariant.0.ready) (c.curves.ensures.counts (setting_of c.self.inside.scenario))
+    (λ g k x l. c.cells.ensures.changed (setting_of c.self.inside.scenario) g k x l))
 
-pub leave_production-left-requires : goal.leave_production-left-requires
-leave_production-left-requires c =
+pub renew_since-requires-clause-nodes : goal.renew_since-requires-clause-nodes
+renew_since-requires-clause-nodes c = (core_fits _ c.self.invariant.0).nodes ∙ nodes_are c.self.inside.scenario
+
+pub renew_since-requires-clause-from : goal.renew_since-requires-clause-from
+renew_since-requires-clause-from c =
     omega (
-      c.version.ensures,
+      c.version-shown_at.ensures,
       ap length c.deref.ensures.value,
       shown_low _ c.self.invariant.0,
       kept_version c.self.inside.opening c.self.inside.batches.items c.self.inside.marks.items c.self.invariant.1,
@@ -42,8 +47,8 @@ leave_production-left-requires c =
 
 pub refresh-requires-clause-produced : goal.refresh-requires-clause-produced
 refresh-requires-clause-produced c =
-    shown_production c.edits_make.ensures c.self.inside.opening c.self.inside.batches.items c.deref.result.now c.self.inside.marks.items c.self.inside.scenario c.self.inside.table c.self.inside.shown
-    c.self.inside.commits c.self.inside.stopped c.version.result c.leave_production-left.result c.self.invariant.0 c.self.invariant.1 c.deref.ensures.value c.version.ensures c.leave_production-left.ensures
+    shown_production c.production_stays.ensures c.edits_make.ensures c.self.inside.opening c.self.inside.batches.items c.deref.result.now c.self.inside.marks.items c.self.inside.scenario c.self.inside.table c.self.inside.shown
+    c.self.inside.commits c.self.inside.stopped c.version-shown_at.result c.renew_since.new.shown c.self.invariant.0 c.self.invariant.1 c.deref.ensures.value c.version-shown_at.ensures c.renew_since.ensures
 
 version_is : (c : goal.After-clear_changed) → c.len-version.result ≡ version_now (log_of c.self.inside.opening c.self.inside.batches.items c.self.inside.marks.items)
 version_is c = omega (c.len-version.ensures, c.self.inside.batches.ok.0, kept_version c.self.inside.opening c.self.inside.batches.items c.self.inside.marks.items c.self.invariant.1, arith)

@@ -1,4 +1,4 @@
-use Rattle.std.proofs.Common.{◌≡◌, ◌∙◌, ◌+◌, ◌*◌, ℕ, ap}
+use Rattle.std.proofs.Common.{◌∙◌, ℕ, ap}
 use Rattle.ltm_curve.specs.TotalCurves.{total_at}
 use Rattle.ltm_flows.proofs.Showing.{shown_arrived}
 use Rattle.ltm_flows.proofs.loading.Loading.arrived.Goals as goal

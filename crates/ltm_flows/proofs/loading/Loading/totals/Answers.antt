@@ -1,4 +1,4 @@
-use Rattle.std.proofs.Common.{◌≡◌, ◌<◌, ℕ, ◌∙◌, ap, arith, subst}
+use Rattle.std.proofs.Common.{◌≡◌, ℕ, ◌∙◌, ap, arith, subst}
 use Rattle.ltm_curve.specs.TotalCurves.{total_at}
 use Rattle.ltm_loading.specs.Totals.{generated}
 use Rattle.ltm_flows.specs.Shown.{generated_of}
