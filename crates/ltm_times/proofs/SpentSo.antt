@@ -79,7 +79,7 @@ waiting_so left s c is l k within =
 pub delays_are_summed_holds : LeftWasProduced → AddsUp → DelaysAreSummed
 delays_are_summed_holds left adds s c is l = record {
   waited = over_same s (waiting s c) (λ k. sum_below s.nodes (λ u. waiting_at s c u k)) (λ k x. waiting_so left s c is l k x)
-  ∙ over_each s s.nodes (λ u k. waiting_at s c u k);
+      ∙ over_each s s.nodes (λ u k. waiting_at s c u k);
   spent = spent_apart adds s c is l ∙ ap (λ (n : ℕ). n + waited s c) (over_each s s.links (λ link k. entered_link s c link k - left_link s c link k));
   queued = over_each s s.links (λ link k. queue s c link k);
 }

@@ -24,6 +24,6 @@ returns c s version counts shows =
     let step : c.from.result ≡ s.step = c.from.ensures ∙ (c.step.ensures.value ∙ shows.step) in
     record {
       waited = ap (λ (n : ℕ). n * c.from.result) (c.loop-slot.invariant.waited s version counts shows ∙ ap (λ (n : ℕ). sum_below n standing) all)
-      ∙ ap (λ (h : ℕ). sum_below s.slots standing * h) step;
+          ∙ ap (λ (h : ℕ). sum_below s.slots standing * h) step;
       peak = subst (λ (n : ℕ). IsPeakOf (waiting_at s counts node) n c.loop-slot.peak) all (c.loop-slot.invariant.peak s version counts shows);
     }
