@@ -55,6 +55,7 @@ reply_grows laws s t (command.Link name) text (r, same) = same_grows s t same
 reply_grows laws s t (command.Time name slot) text (r, same) = same_grows s t same
 reply_grows laws s t command.Delay text (r, same) = same_grows s t same
 reply_grows laws s t (command.Queue name boundary) text (r, same) = same_grows s t same
+reply_grows laws s t (command.Origin name boundary) text (r, same) = same_grows s t same
 reply_grows laws s t command.Settle text r = absurd r
 
 -- the list grows at its end, and what is shown stays, also where there was no memory
@@ -72,6 +73,7 @@ answers_reply IsCount s (command.Link name) text t r = r
 answers_reply IsCount s (command.Time name slot) text t r = r
 answers_reply IsCount s command.Delay text t r = r
 answers_reply IsCount s (command.Queue name boundary) text t r = r
+answers_reply IsCount s (command.Origin name boundary) text t r = r
 answers_reply IsCount s command.Settle text t r = absurd r
 
 -- a reply that was made in a held turn

@@ -24,6 +24,7 @@ batch_in (Ok (command.Link link)) = Err NotEdit
 batch_in (Ok (command.Time link slot)) = Err NotEdit
 batch_in (Ok command.Delay) = Err NotEdit
 batch_in (Ok (command.Queue link boundary)) = Err NotEdit
+batch_in (Ok (command.Origin node boundary)) = Err NotEdit
 batch_in (Ok command.Settle) = Err NotEdit
 batch_in (Err fault.NotJson) = Err NotJson
 batch_in (Err (fault.NotCommand place)) = Err (NotCommand place)

@@ -44,3 +44,21 @@ link_delay_line name spent queued most at = name_piece name ++ spent_piece spent
 unfoldable pub queue_line : ℕ → List ℕ → ℕ → ℕ → ℕ → ℕ → List ℕ
 queue_line version name boundary entered gone queue =
     version_piece version ++ codes " " ++ name_piece name ++ slot_piece boundary ++ through_piece entered gone ++ queue_piece queue ++ newline
+
+-- the node's name, as `node n1`
+unfoldable pub node_piece : List ℕ → List ℕ
+node_piece name = codes "node " ++ name
+
+-- what is waited at an origin, as `node n1 waited 29.000000 most 3.200 at 10`
+unfoldable pub node_delay_line : List ℕ → ℕ → ℕ → ℕ → List ℕ
+node_delay_line name waited most at = node_piece name ++ waited_piece waited ++ peak_piece most at ++ newline
+
+-- what an origin has produced, what has left it and who waits, as ` produced 5.600 left 3.400 waiting 2.200`
+unfoldable pub origin_piece : ℕ → ℕ → ℕ → List ℕ
+origin_piece produced gone waiting =
+    amount_piece (codes " produced ") produced ++ amount_piece (codes " left ") gone ++ amount_piece (codes " waiting ") waiting
+
+-- the origin of a node at a boundary, as `version 3 node n1 slot 8 produced 5.600 left 3.400 waiting 2.200`
+unfoldable pub origin_line : ℕ → List ℕ → ℕ → ℕ → ℕ → ℕ → List ℕ
+origin_line version name boundary produced gone waiting =
+    version_piece version ++ codes " " ++ node_piece name ++ slot_piece boundary ++ origin_piece produced gone waiting ++ newline

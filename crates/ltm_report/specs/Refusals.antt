@@ -23,6 +23,14 @@ unknown_queue_line = codes "refused queue UnknownName\n"
 unfoldable pub queue_slots_line : List ℕ
 queue_slots_line = codes "refused queue BadSlots\n"
 
+-- no node has the name whose origin was asked for
+unfoldable pub unknown_origin_line : List ℕ
+unknown_origin_line = codes "refused origin UnknownName\n"
+
+-- the boundary at which an origin was asked for is not one of the loading that is shown
+unfoldable pub origin_slots_line : List ℕ
+origin_slots_line = codes "refused origin BadSlots\n"
+
 -- which line of a script has more bytes than are read, counted from 1
 unfoldable pub long_piece : ℕ → List ℕ
 long_piece number = number_piece (codes "too long line ") number

@@ -48,14 +48,14 @@ fn push_spent(into: &mut Vec<u8>, spent: u128, queued: u128) -> Result<(), NoMem
 }
 
 #[tactic(auto, unfolding(crate::specs::Delays::waited_piece))]
-fn push_waited(into: &mut Vec<u8>, waited: u128) -> Result<(), NoMemory>
+pub(crate) fn push_waited(into: &mut Vec<u8>, waited: u128) -> Result<(), NoMemory>
     ensures { OnOk result (into.new.items ≡ into.old.items ++ waited_piece waited) }
 {
     push_seconds(into, b" waited ", waited)
 }
 
 #[tactic(auto, unfolding(crate::specs::Delays::peak_piece))]
-fn push_peak(into: &mut Vec<u8>, peak: Peak) -> Result<(), NoMemory>
+pub(crate) fn push_peak(into: &mut Vec<u8>, peak: Peak) -> Result<(), NoMemory>
     ensures { OnOk result (into.new.items ≡ into.old.items ++ peak_piece peak.most.0 peak.at) }
 {
     push_vehicles(into, b" most ", peak.most)?;

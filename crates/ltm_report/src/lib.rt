@@ -12,11 +12,13 @@ mod answers;
 mod case_faults;
 mod causes;
 mod command_faults;
+mod delay_report;
 mod delays;
 mod edit_faults;
 mod links;
 mod load;
 mod made;
+mod origins;
 mod pieces;
 mod refusals;
 mod routes;
@@ -26,14 +28,16 @@ mod totals;
 pub use answers::{ANSWER_ROOM, accepted_text, settled_text};
 pub use case_faults::{case_fault_text, too_long_text};
 pub use command_faults::command_fault_text;
+pub use delay_report::delay_report_of;
 pub use delays::{delay_text, link_delay_text, queue_text};
 pub use edit_faults::edit_fault_text;
 pub use links::{link_text, load_link_text};
 pub use load::report_of;
 pub use made::{size_text, work_text};
+pub use origins::{node_delay_text, origin_text};
 pub use refusals::{
-    long_script_text, queue_slots_text, time_slots_text, too_many_text, unknown_link_text,
-    unknown_queue_text, unknown_time_text,
+    long_script_text, origin_slots_text, queue_slots_text, time_slots_text, too_many_text,
+    unknown_link_text, unknown_origin_text, unknown_queue_text, unknown_time_text,
 };
 pub use routes::{route_row_text, route_time_text, splits_header_text};
 pub use times::time_text;

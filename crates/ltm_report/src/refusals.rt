@@ -1,6 +1,6 @@
 //! The lines that refuse a question or the rest of a script.
 ghost use Rattle.std.specs.Prelude.{◌≡◌, ◌++◌, OnOk, OnErr};
-ghost use Rattle.ltm_report.specs.Refusals.{unknown_link_line, unknown_time_line, time_slots_line, unknown_queue_line, queue_slots_line, long_piece, long_script_line, too_many_line};
+ghost use Rattle.ltm_report.specs.Refusals.{unknown_link_line, unknown_time_line, time_slots_line, unknown_queue_line, queue_slots_line, unknown_origin_line, origin_slots_line, long_piece, long_script_line, too_many_line};
 
 use crate::pieces::push_newline;
 use ltm_units::{NoMemory, push_number, push_text};
@@ -49,6 +49,24 @@ pub fn queue_slots_text(into: &mut Vec<u8>) -> Result<(), NoMemory>
     ensures err { OnErr result (into.new.items ≡ into.old.items) }
 {
     push_text(into, b"refused queue BadSlots\n")
+}
+
+/// Appends that no node has the name whose origin was asked for.
+#[tactic(auto, unfolding(crate::specs::Refusals::unknown_origin_line))]
+pub fn unknown_origin_text(into: &mut Vec<u8>) -> Result<(), NoMemory>
+    ensures ok { OnOk result (into.new.items ≡ into.old.items ++ unknown_origin_line) }
+    ensures err { OnErr result (into.new.items ≡ into.old.items) }
+{
+    push_text(into, b"refused origin UnknownName\n")
+}
+
+/// Appends that the boundary at which an origin was asked for is not one of the loading that is shown.
+#[tactic(auto, unfolding(crate::specs::Refusals::origin_slots_line))]
+pub fn origin_slots_text(into: &mut Vec<u8>) -> Result<(), NoMemory>
+    ensures ok { OnOk result (into.new.items ≡ into.old.items ++ origin_slots_line) }
+    ensures err { OnErr result (into.new.items ≡ into.old.items) }
+{
+    push_text(into, b"refused origin BadSlots\n")
 }
 
 #[tactic(auto, unfolding(crate::specs::Refusals::long_piece))]

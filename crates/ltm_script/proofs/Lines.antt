@@ -15,7 +15,7 @@ use Rattle.ltm_script.specs.declared.command.CommandFault.{CommandFault}
 use Rattle.ltm_script.specs.declared.command.CommandFault.TheVariants.{NotJson, NotCommand, NoMemory}
 use Rattle.ltm_script.specs.Members.{text_in}
 use Rattle.ltm_script.specs.Edits.{edits_from}
-use Rattle.ltm_script.specs.Commands.{count_of, or_none, batch_of, array_of, link_of, time_of, queue_of, command_by, command_from, command_of}
+use Rattle.ltm_script.specs.Commands.{count_of, or_none, batch_of, array_of, link_of, time_of, queue_of, origin_of, command_by, command_from, command_of}
 use Rattle.ltm_script.specs.Line.{value_of, command_in, reading}
 use Rattle.ltm_script.proofs.Placed.{edits_never}
 
@@ -62,7 +62,8 @@ command_never (Some word) d =
     (either (same word (codes "time")) _ _ (or_none_never (time_of d))
     (either (same word (codes "delay")) _ _ (λ is. cc)
     (either (same word (codes "queue")) _ _ (or_none_never (queue_of d))
-    (either (same word (codes "settle")) _ _ (λ is. cc) (λ is. cc)))))))
+    (either (same word (codes "origin")) _ _ (or_none_never (origin_of d))
+    (either (same word (codes "settle")) _ _ (λ is. cc) (λ is. cc))))))))
 
 reading_never : (value : Option Data) → command_in value ≢ Err NoMemory
 reading_never None = λ is. cc

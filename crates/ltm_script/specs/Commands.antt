@@ -40,6 +40,9 @@ time_of d = name_in (codes "link") d >>= λ link. whole_in (codes "slot") d >>= 
 abbrev pub queue_of : Data → Option Command
 queue_of d = name_in (codes "link") d >>= λ link. whole_in (codes "slot") d >>= λ slot. Some (command.Queue link slot)
 
+abbrev pub origin_of : Data → Option Command
+origin_of d = name_in (codes "node") d >>= λ node. whole_in (codes "slot") d >>= λ slot. Some (command.Origin node slot)
+
 -- a command by its word
 abbrev pub command_by : List ℕ → Data → Result Command CommandFault
 command_by word d =
@@ -49,6 +52,7 @@ command_by word d =
     else if same word (codes "time") then or_none (time_of d)
     else if same word (codes "delay") then Ok command.Delay
     else if same word (codes "queue") then or_none (queue_of d)
+    else if same word (codes "origin") then or_none (origin_of d)
     else if same word (codes "settle") then Ok command.Settle
     else Err (NotCommand 0)
 
@@ -67,4 +71,5 @@ HasAmounts (command.Link link) = Unit {0}
 HasAmounts (command.Time link slot) = Unit {0}
 HasAmounts command.Delay = Unit {0}
 HasAmounts (command.Queue link slot) = Unit {0}
+HasAmounts (command.Origin node slot) = Unit {0}
 HasAmounts command.Settle = Unit {0}

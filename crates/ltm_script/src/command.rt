@@ -18,6 +18,9 @@ pub enum Command {
     Delay,
     /// The queue of the link of this name at the boundary with this number: `{"do":"queue","link":"a","slot":3}`.
     Queue { link: Name, slot: u32 },
+    /// Who waits at the origin of the node of this name at the boundary with this number:
+    /// `{"do":"origin","node":"n1","slot":3}`.
+    Origin { node: Name, slot: u32 },
     /// To show all edits, and to count what was computed anew: `{"do":"settle"}`.
     Settle,
 }

@@ -65,6 +65,11 @@ fn read_value(alloc: Global, value: &Value) -> Result<Command, CommandFault>
             let slot = find_whole(value, "slot").ok_or(no_command)?;
             Ok(Command::Queue { link, slot })
         }
+        "origin" => {
+            let node = find_name(value, "node").ok_or(no_command)?;
+            let slot = find_whole(value, "slot").ok_or(no_command)?;
+            Ok(Command::Origin { node, slot })
+        }
         "settle" => Ok(Command::Settle),
         _ => Err(no_command),
     }

@@ -32,6 +32,7 @@ count_beside s (Ok (command.Link name)) text t a = a
 count_beside s (Ok (command.Time name slot)) text t a = a
 count_beside s (Ok command.Delay) text t a = a
 count_beside s (Ok (command.Queue name boundary)) text t a = a
+count_beside s (Ok (command.Origin name boundary)) text t a = a
 count_beside s (Err f) text t a = a
 
 -- no more batches are shown than accepted
@@ -60,6 +61,7 @@ finished laws s (Ok (command.Link name)) text t is (told, same) = stays_finished
 finished laws s (Ok (command.Time name slot)) text t is (told, same) = stays_finished s t same is
 finished laws s (Ok command.Delay) text t is (told, same) = stays_finished s t same is
 finished laws s (Ok (command.Queue name boundary)) text t is (told, same) = stays_finished s t same is
+finished laws s (Ok (command.Origin name boundary)) text t is (told, same) = stays_finished s t same is
 finished laws s (Err fault.NotJson) text t is (told, same) = stays_finished s t same is
 finished laws s (Err (fault.NotCommand place)) text t is (told, same) = stays_finished s t same is
 finished laws s (Err fault.NoMemory) text t is none = absurd none

@@ -3,7 +3,7 @@ use Rattle.std.proofs.Common.{ℕ, ◌≡◌, ◌++◌, ◌<◌, ◌≤◌, ◌+
 use Rattle.std.proofs.lemmas.List.{length-map}
 use Rattle.std.specs.Prelude.{Option, Some, None, Result, Ok, Err, MatchResult, MatchOption}
 use Rattle.ltm_curve.specs.Counts.{Counts}
-use Rattle.ltm_network.specs.Network.{NetworkData, find_link, link_names}
+use Rattle.ltm_network.specs.Network.{NetworkData, find_link, find_node, link_names}
 use Rattle.ltm_network.proofs.Apart.{named_there}
 use Rattle.ltm_scenario.specs.declared.edit.Edit.{Edit}
 use Rattle.ltm_scenario.specs.declared.edit.EditFault.{EditFault}
@@ -21,19 +21,19 @@ use Rattle.ltm_script.specs.declared.command.CommandFault.{CommandFault}
 use Rattle.ltm_script.specs.declared.command.CommandFault.TheVariants as fault
 use Rattle.ltm_report.specs.Answers.{accepted_line, settled_line}
 use Rattle.ltm_report.specs.EditFaults.{edit_fault_line}
-use Rattle.ltm_report.specs.Refusals.{unknown_link_line, unknown_time_line, unknown_queue_line}
+use Rattle.ltm_report.specs.Refusals.{unknown_link_line, unknown_time_line, unknown_queue_line, unknown_origin_line}
 use Rattle.ltm_io.specs.Script.{lines_of}
 use Rattle.ltm_core.specs.Log.{Log, with_batch, version_now, settled_of, scenario_at, scenario_now}
 use Rattle.ltm_core.specs.Settling.{IsExactCount, setting_at}
 use Rattle.ltm_report.specs.Reports.{totals_report, link_report}
-use Rattle.ltm_report.specs.DelayReports.{delay_report, queue_report}
+use Rattle.ltm_report.specs.DelayReports.{delay_report, queue_report, origin_report}
 use Rattle.ltm_session.specs.Reports.{time_report}
 use Rattle.ltm_session.specs.Analysts.{Analysts, opening_state, shown_scenario, settled}
-use Rattle.ltm_session.specs.Answers.{ReportsShown, TellsTimeAt, TellsQueueAt, IsScenarioOf, CountsAlone, AnswersAlone}
+use Rattle.ltm_session.specs.Answers.{ReportsShown, TellsTimeAt, TellsQueueAt, TellsOriginAt, IsScenarioOf, CountsAlone, AnswersAlone}
 use Rattle.ltm_session.specs.Session.{AnswersLine, AnswersLines}
 use Rattle.ltm_session.specs.Laws.{OneOutput}
 use Rattle.ltm_times.proofs.Alike.{agree, differing_same}
-use Rattle.ltm_session.proofs.SameReports.{totals_same, links_same, times_same, delays_same, queues_same}
+use Rattle.ltm_session.proofs.SameReports.{totals_same, links_same, times_same, delays_same, queues_same, origins_same}
 
 -- there is one loading of a setting, and scenarios make settings
 pub record Known : Type 0 where
@@ -109,6 +109,25 @@ queue_at_once k s name boundary link x y there (inl (few, told_x)) (inr (many, i
 queue_at_once k s name boundary link x y there (inr (many, is)) (inl (few, told_y)) = absurd (omega (arith, few, many))
 queue_at_once k s name boundary link x y there (inr (many, is)) (inr (many_too, is_too)) = is ∙ sym is_too
 
+-- a node of the opening network is one of the scenario that is shown
+node_within : (s : Analysts) (node : ℕ) → IsScenarioOf s.log s.shown → node < length s.log.opening.network.nodes → node < (setting_at s.log s.shown).nodes
+node_within s node is there =
+    subst (λ n. node < n) (sym (nodes_in (scenario_at s.log s.shown) ∙ ap (λ (n : NetworkData). length n.nodes) is.network)) there
+
+origin_once : (k : Known) (s : Analysts) (name : List ℕ) (boundary node : ℕ) (x y : List ℕ) → node < length s.log.opening.network.nodes → boundary ≤ (shown_scenario s).setup.slots
+    → ReportsShown s (λ version. origin_report version name node boundary) x → ReportsShown s (λ version. origin_report version name node boundary) y → x ≡ y
+origin_once k s name boundary node x y there few told_x told_y =
+    let slots = slots_in (scenario_at s.log s.shown) in
+    reported_same k s (λ version. origin_report version name node boundary)
+    (λ a b is same. origins_same (setting_at s.log s.shown) a b s.shown node boundary name same (node_within s node is there) (omega (arith, slots, few))) x y told_x told_y
+
+origin_at_once : (k : Known) (s : Analysts) (name : List ℕ) (boundary node : ℕ) (x y : List ℕ) → node < length s.log.opening.network.nodes
+    → TellsOriginAt s name boundary node x → TellsOriginAt s name boundary node y → x ≡ y
+origin_at_once k s name boundary node x y there (inl (few, told_x)) (inl (few_too, told_y)) = origin_once k s name boundary node x y there few told_x told_y
+origin_at_once k s name boundary node x y there (inl (few, told_x)) (inr (many, is)) = absurd (omega (arith, few, many))
+origin_at_once k s name boundary node x y there (inr (many, is)) (inl (few, told_y)) = absurd (omega (arith, few, many))
+origin_at_once k s name boundary node x y there (inr (many, is)) (inr (many_too, is_too)) = is ∙ sym is_too
+
 -- ---- links by name
 named_within : (n : NetworkData) (name : List ℕ) (link : ℕ) → find_link n name ≡ Some link → link < length n.links
 named_within n name link is =
@@ -122,6 +141,13 @@ by_name : (n : NetworkData) (name : List ℕ) (P : List ℕ → ℕ → Type 0) 
     → MatchOption found (x ≡ none) (P x) → MatchOption found (y ≡ none) (P y) → x ≡ y
 by_name n name P none x y None is once told_x told_y = told_x ∙ sym told_y
 by_name n name P none x y (Some link) is once told_x told_y = once link x y (named_within n name link is) told_x told_y
+
+-- the same of a node by its name
+by_node : (n : NetworkData) (name : List ℕ) (P : List ℕ → ℕ → Type 0) (none x y : List ℕ) (found : Option ℕ) → find_node n name ≡ found
+    → ((node : ℕ) (x y : List ℕ) → node < length n.nodes → P x node → P y node → x ≡ y)
+    → MatchOption found (x ≡ none) (P x) → MatchOption found (y ≡ none) (P y) → x ≡ y
+by_node n name P none x y None is once told_x told_y = told_x ∙ sym told_y
+by_node n name P none x y (Some node) is once told_x told_y = let (there, which) = named_there n.nodes name node is in once node x y there told_x told_y
 
 -- ---- settles
 count_once : (k : Known) (log : Log) (n m : ℕ) → CountsAlone log n → CountsAlone log m → n ≡ m
@@ -170,6 +196,11 @@ answer_once k s (Ok command.Delay) x y t u (told, same) (told_too, same_too) = (
 answer_once k s (Ok (command.Queue name boundary)) x y t u (told, same) (told_too, same_too) = (
   by_name s.log.opening.network name (λ x link. TellsQueueAt s name boundary link x) unknown_queue_line x y (find_link s.log.opening.network name) refl
       (λ link x y there told_x told_y. queue_at_once k s name boundary link x y there told_x told_y) told told_too,
+  both_stay s t u same same_too,
+)
+answer_once k s (Ok (command.Origin name boundary)) x y t u (told, same) (told_too, same_too) = (
+  by_node s.log.opening.network name (λ x node. TellsOriginAt s name boundary node x) unknown_origin_line x y (find_node s.log.opening.network name) refl
+      (λ node x y there told_x told_y. origin_at_once k s name boundary node x y there told_x told_y) told told_too,
   both_stay s t u same same_too,
 )
 answer_once k s (Err fault.NotJson) x y t u (told, same) (told_too, same_too) = (told ∙ sym told_too, both_stay s t u same same_too)

@@ -1,20 +1,21 @@
 -- Loadings of one scenario have the same reports.
-use Rattle.std.proofs.Common.{ℕ, ◌≡◌, ◌<◌, ◌≤◌, List, ap, ◌∙◌, arith}
+use Rattle.std.proofs.Common.{ℕ, ◌≡◌, ◌-◌, ◌<◌, ◌≤◌, List, ap, ◌∙◌, arith}
 use Rattle.ltm_curve.specs.Counts.{Counts}
 use Rattle.ltm_loading.specs.Setting.{Setting}
 use Rattle.ltm_loading.specs.Totals.{generated, arrived, on_links, waiting, entered_link, left_link}
 use Rattle.ltm_loading.proofs.Same.{AgreeTo}
 use Rattle.ltm_times.specs.Times.{time_spent}
-use Rattle.ltm_times.specs.Queues.{queue}
+use Rattle.ltm_flows.specs.Origins.{produced_in_all, departed_from}
+use Rattle.ltm_times.specs.Queues.{queue, waiting_at}
 use Rattle.ltm_times.specs.Delays.{queued, waited}
 use Rattle.ltm_times.proofs.Alike.{arrived_same, on_links_same, waiting_same, entered_same, left_same, travel_same, spent_same}
-use Rattle.ltm_times.proofs.DelaysAlike.{queue_same, queued_same, waited_same}
+use Rattle.ltm_times.proofs.DelaysAlike.{queue_same, queued_same, waited_same, departed_from_same}
 use Rattle.ltm_report.specs.Totals.{totals_line}
 use Rattle.ltm_report.specs.Links.{link_line}
 use Rattle.ltm_report.specs.Times.{time_line}
-use Rattle.ltm_report.specs.Delays.{delay_line, queue_line}
+use Rattle.ltm_report.specs.Delays.{delay_line, queue_line, origin_line}
 use Rattle.ltm_report.specs.Reports.{totals_report, link_report}
-use Rattle.ltm_report.specs.DelayReports.{delay_report, queue_report}
+use Rattle.ltm_report.specs.DelayReports.{delay_report, queue_report, origin_report}
 use Rattle.ltm_session.specs.Reports.{time_report}
 
 pub totals_same : (s : Setting) (a b : Counts) (version : ℕ) → AgreeTo s a b s.slots → totals_report version s a ≡ totals_report version s b
@@ -49,3 +50,11 @@ queues_same s a b version link boundary name some same there within =
     ap (λ x. queue_line version name boundary x (left_link s a link boundary) (queue s a link boundary)) (entered_same s a b link boundary same there within)
     ∙ ap (λ x. queue_line version name boundary (entered_link s b link boundary) x (queue s a link boundary)) (left_same s a b link boundary same there within)
     ∙ ap (λ x. queue_line version name boundary (entered_link s b link boundary) (left_link s b link boundary) x) (queue_same s a b link boundary some same there within)
+
+pub origins_same : (s : Setting) (a b : Counts) (version node boundary : ℕ) (name : List ℕ) → AgreeTo s a b s.slots → node < s.nodes → boundary ≤ s.slots
+    → origin_report version name node boundary s a ≡ origin_report version name node boundary s b
+unfolding origin_report
+origins_same s a b version node boundary name same there within =
+    let left = departed_from_same s a b node boundary same there within in
+    ap (λ x. origin_line version name boundary (produced_in_all s node boundary) x (waiting_at s a node boundary)) left
+    ∙ ap (λ x. origin_line version name boundary (produced_in_all s node boundary) (departed_from s b node boundary) (produced_in_all s node boundary - x)) left

@@ -1,7 +1,7 @@
 -- What is answered to a line, and how the machine stands then.
 use Rattle.std.specs.Prelude.{◌≡◌, ◌⊎◌, ℕ, ◌+◌, ◌<◌, ◌≤◌, List, Option, Result, Ok, Err, MatchResult, MatchOption}
 use Rattle.ltm_curve.specs.Counts.{Counts}
-use Rattle.ltm_network.specs.Network.{find_link}
+use Rattle.ltm_network.specs.Network.{find_link, find_node}
 use Rattle.ltm_scenario.specs.declared.edit.Edit.{Edit}
 use Rattle.ltm_scenario.specs.Edits.{edited_all}
 use Rattle.ltm_scenario.specs.IsScenario.{IsScenario}
@@ -14,11 +14,11 @@ use Rattle.ltm_script.specs.declared.command.CommandFault.TheVariants as fault
 use Rattle.ltm_report.specs.Answers.{accepted_line, settled_line}
 use Rattle.ltm_report.specs.EditFaults.{edit_fault_line}
 use Rattle.ltm_report.specs.CommandFaults.{command_fault_line}
-use Rattle.ltm_report.specs.Refusals.{unknown_link_line, unknown_time_line, time_slots_line, unknown_queue_line, queue_slots_line}
+use Rattle.ltm_report.specs.Refusals.{unknown_link_line, unknown_time_line, time_slots_line, unknown_queue_line, queue_slots_line, unknown_origin_line, origin_slots_line}
 use Rattle.ltm_core.specs.Log.{Log, with_batch, version_now, settled_of, scenario_at, scenario_now}
 use Rattle.ltm_core.specs.Settling.{setting_at, IsSettleCount, IsExactCount}
 use Rattle.ltm_report.specs.Reports.{totals_report, link_report}
-use Rattle.ltm_report.specs.DelayReports.{delay_report, queue_report}
+use Rattle.ltm_report.specs.DelayReports.{delay_report, queue_report, origin_report}
 use Rattle.ltm_session.specs.Reports.{time_report}
 use Rattle.ltm_session.specs.Analysts.{Analysts, shown_scenario, settled, IsShownLater}
 
@@ -70,6 +70,21 @@ abbrev pub TellsQueue : Analysts → List ℕ → ℕ → List ℕ → Type 0
 TellsQueue s name boundary text =
     MatchOption (link_named s name) (text ≡ unknown_queue_line) (λ link. TellsQueueAt s name boundary link text)
 
+-- the node of this name; no edit changes the names
+abbrev pub node_named : Analysts → List ℕ → Option ℕ
+node_named s name = find_node s.log.opening.network name
+
+-- the origin of a node at a boundary, where what is shown has it
+abbrev pub TellsOriginAt : Analysts → List ℕ → ℕ → ℕ → List ℕ → Type 0
+TellsOriginAt s name boundary node text =
+    ((boundary ≤ (shown_scenario s).setup.slots) × ReportsShown s (λ version. origin_report version name node boundary) text)
+    ⊎ (((shown_scenario s).setup.slots < boundary) × (text ≡ origin_slots_line))
+
+-- the origin of the node of this name
+abbrev pub TellsOrigin : Analysts → List ℕ → ℕ → List ℕ → Type 0
+TellsOrigin s name boundary text =
+    MatchOption (node_named s name) (text ≡ unknown_origin_line) (λ node. TellsOriginAt s name boundary node text)
+
 -- ---- all lines
 -- the answer to what a line was read as, where that is no settle
 abbrev pub Replies : Analysts → Result Command CommandFault → List ℕ → Analysts → Type 0
@@ -79,6 +94,7 @@ Replies s (Ok (command.Link name)) text t = TellsLink s name text × (t ≡ s)
 Replies s (Ok (command.Time name slot)) text t = TellsTime s name slot text × (t ≡ s)
 Replies s (Ok command.Delay) text t = ReportsShown s delay_report text × (t ≡ s)
 Replies s (Ok (command.Queue name boundary)) text t = TellsQueue s name boundary text × (t ≡ s)
+Replies s (Ok (command.Origin name boundary)) text t = TellsOrigin s name boundary text × (t ≡ s)
 Replies s (Ok command.Settle) text t = ⊥
 Replies s (Err fault.NotJson) text t = (text ≡ command_fault_line fault.NotJson) × (t ≡ s)
 Replies s (Err (fault.NotCommand place)) text t = (text ≡ command_fault_line (fault.NotCommand place)) × (t ≡ s)
@@ -97,6 +113,7 @@ Answers IsCount s (Ok (command.Link name)) text t = Replies s (Ok (command.Link 
 Answers IsCount s (Ok (command.Time name slot)) text t = Replies s (Ok (command.Time name slot)) text t
 Answers IsCount s (Ok command.Delay) text t = Replies s (Ok command.Delay) text t
 Answers IsCount s (Ok (command.Queue name boundary)) text t = Replies s (Ok (command.Queue name boundary)) text t
+Answers IsCount s (Ok (command.Origin name boundary)) text t = Replies s (Ok (command.Origin name boundary)) text t
 Answers IsCount s (Err fault) text t = Replies s (Err fault) text t
 
 -- a settle without workers counts exactly the pairs that differ between what was settled last and what is settled now

@@ -15,6 +15,7 @@ mod edits;
 mod ends;
 mod laws;
 mod looping;
+mod origins;
 mod queues;
 mod replies;
 mod reports;

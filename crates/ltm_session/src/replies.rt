@@ -8,6 +8,7 @@ ghost use Rattle.ltm_session.specs.Answers.{Replies, ReportsShown, TellsTimeAt};
 ghost use Rattle.ltm_session.specs.Ready.{AwaitsLine};
 
 use crate::edits::reply_edit;
+use crate::origins::reply_origin;
 use crate::queues::{reply_delay, reply_queue};
 use crate::reports::push_time;
 use ltm_core::Core;
@@ -127,6 +128,7 @@ pub fn reply(
         Command::Time { link, slot } => reply_time(alloc, core, &link, slot, into),
         Command::Delay => reply_delay(alloc, core, into),
         Command::Queue { link, slot } => reply_queue(alloc, core, &link, slot, into),
+        Command::Origin { node, slot } => reply_origin(alloc, core, &node, slot, into),
         Command::Settle => unreachable!(),
     }
 }

@@ -6,6 +6,7 @@ use Rattle.ltm_loading.specs.Setting.{Setting}
 use Rattle.ltm_loading.specs.Groups.{dep_of}
 use Rattle.ltm_loading.specs.Totals.{generated, departed, waiting, entered_link}
 use Rattle.ltm_loading.proofs.Same.{AgreeTo}
+use Rattle.ltm_flows.specs.Origins.{departed_from}
 use Rattle.ltm_times.specs.Queues.{queue, in_queues}
 use Rattle.ltm_times.specs.Delays.{queued, waited}
 use Rattle.ltm_times.proofs.Alike.{total_same, entered_same, left_same}
@@ -31,3 +32,6 @@ departed_same s a b k same within =
 pub waited_same : (s : Setting) (a b : Counts) → AgreeTo s a b s.slots → waited s a ≡ waited s b
 waited_same s a b same =
     over_same s (waiting s a) (waiting s b) (λ k within. ap (λ x. generated s k - x) (departed_same s a b k same within))
+
+pub departed_from_same : (s : Setting) (a b : Counts) (node k : ℕ) → AgreeTo s a b s.slots → node < s.nodes → k ≤ s.slots → departed_from s a node k ≡ departed_from s b node k
+departed_from_same s a b node k same there within = total_same s a b (dep_of s node) k same (omega arith) within

@@ -1,12 +1,12 @@
 -- What is read from a loading is that of its setting.
-use Rattle.std.proofs.Common.{◌≡◌, ℕ, ◌+◌, ◌*◌, ◌<◌, ◌≤◌, ap, ◌∙◌, arith}
-use Rattle.ltm_curve.specs.Counts.{Counts, total}
+use Rattle.std.proofs.Common.{◌≡◌, ℕ, ◌<◌, ◌≤◌, ap, ◌∙◌, arith}
+use Rattle.ltm_curve.specs.Counts.{Counts}
 use Rattle.ltm_curve.specs.TotalCurves.{total_at}
 use Rattle.ltm_loading.specs.Setting.{Setting}
-use Rattle.ltm_loading.specs.Groups.{up_of, down_of, dep_of}
+use Rattle.ltm_loading.specs.Groups.{up_of, down_of}
 use Rattle.ltm_loading.specs.Totals.{entered_link, left_link}
 use Rattle.ltm_flows.specs.declared.loading.Loading.{Loading}
-use Rattle.ltm_flows.specs.Shown.{step_of, links_of, nodes_of, curves_of, last_of, free_of, ShowsCounts}
+use Rattle.ltm_flows.specs.Shown.{step_of, links_of, curves_of, last_of, free_of, ShowsCounts}
 use Rattle.ltm_times.specs.Moments.{first_moment}
 use Rattle.ltm_times.specs.Times.{exit_time}
 use Rattle.ltm_times.specs.Queues.{delayed, ready}
@@ -40,10 +40,3 @@ shown_ready s v c l h link k there within some =
 pub shown_left_by : (s : Setting) (v : ℕ) (c : Counts) (l : Loading) → ShowsCounts s v c l → (link k : ℕ) → link < links_of l → k ≤ last_of l →
     total_at (curves_of l) (down_of link) k ≡ left_link s c link k
 shown_left_by s v c l h link k there within = h.totals (down_of link) k (omega (arith, h.links)) (omega (arith, h.shape.same_slots))
-
--- what has left an origin by a boundary
-pub shown_departed : (s : Setting) (v : ℕ) (c : Counts) (l : Loading) → ShowsCounts s v c l → (node k : ℕ) → node < nodes_of l → k ≤ last_of l →
-    total_at (curves_of l) (2 * links_of l + node) k ≡ total s.destinations (c (dep_of s node)) k
-shown_departed s v c l h node k there within =
-    ap (λ (n : ℕ). total_at (curves_of l) (2 * n + node) k) h.links
-    ∙ h.totals (dep_of s node) k (omega (arith, h.nodes)) (omega (arith, h.shape.same_slots))

@@ -8,10 +8,11 @@ use Rattle.ltm_loading.specs.Setting.{Setting, IsSetting}
 use Rattle.ltm_loading.specs.Loading.{IsLoading}
 use Rattle.ltm_loading.specs.LoadingLaws.{AddsUp, NeverFall}
 use Rattle.ltm_loading.specs.Totals.{generated, arrived, on_links, waiting, entered_link, left_link}
-use Rattle.ltm_times.specs.Queues.{ready, queue, driving, in_queues, in_motion}
+use Rattle.ltm_flows.specs.Origins.{produced_in_all, departed_from}
+use Rattle.ltm_times.specs.Queues.{ready, queue, driving, waiting_at, in_queues, in_motion}
 use Rattle.ltm_times.specs.Times.{time_spent}
 use Rattle.ltm_times.specs.Delays.{over_time, spent_on, queued_on, driven_on, queued, waited, driven}
-use Rattle.ltm_times.specs.DelayLaws.{LeftWasReady, SpentAddsUp, DelaysAreSummed}
+use Rattle.ltm_times.specs.DelayLaws.{LeftWasReady, LeftWasProduced, SpentAddsUp, DelaysAreSummed}
 use Rattle.ltm_times.proofs.WasReady.{ready_has_entered}
 
 -- ---- sums over time
@@ -66,8 +67,19 @@ spent_adds_up_holds left never adds s c is l = record {
   all = omega (arith, spent_apart adds s c is l, links_apart left never s c is l);
 }
 
-pub delays_are_summed_holds : AddsUp → DelaysAreSummed
-delays_are_summed_holds adds s c is l = record {
+-- who waits in all
+waiting_so : LeftWasProduced → (s : Setting) (c : Counts) → IsSetting s → IsLoading s c → (k : ℕ) → k ≤ s.slots → waiting s c k ≡ sum_below s.nodes (λ u. waiting_at s c u k)
+waiting_so left s c is l k within =
+    let apart : sum_below s.nodes (λ u. produced_in_all s u k) ≡ sum_below s.nodes (λ u. waiting_at s c u k + departed_from s c u k) =
+    sum_below-same s.nodes (λ u. produced_in_all s u k) (λ u. waiting_at s c u k + departed_from s c u k) (λ u there. omega (arith, left s c is l u k there within)) in
+    let sums : sum_below s.nodes (λ u. waiting_at s c u k + departed_from s c u k) ≡ sum_below s.nodes (λ u. waiting_at s c u k) + sum_below s.nodes (λ u. departed_from s c u k) =
+    sum_below-plus s.nodes (λ u. waiting_at s c u k) (λ u. departed_from s c u k) in
+    omega (arith, apart, sums)
+
+pub delays_are_summed_holds : LeftWasProduced → AddsUp → DelaysAreSummed
+delays_are_summed_holds left adds s c is l = record {
+  waited = over_same s (waiting s c) (λ k. sum_below s.nodes (λ u. waiting_at s c u k)) (λ k x. waiting_so left s c is l k x)
+      ∙ over_each s s.nodes (λ u k. waiting_at s c u k);
   spent = spent_apart adds s c is l ∙ ap (λ (n : ℕ). n + waited s c) (over_each s s.links (λ link k. entered_link s c link k - left_link s c link k));
   queued = over_each s s.links (λ link k. queue s c link k);
 }

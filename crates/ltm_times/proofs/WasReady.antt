@@ -10,16 +10,16 @@ use Rattle.ltm_curve.specs.FirstLaws.{FirstSums}
 use Rattle.ltm_curve.proofs.Interpolation.{interpolated_same}
 use Rattle.ltm_curve.proofs.Lasts.{total_rises}
 use Rattle.ltm_loading.specs.Setting.{Setting, IsSetting}
-use Rattle.ltm_loading.specs.Groups.{up_of, down_of}
+use Rattle.ltm_loading.specs.Groups.{up_of, down_of, dep_of}
 use Rattle.ltm_loading.specs.Flows.{earlier, link_goal}
 use Rattle.ltm_loading.specs.Loading.{IsLoading}
-use Rattle.ltm_loading.specs.LoadingLaws.{FirstInFirstOut, NeverFall, WithinStorage}
+use Rattle.ltm_loading.specs.LoadingLaws.{FirstInFirstOut, NeverFall, WithinProduced, WithinStorage}
 use Rattle.ltm_loading.specs.Ready.{LinksAreReady}
 use Rattle.ltm_loading.specs.Totals.{entered_link, left_link}
 use Rattle.ltm_loading.proofs.Times.{earlier_within}
 use Rattle.ltm_loading.proofs.Front.{earlier_front, empty_total, up_is_group, down_is_group}
 use Rattle.ltm_times.specs.Queues.{delayed, ready}
-use Rattle.ltm_times.specs.DelayLaws.{LeftWasReady, QueuesStandOnLinks}
+use Rattle.ltm_times.specs.DelayLaws.{LeftWasReady, LeftWasProduced, QueuesStandOnLinks}
 
 -- ---- a curve so long before a boundary
 pick_none : (a b x : ℕ) → a < b → cond (nat_lt a b) 0 x ≡ 0
@@ -96,3 +96,7 @@ pub queues_stand_on_links_holds : NeverFall → WithinStorage → QueuesStandOnL
 queues_stand_on_links_holds never stored s c is l link k there within =
     let had : ready s c link k ≤ entered_link s c link k = ready_has_entered never s c is l link k there within in
     record { on_link = omega arith; stored = omega (arith, stored s c is l link k there within) }
+
+pub left_was_produced_holds : WithinProduced → LeftWasProduced
+left_was_produced_holds within s c is l node k there last =
+    sum_below-le s.destinations (λ d. c (dep_of s node) d k) (λ d. s.produced node d k) (λ d m. within s c is l node d k there m last)

@@ -6,8 +6,11 @@ use Rattle.ltm_loading.specs.Setting.{Setting}
 use Rattle.ltm_loading.specs.Totals.{entered_link, left_link, waiting}
 use Rattle.ltm_times.specs.declared.delays.LinkDelay.{LinkDelay}
 use Rattle.ltm_times.specs.declared.delays.LinkState.{LinkState}
+use Rattle.ltm_times.specs.declared.delays.OriginState.{OriginState}
+use Rattle.ltm_times.specs.declared.delays.OriginDelay.{OriginDelay}
 use Rattle.ltm_times.specs.declared.delays.DelayTotals.{DelayTotals}
-use Rattle.ltm_times.specs.Queues.{queue, driving, in_queues, in_motion}
+use Rattle.ltm_flows.specs.Origins.{produced_in_all, departed_from}
+use Rattle.ltm_times.specs.Queues.{queue, driving, waiting_at, in_queues, in_motion}
 use Rattle.ltm_times.specs.Peaks.{peak, IsPeakOf}
 use Rattle.ltm_times.specs.Times.{time_spent}
 
@@ -30,6 +33,14 @@ driven_on s c link = over_time s (driving s c link)
 abbrev pub fullest : Setting → Counts → ℕ → ℕ
 fullest s c link = peak (queue s c link) s.slots
 
+-- ---- of an origin
+abbrev pub waited_at : Setting → Counts → ℕ → ℕ
+waited_at s c node = over_time s (waiting_at s c node)
+
+-- the first boundary at which most wait
+abbrev pub longest : Setting → Counts → ℕ → ℕ
+longest s c node = peak (waiting_at s c node) s.slots
+
 -- ---- of all
 abbrev pub queued : Setting → Counts → ℕ
 queued s c = over_time s (in_queues s c)
@@ -50,6 +61,15 @@ pub record IsLinkDelay (s : Setting) (c : Counts) (link : ℕ) (d : LinkDelay) :
   pub spent : d.spent ≡ spent_on s c link
   pub queued : d.queued ≡ queued_on s c link
   pub peak : IsPeakOf (queue s c link) s.slots d.peak
+
+pub record IsOriginState (s : Setting) (c : Counts) (node boundary : ℕ) (o : OriginState) : Type 0 where
+  pub produced : o.produced.0 ≡ produced_in_all s node boundary
+  pub left : o.left.0 ≡ departed_from s c node boundary
+  pub waiting : o.waiting.0 ≡ waiting_at s c node boundary
+
+pub record IsOriginDelay (s : Setting) (c : Counts) (node : ℕ) (d : OriginDelay) : Type 0 where
+  pub waited : d.waited ≡ waited_at s c node
+  pub peak : IsPeakOf (waiting_at s c node) s.slots d.peak
 
 pub record AreDelayTotals (s : Setting) (c : Counts) (d : DelayTotals) : Type 0 where
   pub spent : d.spent ≡ time_spent s c

@@ -24,6 +24,21 @@ pub struct LinkDelay {
     pub peak: Peak,
 }
 
+/// What an origin has produced and what has left it by a boundary, and how many wait there then.
+#[derive(Clone, Copy)]
+pub struct OriginState {
+    pub produced: Units,
+    pub left: Units,
+    pub waiting: Units,
+}
+
+/// The time that vehicles wait at an origin, and when most of them do.
+#[derive(Clone, Copy)]
+pub struct OriginDelay {
+    pub waited: u128,
+    pub peak: Peak,
+}
+
 /// The time that all vehicles spend, how much of it they stand in queues on links, and how much they wait at their origins.
 #[derive(Clone, Copy)]
 pub struct DelayTotals {

@@ -11,7 +11,7 @@ use crate::delays::DelayTotals;
 use crate::queues::queue;
 use crate::spending::time_spent;
 use ltm_flows::Loading;
-use ltm_units::LinkId;
+use ltm_units::{LinkId, NodeId};
 
 /// How many stand in the queues of all links at a boundary.
 fn in_queues(loading: &Loading, boundary: u32) -> u64
@@ -41,11 +41,9 @@ fn departed(loading: &Loading, boundary: u32) -> u128
     requires { boundary ≤ last_of loading.now }
     ensures { (s : Setting) (version : ℕ) (c : Counts) → ShowsCounts s version c loading.now → result ≡ departed s c boundary }
 {
-    let links = loading.links();
-    let curves = loading.curves();
     let mut sum = 0u128;
     for node in 0..loading.nodes() {
-        sum += u128::from(curves.total(2 * links + node, boundary));
+        sum += u128::from(loading.departed(NodeId(node), boundary).0);
     }
     sum
 }

@@ -1,9 +1,11 @@
 //! What holds of queues and delays in every loading.
 ghost use Rattle.ltm_times.specs.Peaks.{PeaksAreFirstGreatest};
-ghost use Rattle.ltm_times.specs.DelayLaws.{LeftWasReady, QueuesStandOnLinks, SpentAddsUp, DelaysAreSummed};
+ghost use Rattle.ltm_times.specs.DelayLaws.{LeftWasReady, LeftWasProduced, QueuesStandOnLinks, SpentAddsUp, DelaysAreSummed};
 
 use ltm_curve::first_sums;
-use ltm_loading::{adds_up, first_in_first_out, links_are_ready, never_fall, within_storage};
+use ltm_loading::{
+    adds_up, first_in_first_out, links_are_ready, never_fall, within_produced, within_storage,
+};
 
 /// No more has left a link by a boundary than could have left it at free speed: nothing is cut off where a queue is counted.
 pub fn left_was_ready()
@@ -12,6 +14,13 @@ pub fn left_was_ready()
     first_in_first_out();
     links_are_ready();
     first_sums();
+}
+
+/// No more has left an origin by a boundary than it has produced.
+pub fn left_was_produced()
+    ensures { LeftWasProduced }
+{
+    within_produced();
 }
 
 /// A queue is at most what is on its link, which is at most the link's storage.
@@ -31,10 +40,12 @@ pub fn spent_adds_up()
     adds_up();
 }
 
-/// What is spent on each link, and what is waited, sum to what all spend.
+/// What is spent on each link and what is waited sum to what all spend, and what is queued on each link and waited at each
+/// origin to what all queue and wait.
 pub fn delays_are_summed()
     ensures { DelaysAreSummed }
 {
+    left_was_produced();
     adds_up();
 }
 

@@ -17,17 +17,19 @@ mod boundaries;
 mod delays;
 mod in_all;
 mod laws;
+mod origins;
 mod passing;
 mod queues;
 mod ready;
 mod spending;
 
-pub use delays::{DelayTotals, LinkDelay, LinkState, Peak};
+pub use delays::{DelayTotals, LinkDelay, LinkState, OriginDelay, OriginState, Peak};
 pub use in_all::delay_totals;
 pub use laws::{
-    delays_are_summed, left_was_ready, peaks_are_first_greatest, queues_stand_on_links,
-    spent_adds_up,
+    delays_are_summed, left_was_produced, left_was_ready, peaks_are_first_greatest,
+    queues_stand_on_links, spent_adds_up,
 };
+pub use origins::{origin_delay, origin_state, waiting};
 pub use passing::{exit_ms, travel};
 pub use queues::{link_delay, link_state, queue};
 pub use spending::time_spent;

@@ -8,7 +8,7 @@ ghost use Rattle.ltm_times.specs.Times.{exit_time, travel_time};
 
 use crate::boundaries::moment_of;
 use ltm_flows::Loading;
-use ltm_loading::{down_of, up_of};
+use ltm_loading::down_of;
 use ltm_units::{LinkId, Millis, Units};
 
 /// The first millisecond by which so many units have left a link; None where fewer have left it by the end.
@@ -34,9 +34,7 @@ pub fn travel(loading: &Loading, link: LinkId, slot: u32) -> Option<Millis>
         ↔ (left_link s c link.0 s.slots
         < entered_link s c link.0 slot) }
 {
-    let _links = loading.links();
-    let entered = loading.curves().total(up_of(link), slot);
-    let exit = exit_ms(loading, link, Units(entered))?;
+    let exit = exit_ms(loading, link, loading.entered_by(link, slot))?;
     let start = u64::from(slot) * loading.step().0;
     let passed = exit.0.saturating_sub(start);
     Some(Millis(loading.free(link).0.max(passed)))

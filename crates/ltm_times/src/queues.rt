@@ -39,11 +39,9 @@ pub fn link_state(loading: &Loading, link: LinkId, boundary: u32) -> LinkState
     requires boundary { boundary ≤ last_of loading.now }
     ensures { (s : Setting) (version : ℕ) (c : Counts) → ShowsCounts s version c loading.now → IsLinkState s c link.0 boundary result }
 {
-    let _links = loading.links();
-    let curves = loading.curves();
     LinkState {
-        entered: Units(curves.total(up_of(link), boundary)),
-        left: Units(curves.total(down_of(link), boundary)),
+        entered: loading.entered_by(link, boundary),
+        left: loading.left_by(link, boundary),
         queue: queue(loading, link, boundary),
     }
 }
@@ -56,10 +54,8 @@ fn on_link(loading: &Loading, link: LinkId, boundary: u32) -> u64
         → result ≡ entered_link s c link.0 boundary - left_link s c link.0 boundary }
     ensures small { result ≤ 2 ^ 37 }
 {
-    let _links = loading.links();
-    let curves = loading.curves();
-    let left = curves.total(down_of(link), boundary);
-    curves.total(up_of(link), boundary).saturating_sub(left)
+    let left = loading.left_by(link, boundary).0;
+    loading.entered_by(link, boundary).0.saturating_sub(left)
 }
 
 /// The peak of the numbers up to a boundary, from that of those before it.

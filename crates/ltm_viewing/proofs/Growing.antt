@@ -55,6 +55,7 @@ grows s t (Ok (command.Link name)) text (told, same) = stays s t same
 grows s t (Ok (command.Time name slot)) text (told, same) = stays s t same
 grows s t (Ok command.Delay) text (told, same) = stays s t same
 grows s t (Ok (command.Queue name boundary)) text (told, same) = stays s t same
+grows s t (Ok (command.Origin name boundary)) text (told, same) = stays s t same
 grows s t (Err fault.NotJson) text (told, same) = stays s t same
 grows s t (Err (fault.NotCommand place)) text (told, same) = stays s t same
 grows s t (Err fault.NoMemory) text told = absurd told

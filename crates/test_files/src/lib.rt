@@ -11,6 +11,8 @@ mod cases;
 #[cfg(test)]
 mod curve_files;
 #[cfg(test)]
+mod delays;
+#[cfg(test)]
 mod ends;
 #[cfg(test)]
 mod faults;
