@@ -2,7 +2,7 @@
 use Rattle.std.proofs.Common.{ℕ, ◌≡◌, inl, inr, List, sym, subst, length, ◌+◌, Option, None, Some, Result, Ok, Err}
 use Rattle.std.specs.Prelude.{MatchResult, MatchOption}
 use Rattle.ltm_curve.specs.Counts.{Counts}
-use Rattle.ltm_network.specs.Network.{find_link}
+use Rattle.ltm_network.specs.Network.{find_link, find_node}
 use Rattle.ltm_scenario.specs.declared.edit.Edit.{Edit}
 use Rattle.ltm_scenario.specs.declared.edit.EditFault.{EditFault}
 use Rattle.ltm_scenario.specs.Data.{ScenarioData}
@@ -15,16 +15,16 @@ use Rattle.ltm_script.specs.declared.command.CommandFault.{CommandFault}
 use Rattle.ltm_report.specs.Answers.{accepted_line, settled_line}
 use Rattle.ltm_report.specs.EditFaults.{edit_fault_line}
 use Rattle.ltm_report.specs.CommandFaults.{command_fault_line}
-use Rattle.ltm_report.specs.Refusals.{unknown_link_line, unknown_time_line, time_slots_line, unknown_queue_line, queue_slots_line}
+use Rattle.ltm_report.specs.Refusals.{unknown_link_line, unknown_time_line, time_slots_line, unknown_queue_line, queue_slots_line, unknown_origin_line, origin_slots_line}
 use Rattle.ltm_report.specs.Reports.{totals_report, link_report}
-use Rattle.ltm_report.specs.DelayReports.{delay_report, queue_report}
+use Rattle.ltm_report.specs.DelayReports.{delay_report, queue_report, origin_report}
 use Rattle.ltm_core.specs.Log.{after_batches}
 use Rattle.ltm_session.specs.Reports.{time_report}
 use Rattle.ltm_session.specs.OneLine.{IsOneLine}
 use Rattle.ltm_session.specs.Promise.{Standing, Report, Tells, OfSlot, OfBoundary, slots_after, IsAnswer}
 use Rattle.ltm_session.proofs.Named.{HasName}
 use Rattle.ltm_session.proofs.ReportLines.{edit_fault_one, command_fault_one, unknown_link_one, unknown_time_one, time_slots_one, accepted_one, settled_one, totals_report_one, link_report_one, time_report_one}
-use Rattle.ltm_session.proofs.DelayLines.{unknown_queue_one, queue_slots_one, delay_report_one, queue_report_one}
+use Rattle.ltm_session.proofs.DelayLines.{unknown_queue_one, queue_slots_one, delay_report_one, queue_report_one, unknown_origin_one, origin_slots_one, origin_report_one}
 
 one_as : (text line : List ℕ) → IsOneLine line → text ≡ line → IsOneLine text
 one_as text line one is = subst IsOneLine (sym is) one
@@ -74,5 +74,11 @@ answer_one s now shown (Ok (command.Queue name boundary)) text named is =
     (λ link. OfBoundary (slots_after s shown) boundary queue_slots_line text (Tells s shown (λ version. queue_report version name link boundary) text)) unknown_queue_one
     (λ link. boundary_one (slots_after s shown) boundary queue_slots_line text (Tells s shown (λ version. queue_report version name link boundary) text) queue_slots_one
     (tells_one s shown (λ version. queue_report version name link boundary) text (λ version z c. queue_report_one version name link boundary z c named)))
+    is
+answer_one s now shown (Ok (command.Origin name boundary)) text named is =
+    named_one (find_node s.network name) unknown_origin_line text
+    (λ node. OfBoundary (slots_after s shown) boundary origin_slots_line text (Tells s shown (λ version. origin_report version name node boundary) text)) unknown_origin_one
+    (λ node. boundary_one (slots_after s shown) boundary origin_slots_line text (Tells s shown (λ version. origin_report version name node boundary) text) origin_slots_one
+    (tells_one s shown (λ version. origin_report version name node boundary) text (λ version z c. origin_report_one version name node boundary z c named)))
     is
 answer_one s now shown (Err fault) text name is = one_as text (command_fault_line fault) (command_fault_one fault) is

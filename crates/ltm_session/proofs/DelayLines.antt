@@ -8,16 +8,17 @@ use Rattle.ltm_curve.specs.Counts.{Counts}
 use Rattle.ltm_loading.specs.Setting.{Setting}
 use Rattle.ltm_loading.specs.Totals.{entered_link, left_link}
 use Rattle.ltm_times.specs.Times.{time_spent}
-use Rattle.ltm_times.specs.Queues.{queue as queue_at}
+use Rattle.ltm_times.specs.Queues.{queue as queue_at, waiting_at}
 use Rattle.ltm_times.specs.Delays.{queued, waited}
+use Rattle.ltm_flows.specs.Origins.{produced_in_all, departed_from}
 use Rattle.ltm_report.specs.Pieces.{version_piece}
 use Rattle.ltm_report.specs.Links.{name_piece, through_piece}
 use Rattle.ltm_report.specs.Times.{slot_piece}
-use Rattle.ltm_report.specs.Refusals.{unknown_queue_line, queue_slots_line}
-use Rattle.ltm_report.specs.Delays.{seconds_text, seconds_piece, spent_piece, waited_piece, queue_piece, delay_line, queue_line}
-use Rattle.ltm_report.specs.DelayReports.{delay_report, queue_report}
+use Rattle.ltm_report.specs.Refusals.{unknown_queue_line, queue_slots_line, unknown_origin_line, origin_slots_line}
+use Rattle.ltm_report.specs.Delays.{seconds_text, seconds_piece, spent_piece, waited_piece, queue_piece, delay_line, queue_line, node_piece, origin_piece, origin_line}
+use Rattle.ltm_report.specs.DelayReports.{delay_report, queue_report, origin_report}
 use Rattle.ltm_session.specs.OneLine.{IsPlain, IsOneLine}
-use Rattle.ltm_session.proofs.Pieces.{plain_append, plain_words, plain_decimal, plain_amount}
+use Rattle.ltm_session.proofs.Pieces.{plain_append, plain_words, plain_decimal, plain_amount, plain_name}
 use Rattle.ltm_session.proofs.OneLine.{one_line}
 use Rattle.ltm_session.proofs.ReportLines.{version_plain, name_plain, through_plain, slot_plain, opens_plain}
 
@@ -95,3 +96,37 @@ pub queue_report_one : (version : ℕ) (name : List ℕ) (link boundary : ℕ) (
 unfolding queue_report
 queue_report_one version name link boundary s c is =
     queue_one version name boundary (entered_link s c link boundary) (left_link s c link boundary) (queue_at s c link boundary) is
+
+-- ---- origins
+pub unknown_origin_one : IsOneLine unknown_origin_line
+unfolding unknown_origin_line
+unknown_origin_one = one_line (codes "refused origin UnknownName") (plain_words (codes "refused origin UnknownName") refl)
+
+pub origin_slots_one : IsOneLine origin_slots_line
+unfolding origin_slots_line
+origin_slots_one = one_line (codes "refused origin BadSlots") (plain_words (codes "refused origin BadSlots") refl)
+
+node_plain : (name : List ℕ) → is_name name ≡ true → IsPlain (node_piece name)
+unfolding node_piece
+node_plain name is = plain_append (codes "node ") name (plain_words (codes "node ") refl) (plain_name name is)
+
+origin_plain : (a b c : ℕ) → IsPlain (origin_piece a b c)
+unfolding origin_piece
+origin_plain a b c = plain_append (amount_piece (codes " produced ") a ++ amount_piece (codes " left ") b) (amount_piece (codes " waiting ") c)
+    (plain_append (amount_piece (codes " produced ") a) (amount_piece (codes " left ") b)
+    (plain_amount (codes " produced ") a (plain_words (codes " produced ") refl))
+    (plain_amount (codes " left ") b (plain_words (codes " left ") refl)))
+    (plain_amount (codes " waiting ") c (plain_words (codes " waiting ") refl))
+
+origin_one : (version : ℕ) (name : List ℕ) (boundary a b c : ℕ) → is_name name ≡ true → IsOneLine (origin_line version name boundary a b c)
+unfolding origin_line
+origin_one version name boundary a b c is =
+    one_line (version_piece version ++ codes " " ++ node_piece name ++ slot_piece boundary ++ origin_piece a b c)
+    (plain_append (version_piece version ++ codes " " ++ node_piece name ++ slot_piece boundary) (origin_piece a b c)
+    (plain_append (version_piece version ++ codes " " ++ node_piece name) (slot_piece boundary)
+    (plain_append (version_piece version ++ codes " ") (node_piece name) (opens_plain version) (node_plain name is)) (slot_plain boundary)) (origin_plain a b c))
+
+pub origin_report_one : (version : ℕ) (name : List ℕ) (node boundary : ℕ) (s : Setting) (c : Counts) → is_name name ≡ true → IsOneLine (origin_report version name node boundary s c)
+unfolding origin_report
+origin_report_one version name node boundary s c is =
+    origin_one version name boundary (produced_in_all s node boundary) (departed_from s c node boundary) (waiting_at s c node boundary) is

@@ -7,7 +7,7 @@ use Rattle.ltm_units.specs.Words.{is_name}
 use Rattle.ltm_network.specs.Names.{same}
 use Rattle.ltm_scenario.specs.declared.edit.Edit.{Edit}
 use Rattle.ltm_scenario.specs.Batch.{is_count}
-use Rattle.ltm_script.specs.Commands.{or_none, batch_of, array_of, link_of, time_of, queue_of, command_by, command_from, count_of}
+use Rattle.ltm_script.specs.Commands.{or_none, batch_of, array_of, link_of, time_of, queue_of, origin_of, command_by, command_from, count_of}
 use Rattle.ltm_script.specs.Edits.{edits_from}
 use Rattle.ltm_script.specs.Line.{reading, command_in, value_of}
 use Rattle.ltm_script.specs.Members.{◌>>=◌, text_in, name_of, name_in, whole_in}
@@ -21,6 +21,7 @@ abbrev pub HasName : Result Command CommandFault → Type 0
 HasName (Ok (command.Link name)) = is_name name ≡ true
 HasName (Ok (command.Time name slot)) = is_name name ≡ true
 HasName (Ok (command.Queue name boundary)) = is_name name ≡ true
+HasName (Ok (command.Origin name boundary)) = is_name name ≡ true
 HasName said = Unit {0}
 
 abbrev IsNamed : Option (List ℕ) → Type 0
@@ -60,6 +61,11 @@ queue_named None slot is = tt
 queue_named (Some name) None is = tt
 queue_named (Some name) (Some slot) is = is
 
+origin_named : (o : Option (List ℕ)) (slot : Option ℕ) → IsNamed o → HasName (or_none (o >>= λ node. slot >>= λ slot. Some (command.Origin node slot)))
+origin_named None slot is = tt
+origin_named (Some name) None is = tt
+origin_named (Some name) (Some slot) is = is
+
 by_named : (word : List ℕ) (d : Data) → HasName (command_by word d)
 by_named word d =
     either (same word (codes "edit")) (array_of (option_and_then as_array (get (codes "edits") d))) _ (array_named (option_and_then as_array (get (codes "edits") d)))
@@ -68,7 +74,8 @@ by_named word d =
     (either (same word (codes "time")) (or_none (time_of d)) _ (time_named (name_in (codes "link") d) (whole_in (codes "slot") d) (named_in (text_in (codes "link") d)))
     (either (same word (codes "delay")) (Ok command.Delay) _ tt
     (either (same word (codes "queue")) (or_none (queue_of d)) _ (queue_named (name_in (codes "link") d) (whole_in (codes "slot") d) (named_in (text_in (codes "link") d)))
-    (either (same word (codes "settle")) (Ok command.Settle) (Err (fault.NotCommand 0)) tt tt))))))
+    (either (same word (codes "origin")) (or_none (origin_of d)) _ (origin_named (name_in (codes "node") d) (whole_in (codes "slot") d) (named_in (text_in (codes "node") d)))
+    (either (same word (codes "settle")) (Ok command.Settle) (Err (fault.NotCommand 0)) tt tt)))))))
 
 from_named : (word : Option (List ℕ)) (d : Data) → HasName (command_from word d)
 from_named None d = tt

@@ -2,7 +2,7 @@
 use Rattle.std.proofs.Common.{ℕ, ◌≡◌, ◌≤◌, ◌+◌, ◌<◌, ◌⊎◌, inl, inr, refl, ap, sym, subst, ◌∙◌, arith, true, false, List, [], ◌∷◌, ◌++◌, length, take, length-append}
 use Rattle.std.specs.Prelude.{Option, None, Some, Result, Ok, Err, MatchResult, MatchOption}
 use Rattle.std.proofs.lemmas.List.{length-take-le}
-use Rattle.ltm_network.specs.Network.{find_link}
+use Rattle.ltm_network.specs.Network.{find_link, find_node}
 use Rattle.ltm_scenario.specs.declared.edit.Edit.{Edit}
 use Rattle.ltm_scenario.specs.declared.edit.EditFault.{EditFault}
 use Rattle.ltm_scenario.specs.Data.{ScenarioData}
@@ -16,16 +16,16 @@ use Rattle.ltm_script.specs.declared.command.CommandFault.{CommandFault}
 use Rattle.ltm_script.specs.declared.command.CommandFault.TheVariants as fault
 use Rattle.ltm_report.specs.Answers.{accepted_line, settled_line}
 use Rattle.ltm_report.specs.EditFaults.{edit_fault_line}
-use Rattle.ltm_report.specs.Refusals.{unknown_link_line, unknown_time_line, time_slots_line, unknown_queue_line, queue_slots_line}
+use Rattle.ltm_report.specs.Refusals.{unknown_link_line, unknown_time_line, time_slots_line, unknown_queue_line, queue_slots_line, unknown_origin_line, origin_slots_line}
 use Rattle.ltm_report.specs.Reports.{totals_report, link_report}
-use Rattle.ltm_report.specs.DelayReports.{delay_report, queue_report}
+use Rattle.ltm_report.specs.DelayReports.{delay_report, queue_report, origin_report}
 use Rattle.ltm_core.specs.Log.{Log, with_batch, batches_of, version_now, scenario_at, scenario_now, after_batches}
 use Rattle.ltm_core.specs.Settling.{IsSettleCount}
 use Rattle.ltm_core.proofs.Logs.{length_batches, opening_batch, batches_more, opening_marked, batches_marked}
 use Rattle.ltm_session.specs.Reports.{time_report}
 use Rattle.ltm_session.specs.Analysts.{Analysts, opening_state, settled, IsShownLater}
-use Rattle.ltm_session.specs.Answers.{ReportsShown, TellsTimeAt, TellsQueueAt, Answers}
-use Rattle.ltm_session.specs.Promise.{Standing, at_first, after_edit, after_command, Report, Tells, OfLink, OfSlot, OfBoundary, slots_after, IsAnswer}
+use Rattle.ltm_session.specs.Answers.{ReportsShown, TellsTimeAt, TellsQueueAt, TellsOriginAt, Answers}
+use Rattle.ltm_session.specs.Promise.{Standing, at_first, after_edit, after_command, Report, Tells, OfLink, OfNode, OfSlot, OfBoundary, slots_after, IsAnswer}
 
 -- the machine stands as the lines say
 pub record Agrees (s : ScenarioData) (now : Standing) (u : Analysts) : Type 0 where
@@ -70,6 +70,15 @@ of_link s u name refusal text P Q opening more is =
     found : (o : Option ℕ) → MatchOption o (text ≡ refusal) P → MatchOption o (text ≡ refusal) Q
     found None told = told
     found (Some link) told = more link told
+
+of_node : (s : ScenarioData) (u : Analysts) (name refusal text : List ℕ) (P Q : ℕ → Type 0) → u.log.opening ≡ s → ((node : ℕ) → P node → Q node)
+    → MatchOption (find_node u.log.opening.network name) (text ≡ refusal) P → OfNode s name refusal text Q
+of_node s u name refusal text P Q opening more is =
+    found (find_node s.network name) (subst (λ (z : ScenarioData). MatchOption (find_node z.network name) (text ≡ refusal) P) opening is)
+  where
+    found : (o : Option ℕ) → MatchOption o (text ≡ refusal) P → MatchOption o (text ≡ refusal) Q
+    found None told = told
+    found (Some node) told = more node told
 
 of_slot : (a b slot : ℕ) (refusal text : List ℕ) (P Q : Type 0) → a ≡ b → (P → Q) → ((slot < a) × P) ⊎ ((a ≤ slot) × (text ≡ refusal)) → OfSlot b slot refusal text Q
 of_slot a b slot refusal text P Q same more (inl (low, told)) = inl (omega (arith, same, low), more told)
@@ -163,6 +172,16 @@ step s now u (Ok (command.Queue name boundary)) text t g (is, same) =
           (λ link. of_boundary (scenario_at u.log u.shown).setup.slots (slots_after s (shown_by now u)) boundary queue_slots_line text
           (ReportsShown u (λ version. queue_report version name link boundary) text) (Tells s (shown_by now u) (λ version. queue_report version name link boundary) text)
           (slots_are s now u g) (tells s now u (λ version. queue_report version name link boundary) text g)) is,
+      there.0,
+      there.1,
+    )
+step s now u (Ok (command.Origin name boundary)) text t g (is, same) =
+    let there = stays s now u t g same in (
+      of_node s u name unknown_origin_line text (λ node. TellsOriginAt u name boundary node text)
+          (λ node. OfBoundary (slots_after s (shown_by now u)) boundary origin_slots_line text (Tells s (shown_by now u) (λ version. origin_report version name node boundary) text)) g.opening
+          (λ node. of_boundary (scenario_at u.log u.shown).setup.slots (slots_after s (shown_by now u)) boundary origin_slots_line text
+          (ReportsShown u (λ version. origin_report version name node boundary) text) (Tells s (shown_by now u) (λ version. origin_report version name node boundary) text)
+          (slots_are s now u g) (tells s now u (λ version. origin_report version name node boundary) text g)) is,
       there.0,
       there.1,
     )

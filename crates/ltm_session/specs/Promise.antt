@@ -7,7 +7,7 @@ use Rattle.std.specs.Prelude.{take, All, Option, IfSome, Result, Ok, Err, MatchR
 use Rattle.std.specs.List.{concat}
 use Rattle.ltm_io.specs.Script.{lines_of}
 use Rattle.ltm_curve.specs.Counts.{Counts}
-use Rattle.ltm_network.specs.Network.{find_link}
+use Rattle.ltm_network.specs.Network.{find_link, find_node}
 use Rattle.ltm_scenario.specs.declared.edit.Edit.{Edit}
 use Rattle.ltm_scenario.specs.declared.edit.EditFault.{EditFault}
 use Rattle.ltm_scenario.specs.Data.{ScenarioData}
@@ -23,9 +23,9 @@ use Rattle.ltm_script.specs.declared.command.CommandFault.{CommandFault}
 use Rattle.ltm_report.specs.Answers.{accepted_line, settled_line}
 use Rattle.ltm_report.specs.EditFaults.{edit_fault_line}
 use Rattle.ltm_report.specs.CommandFaults.{command_fault_line}
-use Rattle.ltm_report.specs.Refusals.{unknown_link_line, unknown_time_line, time_slots_line, unknown_queue_line, queue_slots_line}
+use Rattle.ltm_report.specs.Refusals.{unknown_link_line, unknown_time_line, time_slots_line, unknown_queue_line, queue_slots_line, unknown_origin_line, origin_slots_line}
 use Rattle.ltm_report.specs.Reports.{totals_report, link_report}
-use Rattle.ltm_report.specs.DelayReports.{delay_report, queue_report}
+use Rattle.ltm_report.specs.DelayReports.{delay_report, queue_report, origin_report}
 use Rattle.ltm_core.specs.Log.{after_batches}
 use Rattle.ltm_session.specs.Reports.{time_report}
 use Rattle.ltm_session.specs.OneLine.{IsPlain, IsOneLine}
@@ -79,6 +79,10 @@ Tells s batches report text = TellsOf (after_batches s batches) (length batches)
 abbrev pub OfLink : ScenarioData → List ℕ → List ℕ → List ℕ → (ℕ → Type 0) → Type 0
 OfLink s name refusal text Told = MatchOption (find_link s.network name) (text ≡ refusal) Told
 
+-- and one that names a node
+abbrev pub OfNode : ScenarioData → List ℕ → List ℕ → List ℕ → (ℕ → Type 0) → Type 0
+OfNode s name refusal text Told = MatchOption (find_node s.network name) (text ≡ refusal) Told
+
 -- a question that names a slot is refused where there are only so many
 abbrev pub OfSlot : ℕ → ℕ → List ℕ → List ℕ → Type 0 → Type 0
 OfSlot slots slot refusal text Told = ((slot < slots) × Told) ⊎ ((slots ≤ slot) × (text ≡ refusal))
@@ -110,6 +114,9 @@ IsAnswer s now shown (Ok command.Delay) text = Tells s shown delay_report text
 IsAnswer s now shown (Ok (command.Queue name boundary)) text = OfLink s name unknown_queue_line text
     (λ link. OfBoundary (slots_after s shown) boundary queue_slots_line text
     (Tells s shown (λ version. queue_report version name link boundary) text))
+IsAnswer s now shown (Ok (command.Origin name boundary)) text = OfNode s name unknown_origin_line text
+    (λ node. OfBoundary (slots_after s shown) boundary origin_slots_line text
+    (Tells s shown (λ version. origin_report version name node boundary) text))
 IsAnswer s now shown (Err fault) text = text ≡ command_fault_line fault
 
 -- a line of the script, the text that answers it, and how many of the accepted batches the loading has that is
