@@ -73,7 +73,8 @@ fn word_of_network(fault: NetworkFault) -> &'static [u8]
 
 #[tactic(auto, unfolding(crate::specs::Causes::no_split_words))]
 fn push_no_split(into: &mut Vec<u8>, node: &Name, destination: &Name) -> Result<(), NoMemory>
-    ensures { OnOk result (into.new.items ≡ into.old.items ++ no_split_words node.now destination.now) }
+    ensures { OnOk result (into.new.items
+        ≡ into.old.items ++ no_split_words node.now destination.now) }
 {
     push_text(into, b"NoSplit ")?;
     push_text(into, node.bytes())?;

@@ -46,7 +46,8 @@ fn push_links(
 ) -> Result<(), NoMemory>
     requires { Shows (setting_of scenario.now) 0 loading.now }
     ensures { OnOk result ((c : Counts) → ShowsCounts (setting_of scenario.now) 0 c loading.now
-        → into.new.items ≡ into.old.items ++ texts_below (length scenario.now.network.links) (link_delay_of scenario.now c)) }
+        → into.new.items ≡ into.old.items
+        ++ texts_below (length scenario.now.network.links) (link_delay_of scenario.now c)) }
 {
     for link in 0..scenario.network().links() {
         push_link(alloc, scenario, loading, LinkId(link), into)?;
@@ -79,7 +80,8 @@ fn push_nodes(
 ) -> Result<(), NoMemory>
     requires { Shows (setting_of scenario.now) 0 loading.now }
     ensures { OnOk result ((c : Counts) → ShowsCounts (setting_of scenario.now) 0 c loading.now
-        → into.new.items ≡ into.old.items ++ texts_below (length scenario.now.network.nodes) (node_delay_of scenario.now c)) }
+        → into.new.items ≡ into.old.items
+        ++ texts_below (length scenario.now.network.nodes) (node_delay_of scenario.now c)) }
 {
     for node in 0..scenario.network().nodes() {
         push_node(alloc, scenario, loading, NodeId(node), into)?;

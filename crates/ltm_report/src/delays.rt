@@ -16,7 +16,8 @@ use std::alloc::Global;
 
 /// The point of a time and the six digits behind it.
 fn decimals(time: u128) -> [u8; 7]
-    ensures { result ≡ 46 ∷ (48 + time % 1000000 / 100000) ∷ (48 + time % 100000 / 10000) ∷ (48 + time % 10000 / 1000)
+    ensures { result ≡ 46 ∷ (48 + time % 1000000 / 100000) ∷ (48 + time % 100000 / 10000) ∷ (48
+        + time % 10000 / 1000)
         ∷ (48 + time % 1000 / 100) ∷ (48 + time % 100 / 10) ∷ (48 + time % 10) ∷ [] }
 {
     [
@@ -76,7 +77,8 @@ fn delay_line_text(
     delay: DelayTotals,
     into: &mut Vec<u8>,
 ) -> Result<(), NoMemory>
-    ensures ok { OnOk result (into.new.items ≡ into.old.items ++ delay_line version delay.spent delay.queued delay.waited) }
+    ensures ok { OnOk result (into.new.items
+        ≡ into.old.items ++ delay_line version delay.spent delay.queued delay.waited) }
     ensures err { OnErr result (into.new.items ≡ into.old.items) }
 {
     let mut line = Vec::new(alloc);
@@ -90,7 +92,8 @@ fn delay_line_text(
 /// Appends the time that all spend, stand in queues and wait at their origins, in vehicle seconds with six decimals, under
 /// the version of the loading, as `version 0 spent 64.900000 queued 20.700000 waited 29.000000`.
 pub fn delay_text(alloc: Global, loading: &Loading, into: &mut Vec<u8>) -> Result<(), NoMemory>
-    ensures ok { OnOk result ((s : Setting) (version : ℕ) (c : Counts) → ShowsCounts s version c loading.now
+    ensures ok { OnOk result ((s : Setting) (version : ℕ) (c : Counts)
+        → ShowsCounts s version c loading.now
         → into.new.items ≡ into.old.items ++ delay_report version s c) }
     ensures err { OnErr result (into.new.items ≡ into.old.items) }
 {
@@ -127,7 +130,8 @@ pub fn link_delay_text(
     into: &mut Vec<u8>,
 ) -> Result<(), NoMemory>
     requires { link.0 < links_of loading.now }
-    ensures ok { OnOk result ((s : Setting) (version : ℕ) (c : Counts) → ShowsCounts s version c loading.now
+    ensures ok { OnOk result ((s : Setting) (version : ℕ) (c : Counts)
+        → ShowsCounts s version c loading.now
         → into.new.items ≡ into.old.items ++ link_delay_report name.now link.0 s c) }
     ensures err { OnErr result (into.new.items ≡ into.old.items) }
 {
@@ -170,7 +174,8 @@ pub fn queue_text(
 ) -> Result<(), NoMemory>
     requires link { link.0 < links_of loading.now }
     requires boundary { boundary ≤ last_of loading.now }
-    ensures ok { OnOk result ((s : Setting) (version : ℕ) (c : Counts) → ShowsCounts s version c loading.now
+    ensures ok { OnOk result ((s : Setting) (version : ℕ) (c : Counts)
+        → ShowsCounts s version c loading.now
         → into.new.items ≡ into.old.items ++ queue_report version name.now link.0 boundary s c) }
     ensures err { OnErr result (into.new.items ≡ into.old.items) }
 {

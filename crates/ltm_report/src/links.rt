@@ -30,7 +30,8 @@ pub(crate) fn push_through(into: &mut Vec<u8>, entered: Units, gone: Units) -> R
 
 #[tactic(auto, unfolding(crate::specs::Links::load_link_line))]
 fn push_link(into: &mut Vec<u8>, name: &Name, entered: Units, gone: Units) -> Result<(), NoMemory>
-    ensures { OnOk result (into.new.items ≡ into.old.items ++ load_link_line name.now entered.0 gone.0) }
+    ensures { OnOk result (into.new.items
+        ≡ into.old.items ++ load_link_line name.now entered.0 gone.0) }
 {
     push_name(into, name)?;
     push_through(into, entered, gone)?;
@@ -44,7 +45,8 @@ pub(crate) fn load_link_line_text(
     gone: Units,
     into: &mut Vec<u8>,
 ) -> Result<(), NoMemory>
-    ensures ok { OnOk result (into.new.items ≡ into.old.items ++ load_link_line name.now entered.0 gone.0) }
+    ensures ok { OnOk result (into.new.items
+        ≡ into.old.items ++ load_link_line name.now entered.0 gone.0) }
     ensures err { OnErr result (into.new.items ≡ into.old.items) }
 {
     let mut line = Vec::new(alloc);
@@ -61,10 +63,12 @@ pub fn load_link_text(
     into: &mut Vec<u8>,
 ) -> Result<(), NoMemory>
     requires { link.0 < links_of loading.now }
-    ensures ok { OnOk result ((s : Setting) (version : ℕ) (c : Counts) → ShowsCounts s version c loading.now
+    ensures ok { OnOk result ((s : Setting) (version : ℕ) (c : Counts)
+        → ShowsCounts s version c loading.now
         → into.new.items ≡ into.old.items ++ load_link_report name.now link.0 s c) }
     ensures counted { OnOk result (into.new.items
-        ≡ into.old.items ++ load_link_line name.now (entered_of loading.now link.0) (left_of loading.now link.0)) }
+        ≡ into.old.items ++ load_link_line name.now (entered_of loading.now link.0)
+        (left_of loading.now link.0)) }
     ensures err { OnErr result (into.new.items ≡ into.old.items) }
 {
     let entered = loading.entered(link);
@@ -81,7 +85,8 @@ fn link_line_text(
     gone: Units,
     into: &mut Vec<u8>,
 ) -> Result<(), NoMemory>
-    ensures ok { OnOk result (into.new.items ≡ into.old.items ++ link_line version name.now entered.0 gone.0) }
+    ensures ok { OnOk result (into.new.items
+        ≡ into.old.items ++ link_line version name.now entered.0 gone.0) }
     ensures err { OnErr result (into.new.items ≡ into.old.items) }
 {
     let mut line = Vec::new(alloc);
@@ -100,10 +105,12 @@ pub fn link_text(
     into: &mut Vec<u8>,
 ) -> Result<(), NoMemory>
     requires { link.0 < links_of loading.now }
-    ensures ok { OnOk result ((s : Setting) (version : ℕ) (c : Counts) → ShowsCounts s version c loading.now
+    ensures ok { OnOk result ((s : Setting) (version : ℕ) (c : Counts)
+        → ShowsCounts s version c loading.now
         → into.new.items ≡ into.old.items ++ link_report version name.now link.0 s c) }
     ensures counted { OnOk result (into.new.items ≡ into.old.items
-        ++ link_line (version_of loading.now) name.now (entered_of loading.now link.0) (left_of loading.now link.0)) }
+        ++ link_line (version_of loading.now) name.now (entered_of loading.now link.0)
+        (left_of loading.now link.0)) }
     ensures err { OnErr result (into.new.items ≡ into.old.items) }
 {
     let entered = loading.entered(link);

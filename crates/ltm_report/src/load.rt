@@ -23,7 +23,8 @@ fn push_totals(
     into: &mut Vec<u8>,
 ) -> Result<(), NoMemory>
     requires { IsShaped (setting_of scenario.now) curves.now }
-    ensures { OnOk result (into.new.items ≡ into.old.items ++ totals_report 0 (setting_of scenario.now) (counts_of curves.now)) }
+    ensures { OnOk result (into.new.items
+        ≡ into.old.items ++ totals_report 0 (setting_of scenario.now) (counts_of curves.now)) }
 {
     totals_line_text(alloc, 0, totals_at_end(scenario, curves), into)
 }
@@ -38,7 +39,8 @@ fn push_link(
 ) -> Result<(), NoMemory>
     requires link { link.0 < length scenario.now.network.links }
     requires shape { IsShaped (setting_of scenario.now) curves.now }
-    ensures { OnOk result (into.new.items ≡ into.old.items ++ link_report_of scenario.now (counts_of curves.now) link.0) }
+    ensures { OnOk result (into.new.items
+        ≡ into.old.items ++ link_report_of scenario.now (counts_of curves.now) link.0) }
 {
     let _links = link_count(scenario);
     let name = scenario.network().link_name(link);
@@ -56,7 +58,8 @@ fn push_links(
 ) -> Result<(), NoMemory>
     requires { IsShaped (setting_of scenario.now) curves.now }
     ensures { OnOk result (into.new.items
-        ≡ into.old.items ++ texts_below (length scenario.now.network.links) (link_report_of scenario.now (counts_of curves.now))) }
+        ≡ into.old.items ++ texts_below (length scenario.now.network.links)
+        (link_report_of scenario.now (counts_of curves.now))) }
 {
     let links = scenario.network().links();
     for link in 0..links {

@@ -78,7 +78,8 @@ pub fn work_text(
     spent: u128,
     into: &mut Vec<u8>,
 ) -> Result<(), NoMemory>
-    ensures ok { OnOk result (into.new.items ≡ into.old.items ++ work_line recomputed solved spent) }
+    ensures ok { OnOk result (into.new.items
+        ≡ into.old.items ++ work_line recomputed solved spent) }
     ensures err { OnErr result (into.new.items ≡ into.old.items) }
 {
     let mut line = Vec::new(alloc);

@@ -51,7 +51,8 @@ pub fn node_delay_text(
     into: &mut Vec<u8>,
 ) -> Result<(), NoMemory>
     requires { node.0 < nodes_of loading.now }
-    ensures ok { OnOk result ((s : Setting) (version : ℕ) (c : Counts) → ShowsCounts s version c loading.now
+    ensures ok { OnOk result ((s : Setting) (version : ℕ) (c : Counts)
+        → ShowsCounts s version c loading.now
         → into.new.items ≡ into.old.items ++ node_delay_report name.now node.0 s c) }
     ensures err { OnErr result (into.new.items ≡ into.old.items) }
 {
@@ -63,7 +64,8 @@ pub fn node_delay_text(
 
 #[tactic(auto, unfolding(crate::specs::Delays::origin_piece))]
 fn push_origin(into: &mut Vec<u8>, state: OriginState) -> Result<(), NoMemory>
-    ensures { OnOk result (into.new.items ≡ into.old.items ++ origin_piece state.produced.0 state.left.0 state.waiting.0) }
+    ensures { OnOk result (into.new.items
+        ≡ into.old.items ++ origin_piece state.produced.0 state.left.0 state.waiting.0) }
 {
     push_vehicles(into, b" produced ", state.produced)?;
     push_vehicles(into, b" left ", state.left)?;
@@ -105,7 +107,8 @@ pub fn origin_text(
 ) -> Result<(), NoMemory>
     requires node { node.0 < nodes_of loading.now }
     requires boundary { boundary ≤ last_of loading.now }
-    ensures ok { OnOk result ((s : Setting) (version : ℕ) (c : Counts) → ShowsCounts s version c loading.now
+    ensures ok { OnOk result ((s : Setting) (version : ℕ) (c : Counts)
+        → ShowsCounts s version c loading.now
         → into.new.items ≡ into.old.items ++ origin_report version name.now node.0 boundary s c) }
     ensures err { OnErr result (into.new.items ≡ into.old.items) }
 {

@@ -68,7 +68,8 @@ pub fn route_row_text(
     links: &[Name],
     into: &mut Vec<u8>,
 ) -> Result<(), NoMemory>
-    ensures ok { OnOk result (into.new.items ≡ into.old.items ++ route_row_line node.now destination.now links.now) }
+    ensures ok { OnOk result (into.new.items
+        ≡ into.old.items ++ route_row_line node.now destination.now links.now) }
     ensures err { OnErr result (into.new.items ≡ into.old.items) }
 {
     let mut line = Vec::new(alloc);
@@ -104,7 +105,8 @@ pub fn route_time_text(
     time: Millis,
     into: &mut Vec<u8>,
 ) -> Result<(), NoMemory>
-    ensures ok { OnOk result (into.new.items ≡ into.old.items ++ route_time_line node.now destination.now time.0) }
+    ensures ok { OnOk result (into.new.items
+        ≡ into.old.items ++ route_time_line node.now destination.now time.0) }
     ensures err { OnErr result (into.new.items ≡ into.old.items) }
 {
     let mut line = Vec::new(alloc);

@@ -9,7 +9,8 @@ use std::alloc::Global;
 
 #[tactic(auto, unfolding(crate::specs::Times::time_words))]
 fn push_time(into: &mut Vec<u8>, time: Option<Millis>) -> Result<(), NoMemory>
-    ensures { OnOk result (into.new.items ≡ into.old.items ++ time_words (option_map (λ t. t.0) time)) }
+    ensures { OnOk result (into.new.items
+        ≡ into.old.items ++ time_words (option_map (λ t. t.0) time)) }
 {
     match time {
         None => push_text(into, b" time none"),
@@ -35,7 +36,8 @@ pub fn time_text(
     time: Option<Millis>,
     into: &mut Vec<u8>,
 ) -> Result<(), NoMemory>
-    ensures ok { OnOk result (into.new.items ≡ into.old.items ++ time_line version name.now slot (option_map (λ t. t.0) time)) }
+    ensures ok { OnOk result (into.new.items
+        ≡ into.old.items ++ time_line version name.now slot (option_map (λ t. t.0) time)) }
     ensures err { OnErr result (into.new.items ≡ into.old.items) }
 {
     let mut line = Vec::new(alloc);

@@ -49,7 +49,8 @@ pub fn totals_line_text(
 
 /// Appends the totals of a loading at the end of its horizon, under its version.
 pub fn totals_text(alloc: Global, loading: &Loading, into: &mut Vec<u8>) -> Result<(), NoMemory>
-    ensures ok { OnOk result ((s : Setting) (version : ℕ) (c : Counts) → ShowsCounts s version c loading.now
+    ensures ok { OnOk result ((s : Setting) (version : ℕ) (c : Counts)
+        → ShowsCounts s version c loading.now
         → into.new.items ≡ into.old.items ++ totals_report version s c) }
     ensures counted { OnOk result (into.new.items ≡ into.old.items ++ counted_totals loading.now) }
     ensures err { OnErr result (into.new.items ≡ into.old.items) }

@@ -17,7 +17,8 @@ const MOST_EDITS: usize = 32;
 
 /// The array of a command's edits.
 fn find_edits(value: &Value) -> Option<&Vec<Value>>
-    ensures { option_map (λ v. items_view v.now.items) result ≡ option_and_then as_array (get (codes "edits") (view value.now)) }
+    ensures { option_map (λ v. items_view v.now.items) result
+        ≡ option_and_then as_array (get (codes "edits") (view value.now)) }
 {
     match value.get("edits") {
         Some(found) => found.as_array(),
@@ -28,7 +29,8 @@ fn find_edits(value: &Value) -> Option<&Vec<Value>>
 /// The values as a batch.
 #[tactic(auto, using(crate::proofs::Placed::counts))]
 fn read_batch(alloc: Global, values: &Vec<Value>) -> Result<Command, CommandFault>
-    ensures command { result ≢ Err CommandFault.NoMemory → result ≡ array_of (Some (items_view values.now.items)) }
+    ensures command { result ≢ Err CommandFault.NoMemory
+        → result ≡ array_of (Some (items_view values.now.items)) }
     ensures amounts { IfOk result HasAmounts }
 {
     if values.is_empty() || values.len() > MOST_EDITS {

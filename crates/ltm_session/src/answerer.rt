@@ -29,14 +29,16 @@ pub trait Answerer: Sized {
         sink: &mut W,
     ) -> (Self, Result<(), SessionEnd>)
         requires { awaits self }
-        ensures ok { OnOk result.1 ((words : List ℕ) × AnswersBy rule (knows self) (knows result.0) line.now words
+        ensures ok { OnOk result.1 ((words : List ℕ)
+            × AnswersBy rule (knows self) (knows result.0) line.now words
             × (W.written sink.new ≡ appended words (W.written sink.old))) }
         ensures err { IfErr result.1 (λ end. StopsBy rule (knows self) (knows result.0) line.now end
             (W.written sink.old) (W.written sink.new)) }
         ensures awaits { awaits result.0 }
         ensures keeps { keeps self result.0 }
         ensures later { W.faults sink.old ≤ W.faults sink.new }
-        ensures fault { result.1 ≡ Err SessionEnd.WriteFault → Rose (W.faults sink.old) (W.faults sink.new) };
+        ensures fault { result.1 ≡ Err SessionEnd.WriteFault
+            → Rose (W.faults sink.old) (W.faults sink.new) };
 
     ghost stays: { (a : Self) → keeps a a };
 

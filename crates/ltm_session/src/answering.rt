@@ -21,7 +21,8 @@ use std::alloc::Global;
 #[tactic(auto, using(crate::proofs::Looking::looks_refl))]
 fn answer_settle(core: &mut Core, bench: &mut Bench, into: &mut Vec<u8>) -> Result<(), NoMemory>
     requires { AwaitsLine core.old }
-    ensures ok { OnOk result ((text : List ℕ) × Settles CountsAlone (state_of core.old) text (state_of core.new)
+    ensures ok { OnOk result ((text : List ℕ)
+        × Settles CountsAlone (state_of core.old) text (state_of core.new)
         × (into.new.items ≡ into.old.items ++ text)) }
     ensures rest { OnOk result (IsResting core.new) }
     ensures err { OnErr result ((into.new.items ≡ into.old.items) × LooksAs core.old core.new) }

@@ -18,12 +18,15 @@ pub fn serve_lines<A: Answerer, S: Source, W: Sink>(
 ) -> (A, SessionEnd)
     requires unread { IsUnread script }
     requires awaits { A.awaits answerer }
-    ensures serves { Serves A.rule (A.knows answerer) (A.knows result.0) (S.left source.old) (S.left source.new)
+    ensures serves { Serves A.rule (A.knows answerer) (A.knows result.0) (S.left source.old)
+        (S.left source.new)
         result.1 (W.written sink.old) (W.written sink.new) }
     ensures awaits { A.awaits result.0 }
     ensures keeps { A.keeps answerer result.0 }
-    ensures read_fault { result.1 ≡ SessionEnd.ReadFault → Rose (S.faults source.old) (S.faults source.new) }
-    ensures write_fault { result.1 ≡ SessionEnd.WriteFault → Rose (W.faults sink.old) (W.faults sink.new) }
+    ensures read_fault { result.1 ≡ SessionEnd.ReadFault
+        → Rose (S.faults source.old) (S.faults source.new) }
+    ensures write_fault { result.1 ≡ SessionEnd.WriteFault
+        → Rose (W.faults sink.old) (W.faults sink.new) }
     ensures later { W.faults sink.old ≤ W.faults sink.new }
 {
     let Script {

@@ -19,7 +19,8 @@ fn tell_origin(
     into: &mut Vec<u8>,
 ) -> Result<(), NoMemory>
     requires { node.0 < length core.now.log.opening.network.nodes }
-    ensures ok { OnOk result ((text : List ℕ) × TellsOriginAt (state_of core.now) name.now boundary node.0 text
+    ensures ok { OnOk result ((text : List ℕ)
+        × TellsOriginAt (state_of core.now) name.now boundary node.0 text
         × (into.new.items ≡ into.old.items ++ text)) }
     ensures err { OnErr result (into.new.items ≡ into.old.items) }
 {
@@ -39,7 +40,9 @@ pub(crate) fn reply_origin(
     boundary: u32,
     into: &mut Vec<u8>,
 ) -> Result<(), NoMemory>
-    ensures ok { OnOk result ((text : List ℕ) × Replies (state_of core.now) (Ok (Command.Origin name.now boundary)) text (state_of core.now)
+    ensures ok { OnOk result ((text : List ℕ)
+        × Replies (state_of core.now) (Ok (Command.Origin name.now boundary)) text
+        (state_of core.now)
         × (into.new.items ≡ into.old.items ++ text)) }
     ensures err { OnErr result (into.new.items ≡ into.old.items) }
 {

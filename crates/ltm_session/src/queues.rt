@@ -11,7 +11,8 @@ use std::alloc::Global;
 
 /// Appends what all spend, queue and wait of what is shown.
 pub(crate) fn reply_delay(alloc: Global, core: &Core, into: &mut Vec<u8>) -> Result<(), NoMemory>
-    ensures ok { OnOk result ((text : List ℕ) × Replies (state_of core.now) (Ok Command.Delay) text (state_of core.now)
+    ensures ok { OnOk result ((text : List ℕ)
+        × Replies (state_of core.now) (Ok Command.Delay) text (state_of core.now)
         × (into.new.items ≡ into.old.items ++ text)) }
     ensures err { OnErr result (into.new.items ≡ into.old.items) }
 {
@@ -28,7 +29,8 @@ fn tell_queue(
     into: &mut Vec<u8>,
 ) -> Result<(), NoMemory>
     requires { link.0 < length core.now.log.opening.network.links }
-    ensures ok { OnOk result ((text : List ℕ) × TellsQueueAt (state_of core.now) name.now boundary link.0 text
+    ensures ok { OnOk result ((text : List ℕ)
+        × TellsQueueAt (state_of core.now) name.now boundary link.0 text
         × (into.new.items ≡ into.old.items ++ text)) }
     ensures err { OnErr result (into.new.items ≡ into.old.items) }
 {
@@ -48,7 +50,9 @@ pub(crate) fn reply_queue(
     boundary: u32,
     into: &mut Vec<u8>,
 ) -> Result<(), NoMemory>
-    ensures ok { OnOk result ((text : List ℕ) × Replies (state_of core.now) (Ok (Command.Queue name.now boundary)) text (state_of core.now)
+    ensures ok { OnOk result ((text : List ℕ)
+        × Replies (state_of core.now) (Ok (Command.Queue name.now boundary)) text
+        (state_of core.now)
         × (into.new.items ≡ into.old.items ++ text)) }
     ensures err { OnErr result (into.new.items ≡ into.old.items) }
 {

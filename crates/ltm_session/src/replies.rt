@@ -22,7 +22,8 @@ use std::alloc::Global;
 
 /// Appends the totals of what is shown.
 fn reply_totals(alloc: Global, core: &Core, into: &mut Vec<u8>) -> Result<(), NoMemory>
-    ensures ok { OnOk result ((text : List ℕ) × Replies (state_of core.now) (Ok Command.Totals) text (state_of core.now)
+    ensures ok { OnOk result ((text : List ℕ)
+        × Replies (state_of core.now) (Ok Command.Totals) text (state_of core.now)
         × (into.new.items ≡ into.old.items ++ text)) }
     ensures err { OnErr result (into.new.items ≡ into.old.items) }
 {
@@ -38,7 +39,8 @@ fn tell_link(
     into: &mut Vec<u8>,
 ) -> Result<(), NoMemory>
     requires { link.0 < length core.now.log.opening.network.links }
-    ensures ok { OnOk result ((text : List ℕ) × ReportsShown (state_of core.now) (λ version. link_report version name.now link.0) text
+    ensures ok { OnOk result ((text : List ℕ)
+        × ReportsShown (state_of core.now) (λ version. link_report version name.now link.0) text
         × (into.new.items ≡ into.old.items ++ text)) }
     ensures err { OnErr result (into.new.items ≡ into.old.items) }
 {
@@ -47,7 +49,8 @@ fn tell_link(
 
 /// Appends what has entered and left the link of a name, or that there is none.
 fn reply_link(alloc: Global, core: &Core, name: &Name, into: &mut Vec<u8>) -> Result<(), NoMemory>
-    ensures ok { OnOk result ((text : List ℕ) × Replies (state_of core.now) (Ok (Command.Link name.now)) text (state_of core.now)
+    ensures ok { OnOk result ((text : List ℕ)
+        × Replies (state_of core.now) (Ok (Command.Link name.now)) text (state_of core.now)
         × (into.new.items ≡ into.old.items ++ text)) }
     ensures err { OnErr result (into.new.items ≡ into.old.items) }
 {
@@ -67,7 +70,8 @@ fn tell_time(
     into: &mut Vec<u8>,
 ) -> Result<(), NoMemory>
     requires { link.0 < length core.now.log.opening.network.links }
-    ensures ok { OnOk result ((text : List ℕ) × TellsTimeAt (state_of core.now) name.now slot link.0 text
+    ensures ok { OnOk result ((text : List ℕ)
+        × TellsTimeAt (state_of core.now) name.now slot link.0 text
         × (into.new.items ≡ into.old.items ++ text)) }
     ensures err { OnErr result (into.new.items ≡ into.old.items) }
 {
@@ -87,7 +91,8 @@ fn reply_time(
     slot: u32,
     into: &mut Vec<u8>,
 ) -> Result<(), NoMemory>
-    ensures ok { OnOk result ((text : List ℕ) × Replies (state_of core.now) (Ok (Command.Time name.now slot)) text (state_of core.now)
+    ensures ok { OnOk result ((text : List ℕ)
+        × Replies (state_of core.now) (Ok (Command.Time name.now slot)) text (state_of core.now)
         × (into.new.items ≡ into.old.items ++ text)) }
     ensures err { OnErr result (into.new.items ≡ into.old.items) }
 {
@@ -100,7 +105,8 @@ fn reply_time(
 /// Appends why a line is no command.
 pub fn reply_fault(alloc: Global, fault: CommandFault, into: &mut Vec<u8>) -> Result<(), NoMemory>
     requires { fault ≢ CommandFault.NoMemory }
-    ensures ok { OnOk result ((text : List ℕ) × ((s : Analysts) → Replies s (Err fault) text s) × (into.new.items ≡ into.old.items ++ text)) }
+    ensures ok { OnOk result ((text : List ℕ) × ((s : Analysts) → Replies s (Err fault) text s)
+        × (into.new.items ≡ into.old.items ++ text)) }
     ensures err { OnErr result (into.new.items ≡ into.old.items) }
 {
     command_fault_text(alloc, fault, into)
@@ -116,7 +122,8 @@ pub fn reply(
 ) -> Result<(), NoMemory>
     requires amounts { HasAmounts command }
     requires other { command ≢ Command.Settle }
-    ensures ok { OnOk result ((text : List ℕ) × Replies (state_of core.old) (Ok command) text (state_of core.new)
+    ensures ok { OnOk result ((text : List ℕ)
+        × Replies (state_of core.old) (Ok command) text (state_of core.new)
         × (into.new.items ≡ into.old.items ++ text)) }
     ensures err { OnErr result ((into.new.items ≡ into.old.items) × LooksAs core.old core.new) }
     ensures awaits { AwaitsLine core.old → AwaitsLine core.new }

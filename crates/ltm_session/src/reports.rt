@@ -22,7 +22,8 @@ pub(crate) fn push_time(
 ) -> Result<(), NoMemory>
     requires link { link.0 < links_of loading.now }
     requires slot { slot < last_of loading.now }
-    ensures ok { OnOk result ((s : Setting) (version : ℕ) (c : Counts) → ShowsCounts s version c loading.now
+    ensures ok { OnOk result ((s : Setting) (version : ℕ) (c : Counts)
+        → ShowsCounts s version c loading.now
         → into.new.items ≡ into.old.items ++ time_report version name.now link.0 slot s c) }
     ensures err { OnErr result (into.new.items ≡ into.old.items) }
 {

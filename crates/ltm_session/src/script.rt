@@ -53,12 +53,14 @@ pub fn next_line<S: Source>(
     ensures fits { OnOk result (length (text_of lines.new) ≤ 65536) }
     ensures unkept { OnOk result (kept_by lines.new ≡ None) }
     ensures max { max_of lines.new ≡ 65536 }
-    ensures end { IfErr result (λ end. EndsIfTold end answered (coming lines.old (S.left source.old))
+    ensures end { IfErr result (λ end. EndsIfTold end answered
+        (coming lines.old (S.left source.old))
         (S.left source.new)) }
     ensures read { IfErr result (λ end. (end ≡ SessionEnd.Ended)
         ⊎ ((end ≡ SessionEnd.ReadFault) ⊎ (end ≡ SessionEnd.LineTooLong (answered + 1)))) }
     ensures later { S.faults source.old ≤ S.faults source.new }
-    ensures fault { result ≡ Err SessionEnd.ReadFault → Rose (S.faults source.old) (S.faults source.new) }
+    ensures fault { result ≡ Err SessionEnd.ReadFault
+        → Rose (S.faults source.old) (S.faults source.new) }
 {
     match lines.next(source) {
         Line::Text => Ok(()),
@@ -72,11 +74,13 @@ pub fn next_line<S: Source>(
 pub fn end_of_lines<S: Source>(lines: &mut Lines, source: &mut S) -> SessionEnd
     requires unkept { kept_by lines.old ≡ None }
     requires max { max_of lines.old ≡ 65536 }
-    ensures end { EndsIfTold result 100000 (coming lines.old (S.left source.old)) (S.left source.new) }
+    ensures end { EndsIfTold result 100000 (coming lines.old (S.left source.old))
+        (S.left source.new) }
     ensures read { (result ≡ SessionEnd.Ended)
         ⊎ ((result ≡ SessionEnd.ReadFault) ⊎ (result ≡ SessionEnd.TooManyCommands)) }
     ensures later { S.faults source.old ≤ S.faults source.new }
-    ensures fault { result ≡ SessionEnd.ReadFault → Rose (S.faults source.old) (S.faults source.new) }
+    ensures fault { result ≡ SessionEnd.ReadFault
+        → Rose (S.faults source.old) (S.faults source.new) }
 {
     match lines.next(source) {
         Line::Text | Line::TooLong => SessionEnd::TooManyCommands,

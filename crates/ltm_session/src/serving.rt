@@ -41,9 +41,11 @@ fn take_seat(alloc: Global, core: &Core) -> Result<(Script, Bench), NoMemory>
 pub fn write_answer<W: Sink>(text: &[u8], sink: &mut W) -> Result<(), SessionEnd>
     ensures ok { OnOk result (W.written sink.new ≡ appended text.now (W.written sink.old)) }
     ensures err { OnErr result (AppendsFront (W.written sink.old) (W.written sink.new) text.now) }
-    ensures end { IfErr result (λ end. (end ≡ SessionEnd.WriteFault) ⊎ (end ≡ SessionEnd.NoMemory)) }
+    ensures end { IfErr result (λ end. (end ≡ SessionEnd.WriteFault)
+        ⊎ (end ≡ SessionEnd.NoMemory)) }
     ensures later { W.faults sink.old ≤ W.faults sink.new }
-    ensures fault { result ≡ Err SessionEnd.WriteFault → Rose (W.faults sink.old) (W.faults sink.new) }
+    ensures fault { result ≡ Err SessionEnd.WriteFault
+        → Rose (W.faults sink.old) (W.faults sink.new) }
 {
     match write_all_known(sink, text) {
         Ok(()) => Ok(()),
@@ -66,11 +68,13 @@ pub fn serve_line<W: Sink>(
     ensures ok { OnOk result ((words : List ℕ)
         × AnswersLine AnswersAlone (state_of core.old) line.now words (state_of core.new)
         × (W.written sink.new ≡ appended words (W.written sink.old))) }
-    ensures err { IfErr result (λ end. StopsAt AnswersAlone (state_of core.old) line.now (state_of core.new) end
+    ensures err { IfErr result (λ end. StopsAt AnswersAlone (state_of core.old) line.now
+        (state_of core.new) end
         (W.written sink.old) (W.written sink.new)) }
     ensures awaits { AwaitsLine core.new }
     ensures later { W.faults sink.old ≤ W.faults sink.new }
-    ensures fault { result ≡ Err SessionEnd.WriteFault → Rose (W.faults sink.old) (W.faults sink.new) }
+    ensures fault { result ≡ Err SessionEnd.WriteFault
+        → Rose (W.faults sink.old) (W.faults sink.new) }
 {
     text.clear();
     answer(alloc, core, bench, line, text)?;
@@ -92,17 +96,23 @@ pub fn serve_alone<S: Source, W: Sink>(
     requires fresh { version_now core.log ≡ 0 }
     // What was answered, what was written of it, how that ended, and the log and what is shown then.
     ensures session { (output : List ℕ)
-        × IsSession AnswersAlone core.log.opening (S.left source.old) result.end output (state_of result.core)
+        × IsSession AnswersAlone core.log.opening (S.left source.old) result.end output
+        (state_of result.core)
         × Wrote result.end (W.written sink.old) (W.written sink.new) output }
     ensures awaits { AwaitsLine result.core }
     // Where nothing failed, the session ended as its script says.
-    ensures end { (script : List ℕ) → S.left source.old ≡ Some script → result.end ≢ SessionEnd.ReadFault
-        → result.end ≢ SessionEnd.WriteFault → result.end ≢ SessionEnd.NoMemory → result.end ≡ end_of script }
-    ensures read { (script : List ℕ) → S.left source.old ≡ Some script → result.end ≡ SessionEnd.Ended
+    ensures end { (script : List ℕ) → S.left source.old ≡ Some script
+        → result.end ≢ SessionEnd.ReadFault
+        → result.end ≢ SessionEnd.WriteFault → result.end ≢ SessionEnd.NoMemory
+        → result.end ≡ end_of script }
+    ensures read { (script : List ℕ) → S.left source.old ≡ Some script
+        → result.end ≡ SessionEnd.Ended
         → S.left source.new ≡ Some [] }
     // A fault of the outside is told only where a count of faults rose.
-    ensures read_fault { result.end ≡ SessionEnd.ReadFault → Rose (S.faults source.old) (S.faults source.new) }
-    ensures write_fault { result.end ≡ SessionEnd.WriteFault → Rose (W.faults sink.old) (W.faults sink.new) }
+    ensures read_fault { result.end ≡ SessionEnd.ReadFault
+        → Rose (S.faults source.old) (S.faults source.new) }
+    ensures write_fault { result.end ≡ SessionEnd.WriteFault
+        → Rose (W.faults sink.old) (W.faults sink.new) }
     ensures later { W.faults sink.old ≤ W.faults sink.new }
 {
     core.holds();

@@ -16,7 +16,8 @@ use ltm_units::{LinkId, NodeId};
 /// How many stand in the queues of all links at a boundary.
 fn in_queues(loading: &Loading, boundary: u32) -> u64
     requires { boundary ≤ last_of loading.now }
-    ensures { (s : Setting) (version : ℕ) (c : Counts) → ShowsCounts s version c loading.now → result ≡ in_queues s c boundary }
+    ensures { (s : Setting) (version : ℕ) (c : Counts) → ShowsCounts s version c loading.now
+        → result ≡ in_queues s c boundary }
 {
     let mut sum = 0;
     for link in 0..loading.links() {
@@ -27,7 +28,8 @@ fn in_queues(loading: &Loading, boundary: u32) -> u64
 
 /// The time that all stand in queues, in units times milliseconds.
 fn queued(loading: &Loading) -> u128
-    ensures { (s : Setting) (version : ℕ) (c : Counts) → ShowsCounts s version c loading.now → result ≡ queued s c }
+    ensures { (s : Setting) (version : ℕ) (c : Counts) → ShowsCounts s version c loading.now
+        → result ≡ queued s c }
 {
     let mut sum = 0u128;
     for slot in 0..loading.slots() {
@@ -39,7 +41,8 @@ fn queued(loading: &Loading) -> u128
 /// How many have left their origins by a boundary.
 fn departed(loading: &Loading, boundary: u32) -> u128
     requires { boundary ≤ last_of loading.now }
-    ensures { (s : Setting) (version : ℕ) (c : Counts) → ShowsCounts s version c loading.now → result ≡ departed s c boundary }
+    ensures { (s : Setting) (version : ℕ) (c : Counts) → ShowsCounts s version c loading.now
+        → result ≡ departed s c boundary }
 {
     let mut sum = 0u128;
     for node in 0..loading.nodes() {
@@ -50,7 +53,8 @@ fn departed(loading: &Loading, boundary: u32) -> u128
 
 /// The time that all wait at their origins, in units times milliseconds.
 fn waited(loading: &Loading) -> u128
-    ensures { (s : Setting) (version : ℕ) (c : Counts) → ShowsCounts s version c loading.now → result ≡ waited s c }
+    ensures { (s : Setting) (version : ℕ) (c : Counts) → ShowsCounts s version c loading.now
+        → result ≡ waited s c }
 {
     let mut sum = 0u128;
     for slot in 0..loading.slots() {
@@ -63,7 +67,8 @@ fn waited(loading: &Loading) -> u128
 /// What all vehicles spend on their way or at their origins, how much of it they stand in the queues of links, and how much
 /// they wait at their origins.
 pub fn delay_totals(loading: &Loading) -> DelayTotals
-    ensures { (s : Setting) (version : ℕ) (c : Counts) → ShowsCounts s version c loading.now → AreDelayTotals s c result }
+    ensures { (s : Setting) (version : ℕ) (c : Counts) → ShowsCounts s version c loading.now
+        → AreDelayTotals s c result }
 {
     DelayTotals {
         spent: time_spent(loading),

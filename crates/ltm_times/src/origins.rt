@@ -15,7 +15,8 @@ use ltm_units::{NodeId, Units};
 pub fn waiting(loading: &Loading, node: NodeId, boundary: u32) -> Units
     requires node { node.0 < nodes_of loading.now }
     requires boundary { boundary ≤ last_of loading.now }
-    ensures { (s : Setting) (version : ℕ) (c : Counts) → ShowsCounts s version c loading.now → result.0 ≡ waiting_at s c node.0 boundary }
+    ensures { (s : Setting) (version : ℕ) (c : Counts) → ShowsCounts s version c loading.now
+        → result.0 ≡ waiting_at s c node.0 boundary }
 {
     let produced = loading.produced(node, boundary).0;
     Units(produced.saturating_sub(loading.departed(node, boundary).0))
@@ -25,7 +26,8 @@ pub fn waiting(loading: &Loading, node: NodeId, boundary: u32) -> Units
 pub fn origin_state(loading: &Loading, node: NodeId, boundary: u32) -> OriginState
     requires node { node.0 < nodes_of loading.now }
     requires boundary { boundary ≤ last_of loading.now }
-    ensures { (s : Setting) (version : ℕ) (c : Counts) → ShowsCounts s version c loading.now → IsOriginState s c node.0 boundary result }
+    ensures { (s : Setting) (version : ℕ) (c : Counts) → ShowsCounts s version c loading.now
+        → IsOriginState s c node.0 boundary result }
 {
     OriginState {
         produced: loading.produced(node, boundary),
@@ -37,7 +39,8 @@ pub fn origin_state(loading: &Loading, node: NodeId, boundary: u32) -> OriginSta
 /// The time that vehicles wait at the origin of a node, and when most of them do, in one pass over the boundaries.
 pub fn origin_delay(loading: &Loading, node: NodeId) -> OriginDelay
     requires { node.0 < nodes_of loading.now }
-    ensures { (s : Setting) (version : ℕ) (c : Counts) → ShowsCounts s version c loading.now → IsOriginDelay s c node.0 result }
+    ensures { (s : Setting) (version : ℕ) (c : Counts) → ShowsCounts s version c loading.now
+        → IsOriginDelay s c node.0 result }
 {
     let mut waited = 0u128;
     let mut peak = Peak {

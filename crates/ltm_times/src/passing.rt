@@ -14,9 +14,11 @@ use ltm_units::{LinkId, Millis, Units};
 /// The first millisecond by which so many units have left a link; None where fewer have left it by the end.
 pub fn exit_ms(loading: &Loading, link: LinkId, count: Units) -> Option<Millis>
     requires { link.0 < links_of loading.now }
-    ensures time { (s : Setting) (version : ℕ) (c : Counts) → ShowsCounts s version c loading.now → option_map (λ time. time.0) result
+    ensures time { (s : Setting) (version : ℕ) (c : Counts) → ShowsCounts s version c loading.now
+        → option_map (λ time. time.0) result
         ≡ exit_time s c link.0 count.0 }
-    ensures none { (s : Setting) (version : ℕ) (c : Counts) → ShowsCounts s version c loading.now → (result ≡ None)
+    ensures none { (s : Setting) (version : ℕ) (c : Counts) → ShowsCounts s version c loading.now
+        → (result ≡ None)
         ↔ (left_link s c link.0 s.slots < count.0) }
 {
     let _links = loading.links();
@@ -28,9 +30,11 @@ pub fn exit_ms(loading: &Loading, link: LinkId, count: Units) -> Option<Millis>
 pub fn travel(loading: &Loading, link: LinkId, slot: u32) -> Option<Millis>
     requires link { link.0 < links_of loading.now }
     requires slot { slot < last_of loading.now }
-    ensures time { (s : Setting) (version : ℕ) (c : Counts) → ShowsCounts s version c loading.now → option_map (λ time. time.0) result
+    ensures time { (s : Setting) (version : ℕ) (c : Counts) → ShowsCounts s version c loading.now
+        → option_map (λ time. time.0) result
         ≡ travel_time s c link.0 slot }
-    ensures none { (s : Setting) (version : ℕ) (c : Counts) → ShowsCounts s version c loading.now → (result ≡ None)
+    ensures none { (s : Setting) (version : ℕ) (c : Counts) → ShowsCounts s version c loading.now
+        → (result ≡ None)
         ↔ (left_link s c link.0 s.slots
         < entered_link s c link.0 slot) }
 {

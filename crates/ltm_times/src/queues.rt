@@ -18,7 +18,8 @@ use ltm_units::{LinkId, Units};
 pub fn queue(loading: &Loading, link: LinkId, boundary: u32) -> Units
     requires link { link.0 < links_of loading.now }
     requires boundary { boundary ≤ last_of loading.now }
-    ensures shown { (s : Setting) (version : ℕ) (c : Counts) → ShowsCounts s version c loading.now → result.0 ≡ queue s c link.0 boundary }
+    ensures shown { (s : Setting) (version : ℕ) (c : Counts) → ShowsCounts s version c loading.now
+        → result.0 ≡ queue s c link.0 boundary }
     ensures small { result.0 ≤ 2 ^ 37 }
 {
     let _links = loading.links();
@@ -37,7 +38,8 @@ pub fn queue(loading: &Loading, link: LinkId, boundary: u32) -> Units
 pub fn link_state(loading: &Loading, link: LinkId, boundary: u32) -> LinkState
     requires link { link.0 < links_of loading.now }
     requires boundary { boundary ≤ last_of loading.now }
-    ensures { (s : Setting) (version : ℕ) (c : Counts) → ShowsCounts s version c loading.now → IsLinkState s c link.0 boundary result }
+    ensures { (s : Setting) (version : ℕ) (c : Counts) → ShowsCounts s version c loading.now
+        → IsLinkState s c link.0 boundary result }
 {
     LinkState {
         entered: loading.entered_by(link, boundary),
@@ -60,7 +62,8 @@ fn on_link(loading: &Loading, link: LinkId, boundary: u32) -> u64
 
 /// The peak of the numbers up to a boundary, from that of those before it.
 pub(crate) fn peak_by(before: Peak, number: Units, at: u32) -> Peak
-    ensures { (f : ℕ → ℕ) (last : ℕ) → IsPeakOf f last before → at ≡ last + 1 → number.0 ≡ f at → IsPeakOf f at result }
+    ensures { (f : ℕ → ℕ) (last : ℕ) → IsPeakOf f last before → at ≡ last + 1 → number.0 ≡ f at
+        → IsPeakOf f at result }
 {
     if before.most.0 < number.0 {
         Peak { most: number, at }
@@ -72,7 +75,8 @@ pub(crate) fn peak_by(before: Peak, number: Units, at: u32) -> Peak
 /// The time that vehicles spend on a link and stand in its queue, and the longest queue, in one pass over the boundaries.
 pub fn link_delay(loading: &Loading, link: LinkId) -> LinkDelay
     requires { link.0 < links_of loading.now }
-    ensures { (s : Setting) (version : ℕ) (c : Counts) → ShowsCounts s version c loading.now → IsLinkDelay s c link.0 result }
+    ensures { (s : Setting) (version : ℕ) (c : Counts) → ShowsCounts s version c loading.now
+        → IsLinkDelay s c link.0 result }
 {
     let mut spent = 0u128;
     let mut queued = 0u128;

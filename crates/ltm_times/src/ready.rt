@@ -14,7 +14,8 @@ fn past(curves: &TotalCurves, group: u32, boundary: u32, rest: Millis, step: Mil
     requires boundary { boundary ≤ total_slots curves.now }
     requires next { 0 < rest.0 → boundary < total_slots curves.now }
     requires rises { Rises (total_at curves.now group) (total_slots curves.now) }
-    ensures total { result ≡ interpolated (total_at curves.now group) step.0 (boundary * step.0 + rest.0) }
+    ensures total { result
+        ≡ interpolated (total_at curves.now group) step.0 (boundary * step.0 + rest.0) }
     ensures small { result ≤ 2 ^ 37 }
 {
     let before = curves.total(group, boundary);
