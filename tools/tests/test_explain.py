@@ -270,9 +270,11 @@ class Scripts(FolderTest):
 class Words(FolderTest):
     def test_usage(self) -> None:
         for words, part in ((["lod"], "'lod' is no command: load is one"), (["session"], "session takes one number"), (["session", "65"], "'65' is not the number that session takes, 0 to 64"),
-                            (["view", "3"], "1 to 2"), (["try", "1", "3"], "NODES, 4 to 400"), (["load", "x"], "load takes no more words, and here follows 'x'")):
+                            (["view", "3"], "1 to 2"), (["try", "1", "3"], "NODES, 4 to 400"), (["load", "x"], "load takes no more words, and here follows 'x'"),
+                            (["delay", "x"], "delay takes no more words, and here follows 'x'"), (["delays"], "'delays' is no command: delay is one"),
+                            (["load", "delay"], "load takes no more words"), (["Delay"], "'Delay' is no command")):
             self.assertIn(part, explain(str(self.case()), 2, "", words)[0])
-        for words in (["load"], ["routes", "times"], ["try", "7", "400"], ["session", "07"], ["editors", "8"]):
+        for words in (["load"], ["delay"], ["routes", "times"], ["try", "7", "400"], ["session", "07"], ["editors", "8"]):
             self.assertEqual(explain(str(self.case()), 2, "", words), [], words)
 
     def test_faults_of_the_outside(self) -> None:
