@@ -57,6 +57,11 @@ all_narrow s c law v shape h g k x z =
     ] in
     omega (arith, shaped_total s c g k shape, here)
 
+-- a table of the totals of a loading has them
+pub have_totals : (s : Setting) (c : Curves) (t : TotalCurves) → IsShaped s c → AreTotalsOf t c → HaveTotals s (counts_of c) (total_at t)
+have_totals s c t shape are g k x y =
+    are.totals g k (omega (arith, shape.same_groups)) (omega (arith, shape.same_slots)) ∙ shaped_total s c g k shape
+
 -- and none of them falls
 pub all_rise : (s : Setting) (c : Curves) (t : TotalCurves) → NeverFall → IsSetting s → IsShaped s c → IsLoading s (counts_of c) → AreTotalsOf t c →
     (g k : ℕ) → g < total_groups t → k < total_slots t → total_at t g k ≤ total_at t g (k + 1)
