@@ -1,6 +1,6 @@
 -- Which command ran.
-use Rattle.std.proofs.Common.{ℕ, zero, suc, ◌≡◌, ◌<◌, refl, subst, arith, Option, Some, false}
-use Rattle.std.specs.Prelude.{nat_lt}
+use Rattle.std.proofs.Common.{ℕ, zero, suc, ◌≡◌, ◌<◌, refl, ap, sym, subst, ◌∙◌, arith, Bool, Option, None, Some, true, false}
+use Rattle.std.specs.Prelude.{nat_lt, if◌then◌else◌}
 use Rattle.std.proofs.lemmas.Bool.Decides.{nat_tests}
 use Rattle.ltm_session.specs.Answers.{AnswersBeside}
 use Rattle.ltm_texts.specs.declared.status.Status.{Status}
@@ -10,7 +10,7 @@ use Rattle.ltm_texts.specs.Answers.{HasText}
 use Rattle.ltm_texts.specs.Program.{IsAnswerUnder, Fetches}
 use Rattle.ltm_texts.specs.Run.{Outside, IsRun}
 use Rattle.ltm_program.specs.Sessions.{IsSessionUnder}
-use Rattle.ltm_program.specs.Ran.{Ran, needs_threads}
+use Rattle.ltm_program.specs.Ran.{Ran, needs_threads, without_threads}
 
 -- a command that is not served has its text made first
 pub has_text : (c : Command) → ((n : ℕ) → c ≡ command.Session n → ⊥) → ((n : ℕ) → c ≡ command.View n → ⊥) → ((n : ℕ) → c ≡ command.Editors n → ⊥) → HasText c
@@ -34,5 +34,11 @@ pub ran_as : (c d : Option Command) (status : Status) (b a : Outside) → c ≡ 
 ran_as c d status b a is run = subst (λ x. Ran x status b a) is run
 
 -- ---- a command that needs no threads
+pub left_out : (c : Command) (b : Bool) → b ≡ needs_threads (Some c) → b ≡ true → None ≡ without_threads (Some c)
+left_out c b is on = sym (ap (λ (x : Bool). if x then None else Some c) (sym is ∙ on))
+
+pub left_in : (c : Command) (b : Bool) → b ≡ needs_threads (Some c) → b ≡ false → Some c ≡ without_threads (Some c)
+left_in c b is off = sym (ap (λ (x : Bool). if x then None else Some c) (sym is ∙ off))
+
 pub alone : (n : ℕ) (c : Command) → c ≡ command.Session n → needs_threads (Some c) ≡ false → n ≡ 0
 alone n c is quiet = let test : nat_lt 0 n ≡ false = subst (λ x. needs_threads (Some x) ≡ false) is quiet in grind (arith, nat_tests, test)

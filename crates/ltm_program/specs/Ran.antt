@@ -1,5 +1,5 @@
 -- What belongs to each command: its texts, its files, and whether it reads the input; and so what a run of it did.
-use Rattle.std.specs.Prelude.{ℕ, zero, suc, ◌≡◌, nat_lt, Bool, true, false, List, Option, None, Some}
+use Rattle.std.specs.Prelude.{ℕ, zero, suc, ◌≡◌, nat_lt, if◌then◌else◌, Bool, true, false, List, Option, None, Some}
 use Rattle.ltm_io.specs.declared.doc.Doc.{Doc}
 use Rattle.ltm_io.specs.Folder.{Files}
 use Rattle.ltm_session.specs.Answers.{AnswersAlone, AnswersBeside}
@@ -49,6 +49,10 @@ needs_threads (Some (command.Session workers)) = nat_lt 0 workers
 needs_threads (Some (command.View viewers)) = true
 needs_threads (Some (command.Editors editors)) = true
 needs_threads c = false
+
+-- what is left to ask for where no thread may be started
+abbrev pub without_threads : Option Command → Option Command
+without_threads c = if needs_threads c then None else c
 
 -- a command, or words that ask for none, ran: the status, and how the outside stands before and after
 abbrev pub Ran : Option Command → Status → Outside → Outside → Type 0

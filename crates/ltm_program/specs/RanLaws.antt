@@ -13,6 +13,7 @@ use Rattle.ltm_casefile.specs.declared.faults.CaseFault.TheVariants as fault
 use Rattle.ltm_casefile.specs.Case.{case_of, is_case_file, asks_for}
 use Rattle.ltm_report.specs.CaseFaults.{bad_case_line}
 use Rattle.ltm_report.specs.Reports.{IsReport}
+use Rattle.ltm_report.specs.DelayReports.{IsDelayReport}
 use Rattle.ltm_routing.specs.File.{IsSplitsFile, IsTimesFile}
 use Rattle.ltm_trial.specs.Trial.{IsTrial}
 use Rattle.ltm_records.specs.Left.{records_of}
@@ -67,6 +68,8 @@ Stays b a d = a.faults d ≡ b.faults d
 pub record TextsSay : Type 0 where
   pub load : (b a : Outside) → Ran (Some command.Load) ending.Ok b a
       → (s : ScenarioData) × (t : List ℕ) × Describes b.told (Ok s) × IsReport s t × Wrote t b a
+  pub delay : (b a : Outside) → Ran (Some command.Delay) ending.Ok b a
+      → (s : ScenarioData) × (t : List ℕ) × Describes b.told (Ok s) × IsDelayReport s t × Wrote t b a
   pub curves : (b a : Outside) → Ran (Some command.Curves) ending.Ok b a
       → (s : ScenarioData) × (t : List ℕ) × Describes b.told (Ok s) × IsLoadingText s t × Wrote t b a
   -- a check says yes only where the curve file tells the loading of the case, and wherever it does

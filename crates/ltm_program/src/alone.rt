@@ -1,11 +1,11 @@
 //! The top call without threads: what the words ask for, over a folder, an input and an output.
-ghost use Rattle.std.specs.Prelude.{◌≡◌, ℕ, List, Option, None, Some, map, string_bytes, false};
+ghost use Rattle.std.specs.Prelude.{◌≡◌, ℕ, List, Option, None, Some, IfSome, map, string_bytes, false};
 ghost use Rattle.ltm_io.specs.Folder.{Files};
 ghost use Rattle.ltm_io.specs.declared.doc.Doc.{Doc};
 ghost use Rattle.ltm_texts.specs.Words as words_say;
 ghost use Rattle.ltm_texts.specs.Words.{IsSized};
 ghost use Rattle.ltm_texts.specs.Run.{outside};
-ghost use Rattle.ltm_program.specs.Ran.{Ran, needs_threads};
+ghost use Rattle.ltm_program.specs.Ran.{Ran, needs_threads, without_threads};
 
 use crate::serve::serve;
 use ltm_io::{OpenFolder, Sink, Source};
@@ -20,6 +20,42 @@ pub(crate) fn refuse_words<W: Sink>(output: &mut W) -> Status
         (outside told faults left read_faults (W.written output.new) (W.faults output.new)) }
 {
     write_text(output, usage_text(), Status::Usage)
+}
+
+/// Whether a command starts threads.
+fn starts_threads(command: Command) -> bool
+    ensures { result ≡ needs_threads (Some command) }
+{
+    match command {
+        Command::Session { workers } => workers > 0,
+        Command::View { .. } => true,
+        Command::Editors { .. } => true,
+        Command::Load => false,
+        Command::Delay => false,
+        Command::Curves => false,
+        Command::Check => false,
+        Command::Routes => false,
+        Command::RouteTimes => false,
+        Command::Try { .. } => false,
+    }
+}
+
+/// What is left to do where no thread may be started.
+#[tactic(auto, using(crate::proofs::Runs::left_out, crate::proofs::Runs::left_in))]
+fn alone_of(asked: Option<Command>) -> Option<Command>
+    ensures left { result ≡ without_threads asked }
+    ensures alone { IfSome result (λ command. needs_threads (Some command) ≡ false) }
+    ensures sized { IfSome asked IsSized → IfSome result IsSized }
+{
+    match asked {
+        Some(command) => {
+            if starts_threads(command) {
+                return None;
+            }
+            return Some(command);
+        }
+        None => return None,
+    }
 }
 
 /// Does a command that starts no thread.
@@ -46,7 +82,8 @@ fn do_alone<F: OpenFolder, S: Source, W: Sink>(
     }
 }
 
-/// Does what words ask for that start no thread, over this folder, this input and this output.
+/// Does what the words ask for, over this folder, this input and this output, where no thread has to be started for it: words
+/// that ask for workers, viewers or editors are refused by the usage line, as those that ask for nothing.
 ///
 /// - `load` fetches the files of the case in order and reads them, loads the network (Yperman 2007) and
 ///   writes the totals line and a line for each link.
@@ -70,14 +107,13 @@ pub fn run_alone<F: OpenFolder, S: Source, W: Sink>(
     input: &mut S,
     output: &mut W,
 ) -> Status
-    requires { needs_threads (words_say.command_of (map string_bytes words.now)) ≡ false }
-    ensures { Ran (words_say.command_of (map string_bytes words.now)) result
+    ensures { Ran (without_threads (words_say.command_of (map string_bytes words.now))) result
         (outside (F.told folder.old) (F.faults folder.old) (S.left input.old) (S.faults input.old)
         (W.written output.old) (W.faults output.old))
         (outside (F.told folder.new) (F.faults folder.new) (S.left input.new) (S.faults input.new)
         (W.written output.new) (W.faults output.new)) }
 {
-    match command_of(words) {
+    match alone_of(command_of(words)) {
         Some(command) => do_alone(alloc, command, folder, input, output),
         None => refuse_words(output),
     }

@@ -12,23 +12,34 @@ use Rattle.ltm_routing.specs.Routing as routing
 use Rattle.ltm_routing.specs.File.{IsSplitsFile, IsTimesFile}
 use Rattle.ltm_texts.specs.declared.words.Command.TheVariants as command
 use Rattle.ltm_report.specs.Reports.{IsReport}
+use Rattle.ltm_report.specs.DelayReports.{IsDelayReport}
 use Rattle.ltm_checking.specs.declared.refusal.Refusal.{Refusal}
 use Rattle.ltm_checking.specs.declared.refusal.Refusal.TheVariants as refusal
 use Rattle.ltm_checking.specs.Loaded.{AnswersCurves}
 use Rattle.ltm_checking.specs.Checks.{AnswersRefusal}
-use Rattle.ltm_texts.specs.Answers.{Answers, AnswersFault, Describes}
+use Rattle.ltm_texts.specs.Answers.{Answers, AnswersFault, Describes, ReportAnswer}
 
 pub load_told : (told : Option Files) (s : ScenarioData) (text : List ℕ) → Describes told (Ok s) → IsReport s text → Answers command.Load told (Ok text)
 load_told told s text describes report = (Ok s, describes, (text, report, refl))
 
-refused : (told : Option Files) (e : CaseFault) → IfSome told (λ files. case_of files ≡ Err e) → Answers command.Load told (Err (refusal.Case e))
-refused told e describes = (Err e, describes, refl)
+pub delay_told : (told : Option Files) (s : ScenarioData) (text : List ℕ) → Describes told (Ok s) → IsDelayReport s text → Answers command.Delay told (Ok text)
+delay_told told s text describes report = (Ok s, describes, (text, report, refl))
+
+-- a report of any kind
+refused : (Reports : ScenarioData → List ℕ → Type 0) (told : Option Files) (e : CaseFault) → IfSome told (λ files. case_of files ≡ Err e) → ReportAnswer Reports told (Err (refusal.Case e))
+refused Reports told e describes = (Err e, describes, refl)
 
 pub load_fault : (told : Option Files) (e : CaseFault) → IfSome told (λ files. Agrees (case_of files) e) → AnswersFault command.Load told (refusal.Case e)
 load_fault told (fault.Folder f) agrees = tt
-load_fault told (fault.TooLong f) agrees = refused told (fault.TooLong f) agrees
-load_fault told (fault.Bad f row cause) agrees = refused told (fault.Bad f row cause) agrees
+load_fault told (fault.TooLong f) agrees = refused IsReport told (fault.TooLong f) agrees
+load_fault told (fault.Bad f row cause) agrees = refused IsReport told (fault.Bad f row cause) agrees
 load_fault told fault.NoMemory agrees = tt
+
+pub delay_fault : (told : Option Files) (e : CaseFault) → IfSome told (λ files. Agrees (case_of files) e) → AnswersFault command.Delay told (refusal.Case e)
+delay_fault told (fault.Folder f) agrees = tt
+delay_fault told (fault.TooLong f) agrees = refused IsDelayReport told (fault.TooLong f) agrees
+delay_fault told (fault.Bad f row cause) agrees = refused IsDelayReport told (fault.Bad f row cause) agrees
+delay_fault told fault.NoMemory agrees = tt
 
 -- where two facts are known of what was answered, so is what follows from both
 pub joined : {A E : Type 0} (r : Result A E) (P Q R : A → Type 0) → ((x : A) → P x → Q x → R x) → IfOk r P → IfOk r Q → IfOk r R

@@ -27,6 +27,10 @@ failed told before now file.Signals asked rose = (doc.Signals, refl, asked, rose
 failed told before now file.Limits asked rose = (doc.Limits, refl, asked, rose)
 failed told before now file.Whole asked rose = absurd rose
 
+pub delay_failed : (told : Option Files) (before now : Doc → ℕ) (f : File)
+    → IfSome told (λ files. WasAsked (asks_for files) (fault.Folder f)) → HasRisen before now (fault.Folder f) → FileFailed command.Delay told before now
+delay_failed told before now f asked rose = failed told before now f asked rose
+
 -- the same of the roads and the demand
 abbrev RoadsFailed : Option Files → (Doc → ℕ) → (Doc → ℕ) → Type 0
 RoadsFailed told before now = (d : Doc) × (is_of_roads d ≡ true) × IfSome told (λ files. is_of_roads d ≡ true) × Rose (before d) (now d)

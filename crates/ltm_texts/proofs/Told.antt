@@ -21,6 +21,7 @@ use Rattle.ltm_texts.specs.declared.words.Command.{Command}
 use Rattle.ltm_texts.specs.declared.words.Command.TheVariants as ask
 use Rattle.ltm_trial.specs.Trial.{IsTrial}
 use Rattle.ltm_report.specs.Reports.{IsReport}
+use Rattle.ltm_report.specs.DelayReports.{IsDelayReport}
 use Rattle.ltm_records.specs.Left.{records_of}
 use Rattle.ltm_check.specs.ReadBack.{TellsLoading}
 use Rattle.ltm_checking.specs.declared.refusal.Refusal.{Refusal}
@@ -29,7 +30,7 @@ use Rattle.ltm_checking.specs.Lines.{yes_line}
 use Rattle.ltm_checking.specs.Loaded.{IsLoadingText}
 use Rattle.ltm_checking.specs.Checks.{HasCurves, most_bytes}
 use Rattle.ltm_checking.proofs.Exact.{yes_told, only_yes, missing_case, missing_curves}
-use Rattle.ltm_texts.specs.Answers.{Answer, Answers, AnswersFault, Describes, RouteAnswer, answer_of, fetches}
+use Rattle.ltm_texts.specs.Answers.{Answer, Answers, AnswersFault, Describes, RouteAnswer, answer_of, fetches, ReportAnswer}
 use Rattle.ltm_texts.specs.Program.{status_of, words_of, refusal_status, IsTold, IsMissing, IsLong, IsAnswerUnder, Fetches, IsCalm}
 
 -- a refusal of which a line tells is the answer
@@ -107,6 +108,12 @@ loaded told text (Ok t, (Ok s, describes, (u, report, same)), ok, is) =
 loaded told text (Ok t, (Err fault, describes, same), ok, is) = cc
 loaded told text (Err e, says, ok, is) = absurd (never_ok e ok)
 
+pub delayed : (told : Option Files) (text : List ℕ) → IsAnswerUnder ask.Delay told ending.Ok text → (s : ScenarioData) × Describes told (Ok s) × IsDelayReport s text
+delayed told text (Ok t, (Ok s, describes, (u, report, same)), ok, is) =
+    let equal : u ≡ text = cc in (s, describes, subst (IsDelayReport s) equal report)
+delayed told text (Ok t, (Err fault, describes, same), ok, is) = cc
+delayed told text (Err e, says, ok, is) = absurd (never_ok e ok)
+
 pub routed : (told : Option Files) (text : List ℕ) → IsAnswerUnder ask.Routes told ending.Ok text → IsSplitsFile told text
 routed told text (Ok t, (says, file), ok, is) = subst (IsSplitsFile told) (sym is) file
 routed told text (Err e, says, ok, is) = absurd (never_ok e ok)
@@ -170,10 +177,11 @@ case_only e (fault.TooLong x) missing same = let is : e ≡ refusal.Case (fault.
 case_only e (fault.Bad x row cause) missing same = let is : e ≡ refusal.Case (fault.Bad x row cause) = cc in absurd (subst IsMissing is missing)
 case_only e fault.NoMemory missing same = let is : e ≡ refusal.Case fault.NoMemory = cc in absurd (subst IsMissing is missing)
 
-load_missing : (files : Files) (e : Refusal) (answer : Answer) → IsMissing e → Answers ask.Load (Some files) (Err e) → Answers ask.Load (Some files) answer → answer ≡ Err e
-load_missing files e answer missing (Ok s, describes, (text, report, same)) other = cc
-load_missing files e answer missing (Err fault, describes, same) (Ok s, also, says) = cc
-load_missing files e answer missing (Err fault, describes, same) (Err f, also, is) = cc
+report_missing : (Reports : ScenarioData → List ℕ → Type 0) (files : Files) (e : Refusal) (answer : Answer) → IsMissing e
+    → ReportAnswer Reports (Some files) (Err e) → ReportAnswer Reports (Some files) answer → answer ≡ Err e
+report_missing Reports files e answer missing (Ok s, describes, (text, report, same)) other = cc
+report_missing Reports files e answer missing (Err fault, describes, same) (Ok s, also, says) = cc
+report_missing Reports files e answer missing (Err fault, describes, same) (Err f, also, is) = cc
 
 routes_missing : (which : RouteLines) (files : Files) (e : Refusal) (answer : Answer) → IsMissing e → RouteAnswer which (Some files) (Err e) → RouteAnswer which (Some files) answer → answer ≡ Err e
 routes_missing which files e answer missing (Ok text, says, same) other = cc
@@ -206,7 +214,8 @@ check_missing files refusal.NoStart answer missing says other = absurd missing
 check_missing files (refusal.NoStep node slot) answer missing says other = absurd missing
 
 pub only_missing : (command : Command) (told : Option Files) (files : Files) (e : Refusal) (answer : Answer) → told ≡ Some files → IsMissing e → Answers command (Some files) (Err e) → Answers command told answer → answer ≡ Err e
-only_missing ask.Load told files e answer is missing none says = load_missing files e answer missing none (subst (λ o. Answers ask.Load o answer) is says)
+only_missing ask.Load told files e answer is missing none says = report_missing IsReport files e answer missing none (subst (λ o. Answers ask.Load o answer) is says)
+only_missing ask.Delay told files e answer is missing none says = report_missing IsDelayReport files e answer missing none (subst (λ o. Answers ask.Delay o answer) is says)
 only_missing ask.Routes told files e answer is missing none says = routes_missing lines.Splits files e answer missing none.0 (subst (λ o. Answers ask.Routes o answer) is says).0
 only_missing ask.RouteTimes told files e answer is missing none says = routes_missing lines.Times files e answer missing none.0 (subst (λ o. Answers ask.RouteTimes o answer) is says).0
 only_missing (ask.Try start nodes) told files e answer is missing (text, trial, same) says = absurd (cc)

@@ -19,6 +19,7 @@ use Rattle.ltm_checking.specs.declared.refusal.Refusal.TheVariants as refusal
 use Rattle.ltm_checking.specs.Loaded.{AnswersCurves}
 use Rattle.ltm_checking.specs.Checks.{AnswersCheck, is_check_file, check_asks_for}
 use Rattle.ltm_report.specs.Reports.{IsReport}
+use Rattle.ltm_report.specs.DelayReports.{IsDelayReport}
 
 -- a text, or the refusal in place of it
 abbrev pub Answer : Type 0
@@ -33,10 +34,14 @@ answer_of (Err fault) = Err (refusal.Case fault)
 abbrev pub Describes : Option Files → Result ScenarioData CaseFault → Type 0
 Describes told said = IfSome told (λ files. case_of files ≡ said)
 
--- what `load` answers to a case
-abbrev pub LoadAnswer : Result ScenarioData CaseFault → Answer → Type 0
-LoadAnswer (Ok s) answer = (text : List ℕ) × IsReport s text × (answer ≡ Ok text)
-LoadAnswer (Err fault) answer = answer ≡ Err (refusal.Case fault)
+-- what is answered to a case by a report of it
+abbrev pub CaseAnswer : (ScenarioData → List ℕ → Type 0) → Result ScenarioData CaseFault → Answer → Type 0
+CaseAnswer Reports (Ok s) answer = (text : List ℕ) × Reports s text × (answer ≡ Ok text)
+CaseAnswer Reports (Err fault) answer = answer ≡ Err (refusal.Case fault)
+
+-- the same of the case that a folder tells
+abbrev pub ReportAnswer : (ScenarioData → List ℕ → Type 0) → Option Files → Answer → Type 0
+ReportAnswer Reports told answer = (said : Result ScenarioData CaseFault) × Describes told said × CaseAnswer Reports said answer
 
 -- what `routes` answers
 abbrev pub RouteAnswer : RouteLines → Option Files → Answer → Type 0
@@ -48,7 +53,8 @@ CurvesAnswer told answer = (said : Result (List ℕ) CaseFault) × AnswersCurves
 
 -- what a command answers to what a folder tells of its files; those that are served make no such answer
 abbrev pub Answers : Command → Option Files → Answer → Type 0
-Answers command.Load told answer = (said : Result ScenarioData CaseFault) × Describes told said × LoadAnswer said answer
+Answers command.Load told answer = ReportAnswer IsReport told answer
+Answers command.Delay told answer = ReportAnswer IsDelayReport told answer
 Answers command.Routes told answer = RouteAnswer lines.Splits told answer × IfOk answer (IsSplitsFile told)
 Answers command.RouteTimes told answer = RouteAnswer lines.Times told answer × IfOk answer (IsTimesFile told)
 Answers (command.Try start nodes) told answer = (text : List ℕ) × IsTrial start nodes text × (answer ≡ Ok text)
@@ -80,6 +86,7 @@ HasText c = Unit {0}
 -- the files that a command may fetch
 abbrev pub may_fetch : Command → Doc → Bool
 may_fetch command.Load d = is_case_file d
+may_fetch command.Delay d = is_case_file d
 may_fetch command.Routes d = is_of_roads d
 may_fetch command.RouteTimes d = is_of_roads d
 may_fetch command.Curves d = is_case_file d
@@ -89,6 +96,7 @@ may_fetch c d = false
 -- the files that it fetches from a folder with these files
 abbrev pub fetches : Command → Files → Doc → Bool
 fetches command.Load files d = asks_for files d
+fetches command.Delay files d = asks_for files d
 fetches command.Routes files d = is_of_roads d
 fetches command.RouteTimes files d = is_of_roads d
 fetches command.Curves files d = asks_for files d

@@ -13,6 +13,7 @@
 
 mod answer;
 mod closing;
+mod delay;
 mod load;
 mod refusing;
 mod status;

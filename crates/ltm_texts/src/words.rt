@@ -13,6 +13,8 @@ use ltm_units::read_number;
 pub enum Command {
     /// The report of the case's loading.
     Load,
+    /// What is spent, queued and waited in the case's loading: in all, by link and by origin.
+    Delay,
     /// The loading of the case as a curve file.
     Curves,
     /// Whether the curve file beside the case is its loading.
@@ -75,6 +77,9 @@ fn one_word(word: &str) -> Option<Command>
 {
     if word == "load" {
         return Some(Command::Load);
+    }
+    if word == "delay" {
+        return Some(Command::Delay);
     }
     if word == "curves" {
         return Some(Command::Curves);
@@ -148,5 +153,5 @@ pub fn one_reading()
 pub fn usage_text() -> &'static [u8]
     ensures { result.now ≡ usage_line }
 {
-    b"usage: ltm load | ltm session N | ltm try START NODES | ltm routes [times] | ltm curves | ltm check | ltm view V | ltm editors K\n"
+    b"usage: ltm load | ltm delay | ltm session N | ltm try START NODES | ltm routes [times] | ltm curves | ltm check | ltm view V | ltm editors K\n"
 }

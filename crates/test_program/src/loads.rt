@@ -73,6 +73,18 @@ fn loads_a_corridor(rt: HostRuntime) -> Result<(), Fail> {
 
 // In two the file of links is cut within its last field or before it.
 #[test]
+fn tells_delays(rt: HostRuntime) -> Result<(), Fail> {
+    let mut folder = one_road(rt.alloc())?;
+    let text =
+        "version 0 spent 2.000000 queued 0.000000 waited 0.000000\nlink a spent 2.000000 queued 0.000000 most 0.000 at 0\nnode n1 waited 0.000000 most 0.000 at 0\n";
+    expect(&rt, &["delay"], &mut folder, Status::Ok, text)?;
+    expect(&rt, &["delay", "a"], &mut folder, Status::Usage, USAGE)?;
+    let mut folder = folder_of(rt.alloc(), [SETUP, LINKS, DEMAND, "node\n"], &[])?;
+    let line = "bad case splits row 1 Header\n";
+    expect(&rt, &["delay"], &mut folder, Status::BadCase, line)
+}
+
+#[test]
 fn refuses_a_bad_case(rt: HostRuntime) -> Result<(), Fail> {
     let cases: [(&str, &str, &str, &str); 8] = [
         (

@@ -7,6 +7,7 @@
 
 #[cfg(test)]
 mod cases;
+#[cfg(test)]
 mod delays;
 #[cfg(test)]
 mod horizons;
