@@ -1,4 +1,5 @@
 """`./ltm`, with an `rt` and a program that are made for the test, in a small clone and a clean environment."""
+import functools
 import os
 import shutil
 import signal
@@ -261,7 +262,12 @@ class Proving(Clone):
 
     def test_an_interrupt_ends_what_it_started(self) -> None:
         self.rt(PROVES, 'if [ $1 = all ]; then echo $$ >"$MADE/pid"; exec sleep 60; fi')
-        proof = subprocess.Popen([self.top / "ltm", "--prove", "--jobs", "4"], cwd=self.folder, env=self.environment(), stderr=subprocess.PIPE, text=True, start_new_session=True)
+        # a shell that starts what runs these tests in the background has it ignore interrupts
+        heard = functools.partial(signal.signal, signal.SIGINT, signal.SIG_DFL)
+        proof = subprocess.Popen(
+            [self.top / "ltm", "--prove", "--jobs", "4"],
+            cwd=self.folder, env=self.environment(), stderr=subprocess.PIPE, text=True, start_new_session=True, preexec_fn=heard,
+        )
         for _ in range(200):
             time.sleep(0.05)
             if (self.made / "pid").exists() and (self.made / "pid").read_text().strip():
