@@ -24,3 +24,26 @@ fn a_shut_exit_makes_a_queue_once_it_is_settled(rt: HostRuntime) {
         refused queue UnknownName\n";
     expect_answers(&rt, rt.alloc(), Case::LongerRoad, script, output);
 }
+
+// By hand: half a vehicle is produced by boundary 1 and leaves at once; where the entry is shut in slot 0 it waits then, which
+// is told once it is settled.
+#[test]
+fn a_shut_entry_makes_vehicles_wait_once_it_is_settled(rt: HostRuntime) {
+    let script = "{\"do\":\"origin\",\"node\":\"n1\",\"slot\":1}\n\
+        {\"do\":\"edit\",\"edits\":[{\"kind\":\"limit\",\"link\":\"a\",\"from\":0,\"to\":1,\"vehicles\":\"0\"}]}\n\
+        {\"do\":\"origin\",\"node\":\"n1\",\"slot\":1}\n\
+        {\"do\":\"settle\"}\n\
+        {\"do\":\"origin\",\"node\":\"n1\",\"slot\":1}\n\
+        {\"do\":\"origin\",\"node\":\"n2\",\"slot\":4}\n\
+        {\"do\":\"origin\",\"node\":\"n1\",\"slot\":5}\n\
+        {\"do\":\"origin\",\"node\":\"z\",\"slot\":5}\n";
+    let output = "version 0 node n1 slot 1 produced 0.500 left 0.500 waiting 0.000\n\
+        accepted version 1\n\
+        version 0 node n1 slot 1 produced 0.500 left 0.500 waiting 0.000\n\
+        settled version 1 recomputed 5\n\
+        version 1 node n1 slot 1 produced 0.500 left 0.000 waiting 0.500\n\
+        version 1 node n2 slot 4 produced 0.000 left 0.000 waiting 0.000\n\
+        refused origin BadSlots\n\
+        refused origin UnknownName\n";
+    expect_answers(&rt, rt.alloc(), Case::LongerRoad, script, output);
+}
