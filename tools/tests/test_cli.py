@@ -1,5 +1,6 @@
 """The command line: what is wrong is one line and status 1, never a traceback."""
 import os
+import shutil
 import subprocess
 import sys
 import unittest
@@ -89,8 +90,11 @@ class Command(FolderTest):
         self.assertFault(self.run_tool("inspect", "-case"), "required: folder")
 
     def test_the_clone_stays_as_it_is(self) -> None:
-        self.run_tool("inspect", self.case())
-        self.assertFalse((TOOLS / "ltm_tools" / "__pycache__").exists())
+        clone = self.folder / "tools"  # one that nobody else has compiled in
+        shutil.copytree(TOOLS, clone, ignore=shutil.ignore_patterns("__pycache__", "tests"))
+        done = subprocess.run([clone / "ltm-tools", "inspect", self.case()], capture_output=True, text=True)
+        self.assertEqual((done.returncode, done.stderr), (0, ""))
+        self.assertEqual(list(clone.rglob("__pycache__")), [])
 
 
 class Libraries(unittest.TestCase):
