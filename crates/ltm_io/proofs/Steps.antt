@@ -2,10 +2,10 @@
 use Rattle.std.proofs.Common.{ℕ, suc, ◌≡◌, ◌+◌, ◌<◌, ◌≤◌, ◌==◌, Bool, true, false, List, [], ◌∷◌, ◌++◌, length, Option, Some, None, IfSome, refl, ap, sym, ◌∙◌, append_assoc, length-append, arith, if◌then◌else◌}
 use Rattle.std.proofs.lemmas.List.{append-nil}
 use Rattle.std.proofs.lemmas.Bool.{le-ltb, lt-ltb}
-use Rattle.ltm_io.specs.Script.{lines_of, before_lines, after_line}
+use Rattle.ltm_io.specs.Script.{lines_of, before_lines, before_first, whole_lines, after_line}
 use Rattle.ltm_io.specs.Source.{prepended}
 use Rattle.ltm_io.specs.Bytes.{TakesOne}
-use Rattle.ltm_io.specs.Answers.{answer_to, Answers, GivesLine}
+use Rattle.ltm_io.specs.Answers.{answer_to, Answers, GivesLine, CutsLine}
 use Rattle.ltm_io.specs.declared.lines.Line.TheVariants.{Text, End, TooLong}
 
 -- what stands before the first newline, or all
@@ -171,4 +171,28 @@ passes max (Some bytes) now new line b full (rest, at_now, p) t plain =
     passing max (first_line bytes) (lines_of (after_line bytes)) (omega (arith, full, ap length first, length-append line (b ∷ first_line more)))
     ∙ ap (answer_to max) (sym (cut bytes (omega (arith, long))))
 
-pub ruleset line_steps = (joins, ends_line, ends_text, last_line, last_text, no_line, same_end, passes, start)
+-- ---- a read failed
+none_whole : (b : ℕ) (lines : List (List ℕ)) → before_first b lines ≡ [] → lines ≡ []
+none_whole b [] h = refl
+none_whole b (line ∷ lines) h = cc
+
+unended_rest : (b : ℕ) (bs : List ℕ) (t : Bool) → (b == 10) ≡ t → whole_lines (b ∷ bs) ≡ [] → (t ≡ false) × (whole_lines bs ≡ [])
+unended_rest b bs true h none = let whole : [] ∷ whole_lines bs ≡ [] = rw h at none in absurd (cc)
+unended_rest b bs false h none = let rest : before_first b (whole_lines bs) ≡ [] = rw h at none in (refl, none_whole b (whole_lines bs) rest)
+
+plain_whole : (b : ℕ) (bs : List ℕ) → (b == 10) ≡ false → whole_lines bs ≡ [] → whole_lines (b ∷ bs) ≡ []
+plain_whole b bs h none = rw (h, none) refl
+
+-- a byte that is no newline ends no line
+pub unended : (line : List ℕ) (b : ℕ) → whole_lines line ≡ [] → (b == 10) ≡ false → whole_lines (line ++ b ∷ []) ≡ []
+unended [] b none plain = plain_whole b [] plain refl
+unended (c ∷ line) b none plain =
+    let (kind, rest) = unended_rest c line (c == 10) refl none in
+    plain_whole c (line ++ b ∷ []) kind (unended line b rest plain)
+
+-- what came of a line stands before what is left in the source
+pub cuts : (told now left : Option (List ℕ)) (line : List ℕ) → whole_lines line ≡ [] → Progresses told line now → now ≡ left → CutsLine told line left
+cuts None now left line none p is = (ap (prepended line) (sym p ∙ is), none)
+cuts (Some bytes) now left line none (rest, at_now, p) is = (ap Some p.whole ∙ ap (prepended line) (sym at_now ∙ is), none)
+
+pub ruleset line_steps = (joins, ends_line, ends_text, last_line, last_text, no_line, same_end, passes, start, unended, cuts)

@@ -1,6 +1,7 @@
 -- What a reader of lines answers.
 use Rattle.std.specs.Prelude.{ℕ, ◌≡◌, nat_lt, if◌then◌else◌, List, [], ◌∷◌, length, Option, Some, None}
-use Rattle.ltm_io.specs.Script.{lines_of, after_line}
+use Rattle.ltm_io.specs.Source.{prepended}
+use Rattle.ltm_io.specs.Script.{lines_of, whole_lines, after_line}
 use Rattle.ltm_io.specs.declared.lines.Line.{Line}
 use Rattle.ltm_io.specs.declared.lines.Line.TheVariants.{Text, End, TooLong, ReadFault}
 
@@ -18,6 +19,10 @@ Answers max answer (Some bytes) = answer ≡ answer_to max (lines_of bytes)
 abbrev pub GivesLine : Option (List ℕ) → List ℕ → Option (List ℕ) → Type 0
 GivesLine None text left = left ≡ None
 GivesLine (Some bytes) text left = (lines_of bytes ≡ text ∷ lines_of (after_line bytes)) × (left ≡ Some (after_line bytes))
+
+-- this much of a line came, and the rest of what was coming is left in the source
+abbrev pub CutsLine : Option (List ℕ) → List ℕ → Option (List ℕ) → Type 0
+CutsLine coming text left = (coming ≡ prepended text left) × (whole_lines text ≡ [])
 
 -- the answer that is kept after an answer
 abbrev pub kept_after : Line → Option Line

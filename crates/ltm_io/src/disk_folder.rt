@@ -97,6 +97,8 @@ impl<R: Files + Drop + Copy> OpenFolder for DiskFolder<R> {
     fn close(&mut self, doc: Doc, file: RealFile<R::File>)
         ensures failed { 0 < real.faults_of file
             → Rose (faults_of self.old doc) (faults_of self.new doc) }
+        ensures stays { real.faults_of file ≡ 0
+            → (d : Doc) → faults_of self.new d ≡ faults_of self.old d }
         ensures later { (d : Doc) → faults_of self.old d ≤ faults_of self.new d }
         ensures others { (d : Doc) → d ≢ doc → faults_of self.new d ≡ faults_of self.old d }
     {

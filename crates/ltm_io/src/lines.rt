@@ -49,7 +49,7 @@ impl Drop for Lines {
 
 impl Lines {
     ghost use Rattle.ltm_io.specs.Lines.{max_of, taken_by, text_of, kept_by, coming};
-    ghost use Rattle.ltm_io.specs.Answers.{Answers, GivesLine, kept_after};
+    ghost use Rattle.ltm_io.specs.Answers.{Answers, GivesLine, CutsLine, kept_after};
 
     /// A reader of lines of at most `max` bytes, which has taken nothing and keeps no answer. It takes all the memory
     /// that later calls need.
@@ -68,7 +68,7 @@ impl Lines {
         })
     }
 
-    /// The line that `next` read last.
+    /// The line that `next` read last, and after a failed read what came of one.
     pub fn text(&self) -> &[u8]
         ensures { result.now ≡ text_of self.now }
     {
@@ -82,7 +82,8 @@ impl Lines {
         ensures same { kept_by self.old ≢ None → self.new ≡ self.old }
         ensures untouched { kept_by self.old ≢ None → source.new ≡ source.old }
 
-        // Else the answer to the lines that are coming, where they are told and no read fails.
+        // Else the answer to the lines that are coming, where they are told and no read fails. With a failed read the
+        // bytes that came since the last line are the text, and no whole line is among them.
         ensures answer { kept_by self.old ≡ None → result ≢ Line.ReadFault
             → Answers (max_of self.old) result (coming self.old (S.left source.old)) }
         ensures line { kept_by self.old ≡ None → result ≡ Line.Text
@@ -95,6 +96,9 @@ impl Lines {
         ensures all { kept_by self.old ≡ None → result ≡ Line.End → taken_by self.new ≡ [] }
         ensures rest { kept_by self.old ≡ None → result ≡ Line.End
             → IfSome (S.left source.new) (λ bytes. bytes ≡ []) }
+        ensures cut { kept_by self.old ≡ None → result ≡ Line.ReadFault
+            → CutsLine (coming self.old (S.left source.old)) (text_of self.new)
+            (S.left source.new) }
         ensures keeps { kept_by self.old ≡ None → kept_by self.new ≡ kept_after result }
 
         // Always.
@@ -126,6 +130,9 @@ impl Lines {
             → coming self.new (S.left source.new) ≡ coming self.old (S.left source.old) }
         ensures all { result ≡ Line.End → taken_by self.new ≡ [] }
         ensures rest { result ≡ Line.End → IfSome (S.left source.new) (λ bytes. bytes ≡ []) }
+        ensures cut { result ≡ Line.ReadFault
+            → CutsLine (coming self.old (S.left source.old)) (text_of self.new)
+            (S.left source.new) }
         ensures kept { kept_by self.new ≡ kept_by self.old }
         ensures max { max_of self.new ≡ max_of self.old }
         ensures later { S.faults source.old ≤ S.faults source.new }

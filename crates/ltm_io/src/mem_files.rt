@@ -39,6 +39,7 @@ impl OpenFolder for MemFolder {
     /// As the trait says. Nothing changes.
     fn close(&mut self, doc: Doc, file: SureSource)
         ensures failed { 0 < 0 → Rose (faults_of self.old doc) (faults_of self.new doc) }
+        ensures stays { (d : Doc) → faults_of self.new d ≡ faults_of self.old d }
         ensures keeps { Some (file_of self.new) ≡ Some (file_of self.old) }
         ensures later { (d : Doc) → faults_of self.old d ≤ faults_of self.new d }
         ensures others { (d : Doc) → d ≢ doc → faults_of self.new d ≡ faults_of self.old d }

@@ -30,10 +30,12 @@ pub trait OpenFolder: Folder {
         ensures later { (d : Doc) → Self.faults self.old d ≤ Self.faults self.new d }
         ensures others { (d : Doc) → d ≢ doc → Self.faults self.new d ≡ Self.faults self.old d };
 
-    /// Lets a file go. Where one of its reads failed, the folder's count of faults of the file rises.
+    /// Lets a file go. Where one of its reads failed, and only there, the folder's count of faults of the file rises.
     fn close(&mut self, doc: Doc, file: Self::File)
         ensures failed { 0 < Self.File.faults file
             → Rose (Self.faults self.old doc) (Self.faults self.new doc) }
+        ensures stays { Self.File.faults file ≡ 0
+            → (d : Doc) → Self.faults self.new d ≡ Self.faults self.old d }
         ensures keeps { Self.told self.new ≡ Self.told self.old }
         ensures later { (d : Doc) → Self.faults self.old d ≤ Self.faults self.new d }
         ensures others { (d : Doc) → d ≢ doc → Self.faults self.new d ≡ Self.faults self.old d };

@@ -83,6 +83,8 @@ impl ReadAhead {
         ensures all { IfOk result (λ byte. byte ≡ None → self.new ≡ []) }
         ensures rest { IfOk result
             (λ byte. byte ≡ None → IfSome (S.left source.new) (λ bytes. bytes ≡ [])) }
+        ensures refused { OnErr result
+            (prepended self.old (S.left source.old) ≡ S.left source.new) }
         ensures later { S.faults source.old ≤ S.faults source.new }
         ensures cause { OnErr result (Rose (S.faults source.old) (S.faults source.new)) }
     {

@@ -1,5 +1,5 @@
 //! An open file.
-ghost use Rattle.std.specs.Prelude.{◌≡◌, ◌<◌, ◌≤◌, true, length, None, IfOk, OnErr, OnOk};
+ghost use Rattle.std.specs.Prelude.{◌≡◌, ◌↔◌, ◌<◌, ◌≤◌, IsTrue, length, None, IfOk, OnErr, OnOk};
 ghost use Rattle.ltm_io.specs.Faults.{Rose, raised};
 
 use crate::{ReadFault, RealInput, Source};
@@ -36,7 +36,7 @@ impl<R: Read + Drop> RealFile<R> {
 
     /// Whether a read failed.
     pub(crate) fn has_failed(&self) -> bool
-        ensures { 0 < faults_of self.now → result ≡ true }
+        ensures { IsTrue result ↔ (0 < faults_of self.now) }
     {
         self.faults > 0
     }

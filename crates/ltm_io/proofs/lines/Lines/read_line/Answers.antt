@@ -6,4 +6,4 @@ use Rattle.ltm_io.proofs.lines.Lines.read_line.Goals as goal
 pub returns-else-is_empty-clause-answer : goal.returns-else-is_empty-clause-answer
 returns-else-is_empty-clause-answer g c = λ _.
     let l = c.loop in
-    last_text _ _ (prepended l.self.ahead (g.S.Source.left l.source)) _ l.self.line.items (grind arith) (omega arith) l.invariant.5 (rw c.in-Ok-None.field-0-is at c.in-Ok-None.ensures.took)
+    last_text _ _ (prepended l.self.ahead (g.S.Source.left l.source)) _ l.self.line.items (grind arith) (omega arith) l.invariant.6 (rw c.in-Ok-None.field-0-is at c.in-Ok-None.ensures.took)
