@@ -6,3 +6,4 @@ pub mod Showing
 pub mod Places
 pub mod Producing
 pub mod Renewing
+pub mod Filling

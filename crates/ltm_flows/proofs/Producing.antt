@@ -39,6 +39,9 @@ none_are nodes last xs is =
       adds_up = λ k m. none nodes k (omega arith) m ∙ sym (sum_below-zero nodes (λ n. amount_at xs nodes n k) (λ n l. none n k (omega (arith, l)) m));
     }
 
+pub nothing_at : (nodes last : ℕ) (xs : List ℕ) → xs ≡ replicate ((last + 1) * (nodes + 1)) 0 → (n k : ℕ) → n < nodes → k ≤ last → amount_at xs nodes n k ≡ 0
+nothing_at nodes last xs is n k c b = ap (λ (ys : List ℕ). amount_at ys nodes n k) is ∙ get_or-replicate ((last + 1) * (nodes + 1)) (k * (nodes + 1) + n) 0 0 (place_within nodes last n k (omega (arith, c)) b)
+
 -- ---- zeros behind amounts
 pub more_are : (nodes last more : ℕ) (xs ys : List ℕ) (zeros : ℕ) → AreAmounts nodes last xs → last ≤ more → ys ≡ xs ++ replicate zeros 0 → length ys ≡ (more + 1) * (nodes + 1) → AreAmounts nodes more ys
 more_are nodes last more xs ys zeros are l is long =

@@ -36,3 +36,13 @@ pub record RenewsNodes (s : Setting) (count from end : ℕ) (old new : Productio
   pub sizes : SameSizes old new
   pub renewed : (n k : ℕ) → n < count → from ≤ k → k < end → produced_in new n k ≡ produced_in_all s n k
   pub others : (n k : ℕ) → n < old.nodes → k ≤ old.room → (k < from) ⊎ (end ≤ k) → produced_in new n k ≡ produced_in old n k
+
+-- no node has produced anything
+abbrev pub ProducesNothing : Production → Type 0
+ProducesNothing p = (n k : ℕ) → n < p.nodes → k ≤ p.room → produced_in p n k ≡ 0
+
+-- the first nodes have produced what a setting says by each boundary up to its last, and the others nothing
+pub record ProducedByFirst (s : Setting) (count : ℕ) (old new : Production) : Type 0 where
+  pub sizes : SameSizes old new
+  pub first : (n k : ℕ) → n < count → n < old.nodes → k ≤ s.slots → produced_in new n k ≡ produced_in_all s n k
+  pub others : (n k : ℕ) → count ≤ n → n < old.nodes → k ≤ s.slots → produced_in new n k ≡ 0

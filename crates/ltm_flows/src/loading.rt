@@ -7,20 +7,18 @@ ghost use Rattle.ltm_curve.specs.TotalCurves.{total_groups, total_slots, total_a
 ghost use Rattle.ltm_loading.specs.Setting.{Setting, IsSetting};
 ghost use Rattle.ltm_loading.specs.Groups.{groups};
 ghost use Rattle.ltm_loading.specs.Loading.{IsLoading};
-ghost use Rattle.ltm_loading.specs.Totals.{arrived, entered_link, left_link};
 ghost use Rattle.ltm_setting.specs.Setting.{setting_of};
 ghost use Rattle.ltm_loading.specs.Shaped.{IsShaped};
-ghost use Rattle.ltm_flows.specs.Origins.{produced_in_all, departed_from};
 
-use crate::in_all::Totals;
+mod reading;
+
 use crate::production::Production;
-use crate::sums::sum_up;
 use crate::tables::{free_times, production, write_free_times};
 use ltm_curve::{Changed, Curves, TotalCurves};
-use ltm_loading::{arr_behind, dep_behind, down_of, never_fall, totals_small, up_of};
+use ltm_loading::{never_fall, totals_small};
 use ltm_scenario::Scenario;
 use ltm_setting::{is_setting, link_count, node_count, step};
-use ltm_units::{LinkId, Millis, NoMemory, NodeId, Units};
+use ltm_units::{LinkId, Millis, NoMemory, NodeId};
 use std::alloc::Global;
 
 /// A finished loading with its version, the totals of its groups by boundary, the free-flow times of its links and what
@@ -72,8 +70,6 @@ impl Loading {
       curves_of,
       last_of,
       free_of,
-      produced_of,
-      generated_of,
       loading_room,
       ShowsCounts,
       Fits,
@@ -83,8 +79,6 @@ impl Loading {
       RenewsProduction,
       SameLoading,
     };
-    ghost use Rattle.ltm_flows.specs.InAll.{AreTotals};
-    ghost use Rattle.ltm_flows.specs.Counted.{arrived_of, entered_of, left_of, departed_by, entered_by, left_by, SumsUp};
 
     /// The loading of a scenario, from its finished curves, of which the totals are kept.
     pub fn create(
@@ -231,104 +225,5 @@ impl Loading {
         ensures { result.0 ≡ free_of self.now link.0 }
     {
         self.free[link.0 as usize]
-    }
-
-    /// What the origin of a node has produced by a boundary, in thousandths of a vehicle; of a node that is no origin it
-    /// is 0.
-    pub fn produced(&self, node: NodeId, boundary: u32) -> Units
-        requires node { node.0 < nodes_of self.now }
-        requires boundary { boundary ≤ last_of self.now }
-        ensures counted { result.0 ≡ produced_of self.now node.0 boundary }
-        ensures small { result.0 ≤ 10000000000000 }
-        ensures shown { (s : Setting) (version : ℕ) (c : Counts) → ShowsCounts s version c self.now
-            → result.0 ≡ produced_in_all s node.0 boundary }
-    {
-        Units(self.production.produced(node, boundary))
-    }
-
-    /// What all origins have produced by a boundary.
-    pub fn generated(&self, boundary: u32) -> Units
-        requires { boundary ≤ last_of self.now }
-        ensures { result.0 ≡ generated_of self.now boundary }
-    {
-        Units(self.production.all(boundary))
-    }
-
-    /// What has arrived at its destination by a boundary.
-    pub fn arrived(&self, boundary: u32) -> Units
-        requires { boundary ≤ last_of self.now }
-        ensures counted { result.0 ≡ arrived_of self.now boundary }
-        ensures shown { (s : Setting) (version : ℕ) (c : Counts) → ShowsCounts s version c self.now
-            → result.0 ≡ arrived s c boundary }
-    {
-        let group = arr_behind(self.links, self.nodes);
-        Units(self.curves.total(group, boundary))
-    }
-
-    /// What has entered a link by the last boundary.
-    pub fn entered(&self, link: LinkId) -> Units
-        requires { link.0 < links_of self.now }
-        ensures counted { result.0 ≡ entered_of self.now link.0 }
-        ensures shown { (s : Setting) (version : ℕ) (c : Counts) → ShowsCounts s version c self.now
-            → result.0 ≡ entered_link s c link.0 s.slots }
-    {
-        Units(self.curves.total(up_of(link), self.curves.slots()))
-    }
-
-    /// What has left a link by the last boundary.
-    pub fn left(&self, link: LinkId) -> Units
-        requires { link.0 < links_of self.now }
-        ensures counted { result.0 ≡ left_of self.now link.0 }
-        ensures shown { (s : Setting) (version : ℕ) (c : Counts) → ShowsCounts s version c self.now
-            → result.0 ≡ left_link s c link.0 s.slots }
-    {
-        Units(self.curves.total(down_of(link), self.curves.slots()))
-    }
-
-    /// What has left the origin of a node by a boundary.
-    pub fn departed(&self, node: NodeId, boundary: u32) -> Units
-        requires node { node.0 < nodes_of self.now }
-        requires boundary { boundary ≤ last_of self.now }
-        ensures counted { result.0 ≡ departed_by self.now node.0 boundary }
-        ensures small { result.0 ≤ 2 ^ 37 }
-        ensures shown { (s : Setting) (version : ℕ) (c : Counts) → ShowsCounts s version c self.now
-            → result.0 ≡ departed_from s c node.0 boundary }
-    {
-        Units(self.curves.total(dep_behind(self.links, node), boundary))
-    }
-
-    /// What has entered a link by a boundary.
-    pub fn entered_by(&self, link: LinkId, boundary: u32) -> Units
-        requires link { link.0 < links_of self.now }
-        requires boundary { boundary ≤ last_of self.now }
-        ensures counted { result.0 ≡ entered_by self.now link.0 boundary }
-        ensures small { result.0 ≤ 2 ^ 37 }
-        ensures shown { (s : Setting) (version : ℕ) (c : Counts) → ShowsCounts s version c self.now
-            → result.0 ≡ entered_link s c link.0 boundary }
-    {
-        Units(self.curves.total(up_of(link), boundary))
-    }
-
-    /// What has left a link by a boundary.
-    pub fn left_by(&self, link: LinkId, boundary: u32) -> Units
-        requires link { link.0 < links_of self.now }
-        requires boundary { boundary ≤ last_of self.now }
-        ensures counted { result.0 ≡ left_by self.now link.0 boundary }
-        ensures small { result.0 ≤ 2 ^ 37 }
-        ensures shown { (s : Setting) (version : ℕ) (c : Counts) → ShowsCounts s version c self.now
-            → result.0 ≡ left_link s c link.0 boundary }
-    {
-        Units(self.curves.total(down_of(link), boundary))
-    }
-
-    /// What the loading comes to in all at the last boundary.
-    pub fn totals(&self) -> Totals
-        ensures counted { SumsUp self.now result }
-        ensures shown { (s : Setting) (version : ℕ) (c : Counts) → ShowsCounts s version c self.now
-            → AreTotals s c s.slots result }
-    {
-        let last = self.slots();
-        let generated = self.generated(last).0;
-        sum_up(&self.curves, self.links, self.nodes, last, generated)
     }
 }

@@ -8,7 +8,7 @@ ghost use Rattle.ltm_flows.specs.Amounts.{amount_at, AreAmounts};
 ghost use Rattle.ltm_setting.specs.Setting.{setting_of};
 
 use ltm_scenario::Scenario;
-use ltm_setting::produced_total;
+use ltm_setting::{is_setting, produced_total, slot_count};
 use ltm_units::{NoMemory, NodeId};
 use std::alloc::Global;
 
@@ -57,6 +57,8 @@ impl Production {
       SetsAmount,
       RenewsNode,
       RenewsNodes,
+      ProducesNothing,
+      ProducedByFirst,
     };
 
     /// Nothing, by the boundaries up to so many.
@@ -64,6 +66,7 @@ impl Production {
         requires { nodes ≤ 8000 }
         ensures nodes { IfOk result (λ p. p.nodes ≡ nodes) }
         ensures room { IfOk result (λ p. p.room ≡ room) }
+        ensures nothing { IfOk result ProducesNothing }
     {
         let amounts = zeros(alloc, table_size(nodes, room))?;
         Ok(Production {
@@ -155,6 +158,23 @@ impl Production {
         for boundary in from..end {
             let amount = produced_total(scenario, node, boundary);
             self.set(node, boundary, amount);
+        }
+    }
+
+    /// Writes what the origin of each node has produced by each boundary of a scenario, where nothing is produced yet. A node
+    /// that has produced nothing by the last one is asked once.
+    pub fn fill(&mut self, scenario: &Scenario)
+        requires nodes { self.old.nodes ≡ (setting_of scenario.now).nodes }
+        requires room { (setting_of scenario.now).slots ≤ self.old.room }
+        requires nothing { ProducesNothing self.old }
+        ensures { ProducedByFirst (setting_of scenario.now) self.old.nodes self.old self.new }
+    {
+        is_setting(scenario);
+        let last = slot_count(scenario);
+        for node in 0..self.nodes {
+            if produced_total(scenario, NodeId(node), last) > 0 {
+                self.renew_node(scenario, NodeId(node), 0, last + 1);
+            }
         }
     }
 

@@ -43,6 +43,6 @@ pub(crate) fn production(alloc: Global, scenario: &Scenario) -> Result<Productio
 {
     let last = slot_count(scenario);
     let mut production = Production::none(alloc, node_count(scenario), last)?;
-    production.renew(scenario, 0, last + 1);
+    production.fill(scenario);
     Ok(production)
 }
