@@ -1,0 +1,82 @@
+-- The node step by shares.
+use Rattle.std.proofs.Common.{◌≡◌, ℕ, ◌+◌, ◌*◌, ◌/◌, ◌<◌, List, ◌++◌, length, length-append, max, arith, refl, ap}
+use Rattle.ltm_curve.specs.First.{list_below}
+use Rattle.ltm_curve.proofs.Lists.{length-list_below}
+use Rattle.ltm_shares.specs.Shares.{AreShares, HeldBackBy}
+use Rattle.ltm_node.specs.Inputs.{Inputs, capacity, left, entered, arrived}
+use Rattle.ltm_node.specs.Outputs.{Outputs}
+use Rattle.ltm_node.specs.Demands.{sent, sent_into, priority, demands}
+use Rattle.ltm_node.specs.Moving.{priority_or_more, filled_demands}
+use Rattle.ltm_node.specs.Step.{gone, come, sunk_in_all, MovesAtShares}
+use Rattle.ltm_node.proofs.Ranges.{sent_into_le}
+use Rattle.ltm_node.proofs.Demanded.{filled_small}
+use Rattle.ltm_loading.specs.Pairs.{grid}
+use Rattle.ltm_loading.proofs.Rows.{HasCounts, counted, has_counts, length-grid}
+use Rattle.ltm_existence.specs.Existence.{HasShares, ThereIsAStep}
+use Rattle.ltm_existence.proofs.Rounds.{there_are_shares_holds}
+
+priority_same : (n : Inputs) (i j : ℕ) → 0 < sent_into n i j → priority_or_more n i ≡ priority n i
+priority_same n i j uses =
+    let e : max 1 (sent n i) ≡ sent n i = omega (arith, sent_into_le n i j) in ap (λ z. 1024 * capacity n i / z) e
+
+-- the priority of an arm that sends nothing plays no part
+shares_filled : (n : Inputs) (d : ℕ) (p : ℕ → ℕ) → AreShares (filled_demands n) d p → AreShares (demands n) d p
+shares_filled n d p s = record {
+  positive = s.positive;
+  at_most_all = s.at_most_all;
+  within_supply = s.within_supply;
+  held_back = λ i l less.
+      let by = s.held_back i l less in
+      let b : HeldBackBy (filled_demands n) d p i by.0 = by.1 in (
+        by.0,
+        record {
+          is_out = b.is_out;
+          uses = b.uses;
+          full = b.full;
+          greatest = λ k c u. omega (arith, b.greatest k c u, ap (λ z. p k * z) (priority_same n i by.0 b.uses), ap (λ z. p i * z) (priority_same n k by.0 u));
+        },
+      );
+}
+
+length-counted : (a o m : ℕ) (gone enter : ℕ → ℕ → ℕ) (come : ℕ) → length (counted a o m gone enter come) ≡ a * m + o * m + 1
+length-counted a o m gone enter come =
+    let p1 : List ℕ = grid a m gone in
+    let p2 : List ℕ = grid o m enter in
+    let p3 : List ℕ = list_below 1 (λ k. come) in
+    omega (arith, length-append p1 (p2 ++ p3), length-append p2 p3, length-grid a m gone, length-grid o m enter, length-list_below 1 (λ k. come))
+
+-- the counts at the next boundary, at these shares
+abbrev moved_row : Inputs → ℕ → (ℕ → ℕ) → List ℕ
+moved_row n e p =
+    counted n.shape.arms n.shape.outs n.shape.destinations (λ i d. left n i d + gone n e p i d) (λ j d. entered n j d + come n e p j d) (arrived n + sunk_in_all n e p)
+
+abbrev moved_outputs : Inputs → ℕ → (ℕ → ℕ) → Outputs
+moved_outputs n e p = record { shape = n.shape; row = moved_row n e p; room = 0 }
+
+moves_at : (n : Inputs) (e : ℕ) (p : ℕ → ℕ) → MovesAtShares n e p (moved_outputs n e p)
+moves_at n e p =
+    let gone_to : ℕ → ℕ → ℕ = λ i d. left n i d + gone n e p i d in
+    let come_to : ℕ → ℕ → ℕ = λ j d. entered n j d + come n e p j d in
+    let all : ℕ = arrived n + sunk_in_all n e p in
+    let held : HasCounts (moved_row n e p) n.shape.arms n.shape.outs n.shape.destinations gone_to come_to all =
+    has_counts n.shape.arms n.shape.outs n.shape.destinations gone_to come_to all in
+    record {
+      shape = refl;
+      width = length-counted n.shape.arms n.shape.outs n.shape.destinations gone_to come_to all;
+      left = held.left;
+      entered = held.entered;
+      arrived = held.arrived;
+    }
+
+pub there_is_a_step_holds : ThereIsAStep
+there_is_a_step_holds n solvable =
+    let given : HasShares (filled_demands n) = there_are_shares_holds (filled_demands n) (filled_small n solvable) in
+    record {
+      outputs = moved_outputs n given.denominator given.numerators;
+      step = ∣ record {
+        denominator = given.denominator;
+        numerators = given.numerators;
+        shares = shares_filled n given.denominator given.numerators given.shares;
+        moves = moves_at n given.denominator given.numerators;
+      } ∣₁;
+    }

@@ -1,0 +1,5 @@
+use Rattle.ltm_existence.proofs.Fronts.{there_is_a_next_front_holds}
+use Rattle.ltm_existence.proofs.laws.there_is_a_next_front.Goals as goal
+
+pub returns : goal.returns
+returns c = there_is_a_next_front_holds
