@@ -6,6 +6,7 @@ mod Placing
 mod DigitsBack
 mod Joined
 mod RowsWritten
+mod Passing
 mod ReadBack
 mod Telling
 mod Cutting

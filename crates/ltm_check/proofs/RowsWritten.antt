@@ -57,10 +57,10 @@ pub texts_same : (n : ℕ) (f g : ℕ → List ℕ) → ((k : ℕ) → k < n →
 texts_same zero f g same = refl
 texts_same (suc n) f g same = ap (λ (z : List ℕ). z ++ f n) (texts_same n f g (λ k l. same k (omega arith))) ∙ ap (λ (z : List ℕ). texts_below n g ++ z) (same n (omega arith))
 
-texts_at : (m n : ℕ) (f : ℕ → List ℕ) → m ≡ n → texts_below m f ≡ texts_below n f
+pub texts_at : (m n : ℕ) (f : ℕ → List ℕ) → m ≡ n → texts_below m f ≡ texts_below n f
 texts_at m n f e = ap (λ (z : ℕ). texts_below z f) e
 
-texts_add : (m n : ℕ) (f : ℕ → List ℕ) → texts_below (m + n) f ≡ texts_below m f ++ texts_below n (λ k. f (m + k))
+pub texts_add : (m n : ℕ) (f : ℕ → List ℕ) → texts_below (m + n) f ≡ texts_below m f ++ texts_below n (λ k. f (m + k))
 texts_add m zero f = texts_at (m + 0) m f (omega arith) ∙ sym (append-nil (texts_below m f))
 texts_add m (suc n) f = texts_at (m + suc n) (suc (m + n)) f (omega arith) ∙ (ap (λ (z : List ℕ). z ++ f (m + n)) (texts_add m n f) ∙ append_assoc (texts_below m f) (texts_below n (λ k. f (m + k))) (f (m + n)))
 

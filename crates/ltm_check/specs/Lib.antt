@@ -7,4 +7,5 @@ pub mod Moves
 pub mod Pieces
 pub mod Verdict
 pub mod Text
+pub mod Passing
 pub mod ReadBack

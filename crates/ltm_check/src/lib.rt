@@ -21,6 +21,7 @@ mod record;
 mod rows;
 mod start;
 mod text;
+mod write;
 mod written;
 
 pub use check::check_curves;
@@ -28,5 +29,5 @@ pub use faults::{Checked, CurvesCause, CurvesFault, FileFault};
 pub use file::read_curves_from;
 pub use kept::kept_answers_alike;
 pub use read::read_curves;
-pub use text::curves_text;
+pub use write::write_curves;
 pub use written::{is_named, loading_is_told, written_is_read};

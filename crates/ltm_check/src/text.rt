@@ -1,19 +1,17 @@
-//! A loading's curves as a file.
-ghost use Rattle.std.specs.Prelude.{◌≡◌, ◌++◌, ◌<◌, ◌≤◌, ◌+◌, OnOk, OnErr};
+//! The lines of a curve file.
+ghost use Rattle.std.specs.Prelude.{◌≡◌, ◌++◌, ◌<◌, ◌≤◌, ◌+◌, OnOk};
 ghost use Rattle.std.specs.Fmt.{decimal};
 ghost use Rattle.ltm_curve.specs.Table.{counts_of, groups_of, destinations_of, slots_of};
 ghost use Rattle.ltm_loading.specs.Groups.{groups};
 ghost use Rattle.ltm_setting.specs.Setting.{setting_of};
 ghost use Rattle.ltm_loading.specs.Shaped.{IsShaped};
 ghost use Rattle.ltm_units.specs.Texts.{texts_below};
-ghost use Rattle.ltm_check.specs.Text.{further_count, counts_text, due_text, record_text, header_text, group_text, curves_file};
+ghost use Rattle.ltm_check.specs.Text.{further_count, counts_text, due_text, record_text, header_text};
 
 use crate::due::{kind_of, name_of, name_of_destination};
 use ltm_curve::Curves;
 use ltm_scenario::Scenario;
-use ltm_setting::{destination_count, slot_count};
 use ltm_units::{NoMemory, push_number, push_text};
-use std::alloc::Global;
 
 #[tactic(auto, unfolding(ltm_units::specs::Texts::number_piece))]
 fn push_count(into: &mut Vec<u8>, count: u64) -> Result<(), NoMemory>
@@ -85,8 +83,9 @@ fn push_due(
     push_text(into, b",")
 }
 
+/// Appends the record of a group and a destination.
 #[tactic(auto, unfolding(crate::specs::Text::record_text))]
-fn push_record(
+pub(crate) fn push_record(
     scenario: &Scenario,
     curves: &Curves,
     group: u32,
@@ -104,60 +103,10 @@ fn push_record(
     push_text(into, b"\n")
 }
 
-/// Appends the records of a group, one for each destination.
-#[tactic(auto, unfolding(crate::specs::Text::group_text))]
-fn push_group(
-    scenario: &Scenario,
-    curves: &Curves,
-    group: u32,
-    into: &mut Vec<u8>,
-) -> Result<(), NoMemory>
-    requires shape { IsShaped (setting_of scenario.now) curves.now }
-    requires group { group < groups (setting_of scenario.now) }
-    ensures { OnOk result (into.new.items
-        ≡ into.old.items ++ group_text scenario.now (counts_of curves.now) group) }
-{
-    for destination in 0..destination_count(scenario) {
-        push_record(scenario, curves, group, destination, into)?;
-    }
-    Ok(())
-}
-
-/// Appends the records of all groups.
-fn push_groups(scenario: &Scenario, curves: &Curves, into: &mut Vec<u8>) -> Result<(), NoMemory>
-    requires { IsShaped (setting_of scenario.now) curves.now }
-    ensures { OnOk result (into.new.items ≡ into.old.items
-        ++ texts_below (groups (setting_of scenario.now))
-        (group_text scenario.now (counts_of curves.now))) }
-{
-    for group in 0..curves.groups() {
-        push_group(scenario, curves, group, into)?;
-    }
-    Ok(())
-}
-
+/// Appends the header.
 #[tactic(auto, unfolding(crate::specs::Text::header_text))]
-fn push_header(into: &mut Vec<u8>) -> Result<(), NoMemory>
+pub(crate) fn push_header(into: &mut Vec<u8>) -> Result<(), NoMemory>
     ensures { OnOk result (into.new.items ≡ into.old.items ++ header_text) }
 {
     push_text(into, b"kind,name,destination,counts\n")
-}
-
-/// Appends curves of a scenario's shape as a curve file, as `read_curves` reads it.
-#[tactic(auto, unfolding(crate::specs::Text::curves_file))]
-pub fn curves_text(
-    alloc: Global,
-    scenario: &Scenario,
-    curves: &Curves,
-    into: &mut Vec<u8>,
-) -> Result<(), NoMemory>
-    requires { IsShaped (setting_of scenario.now) curves.now }
-    ensures ok { OnOk result (into.new.items
-        ≡ into.old.items ++ curves_file scenario.now (counts_of curves.now)) }
-    ensures err { OnErr result (into.new.items ≡ into.old.items) }
-{
-    let mut text = Vec::new(alloc);
-    push_header(&mut text)?;
-    push_groups(scenario, curves, &mut text)?;
-    push_text(into, text.as_slice())
 }

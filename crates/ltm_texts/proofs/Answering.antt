@@ -15,7 +15,7 @@ use Rattle.ltm_report.specs.Reports.{IsReport}
 use Rattle.ltm_report.specs.DelayReports.{IsDelayReport}
 use Rattle.ltm_checking.specs.declared.refusal.Refusal.{Refusal}
 use Rattle.ltm_checking.specs.declared.refusal.Refusal.TheVariants as refusal
-use Rattle.ltm_checking.specs.Loaded.{AnswersCurves}
+use Rattle.ltm_checking.specs.Loaded.{IsLoadingText}
 use Rattle.ltm_checking.specs.Checks.{AnswersRefusal}
 use Rattle.ltm_texts.specs.Answers.{Answers, AnswersFault, Describes, ReportAnswer}
 
@@ -64,8 +64,9 @@ times_fault told (fault.TooLong f) says = ((Err (fault.TooLong f), says, refl), 
 times_fault told (fault.Bad f row cause) says = ((Err (fault.Bad f row cause), says, refl), tt)
 times_fault told fault.NoMemory says = tt
 
-pub curves_told : (told : Option Files) (text : List ℕ) → AnswersCurves told (Ok text) → Answers command.Curves told (Ok text)
-curves_told told text says = (Ok text, says, refl)
+-- the curve file of the loading of a case
+pub curves_told : (told : Option Files) (s : ScenarioData) (text : List ℕ) → Describes told (Ok s) → IsLoadingText s text → Answers command.Curves told (Ok text)
+curves_told told s text describes is = (Ok text, (Ok s, describes, (text, is, refl)), refl)
 
 curves_refused : (told : Option Files) (e : CaseFault) → IfSome told (λ files. case_of files ≡ Err e) → Answers command.Curves told (Err (refusal.Case e))
 curves_refused told e describes = (Err e, (Err e, describes, refl), refl)

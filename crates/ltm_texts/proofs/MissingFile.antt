@@ -7,6 +7,7 @@ use Rattle.ltm_io.specs.declared.doc.Doc.TheVariants as doc
 use Rattle.ltm_io.specs.Folder.{Files}
 use Rattle.ltm_casefile.specs.declared.faults.File.{File}
 use Rattle.ltm_casefile.specs.declared.faults.File.TheVariants as file
+use Rattle.ltm_casefile.specs.declared.faults.CaseFault.{CaseFault}
 use Rattle.ltm_casefile.specs.declared.faults.CaseFault.TheVariants as fault
 use Rattle.ltm_casefile.specs.Case.{asks_for}
 use Rattle.ltm_casefile.specs.Faults.{HasRisen, WasAsked}
@@ -55,9 +56,12 @@ pub times_failed : (told : Option Files) (before now : Doc → ℕ) (f : File) �
 times_failed told before now f asked rose = roads_failed told before now f asked rose
 
 -- of the curve file of a case, and of a check
-pub curves_failed : (told : Option Files) (before now : Doc → ℕ) (f : File)
-    → IfSome told (λ files. WasAsked (asks_for files) (fault.Folder f)) → HasRisen before now (fault.Folder f) → FileFailed command.Curves told before now
-curves_failed told before now f asked rose = failed told before now f asked rose
+pub curves_missed : (told : Option Files) (before now : Doc → ℕ) (e : CaseFault)
+    → IfSome told (λ files. WasAsked (asks_for files) e) → HasRisen before now e → IsMissing (refusal.Case e) → FileFailed command.Curves told before now
+curves_missed told before now (fault.Folder f) asked rose missing = failed told before now f asked rose
+curves_missed told before now (fault.TooLong f) asked rose missing = absurd missing
+curves_missed told before now (fault.Bad f row cause) asked rose missing = absurd missing
+curves_missed told before now fault.NoMemory asked rose missing = absurd missing
 
 pub check_failed : (told : Option Files) (before now : Doc → ℕ) (e : Refusal) → HasMissed told before now e → IsMissing e → FileFailed command.Check told before now
 check_failed told before now (refusal.Case (fault.Folder f)) missed missing = missed

@@ -1,7 +1,8 @@
 -- Runs of commands: the files that stay, and what a text or a refusal leaves.
-use Rattle.std.proofs.Common.{ℕ, ◌≡◌, ◌⊎◌, inl, inr, refl, ap, sym, subst, ◌∙◌, arith, List, [], Option, None, Some, Bool, true, false}
+use Rattle.std.proofs.Common.{ℕ, ◌≡◌, ◌⊎◌, inl, inr, refl, ap, sym, subst, ◌∙◌, arith, List, [], length, Option, None, Some, Bool, true, false}
 use Rattle.std.specs.Prelude.{IfSome}
 use Rattle.std.proofs.lemmas.List.{append-nil}
+use Rattle.std.proofs.Math.Seq.{take-length}
 use Rattle.ltm_io.specs.declared.doc.Doc.{Doc}
 use Rattle.ltm_io.specs.Folder.{Files}
 use Rattle.ltm_io.specs.Faults.{Rose}
@@ -66,6 +67,13 @@ nothing_more (Some w) = ap Some (sym (append-nil w))
 no_front : (old new : Option (List ℕ)) (t : List ℕ) → new ≡ old → AppendsFront old new t
 no_front old new t same = (0, omega arith, same ∙ nothing_more old)
 
+whole_front : (old new : Option (List ℕ)) (t : List ℕ) → new ≡ appended t old → AppendsFront old new t
+whole_front old new t is = (length t, omega arith, is ∙ ap (λ (x : List ℕ). appended x old) (sym (take-length t)))
+
+no_well : (status : Status) → (status ≡ ending.WriteFault) ⊎ (status ≡ ending.NoMemory) → status ≡ ending.Ok → ⊥
+no_well status (inl failed) ok = let wrong : ending.WriteFault ≡ ending.Ok = sym failed ∙ ok in cc
+no_well status (inr none) ok = let wrong : ending.NoMemory ≡ ending.Ok = sym none ∙ ok in cc
+
 front_refused : (IsText : Status → List ℕ → Type 0) (Told : Type 0) (status due : Status) (t : List ℕ) (old new : Option (List ℕ)) → (Told → IsText due t) → (Told → due ≡ ending.FolderFault → ⊥)
     → (status ≡ ending.WriteFault → Told) → (new ≡ old) ⊎ (Told × AppendsFront old new t) → WritesFront IsText status old new
 front_refused IsText Told status due t old new says given failed (inr (told, front)) = inr (due, t, given told, says told, front)
@@ -112,6 +120,18 @@ module _ (IsText : Status → List ℕ → Type 0) (MayFetch : Doc → Type 0) w
       all (inl same) is = (t, subst (λ x. IsText x t) (sym same) says, wrote same)
       all (inr (inl failed)) is = absurd (subst IsWhole failed is)
       all (inr (inr none)) is = absurd (subst IsWhole none is)
+
+  -- a whole text was written
+  pub run_well : (t : List ℕ) (b a : Outside) → TouchesOnly MayFetch b a → Unread b a → IsText ending.Ok t → a.written ≡ appended t b.written → IsRun IsText MayFetch ⊥ ending.Ok b a
+  run_well t b a touches unread says wrote =
+      run_written ending.Ok ending.Ok t b a touches unread tt (λ is. cc) says (inl refl) (λ ok. wrote) (whole_front b.written a.written t wrote) (λ is. absurd (cc))
+
+  -- a front of a text was written, and then writing failed
+  pub run_cut : (status : Status) (t : List ℕ) (b a : Outside) → TouchesOnly MayFetch b a → Unread b a → IsText ending.Ok t
+      → (status ≡ ending.WriteFault) ⊎ (status ≡ ending.NoMemory) → AppendsFront b.written a.written t → (status ≡ ending.WriteFault → Rose b.write_faults a.write_faults)
+      → IsRun IsText MayFetch ⊥ status b a
+  run_cut status t b a touches unread says ends front rose =
+      run_written status ending.Ok t b a touches unread tt (λ is. cc) says (inr ends) (λ ok. absurd (no_well status ends ok)) front rose
 
   -- the line of a refusal was to be written, where one tells of it; or a file was missing
   pub run_refused : (Reads Told Missing : Type 0) (status due : Status) (t : List ℕ) (b a : Outside) → TouchesOnly MayFetch b a → Unread b a

@@ -75,7 +75,7 @@ AnswersFault command told (refusal.BadCurves row cause) = Answers command told (
 AnswersFault command told refusal.NoStart = Answers command told (Err refusal.NoStart)
 AnswersFault command told (refusal.NoStep node slot) = Answers command told (Err (refusal.NoStep node slot))
 
--- the whole text of the command is made before any of it is written; the others are served
+-- the command answers one text, or a line that refuses the files; the others are served
 abbrev pub HasText : Command → Type 0
 HasText (command.Session workers) = ⊥
 HasText (command.View viewers) = ⊥

@@ -17,7 +17,7 @@ use crate::delay::delay_case;
 use crate::load::report_case;
 use crate::words::Command;
 use ltm_casefile::CaseFault;
-use ltm_checking::{Refusal, case_curves, check_text};
+use ltm_checking::{Refusal, check_text};
 use ltm_io::{Folder, OpenFolder};
 use ltm_make::MakeFault;
 use ltm_routing::{RouteLines, route_text};
@@ -72,25 +72,6 @@ fn trial(alloc: Global, start: u64, nodes: u32) -> Result<Vec<u8>, CaseFault>
     }
 }
 
-/// The curve file of the loading of the folder's case, or why there is none.
-#[tactic(auto, using(crate::proofs::MissingFile::curves_failed, crate::proofs::Answering::curves_told, crate::proofs::Answering::curves_fault))]
-fn curves<F: Folder>(alloc: Global, folder: &mut F) -> Result<Vec<u8>, CaseFault>
-    ensures keeps { F.told folder.new ≡ F.told folder.old }
-    ensures others { (d : Doc) → is_case_file d ≡ false
-        → F.faults folder.new d ≡ F.faults folder.old d }
-    ensures unasked { IfSome (F.told folder.old) (λ files. (d : Doc) → asks_for files d ≡ false
-        → F.faults folder.new d ≡ F.faults folder.old d) }
-    ensures text { IfOk result (λ text. Answers Command.Curves (F.told folder.old)
-        (Ok text.items)) }
-    ensures fault { IfErr result (λ e. AnswersFault Command.Curves (F.told folder.old)
-        (Refusal.Case e)) }
-    ensures failed { (file : File) → result ≡ Err (CaseFault.Folder file)
-        → FileFailed Command.Curves (F.told folder.old) (F.faults folder.old)
-        (F.faults folder.new) }
-{
-    case_curves(alloc, folder)
-}
-
 /// That the curve file beside the folder's case is its loading, or why it is not.
 #[tactic(auto, using(crate::proofs::MissingFile::check_failed, crate::proofs::Answering::check_fault))]
 fn check<F: OpenFolder>(alloc: Global, folder: &mut F) -> Result<Vec<u8>, Refusal>
@@ -116,6 +97,7 @@ fn case_answer<F: Folder>(
     requires text { HasText command }
     requires sized { IsSized command }
     requires no_check { command ≢ Command.Check }
+    requires no_curves { command ≢ Command.Curves }
     ensures keeps { F.told folder.new ≡ F.told folder.old }
     ensures others { (d : Doc) → may_fetch command d ≡ false
         → F.faults folder.new d ≡ F.faults folder.old d }
@@ -132,7 +114,7 @@ fn case_answer<F: Folder>(
         Command::Routes => route_splits(alloc, folder),
         Command::RouteTimes => route_times(alloc, folder),
         Command::Try { start, nodes } => trial(alloc, start, nodes),
-        Command::Curves => curves(alloc, folder),
+        Command::Curves => unreachable!(),
         Command::Check => unreachable!(),
         Command::Session { .. } => unreachable!(),
         Command::View { .. } => unreachable!(),
@@ -145,6 +127,7 @@ fn told<F: Folder>(alloc: Global, command: Command, folder: &mut F) -> Result<Ve
     requires text { HasText command }
     requires sized { IsSized command }
     requires no_check { command ≢ Command.Check }
+    requires no_curves { command ≢ Command.Curves }
     ensures keeps { F.told folder.new ≡ F.told folder.old }
     ensures others { (d : Doc) → may_fetch command d ≡ false
         → F.faults folder.new d ≡ F.faults folder.old d }
@@ -169,6 +152,7 @@ pub fn answer<F: OpenFolder>(
 ) -> Result<Vec<u8>, Refusal>
     requires text { HasText command }
     requires sized { IsSized command }
+    requires no_curves { command ≢ Command.Curves }
     ensures keeps { F.told folder.new ≡ F.told folder.old }
     ensures others { (d : Doc) → may_fetch command d ≡ false
         → F.faults folder.new d ≡ F.faults folder.old d }

@@ -11,7 +11,7 @@ pub enum Status {
     Usage,
     /// 3: a file of the case could not be fetched, and nothing is written.
     FolderFault,
-    /// 4: the input failed, and the answers to the lines before are written.
+    /// 4: the input failed, and the answers to the lines that had come whole are written.
     ReadFault,
     /// 5: the output failed, and a front of what was to be written is there.
     WriteFault,

@@ -1,7 +1,8 @@
 //! The curve files of small cases, and files that do not tell their loading.
+use ltm_casefile::read_case;
 use ltm_check::CurvesCause;
-use ltm_checking::{Refusal, case_curves, check_text};
-use ltm_io::{Doc, MemFolder};
+use ltm_checking::{Refusal, check_text, write_loading};
+use ltm_io::{Doc, MemFolder, SureSink};
 use ltm_units::{Name, NoMemory};
 use std::alloc::Global;
 use std::test::Fail;
@@ -43,8 +44,14 @@ fn empty_road(alloc: Global) -> Result<MemFolder, NoMemory> {
 
 /// Whether the curve file of a folder's case is this text.
 fn writes(alloc: Global, folder: &mut MemFolder, file: &str) -> bool {
-    match case_curves(alloc, folder) {
-        Ok(text) => text.as_slice() == file.as_bytes(),
+    let Ok(scenario) = read_case(alloc, folder) else {
+        return false;
+    };
+    match SureSink::create(alloc, 7) {
+        Ok(mut sink) => {
+            let done = write_loading(alloc, &scenario, &mut sink);
+            done.is_ok() && sink.written() == file.as_bytes()
+        }
         Err(_) => false,
     }
 }
