@@ -1,5 +1,5 @@
 //! How much room a longer horizon takes.
-ghost use Rattle.std.specs.Prelude.{◌≤◌};
+ghost use Rattle.std.specs.Prelude.{◌≤◌, ◌<◌, ◌+◌, ◌/◌, min};
 
 /// The room to be taken where so many slots are wanted: no more than there is, or at least half more, and 10,000 slots at
 /// most. So a horizon that is raised slot by slot seldom takes memory.
@@ -7,6 +7,7 @@ pub fn wide_room(room: u32, slots: u32) -> u32
     requires { slots ≤ 10000 }
     ensures enough { slots ≤ result }
     ensures most { result ≤ 10000 }
+    ensures wide { room < slots → min 10000 (room + room / 2) ≤ result }
 {
     if slots <= room || room >= 10_000 {
         return slots;
