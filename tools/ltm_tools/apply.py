@@ -2,13 +2,12 @@
 from __future__ import annotations
 
 import argparse
-import json
 import sys
 
 from .case import Case
 from .errors import Fault
 from .files import shown
-from .keeping import Keeper, accepted, read_script
+from .keeping import batches_of, case_of
 from .program import add_program_argument
 
 NAME = "apply"
@@ -22,17 +21,6 @@ standard error, and make nothing. Entry limits (edits `limit`) go to limits.csv,
 """
 
 
-def edit_of(line: bytes) -> list[dict[str, object]] | None:
-    """The edits of a line that is an `edit` command, as the program reads it, or None."""
-    try:
-        told = json.loads(line)
-    except (ValueError, RecursionError):
-        return None
-    if not isinstance(told, dict) or told.get("do") != "edit" or not isinstance(told.get("edits"), list):
-        return None
-    return list(told["edits"])
-
-
 def add_arguments(parser: argparse.ArgumentParser) -> None:
     parser.add_argument("case", metavar="CASE", help="the folder of a case")
     parser.add_argument("script", metavar="SCRIPT", help="a script, as a session takes it, or - for the standard input")
@@ -41,17 +29,13 @@ def add_arguments(parser: argparse.ArgumentParser) -> None:
 
 
 def run(args: argparse.Namespace) -> int:
-    case = Case.read(args.case)
-    if case.splits is None:
+    if Case.read(args.case).splits is None:
         raise Fault(f"{args.case} has no splits.csv, so it has no loading and takes no edits")
-    batches = [(number, line, edits) for number, line in enumerate(read_script(args.script), 1) if (edits := edit_of(line)) is not None]
-    keeper, made = Keeper(case), 0
-    for (number, line, edits), good in zip(batches, accepted(args.case, [line for _, line, _ in batches], args.program)):
-        if good:
-            keeper.make(edits)
-            made += 1
-        else:
-            print(f"line {number} is refused, and makes nothing: {shown(line.decode('utf-8', 'surrogateescape'))}", file=sys.stderr)
-    keeper.kept().write(args.folder)
-    print(f"{args.folder}: the case after {made} of {len(batches)} batches")
+    batches = batches_of(args.case, args.script, args.program)
+    for batch in batches:
+        if not batch.accepted:
+            print(f"line {batch.number} is refused, and makes nothing: {shown(batch.line.decode('utf-8', 'surrogateescape'))}", file=sys.stderr)
+    made = [batch.edits for batch in batches if batch.accepted]
+    case_of(args.case, made).write(args.folder)
+    print(f"{args.folder}: the case after {len(made)} of {len(batches)} batches")
     return 0

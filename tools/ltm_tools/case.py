@@ -2,8 +2,12 @@
 import os
 from collections.abc import Iterator
 from dataclasses import dataclass, field
+from typing import TYPE_CHECKING
 
 from .formats import MOST_CELLS, MOST_SLOT_UNITS, MOST_SLOTS, MOST_STEP_MS
+
+if TYPE_CHECKING:
+    from .curves import Curves
 
 
 @dataclass(slots=True)
@@ -131,6 +135,13 @@ class Case:
         from .case_files import write_case
 
         write_case(self, folder)
+
+    def to_geojson(self, folder: str | os.PathLike[str], curves: "Curves | None" = None, boundary: int | None = None) -> str:
+        """The links as GeoJSON, with the places that the `nodes.csv` of a folder has; with the curves of the case's loading also what these
+        tell of each link, and what stands on it at a boundary."""
+        from .geojson import told
+
+        return told(self, folder, curves, boundary)
 
     @property
     def nodes(self) -> list[str]:

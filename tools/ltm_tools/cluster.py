@@ -74,10 +74,11 @@ def there(address: str, folder: str, named: str | None, links: Sequence[str], de
     """The rows of results of each piece, in order, by the workers of a cluster."""
     import distributed
 
+    library: Any = distributed  # which has types for some of its calls alone
     files = case_bytes(folder)
     key = hashlib.sha256(repr((sorted(files.items()), list(links), delay, named)).encode()).hexdigest()
     try:
-        client: Any = distributed.Client(address, timeout=10, set_as_default=False)
+        client = library.Client(address, timeout=10, set_as_default=False)
     except (OSError, ValueError) as error:
         raise Fault(f"the scheduler {address} does not answer: {str(error).splitlines()[0]}") from None
     with client, tempfile.TemporaryDirectory() as made:
@@ -91,6 +92,6 @@ def there(address: str, folder: str, named: str | None, links: Sequence[str], de
         for future in futures:
             try:
                 yield future.result()
-            except distributed.KilledWorker:
+            except library.KilledWorker:
                 raise Fault("too many workers were lost: a piece of the scenarios was on each of them") from None
             future.release()

@@ -1,24 +1,31 @@
-"""`ltm-tools compare`: two cases side by side."""
+"""`ltm-tools compare`: two cases side by side, or two versions of one."""
 from __future__ import annotations
 
 import argparse
+import os
+import tempfile
 from collections.abc import Callable, Mapping, Sequence
 
 from .curves import Counts, total
 from .delay import Report, report
+from .edits import Edit
+from .errors import Fault
 from .formats import MINUTE_MS, clock_text
 from .listing import Cell, TimeUnit, add_format_arguments, csv_text, json_text, seconds, text_table, time_unit, vehicles
 from .files import write_text
+from .keeping import batches_of, case_of
 from .loaded import Loaded, add_start_argument, loaded, told_delay
 from .program import add_program_argument
 from .times import as_list, at, minutes
 
 NAME = "compare"
-SUMMARY = "tell what two cases differ in: vehicle time, delay by link, arrivals by time, the links that changed most"
+SUMMARY = "tell what two cases, or two versions of one, differ in: vehicle time, delay by link, arrivals by time, the links that changed most"
 EXAMPLES = """\
     ltm-tools compare examples/corridor WIDER --start 7:00
     ltm-tools compare examples/corridor WIDER --format csv --table links -o links.csv
+    ltm-tools compare examples/incident --script examples/incident/script.jsonl --versions 0 1
 
+Version V is the case after the first V batches of the script that the program accepts; version 0 is the case as it is.
 Each change is the second case's number less the first's. Times are vehicle time: 2.5 vehicle hours are one vehicle for two and a
 half hours, or five for half an hour. `spent` is all time on links and at origins; `queued` is the part of it in queues of links,
 and `waited` that at origins; together they are the delay. CSV has one table, and JSON all; their times are vehicle seconds.
@@ -60,6 +67,22 @@ class Comparison:
                               for (case, _), counts, end in zip(self.both, self.arrived, ends)) for moment in moments}
 
 
+def of_versions(folder: str | os.PathLike[str], made: Sequence[Sequence[Edit]], one: int = 0, other: int | None = None,
+                program: str | os.PathLike[str] | None = None) -> Comparison:
+    """Two versions of a case side by side: after the first so many of these accepted batches, `other` after all where it is None."""
+    both = [of_version(folder, made, version, program) for version in (one, other)]
+    return Comparison(both[0][0], both[1][0], (both[0][1], both[1][1]))
+
+
+def of_version(folder: str | os.PathLike[str], made: Sequence[Sequence[Edit]], version: int | None, program: str | os.PathLike[str] | None) -> tuple[Loaded, Report]:
+    """The loading of a version by the program, and its delay."""
+    named = None if program is None else os.fspath(program)
+    with tempfile.TemporaryDirectory() as kept:
+        case_of(folder, made, version).write(kept)
+        loading = loaded(kept, None, named)
+        return loading, told_delay(loading, kept, None, named)
+
+
 def arrivals(loading: Loaded) -> list[int]:
     """What has arrived at all destinations, by boundary."""
     case, curves = loading
@@ -99,7 +122,9 @@ def most_changed(pairs: Pairs, count: int | None = None) -> Pairs:
 
 def add_arguments(parser: argparse.ArgumentParser) -> None:
     parser.add_argument("case", metavar="CASE", help="the folder of a case")
-    parser.add_argument("other", metavar="OTHER", help="the folder of another, as with some works")
+    parser.add_argument("other", metavar="OTHER", nargs="?", help="the folder of another, as with some works")
+    parser.add_argument("--script", metavar="SCRIPT", help="in place of OTHER a script of edits of CASE, as a session takes it, or - for the standard input")
+    parser.add_argument("--versions", metavar="V", type=int, nargs=2, help="after how many accepted batches of the script each is (0, and all)")
     for name, text in (("curves", "CASE"), ("other-curves", "OTHER")):
         parser.add_argument(f"--{name}", metavar="FILE", help=f"a curve file of {text} (else the program makes it)")
     add_program_argument(parser)
@@ -111,11 +136,9 @@ def add_arguments(parser: argparse.ArgumentParser) -> None:
 
 
 def run(args: argparse.Namespace) -> int:
-    asked = ((args.case, args.curves, args.program), (args.other, args.other_curves, args.program))
-    one, other = (loaded(*of) for of in asked)
-    found = Comparison(one, other, (told_delay(one, *asked[0]), told_delay(other, *asked[1])))
+    found, names = by_script(args) if args.script is not None else by_folders(args)
     if args.format == "text":
-        write_text(args.output, text(found, args))
+        write_text(args.output, text(found, names, args))
         return 0
     tables = {name: (header, rows) for name, header, rows in all_tables(found, args)}
     if args.format == "csv":
@@ -124,6 +147,25 @@ def run(args: argparse.Namespace) -> int:
         parts = [f'"{name}": {json_text(*table).rstrip()}' for name, table in tables.items()]
         write_text(args.output, "{\n" + ",\n".join(parts) + "\n}\n")
     return 0
+
+
+def by_folders(args: argparse.Namespace) -> tuple[Comparison, tuple[str, str]]:
+    """Two cases side by side, and what they are called."""
+    if args.other is None or args.versions is not None:
+        raise Fault("there is nothing to compare: name the folder of another case, or a --script of which --versions tells" if args.other is None
+                    else "--versions tells of a --script")
+    asked = ((args.case, args.curves, args.program), (args.other, args.other_curves, args.program))
+    one, other = (loaded(*of) for of in asked)
+    return Comparison(one, other, (told_delay(one, *asked[0]), told_delay(other, *asked[1]))), (args.case, args.other)
+
+
+def by_script(args: argparse.Namespace) -> tuple[Comparison, tuple[str, str]]:
+    """Two versions of a case side by side, and what they are called."""
+    if (args.other, args.curves, args.other_curves) != (None, None, None):
+        raise Fault("with --script both are versions of one case, whose loadings the program makes: no other case, and no curve file")
+    made = [batch.edits for batch in batches_of(args.case, args.script, args.program) if batch.accepted]
+    one, other = args.versions or (0, len(made))
+    return of_versions(args.case, made, one, other, args.program), (f"version {one} of {args.case}", f"version {other} of {len(made)}")
 
 
 def exact(name: str, pair: tuple[int | None, int | None], shown: Callable[[int], Cell]) -> list[Cell]:
@@ -143,11 +185,11 @@ def all_tables(found: Comparison, args: argparse.Namespace) -> list[tuple[str, l
             ("arrivals", ["ms", *header[1:]], moments)]
 
 
-def text(found: Comparison, args: argparse.Namespace) -> str:
+def text(found: Comparison, names: tuple[str, str], args: argparse.Namespace) -> str:
     """All tables for people."""
     unit = time_unit(*(number for pair in found.times().values() for number in pair if number is not None))
     header = ["", "one", "other", "change"]
-    lines = [f"one is {args.case}, other is {args.other}; time in {unit.name}, amounts in vehicles\n\n"]
+    lines = [f"one is {names[0]}, other is {names[1]}; time in {unit.name}, amounts in vehicles\n\n"]
     rows = [exact(name, pair, unit.show) for name, pair in found.times().items()]
     rows += [exact(name, pair, vehicles) for name, pair in found.amounts().items()]
     lines.append(text_table(header, rows))

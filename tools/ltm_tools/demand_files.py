@@ -6,7 +6,7 @@ from __future__ import annotations
 
 import argparse
 import os
-from collections.abc import Mapping
+from collections.abc import Iterable, Iterator, Mapping
 from dataclasses import dataclass
 from fractions import Fraction
 from pathlib import Path
@@ -15,11 +15,15 @@ from .errors import Fault
 from .files import Row
 from .formats import CLOCK, MINUTE_MS, MOST_UNITS, clock_ms, clock_text
 from .profiles import Part
-from .tables import Table, read
+from .tables import Table, read, whole_numbers
 
-TABLE_NAMES = {"o_zone_id": ("origin", "o", "orig", "from_zone", "o_zone", "from", "o_node_id", "origin_zone_id"),
-               "d_zone_id": ("destination", "d", "dest", "to_zone", "d_zone", "to", "d_node_id", "destination_zone_id"),
-               "volume": ("vehicles", "trips", "demand", "count", "flow", "value", "total")}
+TABLE_NAMES = {"o_zone_id": ("origin", "o", "orig", "from_zone", "o_zone", "from", "o_node_id", "origin_zone_id", "origin_id", "from_zone_id", "orig_taz",
+                             "origin_taz", "o_taz", "from_taz", "origin_zone", "from_node_id", "i"),
+               "d_zone_id": ("destination", "d", "dest", "to_zone", "d_zone", "to", "d_node_id", "destination_zone_id", "destination_id", "to_zone_id", "dest_taz",
+                             "destination_taz", "d_taz", "to_taz", "destination_zone", "to_node_id", "j"),
+               "volume": ("vehicles", "trips", "demand", "count", "flow", "value", "total", "vol", "volumes", "amount", "number", "weight")}
+SORTS = ("time_period", "demand_period", "period", "agent_type", "mode", "user_class", "vehicle_type", "purpose", "scenario")
+"""Fields by which the rows of a table are often told apart."""
 TRIP_NAMES = {**{name: others for name, others in TABLE_NAMES.items() if name != "volume"}, "volume": ("vehicles", "count", "number"),
               "depart": ("departure", "departure_time", "depart_time", "start_time", "time", "start", "begin")}
 PROFILE_NAMES = {"from": ("begin", "start", "time", "from_time", "interval"), "to": ("end", "to_time"), "share": ("vehicles", "count", "value", "weight", "percent")}
@@ -71,13 +75,15 @@ def moment_ms(row: Row, field: str) -> int:
 def read_amounts(path: str | os.PathLike[str], encoding: str | None = None) -> Amounts:
     """The table of a file, a list with a volume in each row, or a matrix with origins down and destinations across."""
     table = read(path, (), TABLE_NAMES, encoding)
-    if "volume" in table.fields and "o_zone_id" in table.fields and "d_zone_id" in table.fields:
-        cells = [(row.text("o_zone_id"), row.text("d_zone_id"), volume_of(row, "volume")) for row in table.rows]
-    elif "volume" not in table.fields and len(table.fields) > 1:
+    whole_numbers(table.rows, ("o_zone_id", "d_zone_id"))
+    if {"o_zone_id", "d_zone_id"} <= set(table.fields):
+        counted = volume_field(table, path)
+        cells = [(row.text("o_zone_id"), row.text("d_zone_id"), volume_of(row, counted)) for row in table.rows]
+    elif "volume" not in table.fields and "d_zone_id" not in table.fields and len(table.fields) > 1:
         cells = matrix_cells(table)
     else:
         raise Fault(f"{path}: no field o_zone_id, d_zone_id or volume in the header; it has {', '.join(table.fields)}")
-    made = Amounts({}, Fraction(0), table.notes)
+    made = Amounts({}, Fraction(0), (*table.notes, *sorts_told(table, path)))
     for origin, destination, volume in cells:
         if origin == destination:
             made.inner += volume
@@ -86,10 +92,27 @@ def read_amounts(path: str | os.PathLike[str], encoding: str | None = None) -> A
     return made
 
 
+def volume_field(table: Table, path: str | os.PathLike[str]) -> str:
+    """The field with the vehicles of a list; where none is called so, the only other one."""
+    if "volume" in table.fields:
+        return "volume"
+    others = [name for name in table.fields if name and name not in ("o_zone_id", "d_zone_id", *SORTS)]
+    if len(others) == 1:
+        return others[0]
+    raise Fault(f"{path}: no field volume in the header" + (f"; call one of {', '.join(others)} volume" if others else ""))
+
+
+def sorts_told(table: Table, path: str | os.PathLike[str]) -> list[str]:
+    """A line for each field that tells rows apart by more than one value, as all rows are added."""
+    counts = {name: len({row.fields.get(name, "") for row in table.rows}) for name in SORTS if name in table.fields}
+    return [f"{path} has {count} values of {name}, and the vehicles of all are added" for name, count in counts.items() if count > 1]
+
+
 def matrix_cells(table: Table) -> list[tuple[str, str, Fraction]]:
     """The entries of a matrix: the first field of a row is its origin, and the header has the destinations."""
     first, *destinations = table.fields
-    return [(row.text(first), destination, volume_of(row, destination)) for row in table.rows for destination in destinations]
+    whole_numbers(table.rows, (first,))
+    return [(row.text(first), row.written[name].removesuffix(".0"), volume_of(row, name)) for row in table.rows for name in destinations if name]
 
 
 def volume_of(row: Row, field: str) -> Fraction:
@@ -144,6 +167,16 @@ def whole_units(volume: Fraction, what: str) -> int:
     if not 0 <= units <= MOST_UNITS:
         raise Fault(f"{what}: {float(volume):g} vehicles, and 0 to 1000000 are allowed")
     return units
+
+
+def summed_units(volumes: Iterable[Fraction]) -> Iterator[int]:
+    """Vehicles in thousandths, rounded so that those up to each one are the nearest to their sum."""
+    whole, given = Fraction(0), 0
+    for volume in volumes:
+        whole += volume
+        due = (2000 * whole.numerator + whole.denominator) // (2 * whole.denominator)
+        yield due - given
+        given = due
 
 
 def quarter_before(time_ms: int) -> int:

@@ -2,8 +2,11 @@
 from __future__ import annotations
 
 import argparse
+import os
 
 from . import delay, node_places
+from .case import Case
+from .curves import Curves
 from .errors import Fault
 from .files import write_text
 from .formats import clock_text
@@ -47,11 +50,17 @@ def add_arguments(parser: argparse.ArgumentParser) -> None:
 
 def run(args: argparse.Namespace) -> int:
     one = loaded(args.case, args.curves, args.program)
-    places = node_places.read_places(args.case, one.case)
-    if places is None:
-        raise Fault(f"{args.case} has no {node_places.FILE}, which says where its nodes lie")
-    write_text(args.output, node_places.geojson(one.case, places, properties(one, boundary_at(one, args.at, args.start))))
+    write_text(args.output, told(one.case, args.case, one.curves, boundary_at(one, args.at, args.start)))
     return 0
+
+
+def told(case: Case, folder: str | os.PathLike[str], curves: Curves | None, boundary: int | None) -> str:
+    """The links of a case as GeoJSON, with the places that a folder has, and what their loading tells where curves are given."""
+    places = node_places.read_places(folder, case)
+    if places is None:
+        raise Fault(f"{os.fspath(folder)} has no {node_places.FILE}, which says where its nodes lie")
+    more: dict[str, dict[str, object]] = {} if curves is None else properties(Loaded(case, curves), boundary)
+    return node_places.geojson(case, places, more)
 
 
 def boundary_at(one: Loaded, at: int | None, start: int) -> int | None:

@@ -22,11 +22,12 @@ from pathlib import Path
 
 from .case import Case, Demand, Setup
 from .cells import ask_for_cells
-from .demand_files import Amounts, exists, read_amounts, read_profile, whole_units
+from .demand_files import Amounts, exists, read_amounts, read_profile, summed_units, whole_units
 from .ends import joined, most_used
 from .errors import Fault
 from .formats import MINUTE_MS, UNITS, clock_ms, short_vehicles
-from .gmns_net import KMH, METRES, Read, Units, read_gmns
+from .gmns_fields import KMH, METRES
+from .gmns_net import Read, Units, file_of, read_gmns
 from .importing import (Carried, Refused, above_0, add_network_arguments, carried, changes_told, check_destinations, least_routes, run_import, slots_of,
                         steps_table, write)
 from .network import Network, Node, least_times, top
@@ -75,7 +76,7 @@ def run(args: argparse.Namespace) -> int:
 
 def make(args: argparse.Namespace) -> int:
     """Reads the network and its demand, fits, and writes."""
-    read = read_gmns(Path(args.network), Units(args.length_unit, args.speed_unit, args.places, args.capacity, args.jam, args.encoding))
+    read = read_gmns(Path(args.network), Units(args.length_unit, args.speed_unit, args.places, args.capacity, args.jam, args.encoding, args.rename))
     if read.faults:
         raise Refused(read.faults)
     raw = read.network
@@ -101,6 +102,8 @@ def make(args: argparse.Namespace) -> int:
 def place_zones(read: Read, args: argparse.Namespace) -> None:
     """The nodes of each zone, with shares; each node stands for itself where no zone has its name."""
     network, nodes = read.network, set(read.network.used_nodes())
+    if read.nodes is not None and read.nodes.rows and not any(row.text("node_id", "") in nodes for row in read.nodes.rows):
+        raise Fault(f"no node of node.csv, as {read.nodes.rows[0].text('node_id', '')!r}, is on a link of link.csv, as {next(iter(network.roads.values())).tail!r}")
     shares: dict[str, dict[str, Fraction]] = {}
     has_shares = read.nodes is not None and "zone_share" in read.nodes.fields
     for row in read.nodes.rows if read.nodes is not None else []:
@@ -150,7 +153,7 @@ def is_connector(network: Network, name: str) -> bool:
 
 def amounts_of(args: argparse.Namespace) -> Amounts:
     """The table of demand; an empty one where there is none."""
-    path = Path(args.network) / "demand.csv"
+    path = file_of(Path(args.network), "demand.csv")
     if args.demand is not None:
         path = exists(args.demand)
     elif not path.exists():
@@ -226,7 +229,10 @@ def case_of(made: Carried, volumes: dict[tuple[str, str], Fraction], args: argpa
         raise Fault(f"the demand's period of {parts[-1].to_slot * made.step // MINUTE_MS} minutes is longer than the horizon of {args.horizon};"
                     f" give --horizon {-(-parts[-1].to_slot * made.step // MINUTE_MS)} or more")
     setup = Setup(made.step, slots, args.origin_capacity * UNITS)
-    units = {(made.node(start), made.node(end)): whole_units(volume, f"demand from node {start} to node {end}") for (start, end), volume in volumes.items()}
+    for (start, end), volume in volumes.items():
+        whole_units(volume, f"demand from node {start} to node {end}")
+    amounts = zip(volumes, summed_units(volumes.values()))
+    units = {(made.node(start), made.node(end)): amount for (start, end), amount in amounts}
     rows: Iterable[Demand] = by_profile({ends: amount for ends, amount in units.items() if amount}, parts)
     return Case(setup, made.links, list(rows)), parts[-1].to_slot
 

@@ -11,42 +11,12 @@ from pathlib import Path
 
 from .errors import Fault
 from .files import Row
-from .network import Network, Node, Road, road_of
+from .gmns_fields import (EMPTY, KMH, LENGTH_WORDS, LINK_NAMES, METRES, NO, NODE_NAMES, SPEED_WORDS, YES, for_cars, fraction_or_none, fraction_zero, kind_of,
+                          least_of, measure, number_or_none)
+from .gmns_sides import by_side
+from .network import LEAST_M, Network, Node, Road, road_of
 from .places import Point, metres, points_of, unit_by_lengths, unit_by_range
-from .tables import Table, read
-
-METRES = {"m": Fraction(1), "km": Fraction(1000), "mi": Fraction(1609344, 1000), "ft": Fraction(3048, 10000)}
-KMH = {"kmh": Fraction(1), "mph": Fraction(1609344, 1000000), "ms": Fraction(18, 5)}
-LENGTH_WORDS = {"m": "m", "meter": "m", "meters": "m", "metre": "m", "metres": "m", "km": "km", "kilometer": "km", "kilometers": "km",
-                "kilometre": "km", "kilometres": "km", "mi": "mi", "mile": "mi", "miles": "mi", "ft": "ft", "foot": "ft", "feet": "ft"}
-SPEED_WORDS = {"kmh": "kmh", "kph": "kmh", "km/h": "kmh", "mph": "mph", "mi/h": "mph", "m/s": "ms"}
-
-LINK_NAMES = {
-    "link_id": ("id", "linkid", "link"), "from_node_id": ("from_node", "a_node", "from", "a", "from_id"),
-    "to_node_id": ("to_node", "b_node", "to", "b", "to_id"), "length": ("length_m", "link_length", "distance", "dist"),
-    "free_speed": ("freespeed", "speed", "speed_limit", "free_flow_speed", "vf", "ffs", "maxspeed"), "lanes": ("lane", "num_lanes", "nlanes", "lane_count", "number_of_lanes"),
-    "capacity": ("cap", "link_capacity", "capacity_per_lane"), "facility_type": ("link_type_name", "type", "highway", "road_type", "link_type"),
-    "directed": ("is_directed", "oneway"), "allowed_uses": ("allowed_use", "uses", "modes"), "geometry": ("wkt", "geom", "shape"),
-}
-NODE_NAMES = {"node_id": ("id", "nodeid", "node"), "x_coord": ("x", "lon", "longitude", "xcoord"), "y_coord": ("y", "lat", "latitude", "ycoord"),
-              "zone_id": ("zone", "zoneid", "taz"), "zone_share": ("share", "zone_weight")}
-
-KINDS = (
-    # words in a kind, vehicles an hour and lane, km/h, lanes
-    (("connector", "centroid"), 1800, 50, 4),
-    (("ramp", "_link", "slip"), 1700, 60, 1),
-    (("motorway", "freeway", "highway", "interstate", "expressway"), 2000, 110, 2),
-    (("trunk",), 1900, 90, 2),
-    (("primary", "principal", "major", "arterial"), 1800, 60, 2),
-    (("secondary", "minor"), 1700, 50, 1),
-    (("tertiary", "collector"), 1600, 50, 1),
-    (("residential", "local", "unclassified", "living", "service", "track", "road"), 1400, 30, 1),
-)
-OTHER_KIND = 1700, 50, 1
-NOT_FOR_CARS = ("footway", "path", "pedestrian", "cycleway", "steps", "rail", "tram", "subway", "bridleway", "ferry", "walk", "bike")
-CAR_USES = ("auto", "car", "all", "motor", "vehicle", "truck", "hov", "sov", "drive", "passenger")
-YES, NO = ("1", "true", "t", "yes", "y"), ("0", "false", "f", "no", "n")
-
+from .tables import Table, read, whole_numbers
 
 @dataclass
 class Units:
@@ -58,6 +28,8 @@ class Units:
     capacity: str = "lane"
     jam: Fraction = Fraction(150)
     encoding: str | None = None
+    rename: bool = False
+    """Whether a name that stands twice gets a number."""
 
 
 @dataclass
@@ -82,10 +54,9 @@ class Read:
 
 def read_gmns(folder: Path, units: Units) -> Read:
     """The network in a folder; its `faults` are to be looked at."""
-    path = folder / "link.csv"
+    path = file_of(folder, "link.csv")
     if not path.exists():
-        near = sorted(found.name for found in folder.glob("*.csv")) if folder.is_dir() else []
-        raise Fault(f"{folder}: no link.csv" + (f"; it has {', '.join(near[:8])}" if near else "; a folder with link.csv and node.csv is wanted"))
+        raise Fault(f"{folder}: no link.csv; {instead(folder)}")
     made = Read(units=units)
     read_config(folder, made)
     made.nodes = read_nodes(folder, made)
@@ -94,32 +65,50 @@ def read_gmns(folder: Path, units: Units) -> Read:
     whole_numbers(table.rows, ("link_id", "from_node_id", "to_node_id"))
     if "link_id" not in table.fields:
         made.notes.append("link.csv has no link_id; links are named by their ends")
-    lines = {row.place: line_of(row, made, shapes) for shapes in [read_shapes(folder, units)] for row in table.rows}
-    check_units(table.rows, lines, made)
+    rows = by_side(table)
+    for row in rows:
+        plain_numbers(row, made)
+    lines = {row.place: line_of(row, made, shapes) for shapes in [read_shapes(folder, units)] for row in rows}
+    check_units(rows, lines, made)
     taken: set[str] = set()
-    for row in table.rows:
+    for row in rows:
         read_link(row, lines[row.place], made, taken)
     if not made.network.roads and not made.faults:
-        raise Fault(f"{path}: no link that cars may use")
+        raise Fault("; ".join([f"{path}: no link that cars may use", *made.told()]))
     return made
 
 
-def whole_numbers(rows: Sequence[Row], fields: tuple[str, ...]) -> None:
-    """Takes the `.0` off ids that were written as decimals."""
-    for name in fields:
-        texts = [row.fields.get(name, "").strip() for row in rows]
-        if any(text.endswith(".0") for text in texts) and all(text.removesuffix(".0").isdigit() for text in texts if text):
-            for row, text in zip(rows, texts):
-                row.fields[name] = text.removesuffix(".0")
+def file_of(folder: Path, name: str) -> Path:
+    """The file of a name in a folder, in small or in capital letters; the path of that name where there is none."""
+    path = folder / name
+    others = sorted(one for one in folder.iterdir() if one.name.lower() == name) if folder.is_dir() and not path.exists() else []
+    return others[0] if others else path
+
+
+def instead(folder: Path) -> str:
+    """What to do with a folder, or a file, that has no link.csv."""
+    if not folder.is_dir():
+        return "a folder with link.csv and node.csv is wanted" + (", and this is a file" if folder.exists() else ", and there is none of this name")
+    near = sorted(found.name for found in folder.iterdir())
+    packed = next((name for name in near if name.lower().endswith((".zip", ".gz", ".tar", ".7z"))), None)
+    links = next((name for name in near if name.lower().endswith((".csv", ".txt")) and "link" in name.lower()), None)
+    if links or packed:
+        return f"if {links} has the links, call it link.csv" if links else f"unpack {packed}, and name the folder of its link.csv"
+    return f"it has {', '.join(near[:8])}" if near else "a folder with link.csv and node.csv is wanted, and it is empty"
 
 
 def read_config(folder: Path, made: Read) -> None:
     """The units that `config.csv` says, where none are given."""
-    if not (folder / "config.csv").exists():
+    path = file_of(folder, "config.csv")
+    if not path.exists():
         return
-    rows = read(folder / "config.csv", (), None, made.units.encoding).rows
+    rows = read(path, (), None, made.units.encoding).rows
     fields = rows[0].fields if rows else {}
-    length, speed = LENGTH_WORDS.get(fields.get("long_length", "").strip().lower()), SPEED_WORDS.get(fields.get("speed", "").strip().lower())
+    said = {name: fields.get(name, "").strip().lower() for name in ("long_length", "speed")}
+    length, speed = LENGTH_WORDS.get(said["long_length"]), SPEED_WORDS.get(said["speed"])
+    for name, known, option, asked in (("long_length", length, "--length-unit", made.units.length), ("speed", speed, "--speed-unit", made.units.speed)):
+        if said[name] and not known and not asked:
+            raise Fault(f"config.csv: {name} is {said[name]!r}, a unit that is not known; give {option}")
     if made.units.length is None and length:
         made.units.length = length
         made.notes.append(f"config.csv says that lengths are in {length}")
@@ -130,9 +119,10 @@ def read_config(folder: Path, made: Read) -> None:
 
 def read_nodes(folder: Path, made: Read) -> Table | None:
     """The places of `node.csv`, where it is there."""
-    if not (folder / "node.csv").exists():
+    path = file_of(folder, "node.csv")
+    if not path.exists():
         return None
-    table = read(folder / "node.csv", ("node_id",), NODE_NAMES, made.units.encoding)
+    table = read(path, ("node_id",), NODE_NAMES, made.units.encoding)
     made.notes += table.notes
     whole_numbers(table.rows, ("node_id", "zone_id"))
     for row in table.rows:
@@ -144,18 +134,20 @@ def read_nodes(folder: Path, made: Read) -> Table | None:
 
 def read_shapes(folder: Path, units: Units) -> dict[str, str]:
     """The lines of `geometry.csv` by id, where it is there."""
-    if not (folder / "geometry.csv").exists():
+    path = file_of(folder, "geometry.csv")
+    if not path.exists():
         return {}
-    rows = read(folder / "geometry.csv", ("geometry_id", "geometry"), None, units.encoding).rows
+    rows = read(path, ("geometry_id", "geometry"), None, units.encoding).rows
     return {row.text("geometry_id", ""): row.text("geometry", "") for row in rows}
 
 
-def number_or_none(row: Row, name: str) -> float | None:
-    """The number of a field, or none where there is none."""
-    try:
-        return float(row.fields.get(name, ""))
-    except ValueError:
-        return None
+def plain_numbers(row: Row, made: Read) -> None:
+    """Writes numbers with units, and lists of numbers, as single numbers in the units of the other rows."""
+    measure(row, "length", LENGTH_WORDS, METRES, made.units.length or "m")
+    measure(row, "free_speed", SPEED_WORDS, KMH, made.units.speed or "kmh")
+    for name in ("lanes", "free_speed"):
+        if least_of(row, name):
+            made.count(f"have several {name.replace('_', ' ').rstrip('s')}s, of which the least counts")
 
 
 def line_of(row: Row, made: Read, shapes: dict[str, str]) -> list[Point]:
@@ -192,37 +184,14 @@ def check_units(rows: Sequence[Row], lines: dict[str, list[Point]], made: Read) 
             made.notes.append(f"lengths are {middle:.3g} times what the places of nodes and lines say: look at --length-unit and --places")
 
 
-def fraction_or_none(row: Row, name: str) -> Fraction | None:
-    """The exact number above 0 of a field, or none."""
-    try:
-        number = Fraction(row.fields.get(name, "").strip())
-    except (ValueError, ZeroDivisionError):
-        return None
-    return number if number > 0 else None
-
-
-def kind_of(text: str) -> tuple[int, int, int]:
-    """Vehicles an hour and lane, km/h and lanes that a link of a kind has where nothing else is said."""
-    low = text.lower()
-    return next(((flow, kmh, lanes) for words, flow, kmh, lanes in KINDS if any(word in low for word in words)), OTHER_KIND)
-
-
-def for_cars(row: Row) -> bool:
-    """Whether cars may use a link."""
-    uses = row.text("allowed_uses", "").lower()
-    if uses and not any(word in uses for word in CAR_USES) and any(word in uses for word in (*NOT_FOR_CARS, "ped", "transit", "bus", "cycl")):
-        return False
-    return not any(word in row.text("facility_type", "").lower().split("|")[0] for word in NOT_FOR_CARS)
-
-
 def number(row: Row, name: str, default: Fraction | None, what: str, made: Read) -> Fraction | None:
     """The number above 0 of a field; the default, where it is empty; none, with a fault, where there is none."""
     text = row.fields.get(name, "").strip()
-    if text.lower() in ("", "nan", "none", "null") and default is not None:
+    if text.lower() in EMPTY and default is not None:
         return default
     found = fraction_or_none(row, name)
     if found is None:
-        made.faults.append(f"{what}: {name} is {text!r}, and a number above 0 is wanted")
+        made.faults.append(f"{what}: {name} is {text!r}, and a number above 0 is wanted" + ("; left empty it is set by the link's kind" if default is not None else ""))
     return found
 
 
@@ -244,21 +213,26 @@ def read_link(row: Row, line: list[Point], made: Read, taken: set[str]) -> None:
     if road is None:
         return
     for one in (road, *both_ways(row, road, made)):
-        if one.name in taken:
-            made.faults.append(f"link {one.name}: the name stands twice")
-        elif one.tail == one.head:
+        if one.tail == one.head:
             made.count("end where they begin and are left out")
+            continue
+        if one.name in taken and (made.units.rename or not row.text("link_id", "")):
+            one.name = another_name(one.name, taken)
+            one.parts = (one.name,)
+            made.count("have a name that stands twice, and get a number behind it")
+        if one.name in taken:
+            made.faults.append(f"link {one.name}: the name stands twice; --rename puts a number behind it")
         else:
             taken.add(one.name)
             made.network.add(one)
 
 
-def fraction_zero(text: str) -> bool:
-    """Whether a text is the number 0."""
-    try:
-        return Fraction(text) == 0
-    except (ValueError, ZeroDivisionError):
-        return False
+def another_name(name: str, taken: set[str]) -> str:
+    """The name with the first number behind it with which it is not taken."""
+    number = 2
+    while f"{name}_{number}" in taken:
+        number += 1
+    return f"{name}_{number}"
 
 
 def both_ways(row: Row, road: Road, made: Read) -> list[Road]:
@@ -275,9 +249,9 @@ def road_of_row(row: Row, name: str, ends: tuple[str, str], line: list[Point], w
     """The road of a row, with what is missing set by its kind."""
     units, kind = made.units, row.text("facility_type", "")
     lane_flow, kmh, lanes_of_kind = kind_of(kind)
-    for name_of, word in (("lanes", "lane counts"), ("free_speed", "speeds"), ("capacity", "capacities"), ("length", "lengths")):
-        if row.text(name_of, "").lower() in ("", "nan", "none", "null"):
-            made.count(f"get their {'length by their places' if name_of == 'length' else word.rstrip('s').replace('capacitie', 'capacity') + ' by their kind'}")
+    for name_of, word in (("lanes", "lane count"), ("free_speed", "speed"), ("capacity", "capacity")):
+        if row.text(name_of, "").lower() in EMPTY:
+            made.count(f"get their {word} by their kind")
     lanes = number(row, "lanes", Fraction(lanes_of_kind if kind else 1), what, made)
     speed = number(row, "free_speed", Fraction(kmh) / KMH[units.speed or "kmh"], what, made)
     length = length_of(row, line, what, made)
@@ -290,14 +264,18 @@ def road_of_row(row: Row, name: str, ends: tuple[str, str], line: list[Point], w
 
 
 def length_of(row: Row, line: list[Point], what: str, made: Read) -> Fraction | None:
-    """The metres of a link, by its field or its places."""
+    """The metres of a link, by its field or, where that is empty or 0, its places."""
     text = row.text("length", "").lower()
-    if text not in ("", "nan", "none", "null"):
-        length = number(row, "length", None, what, made)
-        return None if length is None else length * METRES[made.units.length or "m"]
-    length = metres(line, made.units.places or "m") if len(line) > 1 else Fraction(0)
-    if length <= 0:
+    drawn = metres(line, made.units.places or "m") if len(line) > 1 else Fraction(0)
+    if text not in EMPTY and not (fraction_zero(text) and drawn > 0):
+        length = Fraction(0) if fraction_zero(text) else number(row, "length", None, what, made)
+        length = None if length is None else length * METRES[made.units.length or "m"]
+    elif drawn > 0:
+        made.count("get their length by their places")
+        length = drawn
+    else:
         made.faults.append(f"{what}: no length, and no geometry or places of its nodes to work it out; give the field length")
         return None
+    if length is not None and length < LEAST_M:
+        made.count("are shorter than 1 m and get 1 m")
     return length
-

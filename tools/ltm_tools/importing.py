@@ -211,8 +211,8 @@ def fit_advice(raw: Network) -> list[str]:
         told = [f"the longest step that changes no link is {longest} ms; --fit STEP fits the network to a step:"]
     except Fault:
         longest, told = 0, ["--fit STEP fits the network to a step:"]
-    first = max((step for step in STEPS if step <= longest), default=0)
-    return told + steps_table(raw, [step for step in STEPS if step >= first][:7])
+    first = max(0, sum(step <= longest for step in STEPS) - 2)  # from the step before the longest one on, as a node that is split asks for more
+    return told + steps_table(raw, STEPS[first:first + 8])
 
 
 def steps_table(raw: Network, steps: Iterable[int] = STEPS, horizon_ms: int | None = None, ends: Iterable[str] = ()) -> list[str]:
@@ -223,7 +223,11 @@ def steps_table(raw: Network, steps: Iterable[int] = STEPS, horizon_ms: int | No
     metres, time, _ = totals(raw.roads.values())
     for step in steps:
         fit = Fit(raw, step)
-        network = fit.run()
+        try:
+            network = fit.run()
+        except Fault as fault:
+            told.append(f"  {step:<7} {fault}")
+            continue
         counts = [sum(change.kind == kind for change in fit.changes) for kind in ("merged", "contracted", "shifted", "lengthened", "node split")]
         now = totals(network.roads.values())
         told.append(f"  {step:<7}{len(network.roads):>7}{counts[0]:>9}{counts[1]:>12}{counts[2]:>9}{counts[3]:>12}{counts[4]:>13}"

@@ -6,8 +6,10 @@ order of the files would be another, rows of demand with 0 vehicles stand first 
 from __future__ import annotations
 
 import copy
+import json
 import os
 from collections.abc import Iterable, Sequence
+from typing import NamedTuple
 
 from .case import Case, Demand, Limit, Split
 from .edits import Edit
@@ -88,6 +90,43 @@ def whole(value: object) -> int:
     """A whole number of an edit."""
     assert isinstance(value, int)
     return value
+
+
+def case_of(folder: str | os.PathLike[str], made: Sequence[Sequence[Edit]], version: int | None = None) -> Case:
+    """The case of a folder after the first `version` of these accepted batches, or after all."""
+    last = len(made) if version is None else version
+    if not 0 <= last <= len(made):
+        raise Fault(f"there is no version {last}: {len(made)} batches are accepted")
+    keeper = Keeper(Case.read(folder))
+    for batch in made[:last]:
+        keeper.make(batch)
+    return keeper.kept()
+
+
+class Batch(NamedTuple):
+    """A line of a script that is an `edit` command: its number, counted from 1, its text, its edits, and whether it is accepted."""
+
+    number: int
+    line: bytes
+    edits: list[Edit]
+    accepted: bool
+
+
+def batches_of(folder: str | os.PathLike[str], script: str | os.PathLike[str], program: str | os.PathLike[str] | None) -> list[Batch]:
+    """The batches of a script; which of them are accepted the program says."""
+    found = [(number, line, edits) for number, line in enumerate(read_script(script), 1) if (edits := edits_of(line)) is not None]
+    return [Batch(*batch, good) for batch, good in zip(found, accepted(folder, [line for _, line, _ in found], program))]
+
+
+def edits_of(line: bytes) -> list[Edit] | None:
+    """The edits of a line that is an `edit` command, as the program reads it, or None."""
+    try:
+        told = json.loads(line)
+    except (ValueError, RecursionError):
+        return None
+    if not isinstance(told, dict) or told.get("do") != "edit" or not isinstance(told.get("edits"), list):
+        return None
+    return list(told["edits"])
 
 
 def accepted(folder: str | os.PathLike[str], lines: Sequence[bytes], program: str | os.PathLike[str] | None) -> list[bool]:

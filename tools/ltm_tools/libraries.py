@@ -38,7 +38,7 @@ def need(names: Sequence[str]) -> None:
     absent = missing(names)
     if not absent:
         return
-    if TRIED not in os.environ and _debian_has(names):
+    if TRIED not in os.environ and debian_has(names):
         sys.stdout.flush()
         arguments = [DEBIAN_PYTHON, "-c", RUN, str(Path(__file__).resolve().parents[1]), *sys.argv[1:]]
         os.execve(DEBIAN_PYTHON, arguments, {**os.environ, TRIED: "1"})
@@ -47,7 +47,8 @@ def need(names: Sequence[str]) -> None:
                 f"or python3 -m pip install {' '.join(absent)}")
 
 
-def _debian_has(names: Sequence[str]) -> bool:
+def debian_has(names: Sequence[str]) -> bool:
+    """Whether Debian's Python is another than the one that runs, and has all these libraries."""
     if not os.access(DEBIAN_PYTHON, os.X_OK) or os.path.realpath(DEBIAN_PYTHON) == os.path.realpath(sys.executable):
         return False
     return subprocess.run([DEBIAN_PYTHON, "-c", PROBE, *names], stdout=subprocess.DEVNULL, stderr=subprocess.DEVNULL).returncode == 0

@@ -16,6 +16,10 @@ from .errors import Fault
 from .formats import HOUR_MS, MOST_JAM_PER_KM, MOST_KMH, MOST_LENGTH_M, MOST_SLOT_UNITS
 
 
+LEAST_M = Fraction(1)
+"""The length of a road that is shorter in its source, as a link of a case has whole metres."""
+
+
 def nearest(number: Fraction) -> int:
     """The nearest whole number, halves upwards, and at least 1."""
     return max(1, (2 * number.numerator + number.denominator) // (2 * number.denominator))
@@ -62,7 +66,8 @@ class Road:
 
 def road_of(name: str, tail: str, head: str, *, metres: Fraction, kmh: Fraction, jam: Fraction, capacity: Fraction,
             kind: str = "") -> Road:
-    """The road of a length in metres, a free speed in km/h, a jam density in vehicles/km and a capacity an hour."""
+    """The road of a length in metres, a free speed in km/h, a jam density in vehicles/km and a capacity an hour; one that is shorter has LEAST_M."""
+    metres = max(metres, LEAST_M)
     return Road(name, tail, head, metres, metres * 3600 / kmh, metres * jam / 1000, capacity, kind, (name,))
 
 

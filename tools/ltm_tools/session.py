@@ -11,7 +11,7 @@ import json
 import os
 import subprocess
 from types import TracebackType
-from typing import NamedTuple
+from typing import TYPE_CHECKING, NamedTuple
 
 from .case import Case
 from .edits import Edit
@@ -19,6 +19,9 @@ from .errors import Fault
 from .formats import MOST_EDITS, MOST_LINE_BYTES, MOST_WORKERS, told_time, told_units
 from .program import start
 from .refusals import why_refused
+
+if TYPE_CHECKING:
+    from .compare import Comparison
 
 
 class Refused(Fault):
@@ -95,9 +98,9 @@ class Session:
     def __init__(self, folder: str | os.PathLike[str], workers: int = 0, program: str | os.PathLike[str] | None = None) -> None:
         if not 0 <= workers <= MOST_WORKERS:
             raise Fault(f"a session has 0 to {MOST_WORKERS} workers, and not {workers}")
-        self.folder = folder
+        self.folder, self.program = folder, program
         self.words = ["session", str(workers)]
-        self.made: list[Edit] = []  # the edits of all accepted batches
+        self.made: list[list[Edit]] = []  # the accepted batches
         self.process = start(folder, self.words, program, subprocess.PIPE)
 
     def __enter__(self) -> "Session":
@@ -164,17 +167,21 @@ class Session:
         if not 1 <= len(edits) <= MOST_EDITS:
             raise Fault(f"a batch has 1 to {MOST_EDITS} edits, and not {len(edits)}")
         version = int(self.ask(do="edit", edits=edits)[2])
-        self.made += edits
+        self.made.append(list(edits))
         return version
 
-    def save(self, folder: str | os.PathLike[str]) -> None:
-        """Writes the case that all accepted edits leave, in a folder: what `load` tells there the session shows once it has settled."""
-        from .case import Case
-        from .keeping import Keeper
+    def save(self, folder: str | os.PathLike[str], version: int | None = None) -> None:
+        """Writes the case that all accepted batches leave, or the first `version` of them, in a folder: what `load` tells there the session
+        shows once it has settled them."""
+        from .keeping import case_of
 
-        keeper = Keeper(Case.read(self.folder))
-        keeper.make(self.made)
-        keeper.kept().write(folder)
+        case_of(self.folder, self.made, version).write(folder)
+
+    def compare(self, one: int = 0, other: int | None = None) -> "Comparison":
+        """Two versions side by side, the last where `other` is not named: see the module `compare`."""
+        from .compare import of_versions
+
+        return of_versions(self.folder, self.made, one, other, self.program)
 
     def settle(self) -> Settled:
         """Works out anew what the edits change, and shows it."""

@@ -317,6 +317,8 @@ def tell(made: Carried, case: Case, inputs: Inputs, cells: str, routes: list[tup
     print(f"{short_vehicles(total)} vehicles, {case.setup.slots} slots of {case.setup.step_ms} ms from {clock_text(inputs.begin_ms)}")
     for why, count in inputs.net.left_out.items():
         print(f"{count} edges are left out: {why}")
+    if inputs.net.shorter:
+        print(f"{inputs.net.shorter} edges are shorter than 1 m and get 1 m")
     for why, count in inputs.found.left_out.items():
         print(f"{short_vehicles(count)} vehicles are left out: {why}")
     print(*inputs.notes, sep="\n")

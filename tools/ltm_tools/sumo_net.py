@@ -14,7 +14,7 @@ from pathlib import Path
 from typing import IO
 
 from .errors import Fault
-from .network import Network, Node, road_of
+from .network import LEAST_M, Network, Node, road_of
 
 INNER = {"internal", "crossing", "walkingarea"}
 
@@ -52,6 +52,8 @@ class Net:
     programs: dict[str, Program] = field(default_factory=dict)
     left_out: dict[str, int] = field(default_factory=dict)
     """Why edges were left out, and how many."""
+    shorter: int = 0
+    """How many edges are shorter than the least length of a road, and get that."""
     not_fixed: dict[str, str] = field(default_factory=dict)
     """The kind of each program that is not of fixed times."""
 
@@ -176,6 +178,7 @@ def read_edge(net: Net, element: ElementTree.Element, vehicle_class: str, headwa
     speed = sum((number(lane, "speed", what) for lane in lanes), Fraction(0)) / len(lanes)
     if metres <= 0 or speed <= 0:
         return leave_out(net, "without length or speed")
+    net.shorter += metres < LEAST_M
     capacity = len(lanes) * 3600 / (headway + spacing / speed)
     net.network.add(road_of(name, tail, head, metres=metres, kmh=speed * Fraction(18, 5), jam=1000 / spacing * len(lanes),
                             capacity=capacity, kind=element.get("type") or element.get("function") or ""))

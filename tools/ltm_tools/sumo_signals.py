@@ -78,7 +78,7 @@ def greens_of(net: Net, ways: list[Connection], turns: Mapping[str, int], begin_
     program = next(net.programs[way.signal] for way in ways if way.signal in net.programs)
     cycle = cycle_of(program)
     letters = GREEN + OFF + (YELLOW if yellow else "")
-    for way in ways:
+    for way in shares:  # where a lane leads onto several lanes of an edge, one way stands for all
         held = way.signal in net.programs
         spans[way] = phase_spans(net.programs[way.signal or ""], way.index, letters) if held else [(0, cycle)]
     if cycle == 0 or all(some == [(0, cycle)] for some in spans.values()):

@@ -16,6 +16,8 @@ from .errors import Fault
 from .files import Row, read_bytes, shown
 
 SEPARATORS = ",;\t|"
+COMMENTS = re.compile(r"\A(?:\s*# [^\r\n]*[\r\n]+)+")  # lines before the header
+END_MARKS = "\0\x1a"  # with which some systems end or fill a file
 DECIMAL_COMMA = re.compile(r"[+-]?[0-9]+,[0-9]+", re.ASCII)
 
 
@@ -48,8 +50,9 @@ def text_of(data: bytes, encoding: str | None, path: str | os.PathLike[str]) -> 
             raise Fault(f"--encoding {encoding}: no such encoding; as utf-8, latin-1, cp1250 or utf-16") from None
         except UnicodeDecodeError as error:
             raise Fault(f"{path}: byte {error.start} is no {encoding}; give another --encoding, or none") from None
-    if data.startswith((codecs.BOM_UTF16_LE, codecs.BOM_UTF16_BE)):
-        return data.decode("utf-16", "replace"), "UTF-16"
+    for marks, name in (((codecs.BOM_UTF32_LE, codecs.BOM_UTF32_BE), "utf-32"), ((codecs.BOM_UTF16_LE, codecs.BOM_UTF16_BE), "utf-16")):
+        if data.startswith(marks):
+            return data.decode(name, "replace"), name.upper()
     for zeros, name in ((data[1:200:2], "utf-16-le"), (data[0:200:2], "utf-16-be")):
         if zeros and not any(zeros):
             return data.decode(name, "replace"), name.upper()
@@ -70,6 +73,7 @@ def read(path: str | os.PathLike[str], wanted: Sequence[str] = (), names: Mappin
     """The rows of a table with a header. `names` gives other names of a field, the first that is there counts; a wanted field that is
     missing is a Fault with the names that it may have."""
     text, found = text_of(read_bytes(path), encoding, path)
+    text = COMMENTS.sub("", text.rstrip(END_MARKS))
     separator = separator_of(text)
     csv.field_size_limit(1 << 30)
     reader = csv.reader(io.StringIO(text, newline=""), delimiter=separator, skipinitialspace=True)
@@ -92,6 +96,15 @@ def read(path: str | os.PathLike[str], wanted: Sequence[str] = (), names: Mappin
     notes = [f"{path} is read as {found}"] if found else []
     notes += [f"{path} is read with {separator!r} between fields"] if commas else []
     return Table(rows, tuple(fields), tuple(notes))
+
+
+def whole_numbers(rows: Sequence[Row], fields: tuple[str, ...]) -> None:
+    """Takes the `.0` off ids that were written as decimals."""
+    for name in fields:
+        texts = [row.fields.get(name, "").strip() for row in rows]
+        if any(text.endswith(".0") for text in texts) and all(text.removesuffix(".0").isdigit() for text in texts if text):
+            for row, text in zip(rows, texts):
+                row.fields[name] = text.removesuffix(".0")
 
 
 def point(text: str) -> str:

@@ -118,7 +118,20 @@ class State:
             except BadCase:
                 return False
             return True
-        return bool(edit["slots"] > self.slots if kind == "horizon" else edit["from"] < edit["to"])
+        if kind == "horizon":
+            return bool(edit["slots"] > self.slots and case.cells(edit["slots"]) <= case.setup.most_cells)
+        return bool(edit["from"] < edit["to"])
+
+
+def any_case(pick: random.Random) -> Case:
+    """The case of an example; every other one with limits of entry and a number of cells in its files, which leaves room for some slots more."""
+    case = Case.read(EXAMPLES / pick.choice(NAMES))
+    if pick.random() < 0.5:
+        case.setup.limits, case.setup.cells = True, case.cells(case.setup.slots + pick.randrange(0, 4))
+        for _ in range(pick.randrange(0, 4)):
+            first = pick.randrange(case.setup.slots)
+            case.limits.append(Limit(pick.choice(case.links).name, first, pick.randint(first + 1, case.setup.slots), pick.choice((0, 500, 2000, 32_000))))
+    return case
 
 
 class Files(FolderTest):
@@ -126,8 +139,7 @@ class Files(FolderTest):
         """Of ten times as many random scripts, of all kinds of edits: the case that is kept, read from its files, is the scenario that they make."""
         pick, kinds = random.Random(12), dict.fromkeys(("limit", "exit", "demand", "split", "diagram", "horizon"), 0)
         for number in range(10 * SCRIPTS):
-            name = pick.choice(NAMES)
-            case = Case.read(EXAMPLES / name)
+            case = any_case(pick)
             keeper, state = Keeper(case), State(case)
             for _ in range(pick.randint(1, 18)):
                 edit = random_edit(pick, keeper.case)
@@ -136,7 +148,8 @@ class Files(FolderTest):
                     state.make(edit)
                     kinds[str(edit["kind"])] += 1
             keeper.kept().write(self.folder / str(number))
-            self.assertEqual(vars(State(read_case(self.folder / str(number), splits=True))), vars(state), (number, name))
+            kept = read_case(self.folder / str(number), splits=True)
+            self.assertEqual((vars(State(kept)), kept.setup.cells), (vars(state), case.setup.cells), number)
         self.assertGreaterEqual(min(kinds.values()), 4 * SCRIPTS, kinds)
 
 
@@ -144,17 +157,22 @@ class Files(FolderTest):
 class Random(FolderTest):
     def test_scripts(self) -> None:
         """Of random scripts: the totals and each link's counts of the case that a session saves are those that the session shows."""
-        pick, limited = random.Random(11), 0
+        pick, limited, raised, told = random.Random(11), 0, 0, 0
         for number in range(SCRIPTS):
-            name = pick.choice(NAMES)
-            folder = self.folder / str(number)
-            written, shown = self.one(pick, EXAMPLES / name, folder)
-            self.assertEqual(written, shown, (number, name))
-            limited += (folder / "limits.csv").exists()
-        self.assertGreater(limited, SCRIPTS // 5)
+            case, folder, to = any_case(pick), self.folder / f"case{number}", self.folder / f"kept{number}"
+            case.write(folder)
+            written, shown = self.one(pick, folder, to)
+            self.assertEqual(written, shown, number)
+            kept = Case.read(to)
+            self.assertEqual(kept.setup.cells, case.setup.cells)
+            limited += kept.setup.limits and not case.setup.limits
+            told += bool(case.limits)
+            raised += kept.setup.cells is not None and kept.setup.slots > case.setup.slots
+        self.assertGreater(min(limited, told), SCRIPTS // 6)
+        self.assertGreater(raised, SCRIPTS // 50)
 
     def one(self, pick: random.Random, folder: Path, to: Path) -> tuple[list[str], list[str]]:
-        """The report of the case that a session of random edits saves, and what that session shows."""
+        """The reports of the case that a session of random edits saves, and what that session shows: totals, delay, and each link's counts."""
         case, keeper = Case.read(folder), Keeper(Case.read(folder))
         with Session(folder, program=BUILT) as session:
             for _ in range(pick.randint(1, 6)):
@@ -166,9 +184,10 @@ class Random(FolderTest):
                 keeper.make(batch)
             session.settle()
             session.save(to)
-            shown = [" ".join(session.ask(do="totals")[2:])] + [" ".join(session.ask(do="link", link=link.name)[2:]) for link in case.links]
+            shown = [" ".join(session.ask(do=word)[2:]) for word in ("totals", "delay")] + [" ".join(session.ask(do="link", link=link.name)[2:]) for link in case.links]
         lines = output(to, "load", program=BUILT).decode().splitlines()
-        return [lines[0].removeprefix("version 0 "), *lines[1:]], shown
+        delay = output(to, "delay", program=BUILT).decode().splitlines()[0]
+        return [*(line.removeprefix("version 0 ") for line in (lines[0], delay)), *lines[1:]], shown
 
 
 @needs_program

@@ -2,6 +2,7 @@
 import unittest
 
 from support import EXAMPLES, FolderTest, ROAD
+import ltm_tools
 from ltm_tools.bad_case import BadCase, NoFile
 from ltm_tools.case import Case, Demand, Limit, Link, Setup, Split
 
@@ -29,6 +30,14 @@ class Numbers(unittest.TestCase):
         self.assertEqual((case.cells(), case.cells(10_000)), (36_016_004, 180_056_004))
         # the cells are 18,005 a slot and 6,004 beside: 2,998 slots have 53,984,994 and 2,999 slots 54,002,999
         self.assertEqual(case.slots_that_fit(), 2998)
+
+
+class Names(unittest.TestCase):
+    def test_what_the_package_names(self) -> None:
+        from ltm_tools import Curves, Fault, Refused, Session, curves, errors, session
+
+        self.assertEqual((ltm_tools.Case, Curves, Fault, Refused, Session), (Case, curves.Curves, errors.Fault, session.Refused, session.Session))
+        self.assertFalse(hasattr(ltm_tools, "Nothing"))
 
 
 class Files(FolderTest):

@@ -7,10 +7,12 @@ import unittest
 from pathlib import Path
 from unittest import mock
 
+import commands
 from support import CLONE, EXAMPLES, FolderTest, TOOLS
 from ltm_tools import cli, libraries
 from ltm_tools.errors import Fault
 
+NOBODY = 65534
 LOADING = """kind,name,destination,counts
 up,-a,n2,0 500 1000 1000 1000
 down,-a,n2,0 0 0 500 1000
@@ -66,12 +68,19 @@ class Command(FolderTest):
         (network / "link.csv").write_bytes("link_id,name,from_node_id,to_node_id,length,free_speed,capacity\na,Straße,1,2,100,50,900\n".encode("latin-1"))
         self.assertIn("link.csv is read as Windows-1252 (Latin-1)\n", self.run_tool("from-gmns", network, self.folder / "made").stdout)
 
-    @unittest.skipIf(os.geteuid() == 0, "root may read each folder")
     def test_a_folder_without_rights(self) -> None:
+        """Asked by nobody where root runs the tests, who may read each folder; what the command imports is there already."""
         folder = self.case()
+        self.assertEqual(commands.run("inspect", str(folder))[0], 0)
         folder.chmod(0)
         self.addCleanup(folder.chmod, 0o755)
-        self.assertFault(self.run_tool("inspect", folder), "may not be entered")
+        if os.geteuid() == 0:
+            self.folder.chmod(0o755)
+            os.setresuid(NOBODY, NOBODY, 0)
+            self.addCleanup(os.setresuid, 0, 0, 0)
+        status, out, fault = commands.run("inspect", str(folder))
+        self.assertEqual((status, out, fault.count("\n")), (1, "", 1))
+        self.assertIn("may not be entered", fault)
 
     def test_files_that_are_no_text(self) -> None:
         done = self.run_tool("inspect", self.case(links=b"link\xff\n"))
@@ -99,12 +108,12 @@ class Command(FolderTest):
 
 class Libraries(unittest.TestCase):
     def test_a_library_that_is_missing_is_named(self) -> None:
-        with mock.patch.object(libraries, "_debian_has", return_value=False), self.assertRaisesRegex(Fault, "apt-get install python3-matplotlib"):
+        with mock.patch.object(libraries, "debian_has", return_value=False), self.assertRaisesRegex(Fault, "apt-get install python3-matplotlib"):
             with mock.patch.object(libraries, "missing", return_value=["matplotlib"]):
                 libraries.need(["matplotlib"])
 
     def test_debian_s_python_runs_what_this_one_cannot(self) -> None:
-        with mock.patch.object(libraries, "missing", return_value=["matplotlib"]), mock.patch.object(libraries, "_debian_has", return_value=True), \
+        with mock.patch.object(libraries, "missing", return_value=["matplotlib"]), mock.patch.object(libraries, "debian_has", return_value=True), \
                 mock.patch("os.execve") as run, mock.patch.object(sys, "argv", ["ltm-tools", "plot", "link"]), mock.patch.dict(os.environ):
             os.environ.pop(libraries.TRIED, None)
             with self.assertRaises(Fault):  # since execve, which is made for the test, comes back

@@ -5,14 +5,31 @@ import json
 import unittest
 from contextlib import redirect_stdout
 from decimal import Decimal
+from pathlib import Path
 
+import commands
 from support import BUILT, EXAMPLES, FolderTest, needs_program
 from test_delay import DATA, read
-from ltm_tools import cli
+from ltm_tools import cli, edits
 from ltm_tools.case import Case
+from ltm_tools.case_files import read_case
 from ltm_tools.compare import Comparison, change, most_changed
 from ltm_tools.listing import rounded
+from ltm_tools.errors import Fault
 from ltm_tools.loaded import Loaded
+from ltm_tools.program import output
+from ltm_tools.session import Session
+
+TOLD = {"spent_seconds": "spent", "queued_seconds": "queued", "waited_seconds": "waited"}
+
+
+def told_by_the_program(folder: Path) -> dict[tuple[str, str], Decimal]:
+    """The times of `ltm delay`: of all by their words, queued of each link and waited of each node by kind and name."""
+    first, *lines = (line.split() for line in output(folder, "delay", program=BUILT).decode().splitlines())
+    told = {("totals", word): Decimal(first[first.index(word) + 1]) for word in TOLD.values()}
+    for words in lines:
+        told[words[0], words[1]] = Decimal(words[words.index({"link": "queued", "node": "waited"}[words[0]]) + 1])
+    return told
 
 
 class Totals(unittest.TestCase):
@@ -82,6 +99,82 @@ class Command(FolderTest):
         self.assertEqual([row["name"] for row in links], [link.name for link in Case.read(EXAMPLES / "corridor").links])
         self.assertEqual([Decimal(row["change"]) for row in links], [Decimal(row["change"]) for row in told["links"]])
         self.assertEqual(sum(Decimal(row["one"]) for row in links), {row["name"]: row["one"] for row in told["totals"]}["queued_seconds"])
+
+    def test_delay_is_the_program_s(self) -> None:
+        """Of all, of each link and of each origin what `ltm delay` tells of that case, to the last digit, and their difference."""
+        for one, other in (("corridor", self.folder / "wider"), ("closures", EXAMPLES / "closures"), ("incident", EXAMPLES / "merge"), ("spillback", EXAMPLES / "evening")):
+            status, text, fault = commands.run("compare", str(EXAMPLES / one), str(other), "--program", str(BUILT), "--format", "json")
+            self.assertEqual((status, fault), (0, ""))
+            assert_told(self, json.loads(text, parse_float=Decimal), told_by_the_program(EXAMPLES / one), told_by_the_program(Path(other)))
+
+
+def assert_told(test: unittest.TestCase, tables: dict[str, list[dict[str, Decimal]]], one: dict[tuple[str, str], Decimal], other: dict[tuple[str, str], Decimal]) -> None:
+    """That the tables of a comparison have just these times of both, digit by digit, and their differences."""
+    found: tuple[dict[tuple[str, str], str], dict[tuple[str, str], str]] = {}, {}
+    for table, kind in (("totals", "totals"), ("links", "link"), ("origins", "node")):
+        for row in tables[table]:
+            name = TOLD.get(str(row["name"])) if kind == "totals" else str(row["name"])
+            if name is not None:
+                test.assertEqual(row["change"], (row["other"] or 0) - (row["one"] or 0))
+                for place, column in enumerate(("one", "other")):
+                    if row[column] is not None:
+                        found[place][kind, name] = str(row[column])
+    for place, told in enumerate((one, other)):
+        test.assertEqual(found[place], {key: str(time) for key, time in told.items()})
+
+
+@needs_program
+class Versions(FolderTest):
+    """A session that is edited twice: each of its three versions beside the others."""
+
+    made = [[edits.limit("north_east", 60, 90, 0)], [edits.exit_limit("west_south", 30, 70, 100), edits.demand("west", "east", 0, 60, 300_000)]]
+
+    def test_versions_of_a_session(self) -> None:
+        with Session(EXAMPLES / "closures", program=BUILT) as session:
+            times, totals = [session.delay()[1:]], [session.totals()[1:]]
+            for batch in self.made:
+                session.edit(*batch)
+                session.settle()
+                times.append(session.delay()[1:])
+                totals.append(session.totals()[1:])
+            for one, other in ((0, 1), (1, 2), (2, 0), (0, None)):
+                found = session.compare(one, other)
+                for place, name in enumerate(("spent", "queued", "waited")):
+                    self.assertEqual(found.times()[name], (times[one][place], times[2 if other is None else other][place]))
+                for place, name in enumerate(("generated", "arrived", "on_links", "waiting")):
+                    self.assertEqual(found.amounts()[name], (totals[one][place], totals[2 if other is None else other][place]))
+            self.assertEqual(len(set(times)), 3)
+            for version in (0, 1, 2):
+                session.save(self.folder / str(version), version)
+            self.assertRaisesRegex(Fault, "there is no version 3: 2 batches are accepted", session.compare, 0, 3)
+            self.assertRaisesRegex(Fault, "there is no version -1", session.save, self.folder / "none", -1)
+        self.assertEqual(read_case(self.folder / "0"), read_case(EXAMPLES / "closures"))
+
+    def test_versions_of_a_script(self) -> None:
+        """A batch that is refused makes no version; a line that is no edit neither."""
+        script = self.folder / "script.jsonl"
+        lines = [{"do": "edit", "edits": self.made[0]}, {"do": "totals"}, {"do": "edit", "edits": [edits.limit("nowhere", 0, 1, 0)]}, {"do": "edit", "edits": self.made[1]}]
+        script.write_text("".join(json.dumps(line) + "\n" for line in lines))
+        case = str(EXAMPLES / "closures")
+        with Session(case, program=BUILT) as session:
+            for version, batch in enumerate(self.made, 1):
+                session.edit(*batch)
+                session.save(self.folder / str(version))
+        for words, one, other in (([], EXAMPLES / "closures", self.folder / "2"), (["--versions", "2", "1"], self.folder / "2", self.folder / "1")):
+            status, text, fault = commands.run("compare", case, "--script", str(script), "--program", str(BUILT), "--format", "json", *words)
+            self.assertEqual((status, fault), (0, ""))
+            assert_told(self, json.loads(text, parse_float=Decimal), told_by_the_program(one), told_by_the_program(other))
+        told = commands.run("compare", case, "--script", str(script), "--program", str(BUILT))[1]
+        self.assertEqual(told.split(";")[0], f"one is version 0 of {case}, other is version 2 of 2")
+
+    def test_faults(self) -> None:
+        case, script = str(EXAMPLES / "incident"), str(EXAMPLES / "incident" / "script.jsonl")
+        for words, part in (([], "name the folder of another case, or a --script"), ([case, "--versions", "0", "1"], "--versions tells of a --script"),
+                            ([case, "--script", script], "no other case"), (["--script", script, "--curves", "x"], "no curve file"),
+                            (["--script", script, "--versions", "0", "2"], "there is no version 2: 1 batches are accepted")):
+            status, out, fault = commands.run("compare", case, *words, "--program", str(BUILT))
+            self.assertEqual((status, out, fault.count("\n")), (1, "", 1), words)
+            self.assertIn(part, fault)
 
 
 if __name__ == "__main__":

@@ -57,6 +57,8 @@ class Command(FolderTest):
         case = str(DATA / "spillback")
         told = self.draw("map", case, "--at", "0:01", "--curves", CURVES, "-o", "x.png", status=1)
         self.assertEqual(told, "ltm-tools draw: 0:01 is not within the horizon, from 0:00 to 0:00:16\n")
+        for at, status in (("7:00", 0), ("7:00:16", 0), ("7:00:17", 1), ("6:59:59", 1)):
+            self.draw("map", case, "--at", at, "--start", "7:00", "--curves", CURVES, "-o", str(self.folder / "at.png"), status=status)
         told = self.draw("curves", case, "a", "--curves", CURVES, "-o", str(self.folder / "x.xyz"), status=1)
         self.assertEqual(told.count("\n"), 1)
 

@@ -117,7 +117,7 @@ class Fields(GmnsTest):
 
     def test_faults_name_link_field_and_text(self) -> None:
         self.net(PLAIN.replace("b,2,3,1000,1,60", "b,2,3,1000,1,fast"))
-        self.assertEqual(self.refused(), "cannot be carried: link b: free_speed is 'fast', and a number above 0 is wanted\n")
+        self.assertEqual(self.refused(), "cannot be carried: link b: free_speed is 'fast', and a number above 0 is wanted; left empty it is set by the link's kind\n")
 
     def test_a_missing_file_or_field_is_one_line(self) -> None:
         self.net("a,b\n1,2\n")

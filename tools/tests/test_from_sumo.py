@@ -209,6 +209,12 @@ class Signals(SumoTest):
         self.limits(program=self.PROGRAM.format("actuated", "0"))
         self.assertIn("1 programs are actuated and not of fixed times", self.out)
 
+    def test_a_lane_that_leads_onto_two_lanes_of_an_edge(self) -> None:
+        # the second way from lane 0 onto `on` changes nothing
+        whole = self.limits()
+        with mock.patch.object(self, "WAYS", self.WAYS.replace('<connection', way("in", "on", 0, 'tl="B" linkIndex="1"') + "<connection", 1)):
+            self.assertEqual(self.limits(), whole)
+
     def test_without_signals(self) -> None:
         self.assertEqual(self.limits("--no-signals"), [])
 

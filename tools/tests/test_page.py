@@ -102,6 +102,10 @@ class GeoJson(FolderTest):
         # docs/MODEL.md: by boundary 8 3400 have entered and 1200 left; 3000 could have left
         self.assertEqual((a["on_link"], a["queue"], a["entered"], a["left"], a["queued"], a["most_queue_ms"]), (2.2, 1.8, 5.0, 2.8, 20.7, 8000))
         self.assertEqual(cli.run([*words, "--at", "6:59"]), 1)
+        case, curves = read("spillback")
+        self.assertEqual(case.to_geojson(folder, curves, 8), (folder / "links.json").read_text())
+        self.assertNotIn("entered", json.loads(case.to_geojson(folder))["features"][0]["properties"])
+        self.assertRaisesRegex(Fault, "has no nodes.csv", case.to_geojson, DATA / "spillback")
 
 
 @needs_d3

@@ -1,0 +1,80 @@
+"""The comparison of a loading with SUMO's mesoscopic run, on what SUMO and the program write, made by hand."""
+import importlib.util
+import sys
+import unittest
+from fractions import Fraction
+from pathlib import Path
+from typing import Any
+
+from support import EXAMPLES, FolderTest
+
+from ltm_tools.case import Case, Demand, Link, Setup
+from ltm_tools.delay import MILLIONTHS, Delay, Report, Wait
+from ltm_tools.source import Source, SourceLink
+from ltm_tools.sumo_net import read_net
+
+
+def example_script() -> Any:
+    """The script of the example as a module."""
+    spec = importlib.util.spec_from_file_location("compare_example", EXAMPLES / "from_sumo" / "compare.py")
+    assert spec is not None and spec.loader is not None
+    module = importlib.util.module_from_spec(spec)
+    sys.modules["compare_example"] = module
+    spec.loader.exec_module(module)
+    return module
+
+
+compare = example_script()
+
+# two edges of 200 m at 10 m/s, 20 s each
+NET = "".join(f'<edge id="{name}" from="{tail}" to="{head}"><lane id="{name}_0" index="0" speed="10" length="200"/></edge>'
+              for name, tail, head in (("in", "A", "B"), ("on", "B", "C")))
+TRIPS = ('<tripinfos><tripinfo id="1" depart="900.00" departDelay="0.00" duration="50.00" arrival="950.00"/>'
+         '<tripinfo id="2" depart="910.00" departDelay="4.00" duration="60.00" arrival="970.00"/></tripinfos>')
+DATA = ('<meandata><interval begin="0" end="970" id="whole"><edge id="in" sampledSeconds="70.00" left="2" arrived="0"/>'
+        '<edge id="on" sampledSeconds="40.00" left="0" arrived="2"/><edge id=":B_0" sampledSeconds="9" left="2" arrived="0"/></interval></meandata>')
+WHOLE = '<statistics><vehicles loaded="2"/><teleports total="3" jam="3"/></statistics>'
+
+
+class Read(FolderTest):
+    def setUp(self) -> None:
+        super().setUp()
+        for name, text in (("n.net.xml", f"<net>{NET}</net>"), ("trips.xml", TRIPS), ("edges.xml", DATA), ("whole.xml", WHOLE)):
+            (self.folder / name).write_text(text)
+        self.net = read_net(self.folder / "n.net.xml", vehicle_class="passenger", headway=Fraction(113, 100), spacing=Fraction(15, 2))
+        self.run_of = compare.read_run(self.folder, self.net)
+
+    def test_what_sumo_wrote(self) -> None:
+        # 50 and 60 s on the way and 4 s at the start; on `in` two vehicles need 40 s of the 70, on `on` all 40
+        run = self.run_of
+        self.assertEqual((run.spent, run.waited, run.queued, run.delay), (114, 4, {"in": 30, "on": 0}, 34))
+        self.assertEqual((run.arrivals, run.first_ms, run.moved), ([950_000, 970_000], 900_000, 3))
+
+    def test_links_by_the_edges_that_they_are_made_of(self) -> None:
+        source = Source({"in": SourceLink("A", "B", "x"), "on": SourceLink("B", "C", "y"), "on_exit": SourceLink("B", "C", "z")}, {})
+        report = Report({name: Delay(0, seconds * MILLIONTHS, 0, 0) for name, seconds in (("x", 5), ("y", 6), ("z", 7), ("made", 8))}, {})
+        ours, theirs = compare.by_label(report, self.run_of, source, self.net)
+        self.assertEqual((ours, theirs), ({"in": 5, "on": 13, "made": 8}, {"in": 30, "on": 0}))
+        source = Source({"in": SourceLink("A", "B", "x"), "on": SourceLink("B", "C", "x")}, {})
+        self.assertEqual(compare.by_label(report, self.run_of, source, self.net)[1], {"in on": 30})
+
+    def test_the_hours_of_both(self) -> None:
+        report = Report({"in": Delay(90 * MILLIONTHS, 18 * MILLIONTHS, 0, 0)}, {"A": Wait(0, 0, 0)})
+        lines = compare.totals_table(report, self.run_of)
+        # of 114 s SUMO has 30 beyond the limit on links and 4 at the start
+        self.assertEqual([line.split()[-4:] for line in lines[1:2]], [["0.03", "0.03", "-21.1", "%"]])
+        self.assertEqual([line.split()[-2:] for line in lines[2:]], [["-10.0", "%"], ["-40.0", "%"], ["-100.0", "%"]])
+
+    def test_arrivals_at_whole_minutes(self) -> None:
+        case = Case(Setup(30_000, 4, 1), [Link("in", "A", "B", 200, 36, 18, 150)], [Demand("A", "B", 0, 1, 2000)])
+        lines = compare.arrivals_table(case, [0, 0, 500, 2000, 2000], self.run_of, 900_000)
+        self.assertEqual([line.split() for line in lines[1:]], [["0:16", "0", "1", "-0"], ["0:17", "2", "2", "+0"]])
+
+    def test_the_links_with_most_delay_and_their_place_on_the_other_side(self) -> None:
+        lines = compare.links_table({"a": Fraction(3600), "b": Fraction(7200)}, {"a": Fraction(1800), "c": Fraction(0)})
+        self.assertEqual(lines[2].split(), ["1", "b", "2.00", "0.00", "(-)", "a", "1.00", "0.50", "(2)"])
+        self.assertEqual(lines[-1], "1 of them stand on both sides")
+
+
+if __name__ == "__main__":
+    unittest.main()
