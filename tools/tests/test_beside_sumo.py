@@ -1,12 +1,14 @@
 """The comparison of a loading with SUMO's mesoscopic run, on what SUMO and the program write, made by hand."""
 import importlib.util
+import shutil
+import subprocess
 import sys
 import unittest
 from fractions import Fraction
 from pathlib import Path
 from typing import Any
 
-from support import EXAMPLES, FolderTest
+from support import BUILT, EXAMPLES, FolderTest, needs_program
 
 from ltm_tools.case import Case, Demand, Link, Setup
 from ltm_tools.delay import MILLIONTHS, Delay, Report, Wait
@@ -74,6 +76,30 @@ class Read(FolderTest):
         lines = compare.links_table({"a": Fraction(3600), "b": Fraction(7200)}, {"a": Fraction(1800), "c": Fraction(0)})
         self.assertEqual(lines[2].split(), ["1", "b", "2.00", "0.00", "(-)", "a", "1.00", "0.50", "(2)"])
         self.assertEqual(lines[-1], "1 of them stand on both sides")
+
+
+def release() -> str:
+    """The release of SUMO that is there, or nothing."""
+    if any(shutil.which(word) is None for word in ("sumo", "netgenerate", "duarouter")):
+        return ""
+    return subprocess.run(["sumo", "--version"], capture_output=True, text=True).stdout.split("\n")[0].strip()
+
+
+@needs_program
+@unittest.skipUnless(release().endswith(" 1.15.0"), "SUMO 1.15.0, which made the town of expected.town, is not there")
+class Town(FolderTest):
+    def test_its_report_without_signals_is_that_of_another_engine(self) -> None:
+        tools = EXAMPLES.parent / "tools" / "ltm-tools"
+        for words in ([EXAMPLES / "from_sumo" / "make.py", "town", "."],
+                      [tools, "from-sumo", "town.net.xml", "town.rou.xml", "town.add.xml", "case", "--fit", "5s", "--horizon", "75"]):
+            done = subprocess.run([str(word) for word in words], cwd=self.folder, capture_output=True, text=True)
+            self.assertEqual((done.returncode, done.stderr), (0, ""))
+        setup = self.folder / "case" / "setup.csv"
+        header, row = setup.read_text().split()
+        self.assertEqual(header.split(",")[3:], ["signals"])
+        setup.write_text(header.removesuffix(",signals") + "\n" + row.removesuffix(",1") + "\n")
+        told = subprocess.run([str(BUILT), "load"], cwd=self.folder / "case", capture_output=True, text=True)
+        self.assertEqual(told.stdout, (EXAMPLES / "from_sumo" / "expected.town").read_text())
 
 
 if __name__ == "__main__":
