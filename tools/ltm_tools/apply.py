@@ -7,7 +7,7 @@ import sys
 from .case import Case
 from .errors import Fault
 from .files import shown
-from .keeping import batches_of, case_of
+from .keeping import batches_of, keep
 from .program import add_program_argument
 
 NAME = "apply"
@@ -36,6 +36,6 @@ def run(args: argparse.Namespace) -> int:
         if not batch.accepted:
             print(f"line {batch.number} is refused, and makes nothing: {shown(batch.line.decode('utf-8', 'surrogateescape'))}", file=sys.stderr)
     made = [batch.edits for batch in batches if batch.accepted]
-    case_of(args.case, made).write(args.folder)
+    keep(args.case, made, args.folder)
     print(f"{args.folder}: the case after {len(made)} of {len(batches)} batches")
     return 0

@@ -193,6 +193,15 @@ def write_text(path: str | os.PathLike[str], text: str) -> None:
         raise Fault(f"{path}: {error.strerror or error}") from None
 
 
+def write_bytes(path: str | os.PathLike[str], data: bytes) -> None:
+    """Writes a file of these bytes."""
+    try:
+        with open(path, "wb") as file:
+            file.write(data)
+    except OSError as error:
+        raise Fault(f"{path}: {error.strerror or error}") from None
+
+
 def write_records(path: str | os.PathLike[str], header: Sequence[str], rows: Iterable[Sequence[object]]) -> None:
     """Writes a file of records as a case has them: fields of plain text with commas between, a line each."""
     lines = [",".join(str(field) for field in row) for row in (header, *rows)]

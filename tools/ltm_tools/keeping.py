@@ -14,9 +14,10 @@ from typing import NamedTuple
 from .case import Case, Demand, Limit, Split
 from .edits import Edit
 from .errors import Fault
+from .files import read_bytes, write_bytes
 from .formats import MOST_SLOT_UNITS, units_of
+from .node_places import FILE
 from .program import output
-from .files import read_bytes
 
 
 class Keeper:
@@ -101,6 +102,15 @@ def case_of(folder: str | os.PathLike[str], made: Sequence[Sequence[Edit]], vers
     for batch in made[:last]:
         keeper.make(batch)
     return keeper.kept()
+
+
+def keep(folder: str | os.PathLike[str], made: Sequence[Sequence[Edit]], to: str | os.PathLike[str], version: int | None = None) -> None:
+    """Writes that case into another folder, with the places of the nodes as they are where the first folder has them."""
+    places = os.path.join(folder, FILE)
+    data = read_bytes(places) if os.path.exists(places) else None
+    case_of(folder, made, version).write(to)
+    if data is not None:
+        write_bytes(os.path.join(to, FILE), data)
 
 
 class Batch(NamedTuple):

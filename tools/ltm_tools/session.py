@@ -113,8 +113,10 @@ class Session:
             self._let_go()
 
     def close(self) -> None:
-        """Ends the session; a Fault where the program tells one."""
+        """Ends the session; a Fault where the program tells one. Nothing where it has ended."""
         assert self.process.stdin is not None and self.process.stdout is not None
+        if self.process.stdout.closed:
+            return
         try:
             self.process.stdin.close()
         except BrokenPipeError:
@@ -138,9 +140,9 @@ class Session:
     def ask(self, **command: object) -> list[str]:
         """The words of the answer to a command of a script, as `ask(do="totals")`; Refused where it is refused."""
         assert self.process.stdin is not None and self.process.stdout is not None
-        line = json.dumps(command).encode("ascii")
-        if len(line) > MOST_LINE_BYTES:
-            raise Fault(f"a line of {len(line)} bytes is too long for a session: at most {MOST_LINE_BYTES}")
+        if self.process.stdout.closed:
+            raise Fault(f"{self.folder}: ltm {' '.join(self.words)} has ended")
+        line = line_of(command)
         try:
             self.process.stdin.write(line + b"\n")
             self.process.stdin.flush()
@@ -172,10 +174,10 @@ class Session:
 
     def save(self, folder: str | os.PathLike[str], version: int | None = None) -> None:
         """Writes the case that all accepted batches leave, or the first `version` of them, in a folder: what `load` tells there the session
-        shows once it has settled them."""
-        from .keeping import case_of
+        shows once it has settled them, and the file `nodes.csv` where the session's folder has it."""
+        from .keeping import keep
 
-        case_of(self.folder, self.made, version).write(folder)
+        keep(self.folder, self.made, folder, version)
 
     def compare(self, one: int = 0, other: int | None = None) -> "Comparison":
         """Two versions side by side, the last where `other` is not named: see the module `compare`."""
@@ -219,6 +221,14 @@ class Session:
         is shown. The slot may be the first behind the horizon."""
         words = self.ask(do="origin", node=name, slot=slot)
         return OriginQueue(int(words[1]), *(told_units(words[place]) for place in (7, 9, 11)))
+
+
+def line_of(command: dict[str, object]) -> bytes:
+    """The line of a command, without its end; a Fault where a session takes none that is so long."""
+    line = json.dumps(command).encode("ascii")
+    if len(line) > MOST_LINE_BYTES:
+        raise Fault(f"a line of {len(line)} bytes is too long for a session: at most {MOST_LINE_BYTES}")
+    return line
 
 
 def _refused(answer: str, words: list[str], reason: str) -> Refused:

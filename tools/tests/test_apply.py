@@ -8,6 +8,7 @@ import unittest
 from pathlib import Path
 from typing import Any
 
+import commands
 from support import BUILT, EXAMPLES, TOOLS, FolderTest, needs_columns, needs_program
 from ltm_tools import edits
 from ltm_tools.bad_case import BadCase
@@ -15,6 +16,7 @@ from ltm_tools.case import Case, Demand, Limit, Link, Setup, Split
 from ltm_tools.case_files import check_diagram, read_case
 from ltm_tools.formats import units_of
 from ltm_tools.keeping import Keeper, laid_over
+from ltm_tools.node_places import read_places
 from ltm_tools.program import output
 from ltm_tools.session import Refused, Session
 from test_sweep import random_edit
@@ -151,6 +153,39 @@ class Files(FolderTest):
             kept = read_case(self.folder / str(number), splits=True)
             self.assertEqual((vars(State(kept)), kept.setup.cells), (vars(state), case.setup.cells), number)
         self.assertGreaterEqual(min(kinds.values()), 4 * SCRIPTS, kinds)
+
+
+# a session that accepts each batch
+ACCEPTS = """
+for number, line in enumerate(sys.stdin, 1):
+    print(f"accepted version {number}", flush=True)
+"""
+
+
+class Places(FolderTest):
+    PLACES = b"\xef\xbb\xbfname,x,y,crs,of\r\nn2,11.50,48.1,EPSG:4326,\"R\xc3\xb6mer, east\"\r\nn1,11.25,48,epsg:4326,"
+
+    def kept(self, case: Path) -> list[Path]:
+        """The case kept by `apply`, by `Session.save`, and by `apply` in its own folder."""
+        script, program = self.folder / "script.jsonl", self.program(ACCEPTS)
+        script.write_text(json.dumps({"do": "edit", "edits": [edits.exit_limit("a", 0, 1, 250)]}) + "\n")
+        with Session(case, program=program) as session:
+            session.edit(edits.exit_limit("a", 0, 1, 250))
+            session.save(self.folder / "saved")
+        for to in (self.folder / "applied", case):
+            self.assertEqual(commands.run("apply", str(case), str(script), str(to), "--program", str(program)), (0, f"{to}: the case after 1 of 1 batches\n", ""))
+        return [self.folder / "saved", self.folder / "applied", case]
+
+    def test_they_are_kept_as_they_are(self) -> None:
+        for folder in self.kept(self.case(nodes=self.PLACES)):
+            self.assertEqual((folder / "nodes.csv").read_bytes(), self.PLACES)
+            case = Case.read(folder)
+            self.assertEqual(case.signals, [Limit("a", 0, 1, 250)])
+            self.assertEqual(read_places(folder, case), read_places(self.folder / "case", case))
+
+    def test_where_none_are_none_are_made(self) -> None:
+        for folder in self.kept(self.case()):
+            self.assertFalse((folder / "nodes.csv").exists())
 
 
 @needs_columns

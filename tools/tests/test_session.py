@@ -76,6 +76,8 @@ class Made(FolderTest):
         with self.assertRaisesRegex(Fault, "status 9: no answer"):
             with self.session(status=9) as session:
                 session.totals()
+        session.close()
+        self.assertRaisesRegex(Fault, "ltm session 0 has ended", session.totals)
 
     def test_no_program(self) -> None:
         with self.assertRaisesRegex(Fault, "nowhere is no program that can be run"):
