@@ -132,6 +132,21 @@ class Curves:
         return frame
 
 
+class Summed(Curves):
+    """Curves that keep each sum over destinations, for whom asks for all of them several times; nobody is to change one."""
+
+    def __init__(self, of: Curves) -> None:
+        super().__init__(of.step_ms, of.boundaries, of._texts)
+        self._sums: dict[tuple[str, str], Counts] = {}
+
+    def counts(self, kind: str, name: str, destination: str | None = None) -> Counts:
+        if destination is not None:
+            return super().counts(kind, name, destination)
+        if (kind, name) not in self._sums:
+            self._sums[kind, name] = super().counts(kind, name)
+        return self._sums[kind, name]
+
+
 def zeros(boundaries: int) -> Counts:
     """A curve that counts nothing."""
     return numpy.zeros(boundaries, dtype=numpy.int64) if numpy is not None else [0] * boundaries

@@ -13,7 +13,7 @@ from pathlib import Path
 
 from . import delay, layout
 from .case import Case
-from .curves import Counts, total
+from .curves import Counts, Summed, total
 from .errors import Fault
 from .files import read_text, write_text
 from .formats import units_of
@@ -152,10 +152,9 @@ def add_arguments(parser: argparse.ArgumentParser) -> None:
 
 def run(args: argparse.Namespace) -> int:
     library = find_d3(args.d3)
-    both, folders = [loaded(args.case, args.curves, args.program)], [args.case]
-    if args.other is not None:
-        both.append(loaded(args.other, args.other_curves, args.program))
-        folders.append(args.other)
+    asked = [(args.case, args.curves)] + ([(args.other, args.other_curves)] if args.other is not None else [])
+    folders = [folder for folder, _ in asked]
+    both = [Loaded(one.case, Summed(one.curves)) for one in (loaded(folder, curves, args.program) for folder, curves in asked)]
     called = [os.path.basename(os.path.abspath(folder)) for folder in folders]
     write_text(args.output, page(both, folders, args.names or called, args.start, max(1, units_of(args.least)), args.title or called[0], library))
     return 0

@@ -15,7 +15,7 @@ from .edits import Edit
 from .errors import Fault
 from .files import read_text, shown
 from .formats import MOST_EDITS, MOST_LINES, vehicles_text
-from .session import Refused, Session
+from .session import Refused, Session, line_of
 from .taking_back import Taking
 
 TOTALS = ("generated", "arrived", "on_links", "waiting")
@@ -52,7 +52,15 @@ def scenario_of(line: str, number: int, place: str) -> Scenario:
     fits = isinstance(batches, list) and all(isinstance(batch, list) and all(isinstance(edit, dict) for edit in batch) for batch in batches)
     if not fits or not all(1 <= len(batch) <= MOST_EDITS for batch in batches):
         raise Fault(f"{place}: `batches` is an array of batches, and a batch an array of 1 to {MOST_EDITS} edits")
-    return Scenario(number, str(told.get("name", "")), batches)
+    name = str(told.get("name", ""))
+    if name != name.encode("utf-8", "replace").decode():
+        raise Fault(f"{place}: the name {shown(name)} is no text")
+    for batch in batches:
+        try:
+            line_of({"do": "edit", "edits": batch})
+        except Fault as fault:
+            raise Fault(f"{place}: {fault}") from None
+    return Scenario(number, name, batches)
 
 
 def header(links: Sequence[str], delay: bool = False) -> Row:

@@ -2,7 +2,7 @@
 import unittest
 
 from support import FolderTest
-from ltm_tools.curves import Curves
+from ltm_tools.curves import Curves, Summed
 from ltm_tools.errors import Fault
 
 # the loading of the smallest case, as docs/FORMATS.md has it
@@ -28,7 +28,14 @@ class CurveFiles(FolderTest):
 
     def test_sums_over_destinations(self) -> None:
         more = LOADING.replace("down,a,n2", "up,a,n3,0 1 2 3 4\ndown,a,n2")
-        self.assertEqual(list(Curves.of_case(self.case(curves=more)).up("a")), [0, 501, 1002, 1003, 1004])
+        curves = Curves.of_case(self.case(curves=more))
+        self.assertEqual(list(curves.up("a")), [0, 501, 1002, 1003, 1004])
+        summed = Summed(curves)
+        for kind, name in (("up", "a"), ("down", "a"), ("dep", "n1"), ("dep", "n2"), ("up", "a")):
+            self.assertEqual(list(summed.counts(kind, name)), list(curves.counts(kind, name)))
+        self.assertIs(summed.up("a"), summed.up("a"))
+        self.assertEqual(list(summed.up("a", "n3")), [0, 1, 2, 3, 4])
+        self.assertRaisesRegex(Fault, "no `up` of b", summed.up, "b")
 
     def test_faults(self) -> None:
         for text, fault in (

@@ -2,37 +2,20 @@
 import csv
 import io
 import json
-import os
 import random
-import subprocess
-import sys
-import time
 import unittest
 from pathlib import Path
 
 import commands
-from support import BUILT, EXAMPLES, TOOLS, FolderTest, needs_program
+from support import BUILT, EXAMPLES, FolderTest, needs_program
 from ltm_tools import edits
 from ltm_tools.case import Case, Demand, Limit, Link, Setup, Split
 from ltm_tools.errors import Fault
-from ltm_tools.libraries import DEBIAN_PYTHON
 from ltm_tools.scenarios import Runner, Scenario, batches, read_scenarios, scenario_of
 from ltm_tools.session import Refused, Session
 from ltm_tools.taking_back import Taking
 
 
-def dask_python() -> str | None:
-    """A Python that has the package distributed."""
-    for python in (sys.executable, DEBIAN_PYTHON):
-        try:
-            if subprocess.run([python, "-c", "import distributed"], stderr=subprocess.DEVNULL).returncode == 0:
-                return python
-        except OSError:
-            pass
-    return None
-
-
-DASK = dask_python()
 MANY = "closures"
 
 
@@ -61,6 +44,8 @@ class Lines(unittest.TestCase):
         self.assertEqual(scenario_of('{"name": "a", "batches": []}', 1, "x"), Scenario(1, "a", []))
         for line in ("", "3", "{", '{"name": "a"}', '{"edits": []}', '{"edits": [], "batches": []}', '{"batches": [[3]]}', '{"batches": 3}', json.dumps({"edits": [{}] * 33})):
             self.assertRaises(Fault, scenario_of, line, 1, "x")
+        for told, fault in (({"name": "\ud800", "edits": [{}]}, r'x: the name "\\ud800" is no text'), ({"edits": [{"link": "a" * 65_536}]}, "x: a line of 65575 bytes is too long")):
+            self.assertRaisesRegex(Fault, fault, scenario_of, json.dumps(told), 1, "x")
         self.assertEqual([len(batch) for batch in batches([{}] * 70)], [32, 32, 6])
 
 
@@ -82,21 +67,6 @@ class Back(unittest.TestCase):
         back = Taking(self.case).back
         for edit in (edits.horizon(11), edits.split("n1", "n2", 3, {"a": 1}), edits.demand("n1", "n3", 0, 1, 1)):
             self.assertIsNone(back([edit]))
-
-
-class Sweeps(FolderTest):
-    def scenarios(self, count: int, case: Case, seed: int = 1) -> Path:
-        """A file of scenarios made by chance."""
-        pick = random.Random(seed)
-        path = self.folder / "scenarios.jsonl"
-        lines = [{"name": f"s, {k}", "batches": [[random_edit(pick, case) for _ in range(pick.randint(1, 4))] for _ in range(pick.randint(0, 3))]} for k in range(count)]
-        path.write_text("".join(json.dumps(line) + "\n" for line in lines))
-        return path
-
-    def sweep(self, *words: str, python: str = sys.executable) -> list[list[str]]:
-        done = subprocess.run([python, str(TOOLS / "ltm-tools"), "sweep", *words], capture_output=True, text=True, env={**os.environ, "LTM": str(BUILT)})
-        self.assertEqual(done.returncode, 0, done.stderr)
-        return list(csv.reader(io.StringIO(done.stdout)))
 
 
 # a session that accepts each edit but those of a link z, and tells of the delay how many edits it has accepted
@@ -134,12 +104,25 @@ class WithDelay(FolderTest):
         self.assertEqual(err, "ltm-tools sweep: the sessions of this program tell no delay: refused command NotCommand 0\n")
 
 
+def random_scenarios(path: Path, count: int, case: Case, seed: int = 1) -> Path:
+    """A file of scenarios made by chance."""
+    pick = random.Random(seed)
+    lines = [{"name": f"s, {k}", "batches": [[random_edit(pick, case) for _ in range(pick.randint(1, 4))] for _ in range(pick.randint(0, 3))]} for k in range(count)]
+    path.write_text("".join(json.dumps(line) + "\n" for line in lines))
+    return path
+
+
 @needs_program
-class Here(Sweeps):
+class Here(FolderTest):
+    def sweep(self, *words: str) -> list[list[str]]:
+        status, out, err = commands.run("sweep", *words, "--program", str(BUILT))
+        self.assertEqual(status, 0, err)
+        return list(csv.reader(io.StringIO(out)))
+
     def test_each_row_is_that_of_a_session_of_its_own(self) -> None:
         for name in ("closures", "signal", "merge", "incident"):
             case = Case.read(EXAMPLES / name)
-            path = self.scenarios(60, case)
+            path = random_scenarios(self.folder / "scenarios.jsonl", 60, case)
             rows = self.sweep(str(EXAMPLES / name), str(path), "--links", case.links[0].name, "--sessions", "2")
             self.assertEqual(rows[0][-2:], [f"in:{case.links[0].name}", f"out:{case.links[0].name}"])
             for row, scenario in zip(rows[1:], read_scenarios(path), strict=True):
@@ -174,62 +157,6 @@ class Here(Sweeps):
         runner.close()
         self.assertGreater(runner.opened, 3)
         self.assertEqual(len({tuple(row[1:]) for row in rows}), 1)
-
-    def test_faults(self) -> None:
-        path = self.folder / "bad.jsonl"
-        path.write_text('{"edits": [{}]}\n\nnonsense\n')
-        done = subprocess.run([sys.executable, str(TOOLS / "ltm-tools"), "sweep", str(EXAMPLES / "signal"), str(path)], capture_output=True, text=True)
-        self.assertEqual((done.returncode, done.stdout, done.stderr), (1, "", f'ltm-tools sweep: {path} line 3: "nonsense" is no JSON\n'))
-
-
-@needs_program
-@unittest.skipUnless(DASK, "the package distributed is not there: python3-distributed")
-class OnACluster(Sweeps):
-    def start(self, *words: str) -> "subprocess.Popen[bytes]":
-        process = subprocess.Popen([str(DASK), "-c", "import sys; from distributed.cli import dask_scheduler, dask_worker; "
-                                    "sys.exit({'scheduler': dask_scheduler, 'worker': dask_worker}[sys.argv.pop(1)].main())", *words],
-                                   stdout=subprocess.DEVNULL, stderr=subprocess.DEVNULL, cwd=self.folder)
-        self.addCleanup(process.wait)
-        self.addCleanup(process.kill)
-        return process
-
-    def cluster(self) -> "tuple[str, list[subprocess.Popen[bytes]]]":
-        """The address of a scheduler, and two workers."""
-        file = self.folder / "scheduler.json"
-        self.start("scheduler", "--port", "0", "--no-dashboard", "--scheduler-file", str(file), "--host", "127.0.0.1")
-        for _ in range(600):
-            if file.exists() and file.read_text().strip().endswith("}"):
-                break
-            time.sleep(0.1)
-        address = str(json.loads(file.read_text())["address"])
-        workers = [self.start("worker", address, "--no-nanny", "--nthreads", "1", "--no-dashboard", "--name", f"w{k}", "--local-directory", str(self.folder / f"w{k}")) for k in range(2)]
-        return address, workers
-
-    def test_a_worker_is_lost(self) -> None:
-        case = Case.read(EXAMPLES / MANY)
-        path = self.scenarios(1000, case, 2)
-        here = self.sweep(str(EXAMPLES / MANY), str(path), "--sessions", "2")
-        address, workers = self.cluster()
-        env = {**os.environ, "LTM": str(BUILT)}
-        process = subprocess.Popen([str(DASK), str(TOOLS / "ltm-tools"), "sweep", str(EXAMPLES / MANY), str(path), "--scheduler", address, "--progress", "-o", str(self.folder / "rows.csv")],
-                                   stderr=subprocess.PIPE, env=env)
-        assert process.stderr is not None
-        seen, lost_at = b"", None
-        while (sign := process.stderr.read(1)):
-            seen += sign
-            told = seen.rpartition(b"] ")[2].split(b" of ")
-            if lost_at is None and len(told) == 2 and int(told[0]) >= 100:
-                workers[0].kill()
-                lost_at = int(told[0])
-        self.assertEqual(process.wait(), 0, seen[-500:])
-        process.stderr.close()
-        with open(self.folder / "rows.csv", encoding="utf-8", newline="") as file:
-            rows = list(csv.reader(file))
-        self.assertIsNotNone(lost_at)
-        self.assertLess(lost_at or 0, 900)
-        self.assertIsNone(workers[1].poll())
-        self.assertEqual(rows, here)
-        self.assertEqual([row[0] for row in rows[1:]], [str(k) for k in range(1, 1001)])
 
 
 if __name__ == "__main__":
