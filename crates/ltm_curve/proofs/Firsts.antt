@@ -4,12 +4,11 @@ use Rattle.std.proofs.lemmas.Bool.{cases_lt, cases_eq}
 use Rattle.std.proofs.lemmas.Bool.Decides.{nat_tests}
 use Rattle.ltm_units.specs.Sums.{sum_below}
 use Rattle.ltm_units.specs.Nested.{nested_split}
-use Rattle.ltm_units.proofs.Sums.{sum_below-same, sum_below-plus, le-sum_below}
-use Rattle.ltm_units.proofs.Splits.{shares_rise_holds, whole_splits_holds, sum-nested_split, nested_split-le}
+use Rattle.ltm_units.proofs.Sums.{sum_below-same, sum_below-plus}
+use Rattle.ltm_units.proofs.Splits.{shares_rise_holds, whole_splits_holds, sum-nested_split}
 use Rattle.ltm_curve.specs.Counts.{total}
 use Rattle.ltm_curve.specs.First.{last_within, entries, mixed, first_units, RowsRise}
 use Rattle.ltm_curve.specs.FirstLaws.{IsPart, FirstSums, FirstRises, FirstStays, FirstWithin}
-use Rattle.ltm_curve.proofs.Interpolation.{rises_le}
 use Rattle.ltm_curve.proofs.Lists.{sum-list_below, length-list_below, index-list_below, sum_below-list, nothing_splits, sum_below-minus}
 use Rattle.ltm_curve.proofs.Lasts.{IsLast, is_last, one_last, total_rises, row_le, same_rows}
 

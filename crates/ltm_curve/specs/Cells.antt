@@ -1,5 +1,5 @@
 -- Which cells are changed: a cell is a group at a boundary.
-use Rattle.std.specs.Prelude.{◌≡◌, ◌≢◌, ℕ, ◌-◌, ◌<◌, ◌≤◌, ◌⊎◌, Bool, true, false}
+use Rattle.std.specs.Prelude.{◌≡◌, ◌≢◌, ℕ, ◌-◌, ◌<◌, ◌≤◌, ◌⊎◌, ◌&&◌, nat_lt, Bool, true, false}
 use Rattle.ltm_curve.specs.MarkedCount.{marked_count}
 use Rattle.ltm_marks.specs.Marks.{width_of, rows_of, room_of, is_marked}
 use Rattle.ltm_curve.specs.declared.changed.Changed.{Changed}
@@ -16,9 +16,9 @@ cell_slots c = rows_of c.marks - 1
 abbrev pub cell_room : Changed → ℕ
 cell_room c = room_of c.marks - 1
 
--- whether a cell is changed
-abbrev pub is_changed : Changed → ℕ → ℕ → Bool
-is_changed c group boundary = is_marked c.marks group boundary
+-- whether there is such a cell, and it is changed
+unfoldable pub is_changed : Changed → ℕ → ℕ → Bool
+is_changed c group boundary = (nat_lt group (width_of c.marks) && nat_lt boundary (rows_of c.marks)) && is_marked c.marks group boundary
 
 -- how many cells are changed
 abbrev pub changed_count : Changed → ℕ

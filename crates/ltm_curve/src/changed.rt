@@ -1,20 +1,39 @@
 //! Which counts were changed.
-ghost use Rattle.std.specs.Prelude.{◌≡◌, ℕ, ◌+◌, ◌-◌, ◌/◌, ◌%◌, ◌==◌, ◌<◌, ◌≤◌, false, IfOk, OnOk, OnErr, MatchOption};
+ghost use Rattle.std.specs.Prelude.{◌≡◌, ℕ, ◌+◌, ◌-◌, ◌/◌, ◌%◌, ◌==◌, ◌<◌, ◌≤◌, ◌⊎◌, false, IfOk, OnOk, OnErr, MatchOption};
 ghost use Rattle.std.specs.Int.{bit_at};
-ghost use Rattle.ltm_marks.specs.Marks.{rows_of};
+ghost use Rattle.ltm_marks.specs.Marks.{width_of, rows_of, is_marked, SameSize};
 ghost use Rattle.ltm_curve.specs.MarkedCount.{marked_count};
 
 use ltm_marks::Marks;
 use ltm_units::NoMemory;
 use std::alloc::Global;
 
-/// A set of cells, each a group of counts at a boundary: those in which some count was changed.
+/// A set of cells, each a group of counts at a boundary: those in which some count was changed. All of them lie between two
+/// boundaries, so that what passes over the set need not pass over all boundaries that there are.
 #[derive(Drop)]
 pub struct Changed {
     marks: Marks,
     count: u64,
+    from: u32,
+    to: u32,
     ghost some_boundary: { 1 ≤ rows_of marks },
     ghost counted: { count ≡ marked_count marks },
+    ghost within: { to ≤ rows_of marks },
+    ghost outside: { (g k : ℕ) → g < width_of marks → k < rows_of marks → (k < from) ⊎ (to ≤ k) → is_marked marks g k ≡ false },
+}
+
+/// Takes all marks away, where none is but in some rows, the last not included.
+fn clear_between(marks: &mut Marks, from: u32, to: u32)
+    requires rows { to ≤ rows_of marks.old }
+    requires outside { (g k : ℕ) → g < width_of marks.old → k < rows_of marks.old
+        → (k < from) ⊎ (to ≤ k) → is_marked marks.old g k ≡ false }
+    ensures size { SameSize marks.old marks.new }
+    ensures none { (g k : ℕ) → g < width_of marks.old → k < rows_of marks.old
+        → is_marked marks.new g k ≡ false }
+{
+    if from < to {
+        marks.clear_rows(from as usize, to as usize);
+    }
 }
 
 impl Changed {
@@ -30,7 +49,12 @@ impl Changed {
             return Err(NoMemory);
         }
         let marks = Marks::create(alloc, groups as usize, slots as usize + 1)?;
-        Ok(Changed { marks, count: 0 })
+        Ok(Changed {
+            marks,
+            count: 0,
+            from: slots + 1,
+            to: 0,
+        })
     }
 
     /// Puts a cell into the set, and changes no other.
@@ -43,6 +67,8 @@ impl Changed {
         if !self.has(group, boundary) {
             self.marks.mark(group as usize, boundary as usize);
             self.count += 1;
+            self.from = self.from.min(boundary);
+            self.to = self.to.max(boundary + 1);
         }
     }
 
@@ -68,8 +94,27 @@ impl Changed {
         ensures shape { HasCells self.new (cell_groups self.old) (cell_slots self.old) }
         ensures none { NoneChanged self.new }
     {
-        self.marks.clear();
+        clear_between(&mut self.marks, self.from, self.to);
         self.count = 0;
+        self.from = self.marks.rows() as u32;
+        self.to = 0;
+    }
+
+    /// A boundary below which no cell is in the set.
+    pub(crate) fn from(&self) -> u32
+        ensures { (g k : ℕ) → k < result → is_changed self.now g k ≡ false }
+    {
+        let _marks = &self.marks;
+        self.from
+    }
+
+    /// A boundary from which on no cell is in the set.
+    pub(crate) fn to(&self) -> u32
+        ensures none { (g k : ℕ) → result ≤ k → is_changed self.now g k ≡ false }
+        ensures within { result ≤ cell_slots self.now + 1 }
+    {
+        let _marks = &self.marks;
+        self.to
     }
 
     /// The first group, not below one, whose cell at a boundary is in the set; none exactly where there is none. Cells are
@@ -100,7 +145,7 @@ impl Changed {
     pub(crate) fn word(&self, group: u32, boundary: u32) -> u64
         requires group { group < cell_groups self.now }
         requires boundary { boundary ≤ cell_slots self.now }
-        ensures { (g : ℕ) → g / 64 ≡ group / 64
+        ensures { (g : ℕ) → g < cell_groups self.now → g / 64 ≡ group / 64
             → is_changed self.now g boundary ≡ (bit_at result (g % 64) == 1) }
     {
         self.marks.word_with(boundary as usize, group as usize)

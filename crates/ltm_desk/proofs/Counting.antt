@@ -6,6 +6,7 @@ use Rattle.ltm_units.specs.Sums.{sum_below}
 use Rattle.ltm_units.proofs.Sums.{sum_below-same, sum_below-zero, sum_below-change, sum_below-positive, le-sum_below, SomeTerm}
 use Rattle.ltm_curve.specs.Cells.{is_changed, changed_count}
 use Rattle.ltm_curve.specs.declared.changed.Changed.{Changed}
+use Rattle.ltm_curve.proofs.Cells.{in_cells}
 use Rattle.ltm_loading.specs.Setting.{Setting}
 use Rattle.ltm_loading.specs.Groups.{groups}
 use Rattle.ltm_marks.specs.Marks.{width_of, rows_of, is_marked}
@@ -95,4 +96,4 @@ cells_are s t ready =
     ∙ sum_below-same (s.slots + 1) (λ k. sum_below (width_of c.marks) (λ g. if is_marked c.marks g k then 1 else 0)) (λ k. sum_below (groups s) (λ g. if changed_at s t g k then 1 else 0))
     (λ k l. ap (λ (n : ℕ). sum_below n (λ g. if is_marked c.marks g k then 1 else 0)) wide
     ∙ sum_below-same (groups s) (λ g. if is_marked c.marks g k then 1 else 0) (λ g. if changed_at s t g k then 1 else 0)
-    (λ g x. ap (λ b. if b then 1 else 0) (sym (cell_is s t g k x l))))
+    (λ g x. ap (λ b. if b then 1 else 0) (sym (cell_is s t g k x l ∙ in_cells c g k (omega (arith, x, wide)) (omega (arith, l, long))))))

@@ -14,7 +14,7 @@ use Rattle.ltm_frontier.specs.declared.frontier.Frontier.{Frontier}
 use Rattle.ltm_frontier.specs.Frontier.{is_pair, Activates}
 use Rattle.ltm_desk.specs.Desks.{place_of}
 use Rattle.ltm_desk.proofs.Bools.{or_false, same_tests}
-use Rattle.ltm_desk.proofs.Activating.{act_both, act_as}
+use Rattle.ltm_desk.proofs.Activating.{act_both, act_as, act_no}
 
 -- a slot stands in a list
 abbrev pub stands : List ℕ → ℕ → Bool
@@ -29,6 +29,15 @@ pub record Marked (a b : Frontier) (u from : ℕ) (all : List ℕ) (at : Option 
   pub passed : List ℕ
   pub whole : passed ++ list_from all at ≡ all
   pub acts : Activates a b (listed u from passed)
+
+both_off : (n a : Bool) → (n && (a && false)) ≡ false
+both_off true true = refl
+both_off true false = refl
+both_off false a = refl
+
+-- before any of them is marked
+pub marked_none : (f : Frontier) (u from : ℕ) (all : List ℕ) (at : Option ℕ) → all ≡ list_from all at → Marked f f u from all at
+marked_none f u from all at whole = record { passed = []; whole = sym whole; acts = act_no f (listed u from []) (λ w v x y. both_off (nat_le from v) (w == u)) }
 
 both_or : (n a p q : Bool) → ((n && (a && p)) || (n && (a && q))) ≡ (n && (a && (p || q)))
 both_or false a p q = refl

@@ -9,34 +9,11 @@ use Rattle.ltm_node.specs.Demands.{sent, sent_into, priority, demands}
 use Rattle.ltm_node.specs.Moving.{priority_or_more, filled_demands}
 use Rattle.ltm_node.specs.Step.{gone, come, sunk_in_all, MovesAtShares}
 use Rattle.ltm_node.proofs.Ranges.{sent_into_le}
-use Rattle.ltm_node.proofs.Demanded.{filled_small}
+use Rattle.ltm_node.proofs.Demanded.{filled_small, shares_filled}
 use Rattle.ltm_loading.specs.Pairs.{grid}
 use Rattle.ltm_loading.proofs.Rows.{HasCounts, counted, has_counts, length-grid}
 use Rattle.ltm_existence.specs.Existence.{HasShares, ThereIsAStep}
 use Rattle.ltm_existence.proofs.Rounds.{there_are_shares_holds}
-
-priority_same : (n : Inputs) (i j : ℕ) → 0 < sent_into n i j → priority_or_more n i ≡ priority n i
-priority_same n i j uses =
-    let e : max 1 (sent n i) ≡ sent n i = omega (arith, sent_into_le n i j) in ap (λ z. 1024 * capacity n i / z) e
-
--- the priority of an arm that sends nothing plays no part
-shares_filled : (n : Inputs) (d : ℕ) (p : ℕ → ℕ) → AreShares (filled_demands n) d p → AreShares (demands n) d p
-shares_filled n d p s = record {
-  positive = s.positive;
-  at_most_all = s.at_most_all;
-  within_supply = s.within_supply;
-  held_back = λ i l less.
-      let by = s.held_back i l less in
-      let b : HeldBackBy (filled_demands n) d p i by.0 = by.1 in (
-        by.0,
-        record {
-          is_out = b.is_out;
-          uses = b.uses;
-          full = b.full;
-          greatest = λ k c u. omega (arith, b.greatest k c u, ap (λ z. p k * z) (priority_same n i by.0 b.uses), ap (λ z. p i * z) (priority_same n k by.0 u));
-        },
-      );
-}
 
 length-counted : (a o m : ℕ) (gone enter : ℕ → ℕ → ℕ) (come : ℕ) → length (counted a o m gone enter come) ≡ a * m + o * m + 1
 length-counted a o m gone enter come =

@@ -10,18 +10,22 @@ use ltm_marks::Marks;
 use ltm_units::{NoMemory, Pair, Reach};
 use std::alloc::Global;
 
-/// The active pairs, and the claimed ones, which are all of one slot. No pair is both.
+/// The active pairs, and the claimed ones, which are all of one slot. No pair is both. Active pairs are of slots from `low` on
+/// and before `high` alone, so that a search passes over no slot else.
 #[derive(Drop)]
 pub struct Frontier {
     active: Marks,
     claims: Claims,
     low: u32,
     first: u32,
+    high: u32,
     ghost nodes: { width claims ≡ width_of active },
     ghost apart: { (u : ℕ) → u < width_of active → has_node claims u ≡ true → is_marked active u (slot_in claims) ≡ false },
     ghost there: { (u : ℕ) → u < width_of active → has_node claims u ≡ true → slot_in claims < rows_of active },
     ghost within: { low ≤ rows_of active },
     ghost idle: { (u t : ℕ) → u < width_of active → t < low → is_marked active u t ≡ false },
+    ghost topped: { high ≤ rows_of active },
+    ghost above: { (u t : ℕ) → u < width_of active → t < rows_of active → high ≤ t → is_marked active u t ≡ false },
     ghost passed: { (u : ℕ) → u < width_of active → u < first → low < rows_of active → is_marked active u low ≡ false },
 }
 
@@ -40,6 +44,15 @@ fn first_with(low: u32, first: u32, pair: Pair) -> u32
     } else {
         pair.node.0
     }
+}
+
+/// The slot after one, where that is no later than the end of all slots, else that end.
+#[inline]
+fn after(slot: u32, slots: u32) -> u32
+    ensures within { result ≤ slots }
+    ensures later { slot < slots → slot < result }
+{
+    if slot < slots { slot + 1 } else { slots }
 }
 
 impl Frontier {
@@ -78,6 +91,7 @@ impl Frontier {
             claims,
             low: slots,
             first: 0,
+            high: 0,
         })
     }
 
@@ -140,6 +154,7 @@ impl Frontier {
         if !self.claims.has(pair.node.0, pair.slot) {
             self.first = first_with(self.low, self.first, pair);
             self.low = self.low.min(pair.slot);
+            self.high = self.high.max(pair.slot + 1);
             self.active.mark(pair.node.0 as usize, pair.slot as usize);
         }
     }
@@ -194,7 +209,9 @@ impl Frontier {
     pub fn void_all(&mut self)
         ensures { Voids self.old self.new }
     {
-        self.low = self.low.min(self.claims.slot());
+        let slot = self.claims.slot();
+        self.low = self.low.min(slot);
+        self.high = self.high.max(after(slot, self.slots()));
         self.first = 0;
         self.claims.mark_all(&mut self.active);
         self.claims.clear();

@@ -1,5 +1,5 @@
 -- One bit is set or cleared.
-use Rattle.std.proofs.Common.{◌≡◌, ◌≢◌, ℕ, ◌+◌, ◌-◌, ◌*◌, ◌/◌, ◌%◌, ◌^◌, ◌<◌, ◌≤◌, ◌==◌, Bool, true, false, length, get_or, slice_index, slice_set, arith, inl, inr, refl, ap, sym, ◌∙◌, w64, bit_and, bit_or, get_or-set_same, get_or-set_other, replicate, List, ◌++◌}
+use Rattle.std.proofs.Common.{◌≡◌, ◌≢◌, ℕ, ◌+◌, ◌-◌, ◌*◌, ◌/◌, ◌%◌, ◌^◌, ◌<◌, ◌≤◌, ◌⊎◌, ◌==◌, Bool, true, false, length, get_or, slice_index, slice_set, arith, inl, inr, refl, ap, sym, ◌∙◌, w64, bit_and, bit_or, get_or-set_same, get_or-set_other, replicate, List, ◌++◌}
 use Rattle.std.specs.Int.{bit_at, bit_not, trailing_zeros}
 use Rattle.std.proofs.Math.Nat.{mul-le-mul_right, div-div-eq-div-mul, div-le_self}
 use Rattle.std.proofs.lemmas.Nat.{mod_below, pow-add}
@@ -8,7 +8,7 @@ use Rattle.std.proofs.lemmas.Bool.{cases_eq, cases_lt}
 use Rattle.std.proofs.lemmas.List.{get_or-replicate, get_or_past, length-replicate, get_or_append_left, get_or-append_right}
 use Rattle.ltm_marks.specs.declared.marks.Marks.{Marks}
 use Rattle.ltm_marks.specs.Bits.{NoBit, IsFirstBit}
-use Rattle.ltm_marks.specs.Marks.{width_of, rows_of, word_of, is_marked, SetsMark, IsNextInWord, HasNoneInWord}
+use Rattle.ltm_marks.specs.Marks.{width_of, rows_of, word_of, is_marked, SetsMark, ClearsRows, IsNextInWord, HasNoneInWord}
 
 -- pairs in one word have other bits
 other_bit : (words u t w v : ℕ) → u / 64 < words → w / 64 < words → v * words + w / 64 ≡ t * words + u / 64 → (u ≡ w → t ≡ v → ⊥) → w % 64 ≢ u % 64
@@ -156,3 +156,31 @@ more_rows room rows words x y l a b =
 pub mark_in_word : (m : Marks) (row place p : ℕ) → p / 64 ≡ place / 64 → is_marked m p row ≡ (bit_at (slice_index m.bits.items (word_of m place row)) (p % 64) == 1)
 unfolding is_marked
 mark_in_word m row place p e = ap (λ k. bit_at (slice_index m.bits.items k) (p % 64) == 1) (same_word m row place p e)
+
+-- ---- rows without bits
+rows_in_order : (words from to : ℕ) → from ≤ to → from * words ≤ to * words
+rows_in_order words from to l = mul-le-mul_right words l
+
+-- a row lies behind all words of the rows before it
+behind : (words p r rows : ℕ) → rows ≤ r → rows * words ≤ r * words + p / 64
+behind words p r rows l = let a : rows * words ≤ r * words = rows_in_order words rows r l in omega (arith, a)
+
+-- and before all words of the rows behind it
+ahead : (words p r rows : ℕ) → p / 64 < words → r < rows → r * words + p / 64 < rows * words
+ahead words p r rows x l =
+    let next : r + 1 ≤ rows = omega arith in
+    let a : (r + 1) * words ≤ rows * words = mul-le-mul_right words next in
+    omega (arith, a, x)
+
+pub clears_rows : (old new : Marks) (from to : ℕ) → old.words ≡ old.width / 64 + 1 → new.width ≡ old.width → new.rows ≡ old.rows → new.room ≡ old.room → new.words ≡ old.words →
+    ((i : ℕ) → from * old.words ≤ i → i < to * old.words → slice_index new.bits.items i ≡ 0) →
+    ((i : ℕ) → (i < from * old.words) ⊎ (to * old.words ≤ i) → slice_index new.bits.items i ≡ slice_index old.bits.items i) → ClearsRows old new from to
+unfolding is_marked
+clears_rows old new from to wide width rows room words none others = record {
+  size = record { width = width; rows = rows; room = room };
+  none = λ p r x l m. rw (words, none (word_of old p r) (behind old.words p r from l) (ahead old.words p r to (in_words old p wide x) m), bit_at-zero (p % 64)) refl;
+  others = λ p r x either. rw words (ap (λ z. bit_at z (p % 64) == 1) (others (word_of old p r) (elim either [
+    | inl low ↦ inl (ahead old.words p r from (in_words old p wide x) low)
+    | inr high ↦ inr (behind old.words p r to high)
+  ])));
+}

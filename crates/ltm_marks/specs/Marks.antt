@@ -1,5 +1,5 @@
 -- Marks of places in rows, as bits: those of one row lie side by side.
-use Rattle.std.specs.Prelude.{◌≡◌, ℕ, ◌+◌, ◌*◌, ◌/◌, ◌%◌, ◌<◌, ◌≤◌, ◌==◌, Bool, true, false, slice_index}
+use Rattle.std.specs.Prelude.{◌≡◌, ℕ, ◌+◌, ◌*◌, ◌/◌, ◌%◌, ◌<◌, ◌≤◌, ◌⊎◌, ◌==◌, Bool, true, false, slice_index}
 use Rattle.std.specs.Int.{bit_at}
 use Rattle.ltm_marks.specs.declared.marks.Marks.{Marks}
 
@@ -34,6 +34,12 @@ pub record SetsMark (old new : Marks) (place row : ℕ) (value : Bool) : Type 0 
   pub size : SameSize old new
   pub here : is_marked new place row ≡ value
   pub others : (p r : ℕ) → p < width_of old → r < rows_of old → (place ≡ p → row ≡ r → ⊥) → is_marked new p r ≡ is_marked old p r
+
+-- no place of some rows is marked any more, the last row not included, and no mark of another row changes
+pub record ClearsRows (old new : Marks) (from to : ℕ) : Type 0 where
+  pub size : SameSize old new
+  pub none : (p r : ℕ) → p < width_of old → from ≤ r → r < to → is_marked new p r ≡ false
+  pub others : (p r : ℕ) → p < width_of old → (r < from) ⊎ (to ≤ r) → is_marked new p r ≡ is_marked old p r
 
 -- width, rows and marks stay
 pub record SameMarks (old new : Marks) : Type 0 where

@@ -1,7 +1,7 @@
 //! Marks of places in rows.
 ghost use Rattle.std.specs.Int.{bit_at};
 ghost use Rattle.ltm_marks.specs.Bits.{NoBit, IsFirstBit};
-ghost use Rattle.std.specs.Prelude.{◌≡◌, ℕ, ◌+◌, ◌*◌, ◌/◌, ◌%◌, ◌==◌, ◌^◌, ◌<◌, ◌≤◌, length, true, false, IfOk, OnErr, OnOk, MatchOption, slice_index, replicate, ◌++◌};
+ghost use Rattle.std.specs.Prelude.{◌≡◌, ℕ, ◌+◌, ◌*◌, ◌/◌, ◌%◌, ◌==◌, ◌^◌, ◌<◌, ◌≤◌, ◌⊎◌, length, true, false, IfOk, OnErr, OnOk, MatchOption, slice_index, replicate, ◌++◌};
 
 use ltm_units::NoMemory;
 use std::alloc::Global;
@@ -60,6 +60,20 @@ fn extend(bits: &mut Vec<u64>, words: usize, rows: usize) -> Result<(), NoMemory
     }
 }
 
+/// Takes the bits of some words away, the last word not included.
+fn clear_words(bits: &mut Vec<u64>, from: usize, to: usize)
+    requires order { from ≤ to }
+    requires within { to ≤ length bits.old.items }
+    ensures count { length bits.new.items ≡ length bits.old.items }
+    ensures none { (i : ℕ) → from ≤ i → i < to → slice_index bits.new.items i ≡ 0 }
+    ensures others { (i : ℕ) → (i < from) ⊎ (to ≤ i)
+        → slice_index bits.new.items i ≡ slice_index bits.old.items i }
+{
+    for at in from..to {
+        bits[at] = 0;
+    }
+}
+
 /// Takes all bits away.
 fn clear_bits(bits: &mut Vec<u64>)
     ensures count { length bits.new.items ≡ length bits.old.items }
@@ -69,7 +83,7 @@ fn clear_bits(bits: &mut Vec<u64>)
 }
 
 impl Marks {
-    ghost use Rattle.ltm_marks.specs.Marks.{width_of, rows_of, room_of, word_of, is_marked, SetsMark, SameMarks, IsNext, HasNone, IsNextInWord, HasNoneInWord, HasNoneNear};
+    ghost use Rattle.ltm_marks.specs.Marks.{width_of, rows_of, room_of, word_of, is_marked, SetsMark, ClearsRows, SameMarks, IsNext, HasNone, IsNextInWord, HasNoneInWord, HasNoneNear};
 
     /// So many rows of so many places, none of them marked, at most 65,536 of each.
     #[tactic(auto, using(crate::proofs::Bits::none_marked))]
@@ -227,6 +241,15 @@ impl Marks {
             from = (from / 64 + 1) * 64;
         }
         None
+    }
+
+    /// Takes the marks of some rows away, the last row not included, and changes no other.
+    pub fn clear_rows(&mut self, from: usize, to: usize)
+        requires order { from ≤ to }
+        requires rows { to ≤ rows_of self.old }
+        ensures { ClearsRows self.old self.new from to }
+    {
+        clear_words(&mut self.bits, from * self.words, to * self.words);
     }
 
     /// Takes every mark away.

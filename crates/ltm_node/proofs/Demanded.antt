@@ -64,7 +64,7 @@ priority_same n i j uses =
     let e : max 1 (sent n i) ≡ sent n i = omega (arith, sent_into_le n i j) in ap (λ z. 1024 * capacity n i / z) e
 
 -- the priority of an arm that sends nothing plays no part
-shares_filled : (n : Inputs) (d : ℕ) (p : ℕ → ℕ) → AreShares (filled_demands n) d p → AreShares (demands n) d p
+pub shares_filled : (n : Inputs) (d : ℕ) (p : ℕ → ℕ) → AreShares (filled_demands n) d p → AreShares (demands n) d p
 shares_filled n d p s = record {
   positive = s.positive;
   at_most_all = s.at_most_all;

@@ -105,7 +105,8 @@ impl TotalCurves {
     }
 
     /// Becomes the totals of curves of the same shape, where these are the same but in the changed cells, which alone are
-    /// copied. But for the last group each total of the curves is less than 2^32.
+    /// copied: only boundaries between the first and the last of these are looked at. But for the last group each total of
+    /// the curves is less than 2^32.
     pub fn copy_changed(&mut self, curves: &Curves, changed: &Changed)
         requires shape { HasTotals self.old (groups_of curves.now) (slots_of curves.now) }
         requires small { AreNarrow curves.now }
@@ -115,9 +116,8 @@ impl TotalCurves {
             → total_at self.old g k ≡ total_of curves.now g k }
         ensures { AreTotalsOf self.new curves.now }
     {
-        for boundary in 0..curves.slots() {
+        for boundary in changed.from()..changed.to() {
             self.copy_changed_row(curves, changed, boundary);
         }
-        self.copy_changed_row(curves, changed, curves.slots());
     }
 }

@@ -28,7 +28,7 @@ impl Frontier {
     {
         let _width = self.active.width();
         let mut from = self.first;
-        for slot in self.low..end {
+        for slot in self.low..end.min(self.high) {
             if let Some(node) = self.active.next_marked(slot as usize, from as usize) {
                 let node = NodeId(node as u32);
                 return Some(Pair { node, slot });
@@ -116,6 +116,7 @@ impl Frontier {
             None => {
                 self.low = self.active.rows() as u32;
                 self.first = 0;
+                self.high = 0;
                 None
             }
         }

@@ -2,8 +2,15 @@ use Rattle.std.proofs.Common.{ℕ, refl, subst, arith}
 use Rattle.std.specs.Prelude.{Option}
 use Rattle.ltm_index.specs.Lists.{list_of}
 use Rattle.ltm_index.specs.Chains.{behind}
-use Rattle.ltm_desk.proofs.Listing.{Marked, marked_next, marked_all}
+use Rattle.ltm_desk.proofs.Listing.{Marked, marked_none, marked_next, marked_all}
 use Rattle.ltm_desk.proofs.marking.mark_list.Goals as goal
+
+pub loop-at-init : goal.loop-at-init
+loop-at-init c = record {
+  stands = c.next_reader-at.ensures.stands;
+  within = c.next_reader-at.ensures.within;
+  marked = marked_none c.args.frontier.now c.args.node.0 c.args.from (list_of c.args.index.now c.args.link.0 c.args.boundary) c.next_reader-at.result c.next_reader-at.ensures.left;
+}
 
 pub loop-at-preserved : goal.loop-at-preserved
 loop-at-preserved c =

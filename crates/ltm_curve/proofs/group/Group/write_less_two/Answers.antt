@@ -1,4 +1,4 @@
-use Rattle.std.proofs.Common.{◌≡◌, ℕ, ◌-◌, slice_index, arith}
+use Rattle.std.proofs.Common.{ℕ, ◌-◌, slice_index, arith}
 use Rattle.ltm_curve.specs.Table.{destinations_of, counts_of}
 use Rattle.ltm_curve.proofs.Lists.{written_two}
 use Rattle.ltm_curve.proofs.group.Group.write_less_two.Goals as goal

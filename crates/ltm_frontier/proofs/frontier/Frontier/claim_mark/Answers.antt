@@ -42,6 +42,11 @@ invariant_of-self c =
       idle = λ w v x y.
           let in_old : w < width_of f.active = omega (arith, x, c.unmark.ensures.size.width) in
           stays_off f.active _ u t w v c.unmark.ensures in_old (omega (arith, y, f.within)) (f.idle w v in_old y);
+      topped = omega (arith, f.topped, c.unmark.ensures.size.rows);
+      above = λ w v x y z.
+          let in_old : w < width_of f.active = omega (arith, x, c.unmark.ensures.size.width) in
+          let row : v < rows_of f.active = omega (arith, y, c.unmark.ensures.size.rows) in
+          stays_off f.active _ u t w v c.unmark.ensures in_old row (f.above w v in_old row z);
       passed = λ w x y z.
           let in_old : w < width_of f.active = omega (arith, x, c.unmark.ensures.size.width) in
           let row : f.low < rows_of f.active = omega (arith, z, c.unmark.ensures.size.rows) in
