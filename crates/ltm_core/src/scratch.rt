@@ -1,4 +1,6 @@
 //! The buffers of one worker.
+ghost use Rattle.std.specs.Prelude.{◌≡◌, length};
+
 use ltm_desk::WIDEST;
 use ltm_node::{NodeInputs, NodeOutputs};
 use ltm_units::NoMemory;
@@ -30,5 +32,13 @@ impl Scratch {
         let inputs = NodeInputs::create(alloc, WIDEST)?;
         let outputs = NodeOutputs::create(alloc, WIDEST)?;
         Ok(Scratch { inputs, outputs })
+    }
+
+    /// How many numbers the row in the buffers has: that of the pair that was last worked on with them.
+    #[inline]
+    pub fn width(&self) -> usize
+        ensures { result ≡ length self.now.inputs.row }
+    {
+        self.inputs.row().len()
     }
 }

@@ -12,14 +12,14 @@ ghost use Rattle.ltm_session.specs.Analysts.{state_of};
 ghost use Rattle.ltm_session.specs.Answers.{Replies};
 ghost use Rattle.ltm_crew.specs.Beside.{SaidBeside, LineBeside, StopsBeside};
 
-use ltm_core::{Core, Scratch, logs_tell_all};
+use ltm_core::{Core, logs_tell_all};
 use ltm_io::Sink;
 use ltm_report::{ANSWER_ROOM, settled_text};
 use ltm_script::{Command, CommandFault, read_command};
 use ltm_session::{SessionEnd, reply, reply_fault, write_answer};
 use ltm_turn::{EditorPass, Turn};
 use ltm_units::NoMemory;
-use ltm_workers::{Settled, settle_beside};
+use ltm_workers::{Hints, Settled, Settler, settle_beside};
 use std::alloc::Global;
 use std::sync::Wait;
 
@@ -54,11 +54,12 @@ fn is_behind(core: &Core) -> bool {
     core.shown().version() != core.version()
 }
 
-/// Answers a command that is no settle, in one turn. Where there is work to do then, a worker that sleeps is told.
+/// Answers a command that is no settle, in one turn. Where there is work to do then, workers are called.
 fn reply_beside<R: Wait>(
     rt: &R,
     alloc: Global,
     turn: &Turn<Core>,
+    hints: &Hints,
     editor: EditorPass<Core>,
     command: Command,
     text: &mut Vec<u8>,
@@ -82,7 +83,7 @@ fn reply_beside<R: Wait>(
     let behind = is_behind(held.get());
     let editor = turn.give_editor(held);
     if behind {
-        turn.tell_one();
+        hints.call_after_batch(turn);
     }
     (editor, done)
 }
@@ -102,10 +103,11 @@ fn push_settled(settled: Settled, text: &mut Vec<u8>)
 fn settle_in_room<R: Wait>(
     rt: &R,
     turn: &Turn<Core>,
+    hints: &Hints,
     editor: EditorPass<Core>,
-    scratch: Scratch,
+    settler: Settler,
     text: &mut Vec<u8>,
-) -> (EditorPass<Core>, Scratch)
+) -> (EditorPass<Core>, Settler)
     requires turn { editor_turn editor ≡ turn_id turn.now }
     requires room { vec_len text.old + answer_room ≤ vec_capacity text.old }
     ensures turn { (editor_turn result.0 ≡ turn_id turn.now)
@@ -116,19 +118,20 @@ fn settle_in_room<R: Wait>(
         × (text.new.items ≡ text.old.items ++ words) }
 {
     logs_tell_all();
-    let (editor, scratch, settled) = settle_beside(rt, turn, editor, scratch);
+    let (editor, settler, settled) = settle_beside(rt, turn, hints, editor, settler);
     push_settled(settled, text);
-    (editor, scratch)
+    (editor, settler)
 }
 
 /// Settles, and appends the count. Its room is taken before.
 fn settle_line<R: Wait>(
     rt: &R,
     turn: &Turn<Core>,
+    hints: &Hints,
     editor: EditorPass<Core>,
-    scratch: Scratch,
+    settler: Settler,
     text: &mut Vec<u8>,
-) -> (EditorPass<Core>, Scratch, Result<(), NoMemory>)
+) -> (EditorPass<Core>, Settler, Result<(), NoMemory>)
     requires { editor_turn editor ≡ turn_id turn.now }
     ensures turn { (editor_turn result.0 ≡ turn_id turn.now)
         × (editor_workers result.0 ≡ editor_workers editor) }
@@ -142,10 +145,10 @@ fn settle_line<R: Wait>(
 {
     match text.reserve(ANSWER_ROOM) {
         Ok(()) => {
-            let (editor, scratch) = settle_in_room(rt, turn, editor, scratch, text);
-            return (editor, scratch, Ok(()));
+            let (editor, settler) = settle_in_room(rt, turn, hints, editor, settler, text);
+            return (editor, settler, Ok(()));
         }
-        Err(_) => return (editor, scratch, Err(NoMemory)),
+        Err(_) => return (editor, settler, Err(NoMemory)),
     }
 }
 
@@ -154,11 +157,12 @@ fn answer_beside<R: Wait>(
     rt: &R,
     alloc: Global,
     turn: &Turn<Core>,
+    hints: &Hints,
     editor: EditorPass<Core>,
-    scratch: Scratch,
+    settler: Settler,
     line: &[u8],
     text: &mut Vec<u8>,
-) -> (EditorPass<Core>, Scratch, Result<(), NoMemory>)
+) -> (EditorPass<Core>, Settler, Result<(), NoMemory>)
     requires { editor_turn editor ≡ turn_id turn.now }
     ensures turn { (editor_turn result.0 ≡ turn_id turn.now)
         × (editor_workers result.0 ≡ editor_workers editor) }
@@ -171,15 +175,15 @@ fn answer_beside<R: Wait>(
         × (editor_seen editor ≤ editor_seen result.0)) }
 {
     match read_command(alloc, line) {
-        Ok(Command::Settle) => return settle_line(rt, turn, editor, scratch, text),
+        Ok(Command::Settle) => return settle_line(rt, turn, hints, editor, settler, text),
         Ok(command) => {
-            let (editor, done) = reply_beside(rt, alloc, turn, editor, command, text);
-            return (editor, scratch, done);
+            let (editor, done) = reply_beside(rt, alloc, turn, hints, editor, command, text);
+            return (editor, settler, done);
         }
-        Err(CommandFault::NoMemory) => return (editor, scratch, Err(NoMemory)),
+        Err(CommandFault::NoMemory) => return (editor, settler, Err(NoMemory)),
         Err(fault) => {
             let done = reply_fault(alloc, fault, text);
-            return (editor, scratch, done);
+            return (editor, settler, done);
         }
     }
 }
@@ -189,12 +193,13 @@ pub(crate) fn line_beside<R: Wait, W: Sink>(
     rt: &R,
     alloc: Global,
     turn: &Turn<Core>,
+    hints: &Hints,
     editor: EditorPass<Core>,
-    scratch: Scratch,
+    settler: Settler,
     line: &[u8],
     text: &mut Vec<u8>,
     sink: &mut W,
-) -> (EditorPass<Core>, Scratch, Result<(), SessionEnd>)
+) -> (EditorPass<Core>, Settler, Result<(), SessionEnd>)
     requires { editor_turn editor ≡ turn_id turn.now }
     ensures turn { (editor_turn result.0 ≡ turn_id turn.now)
         × (editor_workers result.0 ≡ editor_workers editor) }
@@ -212,12 +217,14 @@ pub(crate) fn line_beside<R: Wait, W: Sink>(
         → Rose (W.faults sink.old) (W.faults sink.new) }
 {
     text.clear();
-    let (editor, scratch, done) = answer_beside(rt, alloc, turn, editor, scratch, line, text);
+    let (editor, settler, done) = answer_beside(
+        rt, alloc, turn, hints, editor, settler, line, text,
+    );
     let Ok(()) = done else {
-        return (editor, scratch, Err(SessionEnd::NoMemory));
+        return (editor, settler, Err(SessionEnd::NoMemory));
     };
     match write_answer(text.as_slice(), sink) {
-        Ok(()) => return (editor, scratch, Ok(())),
-        Err(end) => return (editor, scratch, Err(end)),
+        Ok(()) => return (editor, settler, Ok(())),
+        Err(end) => return (editor, settler, Err(end)),
     }
 }

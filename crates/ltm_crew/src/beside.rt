@@ -5,10 +5,11 @@ ghost use Rattle.ltm_session.specs.Answers.{AnswersBeside};
 ghost use Rattle.ltm_crew.specs.Beside.{IsKnown};
 
 use crate::answering::line_beside;
-use ltm_core::{Core, Scratch};
+use ltm_core::Core;
 use ltm_io::Sink;
 use ltm_session::{Answerer, SessionEnd};
 use ltm_turn::{EditorPass, Turn};
+use ltm_workers::{Hints, Settler};
 use std::alloc::Global;
 use std::sync::Wait;
 
@@ -17,8 +18,9 @@ pub(crate) struct Beside<'a, R> {
     pub(crate) rt: &'a R,
     pub(crate) alloc: Global,
     pub(crate) turn: &'a Turn<Core>,
+    pub(crate) hints: &'a Hints,
     pub(crate) editor: EditorPass<Core>,
-    pub(crate) scratch: Scratch,
+    pub(crate) settler: Settler,
 }
 
 impl<'a, R: Wait> Answerer for Beside<'a, R> {
@@ -41,18 +43,20 @@ impl<'a, R: Wait> Answerer for Beside<'a, R> {
             rt,
             alloc,
             turn,
+            hints,
             editor,
-            scratch,
+            settler,
         } = self;
-        let (editor, scratch, done) = line_beside(
-            rt, alloc, turn, editor, scratch, line, text, sink,
+        let (editor, settler, done) = line_beside(
+            rt, alloc, turn, hints, editor, settler, line, text, sink,
         );
         let beside = Beside {
             rt,
             alloc,
             turn,
+            hints,
             editor,
-            scratch,
+            settler,
         };
         (beside, done)
     }

@@ -11,7 +11,7 @@ use ltm_core::{Core, Scratch};
 use ltm_io::{Sink, Source};
 use ltm_session::{Script, SessionEnd, serve_lines};
 use ltm_turn::{EditorPass, Turn, WorkerPass};
-use ltm_workers::{Gate, stop_beside, work};
+use ltm_workers::{Gate, Hints, Settler, stop_beside, work};
 use std::alloc::Global;
 use std::sync::Wait;
 use std::thread::{Threads, join_mut};
@@ -29,6 +29,7 @@ pub(crate) struct Gear {
 fn edit<R: Wait, S: Source, W: Sink>(
     rt: &R,
     turn: &Turn<Core>,
+    hints: &Hints,
     editor: EditorPass<Core>,
     gear: Gear,
     source: &mut S,
@@ -58,16 +59,18 @@ fn edit<R: Wait, S: Source, W: Sink>(
         rt,
         alloc,
         turn,
+        hints,
         editor,
-        scratch,
+        settler: Settler::new(scratch),
     };
     let (beside, end) = serve_lines(beside, script, source, sink);
     let Beside {
         rt: _,
         alloc: _,
         turn: _,
+        hints: _,
         editor,
-        scratch: _,
+        settler: _,
     } = beside;
     (editor, end)
 }
@@ -76,6 +79,7 @@ fn edit<R: Wait, S: Source, W: Sink>(
 fn edit_and_stop<R: Wait, S: Source, W: Sink>(
     rt: &R,
     turn: &Turn<Core>,
+    hints: &Hints,
     editor: EditorPass<Core>,
     gear: Gear,
     source: &mut S,
@@ -95,8 +99,8 @@ fn edit_and_stop<R: Wait, S: Source, W: Sink>(
     ensures read { ReadsAll (S.left source.old) result.1 (S.left source.new) }
     ensures later { W.faults sink.old ≤ W.faults sink.new }
 {
-    let (editor, end) = edit(rt, turn, editor, gear, source, sink);
-    (stop_beside(rt, turn, editor), end)
+    let (editor, end) = edit(rt, turn, hints, editor, gear, source, sink);
+    (stop_beside(rt, turn, hints, editor), end)
 }
 
 /// Starts the workers one after another, and is the editor beside them; at the end it stops the core. A worker for which no
@@ -104,6 +108,7 @@ fn edit_and_stop<R: Wait, S: Source, W: Sink>(
 pub(crate) fn crew<R: Threads + Wait + Sync, S: Source, W: Sink, G: Gate>(
     rt: &R,
     turn: &Turn<Core>,
+    hints: &Hints,
     workers: u32,
     editor: EditorPass<Core>,
     gear: Gear,
@@ -128,10 +133,10 @@ pub(crate) fn crew<R: Threads + Wait + Sync, S: Source, W: Sink, G: Gate>(
 {
     let mut gear = gear;
     if workers == 0 {
-        return edit_and_stop(rt, turn, editor, gear, source, sink);
+        return edit_and_stop(rt, turn, hints, editor, gear, source, sink);
     }
     let Some(idle) = gear.scratches.pop() else {
-        return edit_and_stop(rt, turn, editor, gear, source, sink);
+        return edit_and_stop(rt, turn, hints, editor, gear, source, sink);
     };
     let mut editor = editor;
     let pass = turn.split(&mut editor);
@@ -148,7 +153,7 @@ pub(crate) fn crew<R: Threads + Wait + Sync, S: Source, W: Sink, G: Gate>(
             let Some((pass, idle)) = hand.take() else {
                 unreachable!()
             };
-            work(rt, turn, pass, gate, idle)
+            work(rt, turn, hints, pass, gate, idle)
         },
         &mut || -> (EditorPass<Core>, SessionEnd)
             requires { IsSync R.row × IsSync G.row
@@ -172,7 +177,7 @@ pub(crate) fn crew<R: Threads + Wait + Sync, S: Source, W: Sink, G: Gate>(
             let Some((editor, gear)) = desk.take() else {
                 unreachable!()
             };
-            crew(rt, turn, rest, editor, gear, source, sink, gate)
+            crew(rt, turn, hints, rest, editor, gear, source, sink, gate)
         },
     );
     let None = hand else { unreachable!() };

@@ -13,7 +13,7 @@ use ltm_io::{Sink, Source};
 use ltm_session::{Script, Served, SessionEnd, serve_alone};
 use ltm_turn::Turn;
 use ltm_units::NoMemory;
-use ltm_workers::Gate;
+use ltm_workers::{Gate, Hints};
 use std::alloc::Global;
 use std::sync::Wait;
 use std::thread::Threads;
@@ -95,7 +95,8 @@ pub fn serve<R: Threads + Wait + Sync, S: Source, W: Sink, G: Gate>(
     };
     match Turn::create(alloc, core) {
         Ok((turn, editor)) => {
-            let (editor, end) = crew(rt, &turn, workers, editor, gear, source, sink, gate);
+            let hints = Hints::new();
+            let (editor, end) = crew(rt, &turn, &hints, workers, editor, gear, source, sink, gate);
             return Served {
                 end,
                 core: turn.close(editor),

@@ -1,12 +1,31 @@
-//! The turns of an editor that settles or ends: in each it makes one event of the core.
+//! The turns of an editor that settles or ends: in each it makes one call of the core.
 ghost use Rattle.std.specs.Prelude.{◌≡◌, ◌≤◌, None, IfSome};
 ghost use Rattle.ltm_turn.specs.Passes.{turn_id, editor_turn, editor_list, editor_seen, editor_workers};
 ghost use Rattle.ltm_workers.specs.Beside.{CountsCommits, SettlesBeside};
 
 use crate::events::{commit_pair, show_counts};
-use ltm_core::{Claimed, Core, Done, Scratch, logs_tell_all};
+use crate::hints::Hints;
+use ltm_core::{Claimed, Core, Done, Recomputed, Scratch, logs_tell_all};
 use ltm_turn::{EditorPass, Turn};
 use std::sync::Wait;
+
+/// Computes a pair anew.
+pub(crate) fn recompute_as_editor<R: Wait>(
+    rt: &R,
+    turn: &Turn<Core>,
+    editor: EditorPass<Core>,
+    scratch: &mut Scratch,
+) -> (EditorPass<Core>, Recomputed)
+    requires { editor_turn editor ≡ turn_id turn.now }
+    ensures turn { (editor_turn result.0 ≡ turn_id turn.now)
+        × (editor_workers result.0 ≡ editor_workers editor) }
+    ensures list { editor_list result.0 ≡ editor_list editor }
+    ensures seen { editor_seen editor ≤ editor_seen result.0 }
+{
+    let mut held = turn.take_editor(rt, editor);
+    let found = held.get_mut().recompute(scratch);
+    (turn.give_editor(held), found)
+}
 
 /// Claims a pair.
 pub(crate) fn claim_as_editor<R: Wait>(
@@ -105,8 +124,13 @@ pub(crate) fn count_as_editor<R: Wait>(
     }
 }
 
-/// Stops the core, and tells all workers, so that each ends.
-pub fn stop_beside<R: Wait>(rt: &R, turn: &Turn<Core>, editor: EditorPass<Core>) -> EditorPass<Core>
+/// Stops the core, and calls all workers, so that each ends.
+pub fn stop_beside<R: Wait>(
+    rt: &R,
+    turn: &Turn<Core>,
+    hints: &Hints,
+    editor: EditorPass<Core>,
+) -> EditorPass<Core>
     requires { editor_turn editor ≡ turn_id turn.now }
     ensures turn { (editor_turn result ≡ turn_id turn.now)
         × (editor_workers result ≡ editor_workers editor) }
@@ -116,6 +140,6 @@ pub fn stop_beside<R: Wait>(rt: &R, turn: &Turn<Core>, editor: EditorPass<Core>)
     let mut held = turn.take_editor(rt, editor);
     held.get_mut().stop();
     let editor = turn.give_editor(held);
-    turn.tell_all();
+    hints.call_all(turn);
     editor
 }

@@ -1,9 +1,9 @@
 //! How a worker steps back where it finds nothing to do.
+use crate::hints::Hints;
 use crossbeam_utils::Backoff;
 use crossbeam_utils::sync::Key;
 use ltm_core::Core;
 use ltm_turn::Turn;
-use std::hint;
 use std::sync::Wait;
 use std::thread::Parker;
 use std::time::Duration;
@@ -14,25 +14,17 @@ const PATIENCE: u32 = 64;
 /// How long it pauses then, in microseconds.
 const PAUSE: u64 = 512;
 
-/// How often at most the pause of a worker that finds the turn held is doubled.
-const FARTHEST: u32 = 13;
-
-/// After so many doublings the thread is put to sleep for the pause, for 32 microseconds at first; before, the worker spins.
-const LAST_SPIN: u32 = 8;
-
-/// What a worker keeps while it finds nothing to do. Where the core rests it sleeps until it is told of news. While claims are
-/// out it looks again and again, and pauses in between: the slots to come may be wide. Whoever was woken wakes one more as soon
-/// as it has claimed a pair, before it works on it, so that all who are wanted come while the first pairs are at work.
-///
-/// A pause doubles where another held the turn, and is quartered where a pair was committed: so all workers together find the
-/// turn held in about two of three looks, and whoever holds it most is hardly ever held up.
+/// What a worker keeps while it finds nothing to do. Where it is not called, and where the core rests, it sleeps until it is told
+/// of news. While claims are out it looks again and again, and pauses in between: the slots to come may be wide. Whoever was
+/// woken wakes one more as soon as it has claimed a pair, before it works on it, so that all who are called come while the first
+/// pairs are at work.
 #[derive(Drop)]
 pub(crate) struct Idling {
+    came: bool,
     looks: u32,
     rested: bool,
     woken: bool,
     backoff: Backoff,
-    distance: u32,
     parker: Parker,
 }
 
@@ -40,13 +32,31 @@ impl Idling {
     /// A worker that has just begun.
     pub(crate) fn new() -> Idling {
         Idling {
+            came: false,
             looks: 0,
             rested: false,
             woken: false,
             backoff: Backoff::new(),
-            distance: 0,
             parker: Parker::new(),
         }
+    }
+
+    /// Before a round: whether the worker is called. Where it is not it sleeps until it is told of news. It listens before it
+    /// asks, so it misses no call.
+    pub(crate) fn is_called<R: Wait>(&mut self, rt: &R, turn: &Turn<Core>, hints: &Hints) -> bool {
+        if self.came && hints.make_way() {
+            self.came = false;
+        }
+        if self.came {
+            return true;
+        }
+        let news = turn.listen();
+        if hints.enter() {
+            self.came = true;
+            return true;
+        }
+        self.sleep(rt, news);
+        false
     }
 
     /// Before a look: whoever will sleep if it finds the core at rest listens for news from now on.
@@ -66,11 +76,16 @@ impl Idling {
     }
 
     /// After a pair was committed.
-    pub(crate) fn after_work(&mut self) {
+    pub(crate) fn after_work(&mut self, hints: &Hints) {
         self.looks = 0;
         self.rested = false;
-        self.distance = self.distance.saturating_sub(2);
         self.backoff.reset();
+        hints.count();
+    }
+
+    /// After a look at which another held the turn: steps back.
+    pub(crate) fn after_busy_look(&mut self) {
+        self.backoff.snooze();
     }
 
     /// After a look that found no pair while claims are out: steps back.
@@ -84,31 +99,14 @@ impl Idling {
         self.parker.park_timeout(rt, Duration::from_micros(PAUSE));
     }
 
-    /// After a look at which another held the turn: steps back, twice as far as the last time.
-    pub(crate) fn after_busy_look<R: Wait>(&mut self, rt: &R) {
-        if self.distance < FARTHEST {
-            self.distance += 1;
-        }
-        self.step_back(rt);
-    }
-
-    /// Pauses as long as the worker has stepped back.
-    fn step_back<R: Wait>(&self, rt: &R) {
-        if self.distance > LAST_SPIN {
-            let doublings = (self.distance - LAST_SPIN).min(FARTHEST);
-            self.parker
-                .park_timeout(rt, Duration::from_micros(16 << doublings));
-            return;
-        }
-        for _ in 0..1u32 << self.distance.min(LAST_SPIN) {
-            hint::spin_loop();
-        }
-    }
-
-    /// After a look at a core that rests: sleeps, where the worker listened for news before it.
-    pub(crate) fn after_rest<R: Wait>(&mut self, rt: &R, news: Option<Key<'_>>) {
+    /// After a look at a core that rests: goes and sleeps, where the worker listened for news before it.
+    pub(crate) fn after_rest<R: Wait>(&mut self, rt: &R, hints: &Hints, news: Option<Key<'_>>) {
         match news {
-            Some(news) => self.sleep(rt, news),
+            Some(news) => {
+                self.came = false;
+                hints.leave();
+                self.sleep(rt, news);
+            }
             None => self.rested = true,
         }
     }

@@ -4,6 +4,7 @@ ghost use Rattle.ltm_turn.specs.Passes.{turn_id, worker_turn, worker_seen};
 
 use crate::events::Look;
 use crate::gate::Gate;
+use crate::hints::Hints;
 use crate::idling::Idling;
 use crate::turns::{Sight, commit_in_turn, look_in_turn, show_in_turn};
 use ltm_core::{Claim, Claimed, Core, Scratch};
@@ -73,15 +74,16 @@ fn go_round<R: Wait, G: Gate>(
     }
 }
 
-/// Claims pairs, works on them and commits them, and shows what is worked out where it finds rest, until the core is
-/// stopped. In each held turn it makes one call of the core; each node step is made with no turn held.
+/// While it is called: claims pairs, works on them and commits them, and shows what is worked out where it finds rest, until the
+/// core is stopped. In each held turn it makes one call of the core; each node step is made with no turn held.
 ///
-/// Where claims are out and no pair is left to claim it looks again after a pause; where the core rests it sleeps until the
-/// turn's listeners are told of news: so whoever accepts a batch tells one of them, and whoever stops the core tells all. Takes
-/// no memory.
+/// Where claims are out and no pair is left to claim it looks again after a pause; where it is not called, and where the core
+/// rests, it sleeps until it is told of news: so whoever accepts a batch calls (`Hints::call_after_batch`), and whoever stops the
+/// core calls all. Takes no memory.
 pub fn work<R: Wait, G: Gate>(
     rt: &R,
     turn: &Turn<Core>,
+    hints: &Hints,
     pass: WorkerPass<Core>,
     gate: &G,
     scratch: Scratch,
@@ -94,6 +96,9 @@ pub fn work<R: Wait, G: Gate>(
     let mut pass = pass;
     let mut scratch = scratch;
     for _ in rt.forever() {
+        if !idling.is_called(rt, turn, hints) {
+            continue;
+        }
         let news = idling.before_look(turn);
         let (after, round) = go_round(rt, turn, pass, gate, scratch, &mut idling);
         pass = after;
@@ -101,11 +106,11 @@ pub fn work<R: Wait, G: Gate>(
             Round::Ended(last) => return (pass, last),
             Round::Worked(next) => {
                 scratch = next;
-                idling.after_work();
+                idling.after_work(hints);
             }
             Round::Busy(next) => {
                 scratch = next;
-                idling.after_busy_look(rt);
+                idling.after_busy_look();
             }
             Round::Vain(next) => {
                 scratch = next;
@@ -113,7 +118,7 @@ pub fn work<R: Wait, G: Gate>(
             }
             Round::Rested(next) => {
                 scratch = next;
-                idling.after_rest(rt, news);
+                idling.after_rest(rt, hints, news);
             }
         }
     }
