@@ -169,11 +169,6 @@ stops_text line words bytes items before end old new list list' seen seen' fails
     stops_writing line words end old new list list' seen seen' fails is
     (subst (λ b. AppendsFront old new b) (same ∙ longer ∙ ap (λ b. b ++ words) none) front)
 
--- ---- the whole session
-pub never_begun_beside : (told w : Option (List ℕ)) (list : List LogEntry) (seen : ℕ) → SessionBeside told NoMemory w w list seen list seen
-unfolding SessionBeside
-never_begun_beside told w list seen = λ o known. let (output, session, wrote) = never_begun AnswersBeside o told w in (output, opening_state o, session, wrote, known)
-
 -- ---- an answerer of any kind
 -- a line was answered, and a session stopped at one
 pub answered_beside : {A B : Type 0} (line : List ℕ) (list list' : List LogEntry) (seen seen' : ℕ) (old new : Option (List ℕ)) (r : Result A B)
@@ -192,7 +187,7 @@ stopped_beside line list list' seen seen' old new (Err end) is which = record { 
 
 -- a script was served
 pub session_served : (told left w w1 : Option (List ℕ)) (end : SessionEnd) (list list' : List LogEntry) (seen seen' : ℕ)
-    → Serves AnswersBeside (λ s. IsKnown s list seen) (λ s. IsKnown s list' seen') told left end w w1 → SessionBeside told end w w1 list seen list' seen'
+    → Serves AnswersBeside (λ s. IsKnown s list seen) (λ s. IsKnown s list' seen') told left end w w1 → SessionBeside told left end w w1 list seen list' seen'
 unfolding SessionBeside
 session_served told left w w1 end list list' seen seen' served = served.session
 
@@ -202,19 +197,19 @@ unfolding ReadsAll
 script_read told left w w1 end list list' seen seen' served = served.read
 
 -- what is known later
-pub session_later : (told w w1 : Option (List ℕ)) (end : SessionEnd) (list list1 list2 : List LogEntry) (seen seen1 seen2 : ℕ) → SessionBeside told end w w1 list seen list1 seen1
-    → list2 ≡ list1 → seen1 ≤ seen2 → SessionBeside told end w w1 list seen list2 seen2
+pub session_later : (told left w w1 : Option (List ℕ)) (end : SessionEnd) (list list1 list2 : List LogEntry) (seen seen1 seen2 : ℕ) → SessionBeside told left end w w1 list seen list1 seen1
+    → list2 ≡ list1 → seen1 ≤ seen2 → SessionBeside told left end w w1 list seen list2 seen2
 unfolding SessionBeside
-session_later told w w1 end list list1 list2 seen seen1 seen2 so same later = λ o known.
+session_later told left w w1 end list list1 list2 seen seen1 seen2 so same later = λ o known.
     let (output, t, session, wrote, knows) = so o known in
     (output, t, session, wrote, known_later t list1 list2 seen1 seen2 same later knows)
 
 -- a session between two states, of which the first was known by other names and the second is known later
-pub session_between : (told w w1 : Option (List ℕ)) (end : SessionEnd) (list0 list list1 list2 : List LogEntry) (seen0 seen seen1 seen2 : ℕ) → list ≡ list0 → seen ≡ seen0
-    → SessionBeside told end w w1 list seen list1 seen1 → list2 ≡ list1 → seen1 ≤ seen2 → SessionBeside told end w w1 list0 seen0 list2 seen2
-session_between told w w1 end list0 list list1 list2 seen0 seen seen1 seen2 first saw so same later =
-    subst (λ l. SessionBeside told end w w1 l seen0 list2 seen2) first
-    (subst (λ n. SessionBeside told end w w1 list n list2 seen2) saw (session_later told w w1 end list list1 list2 seen seen1 seen2 so same later))
+pub session_between : (told left w w1 : Option (List ℕ)) (end : SessionEnd) (list0 list list1 list2 : List LogEntry) (seen0 seen seen1 seen2 : ℕ) → list ≡ list0 → seen ≡ seen0
+    → SessionBeside told left end w w1 list seen list1 seen1 → list2 ≡ list1 → seen1 ≤ seen2 → SessionBeside told left end w w1 list0 seen0 list2 seen2
+session_between told left w w1 end list0 list list1 list2 seen0 seen seen1 seen2 first saw so same later =
+    subst (λ l. SessionBeside told left end w w1 l seen0 list2 seen2) first
+    (subst (λ n. SessionBeside told left end w w1 list n list2 seen2) saw (session_later told left w w1 end list list1 list2 seen seen1 seen2 so same later))
 
 -- the list that was found, and what a reply put behind it
 pub grown_list : (found mine : List LogEntry) (held d e : CoreData) → d ≡ held → entries_of held.log ≡ mine → found ≡ mine
@@ -236,25 +231,25 @@ knows_first d list seen fresh is sees = record {
   finished = omega arith;
 }
 
-pub served_beside : (laws : LogLaws) (told w w1 : Option (List ℕ)) (end : SessionEnd) (d e : CoreData) (list list1 : List LogEntry) (seen seen1 : ℕ) → state_of d ≡ opening_state d.log.opening
-    → list ≡ entries_of d.log → seen ≡ version_of d.shown → SessionBeside told end w w1 list seen list1 seen1 → entries_of e.log ≡ list1
-    → (output : List ℕ) × (t : Analysts) × IsSession AnswersBeside d.log.opening told end output t × Wrote end w w1 output × (e.log ≡ t.log)
+pub served_beside : (laws : LogLaws) (told left w w1 : Option (List ℕ)) (end : SessionEnd) (d e : CoreData) (list list1 : List LogEntry) (seen seen1 : ℕ) → state_of d ≡ opening_state d.log.opening
+    → list ≡ entries_of d.log → seen ≡ version_of d.shown → SessionBeside told left end w w1 list seen list1 seen1 → entries_of e.log ≡ list1
+    → (output : List ℕ) × (t : Analysts) × IsSession AnswersBeside d.log.opening told left end output t × Wrote end w w1 output × (e.log ≡ t.log)
 unfolding SessionBeside
-served_beside laws told w w1 end d e list list1 seen seen1 fresh is sees session has =
+served_beside laws told left w w1 end d e list list1 seen seen1 fresh is sees session has =
     let (output, t, so, wrote, knows) = session d.log.opening (knows_first d list seen fresh is sees) in
     (output, t, so, wrote, laws.one e.log t.log (has ∙ knows.list_is))
 
-pub never_served : (told w : Option (List ℕ)) (d e : CoreData) → state_of d ≡ opening_state d.log.opening → e ≡ d
-    → (output : List ℕ) × (t : Analysts) × IsSession AnswersBeside d.log.opening told NoMemory output t × Wrote NoMemory w w output × (e.log ≡ t.log)
-never_served told w d e fresh same =
-    let (output, so, wrote) = never_begun AnswersBeside d.log.opening told w in
+pub never_served : (told left w : Option (List ℕ)) (d e : CoreData) → state_of d ≡ opening_state d.log.opening → e ≡ d
+    → (output : List ℕ) × (t : Analysts) × IsSession AnswersBeside d.log.opening told left NoMemory output t × Wrote NoMemory w w output × (e.log ≡ t.log)
+never_served told left w d e fresh same =
+    let (output, so, wrote) = never_begun AnswersBeside d.log.opening told left w in
     (output, opening_state d.log.opening, so, wrote, ap (λ (x : CoreData). x.log) same ∙ ap (λ (a : Analysts). a.log) fresh)
 
 -- a session without workers is a session
-pub served_alone : (laws : LogLaws) (told w w1 : Option (List ℕ)) (end : SessionEnd) (o : ScenarioData) (e : CoreData)
-    → ((output : List ℕ) × IsSession AnswersAlone o told end output (state_of e) × Wrote end w w1 output)
-    → (output : List ℕ) × (t : Analysts) × IsSession AnswersBeside o told end output t × Wrote end w w1 output × (e.log ≡ t.log)
-served_alone laws told w w1 end o e (output, so, wrote) = (
+pub served_alone : (laws : LogLaws) (told left w w1 : Option (List ℕ)) (end : SessionEnd) (o : ScenarioData) (e : CoreData)
+    → ((output : List ℕ) × IsSession AnswersAlone o told left end output (state_of e) × Wrote end w w1 output)
+    → (output : List ℕ) × (t : Analysts) × IsSession AnswersBeside o told left end output t × Wrote end w w1 output × (e.log ≡ t.log)
+served_alone laws told left w w1 end o e (output, so, wrote) = (
   output,
   state_of e,
   record {
@@ -263,12 +258,13 @@ served_alone laws told w w1 end o e (output, so, wrote) = (
     fit = so.fit;
     runs = lines_beside laws (opening_state o) so.answered output (state_of e) (omega arith) so.runs;
     ends = so.ends;
+    came = so.came;
   },
   wrote,
   refl,
 )
 
-pub ends_beside : (o : ScenarioData) (told w w1 : Option (List ℕ)) (end : SessionEnd) (log : Log)
-    → ((output : List ℕ) × (t : Analysts) × IsSession AnswersBeside o told end output t × Wrote end w w1 output × (log ≡ t.log))
+pub ends_beside : (o : ScenarioData) (told left w w1 : Option (List ℕ)) (end : SessionEnd) (log : Log)
+    → ((output : List ℕ) × (t : Analysts) × IsSession AnswersBeside o told left end output t × Wrote end w w1 output × (log ≡ t.log))
     → (script : List ℕ) → told ≡ Some script → (end ≡ ReadFault → ⊥) → (end ≡ WriteFault → ⊥) → (end ≡ NoMemory → ⊥) → end ≡ end_of script
-ends_beside o told w w1 end log (output, t, so, wrote, same) = ends_as_told AnswersBeside o told output end t so
+ends_beside o told left w w1 end log (output, t, so, wrote, same) = ends_as_told AnswersBeside o told left output end t so

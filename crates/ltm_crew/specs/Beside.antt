@@ -32,9 +32,9 @@ StopsBeside line end old new list seen list' seen' = (s : Analysts) → IsKnown 
     (t : Analysts) × StopsAt AnswersBeside s line t end old new × IsKnown t list' seen'
 
 -- a session was served, from an opening scenario that was known
-unfoldable pub SessionBeside : Option (List ℕ) → SessionEnd → Option (List ℕ) → Option (List ℕ) → List LogEntry → ℕ → List LogEntry → ℕ → Type 0
-SessionBeside told end old new list seen list' seen' = (o : ScenarioData) → IsKnown (opening_state o) list seen →
-    (output : List ℕ) × (t : Analysts) × IsSession AnswersBeside o told end output t × Wrote end old new output × IsKnown t list' seen'
+unfoldable pub SessionBeside : Option (List ℕ) → Option (List ℕ) → SessionEnd → Option (List ℕ) → Option (List ℕ) → List LogEntry → ℕ → List LogEntry → ℕ → Type 0
+SessionBeside told left end old new list seen list' seen' = (o : ScenarioData) → IsKnown (opening_state o) list seen →
+    (output : List ℕ) × (t : Analysts) × IsSession AnswersBeside o told left end output t × Wrote end old new output × IsKnown t list' seen'
 
 -- with Ended a script that is told was read to its end
 unfoldable pub ReadsAll : Option (List ℕ) → SessionEnd → Option (List ℕ) → Type 0

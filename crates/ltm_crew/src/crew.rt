@@ -39,8 +39,8 @@ fn edit<R: Wait, S: Source, W: Sink>(
     requires unread { IsUnread gear.script }
     ensures turn { (editor_turn result.0 ≡ turn_id turn.now)
         × (editor_workers result.0 ≡ editor_workers editor) }
-    ensures session { SessionBeside (S.left source.old) result.1 (W.written sink.old)
-        (W.written sink.new) (editor_list editor) (editor_seen editor) (editor_list result.0)
+    ensures session { SessionBeside (S.left source.old) (S.left source.new) result.1
+        (W.written sink.old) (W.written sink.new) (editor_list editor) (editor_seen editor) (editor_list result.0)
         (editor_seen result.0) }
     ensures read_fault { result.1 ≡ SessionEnd.ReadFault
         → Rose (S.faults source.old) (S.faults source.new) }
@@ -89,8 +89,8 @@ fn edit_and_stop<R: Wait, S: Source, W: Sink>(
     requires unread { IsUnread gear.script }
     ensures turn { (editor_turn result.0 ≡ turn_id turn.now)
         × (editor_workers result.0 ≡ editor_workers editor) }
-    ensures session { SessionBeside (S.left source.old) result.1 (W.written sink.old)
-        (W.written sink.new) (editor_list editor) (editor_seen editor) (editor_list result.0)
+    ensures session { SessionBeside (S.left source.old) (S.left source.new) result.1
+        (W.written sink.old) (W.written sink.new) (editor_list editor) (editor_seen editor) (editor_list result.0)
         (editor_seen result.0) }
     ensures read_fault { result.1 ≡ SessionEnd.ReadFault
         → Rose (S.faults source.old) (S.faults source.new) }
@@ -121,8 +121,8 @@ pub(crate) fn crew<R: Threads + Wait + Sync, S: Source, W: Sink, G: Gate>(
     requires unread { IsUnread gear.script }
     ensures turn { (editor_turn result.0 ≡ turn_id turn.now)
         × (editor_workers result.0 ≡ editor_workers editor) }
-    ensures session { SessionBeside (S.left source.old) result.1 (W.written sink.old)
-        (W.written sink.new) (editor_list editor) (editor_seen editor) (editor_list result.0)
+    ensures session { SessionBeside (S.left source.old) (S.left source.new) result.1
+        (W.written sink.old) (W.written sink.new) (editor_list editor) (editor_seen editor) (editor_list result.0)
         (editor_seen result.0) }
     ensures read_fault { result.1 ≡ SessionEnd.ReadFault
         → Rose (S.faults source.old) (S.faults source.new) }
@@ -164,8 +164,8 @@ pub(crate) fn crew<R: Threads + Wait + Sync, S: Source, W: Sink, G: Gate>(
             ensures turn { IfSome desk.entry (λ e. (editor_turn result.0 ≡ turn_id turn.entry.now)
                 × (editor_workers result.0 ≡ editor_workers e.0)) }
             ensures session { IfSome desk.entry
-                (λ e. SessionBeside (S.left source.entry.now) result.1 (W.written sink.entry.now)
-                (W.written sink.exit.now)
+                (λ e. SessionBeside (S.left source.entry.now) (S.left source.exit.now) result.1
+                (W.written sink.entry.now) (W.written sink.exit.now)
                 (editor_list e.0) (editor_seen e.0) (editor_list result.0) (editor_seen result.0)) }
             ensures read_fault { result.1 ≡ SessionEnd.ReadFault
                 → Rose (S.faults source.entry.now) (S.faults source.exit.now) }

@@ -61,12 +61,14 @@ pub fn serve<R: Threads + Wait + Sync, S: Source, W: Sink, G: Gate>(
     requires running { core.stopped ≡ false }
     // What was answered, what was written of it, how that ended, and the log then.
     ensures session { (output : List ℕ) × (t : Analysts)
-        × IsSession AnswersBeside core.log.opening (S.left source.old) result.end output t
+        × IsSession AnswersBeside core.log.opening (S.left source.old) (S.left source.new)
+        result.end output t
         × Wrote result.end (W.written sink.old) (W.written sink.new) output
         × (result.core.log ≡ t.log) }
     ensures alone { workers ≡ 0
         → (output : List ℕ)
-        × IsSession AnswersAlone core.log.opening (S.left source.old) result.end output
+        × IsSession AnswersAlone core.log.opening (S.left source.old) (S.left source.new)
+        result.end output
         (state_of result.core)
         × Wrote result.end (W.written sink.old) (W.written sink.new) output }
     // Where nothing failed, the session ended as its script says.

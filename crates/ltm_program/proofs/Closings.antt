@@ -61,7 +61,7 @@ abbrev pub IsOutputBy : Answering → ScenarioData → List ℕ → List ℕ →
 IsOutputBy answers s script output = (t : Analysts) × AnswersLines answers (opening_state s) (lines_of script) output t
 
 pub ended_whole : {answers : Answering} (s : ScenarioData) (script left old now : Option (List ℕ)) (e : SessionEnd) (output : List ℕ) (t : Analysts) → e ≡ end.Ended
-    → IsSession answers s script e output t → Wrote e old now output → ((lines : List ℕ) → script ≡ Some lines → e ≡ end.Ended → left ≡ Some [])
+    → IsSession answers s script left e output t → Wrote e old now output → ((lines : List ℕ) → script ≡ Some lines → e ≡ end.Ended → left ≡ Some [])
     → ServesWhole (IsOutputBy answers) s script left old now
 ended_whole {answers = answers} s None left old now e output t is so wrote read = tt
 ended_whole {answers = answers} s (Some lines) left old now e output t is so wrote read =

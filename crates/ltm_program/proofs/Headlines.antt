@@ -47,16 +47,16 @@ take_over zero (x ∷ xs) ys = (zero, refl)
 take_over (suc k) [] ys = (suc k, refl)
 take_over (suc k) (x ∷ xs) ys = let h = take_over k xs ys in (h.0, ap (λ l. x ∷ l) h.1)
 
-fronts_at : FrontsKeepThePromise → (n : ℕ) (status : Status) (told : Option Files) (script old new : Option (List ℕ)) → WritesFront (IsSessionUnder (rule_of n) told script) status old new
+fronts_at : FrontsKeepThePromise → (n : ℕ) (status : Status) (told : Option Files) (script left old new : Option (List ℕ)) → WritesFront (IsSessionUnder (rule_of n) told script left) status old new
     → IfSome told (λ files. (s : ScenarioData) → case_of files ≡ Ok s
     → (new ≡ old) ⊎ ((t : List ℕ) × (end : SessionEnd) × (m : ℕ) × KeepsPromiseSoFar s script t × (new ≡ appended (t ++ take m (closing_of end)) old)))
-fronts_at kept n status None script old new front = tt
-fronts_at kept n status (Some files) script old new (inl (same, written)) = λ s is. inl same
-fronts_at kept n status (Some files) script old new (inr (due, u, given, inl (f, describes, under, at), front)) = λ s is. let wrong : Ok s ≡ Err f = sym is ∙ describes in absurd (cc)
-fronts_at kept n status (Some files) script old new (inr (due, u, given, inr (z, describes, (e, output, (m, so), under, at)), (k, few, wrote))) = λ s is.
+fronts_at kept n status None script left old new front = tt
+fronts_at kept n status (Some files) script left old new (inl (same, written)) = λ s is. inl same
+fronts_at kept n status (Some files) script left old new (inr (due, u, given, inl (f, describes, under, at), front)) = λ s is. let wrong : Ok s ≡ Err f = sym is ∙ describes in absurd (cc)
+fronts_at kept n status (Some files) script left old new (inr (due, u, given, inr (z, describes, (e, output, (m, so), under, at)), (k, few, wrote))) = λ s is.
     let both : Ok z ≡ Ok s = sym describes ∙ is in
     let same : z ≡ s = cc in
-    let promise = kept_so_far n kept z script e output m k so in
+    let promise = kept_so_far n kept z script left e output m k so in
     let over = take_over k output (closing_of e) in
     inr (
       take k output,
@@ -67,4 +67,4 @@ fronts_at kept n status (Some files) script old new (inr (due, u, given, inr (z,
     )
 
 pub headline_of_fronts : FrontsKeepThePromise → HeadlineOfFronts
-headline_of_fronts kept b a workers status r = fronts_at kept workers status b.told b.left b.written a.written r.front
+headline_of_fronts kept b a workers status r = fronts_at kept workers status b.told b.left a.left b.written a.written r.front

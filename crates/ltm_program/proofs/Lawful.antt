@@ -41,6 +41,7 @@ use Rattle.ltm_program.specs.RanLaws.{TextsSay, SessionsSay, EditorsSay, Refusal
 use Rattle.ltm_program.proofs.Closings.{IsOutputBy, ended_whole, ends_well, no_files}
 use Rattle.ltm_program.proofs.Editing as editing
 use Rattle.ltm_program.proofs.Viewings.{view_well}
+use Rattle.ltm_program.proofs.Cuts.{session_came, view_came}
 
 wrote_as : (b a : Outside) (x y : List ℕ) → Wrote x b a → x ≡ y → Wrote y b a
 wrote_as b a x y wrote same = wrote ∙ ap (λ (t : List ℕ). appended t b.written) same
@@ -64,7 +65,7 @@ module _ (IsText : Status → List ℕ → Type 0) (MayFetch : Doc → Type 0) (
   missing_told ending.WriteFault run = absurd (no_front IsText b.written a.written only run.front)
   missing_told status run = let h = run.whole tt in inl (only status h.0 h.1)
 
--- ---- commands whose text is made whole
+-- ---- commands that answer one text
 text_run : (c : Command) (status : Status) (b a : Outside) → HasText c → Ran (Some c) status b a → IsRun (IsAnswerUnder c b.told) (Fetches c b.told) ⊥ status b a
 text_run (command.Session n) status b a is run = absurd is
 text_run (command.View n) status b a is run = absurd is
@@ -104,15 +105,15 @@ ended end.NoMemory is = absurd (cc)
 read_to_end : (script left : Option (List ℕ)) (e : SessionEnd) → IfSome script (λ x. left ≡ Some []) → (lines : List ℕ) → script ≡ Some lines → e ≡ end.Ended → left ≡ Some []
 read_to_end script left e read lines is well = subst (λ (o : Option (List ℕ)). IfSome o (λ x. left ≡ Some [])) is read
 
-session_serves : (answers : Answering) (s : ScenarioData) (b a : Outside) (e : SessionEnd) (output t : List ℕ) (m : Analysts) → e ≡ end.Ended → IsSession answers s b.left e output m → t ≡ output ++ closing_of e
+session_serves : (answers : Answering) (s : ScenarioData) (b a : Outside) (e : SessionEnd) (output t : List ℕ) (m : Analysts) → e ≡ end.Ended → IsSession answers s b.left a.left e output m → t ≡ output ++ closing_of e
     → Wrote t b a → IfSome b.left (λ x. a.left ≡ Some []) → ServesWhole (IsOutputBy answers) s b.left a.left b.written a.written
 session_serves answers s b a e output t m is so at wrote read =
-    let ended_so : IsSession answers s b.left end.Ended output m = subst (λ x. IsSession answers s b.left x output m) is so in
+    let ended_so : IsSession answers s b.left a.left end.Ended output m = subst (λ x. IsSession answers s b.left a.left x output m) is so in
     let whole : t ≡ output = at ∙ ap (λ x. output ++ closing_of x) is ∙ append-nil output in
     let now : a.written ≡ appended output b.written = wrote_as b a t output wrote whole in
     ended_whole s b.left a.left b.written a.written end.Ended output m refl ended_so now (read_to_end b.left a.left end.Ended read)
 
-serves : (answers : Answering) (b a : Outside) (t : List ℕ) → IsSessionUnder answers b.told b.left ending.Ok t → Wrote t b a → IfSome b.left (λ x. a.left ≡ Some [])
+serves : (answers : Answering) (b a : Outside) (t : List ℕ) → IsSessionUnder answers b.told b.left a.left ending.Ok t → Wrote t b a → IfSome b.left (λ x. a.left ≡ Some [])
     → (s : ScenarioData) × Describes b.told (Ok s) × ServesWhole (IsOutputBy answers) s b.left a.left b.written a.written
 serves answers b a t (inl (f, describes, is, at)) wrote read = absurd (texts.never_ok (refusal.Case f) is)
 serves answers b a t (inr (s, describes, (e, output, (m, so), is, at))) wrote read = (s, describes, session_serves answers s b a e output t m (ended e is) so at wrote read)
@@ -126,12 +127,12 @@ by_rule : (n : ℕ) (s : ScenarioData) (script left old new : Option (List ℕ))
 by_rule zero s script left old new law served = serves_alone s script left old new law served
 by_rule (suc n) s script left old new law served = served
 
-views : (n : ℕ) (b a : Outside) (t : List ℕ) → IsViewUnder n b.told b.left ending.Ok t → Wrote t b a → IfSome b.left (λ x. a.left ≡ Some [])
+views : (n : ℕ) (b a : Outside) (t : List ℕ) → IsViewUnder n b.told b.left a.left ending.Ok t → Wrote t b a → IfSome b.left (λ x. a.left ≡ Some [])
     → (s : ScenarioData) × Describes b.told (Ok s) × ServesWhole (IsViewOutput n) s b.left a.left b.written a.written
 views n b a t (inl (f, describes, is, at)) wrote read = absurd (texts.never_ok (refusal.Case f) is)
 views n b a t (inr (s, describes, (e, output, (m, so), is, at))) wrote read =
     let well = ended e is in
-    let ended_so : IsView n s b.left end.Ended output m = subst (λ x. IsView n s b.left x output m) well so in
+    let ended_so : IsView n s b.left a.left end.Ended output m = subst (λ x. IsView n s b.left a.left x output m) well so in
     let whole : t ≡ output = at ∙ ap (λ x. output ++ closing_of x) well ∙ append-nil output in
     (s, describes, view_well n s b.left a.left b.written a.written a.written end.Ended output m refl ended_so (wrote_as b a t output wrote whole) (read_to_end b.left a.left end.Ended read) (nothing_more a.written))
 
@@ -157,29 +158,29 @@ script_ends told files script s status describes is (inr none) = inr none
 not_end : (e x : SessionEnd) (status : Status) → status ≡ status_of_end e → (status ≡ status_of_end x → ⊥) → e ≡ x → ⊥
 not_end e x status is other same = other (is ∙ ap status_of_end same)
 
-module _ (told : Option Files) (left : Option (List ℕ)) (files : Files) (script : List ℕ) (status : Status) (t : List ℕ) (told_is : told ≡ Some files) (left_is : left ≡ Some script) (whole : IsWhole status)
+module _ (told : Option Files) (left after : Option (List ℕ)) (files : Files) (script : List ℕ) (status : Status) (t : List ℕ) (told_is : told ≡ Some files) (left_is : left ≡ Some script) (whole : IsWhole status)
     (heard : status ≡ ending.ReadFault → ⊥) where
-  session_ends : (answers : Answering) → IsSessionUnder answers told left status t → (status ≡ session_status (case_of files) script) ⊎ (status ≡ ending.NoMemory)
+  session_ends : (answers : Answering) → IsSessionUnder answers told left after status t → (status ≡ session_status (case_of files) script) ⊎ (status ≡ ending.NoMemory)
   session_ends answers (inl (f, describes, is, at)) = inl (case_ends told files script f status describes told_is is)
   session_ends answers (inr (s, describes, (e, output, (m, so), is, at))) =
       script_ends told files script s status describes told_is
-      (ends_well e script status (ends_as_told answers s left output e m so script left_is) (not_end e end.ReadFault status is heard)
+      (ends_well e script status (ends_as_told answers s left after output e m so script left_is) (not_end e end.ReadFault status is heard)
       (not_end e end.WriteFault status is (no_write status whole)) (no_write status whole) (inl is))
 
-  view_ends : (n : ℕ) → IsViewUnder n told left status t → (status ≡ session_status (case_of files) script) ⊎ (status ≡ ending.NoMemory)
+  view_ends : (n : ℕ) → IsViewUnder n told left after status t → (status ≡ session_status (case_of files) script) ⊎ (status ≡ ending.NoMemory)
   view_ends n (inl (f, describes, is, at)) = inl (case_ends told files script f status describes told_is is)
   view_ends n (inr (s, describes, (e, output, (m, so), is, at))) =
       let same : e ≡ so.session_end = view_end n m so.session_end e so.lines so.closes (not_end e end.WriteFault status is (no_write status whole)) (not_end e end.NoMemory status is (no_memory status whole)) in
-      let session : IsSession AnswersAlone s left e so.answers m = subst (λ x. IsSession AnswersAlone s left x so.answers m) (sym same) so.session in
+      let session : IsSession AnswersAlone s left after e so.answers m = subst (λ x. IsSession AnswersAlone s left after x so.answers m) (sym same) so.session in
       script_ends told files script s status describes told_is
-      (ends_well e script status (ends_as_told AnswersAlone s left so.answers e m session script left_is) (not_end e end.ReadFault status is heard)
+      (ends_well e script status (ends_as_told AnswersAlone s left after so.answers e m session script left_is) (not_end e end.ReadFault status is heard)
       (not_end e end.WriteFault status is (no_write status whole)) (no_write status whole) (inl is))
 
 session_completes : (b a : Outside) (status : Status) (files : Files) (script : List ℕ) (n : ℕ) → Ran (Some (command.Session n)) status b a → b.told ≡ Some files → b.left ≡ Some script
     → IsCalm command.Load files b.faults a.faults → HeardAll b a → IsQuiet b a → (status ≡ session_status (case_of files) script) ⊎ (status ≡ ending.NoMemory)
 session_completes b a status files script n r told left calm heard quiet =
     elim (sorted status (λ is. texts.failed_in_calm command.Load b.told files b.faults a.faults told calm (r.faults.0 is).0) (λ is. quiet (r.faults.2 is))) [
-      | inl whole ↦ let h = r.whole whole in session_ends b.told b.left files script status h.0 told left whole (λ is. heard (r.faults.1 is).1) (rule_of n) h.1
+      | inl whole ↦ let h = r.whole whole in session_ends b.told b.left a.left files script status h.0 told left whole (λ is. heard (r.faults.1 is).1) (rule_of n) h.1
       | inr none ↦ inr none
     ]
 
@@ -187,7 +188,7 @@ view_completes : (b a : Outside) (status : Status) (files : Files) (script : Lis
     → IsCalm command.Load files b.faults a.faults → HeardAll b a → IsQuiet b a → (status ≡ session_status (case_of files) script) ⊎ (status ≡ ending.NoMemory)
 view_completes b a status files script n r told left calm heard quiet =
     elim (sorted status (λ is. texts.failed_in_calm command.Load b.told files b.faults a.faults told calm (r.faults.0 is).0) (λ is. quiet (r.faults.2 is))) [
-      | inl whole ↦ let h = r.whole whole in view_ends b.told b.left files script status h.0 told left whole (λ is. heard (r.faults.1 is).1) n h.1
+      | inl whole ↦ let h = r.whole whole in view_ends b.told b.left a.left files script status h.0 told left whole (λ is. heard (r.faults.1 is).1) n h.1
       | inr none ↦ inr none
     ]
 
@@ -205,10 +206,12 @@ sessions_say_holds law = record {
   session = λ b a n r. let h = r.whole tt in let v = serves (rule_of n) b a h.0 h.1 h.2 (r.reads.1 tt refl) in (v.0, v.1, by_rule n v.0 b.left a.left b.written a.written law v.2);
   session_alone = λ b a r. let h = r.whole tt in serves AnswersAlone b a h.0 h.1 h.2 (r.reads.1 tt refl);
   view = λ b a n r. let h = r.whole tt in views n b a h.0 h.1 h.2 (r.reads.1 tt refl);
+  session_cut = λ b a n r. let h = r.whole tt in session_came (rule_of n) b a h.0 h.1 h.2;
+  view_cut = λ b a n r. let h = r.whole tt in view_came n b a h.0 h.1 h.2;
   session_complete = session_completes;
   view_complete = view_completes;
-  session_missing = λ b a status files f n r told none. missing_told _ _ _ b a (case_lacking (IsServed (rule_of n) b.left) b.told files f told none) status r;
-  view_missing = λ b a status files f n r told none. missing_told _ _ _ b a (case_lacking (IsViewed n b.left) b.told files f told none) status r;
+  session_missing = λ b a status files f n r told none. missing_told _ _ _ b a (case_lacking (IsServed (rule_of n) b.left a.left) b.told files f told none) status r;
+  view_missing = λ b a status files f n r told none. missing_told _ _ _ b a (case_lacking (IsViewed n b.left a.left) b.told files f told none) status r;
 }
 
 -- ---- several editors
@@ -242,12 +245,12 @@ no_editing_usage : (n : ℕ) (told : Option Files) (t : List ℕ) → IsEditingU
 no_editing_usage n told t (Ok u, says, is, at) = cc
 no_editing_usage n told t (Err e, says, is, at) = editing.never_usage e (sym is)
 
-usage_of : (c : Option Command) (b : Outside) (t : List ℕ) → IsTextUnder c b ending.Usage t → (c ≡ None) × (t ≡ usage_line)
-usage_of None b t is = (refl, is.1)
-usage_of (Some (command.Session n)) b t is = absurd (no_case_usage (IsServed (rule_of n) b.left) b.told t is)
-usage_of (Some (command.View n)) b t is = absurd (no_case_usage (IsViewed n b.left) b.told t is)
-usage_of (Some (command.Editors n)) b t is = absurd (no_editing_usage n b.told t is)
-usage_of (Some c) b t is = absurd (texts.no_usage c b.told t is)
+usage_of : (c : Option Command) (b a : Outside) (t : List ℕ) → IsTextUnder c b a ending.Usage t → (c ≡ None) × (t ≡ usage_line)
+usage_of None b a t is = (refl, is.1)
+usage_of (Some (command.Session n)) b a t is = absurd (no_case_usage (IsServed (rule_of n) b.left a.left) b.told t is)
+usage_of (Some (command.View n)) b a t is = absurd (no_case_usage (IsViewed n b.left a.left) b.told t is)
+usage_of (Some (command.Editors n)) b a t is = absurd (no_editing_usage n b.told t is)
+usage_of (Some c) b a t is = absurd (texts.no_usage c b.told t is)
 
 nothing_asked : (b a : Outside) (status : Status) → Ran None status b a → (status ≡ ending.Usage) ⊎ ((status ≡ ending.WriteFault) ⊎ (status ≡ ending.NoMemory))
 nothing_asked b a ending.FolderFault r = absurd ((r.faults.0 refl).0.1)
@@ -257,7 +260,7 @@ nothing_asked b a status r = inl ((r.whole tt).1.0)
 
 pub refusals_say_holds : RefusalsSay
 refusals_say_holds = record {
-  usage = λ b a c r. let h = r.whole tt in let l = usage_of c b h.0 h.1 in (l.0, wrote_as b a h.0 _ h.2 l.1);
+  usage = λ b a c r. let h = r.whole tt in let l = usage_of c b a h.0 h.1 in (l.0, wrote_as b a h.0 _ h.2 l.1);
   asked = nothing_asked;
   bad_case = λ b a c has r. let h = (text_run c ending.BadCase b a has r).whole tt in let l = texts.bad_told c b.told h.0 h.1 in (l.0, l.1, l.2, l.3, wrote_as b a h.0 _ h.2 l.4);
   too_long = λ b a c has r. let h = (text_run c ending.TooLong b a has r).whole tt in let l = texts.long_told c b.told h.0 h.1 in (l.0, l.1, l.2, wrote_as b a h.0 _ h.2 l.3);

@@ -21,13 +21,13 @@ abbrev pub rule_of : ℕ → Answering
 rule_of zero = AnswersAlone
 rule_of (suc workers) = AnswersBeside
 
--- the whole text that belongs to a command and a status, before this outside
-abbrev pub IsTextUnder : Option Command → Outside → Status → List ℕ → Type 0
-IsTextUnder None b status t = (status ≡ ending.Usage) × (t ≡ usage_line)
-IsTextUnder (Some (command.Session workers)) b status t = IsSessionUnder (rule_of workers) b.told b.left status t
-IsTextUnder (Some (command.View viewers)) b status t = IsViewUnder viewers b.told b.left status t
-IsTextUnder (Some (command.Editors editors)) b status t = IsEditingUnder editors b.told status t
-IsTextUnder (Some c) b status t = IsAnswerUnder c b.told status t
+-- the whole text that belongs to a command and a status, by how the outside stands before and after
+abbrev pub IsTextUnder : Option Command → Outside → Outside → Status → List ℕ → Type 0
+IsTextUnder None b a status t = (status ≡ ending.Usage) × (t ≡ usage_line)
+IsTextUnder (Some (command.Session workers)) b a status t = IsSessionUnder (rule_of workers) b.told b.left a.left status t
+IsTextUnder (Some (command.View viewers)) b a status t = IsViewUnder viewers b.told b.left a.left status t
+IsTextUnder (Some (command.Editors editors)) b a status t = IsEditingUnder editors b.told status t
+IsTextUnder (Some c) b a status t = IsAnswerUnder c b.told status t
 
 -- a command may fetch the file
 abbrev pub MayFetch : Option Command → Option Files → Doc → Type 0
@@ -56,4 +56,4 @@ without_threads c = if needs_threads c then None else c
 
 -- a command, or words that ask for none, ran: the status, and how the outside stands before and after
 abbrev pub Ran : Option Command → Status → Outside → Outside → Type 0
-Ran c status b a = IsRun (IsTextUnder c b) (MayFetch c b.told) (ReadsInput c) status b a
+Ran c status b a = IsRun (IsTextUnder c b a) (MayFetch c b.told) (ReadsInput c) status b a

@@ -23,6 +23,7 @@ use Rattle.ltm_checking.specs.declared.refusal.Refusal.TheVariants as refusal
 use Rattle.ltm_checking.specs.Lines.{yes_line}
 use Rattle.ltm_checking.specs.Loaded.{IsLoadingText}
 use Rattle.ltm_checking.specs.Checks.{HasCurves, most_bytes}
+use Rattle.ltm_session.specs.Answers.{AnswersAlone}
 use Rattle.ltm_session.specs.Session.{IsOutputAlone, IsSessionOutput}
 use Rattle.ltm_viewing.specs.View.{IsViewOutput}
 use Rattle.ltm_editing.specs.declared.fault.EditsFault.TheVariants as edits
@@ -41,9 +42,9 @@ use Rattle.ltm_texts.specs.Words.{usage_line}
 use Rattle.ltm_texts.specs.Answers.{Answer, Answers, Describes, HasText, may_fetch, fetches}
 use Rattle.ltm_texts.specs.Program.{IsMissing, IsLong, IsWhole, IsCalm, status_of, words_of}
 use Rattle.ltm_texts.specs.Run.{Outside}
-use Rattle.ltm_program.specs.Sessions.{ServesWhole, session_status}
+use Rattle.ltm_program.specs.Sessions.{ServesWhole, ServesWhatCame, session_status}
 use Rattle.ltm_program.specs.Editors.{HasScripts, IsCalmFor, editing_words, editing_status}
-use Rattle.ltm_program.specs.Ran.{Ran}
+use Rattle.ltm_program.specs.Ran.{Ran, rule_of}
 
 -- this text was written
 abbrev pub Wrote : List ℕ → Outside → Outside → Type 0
@@ -64,7 +65,7 @@ TellsMissing status = (status ≡ ending.FolderFault) ⊎ (status ≡ ending.NoM
 abbrev pub Stays : Outside → Outside → Doc → Type 0
 Stays b a d = a.faults d ≡ b.faults d
 
--- ---- commands whose text is made whole
+-- ---- commands that answer one text
 pub record TextsSay : Type 0 where
   pub load : (b a : Outside) → Ran (Some command.Load) ending.Ok b a
       → (s : ScenarioData) × (t : List ℕ) × Describes b.told (Ok s) × IsReport s t × Wrote t b a
@@ -97,6 +98,11 @@ pub record SessionsSay : Type 0 where
       → (s : ScenarioData) × Describes b.told (Ok s) × ServesWhole IsOutputAlone s b.left a.left b.written a.written
   pub view : (b a : Outside) (n : ℕ) → Ran (Some (command.View n)) ending.Ok b a
       → (s : ScenarioData) × Describes b.told (Ok s) × ServesWhole (IsViewOutput n) s b.left a.left b.written a.written
+  -- one that a failed read ends has answered exactly the lines that had come whole
+  pub session_cut : (b a : Outside) (n : ℕ) → Ran (Some (command.Session n)) ending.ReadFault b a
+      → (s : ScenarioData) × Describes b.told (Ok s) × ServesWhatCame (rule_of n) s b.left a.left b.written a.written
+  pub view_cut : (b a : Outside) (n : ℕ) → Ran (Some (command.View n)) ending.ReadFault b a
+      → (s : ScenarioData) × Describes b.told (Ok s) × ServesWhatCame AnswersAlone s b.left a.left b.written a.written
   -- with no fault of the outside the status is that of the case and the script
   pub session_complete : (b a : Outside) (status : Status) (files : Files) (script : List ℕ) (n : ℕ)
       → Ran (Some (command.Session n)) status b a

@@ -7,8 +7,8 @@ use Rattle.ltm_casefile.specs.declared.faults.CaseFault.{CaseFault}
 use Rattle.ltm_report.specs.Refusals.{long_script_line, too_many_line}
 use Rattle.ltm_session.specs.declared.ends.SessionEnd.{SessionEnd}
 use Rattle.ltm_session.specs.declared.ends.SessionEnd.TheVariants as end
-use Rattle.ltm_session.specs.Analysts.{Analysts}
-use Rattle.ltm_session.specs.Session.{Answering, IsSession, end_of}
+use Rattle.ltm_session.specs.Analysts.{Analysts, opening_state}
+use Rattle.ltm_session.specs.Session.{Answering, AnswersLines, CameWhole, IsSession, end_of}
 use Rattle.ltm_texts.specs.declared.status.Status.{Status}
 use Rattle.ltm_texts.specs.declared.status.Status.TheVariants as ending
 use Rattle.ltm_texts.specs.Answers.{Describes}
@@ -43,13 +43,13 @@ IsCaseUnder IsOutput told status text =
     ((fault : CaseFault) × Describes told (Err fault) × (status ≡ case_status fault) × (text ≡ refusal_of fault))
     ⊎ ((s : ScenarioData) × Describes told (Ok s) × EndsUnder (IsOutput s) status text)
 
--- the outputs of a session of a scenario, by this rule of answers, with a script and up to an end
-abbrev pub IsServed : Answering → Option (List ℕ) → ScenarioData → SessionEnd → List ℕ → Type 0
-IsServed answers script s end output = (t : Analysts) × IsSession answers s script end output t
+-- the outputs of a session of a scenario, by this rule of answers, with a script, what is left of it, and up to an end
+abbrev pub IsServed : Answering → Option (List ℕ) → Option (List ℕ) → ScenarioData → SessionEnd → List ℕ → Type 0
+IsServed answers script left s end output = (t : Analysts) × IsSession answers s script left end output t
 
 -- the whole text that belongs to a session and a status
-abbrev pub IsSessionUnder : Answering → Option Files → Option (List ℕ) → Status → List ℕ → Type 0
-IsSessionUnder answers told script = IsCaseUnder (IsServed answers script) told
+abbrev pub IsSessionUnder : Answering → Option Files → Option (List ℕ) → Option (List ℕ) → Status → List ℕ → Type 0
+IsSessionUnder answers told script left = IsCaseUnder (IsServed answers script left) told
 
 -- with which status a session ends where nothing of the outside fails and memory is found
 abbrev pub session_status : Result ScenarioData CaseFault → List ℕ → Status
@@ -60,3 +60,9 @@ session_status (Err fault) script = case_status fault
 abbrev pub ServesWhole : (ScenarioData → List ℕ → List ℕ → Type 0) → ScenarioData → Option (List ℕ) → Option (List ℕ) → Option (List ℕ) → Option (List ℕ) → Type 0
 ServesWhole IsOutput s script left old new = IfSome script (λ lines. (output : List ℕ) × IsOutput s lines output
     × (new ≡ appended output old) × (left ≡ Some []))
+
+-- exactly the lines that had come whole of the script were answered, by this rule, and their answers were written
+abbrev pub ServesWhatCame : Answering → ScenarioData → Option (List ℕ) → Option (List ℕ) → Option (List ℕ) → Option (List ℕ) → Type 0
+ServesWhatCame answers s script left old new = IfSome script (λ bytes. (lines : List (List ℕ)) × (output : List ℕ)
+    × (t : Analysts) × CameWhole bytes left lines × AnswersLines answers (opening_state s) lines output t
+    × (new ≡ appended output old))

@@ -8,10 +8,10 @@ use Rattle.ltm_viewing.specs.View.{IsView}
 use Rattle.ltm_texts.specs.declared.status.Status.{Status}
 use Rattle.ltm_program.specs.Sessions.{IsCaseUnder}
 
--- the outputs of a view of a scenario by so many viewers, with a script and up to an end
-abbrev pub IsViewed : ℕ → Option (List ℕ) → ScenarioData → SessionEnd → List ℕ → Type 0
-IsViewed viewers script s end output = (t : Analysts) × IsView viewers s script end output t
+-- the outputs of a view of a scenario by so many viewers, with a script, what is left of it, and up to an end
+abbrev pub IsViewed : ℕ → Option (List ℕ) → Option (List ℕ) → ScenarioData → SessionEnd → List ℕ → Type 0
+IsViewed viewers script left s end output = (t : Analysts) × IsView viewers s script left end output t
 
 -- the whole text that belongs to a view and a status
-abbrev pub IsViewUnder : ℕ → Option Files → Option (List ℕ) → Status → List ℕ → Type 0
-IsViewUnder viewers told script = IsCaseUnder (IsViewed viewers script) told
+abbrev pub IsViewUnder : ℕ → Option Files → Option (List ℕ) → Option (List ℕ) → Status → List ℕ → Type 0
+IsViewUnder viewers told script left = IsCaseUnder (IsViewed viewers script left) told

@@ -4,7 +4,7 @@ ghost use Rattle.ltm_program.specs.RanLaws.{TextsSay, SessionsSay, EditorsSay, R
 
 use ltm_session::{alone_is_a_session, sessions_keep_the_promise};
 
-/// What a command wrote whose text is made whole.
+/// What a command wrote that answers one text.
 pub fn texts_say()
     ensures { TextsSay }
 {}

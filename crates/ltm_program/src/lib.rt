@@ -1,7 +1,7 @@
 //! - **What it is**: the whole program but its `main`: `run`, which does what the words of a command line ask for over a
 //!   folder, an input and an output, and `run_alone`, which needs no threads; and the laws of every run.
-//! - **On what it stands**: `ltm_texts` for the commands whose text is made whole before it is written, `ltm_session` for
-//!   the session, which answers a script line by line, `ltm_crew` for workers beside it, `ltm_viewing` for viewers at it,
+//! - **On what it stands**: `ltm_texts` for the commands that answer one text, `ltm_session` for the session, which
+//!   answers a script line by line, `ltm_crew` for workers beside it, `ltm_viewing` for viewers at it,
 //!   `ltm_editing` for several editors, and `ltm_casefile`, which reads the case.
 //! - **What a call costs**: a cold loading, the routes to each destination or a trial; a session a cold loading, and then
 //!   what its lines cost.

@@ -99,8 +99,8 @@ fn serve_core<S: Source, W: Sink>(
 ) -> Status
     requires fresh { version_now core.log ≡ 0 }
     ensures { (told : Option Files) (faults : Doc → ℕ)
-        → IsRun (EndsUnder (IsServed AnswersAlone (S.left input.old) core.log.opening)) (λ d. ⊥)
-        (Unit {0}) result
+        → IsRun (EndsUnder (IsServed AnswersAlone (S.left input.old) (S.left input.new)
+        core.log.opening)) (λ d. ⊥) (Unit {0}) result
         (outside told faults (S.left input.old) (S.faults input.old) (W.written output.old)
         (W.faults output.old))
         (outside told faults (S.left input.new) (S.faults input.new) (W.written output.new)
@@ -120,8 +120,8 @@ fn serve_case<S: Source, W: Sink>(
 ) -> Status
     requires { IsValid scenario }
     ensures { (told : Option Files) (faults : Doc → ℕ)
-        → IsRun (EndsUnder (IsServed AnswersAlone (S.left input.old) scenario)) (λ d. ⊥)
-        (Unit {0}) result
+        → IsRun (EndsUnder (IsServed AnswersAlone (S.left input.old) (S.left input.new)
+        scenario)) (λ d. ⊥) (Unit {0}) result
         (outside told faults (S.left input.old) (S.faults input.old) (W.written output.old)
         (W.faults output.old))
         (outside told faults (S.left input.new) (S.faults input.new) (W.written output.new)

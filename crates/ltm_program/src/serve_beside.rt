@@ -37,8 +37,8 @@ fn serve_core<R: Threads + Wait + Sync, S: Source, W: Sink, G: Gate>(
     requires fresh { version_now core.log ≡ 0 }
     requires running { core.stopped ≡ false }
     ensures { (told : Option Files) (faults : Doc → ℕ)
-        → IsRun (EndsUnder (IsServed AnswersBeside (S.left input.old) core.log.opening)) (λ d. ⊥)
-        (Unit {0}) result
+        → IsRun (EndsUnder (IsServed AnswersBeside (S.left input.old) (S.left input.new)
+        core.log.opening)) (λ d. ⊥) (Unit {0}) result
         (outside told faults (S.left input.old) (S.faults input.old) (W.written output.old)
         (W.faults output.old))
         (outside told faults (S.left input.new) (S.faults input.new) (W.written output.new)
@@ -62,8 +62,8 @@ fn serve_case<R: Threads + Wait + Sync, S: Source, W: Sink, G: Gate>(
     requires workers { workers ≤ 64 }
     requires valid { IsValid scenario }
     ensures { (told : Option Files) (faults : Doc → ℕ)
-        → IsRun (EndsUnder (IsServed AnswersBeside (S.left input.old) scenario)) (λ d. ⊥)
-        (Unit {0}) result
+        → IsRun (EndsUnder (IsServed AnswersBeside (S.left input.old) (S.left input.new)
+        scenario)) (λ d. ⊥) (Unit {0}) result
         (outside told faults (S.left input.old) (S.faults input.old) (W.written output.old)
         (W.faults output.old))
         (outside told faults (S.left input.new) (S.faults input.new) (W.written output.new)

@@ -33,8 +33,8 @@ fn view_core<R: Threads + Wait + Sync, S: Source, W: Sink>(
     requires few { (0 < viewers) × (viewers ≤ 2) }
     requires fresh { version_now core.log ≡ 0 }
     ensures { (told : Option Files) (faults : Doc → ℕ)
-        → IsRun (EndsUnder (IsViewed viewers (S.left input.old) core.log.opening)) (λ d. ⊥)
-        (Unit {0}) result
+        → IsRun (EndsUnder (IsViewed viewers (S.left input.old) (S.left input.new)
+        core.log.opening)) (λ d. ⊥) (Unit {0}) result
         (outside told faults (S.left input.old) (S.faults input.old) (W.written output.old)
         (W.faults output.old))
         (outside told faults (S.left input.new) (S.faults input.new) (W.written output.new)
@@ -58,8 +58,8 @@ fn view_case<R: Threads + Wait + Sync, S: Source, W: Sink>(
     requires few { (0 < viewers) × (viewers ≤ 2) }
     requires valid { IsValid scenario }
     ensures { (told : Option Files) (faults : Doc → ℕ)
-        → IsRun (EndsUnder (IsViewed viewers (S.left input.old) scenario)) (λ d. ⊥)
-        (Unit {0}) result
+        → IsRun (EndsUnder (IsViewed viewers (S.left input.old) (S.left input.new)
+        scenario)) (λ d. ⊥) (Unit {0}) result
         (outside told faults (S.left input.old) (S.faults input.old) (W.written output.old)
         (W.faults output.old))
         (outside told faults (S.left input.new) (S.faults input.new) (W.written output.new)

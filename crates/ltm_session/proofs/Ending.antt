@@ -34,16 +34,16 @@ ends_there WriteFault n left e a b c = absurd (b refl)
 ends_there NoMemory n left e a b c = absurd (c refl)
 
 -- where nothing failed, the session ended as its script says
-pub one_end : (answers : Answering) (s : ScenarioData) (script output : List ℕ) (end : SessionEnd) (t : Analysts) → IsSession answers s (Some script) end output t
+pub one_end : (answers : Answering) (s : ScenarioData) (script output : List ℕ) (left : Option (List ℕ)) (end : SessionEnd) (t : Analysts) → IsSession answers s (Some script) left end output t
     → (end ≡ ReadFault → ⊥) → (end ≡ WriteFault → ⊥) → (end ≡ NoMemory → ⊥) → end_of script ≡ end
-one_end answers s script output end t so a b c =
-    let (left, cut, ends) = so.ends in
+one_end answers s script output left end t so a b c =
+    let (rest, cut, ends) = so.ends in
     let few = so.few in
     let here : 0 + length so.answered ≡ length so.answered = omega arith in
-    ap (λ l. end_from 0 l) cut ∙ through 0 so.answered left so.fit (omega (arith, few)) ∙ ap (λ n. end_from n left) here
-    ∙ ends_there end (length so.answered) left ends a b c
+    ap (λ l. end_from 0 l) cut ∙ through 0 so.answered rest so.fit (omega (arith, few)) ∙ ap (λ n. end_from n rest) here
+    ∙ ends_there end (length so.answered) rest ends a b c
 
-pub ends_as_told : (answers : Answering) (s : ScenarioData) (told : Option (List ℕ)) (output : List ℕ) (end : SessionEnd) (t : Analysts) → IsSession answers s told end output t
+pub ends_as_told : (answers : Answering) (s : ScenarioData) (told left : Option (List ℕ)) (output : List ℕ) (end : SessionEnd) (t : Analysts) → IsSession answers s told left end output t
     → (script : List ℕ) → told ≡ Some script → (end ≡ ReadFault → ⊥) → (end ≡ WriteFault → ⊥) → (end ≡ NoMemory → ⊥) → end ≡ end_of script
-ends_as_told answers s told output end t so script is a b c =
-    sym (one_end answers s script output end t (subst (λ x. IsSession answers s x end output t) is so) a b c)
+ends_as_told answers s told left output end t so script is a b c =
+    sym (one_end answers s script output left end t (subst (λ x. IsSession answers s x left end output t) is so) a b c)

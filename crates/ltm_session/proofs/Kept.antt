@@ -206,6 +206,6 @@ front_keeps s told answered output n P k ends =
 
 pub fronts_keep : LogLaws → FrontsKeepThePromise
 fronts_keep laws = record {
-  beside = λ s told end output t n so. front_keeps s told so.answered output n (EndsBefore end (length so.answered)) (keeps_promise s so.answered output t so.runs) so.ends;
-  alone = λ s told end output t n so. front_keeps s told so.answered output n (EndsBefore end (length so.answered)) (keeps_alone laws s so.answered output t so.runs) so.ends;
+  beside = λ s told left end output t n so. front_keeps s told so.answered output n (EndsBefore end (length so.answered)) (keeps_promise s so.answered output t so.runs) so.ends;
+  alone = λ s told left end output t n so. front_keeps s told so.answered output n (EndsBefore end (length so.answered)) (keeps_alone laws s so.answered output t so.runs) so.ends;
 }

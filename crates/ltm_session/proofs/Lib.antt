@@ -1,6 +1,7 @@
 mod Reported
 mod Settled
 pub mod Opening
+pub mod Came
 pub mod Progress
 pub mod Loops
 pub mod OneMachine

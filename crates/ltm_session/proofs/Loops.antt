@@ -7,7 +7,7 @@ use Rattle.ltm_io.specs.Answers.{GivesLine}
 use Rattle.ltm_io.specs.Sink.{appended}
 use Rattle.ltm_scenario.specs.Data.{ScenarioData}
 use Rattle.ltm_session.specs.declared.ends.SessionEnd.{SessionEnd}
-use Rattle.ltm_session.specs.declared.ends.SessionEnd.TheVariants.{Ended, ReadFault, WriteFault, NoMemory}
+use Rattle.ltm_session.specs.declared.ends.SessionEnd.TheVariants.{Ended, WriteFault, NoMemory}
 use Rattle.ltm_session.specs.Analysts.{Analysts, opening_state}
 use Rattle.ltm_session.specs.Session.{Answering, longest_line, most_lines}
 use Rattle.ltm_session.specs.Serving.{IsServing, EndsIfTold}
@@ -56,13 +56,9 @@ serves_ends rule old new told now left w w1 count end so few ends = record {
       (output, t, session, wrote, knows);
   read = λ script is ended.
       let (rest, at) = so.stays script is in
-      let (before, read) = subst (λ n. EndsIfTold end count n left) at ends in
+      let (before, read, came) = subst (λ n. EndsIfTold end count n left) at ends in
       read ended;
 }
-
-pub no_fault_read : (end : SessionEnd) → (end ≡ WriteFault) ⊎ (end ≡ NoMemory) → end ≡ ReadFault → ⊥
-no_fault_read end (inl is) read = cc
-no_fault_read end (inr is) read = cc
 
 not_ended : (end : SessionEnd) → (end ≡ WriteFault) ⊎ (end ≡ NoMemory) → end ≡ Ended → ⊥
 not_ended end (inl is) ended = cc
@@ -76,7 +72,7 @@ serves_stops rule old mid next told now new left w w1 w2 count line end so few r
   session = λ o may.
       let (t, serving, knows) = so.serving o may in
       let (u, stopped, then_knows) = stops.leads t knows in
-      let (output, session, wrote) = serving_stops rule o told now new w w1 w2 count t u line end serving few reads fits stopped in
+      let (output, session, wrote) = serving_stops rule o told now new left w w1 w2 count t u line end serving few reads fits stopped in
       (output, u, session, wrote, then_knows);
   read = λ script is ended. absurd (not_ended end stops.which ended);
 }
@@ -84,6 +80,6 @@ serves_stops rule old mid next told now new left w w1 w2 count line end so few r
 -- nothing was done
 pub serves_none : (rule : Answering) (knows : Knowing) (told left w : Option (List ℕ)) → Serves rule knows knows told left NoMemory w w
 serves_none rule knows told left w = record {
-  session = λ o may. let (output, session, wrote) = never_begun rule o told w in (output, opening_state o, session, wrote, may);
+  session = λ o may. let (output, session, wrote) = never_begun rule o told left w in (output, opening_state o, session, wrote, may);
   read = λ script is ended. absurd (cc);
 }

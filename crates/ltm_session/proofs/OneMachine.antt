@@ -28,7 +28,7 @@ stops_one rule a b line old new (Err end) is = record { which = is.0; leads = le
 -- a script was served, from a core that has accepted nothing
 pub served_one : (rule : Answering) (o : ScenarioData) (a b : Analysts) (told left : Option (List ℕ)) (end : SessionEnd) (old new : Option (List ℕ)) → a ≡ opening_state o
     → Serves rule (λ s. s ≡ a) (λ s. s ≡ b) told left end old new
-    → (output : List ℕ) × IsSession rule o told end output b × Wrote end old new output
+    → (output : List ℕ) × IsSession rule o told left end output b × Wrote end old new output
 served_one rule o a b told left end old new first served =
     let (output, t, so, wrote, same) = served.session o (sym first) in
-    (output, subst (λ x. IsSession rule o told end output x) same so, wrote)
+    (output, subst (λ x. IsSession rule o told left end output x) same so, wrote)

@@ -14,6 +14,7 @@ use Rattle.ltm_session.specs.declared.ends.SessionEnd.TheVariants.{Ended, ReadFa
 use Rattle.ltm_session.specs.Analysts.{Analysts, opening_state}
 use Rattle.ltm_session.specs.Session.{Answering, AnswersLine, AnswersLines, EndsBefore, IsSession, Wrote, longest_line, most_lines}
 use Rattle.ltm_session.specs.Serving.{HasRead, IsServing, EndsIfTold, StopsAt}
+use Rattle.ltm_session.proofs.Came.{has_read_more, came_so}
 
 -- one line more is answered
 pub one_more : (answers : Answering) (s : Analysts) (lines : List (List ℕ)) (output : List ℕ) (t : Analysts) (line text : List ℕ) (u : Analysts)
@@ -27,13 +28,12 @@ one_more answers s (first ∷ lines) output t line text u (v, words, rest, is, l
 pub read_more : (told now new : Option (List ℕ)) (lines : List (List ℕ)) (line : List ℕ) → HasRead told now lines → GivesLine now line new
     → HasRead told new (lines ++ line ∷ [])
 read_more None now new lines line read reads = tt
-read_more (Some script) now new lines line (rest, at, cut) reads =
-    let (first, left) = subst (λ n. GivesLine n line new) at reads in
-    (after_line rest, left, cut ∙ ap (λ l. lines ++ l) first ∙ sym (append_assoc lines (line ∷ []) (lines_of (after_line rest))))
+read_more (Some script) now new lines line (front, rest, whole, at, cut, begins) reads =
+    let (first, left) = subst (λ n. GivesLine n line new) at reads in has_read_more script front rest new lines line whole cut begins first left
 
 begun : (told coming : Option (List ℕ)) → coming ≡ told → HasRead told coming []
 begun None coming same = tt
-begun (Some script) coming same = (script, same, refl)
+begun (Some script) coming same = ([], script, refl, same, refl, inl (λ more. refl))
 
 -- nothing was read ahead
 pub nothing_ahead : (left : Option (List ℕ)) → prepended [] left ≡ left
@@ -84,8 +84,8 @@ serving_more answers s told now new w w1 w2 count t u line text so reads fits is
 ends_so : (end : SessionEnd) (count : ℕ) (told now new : Option (List ℕ)) (lines : List (List ℕ)) → length lines ≡ count → HasRead told now lines → EndsIfTold end count now new
     → IfSome told (λ script. (left : List (List ℕ)) × (lines_of script ≡ lines ++ left) × EndsBefore end (length lines) left)
 ends_so end count None now new lines counted read ends = tt
-ends_so end count (Some script) now new lines counted (rest, at, cut) ends =
-    let (before, read) = subst (λ n. EndsIfTold end count n new) at ends in
+ends_so end count (Some script) now new lines counted (front, rest, whole, at, cut, begins) ends =
+    let (before, read, came) = subst (λ n. EndsIfTold end count n new) at ends in
     (lines_of rest, cut, subst (λ n. EndsBefore end n (lines_of rest)) (sym counted) before)
 
 pub whole_front : (old new : Option (List ℕ)) (output : List ℕ) → new ≡ appended output old → AppendsFront old new output
@@ -102,7 +102,7 @@ wrote_all NoMemory old new output is = whole_front old new output is
 -- the session ends where the script does, or where it can't be read
 pub serving_ends : (answers : Answering) (s : ScenarioData) (told now new w w1 : Option (List ℕ)) (count : ℕ) (t : Analysts) (end : SessionEnd)
     → IsServing answers s told now w w1 count t → count ≤ most_lines → EndsIfTold end count now new
-    → (output : List ℕ) × IsSession answers s told end output t × Wrote end w w1 output
+    → (output : List ℕ) × IsSession answers s told new end output t × Wrote end w w1 output
 serving_ends answers s told now new w w1 count t end so few ends = (
   so.output,
   record {
@@ -111,6 +111,7 @@ serving_ends answers s told now new w w1 count t end so few ends = (
     fit = so.fit;
     runs = so.runs;
     ends = ends_so end count told now new so.answered so.counted so.read ends;
+    came = came_so end count told now new so.answered so.read ends;
   },
   wrote_all end w w1 so.output so.wrote,
 )
@@ -119,8 +120,13 @@ serving_ends answers s told now new w w1 count t end so few ends = (
 left_over : (end : SessionEnd) → (end ≡ WriteFault) ⊎ (end ≡ NoMemory) → (told now : Option (List ℕ)) (lines : List (List ℕ)) → HasRead told now lines
     → IfSome told (λ script. (left : List (List ℕ)) × (lines_of script ≡ lines ++ left) × EndsBefore end (length lines) left)
 left_over end is None now lines read = tt
-left_over end (inl is) (Some script) now lines (rest, at, cut) = (lines_of rest, cut, subst (λ e. EndsBefore e (length lines) (lines_of rest)) (sym is) tt)
-left_over end (inr is) (Some script) now lines (rest, at, cut) = (lines_of rest, cut, subst (λ e. EndsBefore e (length lines) (lines_of rest)) (sym is) tt)
+left_over end (inl is) (Some script) now lines (front, rest, whole, at, cut, begins) = (lines_of rest, cut, subst (λ e. EndsBefore e (length lines) (lines_of rest)) (sym is) tt)
+left_over end (inr is) (Some script) now lines (front, rest, whole, at, cut, begins) = (lines_of rest, cut, subst (λ e. EndsBefore e (length lines) (lines_of rest)) (sym is) tt)
+
+-- no read failed
+pub no_fault_read : (end : SessionEnd) → (end ≡ WriteFault) ⊎ (end ≡ NoMemory) → end ≡ ReadFault → ⊥
+no_fault_read end (inl is) read = cc
+no_fault_read end (inr is) read = cc
 
 front_so : (end : SessionEnd) → (end ≡ WriteFault) ⊎ (end ≡ NoMemory) → (old new : Option (List ℕ)) (output : List ℕ) → AppendsFront old new output → Wrote end old new output
 front_so end (inl is) old new output front = subst (λ e. Wrote e old new output) (sym is) front
@@ -135,11 +141,11 @@ front_more old now new output text is (n, few, wrote) =
     )
 
 -- the session stops at a line
-pub serving_stops : (answers : Answering) (s : ScenarioData) (told now new w w1 w2 : Option (List ℕ)) (count : ℕ) (t u : Analysts) (line : List ℕ) (end : SessionEnd)
+pub serving_stops : (answers : Answering) (s : ScenarioData) (told now new left w w1 w2 : Option (List ℕ)) (count : ℕ) (t u : Analysts) (line : List ℕ) (end : SessionEnd)
     → IsServing answers s told now w w1 count t → count < most_lines → GivesLine now line new → length line ≤ longest_line
     → StopsAt answers t line u end w1 w2
-    → (output : List ℕ) × IsSession answers s told end output u × Wrote end w w2 output
-serving_stops answers s told now new w w1 w2 count t u line end so few reads fits (is, inl (same, still)) = (
+    → (output : List ℕ) × IsSession answers s told left end output u × Wrote end w w2 output
+serving_stops answers s told now new left w w1 w2 count t u line end so few reads fits (is, inl (same, still)) = (
   so.output,
   record {
     answered = so.answered;
@@ -147,10 +153,11 @@ serving_stops answers s told now new w w1 w2 count t u line end so few reads fit
     fit = so.fit;
     runs = subst (λ v. AnswersLines answers (opening_state s) so.answered so.output v) (sym same) so.runs;
     ends = left_over end is told now so.answered so.read;
+    came = λ failed. absurd (no_fault_read end is failed);
   },
   wrote_all end w w2 so.output (still ∙ so.wrote),
 )
-serving_stops answers s told now new w w1 w2 count t u line end so few reads fits (is, inr (text, answered, front)) = (
+serving_stops answers s told now new left w w1 w2 count t u line end so few reads fits (is, inr (text, answered, front)) = (
   so.output ++ text,
   record {
     answered = so.answered ++ line ∷ [];
@@ -158,19 +165,27 @@ serving_stops answers s told now new w w1 w2 count t u line end so few reads fit
     fit = All-push (λ l. length l ≤ longest_line) so.answered line so.fit fits;
     runs = one_more answers (opening_state s) so.answered so.output t line text u so.runs answered;
     ends = left_over end is told new (so.answered ++ line ∷ []) (read_more told now new so.answered line so.read reads);
+    came = λ failed. absurd (no_fault_read end is failed);
   },
   front_so end is w w2 (so.output ++ text) (front_more w w1 w2 so.output text so.wrote front),
 )
 
 -- nothing was done
-pub never_begun : (answers : Answering) (s : ScenarioData) (told w : Option (List ℕ)) → (output : List ℕ) × IsSession answers s told NoMemory output (opening_state s) × Wrote NoMemory w w output
-never_begun answers s told w = (
+pub never_begun : (answers : Answering) (s : ScenarioData) (told left w : Option (List ℕ)) → (output : List ℕ) × IsSession answers s told left NoMemory output (opening_state s) × Wrote NoMemory w w output
+never_begun answers s told left w = (
   [],
-  record { answered = []; few = omega arith; fit = All-nil _; runs = (refl, refl); ends = left_over NoMemory (inr refl) told told [] (begun told told refl) },
+  record {
+    answered = [];
+    few = omega arith;
+    fit = All-nil _;
+    runs = (refl, refl);
+    ends = left_over NoMemory (inr refl) told told [] (begun told told refl);
+    came = λ failed. absurd (no_fault_read NoMemory (inr refl) failed);
+  },
   whole_front w w [] (nothing_more w),
 )
 
-pub never_begun_at : (answers : Answering) (s : ScenarioData) (told w : Option (List ℕ)) (t : Analysts) → t ≡ opening_state s
-    → (output : List ℕ) × IsSession answers s told NoMemory output t × Wrote NoMemory w w output
-never_begun_at answers s told w t same =
-    subst (λ (u : Analysts). (output : List ℕ) × IsSession answers s told NoMemory output u × Wrote NoMemory w w output) (sym same) (never_begun answers s told w)
+pub never_begun_at : (answers : Answering) (s : ScenarioData) (told left w : Option (List ℕ)) (t : Analysts) → t ≡ opening_state s
+    → (output : List ℕ) × IsSession answers s told left NoMemory output t × Wrote NoMemory w w output
+never_begun_at answers s told left w t same =
+    subst (λ (u : Analysts). (output : List ℕ) × IsSession answers s told left NoMemory output u × Wrote NoMemory w w output) (sym same) (never_begun answers s told left w)

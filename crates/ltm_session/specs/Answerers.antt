@@ -37,5 +37,5 @@ pub record StopsBy (rule : Answering) (old new : Knowing) (line : List ℕ) (end
 -- a script was served, from each opening scenario that may have been there; with Ended it was read to its end
 pub record Serves (rule : Answering) (old new : Knowing) (told left : Option (List ℕ)) (end : SessionEnd) (before after : Option (List ℕ)) : Type 0 where
   pub session : (o : ScenarioData) → old (opening_state o) →
-      (output : List ℕ) × (t : Analysts) × IsSession rule o told end output t × Wrote end before after output × new t
+      (output : List ℕ) × (t : Analysts) × IsSession rule o told left end output t × Wrote end before after output × new t
   pub read : (script : List ℕ) → told ≡ Some script → end ≡ Ended → left ≡ Some []

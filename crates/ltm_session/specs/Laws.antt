@@ -30,8 +30,8 @@ pub record OutputsKeepThePromise : Type 0 where
 -- whatever front was written of what a session by a rule answered keeps it so far, however the session ended
 abbrev pub FrontsKeepIt : Answering → Type 0
 FrontsKeepIt answers =
-    (s : ScenarioData) (told : Option (List ℕ)) (end : SessionEnd) (output : List ℕ) (t : Analysts) (n : ℕ)
-    → IsSession answers s told end output t → KeepsPromiseSoFar s told (take n output)
+    (s : ScenarioData) (told left : Option (List ℕ)) (end : SessionEnd) (output : List ℕ) (t : Analysts) (n : ℕ)
+    → IsSession answers s told left end output t → KeepsPromiseSoFar s told (take n output)
 
 pub record FrontsKeepThePromise : Type 0 where
   pub beside : FrontsKeepIt AnswersBeside

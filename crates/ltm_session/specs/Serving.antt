@@ -1,17 +1,22 @@
 -- How far a session has come.
 use Rattle.std.specs.Prelude.{◌≡◌, ◌⊎◌, ℕ, ◌≤◌, List, [], ◌++◌, length, All, Option, None, Some}
 use Rattle.ltm_io.specs.Sink.{appended, AppendsFront}
-use Rattle.ltm_io.specs.Script.{lines_of}
+use Rattle.ltm_io.specs.Script.{lines_of, whole_lines}
 use Rattle.ltm_scenario.specs.Data.{ScenarioData}
 use Rattle.ltm_session.specs.declared.ends.SessionEnd.{SessionEnd}
-use Rattle.ltm_session.specs.declared.ends.SessionEnd.TheVariants.{Ended, WriteFault, NoMemory}
+use Rattle.ltm_session.specs.declared.ends.SessionEnd.TheVariants.{Ended, ReadFault, WriteFault, NoMemory}
 use Rattle.ltm_session.specs.Analysts.{Analysts, opening_state}
-use Rattle.ltm_session.specs.Session.{Answering, AnswersLine, AnswersLines, EndsBefore, longest_line}
+use Rattle.ltm_session.specs.Session.{Answering, AnswersLine, AnswersLines, EndsBefore, CameWhole, longest_line}
 
--- these lines were read of a script, and the rest is coming, where it is told
+-- these lines come whole before whatever comes behind
+abbrev pub Begins : List ℕ → List (List ℕ) → Type 0
+Begins front lines = (more : List ℕ) → whole_lines (front ++ more) ≡ lines ++ whole_lines more
+
+-- these lines were read of a script, and the rest is coming, where it is told; a newline ended each, or none is left
 abbrev pub HasRead : Option (List ℕ) → Option (List ℕ) → List (List ℕ) → Type 0
 HasRead None coming answered = Unit {0}
-HasRead (Some script) coming answered = (rest : List ℕ) × (coming ≡ Some rest) × (lines_of script ≡ answered ++ lines_of rest)
+HasRead (Some script) coming answered = (front rest : List ℕ) × (script ≡ front ++ rest) × (coming ≡ Some rest)
+    × (lines_of script ≡ answered ++ lines_of rest) × (Begins front answered ⊎ (rest ≡ []))
 
 -- so many lines were read and answered, what is written is their answers, and the machine stands so
 pub record IsServing (answers : Answering) (s : ScenarioData) (told coming written new : Option (List ℕ)) (count : ℕ) (t : Analysts) : Type 0 where
@@ -27,6 +32,7 @@ pub record IsServing (answers : Answering) (s : ScenarioData) (told coming writt
 abbrev pub EndsIfTold : SessionEnd → ℕ → Option (List ℕ) → Option (List ℕ) → Type 0
 EndsIfTold end answered None left = Unit {0}
 EndsIfTold end answered (Some script) left = EndsBefore end answered (lines_of script) × (end ≡ Ended → left ≡ Some [])
+    × (end ≡ ReadFault → CameWhole script left [])
 
 -- a session stopped at a line: nothing was done, or it was answered and a front of the answer was written
 abbrev pub StopsAt : Answering → Analysts → List ℕ → Analysts → SessionEnd → Option (List ℕ) → Option (List ℕ) → Type 0

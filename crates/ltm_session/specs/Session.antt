@@ -1,7 +1,7 @@
 -- What a session answers to a script, and how it ends.
-use Rattle.std.specs.Prelude.{◌≡◌, ℕ, ◌+◌, ◌<◌, ◌≤◌, nat_le, nat_lt, if◌then◌else◌, List, [], ◌∷◌, ◌++◌, length, All, Option, IfSome, Result}
+use Rattle.std.specs.Prelude.{◌≡◌, ◌⊎◌, ℕ, ◌+◌, ◌<◌, ◌≤◌, nat_le, nat_lt, if◌then◌else◌, List, [], ◌∷◌, ◌++◌, length, All, Option, Some, IfSome, Result}
 use Rattle.ltm_io.specs.Sink.{appended, AppendsFront}
-use Rattle.ltm_io.specs.Script.{lines_of}
+use Rattle.ltm_io.specs.Script.{lines_of, whole_lines}
 use Rattle.ltm_scenario.specs.Data.{ScenarioData}
 use Rattle.ltm_script.specs.Line.{reading}
 use Rattle.ltm_script.specs.declared.command.Command.{Command}
@@ -66,13 +66,20 @@ end_from answered (line ∷ lines) =
 abbrev pub end_of : List ℕ → SessionEnd
 end_of script = end_from 0 (lines_of script)
 
--- a session of a scenario answered the first lines of a script and ended so
-pub record IsSession (answers : Answering) (s : ScenarioData) (told : Option (List ℕ)) (end : SessionEnd) (output : List ℕ) (t : Analysts) : Type 0 where
+-- the lines of a script that had come whole where so much of it is left: those that a newline ends of what came, and where
+-- nothing is left maybe the last line too, which needs none
+abbrev pub CameWhole : List ℕ → Option (List ℕ) → List (List ℕ) → Type 0
+CameWhole script left lines = (came rest : List ℕ) × (script ≡ came ++ rest) × (left ≡ Some rest)
+    × ((lines ≡ whole_lines came) ⊎ ((rest ≡ []) × (lines ≡ lines_of script)))
+
+-- a session of a scenario answered the first lines of a script and ended so; where a read failed, those that had come whole
+pub record IsSession (answers : Answering) (s : ScenarioData) (told left : Option (List ℕ)) (end : SessionEnd) (output : List ℕ) (t : Analysts) : Type 0 where
   pub answered : List (List ℕ)
   pub few : length answered ≤ most_lines
   pub fit : All (λ line. length line ≤ longest_line) answered
   pub runs : AnswersLines answers (opening_state s) answered output t
   pub ends : IfSome told (λ script. (left : List (List ℕ)) × (lines_of script ≡ answered ++ left) × EndsBefore end (length answered) left)
+  pub came : end ≡ ReadFault → IfSome told (λ script. CameWhole script left answered)
 
 -- what was written of an output: all of it, or a front where the writing or the memory failed
 abbrev pub Wrote : SessionEnd → Option (List ℕ) → Option (List ℕ) → List ℕ → Type 0

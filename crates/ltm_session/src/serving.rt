@@ -96,7 +96,8 @@ pub fn serve_alone<S: Source, W: Sink>(
     requires fresh { version_now core.log ≡ 0 }
     // What was answered, what was written of it, how that ended, and the log and what is shown then.
     ensures session { (output : List ℕ)
-        × IsSession AnswersAlone core.log.opening (S.left source.old) result.end output
+        × IsSession AnswersAlone core.log.opening (S.left source.old) (S.left source.new)
+        result.end output
         (state_of result.core)
         × Wrote result.end (W.written sink.old) (W.written sink.new) output }
     ensures awaits { AwaitsLine result.core }

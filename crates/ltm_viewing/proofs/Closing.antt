@@ -11,7 +11,7 @@ use Rattle.ltm_session.specs.declared.ends.SessionEnd.TheVariants.{Ended, ReadFa
 use Rattle.ltm_session.specs.Analysts.{Analysts, opening_state, state_of}
 use Rattle.ltm_session.specs.Answers.{AnswersAlone}
 use Rattle.ltm_session.specs.Session.{IsSession, Wrote, EndsBefore, end_of}
-use Rattle.ltm_session.proofs.Progress.{whole_front, appended_more, front_more, never_begun_at}
+use Rattle.ltm_session.proofs.Progress.{whole_front, appended_more, front_more, no_fault_read, never_begun_at}
 use Rattle.ltm_session.proofs.Ending.{one_end}
 use Rattle.ltm_viewing.specs.View.{IsView, Closes}
 use Rattle.ltm_viewing.specs.Serving.{IsScripted, TellsLast, Views}
@@ -42,8 +42,15 @@ ends_anyhow : (answered : List (List ℕ)) (told : Option (List ℕ)) (n : ℕ)
 ends_anyhow answered None n ends = tt
 ends_anyhow answered (Some script) n (left, cut, none) = (left, cut, tt)
 
-anyhow : (s : ScenarioData) (told : Option (List ℕ)) (output : List ℕ) (t : Analysts) → IsSession AnswersAlone s told Ended output t → IsSession AnswersAlone s told NoMemory output t
-anyhow s told output t so = record { answered = so.answered; few = so.few; fit = so.fit; runs = so.runs; ends = ends_anyhow so.answered told (length so.answered) so.ends }
+anyhow : (s : ScenarioData) (told left : Option (List ℕ)) (output : List ℕ) (t : Analysts) → IsSession AnswersAlone s told left Ended output t → IsSession AnswersAlone s told left NoMemory output t
+anyhow s told left output t so = record {
+  answered = so.answered;
+  few = so.few;
+  fit = so.fit;
+  runs = so.runs;
+  ends = ends_anyhow so.answered told (length so.answered) so.ends;
+  came = λ failed. absurd (no_fault_read NoMemory (inr refl) failed);
+}
 
 failed : (end : SessionEnd) (old new : Option (List ℕ)) (output : List ℕ) → (end ≡ WriteFault) ⊎ (end ≡ NoMemory) → AppendsFront old new output → Wrote end old new output
 failed end old new output (inl is) front = subst (λ e. Wrote e old new output) (sym is) front
@@ -57,7 +64,7 @@ told_last viewers d e told left end old mid new so (inl (is, same)) = record {
     session_end = NoMemory;
     answers = so.output;
     lines = [];
-    session = anyhow d.log.opening told so.output (state_of e) so.session;
+    session = anyhow d.log.opening told left so.output (state_of e) so.session;
     closes = (is, refl);
     output_is = sym (append-nil so.output);
   };
@@ -80,22 +87,22 @@ told_last viewers d e told left end old mid new so (inr (lines, tell, inr (is, f
 -- ---- one that was not begun
 pub never_viewed : (viewers : ℕ) (d : CoreData) (told left w : Option (List ℕ)) → state_of d ≡ opening_state d.log.opening → Views viewers d told left NoMemory w w d
 never_viewed viewers d told left w same =
-    let (output, so, wrote) = never_begun_at AnswersAlone d.log.opening told w (state_of d) same in
+    let (output, so, wrote) = never_begun_at AnswersAlone d.log.opening told left w (state_of d) same in
     let none : NoMemory ≡ Ended → ⊥ = λ wrong. cc in
     stopped viewers d d told left NoMemory w w (record { output = output; session = so; wrote = wrote; read = λ script is ended. absurd (none ended) }) none
 
 -- ---- how it ends
 -- a view ends as its session, or where the writing or the memory failed
-pub view_ends : (viewers : ℕ) (s : ScenarioData) (script output : List ℕ) (end : SessionEnd) (t : Analysts) → IsView viewers s (Some script) end output t
+pub view_ends : (viewers : ℕ) (s : ScenarioData) (script output : List ℕ) (left : Option (List ℕ)) (end : SessionEnd) (t : Analysts) → IsView viewers s (Some script) left end output t
     → (end ≡ ReadFault → ⊥) → (end ≡ WriteFault → ⊥) → (end ≡ NoMemory → ⊥) → end ≡ end_of script
-view_ends viewers s script output end t so a b c = go so.session_end so.session so.closes
+view_ends viewers s script output left end t so a b c = go so.session_end so.session so.closes
   where
-    go : (e : SessionEnd) → IsSession AnswersAlone s (Some script) e so.answers t → Closes viewers t e end so.lines → end ≡ end_of script
-    go Ended session (tell, inl is) = is ∙ sym (one_end AnswersAlone s script so.answers Ended t session (λ x. cc) (λ x. cc) (λ x. cc))
+    go : (e : SessionEnd) → IsSession AnswersAlone s (Some script) left e so.answers t → Closes viewers t e end so.lines → end ≡ end_of script
+    go Ended session (tell, inl is) = is ∙ sym (one_end AnswersAlone s script so.answers left Ended t session (λ x. cc) (λ x. cc) (λ x. cc))
     go Ended session (tell, inr (inl is)) = absurd (b is)
     go Ended session (tell, inr (inr is)) = absurd (c is)
     go ReadFault session (is, none) = absurd (a is)
     go WriteFault session (is, none) = absurd (b is)
-    go (LineTooLong n) session (is, none) = is ∙ sym (one_end AnswersAlone s script so.answers (LineTooLong n) t session (λ x. cc) (λ x. cc) (λ x. cc))
-    go TooManyCommands session (is, none) = is ∙ sym (one_end AnswersAlone s script so.answers TooManyCommands t session (λ x. cc) (λ x. cc) (λ x. cc))
+    go (LineTooLong n) session (is, none) = is ∙ sym (one_end AnswersAlone s script so.answers left (LineTooLong n) t session (λ x. cc) (λ x. cc) (λ x. cc))
+    go TooManyCommands session (is, none) = is ∙ sym (one_end AnswersAlone s script so.answers left TooManyCommands t session (λ x. cc) (λ x. cc) (λ x. cc))
     go NoMemory session (is, none) = absurd (c is)

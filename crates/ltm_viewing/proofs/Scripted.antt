@@ -15,7 +15,7 @@ use Rattle.ltm_viewing.specs.Serving.{IsScripted}
 read_all : (told now left : Option (List ℕ)) (lines : List (List ℕ)) (end : SessionEnd) (count : ℕ) → HasRead told now lines → EndsIfTold end count now left
     → (script : List ℕ) → told ≡ Some script → end ≡ Ended → left ≡ Some []
 read_all None now left lines end count read ends script is ended = cc
-read_all (Some s) now left lines end count (rest, at, cut) ends script is ended = (subst (λ x. EndsIfTold end count x left) at ends).1 ended
+read_all (Some s) now left lines end count (front, rest, whole, at, cut, begins) ends script is ended = (subst (λ x. EndsIfTold end count x left) at ends).1 ended
 
 pub scripted_ends : (d e : CoreData) (told now left w w1 : Option (List ℕ)) (count : ℕ) (end : SessionEnd) → IsServing AnswersAlone d.log.opening told now w w1 count (state_of e)
     → count ≤ most_lines → EndsIfTold end count now left → IsScripted d told left end w w1 e
@@ -30,5 +30,5 @@ not_ended end (inr is) ended = cc
 pub scripted_stops : (d e f : CoreData) (told now new left w w1 w2 : Option (List ℕ)) (count : ℕ) (line : List ℕ) (end : SessionEnd) → IsServing AnswersAlone d.log.opening told now w w1 count (state_of e)
     → count < most_lines → GivesLine now line new → length line ≤ longest_line → StopsAt AnswersAlone (state_of e) line (state_of f) end w1 w2 → IsScripted d told left end w w2 f
 scripted_stops d e f told now new left w w1 w2 count line end so few reads fits stops =
-    let (output, session, wrote) = serving_stops AnswersAlone d.log.opening told now new w w1 w2 count (state_of e) (state_of f) line end so few reads fits stops in
+    let (output, session, wrote) = serving_stops AnswersAlone d.log.opening told now new left w w1 w2 count (state_of e) (state_of f) line end so few reads fits stops in
     record { output = output; session = session; wrote = wrote; read = λ script is ended. absurd (not_ended end stops.0 ended) }

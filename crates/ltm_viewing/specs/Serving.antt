@@ -13,7 +13,7 @@ use Rattle.ltm_viewing.specs.View.{IsView}
 -- a session without workers led from a core to another; where it ended well the whole script was read
 pub record IsScripted (d : CoreData) (told left : Option (List ℕ)) (end : SessionEnd) (old new : Option (List ℕ)) (e : CoreData) : Type 0 where
   pub output : List ℕ
-  pub session : IsSession AnswersAlone d.log.opening told end output (state_of e)
+  pub session : IsSession AnswersAlone d.log.opening told left end output (state_of e)
   pub wrote : Wrote end old new output
   pub read : (script : List ℕ) → told ≡ Some script → end ≡ Ended → left ≡ Some []
 
@@ -28,6 +28,6 @@ TellsLast viewers t end old new =
 -- ended well the whole script was read
 pub record Views (viewers : ℕ) (d : CoreData) (told left : Option (List ℕ)) (end : SessionEnd) (old new : Option (List ℕ)) (e : CoreData) : Type 0 where
   pub output : List ℕ
-  pub view : IsView viewers d.log.opening told end output (state_of e)
+  pub view : IsView viewers d.log.opening told left end output (state_of e)
   pub wrote : Wrote end old new output
   pub read : (script : List ℕ) → told ≡ Some script → end ≡ Ended → left ≡ Some []

@@ -24,11 +24,12 @@ Closes viewers t (LineTooLong number) end lines = (end ≡ LineTooLong number) �
 Closes viewers t TooManyCommands end lines = (end ≡ TooManyCommands) × (lines ≡ [])
 Closes viewers t NoMemory end lines = (end ≡ NoMemory) × (lines ≡ [])
 
--- a session of a scenario with viewers answered the first lines of a script and ended so
-pub record IsView (viewers : ℕ) (s : ScenarioData) (told : Option (List ℕ)) (end : SessionEnd) (output : List ℕ) (t : Analysts) : Type 0 where
+-- a session of a scenario with viewers answered the first lines of a script and ended so; where a read failed, those that had
+-- come whole
+pub record IsView (viewers : ℕ) (s : ScenarioData) (told left : Option (List ℕ)) (end : SessionEnd) (output : List ℕ) (t : Analysts) : Type 0 where
   pub session_end : SessionEnd
   pub answers : List ℕ
   pub lines : List ℕ
-  pub session : IsSession AnswersAlone s told session_end answers t
+  pub session : IsSession AnswersAlone s told left session_end answers t
   pub closes : Closes viewers t session_end end lines
   pub output_is : output ≡ answers ++ lines

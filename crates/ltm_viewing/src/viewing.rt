@@ -257,7 +257,8 @@ pub fn view<R: Threads + Wait + Sync, S: Source, W: Sink>(
     requires fresh { version_now core.old.log ≡ 0 }
     // What was answered and told, what was written of it, how that ended, and the log and what is shown then.
     ensures view { (output : List ℕ)
-        × IsView viewers core.old.log.opening (S.left source.old) result output (state_of core.new)
+        × IsView viewers core.old.log.opening (S.left source.old) (S.left source.new) result output
+        (state_of core.new)
         × Wrote result (W.written sink.old) (W.written sink.new) output }
     // Where nothing failed, it ended as the script says.
     ensures end { (script : List ℕ) → S.left source.old ≡ Some script

@@ -8,4 +8,4 @@ serve_core-requires-clause-fresh g c = λ lists outlive. nothing_accepted c.args
 
 pub returns-in-Ok : goal.returns-in-Ok
 returns-in-Ok g c = λ told faults.
-    run_begun (IsServed AnswersBeside (g.S.Source.left c.args.input.now)) c.args.scenario c.in-Ok.core _ _ _ c.in-Ok.ensures.ok (c.serve_core.ensures told faults)
+    run_begun (IsServed AnswersBeside (g.S.Source.left c.args.input.now) (g.S.Source.left c.serve_core.new.input)) c.args.scenario c.in-Ok.core _ _ _ c.in-Ok.ensures.ok (c.serve_core.ensures told faults)

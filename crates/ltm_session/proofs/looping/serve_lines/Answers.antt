@@ -1,7 +1,8 @@
 use Rattle.std.proofs.Common.{◌≡◌, arith, sym, subst}
 use Rattle.ltm_io.specs.Lines.{coming}
 use Rattle.ltm_session.specs.Serving.{EndsIfTold}
-use Rattle.ltm_session.proofs.Loops.{coming_first, serves_first, serves_more, serves_ends, serves_stops, no_fault_read}
+use Rattle.ltm_session.proofs.Loops.{coming_first, serves_first, serves_more, serves_ends, serves_stops}
+use Rattle.ltm_session.proofs.Progress.{no_fault_read}
 use Rattle.ltm_session.proofs.looping.serve_lines.Goals as goal
 
 pub loop-answered-init : goal.loop-answered-init

@@ -17,14 +17,14 @@ returns-in-Ok-clause-session g c =
 pub returns-in-Ok-clause-end : goal.returns-in-Ok-clause-end
 returns-in-Ok-clause-end g c =
     let (output, so, wrote) = returns-in-Ok-clause-session g c in
-    ends_as_told AnswersAlone c.args.core.log.opening (g.S.Source.left c.args.source.now) output c.serve_lines-alone.result.1 (state_of c.serve_lines-alone.result.0.core) so
+    ends_as_told AnswersAlone c.args.core.log.opening (g.S.Source.left c.args.source.now) _ output c.serve_lines-alone.result.1 (state_of c.serve_lines-alone.result.0.core) so
 
 pub returns-in-Ok-clause-read : goal.returns-in-Ok-clause-read
 returns-in-Ok-clause-read g c = c.serve_lines-alone.ensures.serves.read
 
 pub returns-in-Err-clause-session : goal.returns-in-Err-clause-session
 returns-in-Err-clause-session g c =
-    never_begun_at AnswersAlone c.args.core.log.opening (g.S.Source.left c.args.source.now) (g.W.Sink.written c.args.sink.now) (state_of c.args.core)
+    never_begun_at AnswersAlone c.args.core.log.opening (g.S.Source.left c.args.source.now) (g.S.Source.left c.args.source.now) (g.W.Sink.written c.args.sink.now) (state_of c.args.core)
     (opens c.args.core c.holds.ensures c.requires.fresh)
 
 pub returns-in-Err-clause-awaits : goal.returns-in-Err-clause-awaits

@@ -17,7 +17,7 @@ pub returns-in-Ok-clause-view : goal.returns-in-Ok-clause-view
 returns-in-Ok-clause-view g c =
     let v = c.view_from-end.ensures.view in (
       v.output,
-      subst (λ (n : ℕ). IsView n c.args.core.now.log.opening (g.S.Source.left c.args.source.now) c.view_from-end.result v.output (state_of c.view_from-end.new.core)) c.in-Ok.ensures.hooks.1 v.view,
+      subst (λ (n : ℕ). IsView n c.args.core.now.log.opening (g.S.Source.left c.args.source.now) (g.S.Source.left c.view_from-end.new.source) c.view_from-end.result v.output (state_of c.view_from-end.new.core)) c.in-Ok.ensures.hooks.1 v.view,
       v.wrote,
     )
 
@@ -25,8 +25,8 @@ pub returns-in-Ok-clause-end : goal.returns-in-Ok-clause-end
 returns-in-Ok-clause-end g c =
     let v = c.view_from-end.ensures.view in
     let count = how_many (board_hooks c.in-Ok.stage.boards) in λ script is read write memory.
-    view_ends count c.args.core.now.log.opening script v.output c.view_from-end.result (state_of c.view_from-end.new.core)
-    (subst (λ (told : Option (List ℕ)). IsView count c.args.core.now.log.opening told c.view_from-end.result v.output (state_of c.view_from-end.new.core)) is v.view) read write memory
+    view_ends count c.args.core.now.log.opening script v.output (g.S.Source.left c.view_from-end.new.source) c.view_from-end.result (state_of c.view_from-end.new.core)
+    (subst (λ (told : Option (List ℕ)). IsView count c.args.core.now.log.opening told (g.S.Source.left c.view_from-end.new.source) c.view_from-end.result v.output (state_of c.view_from-end.new.core)) is v.view) read write memory
 
 pub returns-in-Err-clause-view : goal.returns-in-Err-clause-view
 returns-in-Err-clause-view g c =
