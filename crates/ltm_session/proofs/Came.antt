@@ -1,12 +1,10 @@
 -- Which lines had come whole where a read failed.
-use Rattle.std.proofs.Common.{ℕ, ◌≡◌, ◌⊎◌, inl, inr, ◌==◌, Bool, true, false, List, [], ◌∷◌, ◌++◌, refl, ap, sym, subst, ◌∙◌, append_assoc, if◌then◌else◌}
+use Rattle.std.proofs.Common.{ℕ, ◌≡◌, ◌⊎◌, inl, inr, ◌==◌, Bool, true, false, List, [], ◌∷◌, ◌++◌, refl, ap, sym, subst, ◌∙◌, append_assoc}
 use Rattle.std.proofs.lemmas.List.{append-nil}
 use Rattle.std.specs.Prelude.{Option, Some, None, IfSome}
-use Rattle.ltm_io.specs.Source.{prepended}
 use Rattle.ltm_io.specs.Script.{lines_of, before_lines, before_first, whole_lines, after_line}
-use Rattle.ltm_io.specs.Answers.{CutsLine}
 use Rattle.ltm_session.specs.declared.ends.SessionEnd.{SessionEnd}
-use Rattle.ltm_session.specs.declared.ends.SessionEnd.TheVariants.{Ended, ReadFault}
+use Rattle.ltm_session.specs.declared.ends.SessionEnd.TheVariants.{ReadFault}
 use Rattle.ltm_session.specs.Session.{CameWhole}
 use Rattle.ltm_session.specs.Serving.{Begins, HasRead, EndsIfTold}
 
@@ -109,13 +107,3 @@ came_so end count None now left lines read ends failed = tt
 came_so end count (Some script) now left lines (front, rest, whole, at, cut, begins) ends failed =
     let (before, read, came) = subst (λ n. EndsIfTold end count n left) at ends in
     came_whole script front rest left lines whole cut begins (came failed)
-
--- what came of a line is no whole line
-ends_rest : (count : ℕ) (script text rest : List ℕ) (left : Option (List ℕ)) → left ≡ Some rest → Some script ≡ Some (text ++ rest) → whole_lines text ≡ [] → EndsIfTold ReadFault count (Some script) left
-ends_rest count script text rest left at is none =
-    let same : script ≡ text ++ rest = cc in (tt, λ ended. absurd (cc), λ failed. (text, rest, same, at, inl (sym none)))
-
-pub ends_cut : (count : ℕ) (told left : Option (List ℕ)) (text : List ℕ) → CutsLine told text left → EndsIfTold ReadFault count told left
-ends_cut count None left text cuts = tt
-ends_cut count (Some script) None text (is, none) = absurd (cc)
-ends_cut count (Some script) (Some rest) text (is, none) = ends_rest count script text rest (Some rest) refl is none

@@ -5,7 +5,7 @@ use Rattle.std.proofs.lemmas.List.Elements.{All-push, All-nil}
 use Rattle.std.proofs.Math.Seq.{take-append-add, take-length}
 use Rattle.std.specs.Prelude.{Option, Some, None, IfSome}
 use Rattle.ltm_io.specs.Source.{prepended}
-use Rattle.ltm_io.specs.Script.{lines_of, after_line}
+use Rattle.ltm_io.specs.Script.{lines_of}
 use Rattle.ltm_io.specs.Answers.{GivesLine}
 use Rattle.ltm_io.specs.Sink.{appended, AppendsFront}
 use Rattle.ltm_scenario.specs.Data.{ScenarioData}
