@@ -21,6 +21,8 @@ mod replays;
 #[cfg(test)]
 mod roads;
 #[cfg(test)]
+mod signs;
+#[cfg(test)]
 mod stages;
 #[cfg(test)]
 mod threads;
