@@ -1,14 +1,11 @@
 -- The node step by shares.
-use Rattle.std.proofs.Common.{◌≡◌, ℕ, ◌+◌, ◌*◌, ◌/◌, ◌<◌, List, ◌++◌, length, length-append, max, arith, refl, ap}
+use Rattle.std.proofs.Common.{◌≡◌, ℕ, ◌+◌, ◌*◌, List, ◌++◌, length, length-append, arith, refl}
 use Rattle.ltm_curve.specs.First.{list_below}
 use Rattle.ltm_curve.proofs.Lists.{length-list_below}
-use Rattle.ltm_shares.specs.Shares.{AreShares, HeldBackBy}
-use Rattle.ltm_node.specs.Inputs.{Inputs, capacity, left, entered, arrived}
+use Rattle.ltm_node.specs.Inputs.{Inputs, left, entered, arrived}
 use Rattle.ltm_node.specs.Outputs.{Outputs}
-use Rattle.ltm_node.specs.Demands.{sent, sent_into, priority, demands}
-use Rattle.ltm_node.specs.Moving.{priority_or_more, filled_demands}
+use Rattle.ltm_node.specs.Moving.{filled_demands}
 use Rattle.ltm_node.specs.Step.{gone, come, sunk_in_all, MovesAtShares}
-use Rattle.ltm_node.proofs.Ranges.{sent_into_le}
 use Rattle.ltm_node.proofs.Demanded.{filled_small, shares_filled}
 use Rattle.ltm_loading.specs.Pairs.{grid}
 use Rattle.ltm_loading.proofs.Rows.{HasCounts, counted, has_counts, length-grid}
