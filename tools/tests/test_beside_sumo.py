@@ -86,7 +86,7 @@ def release() -> str:
 
 
 @needs_program
-@unittest.skipUnless(release().endswith(" 1.15.0"), "SUMO 1.15.0, which made the town of expected.town, is not there")
+@unittest.skipUnless(release().endswith(" 1.15.0"), "SUMO 1.15.0, which made the town of town.out, is not there")
 class Town(FolderTest):
     def test_its_report_without_signals_is_that_of_another_engine(self) -> None:
         tools = EXAMPLES.parent / "tools" / "ltm-tools"
@@ -99,7 +99,7 @@ class Town(FolderTest):
         self.assertEqual(header.split(",")[3:], ["signals"])
         setup.write_text(header.removesuffix(",signals") + "\n" + row.removesuffix(",1") + "\n")
         told = subprocess.run([str(BUILT), "load"], cwd=self.folder / "case", capture_output=True, text=True)
-        self.assertEqual(told.stdout, (EXAMPLES / "from_sumo" / "expected.town").read_text())
+        self.assertEqual(told.stdout, (EXAMPLES / "from_sumo" / "town.out").read_text())
 
 
 if __name__ == "__main__":
