@@ -12,3 +12,4 @@ mod Telling
 mod Cutting
 mod Reaching
 mod Rest
+mod Copying

@@ -1,5 +1,5 @@
 -- The records of a file up to a place.
-use Rattle.std.proofs.Common.{◌≡◌, ℕ, suc, ◌+◌, ◌-◌, ◌<◌, ◌≤◌, ◌≢◌, true, false, List, [], ◌∷◌, ◌++◌, length, take, drop, slice_index, Some, None, inl, inr, refl, sym, ap, subst, ◌∙◌, arith, append_assoc, length-take, take-append-drop, length-append, Err, ◌⊎◌}
+use Rattle.std.proofs.Common.{◌≡◌, ℕ, suc, ◌+◌, ◌-◌, ◌<◌, ◌≤◌, ◌≢◌, List, [], ◌∷◌, ◌++◌, length, take, drop, slice_index, Some, None, inl, inr, refl, sym, ap, subst, ◌∙◌, arith, append_assoc, length-take, take-append-drop, length-append, Err, ◌⊎◌}
 use Rattle.std.specs.Prelude.{slice_get}
 use Rattle.std.proofs.lemmas.Grind.{common_steps}
 use Rattle.std.proofs.lemmas.List.{append-nil, drop_more, get_or-take}
@@ -10,7 +10,7 @@ use Rattle.ltm_records.specs.Left.{records_of}
 use Rattle.ltm_setting.specs.Setting.{setting_of}
 use Rattle.ltm_loading.specs.Shaped.{IsShaped}
 use Rattle.ltm_check.specs.declared.faults.CurvesCause.{CurvesCause}
-use Rattle.ltm_check.specs.declared.faults.CurvesCause.TheVariants.{Header, Rows}
+use Rattle.ltm_check.specs.declared.faults.CurvesCause.TheVariants.{Rows}
 use Rattle.ltm_check.specs.declared.faults.CurvesFault.{CurvesFault}
 use Rattle.ltm_check.specs.declared.faults.CurvesFault.TheVariants.{Bad}
 use Rattle.ltm_check.specs.declared.faults.FileFault.{FileFault}

@@ -3,13 +3,13 @@ use Rattle.std.proofs.Common.{ℕ, ◌≡◌, ◌≢◌, ◌+◌, ◌<◌, ◌�
 use Rattle.std.specs.List.{slice_split}
 use Rattle.std.proofs.lemmas.Grind.{common_steps}
 use Rattle.std.proofs.lemmas.Bool.{cases_lt}
-use Rattle.std.proofs.lemmas.List.{append-nil, get_or_push, get_or_append_left}
+use Rattle.std.proofs.lemmas.List.{get_or_push, get_or_append_left}
 use Rattle.std.proofs.lemmas.List.Splits.{length-slice_split}
 use Rattle.ltm_curve.specs.Table.{counts_of, groups_of, slots_of, destinations_of, SameShape, IsIn, Sets}
 use Rattle.ltm_curve.specs.declared.curves.Curves.{Curves}
 use Rattle.ltm_records.specs.Pieces.{is_space, pieces_behind}
 use Rattle.ltm_check.specs.CountsTold.{count_told, onto, each_told, if_many, counts_told}
-use Rattle.ltm_check.specs.Kept.{kept, PutsCounts}
+use Rattle.ltm_check.specs.Kept.{kept}
 
 -- some counts and those that follow them, where those are counts
 abbrev pub before : List ℕ → Option (List ℕ) → Option (List ℕ)

@@ -7,5 +7,7 @@ pub mod Moves
 pub mod Pieces
 pub mod Verdict
 pub mod Text
+pub mod Window
+pub mod Seen
 pub mod Passing
 pub mod ReadBack

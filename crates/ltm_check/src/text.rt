@@ -1,15 +1,16 @@
 //! The lines of a curve file.
 ghost use Rattle.std.specs.Prelude.{◌≡◌, ◌++◌, ◌<◌, ◌≤◌, ◌+◌, OnOk};
 ghost use Rattle.std.specs.Fmt.{decimal};
-ghost use Rattle.ltm_curve.specs.Table.{counts_of, groups_of, destinations_of, slots_of};
+ghost use Rattle.ltm_curve.specs.Table.{counts_of, destinations_of, slots_of};
 ghost use Rattle.ltm_loading.specs.Groups.{groups};
 ghost use Rattle.ltm_setting.specs.Setting.{setting_of};
 ghost use Rattle.ltm_loading.specs.Shaped.{IsShaped};
 ghost use Rattle.ltm_units.specs.Texts.{texts_below};
+ghost use Rattle.ltm_check.specs.Seen.{curves_of, IsSeen};
 ghost use Rattle.ltm_check.specs.Text.{further_count, counts_text, due_text, record_text, header_text};
 
 use crate::due::{kind_of, name_of, name_of_destination};
-use ltm_curve::Curves;
+use crate::window::Window;
 use ltm_scenario::Scenario;
 use ltm_units::{NoMemory, push_number, push_text};
 
@@ -29,38 +30,38 @@ fn push_further(into: &mut Vec<u8>, count: u64) -> Result<(), NoMemory>
 
 /// Appends the counts of a group and a destination at the boundaries behind the first.
 fn push_further_counts(
-    curves: &Curves,
+    window: &Window,
     group: u32,
     destination: u32,
     into: &mut Vec<u8>,
 ) -> Result<(), NoMemory>
-    requires group { group < groups_of curves.now }
-    requires destination { destination < destinations_of curves.now }
+    requires group { IsSeen window.now group }
+    requires destination { destination < destinations_of (curves_of window.now) }
     ensures { OnOk result (into.new.items ≡ into.old.items
-        ++ texts_below (slots_of curves.now)
-        (λ k. further_count (counts_of curves.now group destination (k + 1)))) }
+        ++ texts_below (slots_of (curves_of window.now))
+        (λ k. further_count (counts_of (curves_of window.now) group destination (k + 1)))) }
 {
-    for slot in 0..curves.slots() {
-        push_further(into, curves.get(group, destination, slot + 1))?;
+    for slot in 0..window.slots() {
+        push_further(into, window.get(group, destination, slot + 1))?;
     }
     Ok(())
 }
 
 #[tactic(auto, unfolding(crate::specs::Text::counts_text))]
 fn push_counts(
-    curves: &Curves,
+    window: &Window,
     group: u32,
     destination: u32,
     into: &mut Vec<u8>,
 ) -> Result<(), NoMemory>
-    requires group { group < groups_of curves.now }
-    requires destination { destination < destinations_of curves.now }
+    requires group { IsSeen window.now group }
+    requires destination { destination < destinations_of (curves_of window.now) }
     ensures { OnOk result (into.new.items
-        ≡ into.old.items ++ counts_text (slots_of curves.now)
-        (counts_of curves.now group destination)) }
+        ≡ into.old.items ++ counts_text (slots_of (curves_of window.now))
+        (counts_of (curves_of window.now) group destination)) }
 {
-    push_count(into, curves.get(group, destination, 0))?;
-    push_further_counts(curves, group, destination, into)
+    push_count(into, window.get(group, destination, 0))?;
+    push_further_counts(window, group, destination, into)
 }
 
 #[tactic(auto, unfolding(crate::specs::Text::due_text))]
@@ -87,19 +88,19 @@ fn push_due(
 #[tactic(auto, unfolding(crate::specs::Text::record_text))]
 pub(crate) fn push_record(
     scenario: &Scenario,
-    curves: &Curves,
+    window: &Window,
     group: u32,
     destination: u32,
     into: &mut Vec<u8>,
 ) -> Result<(), NoMemory>
-    requires shape { IsShaped (setting_of scenario.now) curves.now }
-    requires group { group < groups (setting_of scenario.now) }
+    requires shape { IsShaped (setting_of scenario.now) (curves_of window.now) }
+    requires group { IsSeen window.now group }
     requires destination { destination < (setting_of scenario.now).destinations }
-    ensures { OnOk result (into.new.items
-        ≡ into.old.items ++ record_text scenario.now (counts_of curves.now) group destination) }
+    ensures { OnOk result (into.new.items ≡ into.old.items
+        ++ record_text scenario.now (counts_of (curves_of window.now)) group destination) }
 {
     push_due(scenario, group, destination, into)?;
-    push_counts(curves, group, destination, into)?;
+    push_counts(window, group, destination, into)?;
     push_text(into, b"\n")
 }
 

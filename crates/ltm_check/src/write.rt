@@ -9,12 +9,14 @@ ghost use Rattle.ltm_loading.specs.Shaped.{IsShaped};
 ghost use Rattle.ltm_units.specs.Texts.{texts_below};
 ghost use Rattle.ltm_check.specs.Text.{record_text, header_text, group_text, curves_file};
 ghost use Rattle.ltm_check.specs.Passing.{Passes};
+ghost use Rattle.ltm_check.specs.Seen.{curves_of, IsSeen};
 
 use crate::text::{push_header, push_record};
+use crate::window::Window;
 use ltm_curve::Curves;
 use ltm_io::{Sink, SinkError, write_all_known};
 use ltm_scenario::Scenario;
-use ltm_setting::{destination_count, slot_count};
+use ltm_setting::{destination_count, group_count, slot_count};
 use ltm_units::NoMemory;
 use std::alloc::Global;
 
@@ -76,26 +78,26 @@ fn write_piece<W: Sink>(output: &mut W, waiting: &mut Vec<u8>) -> Result<(), Sin
 /// Lets the record of a group and a destination wait, and writes what waits where it is a piece.
 fn put_record<W: Sink>(
     scenario: &Scenario,
-    curves: &Curves,
+    window: &Window,
     group: u32,
     destination: u32,
     output: &mut W,
     waiting: &mut Vec<u8>,
 ) -> Result<(), SinkError>
-    requires shape { IsShaped (setting_of scenario.now) curves.now }
-    requires group { group < groups (setting_of scenario.now) }
+    requires shape { IsShaped (setting_of scenario.now) (curves_of window.now) }
+    requires group { IsSeen window.now group }
     requires destination { destination < (setting_of scenario.now).destinations }
     ensures ok { OnOk result (Passes (waiting.old.items
-        ++ record_text scenario.now (counts_of curves.now) group destination)
+        ++ record_text scenario.now (counts_of (curves_of window.now)) group destination)
         (W.written output.old) (W.written output.new) waiting.new.items) }
     ensures err { OnErr result (AppendsFront (W.written output.old) (W.written output.new)
         (waiting.old.items
-        ++ record_text scenario.now (counts_of curves.now) group destination)) }
+        ++ record_text scenario.now (counts_of (curves_of window.now)) group destination)) }
     ensures later { W.faults output.old ≤ W.faults output.new }
     ensures cause { IsErrOf result SinkError.WriteFault
         → Rose (W.faults output.old) (W.faults output.new) }
 {
-    match push_record(scenario, curves, group, destination, waiting) {
+    match push_record(scenario, window, group, destination, waiting) {
         Ok(()) => return write_piece(output, waiting),
         Err(_) => return Err(SinkError::NoMemory),
     }
@@ -103,58 +105,87 @@ fn put_record<W: Sink>(
 
 /// The same of the records of a group, one for each destination.
 #[tactic(auto, unfolding(crate::specs::Text::group_text))]
-fn put_group<W: Sink>(
+fn put_records<W: Sink>(
     scenario: &Scenario,
-    curves: &Curves,
+    window: &Window,
     group: u32,
     output: &mut W,
     waiting: &mut Vec<u8>,
 ) -> Result<(), SinkError>
-    requires shape { IsShaped (setting_of scenario.now) curves.now }
-    requires group { group < groups (setting_of scenario.now) }
+    requires shape { IsShaped (setting_of scenario.now) (curves_of window.now) }
+    requires group { IsSeen window.now group }
     ensures ok { OnOk result (Passes (waiting.old.items
-        ++ group_text scenario.now (counts_of curves.now) group)
+        ++ group_text scenario.now (counts_of (curves_of window.now)) group)
         (W.written output.old) (W.written output.new) waiting.new.items) }
     ensures err { OnErr result (AppendsFront (W.written output.old) (W.written output.new)
-        (waiting.old.items ++ group_text scenario.now (counts_of curves.now) group)) }
+        (waiting.old.items
+        ++ group_text scenario.now (counts_of (curves_of window.now)) group)) }
     ensures later { W.faults output.old ≤ W.faults output.new }
     ensures cause { IsErrOf result SinkError.WriteFault
         → Rose (W.faults output.old) (W.faults output.new) }
 {
     for destination in 0..destination_count(scenario) {
-        put_record(scenario, curves, group, destination, output, waiting)?;
+        put_record(scenario, window, group, destination, output, waiting)?;
     }
     Ok(())
+}
+
+/// The same, with the window moved to the group.
+fn put_group<W: Sink>(
+    scenario: &Scenario,
+    window: &mut Window,
+    group: u32,
+    output: &mut W,
+    waiting: &mut Vec<u8>,
+) -> Result<(), SinkError>
+    requires shape { IsShaped (setting_of scenario.now) (curves_of window.old) }
+    requires group { group < groups (setting_of scenario.now) }
+    ensures same { curves_of window.new ≡ curves_of window.old }
+    ensures ok { OnOk result (Passes (waiting.old.items
+        ++ group_text scenario.now (counts_of (curves_of window.old)) group)
+        (W.written output.old) (W.written output.new) waiting.new.items) }
+    ensures err { OnErr result (AppendsFront (W.written output.old) (W.written output.new)
+        (waiting.old.items
+        ++ group_text scenario.now (counts_of (curves_of window.old)) group)) }
+    ensures later { W.faults output.old ≤ W.faults output.new }
+    ensures cause { IsErrOf result SinkError.WriteFault
+        → Rose (W.faults output.old) (W.faults output.new) }
+{
+    match window.move_to(group) {
+        Ok(()) => return put_records(scenario, window, group, output, waiting),
+        Err(_) => return Err(SinkError::NoMemory),
+    }
 }
 
 /// The same of all groups.
 fn put_groups<W: Sink>(
     scenario: &Scenario,
-    curves: &Curves,
+    window: &mut Window,
     output: &mut W,
     waiting: &mut Vec<u8>,
 ) -> Result<(), SinkError>
-    requires { IsShaped (setting_of scenario.now) curves.now }
+    requires { IsShaped (setting_of scenario.now) (curves_of window.old) }
     ensures ok { OnOk result (Passes (waiting.old.items
         ++ texts_below (groups (setting_of scenario.now))
-        (group_text scenario.now (counts_of curves.now)))
+        (group_text scenario.now (counts_of (curves_of window.old))))
         (W.written output.old) (W.written output.new) waiting.new.items) }
     ensures err { OnErr result (AppendsFront (W.written output.old) (W.written output.new)
         (waiting.old.items ++ texts_below (groups (setting_of scenario.now))
-        (group_text scenario.now (counts_of curves.now)))) }
+        (group_text scenario.now (counts_of (curves_of window.old))))) }
     ensures later { W.faults output.old ≤ W.faults output.new }
     ensures cause { IsErrOf result SinkError.WriteFault
         → Rose (W.faults output.old) (W.faults output.new) }
 {
-    for group in 0..curves.groups() {
-        put_group(scenario, curves, group, output, waiting)?;
+    for group in 0..group_count(scenario) {
+        put_group(scenario, window, group, output, waiting)?;
     }
     Ok(())
 }
 
 /// Writes curves of a scenario's shape as a curve file, as `read_curves` reads it, in pieces of some 64 KiB and a record.
 ///
-/// The memory for a piece is taken before the first byte is written. With an error a front of the file was written.
+/// The memory for a piece, and for the counts of a few groups, is taken before the first byte is written. With an error a
+/// front of the file was written.
 #[tactic(auto, unfolding(crate::specs::Text::curves_file))]
 pub fn write_curves<W: Sink>(
     alloc: Global,
@@ -174,6 +205,9 @@ pub fn write_curves<W: Sink>(
     let Ok(mut waiting) = opening(alloc, scenario) else {
         return Err(SinkError::NoMemory);
     };
-    put_groups(scenario, curves, output, &mut waiting)?;
+    let Ok(mut window) = Window::create(alloc, curves) else {
+        return Err(SinkError::NoMemory);
+    };
+    put_groups(scenario, &mut window, output, &mut waiting)?;
     write_out(output, &mut waiting)
 }
