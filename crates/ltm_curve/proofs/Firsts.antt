@@ -180,3 +180,7 @@ alone m rows n last xs h e long d l =
 -- the last boundary with at most so many units has at most so many
 pub end_within : (m : ℕ) (rows : ℕ → ℕ → ℕ) (n last k : ℕ) → IsPart m rows n last → k ≡ last_within (total m rows) n last → total m rows k ≤ n
 end_within m rows n last k h e = omega (arith, (end_is_last m rows n last h).within, ap (total m rows) e)
+
+-- and is not above the last one that is looked at
+pub end_below : (m : ℕ) (rows : ℕ → ℕ → ℕ) (n last k : ℕ) → IsPart m rows n last → k ≡ last_within (total m rows) n last → k ≤ last
+end_below m rows n last k h e = omega (arith, (end_is_last m rows n last h).below, e)

@@ -4,6 +4,7 @@ pub mod Totals
 pub mod First
 pub mod FirstLaws
 pub mod Table
+pub mod FirstOf
 pub mod CurveLaws
 pub mod MarkedCount
 pub mod Cells

@@ -11,6 +11,16 @@ use crate::curves::Curves;
 use crate::group::Group;
 use crate::rows::Rows;
 
+/// The first units that entered a group: how many, in thousandths of a vehicle, a boundary by which all of them had entered,
+/// and the last one not above it at which no more had.
+#[derive(Clone, Copy)]
+pub struct FirstUnits {
+    pub group: u32,
+    pub count: u64,
+    pub last: u32,
+    pub end: u32,
+}
+
 /// Two boundaries round the last one that has at most n units and is not above `last`: found by steps back from `last`
 /// that double.
 fn bracket<R: Rows>(rows: &R, n: u64, last: u32) -> (u32, u32)
@@ -115,6 +125,7 @@ fn first_less_at<R: Rows>(rows: &R, n: u64, last: u32, end: u32, less: &[u32], i
 
 impl Curves {
     ghost use Rattle.ltm_curve.specs.Table.{groups_of, destinations_of, slots_of, counts_of, total_of};
+    ghost use Rattle.ltm_curve.specs.FirstOf.{AreFirst};
 
     /// Writes what each destination has of the first n units of a group, in the order in which they entered: all that
     /// entered by the last boundary at which n were not yet passed, and of the units of the slot after it the part that
@@ -167,76 +178,65 @@ impl Curves {
         first_less_of(&rows, n, last, self.row(less, boundary), into);
     }
 
-    /// The same where there are several destinations and the last boundary at which n were not yet passed is known.
-    pub fn first_less_from(
-        &self,
-        group: u32,
-        n: u64,
-        last: u32,
-        end: u32,
-        less: u32,
-        boundary: u32,
-        into: &mut [u64],
-    )
+    /// The same where there are several destinations and the boundary at which the units end is known.
+    pub fn first_less_from(&self, units: FirstUnits, less: u32, boundary: u32, into: &mut [u64])
         requires several { 2 ≤ destinations_of self.now }
-        requires group { group < groups_of self.now }
-        requires last { last ≤ slots_of self.now }
-        requires part { IsPart (destinations_of self.now) (counts_of self.now group) n last }
-        requires end { end ≡ last_within (total_of self.now group) n last }
-        requires below { end ≤ last }
+        requires units { AreFirst self.now units }
         requires less { less < groups_of self.now }
         requires boundary { boundary ≤ slots_of self.now }
         requires behind { (d : ℕ) → d < destinations_of self.now
             → counts_of self.now less d boundary
-            ≤ first_units (destinations_of self.now) (counts_of self.now group) n last d }
+            ≤ first_units (destinations_of self.now)
+            (counts_of self.now units.group) units.count units.last d }
         requires room { length into.old ≡ destinations_of self.now }
         ensures { (d : ℕ) → d < destinations_of self.now → slice_index into.new d
             ≡ first_units (destinations_of self.now)
-            (counts_of self.now group) n last d - counts_of self.now less d boundary }
+            (counts_of self.now units.group) units.count units.last d
+            - counts_of self.now less d boundary }
     {
-        let _last = last;
+        let FirstUnits {
+            group,
+            count,
+            last,
+            end,
+        } = units;
         let rows = Group {
             curves: self,
             group,
         };
-        first_less_at(&rows, n, last, end, self.row(less, boundary), into);
+        first_less_at(&rows, count, last, end, self.row(less, boundary), into);
     }
 
     /// The same of two destinations, without a loop.
     #[inline]
-    pub fn first_less_two(
-        &self,
-        group: u32,
-        n: u64,
-        last: u32,
-        end: u32,
-        less: u32,
-        boundary: u32,
-        into: &mut [u64],
-    )
+    pub fn first_less_two(&self, units: FirstUnits, less: u32, boundary: u32, into: &mut [u64])
         requires two { destinations_of self.now ≡ 2 }
-        requires group { group < groups_of self.now }
-        requires last { last ≤ slots_of self.now }
-        requires part { IsPart (destinations_of self.now) (counts_of self.now group) n last }
-        requires end { end ≡ last_within (total_of self.now group) n last }
-        requires below { end ≤ last }
+        requires units { AreFirst self.now units }
         requires less { less < groups_of self.now }
         requires boundary { boundary ≤ slots_of self.now }
         requires behind { (d : ℕ) → d < destinations_of self.now
             → counts_of self.now less d boundary
-            ≤ first_units (destinations_of self.now) (counts_of self.now group) n last d }
+            ≤ first_units (destinations_of self.now)
+            (counts_of self.now units.group) units.count units.last d }
         requires room { length into.old ≡ destinations_of self.now }
         ensures { (d : ℕ) → d < destinations_of self.now → slice_index into.new d
             ≡ first_units (destinations_of self.now)
-            (counts_of self.now group) n last d - counts_of self.now less d boundary }
+            (counts_of self.now units.group) units.count units.last d
+            - counts_of self.now less d boundary }
     {
+        let FirstUnits {
+            group,
+            count,
+            last,
+            end,
+        } = units;
         let rows = Group {
             curves: self,
             group,
         };
-        let part = n - self.kept_total(group, end);
+        let part = count - self.kept_total(group, end);
         let gone = self.row(less, boundary);
-        rows.write_first_two(n, last, end, part, gone, into);
+        rows.write_first_two(count, last, end, part, gone, into);
     }
 
     /// The greatest boundary not above `last` at which a group has at most n units; 0 where there is none. The totals may

@@ -23,7 +23,7 @@ mod times;
 mod total_curves;
 
 pub use changed::Changed;
-pub use composition::first_less_of;
+pub use composition::{FirstUnits, first_less_of};
 pub use curves::Curves;
 pub use kind::{Alone, Any, Kind, Several, Two};
 pub use laws::{
