@@ -3,12 +3,17 @@ use Rattle.std.proofs.Common.{◌≡◌, ℕ, ◌+◌, ◌-◌, ◌<◌, ◌≤�
 use Rattle.ltm_units.specs.Sums.{sum_below}
 use Rattle.ltm_curve.specs.Counts.{Counts, total, Rises}
 use Rattle.ltm_curve.specs.First.{first_units, last_within}
+use Rattle.ltm_curve.specs.FirstLaws.{IsPart}
+use Rattle.ltm_curve.specs.FirstOf.{AreFirst}
+use Rattle.ltm_curve.specs.Table.{destinations_of, counts_of}
+use Rattle.ltm_curve.specs.declared.curves.Curves.{Curves}
 use Rattle.ltm_curve.proofs.Interpolation.{rises_le}
 use Rattle.ltm_curve.proofs.Lasts.{total_rises}
 use Rattle.ltm_loading.specs.Setting.{Setting, IsSetting}
 use Rattle.ltm_loading.specs.Groups.{up_of, down_of}
 use Rattle.ltm_loading.specs.Flows.{earlier, limited, link_goal, link_first, link_sending, position, receiving}
 use Rattle.ltm_loading.specs.Ready.{IsLinkReady}
+use Rattle.ltm_sending.specs.Front.{IsAtFront}
 use Rattle.ltm_sending.specs.MayLeave.{rest_of, MayLeave, WaitOnLink}
 use Rattle.ltm_sending.proofs.Lasts.{last_by}
 use Rattle.ltm_sending.proofs.Waiting.{may_leave_by, first_by, none_rests, one_rests, rest_within, nothing_limited, whole_limited}
@@ -139,7 +144,7 @@ receives s c l t ago entered storage capacity entry room least out has e f g h k
     ∙ ap (min (s.capacity l)) (h ∙ (ap (λ (z : ℕ). min z room) f ∙ ap (min (s.entry_limit l t)) (g ∙ has.takes))))
 
 -- where the units that wait end, from the position of the slot
-pub end_by : (s : Setting) (c : Counts) (l t m up : ℕ) (goal by left at end : ℕ) → IsLinkReady s c l t → m ≡ s.destinations → WaitOnLink s c l t m goal by left → up ≡ up_of l → at ≡ position s c l t → end ≡ min at by →
+end_by : (s : Setting) (c : Counts) (l t m up : ℕ) (goal by left at end : ℕ) → IsLinkReady s c l t → m ≡ s.destinations → WaitOnLink s c l t m goal by left → up ≡ up_of l → at ≡ position s c l t → end ≡ min at by →
     end ≡ last_within (total m (c up)) goal by
 end_by s c l t m up goal by left at end ready e w is_up is_at is_end =
     let f : ℕ → ℕ = total m (c up) in
@@ -148,3 +153,13 @@ end_by s c l t m up goal by left at end ready e w is_up is_at is_end =
     ∙ (ap (λ (g : ℕ). last_within (total m (c g)) (link_goal s c l t) t) (sym is_up) ∙ ap (λ (z : ℕ). last_within f z t) (sym w.whole)) in
     let start : f 0 ≡ 0 = ap (λ (g : ℕ). total m (c g) 0) is_up ∙ w.leave.part.empty in
     is_end ∙ (ap (λ (z : ℕ). min z by) (is_at ∙ same) ∙ last_by f goal by t (entered_rises s c l t m up ready e is_up) (omega (arith, start)) w.entered)
+
+-- these units are the first that entered the link
+pub are_first : (s : Setting) (c : Curves) (l t up : ℕ) (goal by left at end : ℕ) → IsAtFront s c t → l < s.links → IsLinkReady s (counts_of c) l t → WaitOnLink s (counts_of c) l t (destinations_of c) goal by left →
+    up ≡ up_of l → at ≡ position s (counts_of c) l t → end ≡ min at by → AreFirst c (record { group = up; count = goal; last = by; end = end })
+are_first s c l t up goal by left at end front x ready w is_up is_at is_end = record {
+  group = omega (arith, front.shape.same_groups, is_up, x);
+  last = omega (arith, front.shape.same_slots, front.now, w.entered);
+  part = subst (λ (g : ℕ). IsPart (destinations_of c) (counts_of c g) goal by) (sym is_up) w.leave.part;
+  end = end_by s (counts_of c) l t (destinations_of c) up goal by left at end ready front.shape.same_destinations w is_up is_at is_end;
+}

@@ -2,7 +2,7 @@
 use Rattle.std.proofs.Common.{◌≡◌, ℕ, zero, suc, ◌+◌, ◌-◌, ◌*◌, ◌/◌, ◌<◌, ◌≤◌, true, false, cond, nat_lt, sym, ap, ◌∙◌, arith}
 use Rattle.std.proofs.Math.Nat.{mul-le-mul_right}
 use Rattle.std.proofs.lemmas.Bool.Decides.{nat_tests}
-use Rattle.ltm_curve.specs.Counts.{interpolated, Rises}
+use Rattle.ltm_curve.specs.Counts.{interpolated}
 use Rattle.ltm_curve.proofs.Interpolation.{interpolated_past, interpolated_past_none, part_within}
 use Rattle.ltm_loading.specs.Flows.{earlier}
 

@@ -25,6 +25,15 @@ pub(crate) struct Waiting {
     pub(crate) left: u64,
 }
 
+/// Such units of a link, with the position of the slot for it: where they end is known from there.
+#[derive(Clone, Copy)]
+pub(crate) struct WaitingAt {
+    pub(crate) goal: u64,
+    pub(crate) left: u64,
+    pub(crate) by: u32,
+    pub(crate) at: u32,
+}
+
 /// The units that may leave a link by the end of a slot.
 #[inline]
 pub(crate) fn waiting_on<K: Kind>(

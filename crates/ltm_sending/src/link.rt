@@ -7,9 +7,9 @@ ghost use Rattle.ltm_sending.specs.Front.{IsAtFront};
 ghost use Rattle.ltm_sending.specs.MayLeave.{WaitOnLink};
 
 use crate::ago::total_ago;
-use crate::leaving::{Waiting, position_from, waiting_on};
+use crate::leaving::{Waiting, WaitingAt, position_from, waiting_on};
 use crate::parts::{limit_all, send_none, send_nothing};
-use ltm_curve::{Any, Curves, Kind};
+use ltm_curve::{Any, Curves, FirstUnits, Kind};
 use ltm_loading::{down_of, links_are_ready, up_of};
 use ltm_scenario::Scenario;
 use ltm_setting::{delays, entry_limit, exit_limit, is_setting, limits, link_count, step};
@@ -79,18 +79,16 @@ fn send_parts_at(
     curves: &Curves,
     link: LinkId,
     slot: u32,
-    goal: u64,
-    by: u32,
-    left: u64,
-    at: u32,
+    waiting: WaitingAt,
     into: &mut [u64],
 )
     requires link { link.0 < (setting_of scenario.now).links }
     requires ready { IsAtFront (setting_of scenario.now) curves.now slot }
     requires several { 2 ≤ destinations_of curves.now }
     requires waiting { WaitOnLink (setting_of scenario.now) (counts_of curves.now) link.0 slot
-        (destinations_of curves.now) goal by left }
-    requires position { at ≡ position (setting_of scenario.now) (counts_of curves.now) link.0 slot }
+        (destinations_of curves.now) waiting.goal waiting.by waiting.left }
+    requires position { waiting.at
+        ≡ position (setting_of scenario.now) (counts_of curves.now) link.0 slot }
     requires room { length into.old ≡ (setting_of scenario.now).destinations }
     ensures { (d : ℕ) → d < (setting_of scenario.now).destinations → slice_index into.new d
         ≡ link_sending (setting_of scenario.now) (counts_of curves.now) link.0 slot d }
@@ -98,9 +96,14 @@ fn send_parts_at(
     is_setting(scenario);
     links_are_ready();
     let _links = link_count(scenario);
-    let up = up_of(link);
-    let end = at.min(by);
-    curves.first_less_from(up, goal, by, end, down_of(link), slot, into);
+    let WaitingAt { goal, left, by, at } = waiting;
+    let units = FirstUnits {
+        group: up_of(link),
+        count: goal,
+        last: by,
+        end: at.min(by),
+    };
+    curves.first_less_from(units, down_of(link), slot, into);
     let limit = exit_limit(scenario, link, slot);
     limit_all(limit, goal - left, into);
 }
@@ -112,18 +115,16 @@ fn send_two_at(
     curves: &Curves,
     link: LinkId,
     slot: u32,
-    goal: u64,
-    by: u32,
-    left: u64,
-    at: u32,
+    waiting: WaitingAt,
     into: &mut [u64],
 )
     requires link { link.0 < (setting_of scenario.now).links }
     requires ready { IsAtFront (setting_of scenario.now) curves.now slot }
     requires two { destinations_of curves.now ≡ 2 }
     requires waiting { WaitOnLink (setting_of scenario.now) (counts_of curves.now) link.0 slot
-        (destinations_of curves.now) goal by left }
-    requires position { at ≡ position (setting_of scenario.now) (counts_of curves.now) link.0 slot }
+        (destinations_of curves.now) waiting.goal waiting.by waiting.left }
+    requires position { waiting.at
+        ≡ position (setting_of scenario.now) (counts_of curves.now) link.0 slot }
     requires room { length into.old ≡ (setting_of scenario.now).destinations }
     ensures { (d : ℕ) → d < (setting_of scenario.now).destinations → slice_index into.new d
         ≡ link_sending (setting_of scenario.now) (counts_of curves.now) link.0 slot d }
@@ -131,9 +132,14 @@ fn send_two_at(
     is_setting(scenario);
     links_are_ready();
     let _links = link_count(scenario);
-    let up = up_of(link);
-    let end = by.min(at);
-    curves.first_less_two(up, goal, by, end, down_of(link), slot, into);
+    let WaitingAt { goal, left, by, at } = waiting;
+    let units = FirstUnits {
+        group: up_of(link),
+        count: goal,
+        last: by,
+        end: by.min(at),
+    };
+    curves.first_less_two(units, down_of(link), slot, into);
     let limit = exit_limit(scenario, link, slot);
     limit_all(limit, goal - left, into);
 }
@@ -145,8 +151,7 @@ fn send_waiting_at<K: Kind>(
     curves: &Curves,
     link: LinkId,
     slot: u32,
-    waiting: Waiting,
-    at: u32,
+    waiting: WaitingAt,
     into: &mut [u64],
 )
     requires kind { K.fits (destinations_of curves.now) }
@@ -154,7 +159,8 @@ fn send_waiting_at<K: Kind>(
     requires ready { IsAtFront (setting_of scenario.now) curves.now slot }
     requires waiting { WaitOnLink (setting_of scenario.now) (counts_of curves.now) link.0 slot
         (destinations_of curves.now) waiting.goal waiting.by waiting.left }
-    requires position { at ≡ position (setting_of scenario.now) (counts_of curves.now) link.0 slot }
+    requires position { waiting.at
+        ≡ position (setting_of scenario.now) (counts_of curves.now) link.0 slot }
     requires room { length into.old ≡ (setting_of scenario.now).destinations }
     ensures { (d : ℕ) → d < (setting_of scenario.now).destinations → slice_index into.new d
         ≡ link_sending (setting_of scenario.now) (counts_of curves.now) link.0 slot d }
@@ -168,12 +174,11 @@ fn send_waiting_at<K: Kind>(
         into[0] = whole.min(exit_limit(scenario, link, slot));
         return;
     }
-    let Waiting { goal, by, left } = waiting;
     if K::is_two(curves) {
-        send_two_at(scenario, curves, link, slot, goal, by, left, at, into);
+        send_two_at(scenario, curves, link, slot, waiting, into);
         return;
     }
-    send_parts_at(scenario, curves, link, slot, goal, by, left, at, into);
+    send_parts_at(scenario, curves, link, slot, waiting, into);
 }
 
 /// Writes what a link sends of each destination in a slot: of the units that entered it at least its free-flow time ago,
@@ -214,7 +219,9 @@ pub fn link_sends<K: Kind>(
     is_setting(scenario);
     let waiting = waiting_on::<K>(scenario, curves, link, slot);
     let at = position_from::<K>(scenario, curves, link, slot, waiting);
-    send_waiting_at::<K>(scenario, curves, link, slot, waiting, at, into);
+    let Waiting { goal, by, left } = waiting;
+    let waiting = WaitingAt { goal, left, by, at };
+    send_waiting_at::<K>(scenario, curves, link, slot, waiting, into);
     at
 }
 
