@@ -2,7 +2,7 @@
 use Rattle.std.proofs.Common.{append_assoc, length-append, set, inl, inr, ◌≡◌, ℕ, ◌+◌, ◌*◌, ◌/◌, ◌%◌, ◌<◌, ◌≤◌, List, [], ◌∷◌, ◌++◌, length, take, slice_index, arith, ap, sym, ◌∙◌}
 use Rattle.std.proofs.Math.Nat.{mul-le-mul_left}
 use Rattle.std.proofs.lemmas.Bool.{cases_eq}
-use Rattle.std.proofs.lemmas.List.{take_all, take_at, length-take-le, append-nil, get_or-set_other, get_or-set_same}
+use Rattle.std.proofs.lemmas.List.{take_at, length-take-le, append-nil, get_or-set_other, get_or-set_same}
 use borrow.Rule.Slice.PartMut.{put_mid, post_of}
 use Rattle.ltm_curve.specs.First.{list_below}
 use Rattle.ltm_curve.proofs.Lists.{length-list_below}

@@ -1,7 +1,6 @@
 pub mod Lists
 pub mod Filling
 pub mod Arms
-pub mod Widths
 pub mod Whole
 pub mod Idle
 pub mod Joined

@@ -1,9 +1,8 @@
 -- Lists and tables of the numbers of a function, joined and compared.
-use Rattle.std.proofs.Common.{append_assoc, slice_index, ◌≡◌, ℕ, ◌+◌, ◌-◌, ◌*◌, ◌/◌, ◌%◌, ◌<◌, List, ◌++◌, length, length-append, replicate, arith, inl, inr, ap, sym, ◌∙◌}
+use Rattle.std.proofs.Common.{append_assoc, slice_index, ◌≡◌, ℕ, ◌+◌, ◌-◌, ◌*◌, ◌/◌, ◌%◌, ◌<◌, List, ◌++◌, length, length-append, arith, inl, inr, ap, sym, ◌∙◌}
 use Rattle.std.proofs.Math.Nat.{mul-le-mul_left}
 use Rattle.std.proofs.lemmas.Bool.{cases_lt}
 use Rattle.std.proofs.lemmas.Nat.{div-mul-add, mod-mul-add, div_below, mod_below}
-use Rattle.std.proofs.lemmas.List.{get_or-replicate, length-replicate}
 use Rattle.ltm_curve.specs.First.{list_below}
 use Rattle.ltm_curve.proofs.Lists.{length-list_below, index-list_below, list_from}
 use Rattle.ltm_loading.specs.Pairs.{grid}
@@ -42,11 +41,6 @@ grid-same n w f g same =
     list_below-same (n * w) (λ k. f (k / w) (k % w)) (λ k. g (k / w) (k % w))
     (λ k l. let some : 0 < w = elim (cases_lt 0 w) [ inl some ↦ some | inr none ↦ absurd (omega (arith, mul-le-mul_left n none)) ] in
     same (k / w) (k % w) (div_below k w n some l) (mod_below k w some))
-
--- a list of zeros
-pub zeros : (n : ℕ) (f : ℕ → ℕ) → ((k : ℕ) → f k ≡ 0) → replicate n 0 ≡ list_below n f
-zeros n f none =
-    list_from n f (replicate n 0) (length-replicate n 0) (λ k l. get_or-replicate n k 0 0 l ∙ sym (none k))
 
 -- zeros are three tables of zeros, and what comes behind them
 pub zeros_joined : (a o : ℕ) (xs rest : List ℕ) → length xs ≡ a + o + 1 → ((k : ℕ) → k < length xs → slice_index xs k ≡ 0) →

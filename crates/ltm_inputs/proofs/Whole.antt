@@ -1,42 +1,16 @@
 -- The parts of a pair's row, joined.
-use Rattle.std.proofs.Common.{◌≤◌, ◌≡◌, ℕ, ◌*◌, List, ◌++◌, length, length-append, take, drop, arith, ap, sym, subst, ◌∙◌}
+use Rattle.std.proofs.Common.{◌≤◌, ◌≡◌, ℕ, List, length, take, drop, ap, sym, subst, ◌∙◌}
 use Rattle.std.proofs.lemmas.List.{take-append-le}
 use Rattle.ltm_curve.specs.Counts.{Counts}
-use Rattle.ltm_curve.proofs.Lists.{length-list_below}
 use Rattle.ltm_node.specs.declared.shape.NodeShape.{NodeShape}
 use Rattle.ltm_node.specs.Shape.{width}
 use Rattle.ltm_node.specs.Inputs.{Inputs}
 use Rattle.ltm_node.specs.Lending.{with_numbers}
 use Rattle.ltm_node.specs.Solvable.{IsSolvable}
 use Rattle.ltm_loading.specs.Setting.{Setting}
-use Rattle.ltm_loading.specs.Groups.{up_of}
-use Rattle.ltm_loading.specs.Flows.{receiving}
-use Rattle.ltm_loading.specs.Pairs.{arms_of, shape_at, sending, arm_group, arm_capacity, arrived_by, pair_row, pair_inputs}
+use Rattle.ltm_loading.specs.Pairs.{shape_at, pair_row, pair_inputs}
 use Rattle.ltm_loading.specs.NextPair.{IsPairInputs}
 use Rattle.ltm_loading.specs.Uncounted.{uncounted_row, IsUncountedPair}
-use Rattle.ltm_loading.proofs.Rows.{length-grid}
-use Rattle.ltm_inputs.specs.Parts.{sending_part, left_part, entered_part, arrived_part, supply_part, capacity_part, weights_part}
-
--- how many numbers each part has
-pub record Sizes (s : Setting) (c : Counts) (u t : ℕ) : Type 0 where
-  pub sends : length (sending_part s c u t) ≡ arms_of s u * s.destinations
-  pub left : length (left_part s c u t) ≡ arms_of s u * s.destinations
-  pub entered : length (entered_part s c u t) ≡ s.outs u * s.destinations
-  pub arrived : length (arrived_part s c u t) ≡ 1
-  pub supply : length (supply_part s c u t) ≡ s.outs u
-  pub capacity : length (capacity_part s u) ≡ arms_of s u
-  pub weights : length (weights_part s u t) ≡ s.destinations * s.outs u
-
-pub sizes : (s : Setting) (c : Counts) (u t : ℕ) → Sizes s c u t
-sizes s c u t = record {
-  sends = length-grid (arms_of s u) s.destinations (sending s c u t);
-  left = length-grid (arms_of s u) s.destinations (λ i d. c (arm_group s u i) d t);
-  entered = length-grid (s.outs u) s.destinations (λ j d. c (up_of (s.out_link u j)) d t);
-  arrived = length-list_below 1 (λ k. arrived_by s c (s.own u) t);
-  supply = length-list_below (s.outs u) (λ j. receiving s c (s.out_link u j) t);
-  capacity = length-list_below (arms_of s u) (arm_capacity s u);
-  weights = length-grid s.destinations (s.outs u) (λ d j. s.weight u d t j);
-}
 
 -- what is written over a room with this row at its front is that row
 pub written_row : (s : Setting) (c : Counts) (u t : ℕ) (old new : Inputs) (numbers : List ℕ) → old.shape ≡ shape_at s u → new ≡ with_numbers old numbers → width old.shape ≤ length numbers → take (width old.shape) numbers ≡ pair_row s c u t →

@@ -6,128 +6,134 @@ ghost use Rattle.ltm_setting.specs.Setting.{setting_of};
 ghost use Rattle.ltm_sending.specs.Front.{IsAtFront};
 ghost use Rattle.ltm_inputs.specs.Parts.{sending_part, supply_part, capacity_part, limit_parts, ArePositions};
 
-use crate::sending::{put_arms, put_supply_of};
+use crate::sending::{Front, put_arms, put_supply_of};
 use crate::weights::put_weights;
-use ltm_curve::{Alone, Any, Curves, Kind, Several, Two};
+use ltm_curve::{Alone, Any, Kind, Several, Two};
 use ltm_node::NodeShape;
-use ltm_scenario::Scenario;
 use ltm_units::Pair;
 
 /// Writes what each arm of a node sends, the positions of its in-links, what its out-links can take, and the capacities of
 /// its arms, for curves of a kind.
 #[inline]
 fn put_flows_of<K: Kind>(
-    scenario: &Scenario,
-    curves: &Curves,
+    front: Front,
     pair: Pair,
     sending: &mut [u64],
     positions: &mut [u32],
     supply: &mut [u64],
     capacity: &mut [u64],
 )
-    requires kind { K.fits (destinations_of curves.now) }
-    requires node { pair.node.0 < (setting_of scenario.now).nodes }
-    requires ready { IsAtFront (setting_of scenario.now) curves.now pair.slot }
+    requires kind { K.fits (destinations_of front.curves.now) }
+    requires node { pair.node.0 < (setting_of front.scenario.now).nodes }
+    requires ready { IsAtFront (setting_of front.scenario.now) front.curves.now pair.slot }
     requires few_outs { length supply.old ≤ 4 }
     requires room { length sending.old
-        ≡ arms_of (setting_of scenario.now) pair.node.0 * (setting_of scenario.now).destinations }
-    requires places { (setting_of scenario.now).ins pair.node.0 ≤ length positions.old }
-    requires outs { length supply.old ≡ (setting_of scenario.now).outs pair.node.0 }
-    requires arms { length capacity.old ≡ arms_of (setting_of scenario.now) pair.node.0 }
+        ≡ arms_of (setting_of front.scenario.now) pair.node.0
+        * (setting_of front.scenario.now).destinations }
+    requires places { (setting_of front.scenario.now).ins pair.node.0 ≤ length positions.old }
+    requires outs { length supply.old ≡ (setting_of front.scenario.now).outs pair.node.0 }
+    requires arms { length capacity.old ≡ arms_of (setting_of front.scenario.now) pair.node.0 }
     ensures sends { sending.new
-        ≡ sending_part (setting_of scenario.now) (counts_of curves.now) pair.node.0 pair.slot }
-    ensures positions { ArePositions (setting_of scenario.now)
-        (counts_of curves.now) pair.node.0 pair.slot positions.new }
+        ≡ sending_part (setting_of front.entry.scenario.now)
+        (counts_of front.entry.curves.now) pair.node.0 pair.slot }
+    ensures positions { ArePositions (setting_of front.entry.scenario.now)
+        (counts_of front.entry.curves.now) pair.node.0 pair.slot positions.new }
     ensures supply { supply.new
-        ≡ supply_part (setting_of scenario.now) (counts_of curves.now) pair.node.0 pair.slot }
-    ensures capacities { capacity.new ≡ capacity_part (setting_of scenario.now) pair.node.0 }
+        ≡ supply_part (setting_of front.entry.scenario.now)
+        (counts_of front.entry.curves.now) pair.node.0 pair.slot }
+    ensures capacities { capacity.new ≡ capacity_part (setting_of front.entry.scenario.now)
+        pair.node.0 }
 {
     put_arms::<K>(
-        scenario,
-        curves,
+        front,
         pair,
         supply.len() as u32,
         sending,
         positions,
         capacity,
     );
-    put_supply_of::<K>(scenario, curves, pair, supply);
+    put_supply_of::<K>(front.scenario, front.curves, pair, supply);
 }
 
 /// The same for any curves: with one destination, with two and with several, each in code of its own.
 #[inline]
 pub(crate) fn put_flows(
-    scenario: &Scenario,
-    curves: &Curves,
+    front: Front,
     pair: Pair,
     sending: &mut [u64],
     positions: &mut [u32],
     supply: &mut [u64],
     capacity: &mut [u64],
 )
-    requires node { pair.node.0 < (setting_of scenario.now).nodes }
-    requires ready { IsAtFront (setting_of scenario.now) curves.now pair.slot }
+    requires node { pair.node.0 < (setting_of front.scenario.now).nodes }
+    requires ready { IsAtFront (setting_of front.scenario.now) front.curves.now pair.slot }
     requires few_outs { length supply.old ≤ 4 }
     requires room { length sending.old
-        ≡ arms_of (setting_of scenario.now) pair.node.0 * (setting_of scenario.now).destinations }
-    requires places { (setting_of scenario.now).ins pair.node.0 ≤ length positions.old }
-    requires outs { length supply.old ≡ (setting_of scenario.now).outs pair.node.0 }
-    requires arms { length capacity.old ≡ arms_of (setting_of scenario.now) pair.node.0 }
+        ≡ arms_of (setting_of front.scenario.now) pair.node.0
+        * (setting_of front.scenario.now).destinations }
+    requires places { (setting_of front.scenario.now).ins pair.node.0 ≤ length positions.old }
+    requires outs { length supply.old ≡ (setting_of front.scenario.now).outs pair.node.0 }
+    requires arms { length capacity.old ≡ arms_of (setting_of front.scenario.now) pair.node.0 }
     ensures sends { sending.new
-        ≡ sending_part (setting_of scenario.now) (counts_of curves.now) pair.node.0 pair.slot }
-    ensures positions { ArePositions (setting_of scenario.now)
-        (counts_of curves.now) pair.node.0 pair.slot positions.new }
+        ≡ sending_part (setting_of front.entry.scenario.now)
+        (counts_of front.entry.curves.now) pair.node.0 pair.slot }
+    ensures positions { ArePositions (setting_of front.entry.scenario.now)
+        (counts_of front.entry.curves.now) pair.node.0 pair.slot positions.new }
     ensures supply { supply.new
-        ≡ supply_part (setting_of scenario.now) (counts_of curves.now) pair.node.0 pair.slot }
-    ensures capacities { capacity.new ≡ capacity_part (setting_of scenario.now) pair.node.0 }
+        ≡ supply_part (setting_of front.entry.scenario.now)
+        (counts_of front.entry.curves.now) pair.node.0 pair.slot }
+    ensures capacities { capacity.new ≡ capacity_part (setting_of front.entry.scenario.now)
+        pair.node.0 }
 {
-    let destinations = curves.destinations();
+    let destinations = front.curves.destinations();
     if destinations == 1 {
-        put_flows_of::<Alone>(scenario, curves, pair, sending, positions, supply, capacity);
+        put_flows_of::<Alone>(front, pair, sending, positions, supply, capacity);
         return;
     }
     if destinations == 2 {
-        put_flows_of::<Two>(scenario, curves, pair, sending, positions, supply, capacity);
+        put_flows_of::<Two>(front, pair, sending, positions, supply, capacity);
         return;
     }
     if destinations >= 3 {
-        put_flows_of::<Several>(scenario, curves, pair, sending, positions, supply, capacity);
+        put_flows_of::<Several>(front, pair, sending, positions, supply, capacity);
         return;
     }
-    put_flows_of::<Any>(scenario, curves, pair, sending, positions, supply, capacity);
+    put_flows_of::<Any>(front, pair, sending, positions, supply, capacity);
 }
 
 /// Writes what each arm of a node sends and the positions of its in-links, and the numbers of the pair that stand behind all
 /// counts.
 #[inline]
 pub(crate) fn put_flows_and_limits(
-    scenario: &Scenario,
-    curves: &Curves,
+    front: Front,
     pair: Pair,
     shape: NodeShape,
     sending: &mut [u64],
     positions: &mut [u32],
     limits: &mut [u64],
 )
-    requires node { pair.node.0 < (setting_of scenario.now).nodes }
-    requires ready { IsAtFront (setting_of scenario.now) curves.now pair.slot }
-    requires shape { shape ≡ shape_at (setting_of scenario.now) pair.node.0 }
+    requires node { pair.node.0 < (setting_of front.scenario.now).nodes }
+    requires ready { IsAtFront (setting_of front.scenario.now) front.curves.now pair.slot }
+    requires shape { shape ≡ shape_at (setting_of front.scenario.now) pair.node.0 }
     requires few_arms { shape.arms ≤ 5 }
     requires few_outs { shape.outs ≤ 4 }
     requires sending_room { length sending.old
-        ≡ arms_of (setting_of scenario.now) pair.node.0 * (setting_of scenario.now).destinations }
-    requires places { (setting_of scenario.now).ins pair.node.0 ≤ length positions.old }
+        ≡ arms_of (setting_of front.scenario.now) pair.node.0
+        * (setting_of front.scenario.now).destinations }
+    requires places { (setting_of front.scenario.now).ins pair.node.0 ≤ length positions.old }
     requires limits_room { length limits.old
         ≡ shape.outs + (shape.arms + shape.destinations * shape.outs) }
     ensures sends { sending.new
-        ≡ sending_part (setting_of scenario.now) (counts_of curves.now) pair.node.0 pair.slot }
-    ensures positions { ArePositions (setting_of scenario.now)
-        (counts_of curves.now) pair.node.0 pair.slot positions.new }
+        ≡ sending_part (setting_of front.entry.scenario.now)
+        (counts_of front.entry.curves.now) pair.node.0 pair.slot }
+    ensures positions { ArePositions (setting_of front.entry.scenario.now)
+        (counts_of front.entry.curves.now) pair.node.0 pair.slot positions.new }
     ensures limits { limits.new
-        ≡ limit_parts (setting_of scenario.now) (counts_of curves.now) pair.node.0 pair.slot }
+        ≡ limit_parts (setting_of front.entry.scenario.now)
+        (counts_of front.entry.curves.now) pair.node.0 pair.slot }
 {
     let (supply, rest) = limits.split_at_mut(shape.outs as usize);
     let (capacity, weights) = rest.split_at_mut(shape.arms as usize);
-    put_weights(scenario, pair, shape.outs, weights);
-    put_flows(scenario, curves, pair, sending, positions, supply, capacity);
+    put_weights(front.scenario, pair, shape.outs, weights);
+    put_flows(front, pair, sending, positions, supply, capacity);
 }

@@ -13,6 +13,13 @@ use ltm_sending::{link_sends, link_takes, origin_sends, send_link, send_origin};
 use ltm_setting::{destination_count, in_links, limits, origin_capacity, out_links};
 use ltm_units::{LinkId, Pair};
 
+/// What the numbers of pairs are read of: a scenario, and curves that are the front of its loading up to a slot.
+#[derive(Clone, Copy)]
+pub(crate) struct Front<'a> {
+    pub(crate) scenario: &'a Scenario,
+    pub(crate) curves: &'a Curves,
+}
+
 /// Writes what some links send.
 #[inline]
 fn put_links(scenario: &Scenario, curves: &Curves, links: &[LinkId], slot: u32, into: &mut [u64])
@@ -60,31 +67,36 @@ pub(crate) fn put_sending(scenario: &Scenario, curves: &Curves, pair: Pair, into
 /// Writes what some links send, the position of the slot for each, and their capacities.
 #[inline]
 fn put_links_at<K: Kind>(
-    scenario: &Scenario,
-    curves: &Curves,
+    front: Front,
     links: &[LinkId],
     slot: u32,
     into: &mut [u64],
     positions: &mut [u32],
     capacity: &mut [u64],
 )
-    requires kind { K.fits (destinations_of curves.now) }
-    requires ready { IsAtFront (setting_of scenario.now) curves.now slot }
-    requires links { All (λ link. link.0 < (setting_of scenario.now).links) links.now }
+    requires kind { K.fits (destinations_of front.curves.now) }
+    requires ready { IsAtFront (setting_of front.scenario.now) front.curves.now slot }
+    requires links { All (λ link. link.0 < (setting_of front.scenario.now).links) links.now }
     requires few { length links.now ≤ 4 }
-    requires room { length into.old ≡ length links.now * (setting_of scenario.now).destinations }
+    requires room { length into.old
+        ≡ length links.now * (setting_of front.scenario.now).destinations }
     requires places { length links.now ≤ length positions.old }
     requires arms { length links.now ≤ length capacity.old }
-    ensures sends { into.new ≡ grid (length links.now) (setting_of scenario.now).destinations
-        (λ i d. link_sending (setting_of scenario.now) (counts_of curves.now)
+    ensures sends { into.new ≡ grid (length links.now)
+        (setting_of front.entry.scenario.now).destinations
+        (λ i d. link_sending (setting_of front.entry.scenario.now)
+        (counts_of front.entry.curves.now)
         (link_at links.now i) slot d) }
     ensures positions { (i : ℕ) → i < length links.now
         → slice_index positions.new i
-        ≡ position (setting_of scenario.now) (counts_of curves.now) (link_at links.now i) slot }
+        ≡ position (setting_of front.entry.scenario.now)
+        (counts_of front.entry.curves.now) (link_at links.now i) slot }
     ensures below { (i : ℕ) → i < length links.now → slice_index positions.new i ≤ slot }
     ensures capacities { (i : ℕ) → i < length links.now
-        → slice_index capacity.new i ≡ (setting_of scenario.now).capacity (link_at links.now i) }
+        → slice_index capacity.new i
+        ≡ (setting_of front.entry.scenario.now).capacity (link_at links.now i) }
 {
+    let Front { scenario, curves } = front;
     let destinations = K::destinations(curves) as usize;
     let mut place = 0;
     for (arm, link) in links.iter().enumerate() {
@@ -104,34 +116,35 @@ fn put_links_at<K: Kind>(
 /// Writes what each arm of a node sends in a slot, the position of the slot for each in-link, and the capacity of each arm.
 #[inline]
 pub(crate) fn put_arms<K: Kind>(
-    scenario: &Scenario,
-    curves: &Curves,
+    front: Front,
     pair: Pair,
     outs: u32,
     into: &mut [u64],
     positions: &mut [u32],
     capacity: &mut [u64],
 )
-    requires kind { K.fits (destinations_of curves.now) }
-    requires node { pair.node.0 < (setting_of scenario.now).nodes }
-    requires ready { IsAtFront (setting_of scenario.now) curves.now pair.slot }
-    requires outs { outs ≡ (setting_of scenario.now).outs pair.node.0 }
+    requires kind { K.fits (destinations_of front.curves.now) }
+    requires node { pair.node.0 < (setting_of front.scenario.now).nodes }
+    requires ready { IsAtFront (setting_of front.scenario.now) front.curves.now pair.slot }
+    requires outs { outs ≡ (setting_of front.scenario.now).outs pair.node.0 }
     requires room { length into.old
-        ≡ arms_of (setting_of scenario.now) pair.node.0 * (setting_of scenario.now).destinations }
-    requires places { (setting_of scenario.now).ins pair.node.0 ≤ length positions.old }
-    requires arms { length capacity.old ≡ arms_of (setting_of scenario.now) pair.node.0 }
+        ≡ arms_of (setting_of front.scenario.now) pair.node.0
+        * (setting_of front.scenario.now).destinations }
+    requires places { (setting_of front.scenario.now).ins pair.node.0 ≤ length positions.old }
+    requires arms { length capacity.old ≡ arms_of (setting_of front.scenario.now) pair.node.0 }
     ensures sends { into.new
-        ≡ sending_part (setting_of scenario.now) (counts_of curves.now) pair.node.0 pair.slot }
-    ensures positions { ArePositions (setting_of scenario.now)
-        (counts_of curves.now) pair.node.0 pair.slot positions.new }
-    ensures capacities { capacity.new ≡ capacity_part (setting_of scenario.now) pair.node.0 }
+        ≡ sending_part (setting_of front.entry.scenario.now)
+        (counts_of front.entry.curves.now) pair.node.0 pair.slot }
+    ensures positions { ArePositions (setting_of front.entry.scenario.now)
+        (counts_of front.entry.curves.now) pair.node.0 pair.slot positions.new }
+    ensures capacities { capacity.new ≡ capacity_part (setting_of front.entry.scenario.now)
+        pair.node.0 }
 {
+    let Front { scenario, curves } = front;
     let links = in_links(scenario, pair.node);
     let destinations = K::destinations(curves) as usize;
     let (of_links, rest) = into.split_at_mut(links.len() * destinations);
-    put_links_at::<K>(
-        scenario, curves, links, pair.slot, of_links, positions, capacity,
-    );
+    put_links_at::<K>(front, links, pair.slot, of_links, positions, capacity);
     if outs != 0 {
         origin_sends::<K>(scenario, curves, pair.node, pair.slot, rest);
         capacity[links.len()] = origin_capacity(scenario);

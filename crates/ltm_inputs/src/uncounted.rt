@@ -13,7 +13,7 @@ ghost use Rattle.ltm_inputs.specs.Parts.{ArePositions};
 use crate::flows::put_flows_and_limits;
 use crate::numbers::{is_any_sent, put_zeros};
 use crate::row::put_uncounted;
-use crate::sending::put_sending;
+use crate::sending::{Front, put_sending};
 use crate::shapes::shape_of;
 use ltm_curve::Curves;
 use ltm_loading::uncounted_in_range;
@@ -132,7 +132,8 @@ fn put_uncounted_row(
     let (sending, others) = row.split_at_mut(shape.counts_begin());
     let (counts, limits) = others.split_at_mut(shape.counts_width());
     put_zeros(counts);
-    put_flows_and_limits(scenario, curves, pair, shape, sending, positions, limits);
+    let front = Front { scenario, curves };
+    put_flows_and_limits(front, pair, shape, sending, positions, limits);
 }
 
 /// Writes the row of a pair with 0 for each count at the front of a room, and its positions.

@@ -17,8 +17,8 @@ use Rattle.ltm_inputs.proofs.sending.put_arms.Goals as goal
 
 pub returns-then-outs-ne0-clause-sends : goal.returns-then-outs-ne0-clause-sends
 returns-then-outs-ne0-clause-sends g c =
-    let s = setting_of c.args.scenario.now in
-    let counts = counts_of c.args.curves.now in
+    let s = setting_of c.args.front.scenario.now in
+    let counts = counts_of c.args.front.curves.now in
     let links = c.in_links-links.result.now in
     let u = c.args.pair.node.0 in
     let t = c.args.pair.slot in
@@ -39,8 +39,8 @@ returns-then-outs-ne0-clause-sends g c =
 
 pub returns-else-outs-ne0-clause-sends : goal.returns-else-outs-ne0-clause-sends
 returns-else-outs-ne0-clause-sends g c =
-    let s = setting_of c.args.scenario.now in
-    let counts = counts_of c.args.curves.now in
+    let s = setting_of c.args.front.scenario.now in
+    let counts = counts_of c.args.front.curves.now in
     let links = c.in_links-links.result.now in
     let u = c.args.pair.node.0 in
     let t = c.args.pair.slot in
@@ -63,17 +63,17 @@ positions s c u t links xs count same each below = record {
 
 pub returns-then-outs-ne0-clause-positions : goal.returns-then-outs-ne0-clause-positions
 returns-then-outs-ne0-clause-positions g c =
-    positions (setting_of c.args.scenario.now) (counts_of c.args.curves.now) c.args.pair.node.0 c.args.pair.slot c.in_links-links.result.now c.put_links_at.new.positions
+    positions (setting_of c.args.front.scenario.now) (counts_of c.args.front.curves.now) c.args.pair.node.0 c.args.pair.slot c.in_links-links.result.now c.put_links_at.new.positions
     c.in_links-links.ensures.count c.in_links-links.ensures.links c.put_links_at.ensures.positions c.put_links_at.ensures.below
 
 pub returns-else-outs-ne0-clause-positions : goal.returns-else-outs-ne0-clause-positions
 returns-else-outs-ne0-clause-positions g c =
-    positions (setting_of c.args.scenario.now) (counts_of c.args.curves.now) c.args.pair.node.0 c.args.pair.slot c.in_links-links.result.now c.put_links_at.new.positions
+    positions (setting_of c.args.front.scenario.now) (counts_of c.args.front.curves.now) c.args.pair.node.0 c.args.pair.slot c.in_links-links.result.now c.put_links_at.new.positions
     c.in_links-links.ensures.count c.in_links-links.ensures.links c.put_links_at.ensures.positions c.put_links_at.ensures.below
 
 pub returns-then-outs-ne0-clause-capacities : goal.returns-then-outs-ne0-clause-capacities
 returns-then-outs-ne0-clause-capacities g c =
-    let s = setting_of c.args.scenario.now in
+    let s = setting_of c.args.front.scenario.now in
     let links = c.in_links-links.result.now in
     let u = c.args.pair.node.0 in
     let xs : List ℕ = c.put_links_at.new.capacity in
@@ -87,7 +87,7 @@ returns-then-outs-ne0-clause-capacities g c =
 
 pub returns-else-outs-ne0-clause-capacities : goal.returns-else-outs-ne0-clause-capacities
 returns-else-outs-ne0-clause-capacities g c =
-    let s = setting_of c.args.scenario.now in
+    let s = setting_of c.args.front.scenario.now in
     let links = c.in_links-links.result.now in
     let u = c.args.pair.node.0 in
     let xs : List ℕ = c.put_links_at.new.capacity in

@@ -21,8 +21,8 @@ bounded_next xs i v most before l here j less =
 
 pub loop-arm-preserved : goal.loop-arm-preserved
 loop-arm-preserved g c =
-    let s = setting_of c.args.scenario.now in
-    let counts = counts_of c.args.curves.now in
+    let s = setting_of c.args.front.scenario.now in
+    let counts = counts_of c.args.front.curves.now in
     let links = c.args.links.now in
     let i : ℕ = c.loop-arm.arm in
     let wide : c.destinations-destinations.result ≡ s.destinations = omega (arith, c.destinations-destinations.ensures, c.requires.ready.shape.same_destinations) in
