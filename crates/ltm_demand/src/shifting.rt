@@ -1,44 +1,36 @@
 //! A table of units once one amount of a row stands in place of another.
 //!
-//! The numbers of a slot lie side by side, `width` of them. The first is that of all destinations together, and another,
-//! `own` places behind it, that of the row's destination: a row changes these two.
+//! The numbers of a slot lie side by side, `width` of them: first that of all destinations together, then one for each
+//! destination. A row changes two, the first and that of its destination, `own` places behind it.
 ghost use Rattle.std.specs.Prelude.{◌≡◌, ◌≢◌, ℕ, ◌+◌, ◌-◌, ◌*◌, ◌<◌, ◌≤◌, ◌^◌, length, slice_index, slice_set};
 ghost use Rattle.ltm_demand.specs.Produced.{produced};
 ghost use Rattle.ltm_demand.specs.Tables.{IsOneOf};
 
+use crate::DemandRow;
 use crate::pace::Pace;
 
-/// Puts one amount of a row in place of another in a table of `slots` slots.
-pub fn shift(
-    units: &mut [u64],
-    width: usize,
-    own: usize,
-    slots: usize,
-    from: u32,
-    to: u32,
-    was: u64,
-    now: u64,
-)
-    requires behind { 0 < own }
-    requires own { own < width }
+/// Puts the amount of a row in place of another in a table of `slots` slots.
+pub(crate) fn shift(units: &mut [u64], width: usize, slots: usize, row: &DemandRow, was: u64)
+    requires own { row.now.destination + 1 < width }
     requires was { was ≤ 1000000000 }
-    requires now { now ≤ 1000000000 }
-    requires slots { from < to }
-    requires within { to ≤ slots }
+    requires now { row.now.amount.0 ≤ 1000000000 }
+    requires slots { row.now.from < row.now.to }
+    requires within { row.now.to ≤ slots }
     requires reaches { slots * width ≤ length units.old }
-    requires has { (c t : ℕ) → IsOneOf own c → t < slots
-        → produced from to was t ≤ slice_index units.old (t * width + c) }
-    requires room { (c t : ℕ) → IsOneOf own c → t < slots
+    requires has { (c t : ℕ) → IsOneOf (row.now.destination + 1) c → t < slots
+        → produced row.now.from row.now.to was t ≤ slice_index units.old (t * width + c) }
+    requires room { (c t : ℕ) → IsOneOf (row.now.destination + 1) c → t < slots
         → slice_index units.old (t * width + c) < 2 ^ 63 }
     ensures len { length units.new ≡ length units.old }
-    ensures shifted { (c t : ℕ) → IsOneOf own c → t < slots
-        → slice_index units.new (t * width + c) + produced from to was t
-        ≡ slice_index units.old (t * width + c) + produced from to now t }
-    ensures others { (c t : ℕ) → c < width → c ≢ 0 → c ≢ own
+    ensures shifted { (c t : ℕ) → IsOneOf (row.now.destination + 1) c → t < slots
+        → slice_index units.new (t * width + c) + produced row.now.from row.now.to was t
+        ≡ slice_index units.old (t * width + c)
+        + produced row.now.from row.now.to row.now.amount.0 t }
+    ensures others { (c t : ℕ) → c < width → c ≢ 0 → c ≢ row.now.destination + 1
         → slice_index units.new (t * width + c) ≡ slice_index units.old (t * width + c) }
 {
-    shift_during(units, width, own, from, to, was, now);
-    shift_after(units, width, own, to, slots, was, now);
+    shift_during(units, width, row, was);
+    shift_after(units, width, slots, row, was);
 }
 
 /// Puts one amount in place of another in a number.
@@ -77,62 +69,56 @@ fn exchange_both(units: &mut [u64], width: usize, own: usize, slot: usize, gone:
 }
 
 /// The slots of the row.
-fn shift_during(units: &mut [u64], width: usize, own: usize, from: u32, to: u32, was: u64, now: u64)
-    requires behind { 0 < own }
-    requires own { own < width }
+fn shift_during(units: &mut [u64], width: usize, row: &DemandRow, was: u64)
+    requires own { row.now.destination + 1 < width }
     requires was { was ≤ 1000000000 }
-    requires now { now ≤ 1000000000 }
-    requires slots { from < to }
-    requires reaches { to * width ≤ length units.old }
-    requires has { (c t : ℕ) → IsOneOf own c → t < to
-        → produced from to was t ≤ slice_index units.old (t * width + c) }
-    requires room { (c t : ℕ) → IsOneOf own c → t < to
+    requires now { row.now.amount.0 ≤ 1000000000 }
+    requires slots { row.now.from < row.now.to }
+    requires reaches { row.now.to * width ≤ length units.old }
+    requires has { (c t : ℕ) → IsOneOf (row.now.destination + 1) c → t < row.now.to
+        → produced row.now.from row.now.to was t ≤ slice_index units.old (t * width + c) }
+    requires room { (c t : ℕ) → IsOneOf (row.now.destination + 1) c → t < row.now.to
         → slice_index units.old (t * width + c) < 2 ^ 63 }
     ensures len { length units.new ≡ length units.old }
-    ensures shifted { (c t : ℕ) → IsOneOf own c → t < to
-        → slice_index units.new (t * width + c) + produced from to was t
-        ≡ slice_index units.old (t * width + c) + produced from to now t }
-    ensures rest { (c t : ℕ) → c < width → to ≤ t
+    ensures shifted { (c t : ℕ) → IsOneOf (row.now.destination + 1) c → t < row.now.to
+        → slice_index units.new (t * width + c) + produced row.now.from row.now.to was t
+        ≡ slice_index units.old (t * width + c)
+        + produced row.now.from row.now.to row.now.amount.0 t }
+    ensures rest { (c t : ℕ) → c < width → row.now.to ≤ t
         → slice_index units.new (t * width + c) ≡ slice_index units.old (t * width + c) }
-    ensures others { (c t : ℕ) → c < width → c ≢ 0 → c ≢ own
+    ensures others { (c t : ℕ) → c < width → c ≢ 0 → c ≢ row.now.destination + 1
         → slice_index units.new (t * width + c) ≡ slice_index units.old (t * width + c) }
 {
-    let slots = (to - from) as u64;
+    let own = row.destination as usize + 1;
+    let slots = (row.to - row.from) as u64;
     let mut gone = Pace::of(was, slots);
-    let mut come = Pace::of(now, slots);
-    for slot in from as usize..to as usize {
+    let mut come = Pace::of(row.amount.0, slots);
+    for slot in row.from as usize..row.to as usize {
         exchange_both(units, width, own, slot, gone.next(), come.next());
     }
 }
 
 /// The slots behind the row, up to and without `slots`.
-fn shift_after(
-    units: &mut [u64],
-    width: usize,
-    own: usize,
-    to: u32,
-    slots: usize,
-    was: u64,
-    now: u64,
-)
-    requires behind { 0 < own }
-    requires own { own < width }
-    requires now { now ≤ 1000000000 }
+fn shift_after(units: &mut [u64], width: usize, slots: usize, row: &DemandRow, was: u64)
+    requires own { row.now.destination + 1 < width }
+    requires now { row.now.amount.0 ≤ 1000000000 }
     requires reaches { slots * width ≤ length units.old }
-    requires has { (c t : ℕ) → IsOneOf own c → to ≤ t → t < slots
+    requires has { (c t : ℕ) → IsOneOf (row.now.destination + 1) c → row.now.to ≤ t → t < slots
         → was ≤ slice_index units.old (t * width + c) }
-    requires room { (c t : ℕ) → IsOneOf own c → to ≤ t → t < slots
+    requires room { (c t : ℕ) → IsOneOf (row.now.destination + 1) c → row.now.to ≤ t → t < slots
         → slice_index units.old (t * width + c) < 2 ^ 63 }
     ensures len { length units.new ≡ length units.old }
-    ensures front { (c t : ℕ) → c < width → t < to
+    ensures front { (c t : ℕ) → c < width → t < row.now.to
         → slice_index units.new (t * width + c) ≡ slice_index units.old (t * width + c) }
-    ensures shifted { (c t : ℕ) → IsOneOf own c → to ≤ t → t < slots
+    ensures shifted { (c t : ℕ) → IsOneOf (row.now.destination + 1) c → row.now.to ≤ t → t < slots
         → slice_index units.new (t * width + c) + was
-        ≡ slice_index units.old (t * width + c) + now }
-    ensures others { (c t : ℕ) → c < width → c ≢ 0 → c ≢ own
+        ≡ slice_index units.old (t * width + c) + row.now.amount.0 }
+    ensures others { (c t : ℕ) → c < width → c ≢ 0 → c ≢ row.now.destination + 1
         → slice_index units.new (t * width + c) ≡ slice_index units.old (t * width + c) }
 {
-    for slot in to as usize..slots {
+    let own = row.destination as usize + 1;
+    let now = row.amount.0;
+    for slot in row.to as usize..slots {
         exchange_both(units, width, own, slot, was, now);
     }
 }

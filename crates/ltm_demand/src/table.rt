@@ -177,18 +177,7 @@ impl Table {
         requires roomy { IsRoomy self.old row.now was }
         ensures { IsShifted self.old self.new row.now was }
     {
-        let width = self.destinations + 1;
-        let own = row.destination as usize + 1;
-        shift(
-            &mut self.units,
-            width,
-            own,
-            self.slots,
-            row.from,
-            row.to,
-            was,
-            row.amount.0,
-        );
+        shift(&mut self.units, self.destinations + 1, self.slots, row, was);
     }
 
     pub fn try_copy(&self) -> Result<Table, NoMemory>
