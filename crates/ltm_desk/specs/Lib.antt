@@ -8,6 +8,7 @@ pub mod Searching
 pub mod Placing
 pub mod Openings
 pub mod Counted
+pub mod Renewed
 pub mod Waking
 pub mod Committing
 pub mod Recomputing

@@ -6,6 +6,7 @@ ghost use Rattle.ltm_repair.specs.Moves.{Commits};
 ghost use Rattle.ltm_desk.specs.Committing.{readers, rewritten};
 
 use crate::given::Given;
+use crate::renewal::Renewal;
 use crate::renewing::renew_pair;
 use crate::table::Table;
 use ltm_loading::{counts_by_place, in_range, inputs_by_place, outputs_small};
@@ -24,7 +25,8 @@ impl Table {
     /// active, exactly those, and the cells with another count are noted. Takes no memory.
     pub fn commit(&mut self, scenario: &Scenario, pair: Pair, solved: &Solved)
         requires ready { IsReady (setting_of scenario.now) self.old }
-        requires claimed { (desk_at (setting_of scenario.now) self.old).claimed pair.node.0 pair.slot ≡ Some solved.now.inputs.row }
+        requires claimed { (desk_at (setting_of scenario.now) self.old).claimed
+            pair.node.0 pair.slot ≡ Some solved.now.inputs.row }
         requires shape { solved.now.inputs.shape ≡ shape_at (setting_of scenario.now) pair.node.0 }
         ensures ready { IsReady (setting_of scenario.now) self.new }
         ensures desk { Commits (setting_of scenario.now)
@@ -47,13 +49,16 @@ impl Table {
         readers_wake();
         let _slots = slot_count(scenario);
         let outputs = solved.outputs();
-        renew_pair(
+        let renewal = Renewal {
             scenario,
+            pair,
+            given: Given::Counted,
+            outputs,
+        };
+        renew_pair(
+            renewal,
             &mut self.curves,
             &self.index,
-            pair,
-            Given::Counted,
-            outputs,
             &mut self.changed,
             &mut self.frontier,
             &mut self.kept,

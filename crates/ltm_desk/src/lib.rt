@@ -27,6 +27,7 @@ mod marking;
 mod opening;
 mod places;
 mod recomputing;
+mod renewal;
 mod renewing;
 mod renewing_links;
 mod room;

@@ -116,27 +116,38 @@ pub(crate) fn mark_tail(scenario: &Scenario, frontier: &mut Frontier, link: Link
     frontier.mark_range(readers_ago(node, boundary, wave, slot_count(scenario)));
 }
 
+/// So many units have now entered a link by a boundary.
+#[derive(Clone, Copy)]
+pub(crate) struct Entered {
+    pub(crate) link: LinkId,
+    pub(crate) boundary: u32,
+    pub(crate) units: u64,
+}
+
 /// Marks the head of a link in the slots that read a boundary, by which so many units have now entered the link.
 pub(crate) fn mark_head(
     scenario: &Scenario,
     curves: &Curves,
     index: &ReadIndex,
     frontier: &mut Frontier,
-    link: LinkId,
-    boundary: u32,
-    entered: u64,
+    entered: Entered,
 )
-    requires link { link.0 < (setting_of scenario.now).links }
-    requires boundary { boundary ≤ (setting_of scenario.now).slots }
+    requires link { entered.link.0 < (setting_of scenario.now).links }
+    requires boundary { entered.boundary ≤ (setting_of scenario.now).slots }
     requires shape { IsShaped (setting_of scenario.now) curves.now }
     requires lists { HasLists (setting_of scenario.now) index.now }
     requires pairs { HasPairs (setting_of scenario.now) frontier.old }
     ensures { Activates frontier.old frontier.new
         (wakes_head (setting_of scenario.now) (counts_of curves.now)
-        (place_of index.now) link.0 boundary entered) }
+        (place_of index.now) entered.link.0 entered.boundary entered.units) }
 {
+    let Entered {
+        link,
+        boundary,
+        units,
+    } = entered;
     let _links = link_count(scenario);
-    let low = curves.position(up_of(link), entered, boundary.saturating_sub(1));
+    let low = curves.position(up_of(link), units, boundary.saturating_sub(1));
     mark_later(scenario, frontier, link, boundary);
     mark_listed(scenario, index, frontier, link, low, boundary);
 }

@@ -9,6 +9,7 @@ ghost use Rattle.ltm_desk.specs.Recomputing.{RecomputesPair, Recomputes};
 
 use crate::found::Found;
 use crate::given::Given;
+use crate::renewal::Renewal;
 use crate::renewing::renew_pair;
 use crate::table::Table;
 use ltm_loading::{counts_by_place, outputs_small, step_by_moves};
@@ -57,13 +58,16 @@ impl Table {
         let _slots = slot_count(scenario);
         self.frontier.claim_mark(pair);
         write_step(inputs, moves);
-        renew_pair(
+        let renewal = Renewal {
             scenario,
+            pair,
+            given: Given::Moved,
+            outputs: moves,
+        };
+        renew_pair(
+            renewal,
             &mut self.curves,
             &self.index,
-            pair,
-            Given::Moved,
-            moves,
             &mut self.changed,
             &mut self.frontier,
             &mut self.kept,

@@ -15,19 +15,18 @@ ghost use Rattle.ltm_node.specs.Outputs.{left_after, arrived_after};
 ghost use Rattle.ltm_setting.specs.Setting.{setting_of};
 ghost use Rattle.ltm_flows.specs.Applying.{SetsGroups};
 ghost use Rattle.ltm_frontier.specs.Frontier.{is_pair, Activates};
-ghost use Rattle.ltm_desk.specs.Counted.{counted};
+ghost use Rattle.ltm_desk.specs.Renewed.{renewed};
 ghost use Rattle.ltm_desk.specs.Desks.{place_of};
 ghost use Rattle.ltm_desk.specs.Ready.{HasPairs, HasLists};
 ghost use Rattle.ltm_rows.specs.Rows.{ForgetsRow, HasRows};
 ghost use Rattle.ltm_desk.specs.Waking.{arm_differs, any_differs, PutsCells, changes, wakes_others, wakes, ForgetsIf};
 
 use crate::differing::{renew, renew_sink};
-use crate::given::Given;
+use crate::renewal::Renewal;
 use crate::renewing_links::{renew_heads, renew_tails};
 use ltm_curve::{Changed, Curves};
 use ltm_frontier::Frontier;
 use ltm_loading::counts_by_place;
-use ltm_node::NodeOutputs;
 use ltm_pairs::ReadIndex;
 use ltm_rows::KeptRows;
 use ltm_scenario::Scenario;
@@ -54,44 +53,46 @@ fn wake_next(scenario: &Scenario, frontier: &mut Frontier, kept: &mut KeptRows, 
 
 /// Sets what has left the origin of a node, where the node has out-links; whether some count was another one. If so the cell
 /// is noted as changed.
-fn renew_origin(
-    scenario: &Scenario,
-    curves: &mut Curves,
-    pair: Pair,
-    given: Given,
-    outputs: &NodeOutputs,
-    changed: &mut Changed,
-) -> bool
-    requires node { pair.node.0 < (setting_of scenario.now).nodes }
-    requires slot { pair.slot < (setting_of scenario.now).slots }
-    requires outputs { outputs.now.shape ≡ shape_at (setting_of scenario.now) pair.node.0 }
+fn renew_origin(renewal: Renewal, curves: &mut Curves, changed: &mut Changed) -> bool
+    requires node { renewal.pair.node.0 < (setting_of renewal.scenario.now).nodes }
+    requires slot { renewal.pair.slot < (setting_of renewal.scenario.now).slots }
+    requires outputs { renewal.outputs.now.shape ≡ shape_at (setting_of renewal.scenario.now)
+        renewal.pair.node.0 }
     requires small { (i : ℕ) → slice_index
-        (counted given (setting_of scenario.now)
-        (counts_of curves.old) pair.node.0 pair.slot outputs.now).row i < 2 ^ 31 }
-    requires shape { IsShaped (setting_of scenario.now) curves.old }
-    requires cells { HasCells changed.old (groups (setting_of scenario.now))
-        (setting_of scenario.now).slots }
-    ensures origin { 0 < (setting_of scenario.now).outs pair.node.0
-        → result ≡ arm_differs (setting_of scenario.now) (counts_of curves.old) pair.node.0
-        (pair.slot + 1)
-        (counted given (setting_of scenario.now)
-        (counts_of curves.old) pair.node.0 pair.slot outputs.now)
-        ((setting_of scenario.now).ins pair.node.0) }
-    ensures none { (setting_of scenario.now).outs pair.node.0 ≡ 0 → result ≡ false }
-    ensures shape { IsShaped (setting_of scenario.now) curves.new }
-    ensures sets { 0 < (setting_of scenario.now).outs pair.node.0
-        → SetsGroups (setting_of scenario.now) (pair.slot + 1) 1
-        (λ i. dep_of (setting_of scenario.now) pair.node.0) (λ i. left_after
-        (counted given (setting_of scenario.now)
-        (counts_of curves.old) pair.node.0 pair.slot outputs.now)
-        ((setting_of scenario.now).ins pair.node.0))
+        (renewed renewal (counts_of curves.old)).row i < 2 ^ 31 }
+    requires shape { IsShaped (setting_of renewal.scenario.now) curves.old }
+    requires cells { HasCells changed.old (groups (setting_of renewal.scenario.now))
+        (setting_of renewal.scenario.now).slots }
+    ensures origin { 0 < (setting_of renewal.entry.scenario.now).outs renewal.entry.pair.node.0
+        → result ≡ arm_differs (setting_of renewal.entry.scenario.now) (counts_of curves.old)
+        renewal.entry.pair.node.0
+        (renewal.entry.pair.slot + 1)
+        (renewed renewal.entry (counts_of curves.old))
+        ((setting_of renewal.entry.scenario.now).ins renewal.entry.pair.node.0) }
+    ensures none { (setting_of renewal.entry.scenario.now).outs renewal.entry.pair.node.0 ≡ 0
+        → result
+        ≡ false }
+    ensures shape { IsShaped (setting_of renewal.entry.scenario.now) curves.new }
+    ensures sets { 0 < (setting_of renewal.entry.scenario.now).outs renewal.entry.pair.node.0
+        → SetsGroups (setting_of renewal.entry.scenario.now) (renewal.entry.pair.slot + 1) 1
+        (λ i. dep_of (setting_of renewal.entry.scenario.now) renewal.entry.pair.node.0)
+        (λ i. left_after
+        (renewed renewal.entry (counts_of curves.old))
+        ((setting_of renewal.entry.scenario.now).ins renewal.entry.pair.node.0))
         (counts_of curves.old) (counts_of curves.new) }
-    ensures stays { (setting_of scenario.now).outs pair.node.0 ≡ 0
+    ensures stays { (setting_of renewal.entry.scenario.now).outs renewal.entry.pair.node.0 ≡ 0
         → counts_of curves.new ≡ counts_of curves.old }
     ensures cells { PutsCells changed.old changed.new
-        (λ g k. result && is_pair (dep_of (setting_of scenario.now) pair.node.0) (pair.slot
-        + 1) g k) }
+        (λ g k. result && is_pair
+        (dep_of (setting_of renewal.entry.scenario.now) renewal.entry.pair.node.0)
+        (renewal.entry.pair.slot + 1) g k) }
 {
+    let Renewal {
+        scenario,
+        pair,
+        given,
+        outputs,
+    } = renewal;
     is_setting(scenario);
     if out_links(scenario, pair.node).is_empty() {
         return false;
@@ -111,55 +112,56 @@ fn renew_origin(
 /// Sets the counts of a pair, wakes the readers of those that were others, but for the pair's own next slot, and notes the
 /// cells; whether there is one.
 fn renew_all(
-    scenario: &Scenario,
+    renewal: Renewal,
     curves: &mut Curves,
     index: &ReadIndex,
-    pair: Pair,
-    given: Given,
-    outputs: &NodeOutputs,
     changed: &mut Changed,
     frontier: &mut Frontier,
 ) -> bool
-    requires node { pair.node.0 < (setting_of scenario.now).nodes }
-    requires slot { pair.slot < (setting_of scenario.now).slots }
-    requires outputs { outputs.now.shape ≡ shape_at (setting_of scenario.now) pair.node.0 }
+    requires node { renewal.pair.node.0 < (setting_of renewal.scenario.now).nodes }
+    requires slot { renewal.pair.slot < (setting_of renewal.scenario.now).slots }
+    requires outputs { renewal.outputs.now.shape ≡ shape_at (setting_of renewal.scenario.now)
+        renewal.pair.node.0 }
     requires small { (i : ℕ) → slice_index
-        (counted given (setting_of scenario.now)
-        (counts_of curves.old) pair.node.0 pair.slot outputs.now).row i < 2 ^ 31 }
-    requires no_sink { (setting_of scenario.now).own pair.node.0 ≡ None
-        → arrived_after outputs.now ≡ 0 }
-    requires shape { IsShaped (setting_of scenario.now) curves.old }
-    requires lists { HasLists (setting_of scenario.now) index.now }
-    requires cells { HasCells changed.old (groups (setting_of scenario.now))
-        (setting_of scenario.now).slots }
-    requires pairs { HasPairs (setting_of scenario.now) frontier.old }
+        (renewed renewal (counts_of curves.old)).row i < 2 ^ 31 }
+    requires no_sink { (setting_of renewal.scenario.now).own renewal.pair.node.0 ≡ None
+        → arrived_after renewal.outputs.now ≡ 0 }
+    requires shape { IsShaped (setting_of renewal.scenario.now) curves.old }
+    requires lists { HasLists (setting_of renewal.scenario.now) index.now }
+    requires cells { HasCells changed.old (groups (setting_of renewal.scenario.now))
+        (setting_of renewal.scenario.now).slots }
+    requires pairs { HasPairs (setting_of renewal.scenario.now) frontier.old }
     ensures value { result
-        ≡ any_differs (setting_of scenario.now) (counts_of curves.old) pair.node.0 (pair.slot + 1)
-        (counted given (setting_of scenario.now)
-        (counts_of curves.old) pair.node.0 pair.slot outputs.now) }
-    ensures shape { IsShaped (setting_of scenario.now) curves.new }
-    ensures applies { Applies (setting_of scenario.now) pair.node.0 (pair.slot + 1)
-        (counted given (setting_of scenario.now)
-        (counts_of curves.old) pair.node.0 pair.slot outputs.now).row
+        ≡ any_differs (setting_of renewal.entry.scenario.now) (counts_of curves.old)
+        renewal.entry.pair.node.0 (renewal.entry.pair.slot + 1)
+        (renewed renewal.entry (counts_of curves.old)) }
+    ensures shape { IsShaped (setting_of renewal.entry.scenario.now) curves.new }
+    ensures applies { Applies (setting_of renewal.entry.scenario.now) renewal.entry.pair.node.0
+        (renewal.entry.pair.slot + 1)
+        (renewed renewal.entry (counts_of curves.old)).row
         (counts_of curves.old) (counts_of curves.new) }
     ensures cells { PutsCells changed.old changed.new
-        (changes (setting_of scenario.now) (counts_of curves.old) pair.node.0 (pair.slot + 1)
-        (counted given (setting_of scenario.now)
-        (counts_of curves.old) pair.node.0 pair.slot outputs.now)) }
+        (changes (setting_of renewal.entry.scenario.now) (counts_of curves.old)
+        renewal.entry.pair.node.0
+        (renewal.entry.pair.slot + 1)
+        (renewed renewal.entry (counts_of curves.old))) }
     ensures wakes { Activates frontier.old frontier.new
-        (wakes_others (setting_of scenario.now) (counts_of curves.old)
-        (place_of index.now) pair.node.0 (pair.slot + 1)
-        (counted given (setting_of scenario.now)
-        (counts_of curves.old) pair.node.0 pair.slot outputs.now)) }
+        (wakes_others (setting_of renewal.entry.scenario.now) (counts_of curves.old)
+        (place_of index.now) renewal.entry.pair.node.0 (renewal.entry.pair.slot + 1)
+        (renewed renewal.entry (counts_of curves.old))) }
 {
+    let Renewal {
+        scenario,
+        pair,
+        given,
+        outputs,
+    } = renewal;
     is_setting(scenario);
     counts_by_place();
     let _shape = outputs.shape();
-    let tails = renew_tails(scenario, curves, pair, given, outputs, changed, frontier);
-    let origin = renew_origin(scenario, curves, pair, given, outputs, changed);
-    let heads = renew_heads(
-        scenario, curves, index, pair, given, outputs, changed, frontier,
-    );
+    let tails = renew_tails(renewal, curves, changed, frontier);
+    let origin = renew_origin(renewal, curves, changed);
+    let heads = renew_heads(renewal, curves, index, changed, frontier);
     let sink = renew_sink(scenario, curves, changed, pair, given, outputs.arrived());
     (tails | origin) | (heads | sink)
 }
@@ -167,55 +169,51 @@ fn renew_all(
 /// Sets the counts of a pair, and no others. The readers of those that were others become active, and the cells are noted.
 /// Where there is one, what is kept of the next slot is forgotten.
 pub(crate) fn renew_pair(
-    scenario: &Scenario,
+    renewal: Renewal,
     curves: &mut Curves,
     index: &ReadIndex,
-    pair: Pair,
-    given: Given,
-    outputs: &NodeOutputs,
     changed: &mut Changed,
     frontier: &mut Frontier,
     kept: &mut KeptRows,
 )
-    requires node { pair.node.0 < (setting_of scenario.now).nodes }
-    requires slot { pair.slot < (setting_of scenario.now).slots }
-    requires outputs { outputs.now.shape ≡ shape_at (setting_of scenario.now) pair.node.0 }
+    requires node { renewal.pair.node.0 < (setting_of renewal.scenario.now).nodes }
+    requires slot { renewal.pair.slot < (setting_of renewal.scenario.now).slots }
+    requires outputs { renewal.outputs.now.shape ≡ shape_at (setting_of renewal.scenario.now)
+        renewal.pair.node.0 }
     requires small { (i : ℕ) → slice_index
-        (counted given (setting_of scenario.now)
-        (counts_of curves.old) pair.node.0 pair.slot outputs.now).row i < 2 ^ 31 }
-    requires no_sink { (setting_of scenario.now).own pair.node.0 ≡ None
-        → arrived_after outputs.now ≡ 0 }
-    requires shape { IsShaped (setting_of scenario.now) curves.old }
-    requires lists { HasLists (setting_of scenario.now) index.now }
-    requires cells { HasCells changed.old (groups (setting_of scenario.now))
-        (setting_of scenario.now).slots }
-    requires pairs { HasPairs (setting_of scenario.now) frontier.old }
-    requires kept { HasRows (setting_of scenario.now) (setting_of scenario.now).slots kept.old }
-    ensures shape { IsShaped (setting_of scenario.now) curves.new }
-    ensures applies { Applies (setting_of scenario.now) pair.node.0 (pair.slot + 1)
-        (counted given (setting_of scenario.now)
-        (counts_of curves.old) pair.node.0 pair.slot outputs.now).row
+        (renewed renewal (counts_of curves.old)).row i < 2 ^ 31 }
+    requires no_sink { (setting_of renewal.scenario.now).own renewal.pair.node.0 ≡ None
+        → arrived_after renewal.outputs.now ≡ 0 }
+    requires shape { IsShaped (setting_of renewal.scenario.now) curves.old }
+    requires lists { HasLists (setting_of renewal.scenario.now) index.now }
+    requires cells { HasCells changed.old (groups (setting_of renewal.scenario.now))
+        (setting_of renewal.scenario.now).slots }
+    requires pairs { HasPairs (setting_of renewal.scenario.now) frontier.old }
+    requires kept { HasRows (setting_of renewal.scenario.now)
+        (setting_of renewal.scenario.now).slots kept.old }
+    ensures shape { IsShaped (setting_of renewal.entry.scenario.now) curves.new }
+    ensures applies { Applies (setting_of renewal.entry.scenario.now) renewal.entry.pair.node.0
+        (renewal.entry.pair.slot + 1)
+        (renewed renewal.entry (counts_of curves.old)).row
         (counts_of curves.old) (counts_of curves.new) }
     ensures cells { PutsCells changed.old changed.new
-        (changes (setting_of scenario.now) (counts_of curves.old) pair.node.0 (pair.slot + 1)
-        (counted given (setting_of scenario.now)
-        (counts_of curves.old) pair.node.0 pair.slot outputs.now)) }
+        (changes (setting_of renewal.entry.scenario.now) (counts_of curves.old)
+        renewal.entry.pair.node.0
+        (renewal.entry.pair.slot + 1)
+        (renewed renewal.entry (counts_of curves.old))) }
     ensures wakes { Activates frontier.old frontier.new
-        (wakes (setting_of scenario.now) (counts_of curves.old) (place_of index.now) pair.node.0
-        (pair.slot + 1)
-        (counted given (setting_of scenario.now)
-        (counts_of curves.old) pair.node.0 pair.slot outputs.now)) }
-    ensures kept { ForgetsIf (any_differs (setting_of scenario.now)
-        (counts_of curves.old) pair.node.0 (pair.slot + 1)
-        (counted given (setting_of scenario.now)
-        (counts_of curves.old) pair.node.0 pair.slot outputs.now))
-        kept.old kept.new pair.node.0 (pair.slot + 1) }
+        (wakes (setting_of renewal.entry.scenario.now) (counts_of curves.old) (place_of index.now)
+        renewal.entry.pair.node.0
+        (renewal.entry.pair.slot + 1)
+        (renewed renewal.entry (counts_of curves.old))) }
+    ensures kept { ForgetsIf (any_differs (setting_of renewal.entry.scenario.now)
+        (counts_of curves.old) renewal.entry.pair.node.0 (renewal.entry.pair.slot + 1)
+        (renewed renewal.entry (counts_of curves.old)))
+        kept.old kept.new renewal.entry.pair.node.0 (renewal.entry.pair.slot + 1) }
 {
-    let any = renew_all(
-        scenario, curves, index, pair, given, outputs, changed, frontier,
-    );
+    let any = renew_all(renewal, curves, index, changed, frontier);
     if !any {
         return;
     }
-    wake_next(scenario, frontier, kept, pair);
+    wake_next(renewal.scenario, frontier, kept, renewal.pair);
 }

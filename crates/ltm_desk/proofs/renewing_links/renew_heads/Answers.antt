@@ -19,44 +19,44 @@ use Rattle.ltm_desk.proofs.renewing_links.renew_heads.Goals as goal
 
 pub renew_head-woken-requires-clause-small : goal.renew_head-woken-requires-clause-small
 renew_head-woken-requires-clause-small c d l =
-    let s = setting_of c.args.scenario.now in
+    let s = setting_of c.args.renewal.scenario.now in
     let is = c.is_setting.ensures.setting in
     let old = counts_of c.args.curves.now in
     let links = c.out_links-link-items.result.now in
-    let u : ℕ = c.args.pair.node.0 in
+    let u : ℕ = c.args.renewal.pair.node.0 in
     let n : ℕ = c.loop-place.place in
-    let shape : c.args.outputs.now.shape.destinations ≡ s.destinations = ap (λ (z : NodeShape). z.destinations) c.requires.outputs in
+    let shape : c.args.renewal.outputs.now.shape.destinations ≡ s.destinations = ap (λ (z : NodeShape). z.destinations) c.requires.outputs in
     let inside : n < s.outs u = omega (arith, c.loop-place-test.true, c.out_links-link-items.ensures.count) in
     let group : 2 * (get_or links n (record { 0 = 0 })).0 ≡ out_group s u n = omega (arith, link_item links n c.loop-place-test.true, c.out_links-link-items.ensures.links n c.loop-place-test.true) in
     omega (
       arith,
-      out_row c.args.given s old (counts_of c.loop-place.curves) u c.args.pair.slot n _ c.args.outputs.now c.entered_row-numbers.result.now is c.requires.node inside group c.requires.outputs c.entered_row-numbers.ensures.count
-          c.entered_row-numbers.ensures.counts (begins_still s c.args.pair.slot n _ _ old (counts_of c.loop-place.curves) c.requires.slot c.loop-place.invariant.sets) d (omega (arith, l, shape, c.entered_row-numbers.ensures.count)),
-      c.requires.small (entered_after_place (counted c.args.given s old u c.args.pair.slot c.args.outputs.now).shape n d),
+      out_row c.args.renewal.given s old (counts_of c.loop-place.curves) u c.args.renewal.pair.slot n _ c.args.renewal.outputs.now c.entered_row-numbers.result.now is c.requires.node inside group c.requires.outputs c.entered_row-numbers.ensures.count
+          c.entered_row-numbers.ensures.counts (begins_still s c.args.renewal.pair.slot n _ _ old (counts_of c.loop-place.curves) c.requires.slot c.loop-place.invariant.sets) d (omega (arith, l, shape, c.entered_row-numbers.ensures.count)),
+      c.requires.small (entered_after_place (counted c.args.renewal.given s old u c.args.renewal.pair.slot c.args.renewal.outputs.now).shape n d),
     )
 
 pub loop-place-preserved : goal.loop-place-preserved
 loop-place-preserved c =
-    let s = setting_of c.args.scenario.now in
+    let s = setting_of c.args.renewal.scenario.now in
     let is = c.is_setting.ensures.setting in
     let old = counts_of c.args.curves.now in
     let now = counts_of c.loop-place.curves in
     let places = place_of c.args.index.now in
     let links = c.out_links-link-items.result.now in
-    let u : ℕ = c.args.pair.node.0 in
-    let k : ℕ = c.args.pair.slot + 1 in
+    let u : ℕ = c.args.renewal.pair.node.0 in
+    let k : ℕ = c.args.renewal.pair.slot + 1 in
     let n : ℕ = c.loop-place.place in
     let l : ℕ = (get_or links n (record { 0 = 0 })).0 in
-    let o = counted c.args.given s old u c.args.pair.slot c.args.outputs.now in
-    let row = counted_row c.args.given now (up_of l) c.args.pair.slot c.entered_row-numbers.result.now in
+    let o = counted c.args.renewal.given s old u c.args.renewal.pair.slot c.args.renewal.outputs.now in
+    let row = counted_row c.args.renewal.given now (up_of l) c.args.renewal.pair.slot c.entered_row-numbers.result.now in
     let units : ℕ = sum_below s.destinations (slice_index row) in
     let inside : n < s.outs u = omega (arith, c.loop-place-test.true, c.out_links-link-items.ensures.count) in
     let within : k ≤ s.slots = omega (arith, c.requires.slot) in
     let link : s.out_link u n ≡ l = omega (arith, link_item links n c.loop-place-test.true, c.out_links-link-items.ensures.links n c.loop-place-test.true) in
     let group : 2 * l ≡ out_group s u n = omega (arith, link) in
     let there : 2 * l < groups s = omega (arith, group, out_there s u n is c.requires.node inside) in
-    let numbers = out_row c.args.given s old now u c.args.pair.slot n (up_of l) c.args.outputs.now c.entered_row-numbers.result.now is c.requires.node inside group c.requires.outputs c.entered_row-numbers.ensures.count
-    c.entered_row-numbers.ensures.counts (begins_still s c.args.pair.slot n _ _ old now c.requires.slot c.loop-place.invariant.sets) in
+    let numbers = out_row c.args.renewal.given s old now u c.args.renewal.pair.slot n (up_of l) c.args.renewal.outputs.now c.entered_row-numbers.result.now is c.requires.node inside group c.requires.outputs c.entered_row-numbers.ensures.count
+    c.entered_row-numbers.ensures.counts (begins_still s c.args.renewal.pair.slot n _ _ old now c.requires.slot c.loop-place.invariant.sets) in
     let out : IsOut s old u k o n l row c.renew_head-woken.result = record {
       place = inside;
       link = link;

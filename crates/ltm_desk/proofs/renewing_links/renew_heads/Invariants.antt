@@ -14,8 +14,8 @@ use Rattle.ltm_desk.proofs.renewing_links.renew_heads.Given as goal
 abbrev pub invariant-loop-place : goal.invariant-loop-place
 invariant-loop-place l = record {
   shape : IsShaped (setting_of l.scenario) l.curves;
-  sets : SetsGroups (setting_of l.scenario) (l.fn.pair.slot + 1) l.place (out_group (setting_of l.scenario) l.fn.pair.node.0) (entered_after (counted l.fn.given (setting_of l.scenario) (counts_of l.fn.curves) l.fn.pair.node.0 l.fn.pair.slot l.outputs)) (counts_of l.fn.curves) (counts_of l.curves);
-  value : l.any ≡ some_below l.place (out_differs (setting_of l.scenario) (counts_of l.fn.curves) l.fn.pair.node.0 (l.fn.pair.slot + 1) (counted l.fn.given (setting_of l.scenario) (counts_of l.fn.curves) l.fn.pair.node.0 l.fn.pair.slot l.outputs));
-  cells : PutsCells l.fn.changed l.changed (changes_outs (setting_of l.scenario) (counts_of l.fn.curves) l.fn.pair.node.0 (l.fn.pair.slot + 1) (counted l.fn.given (setting_of l.scenario) (counts_of l.fn.curves) l.fn.pair.node.0 l.fn.pair.slot l.outputs) l.place);
-  wakes : Activates l.fn.frontier l.frontier (wakes_heads (setting_of l.scenario) (counts_of l.fn.curves) (place_of l.index) l.fn.pair.node.0 (l.fn.pair.slot + 1) (counted l.fn.given (setting_of l.scenario) (counts_of l.fn.curves) l.fn.pair.node.0 l.fn.pair.slot l.outputs) l.place);
+  sets : SetsGroups (setting_of l.scenario) (l.pair.slot + 1) l.place (out_group (setting_of l.scenario) l.pair.node.0) (entered_after (counted l.given (setting_of l.scenario) (counts_of l.fn.curves) l.pair.node.0 l.pair.slot l.outputs)) (counts_of l.fn.curves) (counts_of l.curves);
+  value : l.any ≡ some_below l.place (out_differs (setting_of l.scenario) (counts_of l.fn.curves) l.pair.node.0 (l.pair.slot + 1) (counted l.given (setting_of l.scenario) (counts_of l.fn.curves) l.pair.node.0 l.pair.slot l.outputs));
+  cells : PutsCells l.fn.changed l.changed (changes_outs (setting_of l.scenario) (counts_of l.fn.curves) l.pair.node.0 (l.pair.slot + 1) (counted l.given (setting_of l.scenario) (counts_of l.fn.curves) l.pair.node.0 l.pair.slot l.outputs) l.place);
+  wakes : Activates l.fn.frontier l.frontier (wakes_heads (setting_of l.scenario) (counts_of l.fn.curves) (place_of l.index) l.pair.node.0 (l.pair.slot + 1) (counted l.given (setting_of l.scenario) (counts_of l.fn.curves) l.pair.node.0 l.pair.slot l.outputs) l.place);
 }

@@ -15,44 +15,44 @@ use Rattle.ltm_desk.proofs.renewing_links.renew_tails.Goals as goal
 
 pub renew_tail-woken-requires-clause-small : goal.renew_tail-woken-requires-clause-small
 renew_tail-woken-requires-clause-small c d l =
-    let s = setting_of c.args.scenario.now in
+    let s = setting_of c.args.renewal.scenario.now in
     let is = c.requires.setting in
     let old = counts_of c.args.curves.now in
     let links = c.in_links-link-items.result.now in
-    let u : ℕ = c.args.pair.node.0 in
+    let u : ℕ = c.args.renewal.pair.node.0 in
     let n : ℕ = c.loop-place.place in
-    let shape : c.args.outputs.now.shape.destinations ≡ s.destinations = ap (λ (z : NodeShape). z.destinations) c.requires.outputs in
+    let shape : c.args.renewal.outputs.now.shape.destinations ≡ s.destinations = ap (λ (z : NodeShape). z.destinations) c.requires.outputs in
     let link : n < s.ins u = omega (arith, c.loop-place-test.true, c.in_links-link-items.ensures.count) in
     let group : 2 * (get_or links n (record { 0 = 0 })).0 + 1 ≡ arm_group s u n =
     omega (arith, link_item links n c.loop-place-test.true, c.in_links-link-items.ensures.links n c.loop-place-test.true, pick_first n (s.ins u) (down_of (s.in_link u n)) (dep_of s u) link) in
     omega (
       arith,
-      arm_row c.args.given s old (counts_of c.loop-place.curves) u c.args.pair.slot n _ c.args.outputs.now c.left_row-numbers.result.now is c.requires.node (omega (arith, link)) group c.requires.outputs c.left_row-numbers.ensures.count
-          c.left_row-numbers.ensures.counts (begins_still s c.args.pair.slot n _ _ old (counts_of c.loop-place.curves) c.requires.slot c.loop-place.invariant.sets) d (omega (arith, l, shape, c.left_row-numbers.ensures.count)),
-      c.requires.small (left_after_place (counted c.args.given s old u c.args.pair.slot c.args.outputs.now).shape n d),
+      arm_row c.args.renewal.given s old (counts_of c.loop-place.curves) u c.args.renewal.pair.slot n _ c.args.renewal.outputs.now c.left_row-numbers.result.now is c.requires.node (omega (arith, link)) group c.requires.outputs c.left_row-numbers.ensures.count
+          c.left_row-numbers.ensures.counts (begins_still s c.args.renewal.pair.slot n _ _ old (counts_of c.loop-place.curves) c.requires.slot c.loop-place.invariant.sets) d (omega (arith, l, shape, c.left_row-numbers.ensures.count)),
+      c.requires.small (left_after_place (counted c.args.renewal.given s old u c.args.renewal.pair.slot c.args.renewal.outputs.now).shape n d),
     )
 
 pub loop-place-preserved : goal.loop-place-preserved
 loop-place-preserved c =
-    let s = setting_of c.args.scenario.now in
+    let s = setting_of c.args.renewal.scenario.now in
     let is = c.requires.setting in
     let old = counts_of c.args.curves.now in
     let now = counts_of c.loop-place.curves in
     let links = c.in_links-link-items.result.now in
-    let u : ℕ = c.args.pair.node.0 in
-    let k : ℕ = c.args.pair.slot + 1 in
+    let u : ℕ = c.args.renewal.pair.node.0 in
+    let k : ℕ = c.args.renewal.pair.slot + 1 in
     let n : ℕ = c.loop-place.place in
     let l : ℕ = (get_or links n (record { 0 = 0 })).0 in
-    let o = counted c.args.given s old u c.args.pair.slot c.args.outputs.now in
-    let row = counted_row c.args.given now (down_of l) c.args.pair.slot c.left_row-numbers.result.now in
+    let o = counted c.args.renewal.given s old u c.args.renewal.pair.slot c.args.renewal.outputs.now in
+    let row = counted_row c.args.renewal.given now (down_of l) c.args.renewal.pair.slot c.left_row-numbers.result.now in
     let link : n < s.ins u = omega (arith, c.loop-place-test.true, c.in_links-link-items.ensures.count) in
     let inside : n < arms_of s u = omega (arith, link) in
     let within : k ≤ s.slots = omega (arith, c.requires.slot) in
     let group : 2 * l + 1 ≡ arm_group s u n =
     omega (arith, link_item links n c.loop-place-test.true, c.in_links-link-items.ensures.links n c.loop-place-test.true, pick_first n (s.ins u) (down_of (s.in_link u n)) (dep_of s u) link) in
     let there : 2 * l + 1 < groups s = omega (arith, group, arm_there s u n is c.requires.node inside) in
-    let numbers = arm_row c.args.given s old now u c.args.pair.slot n (down_of l) c.args.outputs.now c.left_row-numbers.result.now is c.requires.node inside group c.requires.outputs c.left_row-numbers.ensures.count
-    c.left_row-numbers.ensures.counts (begins_still s c.args.pair.slot n _ _ old now c.requires.slot c.loop-place.invariant.sets) in
+    let numbers = arm_row c.args.renewal.given s old now u c.args.renewal.pair.slot n (down_of l) c.args.renewal.outputs.now c.left_row-numbers.result.now is c.requires.node inside group c.requires.outputs c.left_row-numbers.ensures.count
+    c.left_row-numbers.ensures.counts (begins_still s c.args.renewal.pair.slot n _ _ old now c.requires.slot c.loop-place.invariant.sets) in
     let arm : IsArm s old u k o n l row c.renew_tail-woken.result = record {
       place = link;
       link = omega (arith, link_item links n c.loop-place-test.true, c.in_links-link-items.ensures.links n c.loop-place-test.true);
