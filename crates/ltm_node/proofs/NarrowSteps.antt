@@ -16,7 +16,7 @@ use Rattle.ltm_node.specs.Solvable.{IsSolvable}
 use Rattle.ltm_node.specs.Step.{moved, sunk, gone, come, sunk_in_all, MovesAtShares, IsNodeStep}
 use Rattle.ltm_node.specs.Narrow.{IsNarrow, HaveLeft, HaveMoved, HaveShifted, whole, leaves}
 use Rattle.ltm_node.specs.declared.shape.NodeShape.{NodeShape}
-use Rattle.ltm_node.proofs.Ranges.{weight_of, part_is, moved_own, moved_out_small, sunk_small, sunk_elsewhere, sunk_is}
+use Rattle.ltm_node.proofs.Ranges.{weight_of, part_is, moved_own, moved_out_small, sunk_small, sunk_elsewhere}
 
 -- ---- places
 

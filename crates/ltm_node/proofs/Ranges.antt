@@ -1,11 +1,11 @@
-use Rattle.std.proofs.Common.{◌≡◌, ℕ, zero, suc, ◌+◌, ◌-◌, ◌*◌, ◌/◌, ◌^◌, ◌<◌, ◌≤◌, Bool, true, false, cond, List, [], ◌∷◌, sum, drop, slice_index, get_or, length, arith, refl, ap, ◌∙◌, sym}
+use Rattle.std.proofs.Common.{◌≡◌, ℕ, zero, suc, ◌+◌, ◌-◌, ◌*◌, ◌/◌, ◌^◌, ◌<◌, ◌≤◌, Bool, true, false, cond, List, [], ◌∷◌, sum, drop, slice_index, get_or, length, arith, ap, ◌∙◌, sym}
 use Rattle.std.proofs.Math.Nat.{mul-le-mul_right, mul-le-mul_left, div-le_of_le-mul}
 use Rattle.std.proofs.lemmas.List.{get_or-take, get_or-drop}
 use Rattle.std.proofs.lemmas.List.Sums.{sum_by-cons}
 use Rattle.ltm_units.specs.Sums.{sum_below}
 use Rattle.ltm_units.specs.Nested.{nested_split}
 use Rattle.ltm_units.proofs.Sums.{sum_below-le, le-sum_below, sum_below-most}
-use Rattle.ltm_units.proofs.Splits.{nested_split-le, nested_split-zero}
+use Rattle.ltm_units.proofs.Splits.{nested_split-le}
 use Rattle.ltm_node.specs.Shape.{is_own, weights_place}
 use Rattle.ltm_node.specs.Inputs.{Inputs, sending, weight, weights}
 use Rattle.ltm_node.specs.Demands.{part, to_sink, sent, sent_into}
@@ -89,11 +89,6 @@ weights_fit n d xs few small is long =
 
 nothing_of : (p e x : ℕ) → x ≡ 0 → p * x / e ≡ 0
 nothing_of p e x none = omega (arith, mul-le-mul_left p (let z : x ≤ 0 = omega arith in z))
-
-weight_within : (xs : List ℕ) (k : ℕ) → get_or xs k 0 ≤ sum xs
-weight_within [] k = omega arith
-weight_within (x ∷ xs) zero = omega (arith, sum_by-cons (λ y. y) x xs)
-weight_within (x ∷ xs) (suc k) = omega (arith, weight_within xs k, sum_by-cons (λ y. y) x xs)
 
 -- ---- the destination that is the node, and the others
 

@@ -3,9 +3,8 @@ use Rattle.std.proofs.Math.ListN.{length-set}
 use Rattle.std.proofs.Math.Seq.{take-set-lt}
 use Rattle.std.proofs.lemmas.List.{get_or-take, get_or-replicate, length-take-le, length-replicate}
 use Rattle.std.proofs.lemmas.Grind.{same_number_lists}
-use Rattle.ltm_node.specs.Shape.{width, counts_width}
+use Rattle.ltm_node.specs.Shape.{width}
 use Rattle.ltm_node.specs.Inputs.{Inputs, cleared_inputs}
-use Rattle.ltm_node.specs.Outputs.{Outputs}
 use Rattle.ltm_node.specs.declared.shape.NodeShape.{NodeShape}
 
 take_written : (w : ℕ) (items : List ℕ) (p q v : ℕ) → p < w → p ≡ q → take w (set items p v) ≡ set (take w items) q v

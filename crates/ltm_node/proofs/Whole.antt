@@ -12,7 +12,7 @@ use Rattle.ltm_node.specs.Step.{moved, sunk, MovesAtShares, IsNodeStep}
 use Rattle.ltm_shares.specs.Sent.{sent_at}
 use Rattle.ltm_shares.specs.declared.sent.Sent.{Sent}
 use Rattle.ltm_node.specs.declared.portion.Portion.TheVariants.{Whole}
-use Rattle.ltm_node.specs.Portion.{AreFractions, numerator}
+use Rattle.ltm_node.specs.Portion.{numerator}
 use Rattle.ltm_node.specs.Moving.{IsMoving, HaveMovedAll, HoldsSent, FitsSupply}
 use Rattle.ltm_node.proofs.Amounts.{left_low, entered_low}
 

@@ -157,7 +157,8 @@ impl Mover<'_> {
         requires total { total
             ≡ sum_below self.now.inputs.now.shape.outs
             (moved_by self.now load.arm load.destination) }
-        requires before { IsMovingBy self.now load.destination load.arm self.now.inputs.now.shape.outs row.old sent.now }
+        requires before { IsMovingBy self.now load.destination load.arm
+            self.now.inputs.now.shape.outs row.old sent.now }
         ensures after { IsMovingAt self.now load.destination (load.arm + 1) row.new sent.now }
     {
         row[self.shape.left_after_place(load.arm, load.destination)] += total;
