@@ -22,7 +22,7 @@ pub trait Gate {
         ensures opens { result ≡ true };
 }
 
-fn plain(a: u32, b: &[(u32, u32)], mut c: Vec<u32>) -> u32 {
+pub(crate) fn plain(a: u32, b: &[(u32, u32)], mut c: Vec<u32>) -> u32 {
     a
 }
 
