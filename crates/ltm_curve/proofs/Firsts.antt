@@ -1,5 +1,5 @@
 -- The first units of a group.
-use Rattle.std.proofs.Common.{◌≡◌, ℕ, suc, ◌+◌, ◌-◌, ◌*◌, ◌/◌, ◌<◌, ◌≤◌, List, [], ◌∷◌, length, sum, slice_index, slice_set, get_or-set_same, cond, ◌==◌, ◌||◌, arith, inl, inr, refl, ap, sym, ◌∙◌, subst}
+use Rattle.std.proofs.Common.{◌≡◌, ℕ, suc, ◌+◌, ◌-◌, ◌*◌, ◌/◌, ◌<◌, ◌≤◌, List, [], ◌∷◌, length, sum, slice_index, cond, ◌==◌, ◌||◌, arith, inl, inr, refl, ap, sym, ◌∙◌, subst}
 use Rattle.std.proofs.lemmas.Bool.{cases_lt, cases_eq}
 use Rattle.std.proofs.lemmas.Bool.Decides.{nat_tests}
 use Rattle.ltm_units.specs.Sums.{sum_below}
@@ -169,13 +169,6 @@ only_one m rows n last h e d l =
     let one : sum_below m (first_units m rows n last) ≡ sum_below 1 (first_units m rows n last) = ap (λ (z : ℕ). sum_below z (first_units m rows n last)) e in
     let at : d ≡ 0 = omega arith in
     let here : first_units m rows n last d ≡ first_units m rows n last 0 = ap (first_units m rows n last) at in omega arith
-
--- and their place is the only one
-pub alone : (m : ℕ) (rows : ℕ → ℕ → ℕ) (n last : ℕ) (xs : List ℕ) → IsPart m rows n last → m ≡ 1 → length xs ≡ m → (d : ℕ) → d < m → slice_index (slice_set xs 0 n) d ≡ first_units m rows n last d
-alone m rows n last xs h e long d l =
-    let at : 0 ≡ d = omega arith in
-    let here : slice_index (slice_set xs 0 n) 0 ≡ n = get_or-set_same xs 0 n 0 (omega arith) in
-    let P : ℕ → Type 0 = λ z. slice_index (slice_set xs 0 n) z ≡ n in subst P at here ∙ only_one m rows n last h e d l
 
 -- the last boundary with at most so many units has at most so many
 pub end_within : (m : ℕ) (rows : ℕ → ℕ → ℕ) (n last k : ℕ) → IsPart m rows n last → k ≡ last_within (total m rows) n last → total m rows k ≤ n

@@ -8,11 +8,9 @@ use Rattle.std.proofs.lemmas.List.{get_or-take, get_or-drop, get_or_past, length
 use Rattle.ltm_units.specs.Sums.{sum_below}
 use Rattle.ltm_curve.specs.declared.curves.Curves.{Curves}
 use Rattle.ltm_curve.specs.declared.total_curves.TotalCurves.{TotalCurves}
-use Rattle.ltm_curve.specs.declared.changed.Changed.{Changed}
-use Rattle.ltm_curve.specs.Table.{groups_of, slots_of, destinations_of, counts_of, total_of}
+use Rattle.ltm_curve.specs.Table.{groups_of, destinations_of, counts_of, total_of}
 use Rattle.ltm_curve.specs.RowTotals.{total_in}
-use Rattle.ltm_curve.specs.Cells.{is_changed}
-use Rattle.ltm_curve.specs.TotalCurves.{total_slots, total_at, HasTotals, IsTotal, SetsTotal, AreTotalsOf, TotalsBut}
+use Rattle.ltm_curve.specs.TotalCurves.{total_slots, total_at, IsTotal, SetsTotal}
 use Rattle.ltm_curve.proofs.Longer.{at_old, at_new}
 use Rattle.ltm_curve.proofs.PutOver.{put_over, before_over, in_over, after_over, outside}
 
@@ -170,18 +168,3 @@ none_past old new n m g k groups totals last past =
           at_narrow_as new old g k groups low ∙ (ap (λ (xs : List ℕ). slice_index xs (k * old.narrow + g)) totals ∙ at_new old.totals.items n (k * old.narrow + g) (omega (arith, old.long)))
       | inr high ↦ at_last new g k (omega arith) ∙ (ap (λ (xs : List ℕ). slice_index xs k) last ∙ at_new old.last.items m k (omega (arith, old.last_long)))
     ]
-
--- ---- totals copied from the first changed boundary on
-pub totals_begin : (t : TotalCurves) (c : Curves) (changed : Changed) (from : ℕ) → HasTotals t (groups_of c) (slots_of c) →
-    ((g k : ℕ) → g < groups_of c → k ≤ slots_of c → is_changed changed g k ≡ false → total_at t g k ≡ total_of c g k) → ((g k : ℕ) → k < from → is_changed changed g k ≡ false) → TotalsBut t c changed from
-totals_begin t c changed from shape outside before = record {
-  shape = shape;
-  totals = λ g k x y either. elim either [ inl off ↦ outside g k x y off | inr less ↦ outside g k x y (before g k less) ];
-}
-
--- and to the last one
-pub totals_all : (t : TotalCurves) (c : Curves) (changed : Changed) (to : ℕ) → TotalsBut t c changed to → ((g k : ℕ) → to ≤ k → is_changed changed g k ≡ false) → AreTotalsOf t c
-totals_all t c changed to but after = record {
-  shape = but.shape;
-  totals = λ g k x y. elim (cases_lt k to) [ inl less ↦ but.totals g k x y (inr less) | inr more ↦ but.totals g k x y (inl (after g k more)) ];
-}

@@ -4,19 +4,10 @@ use Rattle.std.proofs.Math.Nat.{mul-le-mul_right}
 use Rattle.std.proofs.lemmas.Bool.{cases_eq}
 use Rattle.std.proofs.lemmas.Nat.{same_from_place}
 use Rattle.ltm_units.specs.Sums.{sum_below}
-use Rattle.ltm_units.proofs.Sums.{sum_below-same, sum_below-change, sum_below-most, sum_below-zero, le-sum_below}
+use Rattle.ltm_units.proofs.Sums.{sum_below-same, sum_below-change, sum_below-most, sum_below-zero}
 use Rattle.ltm_curve.specs.Totals.{row_sum, AreTotals}
 use Rattle.ltm_curve.proofs.Lists.{sum_below-list, zero_index}
 use Rattle.ltm_curve.proofs.PutOver.{put_over, before_over, in_over, after_over, outside}
-
--- a count is within the sum of its row
-pub count_within : (table : List ℕ) (width row d : ℕ) → d < width → slice_index table (row * width + d) ≤ row_sum table width row
-count_within table width row d l = le-sum_below width (λ e. slice_index table (row * width + e)) d l
-
--- sums of rows of small counts are small
-pub row_small : (table : List ℕ) (width row : ℕ) → width ≤ 64 → ((i : ℕ) → slice_index table i < 2 ^ 31) → row_sum table width row ≤ 2 ^ 37
-row_small table width row few small =
-    omega (arith, sum_below-most width (λ d. slice_index table (row * width + d)) (2 ^ 31) (λ d l. omega (arith, small (row * width + d))), mul-le-mul_right (2 ^ 31) few)
 
 -- the sum of a list of few small counts is small
 pub list_small : (counts : List ℕ) → length counts ≤ 64 → ((d : ℕ) → d < length counts → slice_index counts d < 2 ^ 31) → sum counts ≤ 2 ^ 37
