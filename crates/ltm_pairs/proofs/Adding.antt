@@ -1,11 +1,10 @@
 -- Reaches are added one after another.
-use Rattle.std.proofs.Common.{◌≡◌, ℕ, ◌+◌, ◌<◌, ◌≤◌, ◌||◌, Bool, true, false, All, List, [], ◌∷◌, ◌++◌, length, arith, refl, ap, sym, ◌∙◌, subst, add-one, length-append}
+use Rattle.std.proofs.Common.{◌≡◌, ℕ, ◌+◌, ◌<◌, ◌||◌, Bool, true, false, All, List, [], ◌∷◌, ◌++◌, length, arith, refl, ap, sym, ◌∙◌, subst, length-append}
 use Rattle.std.proofs.lemmas.List.Folds.{list_any-append}
 use Rattle.std.proofs.lemmas.List.Elements.{All-append, All-cons}
 use Rattle.ltm_units.specs.declared.places.Reach.{Reach}
 use Rattle.ltm_loading.specs.Setting.{Setting}
 use Rattle.ltm_pairs.specs.Reaches.{SpreadData, lies_in, lies_in_one}
-use Rattle.ltm_pairs.specs.Changes.{some_below}
 use Rattle.ltm_pairs.specs.Adding.{IsFrom, Adds}
 
 or_none : (a : Bool) → a || false ≡ a

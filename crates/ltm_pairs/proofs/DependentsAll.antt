@@ -31,11 +31,6 @@ no_and : (a b : Bool) → a ≡ false → a && b ≡ false
 no_and false b h = refl
 no_and true b h = cc
 
-and_first : (a b : Bool) → a ≡ false → b && a ≡ false
-and_first false true h = refl
-and_first false false h = refl
-and_first true b h = cc
-
 fewer : (s : Setting) (old new : Counts) (u k w v : ℕ) (changed : ArmSet) → AreChanged s u k changed old new → depends s u k changed w v ≡ false → reads_commit s old new u k w v ≡ false
 fewer s old new u k w v changed are h =
     let A : Bool = (w == u) && (v == k) in

@@ -17,10 +17,6 @@ between least end slot = nat_le least slot && nat_lt slot end
 none_between : (n t : ℕ) → between n n t ≡ false
 none_between n t = elim (cases_lt t n) [ inl l ↦ grind (arith, nat_tests) | inr l ↦ grind (arith, nat_tests) ]
 
-or_same : (a b c : Bool) → a ≡ c → b ≡ false → a || b ≡ c
-or_same true b c e f = e
-or_same false b c e f = f ∙ e
-
 -- ---- one edit
 adds : (s next : ScenarioData) (edit : Edit) (t : ℕ) → Makes s next edit → adds_slot s edit t ≡ between s.setup.slots next.setup.slots t
 adds s next edit t (demand origin destination from to amount row said) = sym (none_between s.setup.slots t)
