@@ -1,11 +1,11 @@
 -- What a table of zeros becomes node by node.
-use Rattle.std.proofs.Common.{◌≡◌, ◌≢◌, ℕ, ◌+◌, ◌<◌, ◌≤◌, arith, inl, inr, refl, subst, sym, ◌∙◌}
-use Rattle.std.proofs.lemmas.Bool.{cases_eq, cases_lt}
+use Rattle.std.proofs.Common.{◌≡◌, ℕ, ◌+◌, ◌<◌, ◌≤◌, arith, inl, inr, refl, subst, sym, ◌∙◌}
+use Rattle.std.proofs.lemmas.Bool.{cases_eq}
 use Rattle.ltm_units.proofs.Sums.{le-sum_below, sum_below-zero}
 use Rattle.ltm_curve.proofs.Lasts.{row_le}
 use Rattle.ltm_loading.specs.Setting.{Setting, IsSetting}
 use Rattle.ltm_flows.specs.Origins.{produced_in_all}
-use Rattle.ltm_flows.specs.Production.{produced_in, SameSizes, RenewsNode, ProducesNothing, ProducedByFirst}
+use Rattle.ltm_flows.specs.Production.{produced_in, RenewsNode, ProducesNothing, ProducedByFirst}
 use Rattle.ltm_flows.specs.declared.production.Production.{Production}
 
 pub first_none : (s : Setting) (p : Production) → s.slots ≤ p.room → ProducesNothing p → ProducedByFirst s 0 p p

@@ -21,8 +21,7 @@ use Rattle.ltm_flows.specs.declared.in_all.Totals.{Totals}
 use Rattle.ltm_flows.specs.InAll.{AreTotals, AreSums}
 use Rattle.ltm_loading.specs.Shaped.{IsShaped}
 use Rattle.ltm_flows.specs.Shown.{links_of, nodes_of, curves_of, last_of, ShowsCounts}
-use Rattle.ltm_flows.specs.Counted.{departed_by, entered_by, left_by}
-use Rattle.ltm_flows.specs.Origins.{produced_in_all, departed_from}
+use Rattle.ltm_flows.specs.Origins.{produced_in_all}
 use Rattle.ltm_flows.specs.Production.{produced_in, all_produced}
 use Rattle.ltm_flows.specs.declared.production.Production.{Production}
 
@@ -87,21 +86,6 @@ shown_entered s v c l h i x = at_last s v c l h (up_of i) (omega (arith, h.links
 
 pub shown_left : (s : Setting) (v : ℕ) (c : Counts) (l : Loading) → ShowsCounts s v c l → (i : ℕ) → i < links_of l → total_at (curves_of l) (down_of i) (last_of l) ≡ left_link s c i s.slots
 shown_left s v c l h i x = at_last s v c l h (down_of i) (omega (arith, h.links))
-
--- a total of a group at any boundary
-at_boundary : (s : Setting) (v : ℕ) (c : Counts) (l : Loading) → ShowsCounts s v c l → (g k : ℕ) → g < groups s → k ≤ last_of l → total_at (curves_of l) g k ≡ total s.destinations (c g) k
-at_boundary s v c l h g k x y = h.totals g k x (omega (arith, y, h.shape.same_slots))
-
-pub shown_entered_by : (s : Setting) (v : ℕ) (c : Counts) (l : Loading) → ShowsCounts s v c l → (i k : ℕ) → i < links_of l → k ≤ last_of l → entered_by l i k ≡ entered_link s c i k
-shown_entered_by s v c l h i k x y = at_boundary s v c l h (up_of i) k (omega (arith, h.links, x)) y
-
-pub shown_left_by : (s : Setting) (v : ℕ) (c : Counts) (l : Loading) → ShowsCounts s v c l → (i k : ℕ) → i < links_of l → k ≤ last_of l → left_by l i k ≡ left_link s c i k
-shown_left_by s v c l h i k x y = at_boundary s v c l h (down_of i) k (omega (arith, h.links, x)) y
-
-pub shown_departed : (s : Setting) (v : ℕ) (c : Counts) (l : Loading) → ShowsCounts s v c l → (u k : ℕ) → u < nodes_of l → k ≤ last_of l → departed_by l u k ≡ departed_from s c u k
-shown_departed s v c l h u k x y =
-    let at : 2 * links_of l + u ≡ dep_of s u = omega (arith, h.links) in
-    ap (λ (g : ℕ). total_at (curves_of l) g k) at ∙ at_boundary s v c l h (dep_of s u) k (omega (arith, h.nodes, x)) y
 
 -- where each origin has produced what it produces in a setting, so have all together
 pub all_produced_is : (s : Setting) (p : Production) (k : ℕ) → p.nodes ≡ s.nodes → k ≤ p.room → ((n : ℕ) → n < s.nodes → produced_in p n k ≡ produced_in_all s n k) → all_produced p k ≡ generated s k

@@ -1,4 +1,4 @@
-use Rattle.std.proofs.Common.{◌≡◌, ◌+◌, ℕ, arith, ap, subst, sym, ◌∙◌}
+use Rattle.std.proofs.Common.{◌+◌, ℕ, arith, ap, subst, sym, ◌∙◌}
 use Rattle.ltm_loading.specs.Setting.{Setting}
 use Rattle.ltm_setting.specs.Setting.{setting_of}
 use Rattle.ltm_flows.specs.Origins.{produced_in_all}
