@@ -1,4 +1,4 @@
-use Rattle.std.proofs.Common.{◌≡◌, ◌≢◌, ℕ, ◌+◌, ◌*◌, ◌<◌, ◌≤◌, ◌⊎◌, List, set, length, slice_index, arith, inl, inr, ap, ◌∙◌, sym, subst}
+use Rattle.std.proofs.Common.{◌≡◌, ◌≢◌, ℕ, zero, suc, ◌+◌, ◌*◌, ◌<◌, ◌≤◌, ◌⊎◌, List, set, length, slice_index, arith, inl, inr, ap, ◌∙◌, sym, subst}
 use Rattle.std.proofs.Math.ListN.{length-set}
 use Rattle.std.proofs.lemmas.Bool.{cases_eq, cases_lt}
 use Rattle.std.proofs.lemmas.List.{get_or-set_other, get_or-set_same}
@@ -234,3 +234,13 @@ next_destination n e p b row sent s h =
       sent_done = λ i j il jl less. absurd (omega arith);
       sent_rest = λ i j il jl more. omega (arith, h.sent_done i j il jl (omega arith), sum_below_more (λ d. moved n e p i d j) b);
     }
+
+-- ---- a destination to which nothing moves
+
+pub nothing_by : (n : Inputs) (e : ℕ) (p : ℕ → ℕ) (b a : ℕ) (row : List ℕ) (sent : ℕ → ℕ → ℕ) → IsSolvable n → IsMoving n e p b 0 0 row sent → a ≤ n.shape.arms → b < n.shape.destinations →
+    ((i : ℕ) → sunk n e p i b ≡ 0) → ((i j : ℕ) → moved n e p i b j ≡ 0) → IsMoving n e p b a 0 row sent
+nothing_by n e p b zero row sent s h al bl dry none = h
+nothing_by n e p b (suc a) row sent s h al bl dry none =
+    let before : IsMoving n e p b a 0 row sent = nothing_by n e p b a row sent s h (omega arith) bl dry none in
+    let next : a + 1 ≡ suc a = omega arith in
+    subst (λ (z : ℕ). IsMoving n e p b z 0 row sent) next (nothing_on n e p b a row sent s before (omega arith) bl (dry a) (none a))

@@ -87,8 +87,13 @@ weights_fit n d xs few small is long =
 
 -- ---- a share of nothing
 
-nothing_of : (p e x : ℕ) → x ≡ 0 → p * x / e ≡ 0
+pub nothing_of : (p e x : ℕ) → x ≡ 0 → p * x / e ≡ 0
 nothing_of p e x none = omega (arith, mul-le-mul_left p (let z : x ≤ 0 = omega arith in z))
+
+pub weight_within : (xs : List ℕ) (k : ℕ) → get_or xs k 0 ≤ sum xs
+weight_within [] k = omega arith
+weight_within (x ∷ xs) zero = omega (arith, sum_by-cons (λ y. y) x xs)
+weight_within (x ∷ xs) (suc k) = omega (arith, weight_within xs k, sum_by-cons (λ y. y) x xs)
 
 -- ---- the destination that is the node, and the others
 

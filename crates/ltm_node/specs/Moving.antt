@@ -1,4 +1,4 @@
-use Rattle.std.specs.Prelude.{◌≡◌, ℕ, ◌+◌, ◌*◌, ◌/◌, ◌<◌, ◌≤◌, ◌⊎◌, max, List, length, slice_index}
+use Rattle.std.specs.Prelude.{◌≡◌, ℕ, ◌+◌, ◌*◌, ◌/◌, ◌<◌, ◌≤◌, ◌⊎◌, max, List, sum, length, slice_index}
 use Rattle.ltm_units.specs.Sums.{sum_below}
 use Rattle.ltm_shares.specs.declared.sent.Sent.{Sent}
 use Rattle.ltm_shares.specs.Sent.{sent_at}
@@ -7,11 +7,14 @@ use Rattle.ltm_node.specs.Shape.{counts_width}
 use Rattle.ltm_node.specs.declared.loads.Load.{Load}
 use Rattle.ltm_node.specs.declared.loads.Part.{Part}
 use Rattle.ltm_node.specs.declared.moves.Mover.{Mover}
+use Rattle.ltm_node.specs.declared.moves.ways.Pair.{Pair}
+use Rattle.ltm_node.specs.declared.moves.ways.Way.{Way}
 use Rattle.ltm_node.specs.declared.portion.Portion.{Portion}
-use Rattle.ltm_node.specs.Inputs.{Inputs, sending, left, entered, arrived, supply, capacity}
+use Rattle.ltm_node.specs.Inputs.{Inputs, sending, left, entered, arrived, supply, capacity, weights}
 use Rattle.ltm_node.specs.Outputs.{left_after_place, entered_after_place, arrived_after_place}
 use Rattle.ltm_node.specs.Demands.{part, sent, sent_into}
 use Rattle.ltm_node.specs.Portion.{denominator, numerator}
+use Rattle.ltm_node.specs.Splitting.{HasOne, HasTwo}
 use Rattle.ltm_node.specs.Step.{moved, sunk, gone, come}
 
 -- to the destinations before `b` all arms have moved, and to `b` the arms before `a`, and the arm `a`
@@ -70,6 +73,19 @@ pub record IsPart (n : Inputs) (p : Part) : Type 0 where
   pub destination : p.destination < n.shape.destinations
   pub out : p.out < n.shape.outs
   pub amount : p.amount ≡ part n p.arm p.destination p.out
+
+-- all that goes to a destination goes by one out-link
+pub record IsOnlyWay (n : Inputs) (destination : ℕ) (way : Way) : Type 0 where
+  pub place : way.place ≡ entered_after_place n.shape way.out destination
+  pub all : HasOne (weights n destination) way.out
+
+-- all that goes to a destination goes by two out-links
+pub record AreOnlyWays (n : Inputs) (destination : ℕ) (pair : Pair) : Type 0 where
+  pub first : pair.first.place ≡ entered_after_place n.shape pair.first.out destination
+  pub second : pair.second.place ≡ entered_after_place n.shape pair.second.out destination
+  pub weight : pair.weight ≡ slice_index (weights n destination) pair.first.out
+  pub whole : pair.whole ≡ sum (weights n destination)
+  pub all : HasTwo (weights n destination) pair.first.out pair.second.out
 
 -- it holds what each arm sends into each out-link
 abbrev pub HoldsSent : Inputs → Sent → Type 0

@@ -1,8 +1,9 @@
 //! What the arms of a node move in a slot, added to the counts at its beginning.
 //!
-//! All that goes to a destination is split over the same weights, so their sum is formed once for all arms. An amount is
-//! split out-link by out-link, what is not split yet staying in hand, and ends with the last weight above 0. An amount of
-//! 0 moves nothing and is passed over.
+//! All that goes to a destination is split over the same weights, so their sum is formed once for all arms, and the first
+//! weights above 0 are looked for once. Where one or two weights are all of the sum, as in nearly every row, no arm looks
+//! through the weights (`moves/ways.rt`). Else an amount is split out-link by out-link, what is not split yet staying in
+//! hand, and ends with the last weight above 0. An amount of 0 moves nothing and is passed over.
 //!
 //! Whoever changes this: the rule is `MovesAtShares` of `specs/Step.antt`, with `part` and `to_sink` of `specs/Demands.antt`
 //! for what is sent by each way. The pass here is its general form, for all shapes and shares; each fast form is proved
@@ -15,12 +16,12 @@
 //!   It saves the copy of the counts, the split and `sent`, and where one arm alone sends more than its out-link can take,
 //!   the shares too.
 //! - `part_of` divides in 64 bits, and only for a weight that is neither 0 nor all that is left; `sum_of` adds up to four
-//!   weights without a loop; `send_all` steps from load to load, and `split` from out-link to out-link, by their places in
-//!   the rows.
+//!   weights without a loop; each pass over the arms steps from load to load, and `split` from out-link to out-link, by their
+//!   places in the rows.
 //!
 //! A change of the rule is made in `specs/Step.antt`, here and in `narrow.rt` with `specs/Narrow.antt`. A change of the order
 //! of the loops is one of `IsMoving` in `specs/Moving.antt`, which says how far row and `sent` are. Where a number stands in a
-//! row is told by `shape.rt`, `specs/Shape.antt` and `specs/Outputs.antt`; `send_all` relies on the loads standing arm by arm.
+//! row is told by `shape.rt`, `specs/Shape.antt` and `specs/Outputs.antt`; the passes rely on the loads standing arm by arm.
 ghost use Rattle.std.specs.Prelude.{◌≡◌, ◌<◌, ◌+◌, false, true, sum, length};
 ghost use Rattle.ltm_units.specs.Sums.{sum_below};
 ghost use Rattle.ltm_node.specs.Shape.{is_own, sending_place, width};
@@ -29,6 +30,8 @@ ghost use Rattle.ltm_node.specs.Outputs.{entered_after_place};
 ghost use Rattle.ltm_node.specs.Solvable.{IsSolvable};
 ghost use Rattle.ltm_node.specs.Portion.{AreFractions};
 
+mod ways;
+
 use crate::inputs::NodeInputs;
 use crate::loads::{Load, Part};
 use crate::portion::Portion;
@@ -36,6 +39,7 @@ use crate::shape::NodeShape;
 use crate::split::part_of;
 use ltm_shares::Sent;
 use ltm_units::sum_of;
+use ways::{Pair, next_above};
 
 /// The arms of a node, each of which moves a portion of what it sends. The shape and the row of the inputs are at hand, so
 /// that they need not be read anew behind each write.
@@ -218,6 +222,21 @@ impl Mover<'_> {
         row[self.shape.arrived_after_place()] += sunk;
     }
 
+    /// Adds what all arms move to a destination that is not the node, by any out-links.
+    fn send_all_by_any(&self, destination: u32, whole: u64, row: &mut [u64], sent: &mut Sent)
+        requires destination { destination < self.now.inputs.now.shape.destinations }
+        requires elsewhere { is_own self.now.inputs.now.shape destination ≡ false }
+        requires whole { whole ≡ sum (weights self.now.inputs.now destination) }
+        requires before { HaveMovedTo self.now destination row.old sent.old }
+        ensures after { HaveMovedTo self.now (destination + 1) row.new sent.new }
+    {
+        let mut place = destination as usize;
+        for arm in 0..self.shape.arms {
+            self.send(self.load_at(arm, destination, place), whole, row, sent);
+            place += self.shape.destinations as usize;
+        }
+    }
+
     /// Adds what all arms move to a destination that is not the node.
     fn send_all(&self, destination: u32, row: &mut [u64], sent: &mut Sent)
         requires destination { destination < self.now.inputs.now.shape.destinations }
@@ -226,10 +245,29 @@ impl Mover<'_> {
         ensures after { HaveMovedTo self.now (destination + 1) row.new sent.new }
     {
         let whole = self.whole_weight(destination);
-        let mut place = destination as usize;
-        for arm in 0..self.shape.arms {
-            self.send(self.load_at(arm, destination, place), whole, row, sent);
-            place += self.shape.destinations as usize;
+        if whole == 0 {
+            return;
+        }
+        let weights = self.weights(destination);
+        let out = next_above(weights, 0);
+        let first = self.way_by(destination, out);
+        let weight = weights[out as usize];
+        if weight == whole {
+            self.send_all_by_one(destination, first, row, sent);
+            return;
+        }
+        let other = next_above(weights, out + 1);
+        if weight + weights[other as usize] == whole {
+            let second = self.way_by(destination, other);
+            let pair = Pair {
+                first,
+                second,
+                weight,
+                whole,
+            };
+            self.send_all_by_two(destination, pair, row, sent);
+        } else {
+            self.send_all_by_any(destination, whole, row, sent);
         }
     }
 

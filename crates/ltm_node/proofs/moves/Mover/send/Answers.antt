@@ -1,10 +1,8 @@
-use Rattle.std.proofs.Common.{◌≡◌, ℕ, arith, rules}
+use Rattle.std.proofs.Common.{ℕ, arith, rules}
 use Rattle.ltm_shares.specs.Sent.{sent_at}
-use Rattle.ltm_node.specs.Inputs.{sending}
 use Rattle.ltm_node.specs.Solvable.{IsSolvable}
 use Rattle.ltm_node.specs.Portion.{denominator, numerator}
-use Rattle.ltm_node.proofs.Ranges.{sunk_nothing, moved_nothing}
-use Rattle.ltm_node.proofs.Amounts.{nothing_on}
+use Rattle.ltm_node.proofs.Ways.{unsent_on}
 use Rattle.ltm_node.proofs.moves.Mover.send.Goals as goal
 
 pub returns-else-load-gt0 : goal.returns-else-load-gt0
@@ -13,10 +11,7 @@ returns-else-load-gt0 c =
     let e : ℕ = denominator c.args.self.now.portion in
     let p : ℕ → ℕ = numerator c.args.self.now.portion in
     let s : IsSolvable n = search rules in
-    let a : ℕ = c.args.load.arm in
-    let b : ℕ = c.args.load.destination in
-    let none : sending n a b ≡ 0 = omega (arith, c.requires.load.amount, c.if-load-gt0.false) in
     record {
-      after = nothing_on n e p b a c.args.row.now (sent_at c.args.sent.now) s c.requires.before c.requires.load.arm c.requires.load.destination
-          (sunk_nothing n e p a b none) (λ j. moved_nothing n e p a b j none);
+      after = unsent_on n e p c.args.load.destination c.args.load.arm c.args.row.now (sent_at c.args.sent.now) s c.requires.before c.requires.load.arm c.requires.load.destination
+          (omega (arith, c.requires.load.amount, c.if-load-gt0.false));
     }

@@ -1,22 +1,33 @@
-use Rattle.std.proofs.Common.{◌≡◌, ℕ, ap, arith, rules, subst}
+use Rattle.std.proofs.Common.{◌≡◌, ℕ, suc, ◌+◌, ap, arith, rules, List, sum, drop}
 use Rattle.ltm_shares.specs.Sent.{sent_at}
-use Rattle.ltm_node.specs.declared.shape.NodeShape.{NodeShape}
 use Rattle.ltm_node.specs.Solvable.{IsSolvable}
 use Rattle.ltm_node.specs.Portion.{denominator, numerator}
-use Rattle.ltm_node.specs.Moving.{IsMoving}
-use Rattle.ltm_node.proofs.Amounts.{next_destination}
+use Rattle.ltm_node.proofs.Splitting.{rest_split}
+use Rattle.ltm_node.proofs.Ways.{unweighted_on}
 use Rattle.ltm_node.proofs.moves.Mover.send_all.Goals as goal
 
-pub returns : goal.returns
-returns c =
+pub returns-then-whole-eq0 : goal.returns-then-whole-eq0
+returns-then-whole-eq0 c =
     let n = c.args.self.now.inputs.now in
     let e : ℕ = denominator c.args.self.now.portion in
     let p : ℕ → ℕ = numerator c.args.self.now.portion in
     let s : IsSolvable n = search rules in
-    let sent : ℕ → ℕ → ℕ = sent_at c.loop-arm.sent in
-    let same : c.args.self.now.shape ≡ n.shape = search rules in
-    let all : c.loop-arm.arm ≡ n.shape.arms = omega (arith, c.loop-arm-test.false, ap (λ (z : NodeShape). z.arms) same) in
     record {
-      after = next_destination n e p c.args.destination c.loop-arm.row sent s
-          (subst (λ (k : ℕ). IsMoving n e p c.args.destination k 0 c.loop-arm.row sent) all c.loop-arm.invariant.moving);
+      after = unweighted_on n e p c.args.destination c.args.row.now (sent_at c.args.sent.now) s c.requires.before c.requires.destination c.requires.elsewhere
+          (omega (arith, c.whole_weight-whole.ensures, c.if-whole-eq0.true));
     }
+
+pub next_above-other-requires-clause-some : goal.next_above-other-requires-clause-some
+next_above-other-requires-clause-some c =
+    let ws : List ℕ = c.weights-weights.result.now in
+    let out : ℕ = c.next_above-out.result in
+    let next : suc out ≡ out + 1 = omega arith in
+    omega (
+      arith,
+      c.whole_weight-whole.ensures,
+      ap sum c.weights-weights.ensures.weights,
+      c.next_above-out.ensures.rest,
+      c.if-weight-whole.false,
+      rest_split ws out c.next_above-out.ensures.within,
+      ap (λ z. sum (drop z ws)) next,
+    )

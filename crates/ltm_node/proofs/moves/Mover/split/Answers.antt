@@ -122,7 +122,7 @@ leave-requires-clause-total c =
     let k : ℕ = c.loop-rest.out in
     let none : c.loop-rest.rest ≡ 0 = omega (arith, c.loop-rest-test.false) in
     c.loop-rest.invariant.total
-    ∙ sym (sum_ended n.shape.outs k (λ j. moved n e p a b j) c.loop-rest.invariant.within (λ j more.
+    ∙ sym (sum_ended n.shape.outs k (λ j. moved n e p a b j) c.loop-rest.invariant.within (λ j more _.
     moved_none n e p a b j (sym (part_is n c.args.load.amount a b j 0 c.requires.elsewhere c.requires.load.amount (sym (split_ended c.args.load.amount (weights n b) k c.loop-rest.left c.loop-rest.rest j c.loop-rest.invariant.split none more))))))
 
 pub leave-requires-clause-before : goal.leave-requires-clause-before

@@ -1,0 +1,72 @@
+-- What goes to a destination by one out-link or by two.
+use Rattle.std.proofs.Common.{◌≡◌, ◌≢◌, ℕ, ◌+◌, ◌-◌, ◌*◌, ◌/◌, ◌^◌, ◌<◌, ◌≤◌, false, List, sum, drop, get_or, length, arith, refl, ap, ◌∙◌, sym}
+use Rattle.std.proofs.Math.Nat.{mul-le-mul_right}
+use Rattle.std.proofs.lemmas.List.{length-take}
+use Rattle.ltm_node.specs.Shape.{is_own, weights_place}
+use Rattle.ltm_node.specs.Inputs.{Inputs, sending, weights}
+use Rattle.ltm_node.specs.Demands.{part}
+use Rattle.ltm_node.specs.Solvable.{IsSolvable}
+use Rattle.ltm_node.specs.Splitting.{HasOne, HasTwo}
+use Rattle.ltm_node.specs.Step.{moved}
+use Rattle.ltm_node.specs.Moving.{IsMoving}
+use Rattle.ltm_node.proofs.Amounts.{nothing_on, nothing_by, next_destination}
+use Rattle.ltm_node.proofs.Ranges.{part_is, moved_none, moved_nothing, sunk_nothing, sunk_elsewhere, weight_of, weight_within}
+use Rattle.ltm_node.proofs.Splitting.{split_without, split_one, split_first, split_second, one_alone, two_alone}
+
+-- an out-link with a weight
+pub is_out : (n : Inputs) (d out : ℕ) → out < length (weights n d) → out < n.shape.outs
+is_out n d out l =
+    omega (arith, length-take (weights_place n.shape d + n.shape.outs - weights_place n.shape d) (drop (weights_place n.shape d) n.row))
+
+pub weight_small : (n : Inputs) (d out : ℕ) → IsSolvable n → d < n.shape.destinations → out < n.shape.outs → get_or (weights n d) out 0 ≤ 4294967295
+weight_small n d out s dl l = omega (arith, weight_of n d out l, s.weights d out dl l)
+
+pub product_small : (x y : ℕ) → x ≤ 32000 → y ≤ 4294967295 → x * y < 2 ^ 64
+product_small x y h small = omega (arith, mul-le-mul_right y h)
+
+-- ---- the parts
+
+pub part_one : (n : Inputs) (i d amount out : ℕ) → is_own n.shape d ≡ false → amount ≡ sending n i d → HasOne (weights n d) out → amount ≡ part n i d out
+part_one n i d amount out elsewhere is h = part_is n amount i d out amount elsewhere is (sym (split_one (weights n d) amount out h))
+
+pub part_first : (n : Inputs) (i d amount first second weight whole : ℕ) → is_own n.shape d ≡ false → amount ≡ sending n i d → HasTwo (weights n d) first second →
+    weight ≡ get_or (weights n d) first 0 → whole ≡ sum (weights n d) → amount * weight / whole ≡ part n i d first
+part_first n i d amount first second weight whole elsewhere is h w t =
+    let ws : List ℕ = weights n d in
+    part_is n amount i d first (amount * weight / whole) elsewhere is
+    (ap (λ z. amount * z / whole) w ∙ (ap (λ z. amount * get_or ws first 0 / z) t ∙ sym (split_first ws amount first second h)))
+
+pub part_second : (n : Inputs) (i d amount first second weight whole : ℕ) → is_own n.shape d ≡ false → amount ≡ sending n i d → HasTwo (weights n d) first second →
+    weight ≡ get_or (weights n d) first 0 → whole ≡ sum (weights n d) → amount - amount * weight / whole ≡ part n i d second
+part_second n i d amount first second weight whole elsewhere is h w t =
+    let ws : List ℕ = weights n d in
+    part_is n amount i d second (amount - amount * weight / whole) elsewhere is
+    (ap (λ z. amount - amount * z / whole) w ∙ (ap (λ z. amount - amount * get_or ws first 0 / z) t ∙ sym (split_second ws amount first second h)))
+
+-- ---- what moves nothing
+
+moved_without : (n : Inputs) (e : ℕ) (p : ℕ → ℕ) (i d j : ℕ) → is_own n.shape d ≡ false → get_or (weights n d) j 0 ≡ 0 → moved n e p i d j ≡ 0
+moved_without n e p i d j elsewhere none =
+    moved_none n e p i d j (sym (part_is n (sending n i d) i d j 0 elsewhere refl (sym (split_without (weights n d) (sending n i d) j none))))
+
+pub beside_one : (n : Inputs) (e : ℕ) (p : ℕ → ℕ) (i d out : ℕ) → is_own n.shape d ≡ false → HasOne (weights n d) out →
+    (j : ℕ) → j ≢ out → moved n e p i d j ≡ 0
+beside_one n e p i d out elsewhere h j ne = moved_without n e p i d j elsewhere (one_alone (weights n d) out j h ne)
+
+pub beside_two : (n : Inputs) (e : ℕ) (p : ℕ → ℕ) (i d first second : ℕ) → is_own n.shape d ≡ false → HasTwo (weights n d) first second →
+    (j : ℕ) → j ≢ first → j ≢ second → moved n e p i d j ≡ 0
+beside_two n e p i d first second elsewhere h j ne ne' = moved_without n e p i d j elsewhere (two_alone (weights n d) first second j h ne ne')
+
+-- an arm that sends nothing
+pub unsent_on : (n : Inputs) (e : ℕ) (p : ℕ → ℕ) (b a : ℕ) (row : List ℕ) (sent : ℕ → ℕ → ℕ) → IsSolvable n → IsMoving n e p b a 0 row sent → a < n.shape.arms → b < n.shape.destinations →
+    sending n a b ≡ 0 → IsMoving n e p b (a + 1) 0 row sent
+unsent_on n e p b a row sent s h al bl none =
+    nothing_on n e p b a row sent s h al bl (sunk_nothing n e p a b none) (λ j. moved_nothing n e p a b j none)
+
+-- a destination without a weight
+pub unweighted_on : (n : Inputs) (e : ℕ) (p : ℕ → ℕ) (b : ℕ) (row : List ℕ) (sent : ℕ → ℕ → ℕ) → IsSolvable n → IsMoving n e p b 0 0 row sent → b < n.shape.destinations →
+    is_own n.shape b ≡ false → sum (weights n b) ≡ 0 → IsMoving n e p (b + 1) 0 0 row sent
+unweighted_on n e p b row sent s h bl elsewhere none =
+    next_destination n e p b row sent s
+    (nothing_by n e p b n.shape.arms row sent s h (omega arith) bl (λ i. sunk_elsewhere n e p i b elsewhere)
+    (λ i j. moved_without n e p i b j elsewhere (omega (arith, weight_within (weights n b) j))))

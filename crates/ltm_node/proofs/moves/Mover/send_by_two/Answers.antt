@@ -1,0 +1,146 @@
+use Rattle.std.proofs.Common.{◌≡◌, ◌≤◌, ◌<◌, ℕ, ◌+◌, ◌∙◌, ap, arith, rules, subst, sym}
+use Rattle.ltm_shares.specs.Sent.{sent_at}
+use Rattle.ltm_node.specs.declared.loads.Part.{Part}
+use Rattle.ltm_node.specs.Solvable.{IsSolvable}
+use Rattle.ltm_node.specs.Portion.{denominator, numerator, AreFractions}
+use Rattle.ltm_node.specs.Step.{moved}
+use Rattle.ltm_node.specs.Moving.{IsMoving, IsPart}
+use Rattle.ltm_node.proofs.Ranges.{sending_small, moved_small}
+use Rattle.ltm_node.proofs.Amounts.{entered_past}
+use Rattle.ltm_node.proofs.Splitting.{sum_of_terms}
+use Rattle.ltm_node.proofs.Ways.{is_out, weight_small, product_small, part_first, part_second, beside_two, unsent_on}
+use Rattle.ltm_node.proofs.moves.Mover.send_by_two.Goals as goal
+
+pub returns-then-load-eq0 : goal.returns-then-load-eq0
+returns-then-load-eq0 c =
+    let n = c.args.self.now.inputs.now in
+    let e : ℕ = denominator c.args.self.now.portion in
+    let p : ℕ → ℕ = numerator c.args.self.now.portion in
+    let s : IsSolvable n = search rules in
+    record {
+      after = unsent_on n e p c.args.load.destination c.args.load.arm c.args.row.now (sent_at c.args.sent.now) s c.requires.before c.requires.load.arm c.requires.load.destination
+          (omega (arith, c.requires.load.amount, c.if-load-eq0.true));
+    }
+
+pub overflow_mul-part : goal.overflow_mul-part
+overflow_mul-part c =
+    let n = c.args.self.now.inputs.now in
+    let s : IsSolvable n = search rules in
+    let a : ℕ = c.args.load.arm in
+    let b : ℕ = c.args.load.destination in
+    let i : ℕ = c.args.pair.first.out in
+    let k : ℕ = c.args.pair.second.out in
+    let within : k < n.shape.outs = is_out n b k c.requires.pair.all.within in
+    let amount : c.args.load.amount ≤ 32000 = omega (arith, c.requires.load.amount, sending_small n a b s c.requires.load.arm c.requires.load.destination) in
+    let weight : c.args.pair.weight ≤ 4294967295 = omega (arith, c.requires.pair.weight, weight_small n b i s c.requires.load.destination (omega (arith, c.requires.pair.all.order))) in
+    omega (arith, product_small c.args.load.amount c.args.pair.weight amount weight)
+
+pub enter-first-requires-clause-part : goal.enter-first-requires-clause-part
+enter-first-requires-clause-part c =
+    let n = c.args.self.now.inputs.now in
+    let a : ℕ = c.args.load.arm in
+    let b : ℕ = c.args.load.destination in
+    let i : ℕ = c.args.pair.first.out in
+    let k : ℕ = c.args.pair.second.out in
+    let within : k < n.shape.outs = is_out n b k c.requires.pair.all.within in
+    subst (IsPart n) (sym c.by.ensures) (record {
+      arm = c.requires.load.arm;
+      destination = c.requires.load.destination;
+      out = omega (arith, c.requires.pair.all.order);
+      amount = part_first n a b c.args.load.amount i k c.args.pair.weight c.args.pair.whole c.requires.elsewhere c.requires.load.amount c.requires.pair.all c.requires.pair.weight c.requires.pair.whole;
+    })
+
+pub enter-first-requires-clause-before : goal.enter-first-requires-clause-before
+enter-first-requires-clause-before c =
+    let n = c.args.self.now.inputs.now in
+    let e : ℕ = denominator c.args.self.now.portion in
+    let p : ℕ → ℕ = numerator c.args.self.now.portion in
+    let s : IsSolvable n = search rules in
+    let a : ℕ = c.args.load.arm in
+    let b : ℕ = c.args.load.destination in
+    let i : ℕ = c.args.pair.first.out in
+    let k : ℕ = c.args.pair.second.out in
+    let order : i < k = c.requires.pair.all.order in
+    let within : k < n.shape.outs = is_out n b k c.requires.pair.all.within in
+    subst (λ (q : Part). IsMoving n e p q.destination q.arm q.out c.args.row.now (sent_at c.args.sent.now)) (sym c.by.ensures)
+    (entered_past n e p b a 0 i c.args.row.now (sent_at c.args.sent.now) s c.requires.before (omega arith) (omega arith) (λ j _ less.
+    beside_two n e p a b i k c.requires.elsewhere c.requires.pair.all j (omega arith) (omega arith)))
+
+pub enter-second-requires-clause-part : goal.enter-second-requires-clause-part
+enter-second-requires-clause-part c =
+    let n = c.args.self.now.inputs.now in
+    let a : ℕ = c.args.load.arm in
+    let b : ℕ = c.args.load.destination in
+    let i : ℕ = c.args.pair.first.out in
+    let k : ℕ = c.args.pair.second.out in
+    subst (IsPart n) (sym c.by-2.ensures) (record {
+      arm = c.requires.load.arm;
+      destination = c.requires.load.destination;
+      out = is_out n b k c.requires.pair.all.within;
+      amount = part_second n a b c.args.load.amount i k c.args.pair.weight c.args.pair.whole c.requires.elsewhere c.requires.load.amount c.requires.pair.all c.requires.pair.weight c.requires.pair.whole;
+    })
+
+pub enter-second-requires-clause-before : goal.enter-second-requires-clause-before
+enter-second-requires-clause-before c =
+    let n = c.args.self.now.inputs.now in
+    let e : ℕ = denominator c.args.self.now.portion in
+    let p : ℕ → ℕ = numerator c.args.self.now.portion in
+    let s : IsSolvable n = search rules in
+    let a : ℕ = c.args.load.arm in
+    let b : ℕ = c.args.load.destination in
+    let i : ℕ = c.args.pair.first.out in
+    let k : ℕ = c.args.pair.second.out in
+    let order : i < k = c.requires.pair.all.order in
+    let within : k < n.shape.outs = is_out n b k c.requires.pair.all.within in
+    let after : IsMoving n e p b a (i + 1) c.enter-first.new.row (sent_at c.enter-first.new.sent) =
+    subst (λ (q : Part). IsMoving n e p q.destination q.arm (q.out + 1) c.enter-first.new.row (sent_at c.enter-first.new.sent)) c.by.ensures c.enter-first.ensures.after in
+    subst (λ (q : Part). IsMoving n e p q.destination q.arm q.out c.enter-first.new.row (sent_at c.enter-first.new.sent)) (sym c.by-2.ensures)
+    (entered_past n e p b a (i + 1) k c.enter-first.new.row (sent_at c.enter-first.new.sent) s after (omega arith) (omega arith) (λ j more less.
+    beside_two n e p a b i k c.requires.elsewhere c.requires.pair.all j (omega arith) (omega arith)))
+
+pub overflow_add-first : goal.overflow_add-first
+overflow_add-first c =
+    let n = c.args.self.now.inputs.now in
+    let e : ℕ = denominator c.args.self.now.portion in
+    let p : ℕ → ℕ = numerator c.args.self.now.portion in
+    let s : IsSolvable n = search rules in
+    let fractions : AreFractions n c.args.self.now.portion = search rules in
+    let a : ℕ = c.args.load.arm in
+    let b : ℕ = c.args.load.destination in
+    let i : ℕ = c.args.pair.first.out in
+    let k : ℕ = c.args.pair.second.out in
+    let one : c.enter-first.result ≡ moved n e p a b i = c.enter-first.ensures.moved ∙ ap (λ (q : Part). moved n e p q.arm q.destination q.out) c.by.ensures in
+    let other : c.enter-second.result ≡ moved n e p a b k = c.enter-second.ensures.moved ∙ ap (λ (q : Part). moved n e p q.arm q.destination q.out) c.by-2.ensures in
+    let small : (j : ℕ) → moved n e p a b j ≤ 32000 = λ j. moved_small n e p a b j s (fractions.at_most_all a c.requires.load.arm) c.requires.load.arm c.requires.load.destination in
+    omega (arith, small i, small k)
+
+pub leave-requires-clause-total : goal.leave-requires-clause-total
+leave-requires-clause-total c =
+    let n = c.args.self.now.inputs.now in
+    let e : ℕ = denominator c.args.self.now.portion in
+    let p : ℕ → ℕ = numerator c.args.self.now.portion in
+    let a : ℕ = c.args.load.arm in
+    let b : ℕ = c.args.load.destination in
+    let i : ℕ = c.args.pair.first.out in
+    let k : ℕ = c.args.pair.second.out in
+    let one : c.enter-first.result ≡ moved n e p a b i = c.enter-first.ensures.moved ∙ ap (λ (q : Part). moved n e p q.arm q.destination q.out) c.by.ensures in
+    let other : c.enter-second.result ≡ moved n e p a b k = c.enter-second.ensures.moved ∙ ap (λ (q : Part). moved n e p q.arm q.destination q.out) c.by-2.ensures in
+    let within : k < n.shape.outs = is_out n b k c.requires.pair.all.within in
+    omega (arith, one, other, sum_of_terms n.shape.outs i k (λ j. moved n e p a b j) c.requires.pair.all.order within (beside_two n e p a b i k c.requires.elsewhere c.requires.pair.all))
+
+pub leave-requires-clause-before : goal.leave-requires-clause-before
+leave-requires-clause-before c =
+    let n = c.args.self.now.inputs.now in
+    let e : ℕ = denominator c.args.self.now.portion in
+    let p : ℕ → ℕ = numerator c.args.self.now.portion in
+    let s : IsSolvable n = search rules in
+    let a : ℕ = c.args.load.arm in
+    let b : ℕ = c.args.load.destination in
+    let i : ℕ = c.args.pair.first.out in
+    let k : ℕ = c.args.pair.second.out in
+    let order : i < k = c.requires.pair.all.order in
+    let within : k < n.shape.outs = is_out n b k c.requires.pair.all.within in
+    let after : IsMoving n e p b a (k + 1) c.enter-second.new.row (sent_at c.enter-second.new.sent) =
+    subst (λ (q : Part). IsMoving n e p q.destination q.arm (q.out + 1) c.enter-second.new.row (sent_at c.enter-second.new.sent)) c.by-2.ensures c.enter-second.ensures.after in
+    entered_past n e p b a (k + 1) n.shape.outs c.enter-second.new.row (sent_at c.enter-second.new.sent) s after (omega arith) (omega arith) (λ j more _.
+    beside_two n e p a b i k c.requires.elsewhere c.requires.pair.all j (omega arith) (omega arith))
