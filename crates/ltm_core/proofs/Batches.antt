@@ -1,5 +1,5 @@
 -- What an accepted batch makes of a core.
-use Rattle.std.proofs.Common.{◌≡◌, ◌≢◌, ℕ, ◌+◌, ◌<◌, ◌≤◌, ◌^◌, List, Bool, inl, inr, refl, ap, sym, subst, ◌∙◌, arith}
+use Rattle.std.proofs.Common.{◌≡◌, ◌≢◌, ℕ, ◌+◌, ◌<◌, ◌≤◌, ◌^◌, List, ◌∷◌, Bool, inl, inr, refl, ap, sym, subst, ◌∙◌, arith}
 use Rattle.std.specs.Prelude.{Result, Ok, Err, OnOk, OnErr, IfErr}
 use Rattle.std.proofs.lemmas.Bool.{cases_eq}
 use Rattle.ltm_scenario.specs.declared.edit.Edit.{Edit}
@@ -17,7 +17,7 @@ use Rattle.ltm_flows.specs.declared.loading.Loading.{Loading}
 use Rattle.ltm_flows.specs.Shown.{Shows, loading_room, version_of}
 use Rattle.ltm_repair.specs.State.{RepairState, now}
 use Rattle.ltm_repair.specs.Moves.{Accepts}
-use Rattle.ltm_repair.specs.Events.{Accept, Accepted}
+use Rattle.ltm_repair.specs.Events.{CoreEvent, Accept, Accepted}
 use Rattle.ltm_pairs.specs.Touched.{HaveSlots, BatchTouchesReaders}
 use Rattle.ltm_desk.specs.declared.table.Table.{Table}
 use Rattle.ltm_desk.specs.Desks.{desk_at, changed_at}
@@ -30,12 +30,14 @@ use Rattle.ltm_core.specs.Laws.{RepairLaws}
 use Rattle.ltm_core.specs.Cores.{CoreData, desk_in, repair_of, IsNoneOut, IsAlike, IsLog, IsCore}
 use Rattle.ltm_core.specs.CoreAnswers.{AcceptsBatch, LooksAs, TellsAccept}
 use Rattle.ltm_core.specs.Taking.{TakesBatch}
+use Rattle.ltm_core.specs.Histories.{CameBy}
 use Rattle.ltm_scenario.specs.Horizon.{MayReach}
 use Rattle.ltm_core.proofs.Logs.{version_batch, settled_batch, earlier_scenario, last_scenario, accepted_now, holds_more, opening_batch}
 use Rattle.ltm_core.proofs.Cores.{core_now, after_event, none_there}
+use Rattle.ltm_core.proofs.Histories.{repair_told, core_told, came_more}
 use Rattle.ltm_core.proofs.Showings.{shown_low}
 use Rattle.ltm_core.proofs.Shapes.{alike_trans}
-use Rattle.ltm_core.proofs.Looking.{SeenAs, with_room, repair_same, core_looks, looks_as}
+use Rattle.ltm_core.proofs.Looking.{SeenAs, with_room, repair_same, core_looks, came_looks, looks_as}
 
 -- the core with the batch
 abbrev pub after_accept : CoreData → List Edit → ScenarioData → Table → CoreData
@@ -130,9 +132,10 @@ core_after_accept laws d batch next t is takes few room =
       room = room;
     }
 
-none_after : RepairLaws → (d : CoreData) (batch : List Edit) (next : ScenarioData) (t : Table) → IsCore d → TakesBatch d.scenario next d.table t batch → version_now d.log + 1 < 2 ^ 63 →
-    (setting_of next).slots ≤ loading_room d.shown → IsNoneOut (after_accept d batch next t)
-none_after laws d batch next t is takes few room = none_there (after_accept d batch next t) (core_after_accept laws d batch next t is takes few room) (λ u v x l. takes.table.accepts.void u v)
+none_after : RepairLaws → (d : CoreData) (batch : List Edit) (next : ScenarioData) (t : Table) (h : List CoreEvent) → IsCore d → TakesBatch d.scenario next d.table t batch → version_now d.log + 1 < 2 ^ 63 →
+    (setting_of next).slots ≤ loading_room d.shown → IsNoneOut (record (after_accept d batch next t) { history = h })
+none_after laws d batch next t h is takes few room =
+    none_there (record (after_accept d batch next t) { history = h }) (core_told (after_accept d batch next t) h (core_after_accept laws d batch next t is takes few room)) (λ u v x l. takes.table.accepts.void u v)
 
 looks_there : (d v m n : CoreData) → d ≡ v → m ≡ n → LooksAs d m → LooksAs v n
 looks_there d v m n same at looks = subst (λ (z : CoreData). LooksAs z n) same (subst (λ (z : CoreData). LooksAs d z) at looks)
@@ -143,21 +146,27 @@ cause_there d v batch f same is cause =
     subst (λ (z : CoreData). f.1.cause ≢ NoMemory → edited_all (scenario_now z.log) batch ≡ Err f.1) same
     (subst (λ (z : ScenarioData). f.1.cause ≢ NoMemory → edited_all z batch ≡ Err f.1) (sym is.scenario) cause)
 
+-- the core with the batch, and the batch in its history
+abbrev pub told_accept : CoreData → List Edit → ScenarioData → Table → Loading → CoreData
+told_accept d batch next t l = record d { log = with_batch d.log batch; scenario = next; table = t; shown = l; history = Accept ∷ d.history }
+
 -- the core d is that before, where room was made for it first
 accepts_batch : RepairLaws → (d : CoreData) (batch : List Edit) (next : ScenarioData) (u t : Table) (l : Loading) → IsCore d → TableSeenAs d.table u → SeenAs d.shown l →
-    TakesBatch d.scenario next u t batch → version_now d.log + 1 < 2 ^ 63 → (setting_of next).slots ≤ loading_room l → AcceptsBatch d batch (after_accept (with_room d u l) batch next t)
+    TakesBatch d.scenario next u t batch → version_now d.log + 1 < 2 ^ 63 → (setting_of next).slots ≤ loading_room l → AcceptsBatch d batch (told_accept d batch next t l)
 accepts_batch laws d batch next u t l is table shown takes few room =
     let m : CoreData = with_room d u l in
+    let h : List CoreEvent = Accept ∷ d.history in
     let ready : IsCore m = core_looks d u l is table shown in
     let taken : Taken m batch next t = taken_of m batch next t ready takes in
     record {
       edited = subst (λ (z : ScenarioData). edited_all z batch ≡ Ok (scenario_now (with_batch d.log batch))) (sym is.scenario)
           (subst (λ (z : ScenarioData). edited_all d.scenario batch ≡ Ok z) (sym taken.after) takes.edited);
-      keeps = ap (λ (z : ScenarioData). record d { log = with_batch d.log batch; scenario = z; table = t; shown = l }) (sym taken.after);
+      keeps = ap (λ (z : ScenarioData). told_accept d batch z t l) (sym taken.after);
       shown = shown.same;
-      accepted = subst (λ (z : RepairState). Accepted z (touches d.scenario batch) (repair_of (after_accept m batch next t))) (repair_same d u l is.ready.fits table shown)
-          (core_accepted m batch next t ready takes);
-      none_out = none_after laws m batch next t ready takes few room;
+      accepted = subst (λ (z : RepairState). Accepted (repair_of d) (touches d.scenario batch) z) (sym (repair_told (after_accept m batch next t) h))
+          (subst (λ (z : RepairState). Accepted z (touches d.scenario batch) (repair_of (after_accept m batch next t))) (repair_same d u l is.ready.fits table shown)
+          (core_accepted m batch next t ready takes));
+      none_out = none_after laws m batch next t h ready takes few room;
     }
 
 -- ---- whatever the batch came to
@@ -172,18 +181,38 @@ core_after_batch laws d batch next u t l log (Err f) is table shown takes room p
     (subst (λ (z : ScenarioData). IsCore (record d { scenario = z; table = t; shown = l })) (sym p)
     (subst (λ (z : Table). IsCore (record d { table = z; shown = l })) (sym q) (core_looks d u l is table shown)))
 
-pub core_tells_accept : RepairLaws → (d v : CoreData) (batch : List Edit) (next : ScenarioData) (u t : Table) (l : Loading) (log : Log) (r : Result (Unit {0}) (List Edit × EditFault)) → d ≡ v → IsCore d →
+-- the core with whatever the batch came to, and its history
+abbrev pub told_batch : CoreData → Log → ScenarioData → Table → Loading → List CoreEvent → CoreData
+told_batch d log next t l h = record d { log = log; scenario = next; table = t; shown = l; history = h }
+
+pub came_batch : (d : CoreData) (batch : List Edit) (next : ScenarioData) (u t : Table) (l : Loading) (log : Log) (h : List CoreEvent) (r : Result (Unit {0}) (List Edit × EditFault)) → IsCore d →
+    TableSeenAs d.table u → SeenAs d.shown l → OnOk r (TakesBatch d.scenario next u t batch) → OnOk r (log ≡ with_batch d.log batch) → OnErr r (next ≡ d.scenario) → OnErr r (t ≡ u) → OnErr r (log ≡ d.log) →
+    OnOk r (h ≡ Accept ∷ d.history) → OnErr r (h ≡ d.history) → CameBy d → CameBy (told_batch d log next t l h)
+came_batch d batch next u t l log h (Ok x) is table shown takes put p q e more still came =
+    let m : CoreData = with_room d u l in
+    let ready : IsCore m = core_looks d u l is table shown in
+    subst (λ (z : Log). CameBy (told_batch d z next t l h)) (sym put)
+    (came_more m (after_accept m batch next t) Accept h (opening_batch d.log batch) more (touches d.scenario batch, core_accepted m batch next t ready takes) (came_looks d u l is table shown came))
+came_batch d batch next u t l log h (Err f) is table shown takes put p q e more still came =
+    subst (λ (z : List CoreEvent). CameBy (told_batch d log next t l z)) (sym still)
+    (subst (λ (z : Log). CameBy (record d { log = z; scenario = next; table = t; shown = l })) (sym e)
+    (subst (λ (z : ScenarioData). CameBy (record d { scenario = z; table = t; shown = l })) (sym p)
+    (subst (λ (z : Table). CameBy (record d { table = z; shown = l })) (sym q) (came_looks d u l is table shown came))))
+
+pub core_tells_accept : RepairLaws → (d v : CoreData) (batch : List Edit) (next : ScenarioData) (u t : Table) (l : Loading) (log : Log) (h : List CoreEvent) (r : Result (Unit {0}) (List Edit × EditFault)) → d ≡ v → IsCore d →
     TableSeenAs d.table u → SeenAs d.shown l → OnOk r (TakesBatch d.scenario next u t batch) → OnOk r ((setting_of next).slots ≤ loading_room l) → OnOk r (log ≡ with_batch d.log batch) →
     OnOk r (version_now d.log + 1 < 2 ^ 63) → OnErr r (next ≡ d.scenario) → OnErr r (t ≡ u) → OnErr r (log ≡ d.log) →
-    IfErr r (λ f. f.0 ≡ batch) → IfErr r (λ f. f.1.cause ≢ NoMemory → edited_all d.scenario batch ≡ Err f.1) →
-    TellsAccept v batch r (record d { log = log; scenario = next; table = t; shown = l })
-core_tells_accept laws d v batch next u t l log (Ok x) same is table shown takes room put few p q e back cause =
-    subst (λ (z : Log). AcceptsBatch v batch (record d { log = z; scenario = next; table = t; shown = l })) (sym put)
-    (subst (λ (z : CoreData). AcceptsBatch z batch (after_accept (with_room d u l) batch next t)) same (accepts_batch laws d batch next u t l is table shown takes few room))
-core_tells_accept laws d v batch next u t l log (Err f) same is table shown takes room put few p q e back cause =
-    let stays : record d { log = log; scenario = next; table = t; shown = l } ≡ with_room d u l =
-    ap (λ (z : Log). record d { log = z; scenario = next; table = t; shown = l }) e
-    ∙ (ap (λ (z : ScenarioData). record d { scenario = z; table = t; shown = l }) p ∙ ap (λ (z : Table). record d { table = z; shown = l }) q) in
+    OnOk r (h ≡ Accept ∷ d.history) → OnErr r (h ≡ d.history) → IfErr r (λ f. f.0 ≡ batch) → IfErr r (λ f. f.1.cause ≢ NoMemory → edited_all d.scenario batch ≡ Err f.1) →
+    TellsAccept v batch r (told_batch d log next t l h)
+core_tells_accept laws d v batch next u t l log h (Ok x) same is table shown takes room put few p q e more still back cause =
+    subst (λ (z : Log). AcceptsBatch v batch (told_batch d z next t l h)) (sym put)
+    (subst (λ (z : List CoreEvent). AcceptsBatch v batch (told_batch d (with_batch d.log batch) next t l z)) (sym more)
+    (subst (λ (z : CoreData). AcceptsBatch z batch (told_accept d batch next t l)) same (accepts_batch laws d batch next u t l is table shown takes few room)))
+core_tells_accept laws d v batch next u t l log h (Err f) same is table shown takes room put few p q e more still back cause =
+    let stays : told_batch d log next t l h ≡ with_room d u l =
+    ap (λ (z : List CoreEvent). told_batch d log next t l z) still
+    ∙ (ap (λ (z : Log). record d { log = z; scenario = next; table = t; shown = l }) e
+    ∙ (ap (λ (z : ScenarioData). record d { scenario = z; table = t; shown = l }) p ∙ ap (λ (z : Table). record d { table = z; shown = l }) q)) in
     (back, looks_there d v (with_room d u l) _ same (sym stays) (looks_as d u l is table shown), cause_there d v batch f same is cause)
 
 core_refuses : (d v : CoreData) (batch : List Edit) (u : Table) (l : Loading) (log : Log) (f : List Edit × EditFault) → d ≡ v → IsCore d → TableSeenAs d.table u → SeenAs d.shown l → log ≡ d.log →
@@ -195,6 +224,9 @@ core_refuses d v batch u l log f same is table shown e back cause = (
 )
 
 -- ---- a batch that is refused before any room is made
+pub came_put_back : (d : CoreData) (next : ScenarioData) → next ≡ d.scenario → CameBy d → CameBy (record d { scenario = next })
+came_put_back d next same came = subst (λ (z : ScenarioData). CameBy (record d { scenario = z })) (sym same) came
+
 pub core_stays : (d : CoreData) (next : ScenarioData) → IsCore d → next ≡ d.scenario → IsCore (record d { scenario = next })
 core_stays d next is same = subst (λ (z : ScenarioData). IsCore (record d { scenario = z })) (sym same) is
 
@@ -203,7 +235,7 @@ pub core_same : (d v : CoreData) (next : ScenarioData) → d ≡ v → next ≡ 
 core_same d v next same back = ap (λ (z : ScenarioData). record d { scenario = z }) back ∙ same
 
 looks_same : (d : CoreData) → LooksAs d d
-looks_same d = record { log = refl; scenario = refl; commits = refl; stopped = refl; shown = record { version = refl; step = refl; links = refl; nodes = refl; shape = record { same_groups = refl; same_slots = refl }; totals = refl; free = λ i. refl; produced = λ n k x y. refl; generated = λ k x. refl }; desk = refl; repair = refl }
+looks_same d = record { log = refl; scenario = refl; commits = refl; stopped = refl; history = refl; shown = record { version = refl; step = refl; links = refl; nodes = refl; shape = record { same_groups = refl; same_slots = refl }; totals = refl; free = λ i. refl; produced = λ n k x y. refl; generated = λ k x. refl }; desk = refl; repair = refl }
 
 pub refused_tells : (d v : CoreData) (next : ScenarioData) (batch : List Edit) (e : List Edit × EditFault) → d ≡ v → IsCore d → next ≡ d.scenario → e.0 ≡ batch → (e.1.cause ≢ NoMemory → edited_all d.scenario batch ≡ Err e.1) →
     TellsAccept v batch (Err e) (record d { scenario = next })
@@ -214,6 +246,9 @@ refused_tells d v next batch e same is back at fault =
 -- the core with more room, where no memory is left for the rest
 pub core_roomy : (d : CoreData) (u : Table) (l : Loading) (log : Log) → IsCore d → TableSeenAs d.table u → SeenAs d.shown l → log ≡ d.log → IsCore (record d { log = log; table = u; shown = l })
 core_roomy d u l log is table shown same = subst (λ (z : Log). IsCore (record d { log = z; table = u; shown = l })) (sym same) (core_looks d u l is table shown)
+
+pub came_roomy : (d : CoreData) (u : Table) (l : Loading) (log : Log) → IsCore d → TableSeenAs d.table u → SeenAs d.shown l → log ≡ d.log → CameBy d → CameBy (record d { log = log; table = u; shown = l })
+came_roomy d u l log is table shown same came = subst (λ (z : Log). CameBy (record d { log = z; table = u; shown = l })) (sym same) (came_looks d u l is table shown came)
 
 pub no_memory_tells : (d v : CoreData) (batch : List Edit) (u : Table) (l : Loading) (log : Log) (r : Result (Unit {0}) (List Edit × EditFault)) → d ≡ v → IsCore d → TableSeenAs d.table u → SeenAs d.shown l →
     log ≡ d.log → r ≡ Err (batch, record { place = 0; cause = NoMemory }) → TellsAccept v batch r (record d { log = log; table = u; shown = l })

@@ -24,6 +24,8 @@ use Rattle.ltm_core.specs.Settling.{setting_at}
 use Rattle.ltm_core.specs.Laws.{RepairLaws}
 use Rattle.ltm_core.specs.Cores.{CoreData, repair_of, IsResting, IsNoneOut, IsAlike, IsLog, IsCore}
 use Rattle.ltm_core.specs.CoreAnswers.{IsOpeningCore}
+use Rattle.ltm_core.specs.Histories.{CameBy}
+use Rattle.ltm_core.proofs.Histories.{came_begun}
 use Rattle.ltm_core.proofs.Shapes.{alike_refl}
 
 -- the log of a core that begins
@@ -32,7 +34,7 @@ first_log s = record { opening = s; batches = [] }
 
 -- the core of a scenario when it begins
 abbrev pub begun : ScenarioData → Table → Loading → CoreData
-begun s t l = record { log = first_log s; scenario = s; table = t; shown = l; commits = 0; stopped = false }
+begun s t l = record { log = first_log s; scenario = s; table = t; shown = l; commits = 0; stopped = false; history = [] }
 
 first_now : (s : ScenarioData) → scenario_now (first_log s) ≡ s
 unfolding scenario_now batches_of
@@ -111,9 +113,14 @@ core_begun s t l o shows = record {
   shown = shows.1.version;
   commits = refl;
   running = refl;
+  history = refl;
   rest = rests_begun s t l o;
   none_out = none_begun s t l o;
 }
+
+pub core_came_at : (s : ScenarioData) (log : Log) (t : Table) (l : Loading) → log ≡ first_log s → IsCore (begun s t l) → IsOpened (setting_of s) t → Shows (setting_of s) 0 l →
+    CameBy (record (begun s t l) { log = log })
+core_came_at s log t l made is o shows = subst (λ (z : Log). CameBy (record (begun s t l) { log = z })) (sym made) (came_begun (begun s t l) is (core_begun s t l o shows))
 
 -- the log that is kept is the first one
 pub first_kept : (s o : ScenarioData) (bs : List (List Edit)) (ms : List Bool) → o ≡ s → bs ≡ [] → ms ≡ [] → log_of o bs ms ≡ first_log s

@@ -1,5 +1,5 @@
 -- What a claim, and a claim given back, make of a core.
-use Rattle.std.proofs.Common.{◌≡◌, ℕ, ◌<◌, List, Bool, false, IsTrue, ◌↔◌, inl, inr, refl, ap, sym, subst, ◌∙◌}
+use Rattle.std.proofs.Common.{◌≡◌, ℕ, ◌<◌, List, ◌∷◌, Bool, false, IsTrue, ◌↔◌, inl, inr, refl, ap, sym, subst, ◌∙◌}
 use Rattle.std.specs.Prelude.{Option, Some, None}
 use Rattle.std.specs.Prelude.{◌⊎◌}
 use Rattle.std.proofs.lemmas.Bool.{false≢true, cases_eq}
@@ -11,9 +11,9 @@ use Rattle.ltm_loading.specs.Setting.{Setting}
 use Rattle.ltm_loading.specs.Pairs.{shape_at}
 use Rattle.ltm_setting.specs.Setting.{setting_of}
 use Rattle.ltm_repair.specs.Desk.{Desk}
-use Rattle.ltm_repair.specs.State.{now}
+use Rattle.ltm_repair.specs.State.{RepairState, now}
 use Rattle.ltm_repair.specs.Moves.{GivesBack}
-use Rattle.ltm_repair.specs.Events.{GiveBack, GaveBack}
+use Rattle.ltm_repair.specs.Events.{CoreEvent, GiveBack, GaveBack}
 use Rattle.ltm_repair.specs.Making.{claim_event}
 use Rattle.ltm_repair.specs.Answers.{ClaimAnswer, Got, NotYet, Rest, ClaimLeaves, IsKept, AnswersClaim}
 use Rattle.ltm_desk.specs.declared.table.Table.{Table}
@@ -25,7 +25,9 @@ use Rattle.ltm_core.specs.Laws.{RepairLaws}
 use Rattle.ltm_core.specs.Claims.{ClaimData, DoneData}
 use Rattle.ltm_core.specs.Cores.{CoreData, desk_in, repair_of, IsCore}
 use Rattle.ltm_core.specs.CoreAnswers.{IsKeptClaim, TellsGiveBack}
+use Rattle.ltm_core.specs.Histories.{CameBy}
 use Rattle.ltm_core.proofs.Cores.{core_now, core_desk, after_event, core_with, only_desk}
+use Rattle.ltm_core.proofs.Histories.{repair_told, came_more}
 
 -- a pair that is handed out has this ticket
 abbrev pub IsTicket : ClaimAnswer → ℕ → Type 0
@@ -69,17 +71,24 @@ core_after_claim laws d t answer is ready cells told at =
     core_with d t is ready (after_event laws.keeps (repair_of d) (repair_of (record d { table = t })) (claim_event answer) is.repair
     (laws.events.claim (repair_of d) (repair_of (record d { table = t })) answer (core_claims d t answer is cells told at)))
 
-pub core_claims_at : (d v : CoreData) (t : Table) (answer : ClaimAnswer) → d ≡ v → IsCore d → changed_at (setting_of d.scenario) t ≡ changed_at (setting_of d.scenario) d.table →
+pub came_claim : RepairLaws → (d : CoreData) (t : Table) (answer : ClaimAnswer) (h : List CoreEvent) → IsCore d → changed_at (setting_of d.scenario) t ≡ changed_at (setting_of d.scenario) d.table →
+    AnswersSearch (setting_of d.scenario) (desk_in d) answer (desk_at (setting_of d.scenario) t) → IsTicket answer (version_now d.log) → h ≡ claim_event answer ∷ d.history → CameBy d →
+    CameBy (record d { table = t; history = h })
+came_claim laws d t answer h is cells told at more came =
+    came_more d (record d { table = t }) (claim_event answer) h refl more
+    (laws.events.claim (repair_of d) (repair_of (record d { table = t })) answer (core_claims d t answer is cells told at)) came
+
+pub core_claims_at : (d v : CoreData) (t : Table) (h : List CoreEvent) (answer : ClaimAnswer) → d ≡ v → IsCore d → changed_at (setting_of d.scenario) t ≡ changed_at (setting_of d.scenario) d.table →
     AnswersSearch (setting_of d.scenario) (desk_in d) answer (desk_at (setting_of d.scenario) t) → IsTicket answer (version_now d.log) →
-    AnswersClaim (repair_of v) answer (repair_of (record d { table = t }))
-core_claims_at d v t answer same is cells told at =
-    subst (λ (z : CoreData). AnswersClaim (repair_of z) answer (repair_of (record d { table = t }))) same (core_claims d t answer is cells told at)
+    AnswersClaim (repair_of v) answer (repair_of (record d { table = t; history = h }))
+core_claims_at d v t h answer same is cells told at =
+    subst (λ (e : RepairState). AnswersClaim (repair_of v) answer e) (sym (repair_told (record d { table = t }) h))
+    (subst (λ (z : CoreData). AnswersClaim (repair_of z) answer (repair_of (record d { table = t }))) same (core_claims d t answer is cells told at))
 
 -- the claim that a core hands out is kept
-pub kept_claim : (d : CoreData) (t : Table) (pair : Pair) (ticket : ℕ) (n : Inputs) → ticket ≡ version_now d.log →
-    AnswersSearch (setting_of d.scenario) (desk_in d) (Got pair.node.0 pair.slot ticket n.row) (desk_at (setting_of d.scenario) t) →
-    n.shape ≡ shape_at (setting_of d.scenario) pair.node.0 → IsKeptClaim (record d { table = t }) pair ticket n
-kept_claim d t pair ticket n at told shape = record { current = at; claimed = told.desk.2.holds; shape = shape }
+pub kept_claim : (old : Desk) (e : CoreData) (pair : Pair) (ticket : ℕ) (n : Inputs) → ticket ≡ version_now e.log → AnswersSearch (setting_of e.scenario) old (Got pair.node.0 pair.slot ticket n.row) (desk_in e) →
+    n.shape ≡ shape_at (setting_of e.scenario) pair.node.0 → IsKeptClaim e pair ticket n
+kept_claim old e pair ticket n at told shape = record { current = at; claimed = told.desk.2.holds; shape = shape }
 
 -- ---- the test of a claim
 pub kept_is : (d v : CoreData) (pair : Pair) (ticket : ℕ) (n : Inputs) (shape : NodeShape) (r : Bool) → d ≡ v → ticket ≡ version_now d.log →
@@ -121,17 +130,28 @@ pub core_after_give : RepairLaws → (d : CoreData) (t : Table) (u v : ℕ) → 
 core_after_give laws d t u v is ready cells step =
     core_with d t is ready (after_event laws.keeps (repair_of d) (repair_of (record d { table = t })) (GiveBack u v) is.repair (gave_of d t u v cells step))
 
-pub tells_give : (d v : CoreData) (t : Table) (claim given : ClaimData) → d ≡ v → claim ≡ given → IsKeptClaim v claim.pair claim.ticket claim.inputs →
+pub came_give : (d : CoreData) (t : Table) (h : List CoreEvent) (u v : ℕ) → changed_at (setting_of d.scenario) t ≡ changed_at (setting_of d.scenario) d.table →
+    GivesBack (desk_in d) u v (desk_at (setting_of d.scenario) t) → h ≡ GiveBack u v ∷ d.history → CameBy d → CameBy (record d { table = t; history = h })
+came_give d t h u v cells step more came = came_more d (record d { table = t }) (GiveBack u v) h refl more (gave_of d t u v cells step) came
+
+pub tells_give : (d v : CoreData) (t : Table) (h : List CoreEvent) (claim given : ClaimData) → d ≡ v → claim ≡ given → IsKeptClaim v claim.pair claim.ticket claim.inputs →
     changed_at (setting_of d.scenario) t ≡ changed_at (setting_of d.scenario) d.table →
-    GivesBack (desk_in d) claim.pair.node.0 claim.pair.slot (desk_at (setting_of d.scenario) t) → TellsGiveBack v given (record d { table = t })
-tells_give d v t claim given same at kept cells step =
-    let gave : GaveBack (repair_of v) claim.pair.node.0 claim.pair.slot (repair_of (record d { table = t })) =
-    subst (λ (z : CoreData). GaveBack (repair_of z) claim.pair.node.0 claim.pair.slot (repair_of (record d { table = t }))) same (gave_of d t claim.pair.node.0 claim.pair.slot cells step) in
-    subst (λ (z : ClaimData). TellsGiveBack v z (record d { table = t })) at (record {
-      kept = λ k. gave;
+    GivesBack (desk_in d) claim.pair.node.0 claim.pair.slot (desk_at (setting_of d.scenario) t) → h ≡ GiveBack claim.pair.node.0 claim.pair.slot ∷ d.history →
+    TellsGiveBack v given (record d { table = t; history = h })
+tells_give d v t h claim given same at kept cells step more =
+    let e : CoreData = record d { table = t; history = h } in
+    let gave : GaveBack (repair_of d) claim.pair.node.0 claim.pair.slot (repair_of e) =
+    subst (λ (z : RepairState). GaveBack (repair_of d) claim.pair.node.0 claim.pair.slot z) (sym (repair_told (record d { table = t }) h)) (gave_of d t claim.pair.node.0 claim.pair.slot cells step) in
+    subst (λ (z : ClaimData). TellsGiveBack v z e) at (record {
+      kept = λ k. subst (λ (z : CoreData). GaveBack (repair_of z) claim.pair.node.0 claim.pair.slot (repair_of e)) same gave;
+      adds = λ k. more ∙ ap (λ (z : CoreData). GiveBack claim.pair.node.0 claim.pair.slot ∷ z.history) same;
       stale = λ none. absurd (none kept);
-      keeps = ap (λ (z : CoreData). record z { table = t }) same;
+      keeps = ap (λ (z : CoreData). record z { table = t; history = h }) same;
     })
+
+-- a claim that is not kept changes nothing
+pub gives_none : (v : CoreData) (claim given : ClaimData) → claim ≡ given → (IsKeptClaim v claim.pair claim.ticket claim.inputs → ⊥) → TellsGiveBack v given v
+gives_none v claim given at none = subst (λ (z : ClaimData). TellsGiveBack v z v) at (record { kept = λ k. absurd (none k); adds = λ k. absurd (none k); stale = λ other. refl; keeps = refl })
 
 -- ---- whether a claim is kept is decided
 cases_own : (a b : Option ℕ) → (a ≡ b) ⊎ (a ≡ b → ⊥)

@@ -1,6 +1,6 @@
 -- What a commit makes of a core.
-use Rattle.std.proofs.Common.{◌≡◌, ℕ, ◌+◌, ◌-◌, ◌*◌, ◌<◌, ◌≤◌, ◌^◌, List, Bool, false, cond, refl, sym, subst, ◌∙◌, arith, lit<}
-use Rattle.std.specs.Prelude.{Some, is_some}
+use Rattle.std.proofs.Common.{◌≡◌, ℕ, ◌+◌, ◌-◌, ◌*◌, ◌<◌, ◌≤◌, ◌^◌, List, ◌∷◌, Bool, false, cond, refl, ap, sym, subst, ◌∙◌, arith, lit<}
+use Rattle.std.specs.Prelude.{◌||◌, Some, is_some}
 use Rattle.std.proofs.lemmas.Bool.{lt-ltb, le-leb}
 use Rattle.ltm_units.specs.declared.places.Pair.{Pair}
 use Rattle.ltm_node.specs.Inputs.{Inputs}
@@ -12,10 +12,10 @@ use Rattle.ltm_setting.specs.Setting.{setting_of}
 use Rattle.ltm_repair.specs.Desk.{Desk}
 use Rattle.ltm_repair.specs.Facts.{IsClaim}
 use Rattle.ltm_repair.specs.Counting.{undone, claims_out}
-use Rattle.ltm_repair.specs.State.{now}
+use Rattle.ltm_repair.specs.State.{RepairState, now}
 use Rattle.ltm_repair.specs.Repair.{IsRepair}
 use Rattle.ltm_repair.specs.Moves.{Commits}
-use Rattle.ltm_repair.specs.Events.{Commit, Committed}
+use Rattle.ltm_repair.specs.Events.{CoreEvent, Commit, Committed}
 use Rattle.ltm_repair.specs.Work.{ClaimsAreUndone}
 use Rattle.ltm_repair.proofs.Cases.{or_none}
 use Rattle.ltm_pairs.specs.Changes.{differs_at}
@@ -28,7 +28,9 @@ use Rattle.ltm_core.specs.Log.{version_now, settled_of}
 use Rattle.ltm_core.specs.Laws.{RepairLaws}
 use Rattle.ltm_core.specs.Cores.{CoreData, desk_in, repair_of, IsCore}
 use Rattle.ltm_core.specs.CoreAnswers.{IsKeptClaim, CommitsDone}
+use Rattle.ltm_core.specs.Histories.{CameBy}
 use Rattle.ltm_core.proofs.Widths.{grown}
+use Rattle.ltm_core.proofs.Histories.{repair_told, came_more}
 use Rattle.ltm_core.proofs.Cores.{core_now, core_setting, after_event}
 use Rattle.ltm_core.proofs.Claimings.{kept_in}
 
@@ -76,13 +78,33 @@ core_after_commit laws d t u v row is ready step = record {
   room = is.room;
 }
 
-pub commits_done : (d : CoreData) (t : Table) (pair : Pair) (row : List ℕ) → IsCore d → CommitsPair (setting_of d.scenario) d.table pair.node.0 pair.slot row t → CommitsDone d pair row (after_commit d t)
-unfolding repair_of
-commits_done d t pair row is step = record { commits = core_commits d t pair.node.0 pair.slot row is step; cells = step.cells; keeps = refl }
+pub came_commit : (d : CoreData) (t : Table) (h : List CoreEvent) (u v : ℕ) (row : List ℕ) → IsCore d → CommitsPair (setting_of d.scenario) d.table u v row t → h ≡ Commit u v ∷ d.history → CameBy d →
+    CameBy (record (after_commit d t) { history = h })
+came_commit d t h u v row is step more came =
+    came_more d (after_commit d t) (Commit u v) h refl more (row, readers (setting_of d.scenario) (desk_in d) (desk_at (setting_of d.scenario) t) u v, core_commits d t u v row is step) came
 
-pub core_commits_at : (d v : CoreData) (t : Table) (pair : Pair) (row : List ℕ) → d ≡ v → IsCore d → CommitsPair (setting_of d.scenario) d.table pair.node.0 pair.slot row t →
-    CommitsDone v pair row (after_commit d t)
-core_commits_at d v t pair row same is step = subst (λ (z : CoreData). CommitsDone z pair row (after_commit d t)) same (commits_done d t pair row is step)
+-- the core with the commit in its history
+abbrev pub told_commit : CoreData → Table → List CoreEvent → CoreData
+told_commit d t h = record d { table = t; commits = d.commits + 1; history = h }
+
+cells_of : (d : CoreData) (t : Table) (h : List CoreEvent) (u v : ℕ) (row : List ℕ) → CommitsPair (setting_of d.scenario) d.table u v row t →
+    (g k : ℕ) → (repair_of (told_commit d t h)).changed g k ≡ ((repair_of d).changed g k || rewritten (setting_of d.scenario) (desk_in d) (desk_in (told_commit d t h)) g k)
+unfolding repair_of
+cells_of d t h u v row step = step.cells
+
+pub commits_done : (d : CoreData) (t : Table) (h : List CoreEvent) (pair : Pair) (row : List ℕ) → IsCore d → CommitsPair (setting_of d.scenario) d.table pair.node.0 pair.slot row t →
+    h ≡ Commit pair.node.0 pair.slot ∷ d.history → CommitsDone d pair row (told_commit d t h)
+commits_done d t h pair row is step more =
+    let wakes : ℕ → ℕ → Bool = readers (setting_of d.scenario) (desk_in d) (desk_at (setting_of d.scenario) t) pair.node.0 pair.slot in
+    record {
+      commits = subst (λ (e : RepairState). Committed (repair_of d) pair.node.0 pair.slot row wakes e) (sym (repair_told (after_commit d t) h)) (core_commits d t pair.node.0 pair.slot row is step);
+      cells = cells_of d t h pair.node.0 pair.slot row step;
+      keeps = ap (λ (l : List CoreEvent). told_commit d t l) more;
+    }
+
+pub core_commits_at : (d v : CoreData) (t : Table) (h : List CoreEvent) (pair : Pair) (row : List ℕ) → d ≡ v → IsCore d → CommitsPair (setting_of d.scenario) d.table pair.node.0 pair.slot row t →
+    h ≡ Commit pair.node.0 pair.slot ∷ d.history → CommitsDone v pair row (told_commit d t h)
+core_commits_at d v t h pair row same is step more = subst (λ (z : CoreData). CommitsDone z pair row (told_commit d t h)) same (commits_done d t h pair row is step more)
 
 -- ---- one more commit can be counted
 claim_undone : ClaimsAreUndone → (s : Setting) (d : Desk) (u t : ℕ) (row : List ℕ) → u < s.nodes → t < s.slots → d.claimed u t ≡ Some row → 1 ≤ undone s.nodes s.slots d

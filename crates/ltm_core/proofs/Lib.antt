@@ -1,10 +1,12 @@
 pub mod Logs
 pub mod Widths
 pub mod Cores
+pub mod Histories
 pub mod Claimings
 pub mod Committings
 pub mod Anew
 pub mod Showings
+pub mod Settlings
 pub mod Shapes
 pub mod Looking
 pub mod Batches

@@ -14,7 +14,9 @@ use Rattle.ltm_core.specs.Log.{Log}
 use Rattle.ltm_core.specs.Settling.{setting_at}
 use Rattle.ltm_core.specs.Cores.{CoreData, repair_of, IsCore}
 use Rattle.ltm_core.specs.CoreAnswers.{LooksAs}
+use Rattle.ltm_core.specs.Histories.{CameBy}
 use Rattle.ltm_core.proofs.Cores.{core_setting}
+use Rattle.ltm_core.proofs.Histories.{came_stays}
 
 -- what is shown is as before, and its room no less
 pub record SeenAs (old new : Loading) : Type 0 where
@@ -46,12 +48,16 @@ core_looks d t l is table shown = record {
   room = omega (is.room, shown.room, arith);
 }
 
+pub came_looks : (d : CoreData) (t : Table) (l : Loading) → IsCore d → TableSeenAs d.table t → SeenAs d.shown l → CameBy d → CameBy (with_room d t l)
+came_looks d t l is table shown came = came_stays d (with_room d t l) refl refl (repair_same d t l is.ready.fits table shown) came
+
 pub looks_as : (d : CoreData) (t : Table) (l : Loading) → IsCore d → TableSeenAs d.table t → SeenAs d.shown l → LooksAs d (with_room d t l)
 looks_as d t l is table shown = record {
   log = refl;
   scenario = refl;
   commits = refl;
   stopped = refl;
+  history = refl;
   shown = shown.same;
   desk = table.desk (setting_of d.scenario) is.ready.fits;
   repair = repair_same d t l is.ready.fits table shown;

@@ -21,6 +21,7 @@ use Rattle.ltm_desk.specs.declared.table.Table.{Table}
 use Rattle.ltm_pairs.proofs.EditKeeps.{bound, placed}
 use Rattle.ltm_core.specs.Log.{Log, log_of, batches_of, version_now, after_batch, after_batches, AreAccepted, HoldsAccepted, scenario_at, scenario_now}
 use Rattle.ltm_core.specs.Settling.{setting_at}
+use Rattle.ltm_repair.specs.Events.{CoreEvent}
 use Rattle.ltm_core.specs.Cores.{CoreData, core_of, IsAlike, IsCore}
 use Rattle.ltm_core.specs.Producing.{changes, edits_change, batches_change, Renews}
 use Rattle.ltm_core.proofs.Logs.{last_scenario, kept_batches}
@@ -150,12 +151,12 @@ renewed_production leave make d is new renews = λ n k x y.
     ]
 
 -- the same, said by what a core keeps
-pub shown_production : SetsLeave → EditsMake → (opening : ScenarioData) (batches seen : List (List Edit)) (marks : List Bool) (scenario : ScenarioData) (table : Table) (shown : Loading) (commits : ℕ) (stopped : Bool) (version : ℕ) (new : Loading) →
-    IsCore (core_of opening batches marks scenario table shown commits stopped) → length marks ≡ length batches → seen ≡ batches → version ≡ version_of shown →
+pub shown_production : SetsLeave → EditsMake → (opening : ScenarioData) (batches seen : List (List Edit)) (marks : List Bool) (scenario : ScenarioData) (table : Table) (shown : Loading) (commits : ℕ) (stopped : Bool) (history : List CoreEvent) (version : ℕ) (new : Loading) →
+    IsCore (core_of opening batches marks scenario table shown commits stopped history) → length marks ≡ length batches → seen ≡ batches → version ≡ version_of shown →
     Renews (setting_of scenario) (batches_change scenario.network (drop version seen)) shown new → HasProduction (setting_of scenario) new
-shown_production leave make opening batches seen marks scenario table shown commits stopped version new is same_length same_batches at renews =
+shown_production leave make opening batches seen marks scenario table shown commits stopped history version new is same_length same_batches at renews =
     let kept : batches_of (log_of opening batches marks) ≡ batches = kept_batches opening batches marks same_length in
     let here : drop version seen ≡ drop (version_of shown) (batches_of (log_of opening batches marks)) =
     ap (λ (n : ℕ). drop n seen) at ∙ ap (λ (b : List (List Edit)). drop (version_of shown) b) (same_batches ∙ sym kept) in
-    renewed_production leave make (core_of opening batches marks scenario table shown commits stopped) is new
+    renewed_production leave make (core_of opening batches marks scenario table shown commits stopped history) is new
     (subst (λ (b : List (List Edit)). Renews (setting_of scenario) (batches_change scenario.network b) shown new) here renews)

@@ -1,5 +1,5 @@
 -- What publishing and a settle count make of a core.
-use Rattle.std.proofs.Common.{◌≡◌, ℕ, ◌+◌, ◌-◌, ◌<◌, ◌≤◌, Bool, false, if◌then◌else◌, refl, ap, sym, subst, ◌∙◌, arith}
+use Rattle.std.proofs.Common.{◌≡◌, ℕ, ◌+◌, ◌<◌, ◌≤◌, List, ◌∷◌, Bool, false, if◌then◌else◌, refl, ap, sym, subst, ◌∙◌, arith}
 use Rattle.ltm_units.specs.Sums.{sum_below}
 use Rattle.ltm_units.proofs.Sums.{sum_below-zero}
 use Rattle.ltm_curve.specs.Counts.{Counts, total}
@@ -13,27 +13,27 @@ use Rattle.ltm_loading.specs.Setting.{Setting}
 use Rattle.ltm_loading.specs.Groups.{groups}
 use Rattle.ltm_loading.specs.LoadingTotals.{HaveTotals, AreLoadingTotals}
 use Rattle.ltm_scenario.specs.Data.{ScenarioData}
-use Rattle.ltm_scenario.specs.IsScenario.{IsScenario}
 use Rattle.ltm_setting.specs.Setting.{setting_of}
 use Rattle.ltm_flows.specs.declared.loading.Loading.{Loading}
 use Rattle.ltm_flows.specs.Shown.{ShowsCounts, Shows, Fits, AgreesOutside, version_of, curves_of, last_of, loading_room}
 use Rattle.ltm_repair.specs.Desk.{IsAtRest}
-use Rattle.ltm_repair.specs.State.{RepairState, now, all_differences, IsSettleCount as IsCountOf}
+use Rattle.ltm_repair.specs.State.{RepairState, now}
 use Rattle.ltm_repair.specs.Repair.{IsRepair}
-use Rattle.ltm_repair.specs.Events.{Publish, Published, Settle, Settled}
-use Rattle.ltm_repair.specs.Settling.{SettleTells}
+use Rattle.ltm_repair.specs.Events.{CoreEvent, Publish, Published}
 use Rattle.ltm_desk.specs.declared.table.Table.{Table}
 use Rattle.ltm_desk.specs.Desks.{desk_at, changed_at}
 use Rattle.ltm_desk.specs.Cells.{count_cells}
 use Rattle.ltm_desk.specs.Ready.{IsReady}
-use Rattle.ltm_core.specs.Log.{Log, version_now, settled_of, scenario_at, with_mark}
-use Rattle.ltm_core.specs.Settling.{setting_at, difference, IsSettleCount, SettleCountsAreExact}
+use Rattle.ltm_core.specs.Log.{version_now, scenario_at}
+use Rattle.ltm_core.specs.Settling.{setting_at}
 use Rattle.ltm_core.specs.Laws.{RepairLaws}
-use Rattle.ltm_core.specs.Cores.{CoreData, desk_in, repair_of, IsResting, IsShownOf, IsAlike, IsLog, IsCore}
-use Rattle.ltm_core.specs.CoreAnswers.{PublishesAll, SettlesAll}
-use Rattle.ltm_core.proofs.Logs.{last_scenario, version_marked, settled_marked, marked_scenario, marked_now, opening_marked, holds_marked}
+use Rattle.ltm_core.specs.Cores.{CoreData, desk_in, repair_of, IsShownOf, IsAlike, IsCore}
+use Rattle.ltm_core.specs.CoreAnswers.{PublishesAll}
+use Rattle.ltm_core.specs.Histories.{CameBy}
+use Rattle.ltm_core.proofs.Logs.{last_scenario}
 use Rattle.ltm_core.proofs.Shapes.{SameSizes, same_sizes, shown_fits as fits_of}
 use Rattle.ltm_core.proofs.Cores.{core_now, after_event, rests_there}
+use Rattle.ltm_core.proofs.Histories.{repair_told, came_more}
 
 -- ---- publishing
 -- what publishing makes of table and loading: the cells are cleared, and what is shown is of the working counts
@@ -96,103 +96,35 @@ none_counted s test none =
     sum_below-zero (s.slots + 1) (λ k. sum_below (groups s) (λ g. if test g k then 1 else 0)) (λ k l.
     sum_below-zero (groups s) (λ g. if test g k then 1 else 0) (λ g x. rw (none g k) refl))
 
-cleared_of : (d : CoreData) (t : Table) (l : Loading) → ((g k : ℕ) → changed_at (setting_of d.scenario) t g k ≡ false) → count_cells (setting_of d.scenario) (repair_of (after_publish d t l)).changed ≡ 0
-unfolding repair_of
-cleared_of d t l none = none_counted (setting_of d.scenario) (changed_at (setting_of d.scenario) t) none
+-- the core with the publishing in its history
+abbrev pub told_publish : CoreData → Table → Loading → List CoreEvent → CoreData
+told_publish d t l h = record d { table = t; shown = l; history = h }
 
-publishes_all : (d : CoreData) (t : Table) (l : Loading) (version : ℕ) → version ≡ version_now d.log → IsCore d → IsAtRest (setting_of d.scenario) (desk_in d) →
-    ShowsTable (setting_of d.scenario) (version_now d.log) d.table t l → PublishesAll d version (after_publish d t l)
-publishes_all d t l version at is rest step = record {
+cleared_of : (d : CoreData) (t : Table) (l : Loading) (h : List CoreEvent) → ((g k : ℕ) → changed_at (setting_of d.scenario) t g k ≡ false) →
+    count_cells (setting_of d.scenario) (repair_of (told_publish d t l h)).changed ≡ 0
+unfolding repair_of
+cleared_of d t l h none = none_counted (setting_of d.scenario) (changed_at (setting_of d.scenario) t) none
+
+pub came_publish : (d : CoreData) (t : Table) (l : Loading) (h : List CoreEvent) → IsCore d → IsAtRest (setting_of d.scenario) (desk_in d) → ShowsTable (setting_of d.scenario) (version_now d.log) d.table t l →
+    h ≡ Publish ∷ d.history → CameBy d → CameBy (told_publish d t l h)
+came_publish d t l h is rest step more came = came_more d (after_publish d t l) Publish h refl more (core_publishes d t l is rest step) came
+
+publishes_all : (d : CoreData) (t : Table) (l : Loading) (h : List CoreEvent) (version : ℕ) → version ≡ version_now d.log → IsCore d → IsAtRest (setting_of d.scenario) (desk_in d) →
+    ShowsTable (setting_of d.scenario) (version_now d.log) d.table t l → h ≡ Publish ∷ d.history → PublishesAll d version (told_publish d t l h)
+publishes_all d t l h version at is rest step more = record {
   all = at;
   rest = rests_there d is rest;
   shown = step.shows.version ∙ sym at;
-  published = core_publishes d t l is rest step;
-  cleared = cleared_of d t l step.cleared;
-  keeps = refl;
+  published = subst (λ (e : RepairState). Published (repair_of d) e) (sym (repair_told (after_publish d t l) h)) (core_publishes d t l is rest step);
+  cleared = cleared_of d t l h step.cleared;
+  keeps = ap (λ (k : List CoreEvent). told_publish d t l k) more;
 }
 
-pub core_publishes_at : (d v : CoreData) (t : Table) (l : Loading) (version : ℕ) → d ≡ v → version ≡ version_now d.log → IsCore d → IsAtRest (setting_of d.scenario) (desk_in d) →
-    ShowsTable (setting_of d.scenario) (version_now d.log) d.table t l → PublishesAll v version (after_publish d t l)
-core_publishes_at d v t l version same at is rest step = subst (λ (z : CoreData). PublishesAll z version (after_publish d t l)) same (publishes_all d t l version at is rest step)
+pub core_publishes_at : (d v : CoreData) (t : Table) (l : Loading) (h : List CoreEvent) (version : ℕ) → d ≡ v → version ≡ version_now d.log → IsCore d → IsAtRest (setting_of d.scenario) (desk_in d) →
+    ShowsTable (setting_of d.scenario) (version_now d.log) d.table t l → h ≡ Publish ∷ d.history → PublishesAll v version (told_publish d t l h)
+core_publishes_at d v t l h version same at is rest step more = subst (λ (z : CoreData). PublishesAll z version (told_publish d t l h)) same (publishes_all d t l h version at is rest step more)
 
--- ---- settle counts
-abbrev pub after_settle : CoreData → CoreData
-after_settle d = record d { log = with_mark d.log; commits = 0 }
-
-marked_settings : (log : Log) → setting_at (with_mark log) ≡ setting_at log
-marked_settings log = λ i k. setting_of (marked_scenario log k i)
-
-settled_of_core : (d : CoreData) → version_of d.shown ≡ version_now d.log → Settled (repair_of d) d.commits (repair_of (after_settle d))
-unfolding repair_of
-settled_of_core d at = record {
-  up_to_date = at;
-  told = refl;
-  desk = refl;
-  settings = marked_settings d.log;
-  accepted = version_marked d.log;
-  settled = settled_marked d.log;
-  shown_at = refl;
-  shown = refl;
-  commits = refl;
-  changed = refl;
-}
-
--- the bounds of the theory are those of the log
-count_of_log : SettleTells → (d : CoreData) (e : RepairState) → IsCore d → Settled (repair_of d) d.commits e → IsSettleCount d.log d.commits
-unfolding repair_of IsSettleCount all_differences
-count_of_log law d e is step loading are =
-    let told : IsCountOf (repair_of d) loading d.commits = law (repair_of d) e d.commits is.repair step loading are in
-    (told.at_least, told.at_most)
-
-marked_log : (log : Log) → IsLog log → IsLog (with_mark log)
-marked_log log is =
-    let same : version_now (with_mark log) ≡ version_now log = version_marked log in
-    record {
-      accepted = holds_marked log is.accepted;
-      scenarios = λ k l. subst IsScenario (sym (marked_scenario log k)) (is.scenarios k (omega arith));
-      alike = λ k l. subst (λ (z : ScenarioData). IsAlike (with_mark log).opening z) (sym (marked_scenario log k))
-          (subst (λ (z : ScenarioData). IsAlike z (scenario_at log k)) (sym (opening_marked log)) (is.alike k (omega arith)));
-      few = omega (is.few, same, arith);
-    }
-
-shows_marked : (log : Log) (v : ℕ) (l : Loading) → Shows (setting_at log v) v l → Shows (setting_at (with_mark log) v) v l
-shows_marked log v l shows = subst (λ (z : Setting). Shows z v l) (sym (ap setting_of (marked_scenario log v))) shows
-
-pub core_after_settle : RepairLaws → (d : CoreData) → IsCore d → version_of d.shown ≡ version_now d.log → IsCore (after_settle d)
-core_after_settle laws d is at = record {
-  log = marked_log d.log is.log;
-  scenario = marked_now d.log ∙ is.scenario;
-  valid = is.valid;
-  repair = after_event laws.keeps (repair_of d) (repair_of (after_settle d)) (Settle d.commits) is.repair (settled_of_core d at);
-  ready = is.ready;
-  shows = shows_marked d.log (version_of d.shown) d.shown is.shows;
-  room = is.room;
-}
-
-up_to_date : (d : CoreData) → IsCore d → version_of d.shown ≡ version_now d.log → IsResting d
-unfolding IsResting repair_of
-up_to_date d is at = is.repair.up_to_date at
-
-settles_all : RepairLaws → (d : CoreData) → IsCore d → version_of d.shown ≡ version_now d.log → SettlesAll d d.commits (after_settle d)
-settles_all laws d is at = record {
-  told = refl;
-  counts = count_of_log laws.settle d (repair_of (after_settle d)) is (settled_of_core d at);
-  rest = up_to_date d is at;
-  shown = at;
-  settled = settled_of_core d at;
-  keeps = refl;
-}
-
--- the log that is kept is that with the mark
-pub core_after_settle_at : RepairLaws → (d : CoreData) (log : Log) → log ≡ with_mark d.log → IsCore d → version_of d.shown ≡ version_now d.log → IsCore (record d { log = log; commits = 0 })
-core_after_settle_at laws d log made is at = subst (λ (z : Log). IsCore (record d { log = z; commits = 0 })) (sym made) (core_after_settle laws d is at)
-
-pub core_settles_at : RepairLaws → (d v : CoreData) (log : Log) → d ≡ v → log ≡ with_mark d.log → IsCore d → version_of d.shown ≡ version_now d.log →
-    SettlesAll v d.commits (record d { log = log; commits = 0 })
-core_settles_at laws d v log same made is at =
-    subst (λ (z : Log). SettlesAll v d.commits (record d { log = z; commits = 0 })) (sym made)
-    (subst (λ (z : CoreData). SettlesAll z d.commits (after_settle d)) same (settles_all laws d is at))
-
+-- ---- what is shown
 pub shown_low : (d : CoreData) → IsCore d → version_of d.shown ≤ version_now d.log
 unfolding repair_of
 shown_low d is = is.repair.shows.accepted_last
@@ -200,23 +132,6 @@ shown_low d is = is.repair.shows.accepted_last
 pub shown_less : (d v : CoreData) → d ≡ v → version_of d.shown < version_now d.log → version_of v.shown < version_now v.log
 shown_less d v same l = subst (λ (z : CoreData). version_of z.shown < version_now z.log) same l
 
--- ---- stopping changes nothing of the repair
-same_stopped : (d : CoreData) (b : Bool) → repair_of d ≡ repair_of (record d { stopped = b })
-unfolding repair_of
-same_stopped d b = refl
-
-pub core_stops : (d : CoreData) (b : Bool) → IsCore d → IsCore (record d { stopped = b })
-core_stops d b is = record {
-  log = is.log;
-  scenario = is.scenario;
-  valid = is.valid;
-  repair = subst (λ (r : RepairState). IsRepair r) (same_stopped d b) is.repair;
-  ready = is.ready;
-  shows = is.shows;
-  room = is.room;
-}
-
--- ---- what is shown
 core_shape : (d : CoreData) → IsCore d → IsAlike d.log.opening d.scenario
 core_shape d is = subst (λ (z : ScenarioData). IsAlike d.log.opening z) (last_scenario d.log ∙ is.scenario) (is.log.alike (version_now d.log) (omega arith))
 
@@ -294,24 +209,3 @@ none_beyond d c x is shape same cells g k inside high late off =
 pub core_agrees : (d : CoreData) (c : Curves) (x : Changed) → IsCore d → IsShaped (setting_of d.scenario) c → (desk_in d).counts ≡ counts_of c →
     ((g k : ℕ) → g < groups (setting_of d.scenario) → k ≤ (setting_of d.scenario).slots → is_changed x g k ≡ changed_at (setting_of d.scenario) d.table g k) → AgreesOutside d.shown c x
 core_agrees d c x is shape same cells = record { agree = agrees_in d c x is shape same cells; beyond = none_beyond d c x is shape same cells }
-
--- ---- settle counts that are exact
-pub settle_counts_are_exact : SettleCountsAreExact
-unfolding IsSettleCount
-settle_counts_are_exact log loading n are count =
-    let F : ℕ → ℕ = λ i. difference log loading (settled_of log + i) (settled_of log + i + 1) in
-    let told = count loading are in
-    let most : n ≤ sum_below (version_now log - settled_of log) F = told.1 in
-    let least : difference log loading (settled_of log) (version_now log) ≤ n = told.0 in
-    record {
-      none = λ same.
-          let z : version_now log - settled_of log ≡ 0 = omega arith in
-          let sum : sum_below (version_now log - settled_of log) F ≡ sum_below 0 F = ap (λ m. sum_below m F) z in omega (most, sum, arith);
-      one = λ next.
-          let z : version_now log - settled_of log ≡ 1 = omega arith in
-          let sum : sum_below (version_now log - settled_of log) F ≡ sum_below 1 F = ap (λ m. sum_below m F) z in
-          let back : settled_of log + 0 ≡ settled_of log = omega arith in
-          let first : F 0 ≡ difference log loading (settled_of log) (settled_of log + 1) = ap (λ k. difference log loading k (k + 1)) back in
-          let whole : difference log loading (settled_of log) (settled_of log + 1) ≡ difference log loading (settled_of log) (version_now log) = ap (λ k. difference log loading (settled_of log) k) (sym next) in
-          omega (most, sum, first, whole, least, arith);
-    }

@@ -1,5 +1,5 @@
 -- What the calls of a core answer, and exactly when.
-use Rattle.std.specs.Prelude.{◌≡◌, ◌≢◌, ℕ, ◌+◌, ◌<◌, ◌||◌, List, [], Option, Some, None, Result, Ok, Err, false}
+use Rattle.std.specs.Prelude.{◌≡◌, ◌≢◌, ℕ, ◌+◌, ◌<◌, ◌||◌, List, [], ◌∷◌, Option, Some, None, Result, Ok, Err, false}
 use Rattle.ltm_units.specs.declared.places.Pair.{Pair}
 use Rattle.ltm_node.specs.Inputs.{Inputs}
 use Rattle.ltm_scenario.specs.declared.edit.Edit.{Edit}
@@ -11,7 +11,7 @@ use Rattle.ltm_loading.specs.Pairs.{shape_at}
 use Rattle.ltm_setting.specs.Setting.{setting_of}
 use Rattle.ltm_flows.specs.Shown.{version_of, SameLoading}
 use Rattle.ltm_repair.specs.Answers.{ClaimAnswer, Got, NotYet, Rest, AnswersClaim}
-use Rattle.ltm_repair.specs.Events.{Committed as CommitHappened, GaveBack, Accepted, Published as PublishHappened, Settled}
+use Rattle.ltm_repair.specs.Events.{CoreEvent, Look, Claim, GiveBack, Commit, Accept, Publish, Settle, Stay, Committed as CommitHappened, GaveBack, Accepted, Published as PublishHappened, Settled}
 use Rattle.ltm_desk.specs.Committing.{readers, rewritten}
 use Rattle.ltm_desk.specs.Batches.{touches}
 use Rattle.ltm_desk.specs.Cells.{count_cells}
@@ -35,6 +35,7 @@ pub record IsOpeningCore (s : ScenarioData) (d : CoreData) : Type 0 where
   pub shown : version_of d.shown ≡ 0
   pub commits : d.commits ≡ 0
   pub running : d.stopped ≡ false
+  pub history : d.history ≡ []
   pub rest : IsResting d
   pub none_out : IsNoneOut d
 
@@ -42,9 +43,18 @@ pub record IsOpeningCore (s : ScenarioData) (d : CoreData) : Type 0 where
 abbrev pub Keeps : CoreData → CoreData → Type 0
 Keeps old new = (new.log ≡ old.log) × (new.shown ≡ old.shown)
 
--- all but the table stays
+-- all but the table and the history stays
 abbrev pub KeepsAll : CoreData → CoreData → Type 0
-KeepsAll old new = new ≡ record old { table = new.table }
+KeepsAll old new = new ≡ record old { table = new.table; history = new.history }
+
+-- a history with one event more; what changes nothing adds nothing
+abbrev pub with_event : CoreEvent → List CoreEvent → List CoreEvent
+with_event Stay history = history
+with_event event history = event ∷ history
+
+-- the history has this event more, and no other
+abbrev pub Adds : CoreData → CoreEvent → CoreData → Type 0
+Adds old event new = new.history ≡ with_event event old.history
 
 -- ---- claims
 -- the answer of a claim without its buffers
@@ -72,7 +82,7 @@ pub record CommitsDone (old : CoreData) (pair : Pair) (row : List ℕ) (new : Co
   pub commits : CommitHappened (repair_of old) pair.node.0 pair.slot row
       (readers (setting_of old.scenario) (desk_in old) (desk_in new) pair.node.0 pair.slot) (repair_of new)
   pub cells : (g k : ℕ) → (repair_of new).changed g k ≡ ((repair_of old).changed g k || rewritten (setting_of old.scenario) (desk_in old) (desk_in new) g k)
-  pub keeps : new ≡ record old { table = new.table; commits = old.commits + 1 }
+  pub keeps : new ≡ record old { table = new.table; commits = old.commits + 1; history = Commit pair.node.0 pair.slot ∷ old.history }
 
 -- a commit is stale exactly where no kept claim has its pair, ticket and inputs; then nothing changes
 abbrev pub TellsCommit : CoreData → DoneData → Committed → CoreData → Type 0
@@ -87,17 +97,19 @@ pub record RecomputesPair (old : CoreData) (pair : Pair) (new : CoreData) : Type
   pub row : List ℕ
   pub claims : AnswersClaim (repair_of old) (Got pair.node.0 pair.slot (version_now old.log) row) (repair_of between)
   pub keeps : KeepsAll old between
+  pub adds : Adds old (Claim pair.node.0 pair.slot) between
   pub commits : CommitsDone between pair row new
 
 -- or there is no pair yet, or none is left
 abbrev pub TellsRecompute : CoreData → Recomputed → CoreData → Type 0
 TellsRecompute old (DoneAnew pair) new = RecomputesPair old pair new
-TellsRecompute old ClaimsOut new = AnswersClaim (repair_of old) NotYet (repair_of new) × KeepsAll old new
-TellsRecompute old NoneLeft new = AnswersClaim (repair_of old) Rest (repair_of new) × KeepsAll old new
+TellsRecompute old ClaimsOut new = AnswersClaim (repair_of old) NotYet (repair_of new) × KeepsAll old new × Adds old Look new
+TellsRecompute old NoneLeft new = AnswersClaim (repair_of old) Rest (repair_of new) × KeepsAll old new × Adds old Look new
 
 -- ---- give back: the pair is active again where its claim is kept; else nothing changes
 pub record TellsGiveBack (old : CoreData) (claim : ClaimData) (new : CoreData) : Type 0 where
   pub kept : IsKeptClaim old claim.pair claim.ticket claim.inputs → GaveBack (repair_of old) claim.pair.node.0 claim.pair.slot (repair_of new)
+  pub adds : IsKeptClaim old claim.pair claim.ticket claim.inputs → Adds old (GiveBack claim.pair.node.0 claim.pair.slot) new
   pub stale : (IsKeptClaim old claim.pair claim.ticket claim.inputs → ⊥) → new ≡ old
   pub keeps : KeepsAll old new
 
@@ -105,7 +117,7 @@ pub record TellsGiveBack (old : CoreData) (claim : ClaimData) (new : CoreData) :
 -- it was active or claimed, is touched by the batch, or is new; what is shown stays
 pub record AcceptsBatch (old : CoreData) (batch : List Edit) (new : CoreData) : Type 0 where
   pub edited : edited_all (scenario_now old.log) batch ≡ Ok (scenario_now new.log)
-  pub keeps : new ≡ record old { log = with_batch old.log batch; scenario = scenario_now new.log; table = new.table; shown = new.shown }
+  pub keeps : new ≡ record old { log = with_batch old.log batch; scenario = scenario_now new.log; table = new.table; shown = new.shown; history = Accept ∷ old.history }
   pub shown : SameLoading old.shown new.shown
   pub accepted : Accepted (repair_of old) (touches old.scenario batch) (repair_of new)
   pub none_out : IsNoneOut new
@@ -116,6 +128,7 @@ pub record LooksAs (old new : CoreData) : Type 0 where
   pub scenario : new.scenario ≡ old.scenario
   pub commits : new.commits ≡ old.commits
   pub stopped : new.stopped ≡ old.stopped
+  pub history : new.history ≡ old.history
   pub shown : SameLoading old.shown new.shown
   pub desk : desk_in new ≡ desk_in old
   pub repair : repair_of new ≡ repair_of old
@@ -132,7 +145,7 @@ pub record PublishesAll (old : CoreData) (version : ℕ) (new : CoreData) : Type
   pub shown : version_of new.shown ≡ version
   pub published : PublishHappened (repair_of old) (repair_of new)
   pub cleared : count_cells (setting_of new.scenario) (repair_of new).changed ≡ 0
-  pub keeps : new ≡ record old { table = new.table; shown = new.shown }
+  pub keeps : new ≡ record old { table = new.table; shown = new.shown; history = Publish ∷ old.history }
 
 abbrev pub TellsPublish : CoreData → Published → CoreData → Type 0
 TellsPublish old (Shown version) new = PublishesAll old version new
@@ -146,7 +159,7 @@ pub record SettlesAll (old : CoreData) (n : ℕ) (new : CoreData) : Type 0 where
   pub rest : IsResting old
   pub shown : version_of old.shown ≡ version_now old.log
   pub settled : Settled (repair_of old) n (repair_of new)
-  pub keeps : new ≡ record old { log = with_mark old.log; commits = 0 }
+  pub keeps : new ≡ record old { log = with_mark old.log; commits = 0; history = Settle n ∷ old.history }
 
 -- none where not all batches are shown, as where a pair is active or claimed; then nothing changes
 abbrev pub TellsSettle : CoreData → Option ℕ → CoreData → Type 0

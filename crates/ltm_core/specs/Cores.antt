@@ -13,6 +13,7 @@ use Rattle.ltm_repair.specs.Desk.{Desk, IsAtRest}
 use Rattle.ltm_repair.specs.Counting.{left_to_do, undone, claims_out}
 use Rattle.ltm_repair.specs.State.{RepairState, now}
 use Rattle.ltm_repair.specs.Repair.{IsRepair}
+use Rattle.ltm_repair.specs.Events.{CoreEvent}
 use Rattle.ltm_repair.specs.Answers.{IsNoneClaimed}
 use Rattle.ltm_desk.specs.declared.table.Table.{Table}
 use Rattle.ltm_desk.specs.Desks.{desk_at, changed_at}
@@ -31,16 +32,19 @@ pub record CoreData : Type 0 where
   -- the commits since the last settle count
   pub commits : ℕ
   pub stopped : Bool
+  -- what was done to it since it began, the newest first
+  pub history : List CoreEvent
 
 -- a core as it is kept
-abbrev pub core_of : ScenarioData → List (List Edit) → List Bool → ScenarioData → Table → Loading → ℕ → Bool → CoreData
-core_of opening batches marks scenario table shown commits stopped = record {
+abbrev pub core_of : ScenarioData → List (List Edit) → List Bool → ScenarioData → Table → Loading → ℕ → Bool → List CoreEvent → CoreData
+core_of opening batches marks scenario table shown commits stopped history = record {
   log = log_of opening batches marks;
   scenario = scenario;
   table = table;
   shown = shown;
   commits = commits;
   stopped = stopped;
+  history = history;
 }
 
 -- its desk

@@ -3,6 +3,7 @@ pub mod Log
 pub mod Settling
 pub mod Cores
 pub mod CoreAnswers
+pub mod Histories
 pub mod Taking
 pub mod Laws
 pub mod Runs

@@ -1,5 +1,5 @@
 -- Runs of a core: its events one after another, in any order, by any number of owners.
-use Rattle.std.specs.Prelude.{◌≡◌, ◌≢◌, ◌↔◌, Bool, true, ℕ, ◌+◌, ◌*◌, ◌<◌, ◌≤◌, ◌⊎◌, List, [], ◌∷◌, Option, Some, None, Result, Ok, Err}
+use Rattle.std.specs.Prelude.{◌≡◌, ◌≢◌, ◌↔◌, Bool, true, ℕ, ◌+◌, ◌*◌, ◌<◌, ◌≤◌, ◌⊎◌, List, [], ◌∷◌, ◌++◌, Option, Some, None, Result, Ok, Err}
 use Rattle.ltm_curve.specs.Counts.{Counts}
 use Rattle.ltm_curve.specs.TotalCurves.{total_at}
 use Rattle.ltm_scenario.specs.declared.edit.Edit.{Edit}
@@ -26,16 +26,22 @@ use Rattle.ltm_core.specs.Claims.{ClaimData, DoneData}
 use Rattle.ltm_core.specs.Log.{version_now, settled_of}
 use Rattle.ltm_core.specs.Settling.{setting_at}
 use Rattle.ltm_core.specs.Cores.{CoreData, repair_of, IsResting, claims_of, left_of, undone_of, IsCore}
-use Rattle.ltm_core.specs.CoreAnswers.{answer_in, TellsCommit, TellsRecompute, TellsGiveBack, TellsAccept, TellsPublish, TellsSettle}
+use Rattle.ltm_core.specs.Histories.{CameBy}
+use Rattle.ltm_core.specs.CoreAnswers.{with_event, Adds, answer_in, TellsCommit, TellsRecompute, TellsGiveBack, TellsAccept, TellsPublish, TellsSettle}
 
--- the event leads from one core to another
+-- the event leads from one core to another, and stands in its history
 abbrev pub Does : CoreData → CoreEvent → CoreData → Type 0
-Does d x e = Happens (repair_of d) x (repair_of e)
+Does d x e = Happens (repair_of d) x (repair_of e) × Adds d x e
 
 -- these events lead from d to e, in this order
 abbrev pub IsRun : CoreData → List CoreEvent → CoreData → Type 0
 IsRun d [] e = e ≡ d
 IsRun d (x ∷ xs) e = (m : CoreData) × Does d x m × IsRun m xs e
+
+-- a history with all these events more
+abbrev pub with_events : List CoreEvent → List CoreEvent → List CoreEvent
+with_events [] history = history
+with_events (x ∷ xs) history = with_events xs (with_event x history)
 
 -- ---- whatever a call answers, an event has happened, or two
 abbrev pub commit_event : DoneData → Committed → CoreEvent
@@ -57,7 +63,8 @@ publish_event (Shown version) = Publish
 publish_event NotAtRest = Stay
 
 pub record CallsAreEvents : Type 0 where
-  pub claim : (d e : CoreData) (answer : Claimed) → AnswersClaim (repair_of d) (answer_in answer) (repair_of e) → Does d (claim_event (answer_in answer)) e
+  pub claim : (d e : CoreData) (answer : Claimed) → AnswersClaim (repair_of d) (answer_in answer) (repair_of e) →
+      Adds d (claim_event (answer_in answer)) e → Does d (claim_event (answer_in answer)) e
   pub commit : (d e : CoreData) (done : DoneData) (answer : Committed) → TellsCommit d done answer e → Does d (commit_event done answer) e
   pub recompute : (d e : CoreData) (answer : Recomputed) → TellsRecompute d answer e → IsRun d (recompute_events answer) e
   pub give_back : (d e : CoreData) (claim : ClaimData) → TellsGiveBack d claim e → Does d (GiveBack claim.pair.node.0 claim.pair.slot) e ⊎ Does d Stay e
@@ -86,6 +93,8 @@ pub record WorksOn (d : CoreData) (events : List CoreEvent) (e : CoreData) : Typ
   pub no_batch : AcceptsNothing events
 
 pub record HoldsOfRuns : Type 0 where
+  -- the events of a run are those that the history has more
+  pub history : (d e : CoreData) (events : List CoreEvent) → IsRun d events e → e.history ≡ with_events events d.history
   -- the shown number and the number of batches never fall
   pub shown : (d e : CoreData) (events : List CoreEvent) → IsCore d → IsRun d events e → version_of d.shown ≤ version_of e.shown
   pub accepted : (d e : CoreData) (events : List CoreEvent) → IsCore d → IsRun d events e → version_now d.log ≤ version_now e.log
@@ -115,6 +124,10 @@ pub record HoldsOfRuns : Type 0 where
 -- ---- what holds of every core
 pub record HoldsOfCore (d : CoreData) : Type 0 where
   pub core : IsCore d
+  -- its history led to it from a core that began with the opening scenario of its log
+  pub came : CameBy d
+  -- between two batches of its history, whoever made the calls and in whatever order, no pair is committed twice
+  pub none_twice : (newer stretch older : List CoreEvent) → d.history ≡ newer ++ (stretch ++ older) → AcceptsNothing stretch → (u t : ℕ) → commits_of u t stretch ≤ 1
   -- at rest the working counts are the loading of the scenario as it is now
   pub rest : IsResting d → IsLoading (setting_of d.scenario) (repair_of d).desk.counts
   -- where all batches are shown, the core rests, and what is shown are the totals of the loading of the scenario as it is now

@@ -14,11 +14,13 @@ mod claiming;
 mod recomputing;
 mod showing;
 
+use crate::history::History;
 use crate::laws::repair_laws;
 use crate::scratch::Scratch;
 use ltm_desk::Table;
 use ltm_flows::Loading;
 use ltm_loading::one_loading;
+use ltm_repair::none_twice;
 use ltm_scenario::{Batch, Scenario};
 use ltm_setting::{is_setting, node_count, slot_count};
 use ltm_turn::Told;
@@ -27,10 +29,11 @@ use std::alloc::Global;
 use std::marker::Model;
 
 /// The scenario with which it began, the batches that it accepted with a mark where a settle was counted, the scenario as
-/// these leave it, what a repair works on, and the finished loading that others read meanwhile.
+/// these leave it, what a repair works on, the finished loading that others read meanwhile, and, for contracts alone, what
+/// was done to it since it began.
 ///
 /// Any number of owners of a `Scratch` claim pairs, work on them and commit them, in any order; what holds of every core
-/// is `IsCore`.
+/// is `HoldsOfCore`: among it, that its history led to it, and that no pair was committed twice between two batches.
 pub struct Core {
     opening: Scenario,
     batches: Vec<Batch>,
@@ -40,6 +43,7 @@ pub struct Core {
     shown: Loading,
     commits: u128,
     stopped: bool,
+    history: History,
 }
 
 // By hand, so that letting go of a core is one call, and not its parts one by one wherever that may happen.
@@ -54,6 +58,7 @@ impl Drop for Core {
             shown: _shown,
             commits: _commits,
             stopped: _stopped,
+            history: _history,
         } = self;
     }
 }
@@ -70,11 +75,13 @@ impl Model for Core {
     ghost coded = { Prim.hlevel (codes, table_row.the_row.coded) };
 
     ghost use Rattle.ltm_core.specs.Cores.{core_of, IsCore};
+    ghost use Rattle.ltm_core.specs.Histories.{events_of, CameBy};
 
-    ghost view = { λ c. core_of c.opening c.batches.items c.marks.items c.scenario c.table c.shown c.commits c.stopped };
+    ghost view = { λ c. core_of c.opening c.batches.items c.marks.items c.scenario c.table c.shown c.commits c.stopped (events_of c.history) };
 
-    ghost invariant = { λ c. IsCore (core_of c.opening c.batches.items c.marks.items c.scenario c.table c.shown c.commits c.stopped)
-        × (length c.marks.items ≡ length c.batches.items) };
+    ghost invariant = { λ c. IsCore (core_of c.opening c.batches.items c.marks.items c.scenario c.table c.shown c.commits c.stopped (events_of c.history))
+        × (length c.marks.items ≡ length c.batches.items)
+        × CameBy (core_of c.opening c.batches.items c.marks.items c.scenario c.table c.shown c.commits c.stopped (events_of c.history)) };
 }
 
 impl Told for Core {
@@ -146,6 +153,7 @@ impl Core {
                     shown,
                     commits: 0,
                     stopped: false,
+                    history: History::None,
                 });
             }
             Err(fault) => return Err((scenario, fault)),
@@ -157,6 +165,7 @@ impl Core {
         ensures { HoldsOfCore self.now }
     {
         repair_laws();
+        none_twice();
         let _table = &self.table;
     }
 

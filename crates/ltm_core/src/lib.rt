@@ -10,6 +10,7 @@
 mod answers;
 mod claim;
 mod entry;
+mod history;
 mod kept_core;
 mod laws;
 mod producing;

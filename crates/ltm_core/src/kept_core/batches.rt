@@ -9,9 +9,12 @@ ghost use Rattle.ltm_loading.specs.Setting.{Setting};
 ghost use Rattle.ltm_flows.specs.Shown.{ShowsCounts, SameLoading, loading_room};
 ghost use Rattle.ltm_desk.specs.Growing.{SeenAs as TableSeenAs, HasRoom as TableHasRoom};
 ghost use Rattle.ltm_scenario.specs.Horizon.{MayReach};
+ghost use Rattle.ltm_repair.specs.Events.{Accept};
+ghost use Rattle.ltm_core.specs.Histories.{events_of};
 ghost use Rattle.ltm_core.specs.Taking.{TakesBatch};
 
 use super::Core;
+use crate::history::{Event, History, add};
 use crate::laws::repair_laws;
 use ltm_desk::{Table, tables_fit, wide_room};
 use ltm_flows::Loading;
@@ -95,12 +98,13 @@ fn reserve_all(
     room
 }
 
-/// Makes the edits of a batch, and takes it into the table and the lists, where room is reserved.
+/// Makes the edits of a batch, and takes it into the table, the lists and the history, where room is reserved.
 fn take_batch(
     scenario: &mut Scenario,
     table: &mut Table,
     batches: &mut Vec<Batch>,
     marks: &mut Vec<bool>,
+    history: &mut History,
     batch: Batch,
 ) -> Result<(), (Batch, EditFault)>
     requires batch_room { vec_len batches.old < vec_capacity batches.old }
@@ -115,10 +119,12 @@ fn take_batch(
     ensures batches { OnOk result (batches.new.items ≡ batches.old.items ++ batch ∷ []) }
     ensures marks { OnOk result (marks.new.items ≡ marks.old.items ++ false ∷ []) }
     ensures few { OnOk result (length batches.new.items < 2 ^ 63) }
+    ensures history { OnOk result (events_of history.new ≡ Accept ∷ events_of history.old) }
     ensures same_scenario { OnErr result (scenario.new ≡ scenario.old) }
     ensures same_table { OnErr result (table.new ≡ table.old) }
     ensures same_batches { OnErr result (batches.new.items ≡ batches.old.items) }
     ensures same_marks { OnErr result (marks.new.items ≡ marks.old.items) }
+    ensures same_history { OnErr result (events_of history.new ≡ events_of history.old) }
     ensures back { IfErr result (λ e. e.0 ≡ batch) }
     ensures cause { IfErr result (λ e. e.1.cause ≢ EditCause.NoMemory
         → edited_all scenario.old batch ≡ Err e.1) }
@@ -133,6 +139,7 @@ fn take_batch(
             is_setting(scenario);
             table.take_in(scenario, batch.edits());
             push_entry(batches, marks, batch);
+            add(history, Event::Accept);
             return Ok(());
         }
         Err(fault) => return Err((batch, fault)),
@@ -203,6 +210,7 @@ impl Core {
                     &mut self.table,
                     &mut self.batches,
                     &mut self.marks,
+                    &mut self.history,
                     batch,
                 );
             }

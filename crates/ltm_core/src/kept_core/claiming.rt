@@ -4,6 +4,7 @@ ghost use Rattle.std.specs.Prelude.{◌≡◌, ◌↔◌, IsTrue};
 use super::Core;
 use crate::answers::{Claimed, Committed};
 use crate::claim::{Claim, Done};
+use crate::history::{Event, add};
 use crate::laws::repair_laws;
 use crate::scratch::Scratch;
 use ltm_desk::Found;
@@ -21,8 +22,9 @@ fn same_shape(a: NodeShape, b: NodeShape) -> bool
 
 impl Core {
     ghost use Rattle.ltm_repair.specs.Answers.{AnswersClaim};
+    ghost use Rattle.ltm_repair.specs.Making.{claim_event};
     ghost use Rattle.ltm_core.specs.Cores.{repair_of};
-    ghost use Rattle.ltm_core.specs.CoreAnswers.{answer_in, KeepsClaim, KeepsAll, IsKeptClaim, Keeps, CommitsDone, TellsCommit, TellsGiveBack};
+    ghost use Rattle.ltm_core.specs.CoreAnswers.{answer_in, KeepsClaim, KeepsAll, Adds, IsKeptClaim, Keeps, CommitsDone, TellsCommit, TellsGiveBack};
 
     /// Claims a pair of the front slot whose inputs differ from the kept ones. Settled pairs are dropped on the way; while
     /// claims are out, at their slot alone. Takes no memory.
@@ -30,6 +32,7 @@ impl Core {
         ensures answer { AnswersClaim (repair_of self.old) (answer_in result) (repair_of self.new) }
         ensures kept { KeepsClaim result self.new }
         ensures keeps { KeepsAll self.old self.new }
+        ensures adds { Adds self.old (claim_event (answer_in result)) self.new }
         ensures stays { Keeps self.old self.new }
     {
         repair_laws();
@@ -41,6 +44,7 @@ impl Core {
         } = scratch;
         match self.table.claim(&self.scenario, &mut inputs) {
             Found::Work(pair) => {
+                add(&mut self.history, Event::Claim(pair));
                 return Claimed::Got(Claim {
                     pair,
                     ticket,
@@ -48,8 +52,14 @@ impl Core {
                     outputs,
                 });
             }
-            Found::Wait => return Claimed::NotYet(Scratch { inputs, outputs }),
-            Found::Rest => return Claimed::Rest(Scratch { inputs, outputs }),
+            Found::Wait => {
+                add(&mut self.history, Event::Look);
+                return Claimed::NotYet(Scratch { inputs, outputs });
+            }
+            Found::Rest => {
+                add(&mut self.history, Event::Look);
+                return Claimed::Rest(Scratch { inputs, outputs });
+            }
         }
     }
 
@@ -77,6 +87,7 @@ impl Core {
         let _ticket = ticket;
         self.table.commit(&self.scenario, pair, solved);
         self.commits += 1;
+        add(&mut self.history, Event::Commit(pair));
     }
 
     /// Sets the counts of a claimed pair to its step and keeps its inputs, where its claim is kept; exactly the readers of
@@ -105,6 +116,7 @@ impl Core {
         repair_laws();
         if self.keeps(claim.pair, claim.ticket, &claim.inputs) {
             self.table.give_back(&self.scenario, claim.pair);
+            add(&mut self.history, Event::GiveBack(claim.pair));
         }
     }
 

@@ -1,6 +1,7 @@
 //! A pair is claimed, worked on and committed in one call.
 use super::Core;
 use crate::answers::Recomputed;
+use crate::history::{Event, add};
 use crate::laws::repair_laws;
 use crate::scratch::Scratch;
 use ltm_desk::Found;
@@ -24,10 +25,18 @@ impl Core {
         match found {
             Found::Work(pair) => {
                 self.commits += 1;
+                add(&mut self.history, Event::Claim(pair));
+                add(&mut self.history, Event::Commit(pair));
                 return Recomputed::Done(pair);
             }
-            Found::Wait => return Recomputed::NotYet,
-            Found::Rest => return Recomputed::Rest,
+            Found::Wait => {
+                add(&mut self.history, Event::Look);
+                return Recomputed::NotYet;
+            }
+            Found::Rest => {
+                add(&mut self.history, Event::Look);
+                return Recomputed::Rest;
+            }
         }
     }
 }

@@ -3,6 +3,7 @@ ghost use Rattle.std.specs.Prelude.{◌≡◌, ◌-◌, ◌<◌, true, length, s
 
 use super::Core;
 use crate::answers::Published;
+use crate::history::{Event, add};
 use crate::laws::repair_laws;
 use crate::producing::renew_since;
 use ltm_demand::production_stays;
@@ -47,6 +48,7 @@ impl Core {
         );
         let _room = self.shown.room();
         self.table.clear_changed();
+        add(&mut self.history, Event::Publish);
         Published::Done(version)
     }
 
@@ -64,6 +66,7 @@ impl Core {
         let commits = self.commits;
         mark_last(&mut self.marks);
         self.commits = 0;
+        add(&mut self.history, Event::Settle(commits));
         Some(commits)
     }
 }

@@ -8,7 +8,8 @@ use Rattle.ltm_core.specs.Cores.{CoreData}
 use Rattle.ltm_scenario.specs.Horizon.{MayReach}
 use Rattle.ltm_core.proofs.Logs.{put_log, same_log, same_length, few_more}
 use Rattle.ltm_core.proofs.Cores.{core_setting}
-use Rattle.ltm_core.proofs.Batches.{core_after_batch, core_tells_accept, core_roomy, core_stays, core_same, refused_tells, reach_there, no_memory_tells, kept_log, ok_room}
+use Rattle.ltm_core.proofs.Histories.{core_told}
+use Rattle.ltm_core.proofs.Batches.{core_after_batch, came_batch, core_tells_accept, core_roomy, came_roomy, core_stays, came_put_back, core_same, refused_tells, reach_there, no_memory_tells, kept_log, ok_room}
 use Rattle.ltm_core.proofs.kept_core.Core.accept.Goals as goal
 
 pub take_batch-requires-clause-ready : goal.take_batch-requires-clause-ready
@@ -20,6 +21,9 @@ invariant_of-self-in-Err c = (
       (record { same = c.reserve_all.ensures.shown; shows = c.reserve_all.ensures.shows; room = c.reserve_all.ensures.no_less })
       (kept_log c.self.inside.opening c.self.inside.batches.items c.reserve_all.new.batches.items c.self.inside.marks.items c.reserve_all.new.marks.items c.reserve_all.ensures.batches c.reserve_all.ensures.marks),
   ap length c.reserve_all.ensures.marks ∙ (c.self.invariant.1 ∙ sym (ap length c.reserve_all.ensures.batches)),
+  came_roomy _ c.reserve_all.new.table c.reserve_all.new.shown _ c.self.invariant.0 c.reserve_all.ensures.table
+      (record { same = c.reserve_all.ensures.shown; shows = c.reserve_all.ensures.shows; room = c.reserve_all.ensures.no_less })
+      (kept_log c.self.inside.opening c.self.inside.batches.items c.reserve_all.new.batches.items c.self.inside.marks.items c.reserve_all.new.marks.items c.reserve_all.ensures.batches c.reserve_all.ensures.marks) c.self.invariant.2,
 )
 
 pub returns-in-Err-clause-answer : goal.returns-in-Err-clause-answer
@@ -29,12 +33,12 @@ returns-in-Err-clause-answer c =
     (kept_log c.self.inside.opening c.self.inside.batches.items c.reserve_all.new.batches.items c.self.inside.marks.items c.reserve_all.new.marks.items c.reserve_all.ensures.batches c.reserve_all.ensures.marks) c.no_memory.ensures
 
 pub invariant_of-self : goal.invariant_of-self
-invariant_of-self c = (core_stays _ c.refuse.new.scenario c.self.invariant.0 c.refuse.ensures.same, c.self.invariant.1)
+invariant_of-self c = (core_stays _ c.refuse.new.scenario c.self.invariant.0 c.refuse.ensures.same, c.self.invariant.1, came_put_back _ c.refuse.new.scenario c.refuse.ensures.same c.self.invariant.2)
 
 pub invariant_of-self-in-Ok : goal.invariant_of-self-in-Ok
 invariant_of-self-in-Ok c =
     let asked : c.horizon-slots.result ≡ horizon_after c.self.inside.scenario.setup.slots c.args.batch = rw c.setup.ensures.setup at c.horizon-slots.ensures in (
-      core_after_batch c.repair_laws.ensures _ c.args.batch c.take_batch.new.scenario c.reserve_all.new.table c.take_batch.new.table c.reserve_all.new.shown _ c.take_batch.result c.self.invariant.0
+      core_told _ _ (core_after_batch c.repair_laws.ensures _ c.args.batch c.take_batch.new.scenario c.reserve_all.new.table c.take_batch.new.table c.reserve_all.new.shown _ c.take_batch.result c.self.invariant.0
           c.reserve_all.ensures.table (record { same = c.reserve_all.ensures.shown; shows = c.reserve_all.ensures.shows; room = c.reserve_all.ensures.no_less }) c.take_batch.ensures.ok
           (ok_room c.take_batch.result (loading_room c.reserve_all.new.shown) c.horizon-slots.result _ (setting_of c.take_batch.new.scenario).slots c.in-Ok.ensures.shown_room asked c.take_batch.ensures.slots)
           (put_log c.self.inside.opening c.self.inside.batches.items c.reserve_all.new.batches.items c.take_batch.new.batches.items c.self.inside.marks.items c.reserve_all.new.marks.items c.take_batch.new.marks.items c.args.batch c.take_batch.result
@@ -43,15 +47,23 @@ invariant_of-self-in-Ok c =
           c.self.invariant.1 c.reserve_all.ensures.batches c.take_batch.ensures.batches c.take_batch.ensures.few)
           c.take_batch.ensures.same_scenario c.take_batch.ensures.same_table
           (same_log c.self.inside.opening c.self.inside.batches.items c.reserve_all.new.batches.items c.take_batch.new.batches.items c.self.inside.marks.items c.reserve_all.new.marks.items c.take_batch.new.marks.items c.take_batch.result
-          c.reserve_all.ensures.batches c.reserve_all.ensures.marks c.take_batch.ensures.same_batches c.take_batch.ensures.same_marks),
+          c.reserve_all.ensures.batches c.reserve_all.ensures.marks c.take_batch.ensures.same_batches c.take_batch.ensures.same_marks)),
       same_length c.self.inside.batches.items c.reserve_all.new.batches.items c.take_batch.new.batches.items c.self.inside.marks.items c.reserve_all.new.marks.items c.take_batch.new.marks.items c.args.batch c.take_batch.result
           c.self.invariant.1 c.reserve_all.ensures.batches c.reserve_all.ensures.marks c.take_batch.ensures.batches c.take_batch.ensures.marks c.take_batch.ensures.same_batches c.take_batch.ensures.same_marks,
+      came_batch _ c.args.batch c.take_batch.new.scenario c.reserve_all.new.table c.take_batch.new.table c.reserve_all.new.shown _ _ c.take_batch.result c.self.invariant.0
+          c.reserve_all.ensures.table (record { same = c.reserve_all.ensures.shown; shows = c.reserve_all.ensures.shows; room = c.reserve_all.ensures.no_less }) c.take_batch.ensures.ok
+          (put_log c.self.inside.opening c.self.inside.batches.items c.reserve_all.new.batches.items c.take_batch.new.batches.items c.self.inside.marks.items c.reserve_all.new.marks.items c.take_batch.new.marks.items c.args.batch c.take_batch.result
+          c.self.invariant.1 c.reserve_all.ensures.batches c.reserve_all.ensures.marks c.take_batch.ensures.batches c.take_batch.ensures.marks)
+          c.take_batch.ensures.same_scenario c.take_batch.ensures.same_table
+          (same_log c.self.inside.opening c.self.inside.batches.items c.reserve_all.new.batches.items c.take_batch.new.batches.items c.self.inside.marks.items c.reserve_all.new.marks.items c.take_batch.new.marks.items c.take_batch.result
+          c.reserve_all.ensures.batches c.reserve_all.ensures.marks c.take_batch.ensures.same_batches c.take_batch.ensures.same_marks)
+          c.take_batch.ensures.history c.take_batch.ensures.same_history c.self.invariant.2,
     )
 
 pub returns-in-Ok-clause-answer : goal.returns-in-Ok-clause-answer
 returns-in-Ok-clause-answer c =
     let asked : c.horizon-slots.result ≡ horizon_after c.self.inside.scenario.setup.slots c.args.batch = rw c.setup.ensures.setup at c.horizon-slots.ensures in
-    core_tells_accept c.repair_laws.ensures _ _ c.args.batch c.take_batch.new.scenario c.reserve_all.new.table c.take_batch.new.table c.reserve_all.new.shown _ c.take_batch.result c.self.view_is c.self.invariant.0
+    core_tells_accept c.repair_laws.ensures _ _ c.args.batch c.take_batch.new.scenario c.reserve_all.new.table c.take_batch.new.table c.reserve_all.new.shown _ _ c.take_batch.result c.self.view_is c.self.invariant.0
     c.reserve_all.ensures.table (record { same = c.reserve_all.ensures.shown; shows = c.reserve_all.ensures.shows; room = c.reserve_all.ensures.no_less }) c.take_batch.ensures.ok
     (ok_room c.take_batch.result (loading_room c.reserve_all.new.shown) c.horizon-slots.result _ (setting_of c.take_batch.new.scenario).slots c.in-Ok.ensures.shown_room asked c.take_batch.ensures.slots)
     (put_log c.self.inside.opening c.self.inside.batches.items c.reserve_all.new.batches.items c.take_batch.new.batches.items c.self.inside.marks.items c.reserve_all.new.marks.items c.take_batch.new.marks.items c.args.batch c.take_batch.result
@@ -61,7 +73,7 @@ returns-in-Ok-clause-answer c =
     c.take_batch.ensures.same_scenario c.take_batch.ensures.same_table
     (same_log c.self.inside.opening c.self.inside.batches.items c.reserve_all.new.batches.items c.take_batch.new.batches.items c.self.inside.marks.items c.reserve_all.new.marks.items c.take_batch.new.marks.items c.take_batch.result
     c.reserve_all.ensures.batches c.reserve_all.ensures.marks c.take_batch.ensures.same_batches c.take_batch.ensures.same_marks)
-    c.take_batch.ensures.back c.take_batch.ensures.cause
+    c.take_batch.ensures.history c.take_batch.ensures.same_history c.take_batch.ensures.back c.take_batch.ensures.cause
 
 pub returns-in-Ok-clause-beyond : goal.returns-in-Ok-clause-beyond
 returns-in-Ok-clause-beyond c =

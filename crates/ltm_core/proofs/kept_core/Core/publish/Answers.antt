@@ -7,7 +7,8 @@ use Rattle.ltm_flows.specs.Shown.{ShowsCounts}
 use Rattle.ltm_core.specs.Log.{log_of, version_now}
 use Rattle.ltm_core.proofs.Logs.{kept_version}
 use Rattle.ltm_core.proofs.Cores.{rest_here, not_resting_at}
-use Rattle.ltm_core.proofs.Showings.{shown_low, ShowsTable, core_fits, core_agrees, core_after_publish, core_publishes_at}
+use Rattle.ltm_core.proofs.Showings.{shown_low, ShowsTable, core_fits, core_agrees, core_after_publish, came_publish, core_publishes_at}
+use Rattle.ltm_core.proofs.Histories.{core_told}
 use Rattle.ltm_core.proofs.Renewing.{fits_same, agrees_same}
 use Rattle.ltm_core.proofs.Production.{nodes_are, shown_production}
 use Rattle.ltm_core.proofs.kept_core.Core.publish.Goals as goal
@@ -48,12 +49,12 @@ renew_since-requires-clause-from c =
 pub refresh-requires-clause-produced : goal.refresh-requires-clause-produced
 refresh-requires-clause-produced c =
     shown_production c.production_stays.ensures c.edits_make.ensures c.self.inside.opening c.self.inside.batches.items c.deref.result.now c.self.inside.marks.items c.self.inside.scenario c.self.inside.table c.self.inside.shown
-    c.self.inside.commits c.self.inside.stopped c.version-shown_at.result c.renew_since.new.shown c.self.invariant.0 c.self.invariant.1 c.deref.ensures.value c.version-shown_at.ensures c.renew_since.ensures
+    c.self.inside.commits c.self.inside.stopped _ c.version-shown_at.result c.renew_since.new.shown c.self.invariant.0 c.self.invariant.1 c.deref.ensures.value c.version-shown_at.ensures c.renew_since.ensures
 
-version_is : (c : goal.After-clear_changed) → c.len-version.result ≡ version_now (log_of c.self.inside.opening c.self.inside.batches.items c.self.inside.marks.items)
+version_is : (c : goal.After-add) → c.len-version.result ≡ version_now (log_of c.self.inside.opening c.self.inside.batches.items c.self.inside.marks.items)
 version_is c = omega (c.len-version.ensures, c.self.inside.batches.ok.0, kept_version c.self.inside.opening c.self.inside.batches.items c.self.inside.marks.items c.self.invariant.1, arith)
 
-shown_table : (c : goal.After-clear_changed) → ShowsTable (setting_of c.self.inside.scenario) (version_now (log_of c.self.inside.opening c.self.inside.batches.items c.self.inside.marks.items)) c.self.inside.table c.clear_changed.new.self c.refresh.new.self
+shown_table : (c : goal.After-add) → ShowsTable (setting_of c.self.inside.scenario) (version_now (log_of c.self.inside.opening c.self.inside.batches.items c.self.inside.marks.items)) c.self.inside.table c.clear_changed.new.self c.refresh.new.self
 shown_table c =
     let s = setting_of c.self.inside.scenario in
     let P : ℕ → Type 0 = λ n. ShowsCounts s n (desk_at s c.self.inside.table).counts c.refresh.new.self in
@@ -68,10 +69,11 @@ shown_table c =
 
 pub invariant_of-self : goal.invariant_of-self
 invariant_of-self c = (
-  core_after_publish c.repair_laws.ensures _ c.clear_changed.new.self c.refresh.new.self c.self.invariant.0 (c.is_at_rest.ensures.0 c.if-not-is_at_rest.false) (shown_table c),
+  core_told _ _ (core_after_publish c.repair_laws.ensures _ c.clear_changed.new.self c.refresh.new.self c.self.invariant.0 (c.is_at_rest.ensures.0 c.if-not-is_at_rest.false) (shown_table c)),
   c.self.invariant.1,
+  came_publish _ c.clear_changed.new.self c.refresh.new.self _ c.self.invariant.0 (c.is_at_rest.ensures.0 c.if-not-is_at_rest.false) (shown_table c) c.add.ensures c.self.invariant.2,
 )
 
 pub returns-clause-answer : goal.returns-clause-answer
 returns-clause-answer c =
-    core_publishes_at _ _ c.clear_changed.new.self c.refresh.new.self c.len-version.result c.self.view_is (version_is c) c.self.invariant.0 (c.is_at_rest.ensures.0 c.if-not-is_at_rest.false) (shown_table c)
+    core_publishes_at _ _ c.clear_changed.new.self c.refresh.new.self _ c.len-version.result c.self.view_is (version_is c) c.self.invariant.0 (c.is_at_rest.ensures.0 c.if-not-is_at_rest.false) (shown_table c) c.add.ensures
