@@ -8,18 +8,19 @@ use Rattle.ltm_repair.specs.Events.{CoreEvent, Look, Claim, GiveBack, Commit, Ac
 use Rattle.ltm_repair.specs.State.{RepairState, now}
 use Rattle.ltm_repair.specs.Runs.{work_in, batch_in, give_back_in, commit_in}
 use Rattle.ltm_core.specs.Cores.{CoreData, repair_of}
+use Rattle.ltm_core.specs.CoreAnswers.{Adds}
 use Rattle.ltm_core.specs.Runs.{Does}
 use Rattle.ltm_workers.specs.Driving.{Held, says_give_back, Claims, Acts}
 use Rattle.ltm_workers.proofs.Working.{same_now}
 use Rattle.ltm_workers.proofs.Owned.{IsOwned, owned_freed, owned_taken}
 
 -- ---- the event of an act happens
-claim_does : (d e : CoreData) (u t ticket : ℕ) (row : List ℕ) → AnswersClaim (repair_of d) (Got u t ticket row) (repair_of e) → Does d (Claim u t) e
-claim_does d e u t ticket row told = (row, record { dropped = told.desk.0; drops = told.desk.1.drops; takes = told.desk.2; only = told.only })
+claim_does : (d e : CoreData) (u t ticket : ℕ) (row : List ℕ) → AnswersClaim (repair_of d) (Got u t ticket row) (repair_of e) → Adds d (Claim u t) e → Does d (Claim u t) e
+claim_does d e u t ticket row told adds = ((row, record { dropped = told.desk.0; drops = told.desk.1.drops; takes = told.desk.2; only = told.only }), adds)
 
 claims_does : (d e : CoreData) (x : CoreEvent) (next : Held) → Claims d x e next → Does d x e
-claims_does d e Look next (told, is) = record { desk = told.desk.drops; only = told.only }
-claims_does d e (Claim u t) next (ticket, row, told, is) = claim_does d e u t ticket row told
+claims_does d e Look next (told, is, adds) = (record { desk = told.desk.drops; only = told.only }, adds)
+claims_does d e (Claim u t) next (ticket, row, told, is, adds) = claim_does d e u t ticket row told adds
 claims_does d e (GiveBack u t) next h = absurd h
 claims_does d e (Commit u t) next h = absurd h
 claims_does d e Accept next h = absurd h
@@ -86,8 +87,8 @@ owned_wait s e held w owned none told =
     )
 
 owned_claims : (d e : CoreData) (held : List Held) (w : ℕ) (x : CoreEvent) (next : Held) → IsOwnedIn d held → slice_index_or held w None ≡ None → w < length held → Claims d x e next → IsOwnedIn e (slice_set held w next)
-owned_claims d e held w Look next owned none within (told, is) = rw is (owned_wait (repair_of d) (repair_of e) held w owned none told)
-owned_claims d e held w (Claim u t) next owned none within (ticket, row, told, is) = rw is (owned_claim (repair_of d) (repair_of e) held w u t ticket row owned none within told)
+owned_claims d e held w Look next owned none within (told, is, adds) = rw is (owned_wait (repair_of d) (repair_of e) held w owned none told)
+owned_claims d e held w (Claim u t) next owned none within (ticket, row, told, is, adds) = rw is (owned_claim (repair_of d) (repair_of e) held w u t ticket row owned none within told)
 owned_claims d e held w (GiveBack u t) next owned none within h = absurd h
 owned_claims d e held w (Commit u t) next owned none within h = absurd h
 owned_claims d e held w Accept next owned none within h = absurd h
@@ -98,12 +99,12 @@ owned_claims d e held w Stay next owned none within h = absurd h
 -- a pair that was held is given back or committed
 pub owned_given_back : (d e : CoreData) (held : List Held) (w u t : ℕ) → IsOwnedIn d held → slice_index_or held w None ≡ Some (u, t) → Does d (GiveBack u t) e → IsOwnedIn e (slice_set held w None)
 owned_given_back d e held w u t owned is gave =
-    owned_after (repair_of d) (repair_of e) (slice_set held w None) gave.only.books (
-    owned_freed (now (repair_of d)) (repair_of d).desk (repair_of e).desk held w u t owned is gave.desk.free gave.desk.others.claimed
+    owned_after (repair_of d) (repair_of e) (slice_set held w None) gave.0.only.books (
+    owned_freed (now (repair_of d)) (repair_of d).desk (repair_of e).desk held w u t owned is gave.0.desk.free gave.0.desk.others.claimed
     )
 
 owned_committed : (d e : CoreData) (held : List Held) (w u t : ℕ) → IsOwnedIn d held → slice_index_or held w None ≡ Some (u, t) → Does d (Commit u t) e → IsOwnedIn e (slice_set held w None)
-owned_committed d e held w u t owned is (row, wakes, done) =
+owned_committed d e held w u t owned is ((row, wakes, done), adds) =
     owned_after (repair_of d) (repair_of e) (slice_set held w None) done.books (
     owned_freed (now (repair_of d)) (repair_of d).desk (repair_of e).desk held w u t owned is done.desk.free done.desk.claimed
     )
@@ -125,8 +126,8 @@ unfolding repair_of
 commits_of d = refl
 
 claims_commits : (d e : CoreData) (x : CoreEvent) (next : Held) → Claims d x e next → (repair_of e).commits ≡ (repair_of d).commits + commit_in x
-claims_commits d e Look next (told, is) = let same = told.only.commits in omega (same, arith)
-claims_commits d e (Claim u t) next (ticket, row, told, is) = let same = told.only.commits in omega (same, arith)
+claims_commits d e Look next (told, is, adds) = let same = told.only.commits in omega (same, arith)
+claims_commits d e (Claim u t) next (ticket, row, told, is, adds) = let same = told.only.commits in omega (same, arith)
 claims_commits d e (GiveBack u t) next h = absurd h
 claims_commits d e (Commit u t) next h = absurd h
 claims_commits d e Accept next h = absurd h
@@ -135,8 +136,8 @@ claims_commits d e (Settle n) next h = absurd h
 claims_commits d e Stay next h = absurd h
 
 spent_commits : (b : Bool) (d e : CoreData) (u t : ℕ) → Does d (if b then GiveBack u t else Commit u t) e → (repair_of e).commits ≡ (repair_of d).commits + commit_in (if b then GiveBack u t else Commit u t)
-spent_commits true d e u t gave = let same = gave.only.commits in omega (same, arith)
-spent_commits false d e u t (row, wakes, done) = done.commits
+spent_commits true d e u t gave = let same = gave.0.only.commits in omega (same, arith)
+spent_commits false d e u t ((row, wakes, done), adds) = done.commits
 
 acts_more : (byte : ℕ) (d : CoreData) (own : Held) (x : CoreEvent) (e : CoreData) (next : Held) → Acts byte d own x e next → (repair_of e).commits ≡ (repair_of d).commits + commit_in x
 acts_more byte d None x e next acts = claims_commits d e x next acts
@@ -148,4 +149,4 @@ acts_commits byte d own x e next acts =
     let more = acts_more byte d own x e next acts in let before = commits_of d in let after = commits_of e in omega (more, before, after, arith)
 
 pub gave_commits : (d e : CoreData) (u t : ℕ) → Does d (GiveBack u t) e → e.commits ≡ d.commits
-gave_commits d e u t gave = let same = gave.only.commits in let before = commits_of d in let after = commits_of e in omega (same, before, after, arith)
+gave_commits d e u t gave = let same = gave.0.only.commits in let before = commits_of d in let after = commits_of e in omega (same, before, after, arith)

@@ -11,6 +11,7 @@ use Rattle.ltm_repair.specs.State.{now}
 use Rattle.ltm_repair.specs.Runs.{in_all, work_in, batch_in, give_back_in, look_in, commits_in}
 use Rattle.ltm_core.specs.Cores.{CoreData, repair_of}
 use Rattle.ltm_core.specs.Runs.{IsRun}
+use Rattle.ltm_workers.specs.Draining.{AreWork}
 use Rattle.ltm_workers.specs.Driving.{Held, says_give_back, worker_of, held_by, Claims, Acts, IsDrive, give_backs}
 use Rattle.ltm_workers.proofs.Owned.{owned_rest, owned_none}
 use Rattle.ltm_workers.proofs.Acts.{IsOwnedIn, IsOnePiece, acts_does, acts_piece, acts_owned, owned_given_back, one_if, acts_commits, gave_commits}
@@ -26,6 +27,7 @@ drive_runs (byte ∷ bytes) held d (x ∷ xs) after e (m, next, acts, rest) =
 -- ---- it makes one event for each byte
 pub record CountsBytes (bytes : List ℕ) (events : List CoreEvent) : Type 0 where
   pub work : in_all work_in events ≡ length bytes
+  pub many : length events ≡ length bytes
   pub no_batch : in_all batch_in events ≡ 0
   pub give_back : in_all give_back_in events ≤ count_by says_give_back bytes
   pub look : in_all look_in events ≤ length bytes
@@ -35,10 +37,11 @@ more_bytes byte bytes x xs one rest =
     let p = one.work in let q = one.no_batch in let r = one.give_back in
     let a = rest.work in let b = rest.no_batch in let c = rest.give_back in let l = rest.look in
     let sums = sum_by-cons (λ (y : ℕ). one_if (says_give_back y)) byte bytes in
-    record { work = omega (p, a, arith); no_batch = omega (q, b, arith); give_back = omega (r, c, sums, arith); look = omega (p, l, arith) }
+    let m = rest.many in
+    record { work = omega (p, a, arith); many = omega (m, arith); no_batch = omega (q, b, arith); give_back = omega (r, c, sums, arith); look = omega (p, l, arith) }
 
 pub drive_counts : (bytes : List ℕ) (held : List Held) (d : CoreData) (events : List CoreEvent) (after : List Held) (e : CoreData) → IsDrive bytes held d events after e → CountsBytes bytes events
-drive_counts [] held d [] after e drive = record { work = refl; no_batch = refl; give_back = omega arith; look = omega arith }
+drive_counts [] held d [] after e drive = record { work = refl; many = refl; no_batch = refl; give_back = omega arith; look = omega arith }
 drive_counts [] held d (x ∷ xs) after e drive = absurd drive
 drive_counts (byte ∷ bytes) held d [] after e drive = absurd drive
 drive_counts (byte ∷ bytes) held d (x ∷ xs) after e (m, next, acts, rest) =
@@ -90,7 +93,7 @@ waits_for_none d e held worker owned alone none told =
     ]
 
 claims_alone : (d e : CoreData) (x : CoreEvent) (next : Held) (held : List Held) (worker : ℕ) → IsOwnedIn d held → IsAlone worker held → slice_index_or held worker None ≡ None → Claims d x e next → look_in x ≡ 0
-claims_alone d e Look next held worker owned alone none (told, is) = absurd (waits_for_none d e held worker owned alone none told)
+claims_alone d e Look next held worker owned alone none (told, is, adds) = absurd (waits_for_none d e held worker owned alone none told)
 claims_alone d e (Claim u t) next held worker owned alone none h = refl
 claims_alone d e (GiveBack u t) next held worker owned alone none h = refl
 claims_alone d e (Commit u t) next held worker owned alone none h = refl
@@ -139,6 +142,11 @@ pub counts_laid_down : (held : List Held) → in_all batch_in (give_backs held) 
 counts_laid_down [] = refl
 counts_laid_down (None ∷ held) = counts_laid_down held
 counts_laid_down (Some pair ∷ held) = let more : in_all batch_in (give_backs held) ≡ 0 = counts_laid_down held in omega (more, arith)
+
+pub work_laid_down : (held : List Held) → AreWork (give_backs held)
+work_laid_down [] = refl
+work_laid_down (None ∷ held) = work_laid_down held
+work_laid_down (Some pair ∷ held) = let more : AreWork (give_backs held) = work_laid_down held in omega (more, arith)
 
 -- ---- the commits of a drive, and of hands that are emptied
 pub drive_commits : (bytes : List ℕ) (held : List Held) (d : CoreData) (events : List CoreEvent) (after : List Held) (e : CoreData) → IsDrive bytes held d events after e → e.commits ≡ d.commits + commits_in events

@@ -1,5 +1,6 @@
 -- What a drive has come to when it ends.
-use Rattle.std.proofs.Common.{◌≡◌, ℕ, ◌+◌, ◌*◌, ◌≤◌, List, [], ◌∷◌, ◌++◌, refl, ap, sym, subst, ◌∙◌, inl, inr, arith}
+use Rattle.std.proofs.Common.{◌≡◌, ℕ, ◌+◌, ◌*◌, ◌≤◌, List, [], ◌∷◌, ◌++◌, length, refl, ap, sym, subst, ◌∙◌, inl, inr, arith}
+use Rattle.std.proofs.lemmas.List.{length-append}
 use Rattle.ltm_loading.specs.Setting.{Setting}
 use Rattle.ltm_setting.specs.Setting.{setting_of}
 use Rattle.ltm_repair.specs.Events.{CoreEvent, Look}
@@ -7,18 +8,19 @@ use Rattle.ltm_repair.specs.Answers.{Rest as NothingLeft, AnswersClaim}
 use Rattle.ltm_repair.specs.Runs.{in_all, batch_in, commit_in, commits_in, work_in, give_back_in, look_in}
 use Rattle.ltm_core.specs.Log.{LogLaws}
 use Rattle.ltm_core.specs.Cores.{CoreData, repair_of, IsResting, IsNoneOut, IsCore, claims_of}
+use Rattle.ltm_core.specs.CoreAnswers.{Adds}
 use Rattle.ltm_core.specs.Runs.{IsRun, Does, HoldsOfRuns, WorksOn, setting_in}
 use Rattle.ltm_workers.specs.declared.driving.Followed.{Followed}
 use Rattle.ltm_workers.specs.declared.driving.Followed.TheVariants.{ToRest, ToEnd}
 use Rattle.ltm_workers.specs.declared.driving.Driven.{Driven}
 use Rattle.ltm_workers.specs.declared.driving.Driven.TheVariants.{Rest, ScheduleEnded}
-use Rattle.ltm_workers.specs.Draining.{Works}
+use Rattle.ltm_workers.specs.Draining.{KeepsButWork, Works}
 use Rattle.ltm_workers.specs.Driving.{Held, none_held, give_backs, TellsDrive, IsShort, IsShortWhereEnded, pairs_of}
-use Rattle.ltm_workers.specs.Hands.{KeepsButWork, Follows, FollowsToRest, TellsFollowed, TellsEnd}
+use Rattle.ltm_workers.specs.Hands.{Follows, FollowsToRest, TellsFollowed, TellsEnd}
 use Rattle.ltm_workers.proofs.Working.{runs_join, in_all_joined, rests_after}
 use Rattle.ltm_workers.proofs.Acts.{IsOwnedIn}
 use Rattle.ltm_workers.proofs.Holding.{none_at}
-use Rattle.ltm_workers.proofs.Drives.{drive_runs, drive_counts, drive_owned, drive_alone, drive_commits, laid_down, laid_down_commits, counts_laid_down}
+use Rattle.ltm_workers.proofs.Drives.{drive_runs, drive_counts, drive_owned, drive_alone, drive_commits, laid_down, laid_down_commits, counts_laid_down, work_laid_down}
 
 -- ---- at the start
 owned_first : (d : CoreData) → IsNoneOut d → IsOwnedIn d none_held
@@ -38,6 +40,9 @@ end_works old last new before after given_back not_yet bytes held is none follow
     let commits = drive_commits bytes none_held old follows.events held last follows.drive in
     let laid = laid_down_commits held last new run in
     let joined : commits_in events ≡ commits_in follows.events + commits_in (give_backs held) = in_all_joined commit_in follows.events (give_backs held) in
+    let works : in_all work_in events ≡ in_all work_in follows.events + in_all work_in (give_backs held) = in_all_joined work_in follows.events (give_backs held) in
+    let long : length events ≡ length follows.events + length (give_backs held) = length-append follows.events (give_backs held) in
+    let all_work = counts.work in let many = counts.many in let given = work_laid_down held in
     let batches : in_all batch_in events ≡ in_all batch_in follows.events + in_all batch_in (give_backs held) = in_all_joined batch_in follows.events (give_backs held) in
     let same = laid.0 in let no_commit = laid.1 in let no_batch = counts.no_batch in let none_more = counts_laid_down held in let ticks = follows.steps in
     record {
@@ -47,14 +52,15 @@ end_works old last new before after given_back not_yet bytes held is none follow
         run = runs_join old last new follows.events (give_backs held) (drive_runs bytes none_held old follows.events held last follows.drive) run;
         no_batch = omega (batches, no_batch, none_more, arith);
       };
+      work = omega (works, long, all_work, many, given, arith);
       commits = omega (commits, same, joined, no_commit, arith);
       steps = omega (ticks, joined, no_commit, arith);
       keeps = keeps;
       none_out = none_out_after last new held (drive_owned bytes none_held old follows.events held last refl (owned_first old none) follows.drive) run;
     }
 
-rest_event : (d e : CoreData) → AnswersClaim (repair_of d) NothingLeft (repair_of e) → Does d Look e
-rest_event d e told = record { desk = told.desk.0.drops; only = told.only }
+rest_event : (d e : CoreData) → AnswersClaim (repair_of d) NothingLeft (repair_of e) → Adds d Look e → Does d Look e
+rest_event d e told adds = (record { desk = told.desk.0.drops; only = told.only }, adds)
 
 commits_of : (d : CoreData) → (repair_of d).commits ≡ d.commits
 unfolding repair_of
@@ -72,6 +78,9 @@ rest_works old new before after bytes is to_rest keeps =
     let commits = drive_commits to_rest.used none_held old follows.events to_rest.held to_rest.last follows.drive in
     let last = commits_of to_rest.last in let here = commits_of new in let same = to_rest.rest.only.commits in
     let joined : commits_in events ≡ commits_in follows.events + 0 = in_all_joined commit_in follows.events (Look ∷ []) in
+    let works : in_all work_in events ≡ in_all work_in follows.events + 1 = in_all_joined work_in follows.events (Look ∷ []) in
+    let long : length events ≡ length follows.events + 1 = length-append follows.events (Look ∷ []) in
+    let all_work = counts.work in let many = counts.many in
     let batches : in_all batch_in events ≡ in_all batch_in follows.events + 0 = in_all_joined batch_in follows.events (Look ∷ []) in
     let no_batch = counts.no_batch in let ticks = follows.steps in
     record {
@@ -79,9 +88,10 @@ rest_works old new before after bytes is to_rest keeps =
       run = record {
         core = is;
         run = runs_join old to_rest.last new follows.events (Look ∷ []) (drive_runs to_rest.used none_held old follows.events to_rest.held to_rest.last follows.drive)
-            (new, rest_event to_rest.last new to_rest.rest, refl);
+            (new, rest_event to_rest.last new to_rest.rest to_rest.adds, refl);
         no_batch = omega (batches, no_batch, arith);
       };
+      work = omega (works, long, all_work, many, arith);
       commits = omega (commits, last, here, same, joined, arith);
       steps = omega (ticks, joined, arith);
       keeps = keeps;
@@ -117,6 +127,7 @@ tells_drive ToRest driven old mid new before after bytes held told run same end 
         drive = told.follows.drive;
         free = told.free;
         rest = told.rest;
+        adds = told.adds;
       }),
     ))
 tells_drive (ToEnd tally) Rest old mid new before after bytes held told run same end =

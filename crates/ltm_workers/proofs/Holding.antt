@@ -1,5 +1,5 @@
 -- What the hands of workers hold, over turns.
-use Rattle.std.proofs.Common.{◌≡◌, ◌≢◌, ℕ, ◌<◌, List, [], ◌∷◌, zero, suc, length, inl, inr, refl, ap, sym, subst, ◌∙◌, slice_index_or, slice_set, get_or-set_same, get_or-set_other, length-set}
+use Rattle.std.proofs.Common.{◌≡◌, ◌≢◌, ℕ, ◌+◌, ◌<◌, List, [], ◌∷◌, zero, suc, length, inl, inr, refl, ap, sym, subst, ◌∙◌, slice_index_or, slice_set, get_or-set_same, get_or-set_other, length-set}
 use Rattle.std.specs.Prelude.{Option, Some, None}
 use Rattle.std.proofs.lemmas.Bool.{cases_eq, false≢true}
 use Rattle.std.proofs.lemmas.List.{map-set, length-map}
@@ -7,7 +7,7 @@ use Rattle.ltm_setting.specs.Setting.{setting_of}
 use Rattle.ltm_scenario.specs.Data.{ScenarioData}
 use Rattle.ltm_loading.specs.Pairs.{shape_at}
 use Rattle.ltm_repair.specs.Desk.{Desk, IsOther}
-use Rattle.ltm_repair.specs.Events.{CoreEvent}
+use Rattle.ltm_repair.specs.Events.{CoreEvent, Commit}
 use Rattle.ltm_repair.specs.Facts.{IsSound}
 use Rattle.ltm_repair.specs.State.{RepairState, now}
 use Rattle.ltm_repair.specs.Answers.{Got, NotYet, Rest, AnswersClaim}
@@ -18,8 +18,10 @@ use Rattle.ltm_core.specs.CoreAnswers.{IsKeptClaim, KeepsAll, CommitsDone, Tells
 use Rattle.ltm_workers.specs.declared.hands.Hand.{Hand}
 use Rattle.ltm_workers.specs.declared.hands.Hand.TheVariants.{Free, Holds}
 use Rattle.ltm_core.specs.Runs.{IsRun}
+use Rattle.ltm_workers.specs.Draining.{KeepsButWork}
 use Rattle.ltm_workers.specs.Driving.{Held, none_held, give_backs}
-use Rattle.ltm_workers.specs.Hands.{held_in, held_at, all_held, IsHandKept, IsApart, AreHandsKept, KeepsButWork, SparesOthers, IsNextHand, LaysDown}
+use Rattle.ltm_workers.proofs.Working.{keeps_work}
+use Rattle.ltm_workers.specs.Hands.{held_in, held_at, all_held, IsHandKept, IsApart, AreHandsKept, SparesOthers, IsNextHand, LaysDown}
 
 -- ---- what stays
 keeps_log : (d e : CoreData) → KeepsButWork d e → e.log ≡ d.log
@@ -41,10 +43,10 @@ kept_stays d e c keeps same kept =
     }
 
 pub keeps_all : (d e : CoreData) → KeepsAll d e → KeepsButWork d e
-keeps_all d e same = same ∙ ap (λ (n : ℕ). record d { table = e.table; commits = n }) (sym (ap (λ (z : CoreData). z.commits) same))
+keeps_all d e same = keeps_work d e d.commits e.history same
 
 pub keeps_more : (d m e : CoreData) → KeepsButWork d m → KeepsButWork m e → KeepsButWork d e
-keeps_more d m e first second = second ∙ ap (λ (z : CoreData). record z { table = e.table; commits = e.commits }) first
+keeps_more d m e first second = second ∙ ap (λ (z : CoreData). record z { table = e.table; commits = e.commits; history = e.history }) first
 
 -- ---- the list of hands
 filled : (hands : List (Option Hand)) (w i : ℕ) (filling : Option Hand) (h : Hand) → w < length hands → i ≡ w → slice_index_or (slice_set hands w filling) i None ≡ Some h → filling ≡ Some h
@@ -199,11 +201,11 @@ gave_lays_down d e claim kept told =
         keeps = keeps_all d e told.keeps;
         others = λ c apart before. kept_stays d e c (keeps_all d e told.keeps) (same_claimed d e c.pair.node.0 c.pair.slot (gave.desk.others.claimed c.pair.node.0 c.pair.slot apart)) before;
       };
-      emptied = gave;
+      emptied = (gave, told.adds kept);
     }
 
 commit_keeps : (d e : CoreData) (claim : ClaimData) → CommitsDone d claim.pair claim.inputs.row e → KeepsButWork d e
-commit_keeps d e claim done = done.keeps ∙ ap (λ (n : ℕ). record d { table = e.table; commits = n }) (sym (ap (λ (z : CoreData). z.commits) done.keeps))
+commit_keeps d e claim done = keeps_work d e (d.commits + 1) (Commit claim.pair.node.0 claim.pair.slot ∷ d.history) done.keeps
 
 pub commit_spares : (d e : CoreData) (claim : ClaimData) → CommitsDone d claim.pair claim.inputs.row e → SparesOthers d (Holds claim) e
 commit_spares d e claim done = record {

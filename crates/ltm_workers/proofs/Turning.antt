@@ -6,18 +6,19 @@ use Rattle.std.proofs.lemmas.List.{take_more, length-map, get_or_default, set-se
 use Rattle.std.proofs.lemmas.List.Elements.{All-set}
 use Rattle.std.proofs.lemmas.List.Sums.{count_by-le-length}
 use Rattle.ltm_repair.specs.Answers.{Rest as NothingLeft, AnswersClaim}
-use Rattle.ltm_repair.specs.Events.{CoreEvent, GiveBack, Commit}
+use Rattle.ltm_repair.specs.Events.{CoreEvent, Look, GiveBack, Commit}
 use Rattle.ltm_repair.specs.Runs.{in_all, look_in, give_back_in, commit_in, commits_in}
 use Rattle.ltm_core.specs.Claims.{ClaimData, ScratchData}
 use Rattle.ltm_core.specs.Cores.{CoreData, repair_of}
-use Rattle.ltm_core.specs.CoreAnswers.{CommitsDone}
+use Rattle.ltm_core.specs.CoreAnswers.{CommitsDone, Adds}
 use Rattle.ltm_core.specs.Runs.{IsRun, Does}
 use Rattle.ltm_workers.specs.declared.hands.Hand.{Hand}
 use Rattle.ltm_workers.specs.declared.hands.Hand.TheVariants.{Free, Holds}
 use Rattle.ltm_workers.specs.declared.virtual_turns.Act.{Act}
 use Rattle.ltm_workers.specs.declared.virtual_turns.Act.TheVariants.{Claimed, Committed, GaveBack, Waited, Rested}
+use Rattle.ltm_workers.specs.Draining.{KeepsButWork}
 use Rattle.ltm_workers.specs.Driving.{Held, says_give_back, worker_of, held_by, Acts, IsDrive, none_held, give_backs}
-use Rattle.ltm_workers.specs.Hands.{held_in, held_at, all_held, gave_back, waited, committed, IsEventOf, TellsAct, AreHandsKept, KeepsButWork, SparesOthers, IsNextHand, TellsTurn, Follows, FollowsToRest, LaysDown}
+use Rattle.ltm_workers.specs.Hands.{held_in, held_at, all_held, gave_back, waited, committed, IsEventOf, TellsAct, AreHandsKept, SparesOthers, IsNextHand, TellsTurn, Follows, FollowsToRest, LaysDown}
 use Rattle.ltm_workers.proofs.Working.{runs_join, in_all_joined}
 use Rattle.ltm_workers.proofs.Drives.{drive_more, drive_counts}
 use Rattle.ltm_workers.proofs.Holding.{commit_spares, hands_after, held_set, held_get, keeps_more}
@@ -37,7 +38,7 @@ committed_act byte d e hand claim is says done =
     let u : ℕ = claim.pair.node.0 in let t : ℕ = claim.pair.slot in
     let P : Hand → Type 0 = λ z. (x : CoreEvent) × IsEventOf Committed x × Acts byte d (held_in z) x e None in
     let here : Commit u t ≡ (if says_give_back byte then GiveBack u t else Commit u t) = rw says refl in
-    let does : Does d (Commit u t) e = (claim.inputs.row, _, done.commits) in
+    let does : Does d (Commit u t) e = ((claim.inputs.row, _, done.commits), ap (λ (z : CoreData). z.history) done.keeps) in
     subst P (sym is) (Commit u t, record { give_back = refl; look = refl; commit = refl }, (here, does, refl))
 
 pub commit_spares_hand : (d e : CoreData) (hand : Hand) (claim : ClaimData) → hand ≡ Holds claim → CommitsDone d claim.pair claim.inputs.row e → SparesOthers d hand e
@@ -81,7 +82,8 @@ other_act byte d e held next GaveBack other told = told
 other_act byte d e held next Waited other told = told
 other_act byte d e held next Rested other told = absurd (other refl)
 
-rested_act : (byte : ℕ) (d e : CoreData) (held next : Held) (act : Act) → act ≡ Rested → TellsAct byte d held act e next → (held ≡ None) × (next ≡ None) × AnswersClaim (repair_of d) NothingLeft (repair_of e)
+rested_act : (byte : ℕ) (d e : CoreData) (held next : Held) (act : Act) → act ≡ Rested → TellsAct byte d held act e next →
+    (held ≡ None) × (next ≡ None) × AnswersClaim (repair_of d) NothingLeft (repair_of e) × Adds d Look e
 rested_act byte d e held next act is told = let P : Act → Type 0 = λ z. TellsAct byte d held z e next in subst P is told
 
 pub follows_more : (old mid e : CoreData) (before between after given not given_more not_more byte : ℕ) (bytes : List ℕ) (held changed : List Held) (act : Act) → Follows old before bytes given not held mid between →
@@ -122,6 +124,7 @@ follows_to_rest old mid e before between after given not byte schedule used unus
       follows = record { events = follows.events; drive = follows.drive; gave_back = follows.gave_back; waited = follows.waited; steps = omega (s, none, ticks, arith) };
       free = told.0;
       rest = told.2;
+      adds = told.3;
     }
 
 pub schedule_split : (all : List ℕ) (i : ℕ) → i < length all → all ≡ take i all ++ slice_index_or all i 0 ∷ drop (suc i) all

@@ -1,12 +1,13 @@
 -- What a pair that is computed anew does to a core, and what many of them do.
-use Rattle.std.proofs.Common.{◌≡◌, ℕ, ◌+◌, ◌-◌, ◌<◌, ◌^◌, min, Bool, List, [], ◌∷◌, ◌++◌, inl, inr, refl, ap, sym, subst, ◌∙◌, arith}
+use Rattle.std.proofs.Common.{◌≡◌, ℕ, ◌+◌, ◌-◌, ◌<◌, ◌^◌, min, Bool, List, [], ◌∷◌, ◌++◌, length, inl, inr, refl, ap, sym, subst, ◌∙◌, arith}
 use Rattle.std.specs.Prelude.{Option}
+use Rattle.std.proofs.lemmas.List.{length-append}
 use Rattle.ltm_loading.specs.Setting.{Setting}
 use Rattle.ltm_repair.specs.State.{RepairState, now}
-use Rattle.ltm_repair.specs.Events.{CoreEvent, SameBooks, Committed}
+use Rattle.ltm_repair.specs.Events.{CoreEvent, Commit, SameBooks, Committed}
 use Rattle.ltm_repair.specs.Desk.{IsAtRest}
 use Rattle.ltm_repair.specs.Answers.{Got, NotYet, Rest, AnswersClaim, IsNoneClaimed}
-use Rattle.ltm_repair.specs.Runs.{in_all, batch_in, commit_in, commits_in}
+use Rattle.ltm_repair.specs.Runs.{in_all, work_in, batch_in, commit_in, commits_in}
 use Rattle.ltm_repair.proofs.Cases.{cases_pair}
 use Rattle.ltm_units.specs.declared.places.Pair.{Pair}
 use Rattle.ltm_core.specs.Cores.{CoreData, repair_of, IsResting, IsNoneOut, undone_of, IsCore}
@@ -14,7 +15,7 @@ use Rattle.ltm_core.specs.declared.answers.Recomputed.TheVariants.{Done, Rest as
 use Rattle.ltm_core.specs.Log.{version_now}
 use Rattle.ltm_core.specs.CoreAnswers.{KeepsAll, CommitsDone, TellsRecompute}
 use Rattle.ltm_core.specs.Runs.{IsRun, CallsAreEvents, WorksOn, HoldsOfRuns, HoldsOfCore, recompute_events}
-use Rattle.ltm_workers.specs.Draining.{Works, CountsLeft, CountsDifferences}
+use Rattle.ltm_workers.specs.Draining.{KeepsButWork, Works, CountsLeft, CountsDifferences}
 
 -- ---- runs one after another
 pub runs_join : (d m e : CoreData) (xs ys : List CoreEvent) → IsRun d xs m → IsRun m ys e → IsRun d (xs ++ ys) e
@@ -26,10 +27,17 @@ in_all_joined f [] ys = omega arith
 in_all_joined f (x ∷ xs) ys = let more : in_all f (xs ++ ys) ≡ in_all f xs + in_all f ys = in_all_joined f xs ys in omega arith
 
 -- ---- what stays
+pub keeps_work : (d e : CoreData) (n : ℕ) (h : List CoreEvent) → e ≡ record d { table = e.table; commits = n; history = h } → KeepsButWork d e
+keeps_work d e n h same =
+    same
+    ∙ (ap (λ (k : ℕ). record d { table = e.table; commits = k; history = h }) (sym (ap (λ (z : CoreData). z.commits) same))
+    ∙ ap (λ (l : List CoreEvent). record d { table = e.table; commits = e.commits; history = l }) (sym (ap (λ (z : CoreData). z.history) same)))
+
 pub works_none : (d : CoreData) (n : ℕ) → IsCore d → IsNoneOut d → n < 2 ^ 64 → Works d n d n
 works_none d n is none small = record {
   events = [];
   run = record { core = is; run = refl; no_batch = refl };
+  work = refl;
   commits = omega arith;
   steps = omega arith;
   keeps = refl;
@@ -39,6 +47,8 @@ works_none d n is none small = record {
 pub works_more : (d m e : CoreData) (before between after : ℕ) → Works d before m between → Works m between e after → Works d before e after
 works_more d m e before between after p q =
     let commits : commits_in (p.events ++ q.events) ≡ commits_in p.events + commits_in q.events = in_all_joined commit_in p.events q.events in
+    let works : in_all work_in (p.events ++ q.events) ≡ in_all work_in p.events + in_all work_in q.events = in_all_joined work_in p.events q.events in
+    let many : length (p.events ++ q.events) ≡ length p.events + length q.events = length-append p.events q.events in
     let batches : in_all batch_in (p.events ++ q.events) ≡ in_all batch_in p.events + in_all batch_in q.events = in_all_joined batch_in p.events q.events in
     record {
       events = p.events ++ q.events;
@@ -47,9 +57,10 @@ works_more d m e before between after p q =
         run = runs_join d m e p.events q.events p.run.run q.run.run;
         no_batch = let a = p.run.no_batch in let b = q.run.no_batch in omega (a, b, batches, arith);
       };
+      work = let a = p.work in let b = q.work in omega (a, b, works, many, arith);
       commits = let a = p.commits in let b = q.commits in omega (a, b, commits, arith);
       steps = let a = p.steps in let b = q.steps in omega (a, b, commits, arith);
-      keeps = q.keeps ∙ ap (λ (z : CoreData). record z { table = e.table; commits = e.commits }) p.keeps;
+      keeps = q.keeps ∙ ap (λ (z : CoreData). record z { table = e.table; commits = e.commits; history = e.history }) p.keeps;
       none_out = q.none_out;
     }
 
@@ -67,12 +78,12 @@ none_after s m e u t ticket row other wakes claim commit none =
           ∙ (claim.desk.2.others.claimed w v apart ∙ (ap (λ (f : ℕ → ℕ → Option (List ℕ)). f w v) claim.desk.1.drops.claimed ∙ none w v x l))
     ])
 
-keeps_one : (d m e : CoreData) (pair : Pair) (row : List ℕ) → KeepsAll d m → CommitsDone m pair row e → (e.commits ≡ d.commits + 1) × (e ≡ record d { table = e.table; commits = e.commits })
+keeps_one : (d m e : CoreData) (pair : Pair) (row : List ℕ) → KeepsAll d m → CommitsDone m pair row e → (e.commits ≡ d.commits + 1) × KeepsButWork d e
 keeps_one d m e pair row same done =
     let claimed : m.commits ≡ d.commits = ap (λ (z : CoreData). z.commits) same in
     let counted : e.commits ≡ m.commits + 1 = ap (λ (z : CoreData). z.commits) done.keeps in (
       omega (claimed, counted, arith),
-      done.keeps ∙ (ap (λ (n : ℕ). record m { table = e.table; commits = n }) (sym counted) ∙ ap (λ (z : CoreData). record z { table = e.table; commits = e.commits }) same),
+      keeps_work m e (m.commits + 1) (Commit pair.node.0 pair.slot ∷ m.history) done.keeps ∙ ap (λ (z : CoreData). record z { table = e.table; commits = e.commits; history = e.history }) same,
     )
 
 -- a pair was computed anew
@@ -85,6 +96,7 @@ works_one events runs d e pair before after is none told ticks =
       record {
         events = recompute_events (Done pair);
         run = run;
+        work = refl;
         commits = kept.0;
         steps = ticks;
         keeps = kept.1;
@@ -101,15 +113,16 @@ rests_after s e told =
 -- no pair was left to be worked on
 pub works_rest : CallsAreEvents → (d e : CoreData) (n : ℕ) → IsCore d → n < 2 ^ 64 → TellsRecompute d NoneLeft e → Works d n e n × IsResting e
 unfolding IsNoneOut IsResting
-works_rest events d e n is small (told, same) =
+works_rest events d e n is small (told, same, adds) =
     let kept : e.commits ≡ d.commits = ap (λ (z : CoreData). z.commits) same in
     let rest = rests_after (repair_of d) (repair_of e) told in (
       record {
         events = recompute_events NoneLeft;
-        run = record { core = is; run = events.recompute d e NoneLeft (told, same); no_batch = refl };
+        run = record { core = is; run = events.recompute d e NoneLeft (told, same, adds); no_batch = refl };
+        work = refl;
         commits = omega (kept, arith);
         steps = omega (small, arith);
-        keeps = same ∙ ap (λ (n : ℕ). record d { table = e.table; commits = n }) (sym kept);
+        keeps = keeps_work d e d.commits e.history same;
         none_out = rest.1;
       },
       rest.0,

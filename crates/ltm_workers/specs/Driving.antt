@@ -7,6 +7,7 @@ use Rattle.ltm_repair.specs.Answers.{Got, NotYet, Rest as NothingLeft, AnswersCl
 use Rattle.ltm_repair.specs.Events.{CoreEvent, Look, Claim, GiveBack, Commit}
 use Rattle.ltm_repair.specs.Runs.{in_all, look_in, give_back_in}
 use Rattle.ltm_core.specs.Cores.{CoreData, repair_of, IsResting}
+use Rattle.ltm_core.specs.CoreAnswers.{Adds}
 use Rattle.ltm_core.specs.Runs.{Does, IsRun}
 use Rattle.ltm_workers.specs.declared.driving.Driven.{Driven}
 use Rattle.ltm_workers.specs.declared.driving.Driven.TheVariants.{Rest, ScheduleEnded}
@@ -35,8 +36,8 @@ held_by held byte = slice_index_or held (worker_of byte) None
 -- ---- the act of a byte: its event, the core after it, and what its worker holds then
 -- a worker without a pair claims one, or none is to be had yet
 abbrev pub Claims : CoreData → CoreEvent → CoreData → Held → Type 0
-Claims d (Claim u t) e after = (ticket : ℕ) × (row : List ℕ) × AnswersClaim (repair_of d) (Got u t ticket row) (repair_of e) × (after ≡ Some (u, t))
-Claims d Look e after = AnswersClaim (repair_of d) NotYet (repair_of e) × (after ≡ None)
+Claims d (Claim u t) e after = (ticket : ℕ) × (row : List ℕ) × AnswersClaim (repair_of d) (Got u t ticket row) (repair_of e) × (after ≡ Some (u, t)) × Adds d (Claim u t) e
+Claims d Look e after = AnswersClaim (repair_of d) NotYet (repair_of e) × (after ≡ None) × Adds d Look e
 Claims d other e after = ⊥
 
 -- a worker with a pair gives it back, or works on it and commits it
@@ -80,6 +81,7 @@ pub record DrivesToRest (old : CoreData) (bytes : List ℕ) (new : CoreData) : T
   pub drive : IsDrive used none_held old events held last
   pub free : held_by held byte ≡ None
   pub rest : AnswersClaim (repair_of last) NothingLeft (repair_of new)
+  pub adds : Adds last Look new
 
 -- the schedule has ended exactly where all its bytes acted and the core is not at rest
 abbrev pub TellsDrive : CoreData → List ℕ → Driven → CoreData → Type 0

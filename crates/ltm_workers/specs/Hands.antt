@@ -2,11 +2,11 @@
 use Rattle.std.specs.Prelude.{◌≡◌, ◌≢◌, ℕ, ◌+◌, ◌-◌, ◌^◌, min, List, ◌∷◌, ◌++◌, length, map, slice_index_or, slice_set, Option, Some, None}
 use Rattle.ltm_repair.specs.Desk.{IsOther}
 use Rattle.ltm_repair.specs.Answers.{Rest as NothingLeft, AnswersClaim}
-use Rattle.ltm_repair.specs.Events.{CoreEvent, GiveBack}
+use Rattle.ltm_repair.specs.Events.{CoreEvent, Look, GiveBack}
 use Rattle.ltm_repair.specs.Runs.{in_all, look_in, give_back_in, commit_in, commits_in}
 use Rattle.ltm_core.specs.Claims.{ClaimData}
 use Rattle.ltm_core.specs.Cores.{CoreData, repair_of, IsResting}
-use Rattle.ltm_core.specs.CoreAnswers.{IsKeptClaim}
+use Rattle.ltm_core.specs.CoreAnswers.{IsKeptClaim, Adds}
 use Rattle.ltm_core.specs.Runs.{Does}
 use Rattle.ltm_workers.specs.declared.hands.Hand.{Hand}
 use Rattle.ltm_workers.specs.declared.hands.Hand.TheVariants.{Free, Holds}
@@ -16,6 +16,7 @@ use Rattle.ltm_workers.specs.declared.driving.Followed.{Followed}
 use Rattle.ltm_workers.specs.declared.driving.Followed.TheVariants.{ToRest, ToEnd}
 use Rattle.ltm_workers.specs.declared.driving.Driven.{Driven}
 use Rattle.ltm_workers.specs.declared.driving.Driven.TheVariants.{Rest, ScheduleEnded}
+use Rattle.ltm_workers.specs.Draining.{KeepsButWork}
 use Rattle.ltm_workers.specs.Driving.{Held, held_by, worker_of, Acts, none_held, IsDrive}
 
 -- ---- hands
@@ -69,14 +70,10 @@ pub record IsEventOf (act : Act) (x : CoreEvent) : Type 0 where
 
 -- what the worker of a byte did, and what it holds then; or it claimed, and nothing was left to do
 abbrev pub TellsAct : ℕ → CoreData → Held → Act → CoreData → Held → Type 0
-TellsAct byte d held Rested e next = (held ≡ None) × (next ≡ None) × AnswersClaim (repair_of d) NothingLeft (repair_of e)
+TellsAct byte d held Rested e next = (held ≡ None) × (next ≡ None) × AnswersClaim (repair_of d) NothingLeft (repair_of e) × Adds d Look e
 TellsAct byte d held act e next = (x : CoreEvent) × IsEventOf act x × Acts byte d held x e next
 
 -- ---- what an act spares
--- all but the table and the count of commits stays
-abbrev pub KeepsButWork : CoreData → CoreData → Type 0
-KeepsButWork d e = e ≡ record d { table = e.table; commits = e.commits }
-
 -- the claims that are kept stay, but for the one in the hand
 pub record SparesOthers (d : CoreData) (hand : Hand) (e : CoreData) : Type 0 where
   pub keeps : KeepsButWork d e
@@ -115,6 +112,7 @@ pub record FollowsToRest (old : CoreData) (before : ℕ) (bytes : List ℕ) (new
   pub follows : Follows old before used given_back not_yet held last after
   pub free : held_by held byte ≡ None
   pub rest : AnswersClaim (repair_of last) NothingLeft (repair_of new)
+  pub adds : Adds last Look new
 
 abbrev pub TellsFollowed : CoreData → ℕ → List ℕ → Followed → List Held → CoreData → ℕ → Type 0
 TellsFollowed old before bytes ToRest held new after = FollowsToRest old before bytes new after

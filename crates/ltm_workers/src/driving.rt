@@ -2,9 +2,9 @@
 ghost use Rattle.std.specs.Prelude.{◌≡◌, ◌↔◌, ◌+◌, ◌<◌, ◌^◌, All, IsSome, IsTrue};
 ghost use Rattle.ltm_core.specs.Cores.{IsNoneOut};
 ghost use Rattle.ltm_core.specs.Runs.{IsRun};
-ghost use Rattle.ltm_workers.specs.Draining.{Works};
+ghost use Rattle.ltm_workers.specs.Draining.{Works, KeepsButWork};
 ghost use Rattle.ltm_workers.specs.Driving.{none_held, give_backs, TellsDrive, IsShortWhereEnded};
-ghost use Rattle.ltm_workers.specs.Hands.{all_held, gave_back, waited, AreHandsKept, KeepsButWork, TellsFollowed, TellsEnd};
+ghost use Rattle.ltm_workers.specs.Hands.{all_held, gave_back, waited, AreHandsKept, TellsFollowed, TellsEnd};
 
 use crate::bench::{Bench, WORKERS};
 use crate::hands::{Hands, let_go, pick, take_up};

@@ -1,7 +1,8 @@
 //! The turns of virtual workers.
 ghost use Rattle.std.specs.Prelude.{◌≡◌, ℕ, ◌+◌, min, All, IsSome, None};
+ghost use Rattle.ltm_workers.specs.Draining.{KeepsButWork};
 ghost use Rattle.ltm_workers.specs.Driving.{says_give_back};
-ghost use Rattle.ltm_workers.specs.Hands.{held_in, all_held, IsHandKept, AreHandsKept, committed, TellsAct, KeepsButWork, SparesOthers, IsNextHand, TellsTurn, LaysDown};
+ghost use Rattle.ltm_workers.specs.Hands.{held_in, all_held, IsHandKept, AreHandsKept, committed, TellsAct, SparesOthers, IsNextHand, TellsTurn, LaysDown};
 
 use crate::draining::finish;
 use crate::hands::{Hand, Hands, pick, put};

@@ -1,5 +1,6 @@
 use Rattle.std.specs.Prelude.{take, All, IsSome}
-use Rattle.ltm_workers.specs.Hands.{all_held, AreHandsKept, KeepsButWork, Follows}
+use Rattle.ltm_workers.specs.Draining.{KeepsButWork}
+use Rattle.ltm_workers.specs.Hands.{all_held, AreHandsKept, Follows}
 use Rattle.ltm_workers.proofs.driving.follow.Given as goal
 
 abbrev pub invariant-loop-byte : goal.invariant-loop-byte
