@@ -175,5 +175,5 @@ same_loading l = record {
 pub nothing_done : (core : CoreData) (old calls : List Call) → calls ≡ old → StaysAs (office_of core old) (office_of core calls)
 nothing_done core old calls same = record {
   history = same;
-  core = record { log = refl; scenario = refl; commits = refl; stopped = refl; shown = same_loading core.shown; desk = refl; repair = refl };
+  core = record { log = refl; scenario = refl; commits = refl; stopped = refl; history = refl; shown = same_loading core.shown; desk = refl; repair = refl };
 }
