@@ -1,5 +1,6 @@
 mod Reported
 mod Settled
+pub mod Counted
 pub mod Opening
 pub mod Came
 pub mod Progress

@@ -25,7 +25,7 @@ same_loading l = record {
 }
 
 pub looks_refl : (d : CoreData) → LooksAs d d
-looks_refl d = record { log = refl; scenario = refl; commits = refl; stopped = refl; shown = same_loading d.shown; desk = refl; repair = refl }
+looks_refl d = record { log = refl; scenario = refl; commits = refl; stopped = refl; history = refl; shown = same_loading d.shown; desk = refl; repair = refl }
 
 pub looks_state : (old new : CoreData) → LooksAs old new → state_of new ≡ state_of old
 looks_state old new is =

@@ -1,5 +1,5 @@
 -- The steps of a settle make the settle of the machine, with its exact count.
-use Rattle.std.proofs.Common.{ℕ, ◌≡◌, ◌≤◌, ap, sym, subst, ◌∙◌, arith}
+use Rattle.std.proofs.Common.{ℕ, ◌≡◌, ◌+◌, ◌≤◌, ap, sym, subst, ◌∙◌, arith}
 use Rattle.ltm_curve.specs.Counts.{Counts}
 use Rattle.ltm_loading.specs.Loading.{IsLoading}
 use Rattle.ltm_flows.specs.Shown.{version_of}
@@ -11,7 +11,7 @@ use Rattle.ltm_core.specs.Runs.{HoldsOfCore}
 use Rattle.ltm_session.specs.Analysts.{state_of, settled}
 use Rattle.ltm_session.specs.Answers.{IsScenarioOf, CountsAlone}
 use Rattle.ltm_session.specs.Ready.{AwaitsLine}
-use Rattle.ltm_session.specs.Settles.{IsRepaired, IsShowing, SettlesAlone}
+use Rattle.ltm_session.specs.Settles.{settles_of, IsRepaired, IsShowing, SettlesAlone}
 
 -- where no pair is active or claimed, none is claimed
 pub rest_none_out : (d : CoreData) → IsResting d → IsNoneOut d
@@ -84,10 +84,16 @@ settled_awaits laws d r p e n so = record {
   shown = shown_settled d r p e n so ∙ sym (laws.settled_mark d.log) ∙ sym (ap settled_of (log_settled d r p e n so));
 }
 
+settled_once : (d r p e : CoreData) (n : ℕ) → SettlesCore d r p e n → settles_of e ≡ settles_of d + 1
+settled_once d r p e n so =
+    let one : settles_of e ≡ 1 + settles_of p = ap (λ (x : CoreData). settles_of x) so.counted.keeps in
+    let a = so.showing.settles in let b = so.repaired.settles in omega (one, a, b, arith)
+
 pub settles_alone : (laws : LogLaws) (d r p e : CoreData) (n : ℕ) → SettlesCore d r p e n → SettlesAlone d n e
 settles_alone laws d r p e n so = record {
   state = settled_state d r p e n so;
   count = settled_alone d r p e n so;
   rest = settled_rests laws d r p e n so;
   awaits = settled_awaits laws d r p e n so;
+  settles = settled_once d r p e n so;
 }

@@ -1,5 +1,5 @@
 //! The answer to one line.
-ghost use Rattle.std.specs.Prelude.{◌≡◌, ◌++◌, ℕ, List, Ok, OnOk, OnErr};
+ghost use Rattle.std.specs.Prelude.{◌≡◌, ◌≢◌, ◌+◌, ◌++◌, ℕ, List, Ok, OnOk, OnErr};
 ghost use Rattle.ltm_core.specs.Cores.{IsResting};
 ghost use Rattle.ltm_core.specs.CoreAnswers.{LooksAs};
 ghost use Rattle.ltm_script.specs.Line.{reading};
@@ -7,6 +7,7 @@ ghost use Rattle.ltm_session.specs.Analysts.{state_of};
 ghost use Rattle.ltm_session.specs.Answers.{CountsAlone, AnswersAlone, Settles};
 ghost use Rattle.ltm_session.specs.Ready.{AwaitsLine};
 ghost use Rattle.ltm_session.specs.Session.{AnswersLine};
+ghost use Rattle.ltm_session.specs.Settles.{settles_of};
 
 use crate::replies::{reply, reply_fault};
 use crate::settling::settle;
@@ -25,6 +26,7 @@ fn answer_settle(core: &mut Core, bench: &mut Bench, into: &mut Vec<u8>) -> Resu
         × Settles CountsAlone (state_of core.old) text (state_of core.new)
         × (into.new.items ≡ into.old.items ++ text)) }
     ensures rest { OnOk result (IsResting core.new) }
+    ensures settles { OnOk result (settles_of core.new ≡ settles_of core.old + 1) }
     ensures err { OnErr result ((into.new.items ≡ into.old.items) × LooksAs core.old core.new) }
     ensures awaits { AwaitsLine core.new }
 {
@@ -56,6 +58,11 @@ pub fn answer(
         × (into.new.items ≡ into.old.items ++ text)) }
     // After a settle the core is at rest.
     ensures rest { OnOk result (reading line.now ≡ Ok Command.Settle → IsResting core.new) }
+    // A line that says so settles once, and no other line settles.
+    ensures settles { OnOk result (reading line.now ≡ Ok Command.Settle
+        → settles_of core.new ≡ settles_of core.old + 1) }
+    ensures others { OnOk result (reading line.now ≢ Ok Command.Settle
+        → settles_of core.new ≡ settles_of core.old) }
     ensures err { OnErr result ((into.new.items ≡ into.old.items) × LooksAs core.old core.new) }
     ensures awaits { AwaitsLine core.new }
 {

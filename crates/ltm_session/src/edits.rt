@@ -8,6 +8,7 @@ ghost use Rattle.ltm_report.specs.EditFaults.{edit_fault_line};
 ghost use Rattle.ltm_session.specs.Analysts.{state_of};
 ghost use Rattle.ltm_session.specs.Answers.{Replies};
 ghost use Rattle.ltm_session.specs.Ready.{AwaitsLine};
+ghost use Rattle.ltm_session.specs.Settles.{settles_of};
 
 use ltm_core::{Core, logs_tell_all};
 use ltm_report::{accepted_text, edit_fault_text};
@@ -43,7 +44,7 @@ fn push_refusal(alloc: Global, fault: EditFault, into: &mut Vec<u8>) -> Result<(
 
 /// Makes the edits of a batch, or refuses it, and appends which. The text of an accepted batch is written before it is
 /// accepted, so that nothing can fail after.
-#[tactic(auto, using(crate::proofs::Looking::looks_refl, crate::proofs::Looking::looks_state, crate::proofs::Looking::looks_awaits, crate::proofs::Looking::batch_state, crate::proofs::Looking::batch_awaits))]
+#[tactic(auto, using(crate::proofs::Looking::looks_refl, crate::proofs::Looking::looks_state, crate::proofs::Looking::looks_awaits, crate::proofs::Looking::batch_state, crate::proofs::Looking::batch_awaits, crate::proofs::Counted::batch_settles_none, crate::proofs::Counted::looks_settle_none))]
 pub(crate) fn reply_edit(
     alloc: Global,
     core: &mut Core,
@@ -56,6 +57,7 @@ pub(crate) fn reply_edit(
         × (into.new.items ≡ into.old.items ++ text)) }
     ensures err { OnErr result ((into.new.items ≡ into.old.items) × LooksAs core.old core.new) }
     ensures awaits { AwaitsLine core.old → AwaitsLine core.new }
+    ensures settles { settles_of core.new ≡ settles_of core.old }
 {
     logs_tell_all();
     let before = into.len();

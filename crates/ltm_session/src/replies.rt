@@ -6,6 +6,7 @@ ghost use Rattle.ltm_report.specs.Reports.{link_report};
 ghost use Rattle.ltm_session.specs.Analysts.{Analysts, state_of};
 ghost use Rattle.ltm_session.specs.Answers.{Replies, ReportsShown, TellsTimeAt};
 ghost use Rattle.ltm_session.specs.Ready.{AwaitsLine};
+ghost use Rattle.ltm_session.specs.Settles.{settles_of};
 
 use crate::edits::reply_edit;
 use crate::origins::reply_origin;
@@ -127,6 +128,7 @@ pub fn reply(
         × (into.new.items ≡ into.old.items ++ text)) }
     ensures err { OnErr result ((into.new.items ≡ into.old.items) × LooksAs core.old core.new) }
     ensures awaits { AwaitsLine core.old → AwaitsLine core.new }
+    ensures settles { settles_of core.new ≡ settles_of core.old }
 {
     match command {
         Command::Edit(batch) => reply_edit(alloc, core, batch, into),

@@ -7,7 +7,7 @@ ghost use Rattle.ltm_core.specs.CoreAnswers.{SettlesAll};
 ghost use Rattle.ltm_session.specs.Ready.{AwaitsLine};
 ghost use Rattle.ltm_session.specs.Settles.{IsRepaired, IsShowing, SettlesAlone};
 
-use ltm_core::{Core, Published, logs_tell_all};
+use ltm_core::{Core, Published, logs_tell_all, runs_of_cores};
 use ltm_units::Steps;
 use ltm_workers::{Bench, drain};
 
@@ -16,6 +16,7 @@ fn repair(core: &mut Core, bench: &mut Bench)
     requires { AwaitsLine core.old }
     ensures { IsRepaired core.old core.new }
 {
+    runs_of_cores();
     let mut steps = Steps::new();
     drain(core, bench, &mut steps);
 }
