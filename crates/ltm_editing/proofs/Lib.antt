@@ -2,7 +2,6 @@ pub mod Calls
 pub mod Crews
 pub mod Told
 pub mod Answered
-pub mod Sent
 pub mod Each
 pub mod Cut
 pub mod Missing

@@ -7,3 +7,4 @@ pub mod Joining
 pub mod Ends
 pub mod Between
 pub mod Legal
+pub mod Crosses

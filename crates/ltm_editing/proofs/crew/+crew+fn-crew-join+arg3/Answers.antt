@@ -10,14 +10,14 @@ use Rattle.ltm_editing.proofs.script.Script.TheSendSync as script
 use Rattle.ltm_editors.specs.Seats.{seat_place, seat_seen}
 use Rattle.ltm_editing.proofs.Calls.{all_split}
 use Rattle.ltm_editing.proofs.Crews.{taken_out, owns_next, crew_made}
-use Rattle.ltm_editing.proofs.Sent.{office_send}
+use Rattle.ltm_editors.proofs.Crosses.{office_sends}
 use Rattle.ltm_editing.proofs.crew.+crew+fn-crew-join+arg3.Goals as goal
 
 pub join-seat-requires-send-A : goal.join-seat-requires-send-A
-join-seat-requires-send-A g t c κs within = search (rules, sendable, crosses, seat.the_send, office_send) depth 30
+join-seat-requires-send-A g t c κs within = search (rules, sendable, crosses, seat.the_send, office_sends) depth 30
 
 pub join-seat-requires-send-F : goal.join-seat-requires-send-F
-join-seat-requires-send-F g t c κs within = search (rules, sendable, crosses, seat.the_send, desk.the_sync, script.the_send, office_send) depth 40
+join-seat-requires-send-F g t c κs within = search (rules, sendable, crosses, seat.the_send, desk.the_sync, script.the_send, office_sends) depth 40
 
 pub join-seat-requires-after_bounds : goal.join-seat-requires-after_bounds
 join-seat-requires-after_bounds g t c κs within =
