@@ -1,5 +1,5 @@
 -- A core that looks as before, and one after a batch, for the analysts' machine.
-use Rattle.std.proofs.Common.{◌≡◌, ℕ, List, refl, ap, sym, subst, ◌∙◌}
+use Rattle.std.proofs.Common.{◌≡◌, List, refl, ap, sym, subst, ◌∙◌}
 use Rattle.ltm_flows.specs.Shown.{version_of, SameLoading}
 use Rattle.ltm_flows.specs.declared.loading.Loading.{Loading}
 use Rattle.ltm_scenario.specs.declared.edit.Edit.{Edit}
@@ -8,7 +8,7 @@ use Rattle.ltm_repair.specs.State.{RepairState, now}
 use Rattle.ltm_core.specs.Log.{Log, LogLaws, with_batch, settled_of}
 use Rattle.ltm_core.specs.Cores.{CoreData, repair_of, IsNoneOut}
 use Rattle.ltm_core.specs.CoreAnswers.{AcceptsBatch, LooksAs}
-use Rattle.ltm_session.specs.Analysts.{Analysts, state_of}
+use Rattle.ltm_session.specs.Analysts.{state_of}
 use Rattle.ltm_session.specs.Ready.{AwaitsLine}
 
 same_loading : (l : Loading) → SameLoading l l
