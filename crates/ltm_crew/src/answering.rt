@@ -12,14 +12,15 @@ ghost use Rattle.ltm_session.specs.Analysts.{state_of};
 ghost use Rattle.ltm_session.specs.Answers.{Replies};
 ghost use Rattle.ltm_crew.specs.Beside.{SaidBeside, LineBeside, StopsBeside};
 
+use crate::place::Place;
 use ltm_core::{Core, logs_tell_all};
 use ltm_io::Sink;
 use ltm_report::{ANSWER_ROOM, settled_text};
 use ltm_script::{Command, CommandFault, read_command};
 use ltm_session::{SessionEnd, reply, reply_fault, write_answer};
-use ltm_turn::{EditorPass, Turn};
+use ltm_turn::EditorPass;
 use ltm_units::NoMemory;
-use ltm_workers::{Hints, Settled, Settler, settle_beside};
+use ltm_workers::{Settled, Settler, settle_beside};
 use std::alloc::Global;
 use std::sync::Wait;
 
@@ -56,18 +57,15 @@ fn is_behind(core: &Core) -> bool {
 
 /// Answers a command that is no settle, in one turn. Where there is work to do then, workers are called.
 fn reply_beside<R: Wait>(
-    rt: &R,
-    alloc: Global,
-    turn: &Turn<Core>,
-    hints: &Hints,
+    place: &Place<R>,
     editor: EditorPass<Core>,
     command: Command,
     text: &mut Vec<u8>,
 ) -> (EditorPass<Core>, Result<(), NoMemory>)
-    requires turn { editor_turn editor ≡ turn_id turn.now }
+    requires turn { editor_turn editor ≡ turn_id place.now.turn.now }
     requires amounts { HasAmounts command }
     requires other { command ≢ Command.Settle }
-    ensures turn { (editor_turn result.0 ≡ turn_id turn.now)
+    ensures turn { (editor_turn result.0 ≡ turn_id place.now.turn.now)
         × (editor_workers result.0 ≡ editor_workers editor) }
     ensures ok { OnOk result.1 ((words : List ℕ)
         × SaidBeside (Ok command) words (editor_list editor) (editor_seen editor)
@@ -78,12 +76,13 @@ fn reply_beside<R: Wait>(
         × (editor_seen editor ≤ editor_seen result.0)) }
 {
     logs_tell_all();
-    let mut held = turn.take_editor(rt, editor);
-    let done = reply_held(alloc, held.get_mut(), command, text);
+    let turn = place.turn;
+    let mut held = turn.take_editor(place.rt, editor);
+    let done = reply_held(place.alloc, held.get_mut(), command, text);
     let behind = is_behind(held.get());
     let editor = turn.give_editor(held);
     if behind {
-        hints.call_after_batch(turn);
+        place.hints.call_after_batch(turn);
     }
     (editor, done)
 }
@@ -101,16 +100,14 @@ fn push_settled(settled: Settled, text: &mut Vec<u8>)
 
 /// Settles, and appends the count, for which there is room.
 fn settle_in_room<R: Wait>(
-    rt: &R,
-    turn: &Turn<Core>,
-    hints: &Hints,
+    place: &Place<R>,
     editor: EditorPass<Core>,
     settler: Settler,
     text: &mut Vec<u8>,
 ) -> (EditorPass<Core>, Settler)
-    requires turn { editor_turn editor ≡ turn_id turn.now }
+    requires turn { editor_turn editor ≡ turn_id place.now.turn.now }
     requires room { vec_len text.old + answer_room ≤ vec_capacity text.old }
-    ensures turn { (editor_turn result.0 ≡ turn_id turn.now)
+    ensures turn { (editor_turn result.0 ≡ turn_id place.now.turn.now)
         × (editor_workers result.0 ≡ editor_workers editor) }
     ensures told { (words : List ℕ)
         × SaidBeside (Ok Command.Settle) words (editor_list editor) (editor_seen editor)
@@ -118,22 +115,26 @@ fn settle_in_room<R: Wait>(
         × (text.new.items ≡ text.old.items ++ words) }
 {
     logs_tell_all();
-    let (editor, settler, settled) = settle_beside(rt, turn, hints, editor, settler);
+    let (editor, settler, settled) = settle_beside(
+        place.rt,
+        place.turn,
+        place.hints,
+        editor,
+        settler,
+    );
     push_settled(settled, text);
     (editor, settler)
 }
 
 /// Settles, and appends the count. Its room is taken before.
 fn settle_line<R: Wait>(
-    rt: &R,
-    turn: &Turn<Core>,
-    hints: &Hints,
+    place: &Place<R>,
     editor: EditorPass<Core>,
     settler: Settler,
     text: &mut Vec<u8>,
 ) -> (EditorPass<Core>, Settler, Result<(), NoMemory>)
-    requires { editor_turn editor ≡ turn_id turn.now }
-    ensures turn { (editor_turn result.0 ≡ turn_id turn.now)
+    requires { editor_turn editor ≡ turn_id place.now.turn.now }
+    ensures turn { (editor_turn result.0 ≡ turn_id place.now.turn.now)
         × (editor_workers result.0 ≡ editor_workers editor) }
     ensures ok { OnOk result.2 ((words : List ℕ)
         × SaidBeside (Ok Command.Settle) words (editor_list editor) (editor_seen editor)
@@ -145,7 +146,7 @@ fn settle_line<R: Wait>(
 {
     match text.reserve(ANSWER_ROOM) {
         Ok(()) => {
-            let (editor, settler) = settle_in_room(rt, turn, hints, editor, settler, text);
+            let (editor, settler) = settle_in_room(place, editor, settler, text);
             return (editor, settler, Ok(()));
         }
         Err(_) => return (editor, settler, Err(NoMemory)),
@@ -154,17 +155,14 @@ fn settle_line<R: Wait>(
 
 /// Appends the answer to a line.
 fn answer_beside<R: Wait>(
-    rt: &R,
-    alloc: Global,
-    turn: &Turn<Core>,
-    hints: &Hints,
+    place: &Place<R>,
     editor: EditorPass<Core>,
     settler: Settler,
     line: &[u8],
     text: &mut Vec<u8>,
 ) -> (EditorPass<Core>, Settler, Result<(), NoMemory>)
-    requires { editor_turn editor ≡ turn_id turn.now }
-    ensures turn { (editor_turn result.0 ≡ turn_id turn.now)
+    requires { editor_turn editor ≡ turn_id place.now.turn.now }
+    ensures turn { (editor_turn result.0 ≡ turn_id place.now.turn.now)
         × (editor_workers result.0 ≡ editor_workers editor) }
     ensures ok { OnOk result.2 ((words : List ℕ)
         × LineBeside line.now words (editor_list editor) (editor_seen editor) (editor_list result.0)
@@ -174,15 +172,15 @@ fn answer_beside<R: Wait>(
         × (editor_list result.0 ≡ editor_list editor)
         × (editor_seen editor ≤ editor_seen result.0)) }
 {
-    match read_command(alloc, line) {
-        Ok(Command::Settle) => return settle_line(rt, turn, hints, editor, settler, text),
+    match read_command(place.alloc, line) {
+        Ok(Command::Settle) => return settle_line(place, editor, settler, text),
         Ok(command) => {
-            let (editor, done) = reply_beside(rt, alloc, turn, hints, editor, command, text);
+            let (editor, done) = reply_beside(place, editor, command, text);
             return (editor, settler, done);
         }
         Err(CommandFault::NoMemory) => return (editor, settler, Err(NoMemory)),
         Err(fault) => {
-            let done = reply_fault(alloc, fault, text);
+            let done = reply_fault(place.alloc, fault, text);
             return (editor, settler, done);
         }
     }
@@ -190,18 +188,15 @@ fn answer_beside<R: Wait>(
 
 /// Answers one line beside workers, and writes the answer whole. No turn is held while it is written.
 pub(crate) fn line_beside<R: Wait, W: Sink>(
-    rt: &R,
-    alloc: Global,
-    turn: &Turn<Core>,
-    hints: &Hints,
+    place: &Place<R>,
     editor: EditorPass<Core>,
     settler: Settler,
     line: &[u8],
     text: &mut Vec<u8>,
     sink: &mut W,
 ) -> (EditorPass<Core>, Settler, Result<(), SessionEnd>)
-    requires { editor_turn editor ≡ turn_id turn.now }
-    ensures turn { (editor_turn result.0 ≡ turn_id turn.now)
+    requires { editor_turn editor ≡ turn_id place.now.turn.now }
+    ensures turn { (editor_turn result.0 ≡ turn_id place.now.turn.now)
         × (editor_workers result.0 ≡ editor_workers editor) }
     ensures ok { OnOk result.2 ((words : List ℕ)
         × LineBeside line.now words (editor_list editor) (editor_seen editor) (editor_list result.0)
@@ -217,9 +212,7 @@ pub(crate) fn line_beside<R: Wait, W: Sink>(
         → Rose (W.faults sink.old) (W.faults sink.new) }
 {
     text.clear();
-    let (editor, settler, done) = answer_beside(
-        rt, alloc, turn, hints, editor, settler, line, text,
-    );
+    let (editor, settler, done) = answer_beside(place, editor, settler, line, text);
     let Ok(()) = done else {
         return (editor, settler, Err(SessionEnd::NoMemory));
     };

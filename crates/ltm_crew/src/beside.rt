@@ -5,20 +5,17 @@ ghost use Rattle.ltm_session.specs.Answers.{AnswersBeside};
 ghost use Rattle.ltm_crew.specs.Beside.{IsKnown};
 
 use crate::answering::line_beside;
+use crate::place::Place;
 use ltm_core::Core;
 use ltm_io::Sink;
 use ltm_session::{Answerer, SessionEnd};
-use ltm_turn::{EditorPass, Turn};
-use ltm_workers::{Hints, Settler};
-use std::alloc::Global;
+use ltm_turn::EditorPass;
+use ltm_workers::Settler;
 use std::sync::Wait;
 
-/// An editor, and what it answers lines with.
+/// An editor, where it answers lines, and what it settles with.
 pub(crate) struct Beside<'a, R> {
-    pub(crate) rt: &'a R,
-    pub(crate) alloc: Global,
-    pub(crate) turn: &'a Turn<Core>,
-    pub(crate) hints: &'a Hints,
+    pub(crate) place: &'a Place<'a, R>,
     pub(crate) editor: EditorPass<Core>,
     pub(crate) settler: Settler,
 }
@@ -28,7 +25,7 @@ impl<'a, R: Wait> Answerer for Beside<'a, R> {
 
     ghost knows = { λ b s. IsKnown s (editor_list b.editor) (editor_seen b.editor) };
 
-    ghost awaits = { λ b. editor_turn b.editor ≡ turn_id b.turn.now };
+    ghost awaits = { λ b. editor_turn b.editor ≡ turn_id b.place.now.turn.now };
 
     ghost keeps = { λ a b. (editor_turn b.editor ≡ editor_turn a.editor)
         × (editor_workers b.editor ≡ editor_workers a.editor) };
@@ -40,21 +37,13 @@ impl<'a, R: Wait> Answerer for Beside<'a, R> {
         sink: &mut W,
     ) -> (Beside<'a, R>, Result<(), SessionEnd>) {
         let Beside {
-            rt,
-            alloc,
-            turn,
-            hints,
+            place,
             editor,
             settler,
         } = self;
-        let (editor, settler, done) = line_beside(
-            rt, alloc, turn, hints, editor, settler, line, text, sink,
-        );
+        let (editor, settler, done) = line_beside(place, editor, settler, line, text, sink);
         let beside = Beside {
-            rt,
-            alloc,
-            turn,
-            hints,
+            place,
             editor,
             settler,
         };

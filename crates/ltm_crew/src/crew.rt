@@ -7,41 +7,43 @@ ghost use Rattle.ltm_session.specs.Answerers.{IsUnread};
 ghost use Rattle.ltm_crew.specs.Beside.{SessionBeside, ReadsAll};
 
 use crate::beside::Beside;
+use crate::place::Place;
 use ltm_core::{Core, Scratch};
 use ltm_io::{Sink, Source};
 use ltm_session::{Script, SessionEnd, serve_lines};
-use ltm_turn::{EditorPass, Turn, WorkerPass};
-use ltm_workers::{Gate, Hints, Settler, stop_beside, work};
-use std::alloc::Global;
+use ltm_turn::{EditorPass, WorkerPass};
+use ltm_workers::{Gate, Settler, stop_beside, work};
 use std::sync::Wait;
 use std::thread::{Threads, join_mut};
 
 /// What an editor and its workers work with: all memory but that of answers is taken before.
 #[derive(Drop)]
 pub(crate) struct Gear {
-    pub(crate) alloc: Global,
     pub(crate) script: Script,
     pub(crate) scratch: Scratch,
     pub(crate) scratches: Vec<Scratch>,
 }
 
+/// An editor, and what it and its workers work with.
+pub(crate) struct Desk {
+    pub(crate) editor: EditorPass<Core>,
+    pub(crate) gear: Gear,
+}
+
 /// Answers all lines of a script beside workers.
 fn edit<R: Wait, S: Source, W: Sink>(
-    rt: &R,
-    turn: &Turn<Core>,
-    hints: &Hints,
-    editor: EditorPass<Core>,
-    gear: Gear,
+    place: &Place<R>,
+    desk: Desk,
     source: &mut S,
     sink: &mut W,
 ) -> (EditorPass<Core>, SessionEnd)
-    requires turn { editor_turn editor ≡ turn_id turn.now }
-    requires unread { IsUnread gear.script }
-    ensures turn { (editor_turn result.0 ≡ turn_id turn.now)
-        × (editor_workers result.0 ≡ editor_workers editor) }
+    requires turn { editor_turn desk.editor ≡ turn_id place.now.turn.now }
+    requires unread { IsUnread desk.gear.script }
+    ensures turn { (editor_turn result.0 ≡ turn_id place.now.turn.now)
+        × (editor_workers result.0 ≡ editor_workers desk.editor) }
     ensures session { SessionBeside (S.left source.old) (S.left source.new) result.1
-        (W.written sink.old) (W.written sink.new) (editor_list editor) (editor_seen editor) (editor_list result.0)
-        (editor_seen result.0) }
+        (W.written sink.old) (W.written sink.new) (editor_list desk.editor)
+        (editor_seen desk.editor) (editor_list result.0) (editor_seen result.0) }
     ensures read_fault { result.1 ≡ SessionEnd.ReadFault
         → Rose (S.faults source.old) (S.faults source.new) }
     ensures write_fault { result.1 ≡ SessionEnd.WriteFault
@@ -49,26 +51,20 @@ fn edit<R: Wait, S: Source, W: Sink>(
     ensures read { ReadsAll (S.left source.old) result.1 (S.left source.new) }
     ensures later { W.faults sink.old ≤ W.faults sink.new }
 {
+    let Desk { editor, gear } = desk;
     let Gear {
-        alloc,
         script,
         scratch,
         scratches: _,
     } = gear;
     let beside = Beside {
-        rt,
-        alloc,
-        turn,
-        hints,
+        place,
         editor,
         settler: Settler::new(scratch),
     };
     let (beside, end) = serve_lines(beside, script, source, sink);
     let Beside {
-        rt: _,
-        alloc: _,
-        turn: _,
-        hints: _,
+        place: _,
         editor,
         settler: _,
     } = beside;
@@ -77,21 +73,18 @@ fn edit<R: Wait, S: Source, W: Sink>(
 
 /// Answers all lines of a script beside workers, and then stops the core, so that they end.
 fn edit_and_stop<R: Wait, S: Source, W: Sink>(
-    rt: &R,
-    turn: &Turn<Core>,
-    hints: &Hints,
-    editor: EditorPass<Core>,
-    gear: Gear,
+    place: &Place<R>,
+    desk: Desk,
     source: &mut S,
     sink: &mut W,
 ) -> (EditorPass<Core>, SessionEnd)
-    requires turn { editor_turn editor ≡ turn_id turn.now }
-    requires unread { IsUnread gear.script }
-    ensures turn { (editor_turn result.0 ≡ turn_id turn.now)
-        × (editor_workers result.0 ≡ editor_workers editor) }
+    requires turn { editor_turn desk.editor ≡ turn_id place.now.turn.now }
+    requires unread { IsUnread desk.gear.script }
+    ensures turn { (editor_turn result.0 ≡ turn_id place.now.turn.now)
+        × (editor_workers result.0 ≡ editor_workers desk.editor) }
     ensures session { SessionBeside (S.left source.old) (S.left source.new) result.1
-        (W.written sink.old) (W.written sink.new) (editor_list editor) (editor_seen editor) (editor_list result.0)
-        (editor_seen result.0) }
+        (W.written sink.old) (W.written sink.new) (editor_list desk.editor)
+        (editor_seen desk.editor) (editor_list result.0) (editor_seen result.0) }
     ensures read_fault { result.1 ≡ SessionEnd.ReadFault
         → Rose (S.faults source.old) (S.faults source.new) }
     ensures write_fault { result.1 ≡ SessionEnd.WriteFault
@@ -99,31 +92,29 @@ fn edit_and_stop<R: Wait, S: Source, W: Sink>(
     ensures read { ReadsAll (S.left source.old) result.1 (S.left source.new) }
     ensures later { W.faults sink.old ≤ W.faults sink.new }
 {
-    let (editor, end) = edit(rt, turn, hints, editor, gear, source, sink);
-    (stop_beside(rt, turn, hints, editor), end)
+    let (editor, end) = edit(place, desk, source, sink);
+    let editor = stop_beside(place.rt, place.turn, place.hints, editor);
+    (editor, end)
 }
 
 /// Starts the workers one after another, and is the editor beside them; at the end it stops the core. A worker for which no
 /// thread can be made runs last, in this one, and ends at once.
 pub(crate) fn crew<R: Threads + Wait + Sync, S: Source, W: Sink, G: Gate>(
-    rt: &R,
-    turn: &Turn<Core>,
-    hints: &Hints,
+    place: &Place<R>,
     workers: u32,
-    editor: EditorPass<Core>,
-    gear: Gear,
+    desk: Desk,
     source: &mut S,
     sink: &mut W,
     gate: &G,
 ) -> (EditorPass<Core>, SessionEnd)
-    requires turn { editor_turn editor ≡ turn_id turn.now }
-    requires room { editor_workers editor + workers ≤ 64 }
-    requires unread { IsUnread gear.script }
-    ensures turn { (editor_turn result.0 ≡ turn_id turn.now)
-        × (editor_workers result.0 ≡ editor_workers editor) }
+    requires turn { editor_turn desk.editor ≡ turn_id place.now.turn.now }
+    requires room { editor_workers desk.editor + workers ≤ 64 }
+    requires unread { IsUnread desk.gear.script }
+    ensures turn { (editor_turn result.0 ≡ turn_id place.now.turn.now)
+        × (editor_workers result.0 ≡ editor_workers desk.editor) }
     ensures session { SessionBeside (S.left source.old) (S.left source.new) result.1
-        (W.written sink.old) (W.written sink.new) (editor_list editor) (editor_seen editor) (editor_list result.0)
-        (editor_seen result.0) }
+        (W.written sink.old) (W.written sink.new) (editor_list desk.editor)
+        (editor_seen desk.editor) (editor_list result.0) (editor_seen result.0) }
     ensures read_fault { result.1 ≡ SessionEnd.ReadFault
         → Rose (S.faults source.old) (S.faults source.new) }
     ensures write_fault { result.1 ≡ SessionEnd.WriteFault
@@ -131,18 +122,19 @@ pub(crate) fn crew<R: Threads + Wait + Sync, S: Source, W: Sink, G: Gate>(
     ensures read { ReadsAll (S.left source.old) result.1 (S.left source.new) }
     ensures later { W.faults sink.old ≤ W.faults sink.new }
 {
-    let mut gear = gear;
     if workers == 0 {
-        return edit_and_stop(rt, turn, hints, editor, gear, source, sink);
+        return edit_and_stop(place, desk, source, sink);
     }
+    let Desk { editor, mut gear } = desk;
     let Some(idle) = gear.scratches.pop() else {
-        return edit_and_stop(rt, turn, hints, editor, gear, source, sink);
+        return edit_and_stop(place, Desk { editor, gear }, source, sink);
     };
     let mut editor = editor;
+    let (rt, turn, hints) = (place.rt, place.turn, place.hints);
     let pass = turn.split(&mut editor);
     let rest = workers - 1;
     let mut hand = Some((pass, idle));
-    let mut desk = Some((editor, gear));
+    let mut desk = Some(Desk { editor, gear });
     let ((worker, _idle), (mut editor, end)) = join_mut(
         rt,
         &mut || -> (WorkerPass<Core>, Scratch)
@@ -157,16 +149,18 @@ pub(crate) fn crew<R: Threads + Wait + Sync, S: Source, W: Sink, G: Gate>(
         },
         &mut || -> (EditorPass<Core>, SessionEnd)
             requires { IsSync R.row × IsSync G.row
-                × IsSomeAnd desk (λ e. (editor_turn e.0 ≡ turn_id turn.now)
-                × (editor_workers e.0 + rest ≤ 64)
-                × IsUnread e.1.script) }
+                × IsSomeAnd desk (λ d. (editor_turn d.editor ≡ turn_id place.now.turn.now)
+                × (editor_workers d.editor + rest ≤ 64)
+                × IsUnread d.gear.script) }
             ensures none { desk.exit ≡ None }
-            ensures turn { IfSome desk.entry (λ e. (editor_turn result.0 ≡ turn_id turn.entry.now)
-                × (editor_workers result.0 ≡ editor_workers e.0)) }
+            ensures turn { IfSome desk.entry
+                (λ d. (editor_turn result.0 ≡ turn_id place.entry.now.turn.now)
+                × (editor_workers result.0 ≡ editor_workers d.editor)) }
             ensures session { IfSome desk.entry
-                (λ e. SessionBeside (S.left source.entry.now) (S.left source.exit.now) result.1
+                (λ d. SessionBeside (S.left source.entry.now) (S.left source.exit.now) result.1
                 (W.written sink.entry.now) (W.written sink.exit.now)
-                (editor_list e.0) (editor_seen e.0) (editor_list result.0) (editor_seen result.0)) }
+                (editor_list d.editor) (editor_seen d.editor)
+                (editor_list result.0) (editor_seen result.0)) }
             ensures read_fault { result.1 ≡ SessionEnd.ReadFault
                 → Rose (S.faults source.entry.now) (S.faults source.exit.now) }
             ensures write_fault { result.1 ≡ SessionEnd.WriteFault
@@ -174,10 +168,10 @@ pub(crate) fn crew<R: Threads + Wait + Sync, S: Source, W: Sink, G: Gate>(
             ensures read { ReadsAll (S.left source.entry.now) result.1 (S.left source.exit.now) }
             ensures later { W.faults sink.entry.now ≤ W.faults sink.exit.now }
         {
-            let Some((editor, gear)) = desk.take() else {
+            let Some(desk) = desk.take() else {
                 unreachable!()
             };
-            crew(rt, turn, hints, rest, editor, gear, source, sink, gate)
+            crew(place, rest, desk, source, sink, gate)
         },
     );
     let None = hand else { unreachable!() };

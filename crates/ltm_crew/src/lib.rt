@@ -10,6 +10,7 @@
 mod answering;
 mod beside;
 mod crew;
+mod place;
 mod serving;
 
 pub use serving::serve;

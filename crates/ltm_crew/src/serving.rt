@@ -7,7 +7,8 @@ ghost use Rattle.ltm_session.specs.Answerers.{IsUnread};
 ghost use Rattle.ltm_session.specs.Answers.{AnswersAlone, AnswersBeside};
 ghost use Rattle.ltm_session.specs.Session.{IsSession, Wrote, end_of};
 
-use crate::crew::{Gear, crew};
+use crate::crew::{Desk, Gear, crew};
+use crate::place::Place;
 use ltm_core::{Core, Scratch, logs_tell_all};
 use ltm_io::{Sink, Source};
 use ltm_session::{Script, Served, SessionEnd, serve_alone};
@@ -35,7 +36,6 @@ fn take_gear(alloc: Global, core: &Core, workers: u32) -> Result<Gear, NoMemory>
     let scratch = core.scratch()?;
     let scratches = scratches_of(alloc, core, workers)?;
     Ok(Gear {
-        alloc,
         script,
         scratch,
         scratches,
@@ -98,7 +98,13 @@ pub fn serve<R: Threads + Wait + Sync, S: Source, W: Sink, G: Gate>(
     match Turn::create(alloc, core) {
         Ok((turn, editor)) => {
             let hints = Hints::new();
-            let (editor, end) = crew(rt, &turn, &hints, workers, editor, gear, source, sink, gate);
+            let place = Place {
+                rt,
+                alloc,
+                turn: &turn,
+                hints: &hints,
+            };
+            let (editor, end) = crew(&place, workers, Desk { editor, gear }, source, sink, gate);
             return Served {
                 end,
                 core: turn.close(editor),

@@ -64,6 +64,10 @@ not_ended : (end : SessionEnd) → (end ≡ WriteFault) ⊎ (end ≡ NoMemory) �
 not_ended end (inl is) ended = cc
 not_ended end (inr is) ended = cc
 
+pub no_stop : (end : SessionEnd) → (end ≡ WriteFault) ⊎ (end ≡ NoMemory) → (end ≡ WriteFault → ⊥) → (end ≡ NoMemory → ⊥) → ⊥
+no_stop end (inl is) write memory = write is
+no_stop end (inr is) write memory = memory is
+
 pub serves_stops : (rule : Answering) (old mid next : Knowing) (told now new left w w1 w2 : Option (List ℕ)) (count : ℕ) (line : List ℕ) (end : SessionEnd)
     → ServesSoFar rule old mid told now w w1 count → count < most_lines → GivesLine now line new → length line ≤ longest_line
     → StopsBy rule mid next line end w1 w2 → Serves rule old next told left end w w2

@@ -25,6 +25,11 @@ pub stops_one : {A : Type 0} (rule : Answering) (a b : Analysts) (line : List �
 stops_one rule a b line old new (Ok x) is = tt
 stops_one rule a b line old new (Err end) is = record { which = is.0; leads = leads_one a b (λ s t. StopsAt rule s line t end old new) is }
 
+-- what holds anyhow holds where a line was answered
+pub whenever : {A B P : Type 0} (r : Result A B) → P → OnOk r P
+whenever (Ok x) p = p
+whenever (Err e) p = tt
+
 -- a script was served, from a core that has accepted nothing
 pub served_one : (rule : Answering) (o : ScenarioData) (a b : Analysts) (told left : Option (List ℕ)) (end : SessionEnd) (old new : Option (List ℕ)) → a ≡ opening_state o
     → Serves rule (λ s. s ≡ a) (λ s. s ≡ b) told left end old new

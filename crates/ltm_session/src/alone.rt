@@ -27,7 +27,7 @@ impl Answerer for Alone {
 
     ghost awaits = { λ a. AwaitsLine a.core };
 
-    ghost keeps = { λ a b. Unit {0} };
+    ghost keeps = { λ a b. AwaitsLine a.core → AwaitsLine b.core };
 
     fn serve_line<W: Sink>(
         self,
@@ -44,7 +44,7 @@ impl Answerer for Alone {
         (Alone { alloc, core, bench }, done)
     }
 
-    ghost stays = { λ a. tt };
+    ghost stays = { λ a p. p };
 
-    ghost goes_on = { λ a b c p q. tt };
+    ghost goes_on = { λ a b c p q r. q (p r) };
 }

@@ -11,7 +11,8 @@ use ltm_io::Sink;
 /// Who answers the lines of a script, one after another: a core alone, or one beside workers.
 ///
 /// `rule` is how lines are answered, `knows` which machines of the analysts may be behind it, `awaits` that it may be
-/// given a line, and `keeps` what stays of it from line to line.
+/// given a line, as it may be again after each that it answered, and `keeps` what stays of it from line to line, also where
+/// it stopped.
 pub trait Answerer: Sized {
     ghost rule: { Answering };
 
@@ -34,7 +35,7 @@ pub trait Answerer: Sized {
             × (W.written sink.new ≡ appended words (W.written sink.old))) }
         ensures err { IfErr result.1 (λ end. StopsBy rule (knows self) (knows result.0) line.now end
             (W.written sink.old) (W.written sink.new)) }
-        ensures awaits { awaits result.0 }
+        ensures awaits { OnOk result.1 (awaits result.0) }
         ensures keeps { keeps self result.0 }
         ensures later { W.faults sink.old ≤ W.faults sink.new }
         ensures fault { result.1 ≡ Err SessionEnd.WriteFault

@@ -1,5 +1,5 @@
 //! One loop over the lines of a script, whoever answers them.
-ghost use Rattle.std.specs.Prelude.{◌≡◌, ◌≤◌};
+ghost use Rattle.std.specs.Prelude.{◌≡◌, ◌≢◌, ◌≤◌};
 ghost use Rattle.ltm_io.specs.Faults.{Rose};
 ghost use Rattle.ltm_session.specs.Answerers.{IsUnread, Serves};
 
@@ -21,7 +21,8 @@ pub fn serve_lines<A: Answerer, S: Source, W: Sink>(
     ensures serves { Serves A.rule (A.knows answerer) (A.knows result.0) (S.left source.old)
         (S.left source.new)
         result.1 (W.written sink.old) (W.written sink.new) }
-    ensures awaits { A.awaits result.0 }
+    ensures awaits { result.1 ≢ SessionEnd.WriteFault → result.1 ≢ SessionEnd.NoMemory
+        → A.awaits result.0 }
     ensures keeps { A.keeps answerer result.0 }
     ensures read_fault { result.1 ≡ SessionEnd.ReadFault
         → Rose (S.faults source.old) (S.faults source.new) }

@@ -1,7 +1,7 @@
 use Rattle.std.proofs.Common.{◌≡◌, arith, sym, subst}
 use Rattle.ltm_io.specs.Lines.{coming}
 use Rattle.ltm_session.specs.Serving.{EndsIfTold}
-use Rattle.ltm_session.proofs.Loops.{coming_first, serves_first, serves_more, serves_ends, serves_stops}
+use Rattle.ltm_session.proofs.Loops.{coming_first, serves_first, serves_more, serves_ends, serves_stops, no_stop}
 use Rattle.ltm_session.proofs.Progress.{no_fault_read}
 use Rattle.ltm_session.proofs.looping.serve_lines.Goals as goal
 
@@ -27,6 +27,15 @@ returns-in-Err-done-clause-serves g c =
     serves_stops g.A.Answerer.rule _ _ _ _ _ _ _ _ _ _ _ c.text.result.now c.in-Err-done.end so (omega arith)
     (rw (sym c.text.ensures) at c.in_default.ensures.line) (rw (sym c.text.ensures) at c.in_default.ensures.fits) (rw c.in-Err-done.is at c.serve_line-after.ensures.err)
 
+pub returns-in-Err-clause-awaits : goal.returns-in-Err-clause-awaits
+returns-in-Err-clause-awaits g c = λ write memory. c.loop-answered.invariant.2
+
+pub returns-in-Err-done-clause-awaits : goal.returns-in-Err-done-clause-awaits
+returns-in-Err-done-clause-awaits g c = λ write memory. let stops = rw c.in-Err-done.is at c.serve_line-after.ensures.err in absurd (no_stop c.in-Err-done.end stops.which write memory)
+
+pub returns-clause-awaits : goal.returns-clause-awaits
+returns-clause-awaits g c = λ write memory. c.loop-answered.invariant.2
+
 pub returns-in-Err-done-clause-read_fault : goal.returns-in-Err-done-clause-read_fault
 returns-in-Err-done-clause-read_fault g c = λ is. let stops = rw c.in-Err-done.is at c.serve_line-after.ensures.err in absurd (no_fault_read c.in-Err-done.end stops.which is)
 
@@ -36,7 +45,7 @@ loop-answered-preserved g c =
     let (words, is, wrote) = rw c.in_default-done.is at c.serve_line-after.ensures.ok in (
       c.in_default.ensures.unkept,
       c.in_default.ensures.max,
-      c.serve_line-after.ensures.awaits,
+      rw c.in_default-done.is at c.serve_line-after.ensures.awaits,
       g.met.A.Answerer.goes_on _ _ _ keeps c.serve_line-after.ensures.keeps,
       serves_more g.A.Answerer.rule _ _ _ _ _ _ _ _ _ _ c.text.result.now words so (rw c.text.ensures c.in_default.ensures.line)
           (rw c.text.ensures c.in_default.ensures.fits) is wrote,

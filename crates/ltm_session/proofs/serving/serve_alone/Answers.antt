@@ -31,7 +31,7 @@ pub returns-in-Err-clause-awaits : goal.returns-in-Err-clause-awaits
 returns-in-Err-clause-awaits g c = awaits_first c.args.core c.holds.ensures c.requires.fresh
 
 pub returns-in-Ok-clause-awaits : goal.returns-in-Ok-clause-awaits
-returns-in-Ok-clause-awaits g c = c.serve_lines-alone.ensures.awaits
+returns-in-Ok-clause-awaits g c = c.serve_lines-alone.ensures.keeps (awaits_first c.args.core c.holds.ensures c.requires.fresh)
 
 pub returns-in-Ok-clause-read_fault : goal.returns-in-Ok-clause-read_fault
 returns-in-Ok-clause-read_fault g c = c.serve_lines-alone.ensures.read_fault
