@@ -1,34 +1,32 @@
--- How a script that is served over a core ends.
-use Rattle.std.proofs.Common.{ℕ, ◌≡◌, ◌⊎◌, inl, inr, ◌<◌, ◌≤◌, List, [], length, subst}
-use Rattle.std.specs.Prelude.{Option, Some, None}
-use Rattle.ltm_io.specs.Answers.{GivesLine}
+-- A script that was served over a core while what it settles was posted.
+use Rattle.std.proofs.Common.{ℕ, ◌≡◌, inr, List}
+use Rattle.std.specs.Prelude.{Option, Result, Ok, Err, IfErr}
+use Rattle.ltm_io.specs.Sink.{appended}
 use Rattle.ltm_core.specs.Cores.{CoreData}
 use Rattle.ltm_session.specs.declared.ends.SessionEnd.{SessionEnd}
 use Rattle.ltm_session.specs.declared.ends.SessionEnd.TheVariants.{Ended, WriteFault, NoMemory}
-use Rattle.ltm_session.specs.Analysts.{state_of}
+use Rattle.ltm_session.specs.Analysts.{Analysts, state_of, opening_state}
 use Rattle.ltm_session.specs.Answers.{AnswersAlone}
-use Rattle.ltm_session.specs.Session.{most_lines, longest_line}
-use Rattle.ltm_session.specs.Serving.{HasRead, IsServing, EndsIfTold, StopsAt}
-use Rattle.ltm_session.proofs.Progress.{serving_ends, serving_stops}
+use Rattle.ltm_session.specs.Answerers.{Serves, StopsBy}
+use Rattle.ltm_session.specs.Session.{Answering, AnswersLine}
+use Rattle.ltm_session.proofs.OneMachine.{served_one, stops_one}
+use Rattle.ltm_session.proofs.Progress.{whole_front}
 use Rattle.ltm_viewing.specs.Serving.{IsScripted}
 
-read_all : (told now left : Option (List ℕ)) (lines : List (List ℕ)) (end : SessionEnd) (count : ℕ) → HasRead told now lines → EndsIfTold end count now left
-    → (script : List ℕ) → told ≡ Some script → end ≡ Ended → left ≡ Some []
-read_all None now left lines end count read ends script is ended = cc
-read_all (Some s) now left lines end count (front, rest, whole, at, cut, begins) ends script is ended = (subst (λ x. EndsIfTold end count x left) at ends).1 ended
+pub scripted : (d e : CoreData) (told left : Option (List ℕ)) (end : SessionEnd) (old new : Option (List ℕ)) → state_of d ≡ opening_state d.log.opening
+    → Serves AnswersAlone (λ s. s ≡ state_of d) (λ s. s ≡ state_of e) told left end old new → IsScripted d told left end old new e
+scripted d e told left end old new fresh served =
+    let (output, session, wrote) = served_one AnswersAlone d.log.opening (state_of d) (state_of e) told left end old new fresh served in
+    record { output = output; session = session; wrote = wrote; read = served.read }
 
-pub scripted_ends : (d e : CoreData) (told now left w w1 : Option (List ℕ)) (count : ℕ) (end : SessionEnd) → IsServing AnswersAlone d.log.opening told now w w1 count (state_of e)
-    → count ≤ most_lines → EndsIfTold end count now left → IsScripted d told left end w w1 e
-scripted_ends d e told now left w w1 count end so few ends =
-    let (output, session, wrote) = serving_ends AnswersAlone d.log.opening told now left w w1 count (state_of e) end so few ends in
-    record { output = output; session = session; wrote = wrote; read = read_all told now left so.answered end count so.read ends }
+-- a script that was read to its end stopped at no line
+pub at_its_end : {P : Type 0} (end : SessionEnd) → ((end ≡ WriteFault → ⊥) → (end ≡ NoMemory → ⊥) → P) → end ≡ Ended → P
+at_its_end end well ended = well (λ x. cc) (λ x. cc)
 
-not_ended : (end : SessionEnd) → (end ≡ WriteFault) ⊎ (end ≡ NoMemory) → end ≡ Ended → ⊥
-not_ended end (inl is) ended = cc
-not_ended end (inr is) ended = cc
-
-pub scripted_stops : (d e f : CoreData) (told now new left w w1 w2 : Option (List ℕ)) (count : ℕ) (line : List ℕ) (end : SessionEnd) → IsServing AnswersAlone d.log.opening told now w w1 count (state_of e)
-    → count < most_lines → GivesLine now line new → length line ≤ longest_line → StopsAt AnswersAlone (state_of e) line (state_of f) end w1 w2 → IsScripted d told left end w w2 f
-scripted_stops d e f told now new left w w1 w2 count line end so few reads fits stops =
-    let (output, session, wrote) = serving_stops AnswersAlone d.log.opening told now new left w w1 w2 count (state_of e) (state_of f) line end so few reads fits stops in
-    record { output = output; session = session; wrote = wrote; read = λ script is ended. absurd (not_ended end stops.0 ended) }
+-- where a post found no memory, the answer before it was written whole
+pub stops_posting : {A : Type 0} (rule : Answering) (a b : Analysts) (line words : List ℕ) (old new : Option (List ℕ)) (r : Result A SessionEnd)
+    → IfErr r (λ end. end ≡ NoMemory) → AnswersLine rule a line words b → new ≡ appended words old
+    → IfErr r (λ end. StopsBy rule (λ s. s ≡ a) (λ s. s ≡ b) line end old new)
+stops_posting rule a b line words old new (Ok x) is said wrote = tt
+stops_posting rule a b line words old new (Err end) is said wrote =
+    stops_one {A = Unit {0}} rule a b line old new (Err end) (inr is, inr (words, said, whole_front old new words wrote))

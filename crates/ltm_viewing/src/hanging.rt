@@ -1,44 +1,23 @@
 //! How the boards of a view are hung.
-ghost use Rattle.std.specs.Prelude.{◌≡◌, ◌≤◌, ◌<◌, [], ◌∷◌, IfOk, None};
-ghost use Rattle.ltm_io.specs.Lines.{max_of, taken_by, kept_by};
+ghost use Rattle.std.specs.Prelude.{◌≡◌, ◌≤◌, ◌<◌, IfOk};
 ghost use Rattle.ltm_core.specs.Log.{version_now};
 ghost use Rattle.ltm_board.specs.Boards.{board_list};
 ghost use Rattle.ltm_board.specs.Lists.{joined};
+ghost use Rattle.ltm_session.specs.Answerers.{IsUnread};
 ghost use Rattle.ltm_viewing.specs.Hung.{AllHave, board_hook, board_hooks, watch_hook, watch_hooks, how_many, shown_list};
 
 use crate::boards::Boards;
-use crate::serving::Seat;
+use crate::stage::Stage;
 use crate::watch::Watch;
 use crate::watches::Watches;
 use ltm_board::{Board, Sheet};
 use ltm_core::{Core, logs_tell_all};
-use ltm_io::Lines;
-use ltm_session::LONGEST_LINE;
+use ltm_session::Script;
 use ltm_setting::link_count;
 use ltm_units::NoMemory;
 use ltm_workers::Bench;
 use std::alloc::Global;
 use std::sync::Wait;
-
-/// What a view works with. It is not `Drop`: end it by `end`.
-pub(crate) struct Stage {
-    pub(crate) seat: Seat,
-    pub(crate) boards: Boards,
-    pub(crate) watches: Watches,
-}
-
-impl Stage {
-    /// Ends the viewers and their boards.
-    pub(crate) fn end<R: Wait>(self, rt: &R) {
-        let Stage {
-            seat: _seat,
-            boards,
-            watches,
-        } = self;
-        drop(watches);
-        boards.end(rt);
-    }
-}
 
 /// A board with the loading that a core shows, which has accepted nothing, and its viewer.
 fn hang_one<R: Wait>(rt: &R, alloc: Global, core: &Core) -> Result<(Board, Watch), NoMemory>
@@ -107,43 +86,28 @@ fn hang<R: Wait>(
     }
 }
 
-/// Takes the memory that a script needs beside its answers.
-fn take_seat(alloc: Global, core: &Core) -> Result<Seat, NoMemory>
-    ensures max { IfOk result (λ seat. max_of seat.lines ≡ 65536) }
-    ensures taken { IfOk result (λ seat. taken_by seat.lines ≡ []) }
-    ensures kept { IfOk result (λ seat. kept_by seat.lines ≡ None) }
-{
-    let lines = Lines::create(alloc, LONGEST_LINE)?;
-    let bench = Bench::create(core)?;
-    Ok(Seat {
-        alloc,
-        lines,
-        bench,
-        text: Vec::new(alloc),
-    })
-}
-
 /// Takes all memory that a view needs beside its answers and its posts.
 pub(crate) fn take_stage<R: Wait>(
     rt: &R,
     alloc: Global,
     core: &Core,
     viewers: u32,
-) -> Result<Stage, NoMemory>
+) -> Result<(Stage, Watches), NoMemory>
     requires few { (0 < viewers) × (viewers ≤ 2) }
     requires fresh { version_now core.now.log ≡ 0 }
-    ensures max { IfOk result (λ s. max_of s.seat.lines ≡ 65536) }
-    ensures taken { IfOk result (λ s. taken_by s.seat.lines ≡ []) }
-    ensures kept { IfOk result (λ s. kept_by s.seat.lines ≡ None) }
-    ensures lists { IfOk result (λ s. AllHave s.boards (shown_list core.now)) }
-    ensures hooks { IfOk result (λ s. (watch_hooks s.watches ≡ board_hooks s.boards)
-        × (how_many (board_hooks s.boards) ≡ viewers)) }
+    ensures unread { IfOk result (λ r. IsUnread r.0.script) }
+    ensures lists { IfOk result (λ r. AllHave r.0.boards (shown_list core.now)) }
+    ensures hooks { IfOk result (λ r. (watch_hooks r.1 ≡ board_hooks r.0.boards)
+        × (how_many (board_hooks r.0.boards) ≡ viewers)) }
 {
-    let seat = take_seat(alloc, core)?;
+    let script = Script::create(alloc)?;
+    let bench = Bench::create(core)?;
     let (boards, watches) = hang(rt, alloc, core, viewers)?;
-    Ok(Stage {
-        seat,
+    let stage = Stage {
+        alloc,
+        script,
+        bench,
         boards,
-        watches,
-    })
+    };
+    Ok((stage, watches))
 }

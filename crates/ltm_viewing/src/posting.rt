@@ -1,5 +1,5 @@
 //! Posts on all boards.
-ghost use Rattle.std.specs.Prelude.{◌≡◌, ◌⊎◌, ◌++◌, ◌≤◌, length, drop, OnOk};
+ghost use Rattle.std.specs.Prelude.{◌≡◌, ◌⊎◌, ◌++◌, ◌≤◌, length, drop, OnOk, IfErr};
 ghost use Rattle.ltm_flows.specs.Shown.{version_of};
 ghost use Rattle.ltm_core.specs.Log.{version_now};
 ghost use Rattle.ltm_board.specs.Lists.{joined, entries_of_batches, LeadsTo, IsLoadingOf};
@@ -12,6 +12,7 @@ use ltm_board::lists_lead;
 use ltm_core::{Core, logs_tell_all};
 use ltm_flows::Loading;
 use ltm_scenario::{Batch, Scenario};
+use ltm_session::SessionEnd;
 use ltm_units::NoMemory;
 use std::sync::Wait;
 
@@ -50,16 +51,17 @@ fn after(batches: &[Batch], count: u64) -> &[Batch]
 /// Posts the loading that is shown, where it is newer than that of the first so many batches, and tells the viewers.
 pub(crate) fn post_newer<R: Wait>(
     rt: &R,
+    news: &News,
     core: &Core,
     before: u64,
     boards: &mut Boards,
-    news: &News,
-) -> Result<(), NoMemory>
+) -> Result<(), SessionEnd>
     requires posted { AllHave boards.old (first_of core.now.log before) }
     requires few { before ≤ version_now core.now.log }
     requires newer { (version_of core.now.shown ≡ before)
         ⊎ (version_of core.now.shown ≡ version_now core.now.log) }
     ensures ok { OnOk result (AllHave boards.new (shown_list core.now)) }
+    ensures end { IfErr result (λ end. end ≡ SessionEnd.NoMemory) }
     ensures hooks { board_hooks boards.new ≡ board_hooks boards.old }
 {
     logs_tell_all();

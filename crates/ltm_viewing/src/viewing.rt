@@ -1,24 +1,22 @@
 //! A session at which viewers look on.
-ghost use Rattle.std.specs.Prelude.{◌≡◌, ◌≢◌, ◌≤◌, ◌<◌, ℕ, List, [], None, Some, option_map};
+ghost use Rattle.std.specs.Prelude.{◌≡◌, ◌≢◌, ◌≤◌, ◌<◌, ℕ, List, [], Some, None, IfSome, IsSomeAnd};
 ghost use Rattle.std.specs.Thread.{IsSync};
 ghost use Rattle.ltm_io.specs.Faults.{Rose};
-ghost use Rattle.ltm_io.specs.Lines.{max_of, taken_by, kept_by};
 ghost use Rattle.ltm_core.specs.Log.{version_now};
-ghost use Rattle.ltm_session.specs.Analysts.{state_of, opening_state};
-ghost use Rattle.ltm_session.specs.Ready.{AwaitsLine};
+ghost use Rattle.ltm_session.specs.Analysts.{state_of};
 ghost use Rattle.ltm_session.specs.Session.{Wrote, end_of};
-ghost use Rattle.ltm_viewing.specs.Hung.{AllHave, board_hooks, watch_hook, watch_hooks, how_many, shown_list};
-ghost use Rattle.ltm_viewing.specs.Serving.{IsScripted, Views};
+ghost use Rattle.ltm_viewing.specs.Hung.{board_hooks, watch_hooks, how_many};
+ghost use Rattle.ltm_viewing.specs.Serving.{IsSet, ServesPosting, Views};
 ghost use Rattle.ltm_viewing.specs.View.{IsView};
 
 use crate::boards::Boards;
-use crate::hanging::{Stage, take_stage};
+use crate::hanging::take_stage;
 use crate::news::News;
-use crate::serving::{Seat, serve_lines};
+use crate::serving::serve_and_end;
+use crate::stage::Stage;
 use crate::telling::tell_last;
-use crate::watch::Watch;
 use crate::watches::Watches;
-use crate::watching::look_on;
+use crate::watching::look_all;
 use ltm_core::Core;
 use ltm_io::{Sink, Source};
 use ltm_session::SessionEnd;
@@ -26,216 +24,82 @@ use std::alloc::Global;
 use std::sync::Wait;
 use std::thread::{Threads, join_mut};
 
-/// Serves a script, and then tells the viewers that it is at its end.
-fn serve_and_end<R: Wait, S: Source, W: Sink>(
-    rt: &R,
-    core: &mut Core,
-    seat: &mut Seat,
-    boards: &mut Boards,
-    news: &News,
-    source: &mut S,
-    sink: &mut W,
-) -> SessionEnd
-    requires fresh { state_of core.old ≡ opening_state core.old.log.opening }
-    requires awaits { AwaitsLine core.old }
-    requires posted { AllHave boards.old (shown_list core.old) }
-    requires max { max_of seat.old.lines ≡ 65536 }
-    requires taken { taken_by seat.old.lines ≡ [] }
-    requires kept { kept_by seat.old.lines ≡ None }
-    ensures script { IsScripted core.old (S.left source.old) (S.left source.new) result
-        (W.written sink.old) (W.written sink.new) core.new }
-    ensures posted { result ≡ SessionEnd.Ended → AllHave boards.new (shown_list core.new) }
-    ensures hooks { board_hooks boards.new ≡ board_hooks boards.old }
-    ensures read_fault { result ≡ SessionEnd.ReadFault
-        → Rose (S.faults source.old) (S.faults source.new) }
-    ensures write_fault { result ≡ SessionEnd.WriteFault
-        → Rose (W.faults sink.old) (W.faults sink.new) }
-    ensures later { W.faults sink.old ≤ W.faults sink.new }
-{
-    let end = serve_lines(rt, core, seat, boards, news, source, sink);
-    news.tell_end();
-    end
-}
-
-/// Serves a script while a viewer looks on in a thread of its own; where none can be made it looks at the end alone.
-fn serve_beside_one<R: Threads + Wait + Sync, S: Source, W: Sink>(
-    rt: &R,
-    core: &mut Core,
-    seat: &mut Seat,
-    boards: &mut Boards,
-    watch: &mut Watch,
-    news: &News,
-    source: &mut S,
-    sink: &mut W,
-) -> SessionEnd
-    requires fresh { state_of core.old ≡ opening_state core.old.log.opening }
-    requires awaits { AwaitsLine core.old }
-    requires posted { AllHave boards.old (shown_list core.old) }
-    requires max { max_of seat.old.lines ≡ 65536 }
-    requires taken { taken_by seat.old.lines ≡ [] }
-    requires kept { kept_by seat.old.lines ≡ None }
-    ensures script { IsScripted core.old (S.left source.old) (S.left source.new) result
-        (W.written sink.old) (W.written sink.new) core.new }
-    ensures posted { result ≡ SessionEnd.Ended → AllHave boards.new (shown_list core.new) }
-    ensures hooks { board_hooks boards.new ≡ board_hooks boards.old }
-    ensures read_fault { result ≡ SessionEnd.ReadFault
-        → Rose (S.faults source.old) (S.faults source.new) }
-    ensures write_fault { result ≡ SessionEnd.WriteFault
-        → Rose (W.faults sink.old) (W.faults sink.new) }
-    ensures later { W.faults sink.old ≤ W.faults sink.new }
-    ensures watch { watch_hook watch.new ≡ watch_hook watch.old }
-{
-    let (_looked, end) = join_mut(
-        rt,
-        &mut || -> ()
-            requires { IsSync R.row }
-            ensures { watch_hook watch.exit.now ≡ watch_hook watch.entry.now }
-        { look_on(rt, news, watch) },
-        &mut || -> SessionEnd
-            requires { IsSync R.row × (state_of core.now ≡ opening_state core.now.log.opening)
-                × AwaitsLine core.now × AllHave boards.now (shown_list core.now)
-                × (max_of seat.now.lines ≡ 65536) × (taken_by seat.now.lines ≡ [])
-                × (kept_by seat.now.lines ≡ None) }
-            ensures script { IsScripted core.entry.now (S.left source.entry.now)
-                (S.left source.exit.now) result (W.written sink.entry.now)
-                (W.written sink.exit.now) core.exit.now }
-            ensures posted { result ≡ SessionEnd.Ended
-                → AllHave boards.exit.now (shown_list core.exit.now) }
-            ensures hooks { board_hooks boards.exit.now ≡ board_hooks boards.entry.now }
-            ensures read_fault { result ≡ SessionEnd.ReadFault
-                → Rose (S.faults source.entry.now) (S.faults source.exit.now) }
-            ensures write_fault { result ≡ SessionEnd.WriteFault
-                → Rose (W.faults sink.entry.now) (W.faults sink.exit.now) }
-            ensures later { W.faults sink.entry.now ≤ W.faults sink.exit.now }
-        { serve_and_end(rt, core, seat, boards, news, source, sink) },
-    );
-    end
-}
-
-/// Serves a script while a viewer looks on, or without one.
-fn serve_beside_second<R: Threads + Wait + Sync, S: Source, W: Sink>(
-    rt: &R,
-    core: &mut Core,
-    seat: &mut Seat,
-    boards: &mut Boards,
-    second: &mut Option<Watch>,
-    news: &News,
-    source: &mut S,
-    sink: &mut W,
-) -> SessionEnd
-    requires fresh { state_of core.old ≡ opening_state core.old.log.opening }
-    requires awaits { AwaitsLine core.old }
-    requires posted { AllHave boards.old (shown_list core.old) }
-    requires max { max_of seat.old.lines ≡ 65536 }
-    requires taken { taken_by seat.old.lines ≡ [] }
-    requires kept { kept_by seat.old.lines ≡ None }
-    ensures script { IsScripted core.old (S.left source.old) (S.left source.new) result
-        (W.written sink.old) (W.written sink.new) core.new }
-    ensures posted { result ≡ SessionEnd.Ended → AllHave boards.new (shown_list core.new) }
-    ensures hooks { board_hooks boards.new ≡ board_hooks boards.old }
-    ensures read_fault { result ≡ SessionEnd.ReadFault
-        → Rose (S.faults source.old) (S.faults source.new) }
-    ensures write_fault { result ≡ SessionEnd.WriteFault
-        → Rose (W.faults sink.old) (W.faults sink.new) }
-    ensures later { W.faults sink.old ≤ W.faults sink.new }
-    ensures watch { option_map watch_hook second.new ≡ option_map watch_hook second.old }
-{
-    match second {
-        Some(watch) => serve_beside_one(rt, core, seat, boards, watch, news, source, sink),
-        None => serve_and_end(rt, core, seat, boards, news, source, sink),
-    }
-}
-
-/// Serves a script while all viewers look on, each in a thread of its own.
+/// Serves a script while all viewers look on in other threads; where none can be made they look at the end alone.
 fn serve_beside<R: Threads + Wait + Sync, S: Source, W: Sink>(
     rt: &R,
     core: &mut Core,
-    seat: &mut Seat,
-    boards: &mut Boards,
+    stage: Stage,
     watches: &mut Watches,
     source: &mut S,
     sink: &mut W,
-) -> SessionEnd
-    requires fresh { state_of core.old ≡ opening_state core.old.log.opening }
-    requires awaits { AwaitsLine core.old }
-    requires posted { AllHave boards.old (shown_list core.old) }
-    requires max { max_of seat.old.lines ≡ 65536 }
-    requires taken { taken_by seat.old.lines ≡ [] }
-    requires kept { kept_by seat.old.lines ≡ None }
-    ensures script { IsScripted core.old (S.left source.old) (S.left source.new) result
-        (W.written sink.old) (W.written sink.new) core.new }
-    ensures posted { result ≡ SessionEnd.Ended → AllHave boards.new (shown_list core.new) }
-    ensures hooks { board_hooks boards.new ≡ board_hooks boards.old }
-    ensures read_fault { result ≡ SessionEnd.ReadFault
+) -> (Boards, SessionEnd)
+    requires set { IsSet core.old stage }
+    ensures serves { ServesPosting core.old stage (S.left source.old) (S.left source.new) result.1
+        (W.written sink.old) (W.written sink.new) core.new result.0 }
+    ensures read_fault { result.1 ≡ SessionEnd.ReadFault
         → Rose (S.faults source.old) (S.faults source.new) }
-    ensures write_fault { result ≡ SessionEnd.WriteFault
+    ensures write_fault { result.1 ≡ SessionEnd.WriteFault
         → Rose (W.faults sink.old) (W.faults sink.new) }
     ensures later { W.faults sink.old ≤ W.faults sink.new }
     ensures watches { watch_hooks watches.new ≡ watch_hooks watches.old }
 {
     let news = News::new();
-    let Watches { first, second } = watches;
-    let (_looked, end) = join_mut(
+    let mut desk = Some(stage);
+    let (_looked, (boards, end)) = join_mut(
         rt,
         &mut || -> ()
             requires { IsSync R.row }
-            ensures { watch_hook first.exit.now ≡ watch_hook first.entry.now }
-        { look_on(rt, &news, first) },
-        &mut || -> SessionEnd
-            requires { IsSync R.row × (state_of core.now ≡ opening_state core.now.log.opening)
-                × AwaitsLine core.now × AllHave boards.now (shown_list core.now)
-                × (max_of seat.now.lines ≡ 65536) × (taken_by seat.now.lines ≡ [])
-                × (kept_by seat.now.lines ≡ None) }
-            ensures script { IsScripted core.entry.now (S.left source.entry.now)
-                (S.left source.exit.now) result (W.written sink.entry.now)
-                (W.written sink.exit.now) core.exit.now }
-            ensures posted { result ≡ SessionEnd.Ended
-                → AllHave boards.exit.now (shown_list core.exit.now) }
-            ensures hooks { board_hooks boards.exit.now ≡ board_hooks boards.entry.now }
-            ensures read_fault { result ≡ SessionEnd.ReadFault
+            ensures { watch_hooks watches.exit.now ≡ watch_hooks watches.entry.now }
+        { look_all(rt, &news, watches) },
+        &mut || -> (Boards, SessionEnd)
+            requires { IsSync R.row × IsSomeAnd desk (λ stage. IsSet core.now stage) }
+            ensures none { desk.exit ≡ None }
+            ensures serves { IfSome desk.entry (λ stage. ServesPosting core.entry.now stage
+                (S.left source.entry.now) (S.left source.exit.now) result.1
+                (W.written sink.entry.now) (W.written sink.exit.now) core.exit.now result.0) }
+            ensures read_fault { result.1 ≡ SessionEnd.ReadFault
                 → Rose (S.faults source.entry.now) (S.faults source.exit.now) }
-            ensures write_fault { result ≡ SessionEnd.WriteFault
+            ensures write_fault { result.1 ≡ SessionEnd.WriteFault
                 → Rose (W.faults sink.entry.now) (W.faults sink.exit.now) }
             ensures later { W.faults sink.entry.now ≤ W.faults sink.exit.now }
-            ensures watch { option_map watch_hook second.exit.now
-                ≡ option_map watch_hook second.entry.now }
-        { serve_beside_second(rt, core, seat, boards, second, &news, source, sink) },
+        {
+            let Some(stage) = desk.take() else {
+                unreachable!()
+            };
+            serve_and_end(rt, &news, core, stage, source, sink)
+        },
     );
-    end
+    let None = desk else { unreachable!() };
+    (boards, end)
 }
 
 /// Serves a script while viewers look on, and lets them tell at its end what is shown.
 fn view_from<R: Threads + Wait + Sync, S: Source, W: Sink>(
     rt: &R,
     core: &mut Core,
-    stage: &mut Stage,
+    stage: Stage,
+    watches: &mut Watches,
     source: &mut S,
     sink: &mut W,
-) -> SessionEnd
-    requires fresh { state_of core.old ≡ opening_state core.old.log.opening }
-    requires awaits { AwaitsLine core.old }
-    requires posted { AllHave stage.old.boards (shown_list core.old) }
-    requires hooks { watch_hooks stage.old.watches ≡ board_hooks stage.old.boards }
-    requires max { max_of stage.old.seat.lines ≡ 65536 }
-    requires taken { taken_by stage.old.seat.lines ≡ [] }
-    requires kept { kept_by stage.old.seat.lines ≡ None }
-    ensures view { Views (how_many (board_hooks stage.old.boards)) core.old (S.left source.old)
-        (S.left source.new) result (W.written sink.old) (W.written sink.new) core.new }
-    ensures read_fault { result ≡ SessionEnd.ReadFault
+) -> (Boards, SessionEnd)
+    requires set { IsSet core.old stage }
+    requires hooks { watch_hooks watches.old ≡ board_hooks stage.boards }
+    ensures view { Views (how_many (board_hooks stage.boards)) core.old (S.left source.old)
+        (S.left source.new) result.1 (W.written sink.old) (W.written sink.new) core.new }
+    ensures read_fault { result.1 ≡ SessionEnd.ReadFault
         → Rose (S.faults source.old) (S.faults source.new) }
-    ensures write_fault { result ≡ SessionEnd.WriteFault
+    ensures write_fault { result.1 ≡ SessionEnd.WriteFault
         → Rose (W.faults sink.old) (W.faults sink.new) }
     ensures later { W.faults sink.old ≤ W.faults sink.new }
 {
-    let Stage {
-        seat,
-        boards,
-        watches,
-    } = stage;
-    let end = serve_beside(rt, core, seat, boards, watches, source, sink);
+    let alloc = stage.alloc;
+    let (boards, end) = serve_beside(rt, core, stage, watches, source, sink);
     match end {
-        SessionEnd::Ended => tell_last(rt, seat.alloc, core, boards, watches, sink),
-        _ => end,
+        SessionEnd::Ended => {
+            let told = tell_last(rt, alloc, core, &boards, watches, sink);
+            return (boards, told);
+        }
+        _ => return (boards, end),
     }
 }
 
@@ -275,9 +139,10 @@ pub fn view<R: Threads + Wait + Sync, S: Source, W: Sink>(
 {
     core.holds();
     match take_stage(rt, alloc, core, viewers) {
-        Ok(mut stage) => {
-            let end = view_from(rt, core, &mut stage, source, sink);
-            stage.end(rt);
+        Ok((stage, mut watches)) => {
+            let (boards, end) = view_from(rt, core, stage, &mut watches, source, sink);
+            drop(watches);
+            boards.end(rt);
             return end;
         }
         Err(_) => return SessionEnd::NoMemory,
