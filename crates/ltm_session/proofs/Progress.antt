@@ -56,12 +56,6 @@ serving_begins answers s told coming written same = record {
   wrote = nothing_more written;
 }
 
-pub serving_first : (answers : Answering) (s : ScenarioData) (told written : Option (List ℕ)) (taken : List ℕ) (t : Analysts) → taken ≡ [] → t ≡ opening_state s
-    → IsServing answers s told (prepended taken told) written written 0 t
-serving_first answers s told written taken t none same =
-    subst (λ (u : Analysts). IsServing answers s told (prepended taken told) written written 0 u) (sym same)
-    (serving_begins answers s told (prepended taken told) written (ap (λ (b : List ℕ). prepended b told) none ∙ nothing_ahead told))
-
 pub appended_more : (old : Option (List ℕ)) (a b : List ℕ) → appended b (appended a old) ≡ appended (a ++ b) old
 appended_more None a b = refl
 appended_more (Some w) a b = ap Some (append_assoc w a b)

@@ -29,5 +29,5 @@ pub use ends::SessionEnd;
 pub use laws::{alone_is_a_session, answers_are_lines, one_output, sessions_keep_the_promise};
 pub use looping::serve_lines;
 pub use replies::{reply, reply_fault};
-pub use script::{LONGEST_LINE, MOST_LINES, Script, end_of_lines, next_line};
+pub use script::Script;
 pub use serving::{Served, serve_alone, serve_line, write_answer};

@@ -11,10 +11,10 @@ use ltm_units::NoMemory;
 use std::alloc::Global;
 
 /// The most bytes of a line.
-pub const LONGEST_LINE: u32 = 65_536;
+const LONGEST_LINE: u32 = 65_536;
 
 /// The most lines of a script.
-pub const MOST_LINES: u32 = 100_000;
+pub(crate) const MOST_LINES: u32 = 100_000;
 
 /// What a script is served with: what reads its lines, and room for an answer.
 #[derive(Drop)]
@@ -40,7 +40,7 @@ impl Script {
 }
 
 /// Reads the next line after so many, or says how the session ends.
-pub fn next_line<S: Source>(
+pub(crate) fn next_line<S: Source>(
     lines: &mut Lines,
     source: &mut S,
     answered: u32,
@@ -71,7 +71,7 @@ pub fn next_line<S: Source>(
 }
 
 /// How the session ends that has answered as many lines as a script may have.
-pub fn end_of_lines<S: Source>(lines: &mut Lines, source: &mut S) -> SessionEnd
+pub(crate) fn end_of_lines<S: Source>(lines: &mut Lines, source: &mut S) -> SessionEnd
     requires unkept { kept_by lines.old ≡ None }
     requires max { max_of lines.old ≡ 65536 }
     ensures end { EndsIfTold result 100000 (coming lines.old (S.left source.old))
