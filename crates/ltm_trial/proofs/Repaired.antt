@@ -103,7 +103,7 @@ few_commits laws s d is one =
 pub works_to_rest : (d m e : CoreData) (first between after count : ℕ) → first ≡ 0 → count ≡ after → Works d first m between → Works m between e after → IsResting e → WorksToRest d e count
 works_to_rest d m e first between after count at told drove drained rest = record {
   rest = rest;
-  keeps = drained.keeps ∙ ap (λ (z : CoreData). record z { table = e.table; commits = e.commits }) drove.keeps;
+  keeps = drained.keeps ∙ ap (λ (z : CoreData). record z { table = e.table; commits = e.commits; history = e.history }) drove.keeps;
   solved = λ none.
       let a = drove.commits in let b = drained.commits in let p = drove.steps in let q = drained.steps in omega (at, told, none, a, b, p, q, arith);
 }

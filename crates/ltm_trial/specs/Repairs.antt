@@ -10,11 +10,12 @@ use Rattle.ltm_loading.specs.Differing.{differing}
 use Rattle.ltm_setting.specs.Setting.{setting_of}
 use Rattle.ltm_flows.specs.Shown.{Shows}
 use Rattle.ltm_core.specs.Cores.{CoreData, IsResting}
+use Rattle.ltm_workers.specs.Draining.{KeepsButWork}
 
 -- from no commit on, all is worked on, and the solves are the commits
 pub record WorksToRest (old new : CoreData) (count : ℕ) : Type 0 where
   pub rest : IsResting new
-  pub keeps : new ≡ record old { table = new.table; commits = new.commits }
+  pub keeps : KeepsButWork old new
   pub solved : old.commits ≡ 0 → count ≡ min new.commits (2 ^ 64 - 1)
 
 -- a batch is accepted, its loading shown, and so many pairs were computed anew by so many solves
