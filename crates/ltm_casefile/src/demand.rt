@@ -7,7 +7,7 @@ ghost use Rattle.csv.specs.Records.{fields_of};
 ghost use Rattle.ltm_casefile.specs.Demand.{is_demand_header, demand_record, demand_ends, place_of, with_demand_record, demand_added};
 ghost use Rattle.ltm_casefile.specs.declared.faults.CaseCause.TheVariants.{TooManyDestinations};
 
-use crate::faults::{CaseCause, StepFault};
+use crate::faults::{CaseCause, RecordFault};
 use crate::fields::{check_width, read_amount, read_name, read_number};
 use csv::ByteRecord;
 use ltm_demand::{DemandFault, DemandRow};
@@ -93,7 +93,7 @@ fn find_ends(scenario: &Scenario, row: &DemandRecord) -> Result<(NodeId, NodeId)
 }
 
 /// The place of the node among the destinations, a new last one where it had none.
-pub fn add_destination(scenario: &mut Scenario, node: NodeId) -> Result<u32, StepFault>
+pub fn add_destination(scenario: &mut Scenario, node: NodeId) -> Result<u32, RecordFault>
     requires { node.0 < length scenario.old.network.nodes }
     ensures ok { OnOk result (with_destination scenario.old node.0 ≡ Ok scenario.new) }
     ensures cause { IfErr result (Tells (taken
@@ -106,14 +106,14 @@ pub fn add_destination(scenario: &mut Scenario, node: NodeId) -> Result<u32, Ste
 {
     match scenario.add_destination(node) {
         Ok(place) => return Ok(place),
-        Err(DestinationFault::NoMemory) => return Err(StepFault::NoMemory),
-        Err(DestinationFault::TooMany) => return Err(StepFault::Cause(
+        Err(DestinationFault::NoMemory) => return Err(RecordFault::NoMemory),
+        Err(DestinationFault::TooMany) => return Err(RecordFault::Cause(
             CaseCause::TooManyDestinations,
         )),
     }
 }
 
-fn set_demand(scenario: &mut Scenario, row: &DemandRecord) -> Result<(), StepFault>
+fn set_demand(scenario: &mut Scenario, row: &DemandRecord) -> Result<(), RecordFault>
     requires { row.now.amount.0 ≤ 1000000000 }
     ensures ok { OnOk result (with_demand_record scenario.old row.now ≡ Ok scenario.new) }
     ensures cause { IfErr result (Tells (with_demand_record scenario.old row.now)) }
@@ -129,13 +129,13 @@ fn set_demand(scenario: &mut Scenario, row: &DemandRecord) -> Result<(), StepFau
     });
     match set {
         Ok(()) => return Ok(()),
-        Err(DemandFault::NoMemory) => return Err(StepFault::NoMemory),
-        Err(_) => return Err(StepFault::Cause(CaseCause::TooManyRows)),
+        Err(DemandFault::NoMemory) => return Err(RecordFault::NoMemory),
+        Err(_) => return Err(RecordFault::Cause(CaseCause::TooManyRows)),
     }
 }
 
 /// Sets the demand row of a record, and makes its destination one.
-pub fn add_demand(scenario: &mut Scenario, row: &ByteRecord) -> Result<(), StepFault>
+pub fn add_demand(scenario: &mut Scenario, row: &ByteRecord) -> Result<(), RecordFault>
     ensures ok { OnOk result (demand_added scenario.old (fields_of row.now) ≡ Ok scenario.new) }
     ensures cause { IfErr result (Tells (demand_added scenario.old (fields_of row.now))) }
 {

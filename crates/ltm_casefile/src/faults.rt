@@ -113,30 +113,30 @@ impl From<NoMemory> for CaseFault {
 
 /// Why a record is not taken.
 #[derive(Clone, Copy, PartialEq, Eq)]
-pub enum StepFault {
+pub enum RecordFault {
     Cause(CaseCause),
     /// Memory was not found.
     NoMemory,
 }
 
-impl From<CaseCause> for StepFault {
+impl From<CaseCause> for RecordFault {
     ghost use Rattle.std.specs.Prelude.{◌≡◌};
-    ghost use Rattle.ltm_casefile.specs.declared.faults.StepFault.TheVariants as fault;
+    ghost use Rattle.ltm_casefile.specs.declared.faults.RecordFault.TheVariants as fault;
 
     ghost from_gives = { λ cause e. e ≡ fault.Cause cause };
 
-    fn from(cause: CaseCause) -> StepFault {
-        StepFault::Cause(cause)
+    fn from(cause: CaseCause) -> RecordFault {
+        RecordFault::Cause(cause)
     }
 }
 
-impl From<NoMemory> for StepFault {
+impl From<NoMemory> for RecordFault {
     ghost use Rattle.std.specs.Prelude.{◌≡◌};
-    ghost use Rattle.ltm_casefile.specs.declared.faults.StepFault.TheVariants as fault;
+    ghost use Rattle.ltm_casefile.specs.declared.faults.RecordFault.TheVariants as fault;
 
     ghost from_gives = { λ _ e. e ≡ fault.NoMemory };
 
-    fn from(_e: NoMemory) -> StepFault {
-        StepFault::NoMemory
+    fn from(_e: NoMemory) -> RecordFault {
+        RecordFault::NoMemory
     }
 }

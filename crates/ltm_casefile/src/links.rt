@@ -4,7 +4,7 @@ ghost use Rattle.ltm_casefile.specs.Causes.{Tells};
 ghost use Rattle.csv.specs.Records.{fields_of};
 ghost use Rattle.ltm_casefile.specs.Links.{is_links_header, cause_of_link, with_link_record, link_record, link_added};
 
-use crate::faults::{CaseCause, StepFault};
+use crate::faults::{CaseCause, RecordFault};
 use crate::fields::{check_width, read_name, read_number};
 use csv::ByteRecord;
 use ltm_diagram::Diagram;
@@ -71,7 +71,7 @@ fn read_link(row: &ByteRecord) -> Result<LinkRecord, CaseCause>
     })
 }
 
-fn join(scenario: &mut Scenario, link: &LinkRecord) -> Result<(), StepFault>
+fn join(scenario: &mut Scenario, link: &LinkRecord) -> Result<(), RecordFault>
     requires { scenario.old.splits ≡ [] }
     ensures ok { OnOk result (with_link_record scenario.old link.now ≡ Ok scenario.new) }
     ensures cause { IfErr result (Tells (with_link_record scenario.old link.now)) }
@@ -79,13 +79,13 @@ fn join(scenario: &mut Scenario, link: &LinkRecord) -> Result<(), StepFault>
 {
     match scenario.add_link(link.name, link.tail, link.head, link.diagram) {
         Ok(_) => return Ok(()),
-        Err(LinkFault::NoMemory) => return Err(StepFault::NoMemory),
-        Err(fault) => return Err(StepFault::Cause(cause_of(fault))),
+        Err(LinkFault::NoMemory) => return Err(RecordFault::NoMemory),
+        Err(fault) => return Err(RecordFault::Cause(cause_of(fault))),
     }
 }
 
 /// Adds the link of a record to a scenario without split rows.
-pub fn add_link(scenario: &mut Scenario, row: &ByteRecord) -> Result<(), StepFault>
+pub fn add_link(scenario: &mut Scenario, row: &ByteRecord) -> Result<(), RecordFault>
     requires { scenario.old.splits ≡ [] }
     ensures ok { OnOk result (link_added scenario.old (fields_of row.now) ≡ Ok scenario.new) }
     ensures cause { IfErr result (Tells (link_added scenario.old (fields_of row.now))) }

@@ -4,7 +4,7 @@ ghost use Rattle.ltm_casefile.specs.Causes.{Tells};
 ghost use Rattle.csv.specs.Records.{fields_of};
 ghost use Rattle.ltm_casefile.specs.SideLimits.{is_limits_header, limit_record, with_limit_record, limit_added};
 
-use crate::faults::{CaseCause, StepFault};
+use crate::faults::{CaseCause, RecordFault};
 use crate::fields::{check_width, read_amount, read_name, read_number};
 use csv::ByteRecord;
 use ltm_demand::DemandFault;
@@ -55,22 +55,22 @@ fn read_limit(row: &ByteRecord) -> Result<LimitRecord, CaseCause>
     })
 }
 
-fn set_limit(scenario: &mut Scenario, side: Side, limit: &LimitRecord) -> Result<(), StepFault>
+fn set_limit(scenario: &mut Scenario, side: Side, limit: &LimitRecord) -> Result<(), RecordFault>
     ensures ok { OnOk result (with_limit_record side scenario.old limit.now ≡ Ok scenario.new) }
     ensures cause { IfErr result (Tells (with_limit_record side scenario.old limit.now)) }
 {
     let Some(link) = scenario.network().find_link(&limit.link) else {
-        return Err(StepFault::Cause(CaseCause::Unknown(1)));
+        return Err(RecordFault::Cause(CaseCause::Unknown(1)));
     };
     match scenario.set_limit(side, link, limit.from, limit.to, limit.amount) {
         Ok(()) => return Ok(()),
-        Err(DemandFault::NoMemory) => return Err(StepFault::NoMemory),
-        Err(_) => return Err(StepFault::Cause(CaseCause::BadSlots)),
+        Err(DemandFault::NoMemory) => return Err(RecordFault::NoMemory),
+        Err(_) => return Err(RecordFault::Cause(CaseCause::BadSlots)),
     }
 }
 
 /// Sets the limit of a record at that side of its link.
-pub fn add_limit(scenario: &mut Scenario, side: Side, row: &ByteRecord) -> Result<(), StepFault>
+pub fn add_limit(scenario: &mut Scenario, side: Side, row: &ByteRecord) -> Result<(), RecordFault>
     ensures ok { OnOk result (limit_added side scenario.old (fields_of row.now) ≡ Ok scenario.new) }
     ensures cause { IfErr result (Tells (limit_added side scenario.old (fields_of row.now))) }
 {

@@ -8,7 +8,7 @@ ghost use Rattle.csv.specs.Records.{fields_of};
 ghost use Rattle.ltm_casefile.specs.Splits.{is_splits_header, split_record, split_ends, with_split_record, split_added};
 
 use crate::demand::add_destination;
-use crate::faults::{CaseCause, StepFault};
+use crate::faults::{CaseCause, RecordFault};
 use crate::fields::{check_width, read_name, read_number, read_split_weights};
 use csv::ByteRecord;
 use ltm_records::{has, width};
@@ -92,24 +92,24 @@ fn find_ends(scenario: &Scenario, row: &SplitRecord) -> Result<(NodeId, NodeId),
     Ok((node, end))
 }
 
-fn set_split(scenario: &mut Scenario, row: &SplitRecord) -> Result<(), StepFault>
+fn set_split(scenario: &mut Scenario, row: &SplitRecord) -> Result<(), RecordFault>
     ensures ok { OnOk result (with_split_record scenario.old row.now ≡ Ok scenario.new) }
     ensures cause { IfErr result (Tells (with_split_record scenario.old row.now)) }
 {
     let (node, end) = find_ends(scenario, row)?;
     let Some(weights) = scenario.weights_at(node, row.weights.pairs()) else {
-        return Err(StepFault::Cause(CaseCause::ZeroWeight));
+        return Err(RecordFault::Cause(CaseCause::ZeroWeight));
     };
     let destination = add_destination(scenario, end)?;
     match scenario.set_split(node, destination, row.from, weights.as_slice()) {
         Ok(()) => return Ok(()),
-        Err(SplitFault::NoMemory) => return Err(StepFault::NoMemory),
-        Err(_) => return Err(StepFault::Cause(CaseCause::TooManyRows)),
+        Err(SplitFault::NoMemory) => return Err(RecordFault::NoMemory),
+        Err(_) => return Err(RecordFault::Cause(CaseCause::TooManyRows)),
     }
 }
 
 /// Sets the split row of a record, and makes its destination one.
-pub fn add_split(scenario: &mut Scenario, row: &ByteRecord) -> Result<(), StepFault>
+pub fn add_split(scenario: &mut Scenario, row: &ByteRecord) -> Result<(), RecordFault>
     ensures ok { OnOk result (split_added scenario.old (fields_of row.now) ≡ Ok scenario.new) }
     ensures cause { IfErr result (Tells (split_added scenario.old (fields_of row.now))) }
 {

@@ -7,7 +7,7 @@ ghost use Rattle.ltm_casefile.specs.Faults.{Says};
 ghost use Rattle.ltm_casefile.specs.Tables.{file_of, heads, row_added, rows_added, table_added, with_file_if};
 
 use crate::demand::{add_demand, is_demand_header};
-use crate::faults::{CaseCause, CaseFault, File, StepFault};
+use crate::faults::{CaseCause, CaseFault, File, RecordFault};
 use crate::fetch::FileText;
 use crate::links::{add_link, is_links_header};
 use crate::side_limits::{add_limit, is_limits_header};
@@ -54,7 +54,7 @@ impl Table {
         }
     }
 
-    fn add_row(self, scenario: &mut Scenario, row: &ByteRecord) -> Result<(), StepFault>
+    fn add_row(self, scenario: &mut Scenario, row: &ByteRecord) -> Result<(), RecordFault>
         requires { self ≡ Table.Links → scenario.old.splits ≡ [] }
         ensures ok { OnOk result (row_added self scenario.old (fields_of row.now)
             ≡ Ok scenario.new) }
@@ -86,8 +86,8 @@ impl Table {
         'rows: while records.next(row)? {
             match self.add_row(scenario, row) {
                 Ok(()) => {}
-                Err(StepFault::NoMemory) => return Err(CaseFault::NoMemory),
-                Err(StepFault::Cause(cause)) => return Err(CaseFault::Bad {
+                Err(RecordFault::NoMemory) => return Err(CaseFault::NoMemory),
+                Err(RecordFault::Cause(cause)) => return Err(CaseFault::Bad {
                     file: self.file(),
                     row: number,
                     cause,

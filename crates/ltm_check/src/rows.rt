@@ -11,7 +11,7 @@ use ltm_curve::Curves;
 use ltm_loading::groups_are_set;
 use ltm_node::NodeOutputs;
 use ltm_scenario::Scenario;
-use ltm_setting::{arr_of, is_setting, node_groups, own};
+use ltm_setting::{arr_of, destination_at, is_setting, node_groups};
 use ltm_units::Pair;
 
 /// Whether a count has grown by as much as moves.
@@ -159,7 +159,7 @@ fn has_arrived(
         ((setting_of scenario.now).own pair.node.0) pair.slot
         + arrives (option_map (λ m. m.now) moves.entry)) }
 {
-    match own(scenario, pair.node) {
+    match destination_at(scenario, pair.node) {
         None => arriving(moves) == 0,
         Some(destination) => {
             let _slots = curves.slots();

@@ -11,14 +11,14 @@ mod answers;
 mod claim;
 mod entry;
 mod history;
-mod kept_core;
 mod laws;
 mod producing;
 mod scratch;
+mod the_core;
 
 pub use answers::{Claimed, Committed, Published, Recomputed};
 pub use claim::{Claim, Done};
 pub use entry::LogEntry;
-pub use kept_core::Core;
 pub use laws::{calls_are_events, logs_tell_all, runs_of_cores, settle_counts_are_exact};
 pub use scratch::Scratch;
+pub use the_core::Core;

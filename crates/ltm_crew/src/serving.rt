@@ -88,7 +88,7 @@ pub fn serve<R: Threads + Wait + Sync, S: Source, W: Sink, G: Gate>(
     if workers == 0 {
         return serve_alone(alloc, core, source, sink);
     }
-    core.holds();
+    core.facts();
     let Ok(gear) = take_gear(alloc, &core, workers) else {
         return Served {
             end: SessionEnd::NoMemory,

@@ -111,7 +111,7 @@ impl Origin {
         ensures places { IsNoLess (room_in self.old) (room_in self.new) }
     {
         let was = put_over(&mut self.rows, place, row);
-        self.table.tell(row, was);
+        self.table.put_amount(row, was);
         was
     }
 
@@ -129,7 +129,7 @@ impl Origin {
         ensures places { IsNoLess (room_in self.old) (room_in self.new) }
     {
         put_in(&mut self.rows, place, row);
-        self.table.tell(row, 0);
+        self.table.put_amount(row, 0);
     }
 
     /// The same rows and the same table.

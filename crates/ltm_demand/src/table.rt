@@ -169,7 +169,7 @@ impl Table {
     }
 
     /// Puts the amount of a row in place of another.
-    pub fn tell(&mut self, row: &DemandRow, was: u64)
+    pub fn put_amount(&mut self, row: &DemandRow, was: u64)
         requires was { was ≤ 1000000000 }
         requires now { row.now.amount.0 ≤ 1000000000 }
         requires slots { row.now.from < row.now.to }

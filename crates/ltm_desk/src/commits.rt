@@ -5,9 +5,9 @@ ghost use Rattle.ltm_setting.specs.Setting.{setting_of};
 ghost use Rattle.ltm_repair.specs.Moves.{Commits};
 ghost use Rattle.ltm_desk.specs.Committing.{readers, rewritten};
 
-use crate::given::Given;
 use crate::renewal::Renewal;
 use crate::renewing::renew_pair;
+use crate::step_form::StepForm;
 use crate::table::Table;
 use ltm_loading::{counts_by_place, in_range, inputs_by_place, outputs_small};
 use ltm_node::{Solved, no_arrivals, same_shape};
@@ -52,7 +52,7 @@ impl Table {
         let renewal = Renewal {
             scenario,
             pair,
-            given: Given::Counted,
+            given: StepForm::Counted,
             outputs,
         };
         renew_pair(

@@ -12,15 +12,15 @@ ghost use Rattle.ltm_setting.specs.Setting.{setting_of};
 ghost use Rattle.ltm_loading.specs.Shaped.{IsShaped};
 ghost use Rattle.ltm_flows.specs.Applying.{SetsSink};
 ghost use Rattle.ltm_frontier.specs.Frontier.{is_pair};
-ghost use Rattle.ltm_desk.specs.declared.given.Given.TheVariants.{Moved};
+ghost use Rattle.ltm_desk.specs.declared.step_form.StepForm.TheVariants.{Moved};
 ghost use Rattle.ltm_desk.specs.Counted.{counted_number, counted_row};
 ghost use Rattle.ltm_desk.specs.Waking.{row_differs, sink_differs, PutsCells};
 
-use crate::given::Given;
+use crate::step_form::StepForm;
 use ltm_curve::{Changed, Curves};
 use ltm_rows::same_numbers;
 use ltm_scenario::Scenario;
-use ltm_setting::{arr_of, own};
+use ltm_setting::{arr_of, destination_at};
 use ltm_units::Pair;
 
 /// Sets the counts of a group at a boundary, and no others; whether some count was another one. If so the cell is noted as
@@ -210,7 +210,7 @@ pub(crate) fn renew(
     changed: &mut Changed,
     group: u32,
     slot: u32,
-    given: Given,
+    given: StepForm,
     numbers: &[u64],
 ) -> bool
     requires group { group < groups_of curves.old }
@@ -228,20 +228,20 @@ pub(crate) fn renew(
         + 1) g k) }
 {
     match given {
-        Given::Counted => return renew_counts(curves, changed, group, slot + 1, numbers),
-        Given::Moved => return renew_moves(curves, changed, group, slot, numbers),
+        StepForm::Counted => return renew_counts(curves, changed, group, slot + 1, numbers),
+        StepForm::Moved => return renew_moves(curves, changed, group, slot, numbers),
     }
 }
 
 /// A count at a slot's end, which was another at its beginning.
 #[inline]
-fn count_of(given: Given, before: u64, number: u64) -> u64
+fn count_of(given: StepForm, before: u64, number: u64) -> u64
     requires { counted_number given before number < 2 ^ 64 }
     ensures { result ≡ counted_number given before number }
 {
     match given {
-        Given::Counted => number,
-        Given::Moved => before + number,
+        StepForm::Counted => number,
+        StepForm::Moved => before + number,
     }
 }
 
@@ -252,7 +252,7 @@ pub(crate) fn renew_sink(
     curves: &mut Curves,
     changed: &mut Changed,
     pair: Pair,
-    given: Given,
+    given: StepForm,
     arrived: u64,
 ) -> bool
     requires slot { pair.slot < (setting_of scenario.now).slots }
@@ -276,7 +276,7 @@ pub(crate) fn renew_sink(
     ensures cells { PutsCells changed.old changed.new
         (λ g k. result && is_pair (arr_of (setting_of scenario.now)) (pair.slot + 1) g k) }
 {
-    let Some(destination) = own(scenario, pair.node) else {
+    let Some(destination) = destination_at(scenario, pair.node) else {
         return false;
     };
     let group = arr_of(scenario);

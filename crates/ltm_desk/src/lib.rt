@@ -21,7 +21,6 @@ mod claiming;
 mod commits;
 mod differing;
 mod found;
-mod given;
 mod laws;
 mod marking;
 mod opening;
@@ -31,6 +30,7 @@ mod renewal;
 mod renewing;
 mod renewing_links;
 mod room;
+mod step_form;
 mod table;
 
 pub use found::Found;

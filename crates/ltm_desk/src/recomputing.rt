@@ -8,9 +8,9 @@ ghost use Rattle.ltm_desk.specs.Searching.{IsFound};
 ghost use Rattle.ltm_desk.specs.Recomputing.{RecomputesPair, Recomputes};
 
 use crate::found::Found;
-use crate::given::Given;
 use crate::renewal::Renewal;
 use crate::renewing::renew_pair;
+use crate::step_form::StepForm;
 use crate::table::Table;
 use ltm_loading::{counts_by_place, outputs_small, step_by_moves};
 use ltm_node::{NodeInputs, NodeOutputs, no_arrivals, same_shape, write_step};
@@ -61,7 +61,7 @@ impl Table {
         let renewal = Renewal {
             scenario,
             pair,
-            given: Given::Moved,
+            given: StepForm::Moved,
             outputs: moves,
         };
         renew_pair(

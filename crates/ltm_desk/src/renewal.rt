@@ -1,5 +1,5 @@
 //! What the counts of a pair are renewed by.
-use crate::given::Given;
+use crate::step_form::StepForm;
 use ltm_node::NodeOutputs;
 use ltm_scenario::Scenario;
 use ltm_units::{LinkId, Pair};
@@ -9,7 +9,7 @@ use ltm_units::{LinkId, Pair};
 pub(crate) struct Renewal<'a> {
     pub(crate) scenario: &'a Scenario,
     pub(crate) pair: Pair,
-    pub(crate) given: Given,
+    pub(crate) given: StepForm,
     pub(crate) outputs: &'a NodeOutputs,
 }
 
@@ -18,6 +18,6 @@ pub(crate) struct Renewal<'a> {
 pub(crate) struct LinkRow<'a> {
     pub(crate) link: LinkId,
     pub(crate) slot: u32,
-    pub(crate) given: Given,
+    pub(crate) given: StepForm,
     pub(crate) numbers: &'a [u64],
 }

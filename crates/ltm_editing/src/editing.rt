@@ -57,7 +57,7 @@ fn edit_core<R: Threads + Wait + Sync>(
 {
     let office = Office::create(alloc, core);
     let (office, done) = edit_office(rt, alloc, office, scripts);
-    office.holds();
+    office.facts();
     match done {
         Ok(()) => return report(alloc, office),
         Err(fault) => {

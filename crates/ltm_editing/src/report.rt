@@ -66,7 +66,7 @@ fn finish(alloc: Global, core: &mut Core, lines: Vec<u8>) -> Result<Vec<u8>, NoM
 pub(crate) fn report(alloc: Global, office: Office) -> Result<Vec<u8>, NoMemory>
     ensures { IfOk result (λ text. TellsHistory (opening_of office) office.history text.items) }
 {
-    office.holds();
+    office.facts();
     match calls_text(alloc, office.calls()) {
         Ok(lines) => {
             let mut core = office.into_core();

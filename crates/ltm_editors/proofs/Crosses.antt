@@ -4,7 +4,7 @@ use denote.Param.SendFields.{declared_send}
 use Rattle.std.proofs.Crossing.{crosses}
 use Rattle.ltm_scenario.proofs.scenario.Scenario.TheSendSync as scenario
 use Rattle.ltm_scenario.proofs.batch.Batch.TheSendSync as batch
-use Rattle.ltm_core.specs.contracts.kept_core.Core.{the_row as core_row}
+use Rattle.ltm_core.specs.contracts.the_core.Core.{the_row as core_row}
 use Rattle.ltm_editors.specs.contracts.call.Call as call
 use Rattle.ltm_editors.proofs.call.Verdict.TheSendSync as verdict
 use Rattle.ltm_editors.specs.contracts.office.Office as office

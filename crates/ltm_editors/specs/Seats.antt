@@ -1,7 +1,7 @@
 -- What a seat is and has seen, what a held desk was found with, and which desk each is of.
 use Rattle.std.specs.Prelude.{ℕ, ◌+◌, ◌-◌, List, [], ◌∷◌, ◌++◌, Option, Some}
 use Rattle.atomic_table.specs.Seated.{TableId}
-use Rattle.ltm_editors.specs.declared.kept.Kept.{Ghosts}
+use Rattle.ltm_editors.specs.declared.recorded.Recorded.{Ghosts}
 use Rattle.ltm_editors.specs.declared.desk.Desk.{Desk}
 use Rattle.ltm_editors.specs.declared.desk.Seat.{Seat}
 use Rattle.ltm_editors.specs.declared.desk.Held.{Held}

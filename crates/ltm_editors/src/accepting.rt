@@ -6,13 +6,13 @@ ghost use Rattle.ltm_editors.specs.Offices.{AnswersCall, StaysAs};
 
 use crate::call::Verdict;
 use crate::desk::Held;
-use crate::kept::Kept;
 use crate::office::Office;
+use crate::recorded::Recorded;
 use ltm_core::Core;
 use ltm_scenario::Batch;
 use ltm_units::NoMemory;
 
-impl<T: Kept> Held<T> {
+impl<T: Recorded> Held<T> {
     /// The value.
     pub fn get(&self) -> &T
         ensures { result.now ≡ held_value self.now }

@@ -5,7 +5,7 @@
 ghost use Rattle.std.specs.Prelude.{◌≡◌, ◌≤◌, true, false, [], ◌∷◌, Some, None};
 ghost use Rattle.ltm_editors.specs.Lists.{GrowsBy};
 
-use crate::kept::Kept;
+use crate::recorded::Recorded;
 use crate::rule::DeskRule;
 use crate::view::View;
 use atomic_table::Table;
@@ -21,7 +21,7 @@ use std::snapshot::Snapshot;
 ///
 /// first seat, seat --- join --> first seat       desk, first seat --- close --> the value
 /// ```
-pub struct Desk<T: Kept> {
+pub struct Desk<T: Recorded> {
     pub(crate) table: Table<
         Option<Box<T>>,
         View<T::Opening, T::Entry>,
@@ -33,7 +33,7 @@ pub struct Desk<T: Kept> {
 }
 
 /// A seat at a desk. The first one, of number 0, makes others and takes them in.
-pub struct Seat<T: Kept> {
+pub struct Seat<T: Recorded> {
     pub(crate) seat: atomic_table::Seat<Option<Box<T>>, View<T::Opening, T::Entry>>,
     pub(crate) number: u32,
     pub(crate) made: u32,
@@ -45,7 +45,7 @@ pub struct Seat<T: Kept> {
 }
 
 /// A seat while it holds the desk.
-pub struct Grip<T: Kept> {
+pub struct Grip<T: Recorded> {
     pub(crate) seat: atomic_table::Seat<Option<Box<T>>, View<T::Opening, T::Entry>>,
     pub(crate) number: u32,
     pub(crate) made: u32,
@@ -58,14 +58,14 @@ pub struct Grip<T: Kept> {
 
 /// The desk, held by a seat, with the value. What the value tells has grown by entries of the seat's number alone. It is given
 /// back by `give`, and cannot be let go.
-pub struct Held<T: Kept> {
+pub struct Held<T: Recorded> {
     pub(crate) grip: Grip<T>,
     pub(crate) value: Box<T>,
     pub ghost opens: { grip.seat.me.0.opening ≡ Some (T.opening value.value) },
     pub ghost grows: { GrowsBy T.author grip.number grip.seat.me.0.seen (T.history value.value) },
 }
 
-impl<T: Kept> Drop for Seat<T> {
+impl<T: Recorded> Drop for Seat<T> {
     fn drop(self) {
         let Self {
             seat: _seat,
@@ -76,7 +76,7 @@ impl<T: Kept> Drop for Seat<T> {
     }
 }
 
-impl<T: Kept> Seat<T> {
+impl<T: Recorded> Seat<T> {
     // The token of the table, the number, and the first seat's two counts.
     pub(crate) fn open(
         self,

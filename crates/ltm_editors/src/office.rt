@@ -7,7 +7,7 @@ ghost use Rattle.ltm_editors.specs.Lists.{GrowsBy};
 ghost use Rattle.ltm_editors.specs.Offices.{office_of, editor_of, IsOffice, TellsVerdict, AnswersCall, StaysAs};
 
 use crate::call::{Call, Verdict};
-use crate::kept::Kept;
+use crate::recorded::Recorded;
 use ltm_core::Core;
 use ltm_scenario::{Batch, EditCause, EditFault, Scenario};
 use ltm_units::NoMemory;
@@ -28,7 +28,7 @@ impl Model for Office {
     ghost Value = { OfficeData };
 
     ghost use Rattle.std.specs.Coded.{codes};
-    ghost use Rattle.ltm_core.specs.contracts.kept_core.Core as core_row;
+    ghost use Rattle.ltm_core.specs.contracts.the_core.Core as core_row;
     ghost use Rattle.ltm_editors.specs.contracts.call.Call as call_row;
 
     ghost coded = { Prim.hlevel (codes, core_row.the_row.coded, call_row.the_row.coded) };
@@ -40,7 +40,7 @@ impl Model for Office {
     ghost invariant = { λ o. IsOffice o.core o.calls.items };
 }
 
-impl Kept for Office {
+impl Recorded for Office {
     ghost use Rattle.ltm_editors.specs.Offices.{opening_of, history_of, editor_of};
 
     type Opening = Scenario;
@@ -172,7 +172,7 @@ impl Office {
     }
 
     /// What holds of every office. Costs nothing when it runs.
-    pub fn holds(&self)
+    pub fn facts(&self)
         ensures { IsOffice self.now.core self.now.history }
     {
         let _core = &self.core;

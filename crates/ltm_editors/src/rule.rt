@@ -13,7 +13,7 @@ ghost use Rattle.ltm_editors.specs.Rule.{IsDesk};
 ghost use Rattle.ltm_editors.specs.Steps.{Takes, Frees, Tells};
 ghost use Rattle.ltm_editors.specs.Views.{first_view, after_split, new_view, joined, spent_view};
 
-use crate::kept::Kept;
+use crate::recorded::Recorded;
 use crate::view::View;
 use atomic_table::{Join, Play, Split, TableRule};
 use std::snapshot::Snapshot;
@@ -21,7 +21,7 @@ use std::snapshot::Snapshot;
 /// The rule of a desk. The key of the table is the first value, from whose opening the first seat's view begins.
 pub struct DeskRule;
 
-impl<T: Kept> TableRule<Option<Box<T>>, View<T::Opening, T::Entry>, Snapshot<T>> for DeskRule {
+impl<T: Recorded> TableRule<Option<Box<T>>, View<T::Opening, T::Entry>, Snapshot<T>> for DeskRule {
     ghost holds = { λ _. IsDesk (boxed T.opening) (boxed T.history) T.author };
 
     ghost first = { λ key. first_view (T.opening key.value) };
@@ -30,21 +30,21 @@ impl<T: Kept> TableRule<Option<Box<T>>, View<T::Opening, T::Entry>, Snapshot<T>>
 // A seat tries to take the desk.
 pub(crate) struct Take;
 
-impl<T: Kept> Play<Option<Box<T>>, View<T::Opening, T::Entry>> for Take {
+impl<T: Recorded> Play<Option<Box<T>>, View<T::Opening, T::Entry>> for Take {
     ghost then = { Takes (boxed T.opening) (boxed T.history) T.author };
 }
 
 // The holder notes the history, and frees the desk.
 pub(crate) struct Free;
 
-impl<T: Kept> Play<Option<Box<T>>, View<T::Opening, T::Entry>> for Free {
+impl<T: Recorded> Play<Option<Box<T>>, View<T::Opening, T::Entry>> for Free {
     ghost then = { Frees (boxed T.history) };
 }
 
 // The first seat is told what a join has shown it.
 pub(crate) struct Tell;
 
-impl<T: Kept> Play<Option<Box<T>>, View<T::Opening, T::Entry>> for Tell {
+impl<T: Recorded> Play<Option<Box<T>>, View<T::Opening, T::Entry>> for Tell {
     ghost then = { Tells T.author };
 }
 

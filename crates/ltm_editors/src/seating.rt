@@ -4,14 +4,14 @@ ghost use Rattle.ltm_editors.specs.Lists.{entries_of, SeesBoth};
 ghost use Rattle.ltm_editors.specs.Seats.{first_place, place_after_split, next_place, place_after_join, desk_id, seat_place, seat_seen};
 
 use crate::desk::{Desk, Seat};
-use crate::kept::Kept;
+use crate::recorded::Recorded;
 use crate::rule::{JoinSeat, SplitSeat, Tell};
 use atomic_table::{Refused, Table};
 use ltm_units::NoMemory;
 use std::alloc::{AllocFailed, Global};
 use std::snapshot::Snapshot;
 
-impl<T: Kept> Desk<T> {
+impl<T: Recorded> Desk<T> {
     /// A free desk, and its first seat, of number 0, which has seen the empty history. Where memory is not found the value
     /// comes back.
     pub fn create(alloc: Global, value: T) -> Result<(Desk<T>, Seat<T>), (T, NoMemory)>
@@ -143,7 +143,7 @@ impl<T: Kept> Desk<T> {
     }
 }
 
-impl<T: Kept> Seat<T> {
+impl<T: Recorded> Seat<T> {
     /// Its number: 0 for the first seat, and then in the order of splitting.
     pub fn number(&self) -> u32
         ensures { result ≡ (seat_place self.now).number }

@@ -6,13 +6,13 @@ ghost use Rattle.ltm_editors.specs.Views.{holding, idle};
 ghost use Rattle.ltm_editors.specs.Seats.{desk_id, seat_place, seat_seen, held_place, held_found, held_value};
 
 use crate::desk::{Desk, Grip, Held, Seat};
-use crate::kept::Kept;
+use crate::recorded::Recorded;
 use crate::rule::{Free, Take};
 use crate::view::View;
 use crossbeam_utils::Backoff;
 use std::sync::Wait;
 
-impl<T: Kept> Desk<T> {
+impl<T: Recorded> Desk<T> {
     // Takes the desk if it is free, and the value out of its slot.
     fn try_acquire(
         &self,

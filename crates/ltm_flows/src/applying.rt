@@ -13,7 +13,7 @@ use ltm_curve::Curves;
 use ltm_loading::{groups_are_set, groups_by_row};
 use ltm_node::NodeOutputs;
 use ltm_scenario::Scenario;
-use ltm_setting::{arr_of, is_setting, node_groups, own, slot_count};
+use ltm_setting::{arr_of, destination_at, is_setting, node_groups, slot_count};
 use ltm_units::{NodeId, Pair};
 
 /// Writes the counts of each group of a node.
@@ -54,7 +54,7 @@ fn write_sink(scenario: &Scenario, curves: &mut Curves, node: NodeId, boundary: 
     ensures sets { SetsSink (setting_of scenario.now) node.0 boundary arrived (counts_of curves.old)
         (counts_of curves.new) }
 {
-    if let Some(destination) = own(scenario, node) {
+    if let Some(destination) = destination_at(scenario, node) {
         let group = arr_of(scenario);
         curves.set(group, destination, boundary, arrived);
     }

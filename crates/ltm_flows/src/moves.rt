@@ -14,7 +14,9 @@ use ltm_curve::Curves;
 use ltm_loading::{counts_by_place, down_of, up_of};
 use ltm_node::NodeOutputs;
 use ltm_scenario::Scenario;
-use ltm_setting::{arr_of, dep_of, in_links, is_setting, link_count, out_links, own, slot_count};
+use ltm_setting::{
+    arr_of, dep_of, destination_at, in_links, is_setting, link_count, out_links, slot_count,
+};
 use ltm_units::{NodeId, Pair};
 
 /// Adds what leaves each arm: each in-link, then the origin.
@@ -97,7 +99,7 @@ fn add_sink(scenario: &Scenario, curves: &mut Curves, node: NodeId, boundary: u3
         ((setting_of scenario.now).own node.0) boundary + arrives)
         (counts_of curves.old) (counts_of curves.new) }
 {
-    if let Some(destination) = own(scenario, node) {
+    if let Some(destination) = destination_at(scenario, node) {
         let group = arr_of(scenario);
         let count = curves.get(group, destination, boundary) + arrives;
         curves.set(group, destination, boundary, count);

@@ -10,7 +10,7 @@ use crate::numbers::put_numbers;
 use ltm_curve::Curves;
 use ltm_loading::groups_are_set;
 use ltm_scenario::Scenario;
-use ltm_setting::{arr_of, is_setting, node_groups, own};
+use ltm_setting::{arr_of, destination_at, is_setting, node_groups};
 use ltm_units::Pair;
 
 /// Writes the counts of some groups at a boundary, one group after another.
@@ -60,7 +60,7 @@ pub(crate) fn arrived(scenario: &Scenario, curves: &Curves, pair: Pair) -> u64
     ensures { result ≡ arrived_by (setting_of scenario.now) (counts_of curves.now)
         ((setting_of scenario.now).own pair.node.0) pair.slot }
 {
-    match own(scenario, pair.node) {
+    match destination_at(scenario, pair.node) {
         Some(destination) => curves.get(arr_of(scenario), destination, pair.slot),
         None => 0,
     }

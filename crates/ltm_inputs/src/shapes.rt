@@ -7,7 +7,7 @@ ghost use Rattle.ltm_inputs.specs.Widest.{IsWidest};
 
 use ltm_node::NodeShape;
 use ltm_scenario::Scenario;
-use ltm_setting::{destination_count, in_links, node_count, out_links, own};
+use ltm_setting::{destination_at, destination_count, in_links, node_count, out_links};
 use ltm_units::NodeId;
 
 /// The shape of a node of a scenario: at most 5 arms, 4 out-links and 64 destinations.
@@ -25,7 +25,7 @@ pub fn shape_of(scenario: &Scenario, node: NodeId) -> NodeShape
         arms: ins + 1.min(outs),
         outs,
         destinations: destination_count(scenario),
-        own: own(scenario, node),
+        own: destination_at(scenario, node),
     }
 }
 

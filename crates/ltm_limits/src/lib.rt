@@ -10,4 +10,4 @@ mod laws;
 mod limits;
 
 pub use laws::{limits_are_lengthened, limits_are_set, limits_stay_whole};
-pub use limits::LimitTable;
+pub use limits::SlotLimits;

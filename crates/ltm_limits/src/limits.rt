@@ -15,13 +15,13 @@ const NEVER_SET: u16 = 32_000;
 /// The table reaches as far as limits were set; past its end, and past the horizon, each limit is the one that was never
 /// set. So a longer horizon changes no table.
 #[derive(Drop)]
-pub struct LimitTable {
+pub struct SlotLimits {
     links: u32,
     slots: u32,
     table: Vec<u16>,
 }
 
-impl Model for LimitTable {
+impl Model for SlotLimits {
     ghost use Rattle.std.specs.Prelude.{◌≤◌, vec_len};
     ghost use Rattle.ltm_limits.specs.Limits.{LimitsState};
     ghost use Rattle.ltm_limits.specs.Tables.{limits_in, IsQuiet};
@@ -33,17 +33,17 @@ impl Model for LimitTable {
     ghost invariant = { λ t. (t.links ≤ 4000) × (t.slots ≤ 10000) × IsQuiet t.table.items t.links t.slots };
 }
 
-impl LimitTable {
+impl SlotLimits {
     ghost use Rattle.ltm_limits.specs.Limits.{limit_at, with_values, with_limit, values_of, with_link, lengthened, shortened};
 
     /// No link, and that many slots.
     #[tactic(auto, using(crate::proofs::Rows::limits_none, crate::proofs::Horizons::quiet_without_links))]
-    pub fn new(alloc: Global, slots: u32) -> LimitTable
+    pub fn new(alloc: Global, slots: u32) -> SlotLimits
         requires { slots ≤ 10000 }
         ensures limits { result.limits ≡ [] }
         ensures slots { result.slots ≡ slots }
     {
-        LimitTable {
+        SlotLimits {
             links: 0,
             slots,
             table: Vec::new(alloc),
@@ -136,7 +136,7 @@ impl LimitTable {
 
     /// The limits with one link more, whose limits were never set.
     #[tactic(auto, using(crate::proofs::Rows::limits_widened, crate::proofs::Rows::limits_more_of_none, crate::proofs::Rows::limits_long, crate::proofs::Horizons::quiet_past, crate::proofs::Horizons::quiet_empty))]
-    pub fn with_link(&self) -> Result<LimitTable, NoMemory>
+    pub fn with_link(&self) -> Result<SlotLimits, NoMemory>
         requires { length self.now.limits < 4000 }
         ensures limits { IfOk result (λ t. t.limits ≡ with_link self.now.limits self.now.slots) }
         ensures slots { IfOk result (λ t. t.slots ≡ self.now.slots) }
@@ -144,14 +144,14 @@ impl LimitTable {
         let alloc = *self.table.allocator();
         let links = self.links + 1;
         if self.table.is_empty() {
-            return Ok(LimitTable {
+            return Ok(SlotLimits {
                 links,
                 slots: self.slots,
                 table: Vec::new(alloc),
             });
         }
         let table = widened(alloc, &self.table, self.links as usize, self.slots as usize)?;
-        Ok(LimitTable {
+        Ok(SlotLimits {
             links,
             slots: self.slots,
             table,
@@ -184,11 +184,11 @@ impl LimitTable {
     }
 
     /// An equal table, on the same allocator.
-    pub fn try_copy(&self) -> Result<LimitTable, NoMemory>
+    pub fn try_copy(&self) -> Result<SlotLimits, NoMemory>
         ensures { IfOk result (λ copy. copy ≡ self.now) }
     {
         let alloc = *self.table.allocator();
-        Ok(LimitTable {
+        Ok(SlotLimits {
             links: self.links,
             slots: self.slots,
             table: Vec::from_slice(alloc, self.table.as_slice())?,

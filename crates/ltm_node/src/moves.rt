@@ -15,7 +15,7 @@
 //! - The narrow step (`narrow.rt`), for at most one out-link and one destination, writes the counts straight to their places.
 //!   It saves the copy of the counts, the split and `sent`, and where one arm alone sends more than its out-link can take,
 //!   the shares too.
-//! - `part_of` divides in 64 bits, and only for a weight that is neither 0 nor all that is left; `sum_of` adds up to four
+//! - `share_of_rest` divides in 64 bits, and only for a weight that is neither 0 nor all that is left; `sum_of` adds up to four
 //!   weights without a loop; each pass over the arms steps from load to load, and `split` from out-link to out-link, by their
 //!   places in the rows.
 //!
@@ -36,7 +36,7 @@ use crate::inputs::NodeInputs;
 use crate::loads::{Load, Part};
 use crate::portion::Portion;
 use crate::shape::NodeShape;
-use crate::split::part_of;
+use crate::split::share_of_rest;
 use ltm_shares::Sent;
 use ltm_units::sum_of;
 use ways::{Pair, next_above};
@@ -185,7 +185,7 @@ impl Mover<'_> {
         let mut place = self.entered_begin(load.destination);
         while rest > 0 {
             let weight = weights[out as usize];
-            let part = load.by(out, part_of(left, weight, rest));
+            let part = load.by(out, share_of_rest(left, weight, rest));
             left -= part.amount;
             rest -= weight;
             total += self.enter(part, place, row, sent);

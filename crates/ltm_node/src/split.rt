@@ -4,7 +4,7 @@ ghost use Rattle.std.specs.Prelude.{◌≡◌, ◌<◌, ◌≤◌, ◌*◌, ◌/
 /// The part of what is left of an amount that goes to one of the weights that are left: the narrow form of
 /// `ltm_units::share_of` for amounts of at most 32,000 units, whose product with a weight always fits a u64.
 #[inline]
-pub fn part_of(left: u64, weight: u64, rest: u64) -> u64
+pub fn share_of_rest(left: u64, weight: u64, rest: u64) -> u64
     requires left { left ≤ 32000 }
     requires weight { weight ≤ rest }
     requires rest { rest < 2 ^ 40 }

@@ -13,7 +13,7 @@ use crate::destinations::Destinations;
 use crate::diagrams::Diagrams;
 use crate::setup::Setup;
 use ltm_demand::Demand;
-use ltm_limits::LimitTable;
+use ltm_limits::SlotLimits;
 use ltm_network::Network;
 use ltm_splits::Splits;
 use std::alloc::Global;
@@ -30,8 +30,8 @@ pub struct Parts {
     pub destinations: Destinations,
     pub demand: Demand,
     pub splits: Splits,
-    pub entry: LimitTable,
-    pub exit: LimitTable,
+    pub entry: SlotLimits,
+    pub exit: SlotLimits,
 }
 
 // By hand, so that letting go of them is one call.
@@ -67,8 +67,8 @@ impl Parts {
             destinations: Destinations::new(alloc),
             demand: Demand::new(alloc, setup.slots),
             splits: Splits::new(alloc, setup.slots),
-            entry: LimitTable::new(alloc, setup.slots),
-            exit: LimitTable::new(alloc, setup.slots),
+            entry: SlotLimits::new(alloc, setup.slots),
+            exit: SlotLimits::new(alloc, setup.slots),
         }
     }
 }

@@ -237,7 +237,7 @@ impl Scenario {
     }
 
     /// Which destination a node is, if it is one.
-    pub fn own(&self, node: NodeId) -> Option<u32>
+    pub fn destination_at(&self, node: NodeId) -> Option<u32>
         ensures place { result ≡ destination_of self.now.destinations node.0 }
         ensures there { IfSome result (λ place. (place < length self.now.destinations)
             × (destination_node self.now place ≡ node.0)) }

@@ -54,7 +54,7 @@ pub(crate) fn total_ago<K: Kind>(
     }
     let by = boundary + 1;
     let after = K::total(curves, group, by);
-    let part = part_of(after - before, delay.rest, step);
+    let part = interpolated_part(after - before, delay.rest, step);
     Ago {
         total: before + part,
         by,
@@ -64,7 +64,7 @@ pub(crate) fn total_ago<K: Kind>(
 /// What of the units of a slot has come in a part of it, rounded down.
 #[inline]
 #[tactic(auto, using(crate::proofs::Past::part_fits))]
-fn part_of(units: u64, rest: u32, step: Millis) -> u64
+fn interpolated_part(units: u64, rest: u32, step: Millis) -> u64
     requires small_step { step.0 ≤ 60000 }
     requires rest { rest < step.0 }
     requires small { units ≤ 2 ^ 37 }

@@ -10,7 +10,7 @@ use ltm_units::{Name, NoMemory, NodeId};
 use std::alloc::Global;
 
 /// Appends the origin of a node at a boundary, or that what is shown has no such boundary.
-fn tell_origin(
+fn answer_origin(
     alloc: Global,
     core: &Core,
     name: &Name,
@@ -47,7 +47,7 @@ pub(crate) fn reply_origin(
     ensures err { OnErr result (into.new.items ≡ into.old.items) }
 {
     match core.scenario().network().find_node(name) {
-        Some(node) => tell_origin(alloc, core, name, node, boundary, into),
+        Some(node) => answer_origin(alloc, core, name, node, boundary, into),
         None => unknown_origin_text(into),
     }
 }

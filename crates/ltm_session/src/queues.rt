@@ -20,7 +20,7 @@ pub(crate) fn reply_delay(alloc: Global, core: &Core, into: &mut Vec<u8>) -> Res
 }
 
 /// Appends the queue of a link at a boundary, or that what is shown has no such boundary.
-fn tell_queue(
+fn answer_queue(
     alloc: Global,
     core: &Core,
     name: &Name,
@@ -57,7 +57,7 @@ pub(crate) fn reply_queue(
     ensures err { OnErr result (into.new.items ≡ into.old.items) }
 {
     match core.scenario().network().find_link(name) {
-        Some(link) => tell_queue(alloc, core, name, link, boundary, into),
+        Some(link) => answer_queue(alloc, core, name, link, boundary, into),
         None => unknown_queue_text(into),
     }
 }

@@ -32,7 +32,7 @@ fn reply_totals(alloc: Global, core: &Core, into: &mut Vec<u8>) -> Result<(), No
 }
 
 /// Appends what has entered and left a link of what is shown.
-fn tell_link(
+fn answer_link(
     alloc: Global,
     core: &Core,
     name: &Name,
@@ -56,13 +56,13 @@ fn reply_link(alloc: Global, core: &Core, name: &Name, into: &mut Vec<u8>) -> Re
     ensures err { OnErr result (into.new.items ≡ into.old.items) }
 {
     match core.scenario().network().find_link(name) {
-        Some(link) => tell_link(alloc, core, name, link, into),
+        Some(link) => answer_link(alloc, core, name, link, into),
         None => unknown_link_text(into),
     }
 }
 
 /// Appends how long it takes to pass a link from a slot on, or that what is shown has no such slot.
-fn tell_time(
+fn answer_time(
     alloc: Global,
     core: &Core,
     name: &Name,
@@ -98,7 +98,7 @@ fn reply_time(
     ensures err { OnErr result (into.new.items ≡ into.old.items) }
 {
     match core.scenario().network().find_link(name) {
-        Some(link) => tell_time(alloc, core, name, link, slot, into),
+        Some(link) => answer_time(alloc, core, name, link, slot, into),
         None => unknown_time_text(into),
     }
 }

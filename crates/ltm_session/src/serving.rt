@@ -116,7 +116,7 @@ pub fn serve_alone<S: Source, W: Sink>(
         → Rose (W.faults sink.old) (W.faults sink.new) }
     ensures later { W.faults sink.old ≤ W.faults sink.new }
 {
-    core.holds();
+    core.facts();
     match take_seat(alloc, &core) {
         Ok((script, bench)) => {
             let alone = Alone { alloc, core, bench };

@@ -50,12 +50,12 @@ pub(crate) fn settle(core: &mut Core, bench: &mut Bench) -> u128
     ensures { SettlesAlone core.old result core.new }
 {
     logs_tell_all();
-    core.holds();
+    core.facts();
     let _shown = core.shown();
     repair(core, bench);
     show(core);
-    core.holds();
+    core.facts();
     let count = count(core);
-    core.holds();
+    core.facts();
     count
 }

@@ -185,11 +185,11 @@ pub fn exit_limit(scenario: &Scenario, link: LinkId, slot: u32) -> u64
 /// Which destination a node is, if it is one.
 #[inline]
 #[tactic(auto, unfolding(crate::specs::Setting::setting_of))]
-pub fn own(scenario: &Scenario, node: NodeId) -> Option<u32>
+pub fn destination_at(scenario: &Scenario, node: NodeId) -> Option<u32>
     ensures place { result ≡ (setting_of scenario.now).own node.0 }
     ensures there { IfSome result (λ place. place < (setting_of scenario.now).destinations) }
 {
-    scenario.own(node)
+    scenario.destination_at(node)
 }
 
 /// What a node has produced of a destination by a boundary, in units.

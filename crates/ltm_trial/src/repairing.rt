@@ -75,10 +75,10 @@ pub(crate) fn repair(
 {
     logs_tell_all();
     settle_counts_are_exact();
-    core.holds();
+    core.facts();
     accept(core, batch)?;
     let solved = work(core, schedule)?;
-    core.holds();
+    core.facts();
     let _pairs = core.pairs();
     publish(core);
     let _shown = core.shown();

@@ -62,7 +62,7 @@ fn report(
     requires accepted { IsOk (edited_all core.old.scenario batch) }
     ensures { IfOk result (λ text. TellsTrial core.old.scenario batch text.items) }
 {
-    core.holds();
+    core.facts();
     let _shown = core.shown();
     let mut text = Vec::new(alloc);
     push_before(alloc, core, &mut text)?;

@@ -11,12 +11,12 @@ impl<T: Told> Turn<T> {
     }
 
     /// Tells news to one of those who sleep, and to all who listen and do not sleep yet. The turn was given before.
-    pub fn tell_one(&self) {
+    pub fn notify_one(&self) {
         self.news.notify_one();
     }
 
     /// Tells news to all who listen. The turn was given before.
-    pub fn tell_all(&self) {
+    pub fn notify_all(&self) {
         self.news.notify_all();
     }
 }

@@ -1,4 +1,4 @@
-//! The numbers that texts tell.
+//! The numbers that texts parse.
 ghost use Rattle.std.specs.Prelude.{◌≡◌, ℕ, ◌<◌, ◌≤◌, ◌+◌, ◌^◌, ◌↔◌, ◌==◌, ◌&&◌, ◌||◌, not, min, nat_lt, true, Some, None, Err, IfOk, IfSome, position, if◌then◌else◌};
 ghost use Rattle.std.specs.List.{list_all};
 ghost use Rattle.ltm_units.specs.Numbers.{is_digit, is_point, value, number_told, whole, vehicles, bad_place, sized, IsFirstBad};
@@ -129,7 +129,7 @@ fn amount(front: &[u8], back: &[u8]) -> Result<Units, NumberFault>
 
 /// The amount that a text tells, or its first fault.
 #[tactic(auto, using(crate::proofs::BadBytes::parts))]
-fn tell(text: &[u8]) -> Result<Units, NumberFault>
+fn parse(text: &[u8]) -> Result<Units, NumberFault>
     ensures value { result ≡ vehicles text.now }
     ensures small { IfOk result (λ units. units.0 ≤ 1000000000) }
 {
@@ -156,5 +156,5 @@ pub fn read_vehicles(text: &[u8]) -> Result<Units, NumberFault>
     ensures bad_byte { (place : ℕ)
         → (result ≡ Err (NumberFault.BadByte place)) ↔ IsFirstBad text.now place }
 {
-    tell(text)
+    parse(text)
 }

@@ -26,7 +26,7 @@ fn hang_one<R: Wait>(rt: &R, alloc: Global, core: &Core) -> Result<(Board, Watch
     ensures hook { IfOk result (λ r. watch_hook r.1 ≡ board_hook r.0) }
 {
     logs_tell_all();
-    core.holds();
+    core.facts();
     let links = link_count(core.scenario());
     let sheet = Sheet::create(alloc, links)?;
     let spare = Sheet::create(alloc, links)?;

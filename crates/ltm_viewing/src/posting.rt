@@ -66,7 +66,7 @@ pub(crate) fn post_newer<R: Wait>(
 {
     logs_tell_all();
     lists_lead();
-    core.holds();
+    core.facts();
     let loading = core.shown();
     if loading.version() == before {
         return Ok(());

@@ -23,7 +23,7 @@ use std::alloc::Global;
 use std::sync::Wait;
 
 /// Appends what one viewer tells of the loading that the core shows.
-fn tell_one<R: Wait>(
+fn push_one<R: Wait>(
     rt: &R,
     alloc: Global,
     core: &Core,
@@ -40,14 +40,14 @@ fn tell_one<R: Wait>(
 {
     logs_tell_all();
     lists_lead();
-    core.holds();
+    core.facts();
     let _shown = core.shown();
     let count = look_last(rt, board, watch);
     viewer_text(alloc, number, count, watch.sheet.totals(), into)
 }
 
 /// Appends what all viewers tell of the loading that the core shows.
-pub(crate) fn tell_all<R: Wait>(
+pub(crate) fn push_all<R: Wait>(
     rt: &R,
     alloc: Global,
     core: &Core,
@@ -61,15 +61,15 @@ pub(crate) fn tell_all<R: Wait>(
         × ViewersTell (how_many (board_hooks boards.now)) (state_of core.now) lines
         × (into.new.items ≡ into.old.items ++ lines)) }
 {
-    tell_one(rt, alloc, core, 1, &boards.first, &mut watches.first, into)?;
+    push_one(rt, alloc, core, 1, &boards.first, &mut watches.first, into)?;
     match (&boards.second, &mut watches.second) {
-        (Some(board), Some(watch)) => tell_one(rt, alloc, core, 2, board, watch, into),
+        (Some(board), Some(watch)) => push_one(rt, alloc, core, 2, board, watch, into),
         _ => Ok(()),
     }
 }
 
 /// Writes what all viewers tell at the end of a script.
-pub(crate) fn tell_last<R: Wait, W: Sink>(
+pub(crate) fn push_last<R: Wait, W: Sink>(
     rt: &R,
     alloc: Global,
     core: &Core,
@@ -85,7 +85,7 @@ pub(crate) fn tell_last<R: Wait, W: Sink>(
     ensures fault { result ≡ SessionEnd.WriteFault → Rose (W.faults sink.old) (W.faults sink.new) }
 {
     let mut text = Vec::new(alloc);
-    let Ok(()) = tell_all(rt, alloc, core, boards, watches, &mut text) else {
+    let Ok(()) = push_all(rt, alloc, core, boards, watches, &mut text) else {
         return SessionEnd::NoMemory;
     };
     match write_answer(text.as_slice(), sink) {

@@ -14,7 +14,7 @@ use crate::hanging::take_stage;
 use crate::news::News;
 use crate::serving::serve_and_end;
 use crate::stage::Stage;
-use crate::telling::tell_last;
+use crate::telling::push_last;
 use crate::watches::Watches;
 use crate::watching::look_all;
 use ltm_core::Core;
@@ -96,7 +96,7 @@ fn view_from<R: Threads + Wait + Sync, S: Source, W: Sink>(
     let (boards, end) = serve_beside(rt, core, stage, watches, source, sink);
     match end {
         SessionEnd::Ended => {
-            let told = tell_last(rt, alloc, core, &boards, watches, sink);
+            let told = push_last(rt, alloc, core, &boards, watches, sink);
             return (boards, told);
         }
         _ => return (boards, end),
@@ -137,7 +137,7 @@ pub fn view<R: Threads + Wait + Sync, S: Source, W: Sink>(
         → Rose (W.faults sink.old) (W.faults sink.new) }
     ensures later { W.faults sink.old ≤ W.faults sink.new }
 {
-    core.holds();
+    core.facts();
     match take_stage(rt, alloc, core, viewers) {
         Ok((stage, mut watches)) => {
             let (boards, end) = view_from(rt, core, stage, &mut watches, source, sink);

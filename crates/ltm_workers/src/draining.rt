@@ -28,7 +28,7 @@ fn work_once(core: &mut Core, scratch: &mut Scratch, steps: &mut Steps) -> bool
 {
     calls_are_events();
     runs_of_cores();
-    core.holds();
+    core.facts();
     let _taken = steps.count();
     match core.recompute(scratch) {
         Recomputed::Done(_pair) => {
@@ -46,7 +46,7 @@ fn work_to_rest(core: &mut Core, scratch: &mut Scratch, steps: &mut Steps)
     ensures works { Works core.old steps.old core.new steps.new }
     ensures rest { IsResting core.new }
 {
-    core.holds();
+    core.facts();
     let _taken = steps.count();
     while work_once(core, scratch, steps) {}
 }
@@ -61,7 +61,7 @@ pub fn drain(core: &mut Core, bench: &mut Bench, steps: &mut Steps)
     ensures exact { CountsDifferences core.old core.new }
 {
     runs_of_cores();
-    core.holds();
+    core.facts();
     let Some(mut scratch) = bench.scratches[0].take() else {
         unreachable!();
     };

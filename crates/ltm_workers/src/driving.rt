@@ -139,11 +139,11 @@ pub fn drive(core: &mut Core, bench: &mut Bench, schedule: &[u8], steps: &mut St
 {
     runs_of_cores();
     logs_tell_all();
-    core.holds();
+    core.facts();
     let _out = core.claimed();
     let mut hands = take_up(&mut bench.scratches);
     let followed = follow(core, &mut hands, schedule, steps);
-    core.holds();
+    core.facts();
     lay_all_down(core, hands, &mut bench.scratches);
     end(core, followed)
 }

@@ -34,19 +34,19 @@ impl Hints {
     /// Calls workers to what an accepted batch left to do. The turn was given before.
     pub fn call_after_batch(&self, turn: &Turn<Core>) {
         self.called.store(WHILE_READING, SeqCst);
-        turn.tell_one();
+        turn.notify_one();
     }
 
     /// Calls workers to wide slots.
     pub(crate) fn call_where_wide(&self, turn: &Turn<Core>) {
         self.called.store(WHERE_WIDE, SeqCst);
-        turn.tell_one();
+        turn.notify_one();
     }
 
     /// Calls every worker, so that each sees that the core is stopped.
     pub(crate) fn call_all(&self, turn: &Turn<Core>) {
         self.called.store(u64::MAX, SeqCst);
-        turn.tell_all();
+        turn.notify_all();
     }
 
     /// Sends all workers away: each leaves after the pair that it has.

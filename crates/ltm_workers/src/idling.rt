@@ -71,7 +71,7 @@ impl Idling {
     pub(crate) fn after_claim(&mut self, turn: &Turn<Core>) {
         if self.woken {
             self.woken = false;
-            turn.tell_one();
+            turn.notify_one();
         }
     }
 

@@ -38,7 +38,7 @@ fn take_pair(core: &mut Core, scratch: Scratch) -> (Act, Hand)
     ensures spares { SparesOthers core.old (Hand.Free scratch) core.new }
     ensures next { IsNextHand core.old (Hand.Free scratch) core.new result.1 }
 {
-    core.holds();
+    core.facts();
     match core.claim(scratch) {
         Claimed::Got(claim) => return (Act::Claimed, Hand::Holds(claim)),
         Claimed::NotYet(scratch) => return (Act::Waited, Hand::Free(scratch)),

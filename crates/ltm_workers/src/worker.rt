@@ -38,7 +38,7 @@ enum Round {
     /// Another held the turn.
     Busy(Scratch),
     /// Claims are out, and no other pair of their slot has to be worked on.
-    Vain(Scratch),
+    NothingFree(Scratch),
     /// No pair is active or claimed, and the working counts are shown.
     Rested(Scratch),
 }
@@ -66,7 +66,7 @@ fn go_round<R: Wait, G: Gate>(
             return (pass, Round::Worked(scratch));
         }
         Sight::Seen(Look::Found(Claimed::NotYet(scratch))) => {
-            return (pass, Round::Vain(scratch));
+            return (pass, Round::NothingFree(scratch));
         }
         Sight::Seen(Look::Found(Claimed::Rest(scratch))) => {
             return (show_in_turn(rt, turn, pass), Round::Rested(scratch));
@@ -112,7 +112,7 @@ pub fn work<R: Wait, G: Gate>(
                 scratch = next;
                 idling.after_busy_look();
             }
-            Round::Vain(next) => {
+            Round::NothingFree(next) => {
                 scratch = next;
                 idling.after_vain_look(rt);
             }

@@ -135,7 +135,7 @@ fn books(scenario: &Scenario) -> Told {
 
 fn destination(scenario: &Scenario) -> Told {
     match scenario.destinations() {
-        [node] => match scenario.own(*node) {
+        [node] => match scenario.destination_at(*node) {
             Some(place) => Told::Pair(u64::from(node.0), u64::from(place)),
             None => Told::Nothing,
         },

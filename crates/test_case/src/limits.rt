@@ -1,11 +1,11 @@
 //! Limits by link and slot, as they are set and put back, and over a longer horizon.
 ghost use Rattle.std.specs.Prelude.{◌≡◌};
 
-use ltm_limits::LimitTable;
+use ltm_limits::SlotLimits;
 use std::alloc::Global;
 
 /// A limit; none beyond the links or the slots.
-fn limit(table: &LimitTable, link: u32, slot: u32) -> Option<u16> {
+fn limit(table: &SlotLimits, link: u32, slot: u32) -> Option<u16> {
     if link >= table.links() || slot >= table.slots() {
         return None;
     }
@@ -13,7 +13,7 @@ fn limit(table: &LimitTable, link: u32, slot: u32) -> Option<u16> {
 }
 
 /// The limits of a link in the first four slots.
-fn limits(table: &LimitTable, link: u32) -> [Option<u16>; 4] {
+fn limits(table: &SlotLimits, link: u32) -> [Option<u16>; 4] {
     [
         limit(table, link, 0),
         limit(table, link, 1),
@@ -25,13 +25,13 @@ fn limits(table: &LimitTable, link: u32) -> [Option<u16>; 4] {
 /// The links, the slots, and the limits of three links.
 type Facts = (u32, u32, [[Option<u16>; 4]; 3]);
 
-fn told(table: &LimitTable) -> Facts {
+fn told(table: &SlotLimits) -> Facts {
     let limits = [limits(table, 0), limits(table, 1), limits(table, 2)];
     (table.links(), table.slots(), limits)
 }
 
 /// What is told of a table with a link more.
-fn told_wider(table: &LimitTable) -> Option<Facts> {
+fn told_wider(table: &SlotLimits) -> Option<Facts> {
     if table.links() >= 4000 {
         return None;
     }
@@ -42,7 +42,7 @@ fn told_wider(table: &LimitTable) -> Option<Facts> {
 }
 
 /// Sets limits of a link within its slots. Whether they are set.
-fn set(table: &mut LimitTable, link: u32, from: u32, to: u32, limit: u16) -> bool
+fn set(table: &mut SlotLimits, link: u32, from: u32, to: u32, limit: u16) -> bool
     ensures { table.new.slots ≡ table.old.slots }
 {
     if link >= table.links() || from > to || to > table.slots() {
@@ -52,7 +52,7 @@ fn set(table: &mut LimitTable, link: u32, from: u32, to: u32, limit: u16) -> boo
 }
 
 /// Limits of link 1 are set in slots 2 and 3, and what stood in 1 and 2 is put back. Whether both is done.
-fn put_back(table: &mut LimitTable, was: &mut Vec<u16>) -> bool {
+fn put_back(table: &mut SlotLimits, was: &mut Vec<u16>) -> bool {
     let done = set(table, 1, 2, 4, 7);
     if table.links() != 2 || table.slots() != 4 || was.len() != 2 || table.reach(3).is_err() {
         return false;
@@ -63,7 +63,7 @@ fn put_back(table: &mut LimitTable, was: &mut Vec<u16>) -> bool {
 
 /// Limits of link 1 are set in slots 1 and 2, then in 2 and 3, and what stood in 1 and 2 is put back. What is told of a table
 /// with a link more after the first, what stood there, and whether the others are done.
-fn set_and_put_back(table: &mut LimitTable) -> Option<(Option<Facts>, bool, bool)> {
+fn set_and_put_back(table: &mut SlotLimits) -> Option<(Option<Facts>, bool, bool)> {
     if table.links() != 2 || table.slots() != 4 {
         return None;
     }
@@ -79,7 +79,7 @@ fn set_and_put_back(table: &mut LimitTable) -> Option<(Option<Facts>, bool, bool
 
 /// What is set in new slots is gone once the horizon was lowered again. The limits of link 1 from slot 3 on, in six slots,
 /// with a limit set in the new ones, and in six slots once more.
-fn longer_and_back(table: &mut LimitTable) -> Option<[[Option<u16>; 4]; 3]> {
+fn longer_and_back(table: &mut SlotLimits) -> Option<[[Option<u16>; 4]; 3]> {
     if table.links() != 2 || table.slots() != 4 {
         return None;
     }
@@ -93,7 +93,7 @@ fn longer_and_back(table: &mut LimitTable) -> Option<[[Option<u16>; 4]; 3]> {
 }
 
 /// The limits of link 1 from slot 3 on.
-fn last_limits(table: &LimitTable) -> [Option<u16>; 4] {
+fn last_limits(table: &SlotLimits) -> [Option<u16>; 4] {
     [
         limit(table, 1, 3),
         limit(table, 1, 4),
@@ -103,7 +103,7 @@ fn last_limits(table: &LimitTable) -> [Option<u16>; 4] {
 }
 
 /// What is told of a copy, and of its longer horizon.
-fn told_of_copy(table: &LimitTable) -> Option<(Facts, Option<[[Option<u16>; 4]; 3]>)> {
+fn told_of_copy(table: &SlotLimits) -> Option<(Facts, Option<[[Option<u16>; 4]; 3]>)> {
     match table.try_copy() {
         Ok(mut copy) => {
             let told = told(&copy);
@@ -121,7 +121,7 @@ struct Answers {
 }
 
 /// What is told of a table with a second link.
-fn told_of_two(one: &LimitTable) -> Option<Answers> {
+fn told_of_two(one: &SlotLimits) -> Option<Answers> {
     if one.links() != 1 {
         return None;
     }
@@ -136,7 +136,7 @@ fn told_of_two(one: &LimitTable) -> Option<Answers> {
 }
 
 fn told_of_one(alloc: Global) -> Option<Answers> {
-    match LimitTable::new(alloc, 4).with_link() {
+    match SlotLimits::new(alloc, 4).with_link() {
         Ok(one) => told_of_two(&one),
         Err(_) => None,
     }

@@ -7,14 +7,14 @@ pub returns-then-workers-eq0-clause-session : goal.returns-then-workers-eq0-clau
 returns-then-workers-eq0-clause-session g c = served_alone c.logs_tell_all.ensures _ _ _ _ _ c.args.core.log.opening c.serve_alone.result.core c.serve_alone.ensures.session
 
 pub returns-in_default-clause-session : goal.returns-in_default-clause-session
-returns-in_default-clause-session g c = never_served _ _ _ c.args.core c.args.core (opens c.args.core c.holds.ensures c.requires.fresh) refl
+returns-in_default-clause-session g c = never_served _ _ _ c.args.core c.args.core (opens c.args.core c.facts.ensures c.requires.fresh) refl
 
 pub returns-in-Ok-create-clause-session : goal.returns-in-Ok-create-clause-session
 returns-in-Ok-create-clause-session g c =
-    served_beside c.logs_tell_all.ensures _ _ _ _ _ c.args.core c.close.result _ _ _ _ (opens c.args.core c.holds.ensures c.requires.fresh) c.in-Ok-create.ensures.ok.1 c.in-Ok-create.ensures.ok.2 c.crew-editor.ensures.session c.close.ensures.list
+    served_beside c.logs_tell_all.ensures _ _ _ _ _ c.args.core c.close.result _ _ _ _ (opens c.args.core c.facts.ensures c.requires.fresh) c.in-Ok-create.ensures.ok.1 c.in-Ok-create.ensures.ok.2 c.crew-editor.ensures.session c.close.ensures.list
 
 pub returns-in-Err-clause-session : goal.returns-in-Err-clause-session
-returns-in-Err-clause-session g c = never_served _ _ _ c.args.core _ (opens c.args.core c.holds.ensures c.requires.fresh) c.in-Err.ensures.err
+returns-in-Err-clause-session g c = never_served _ _ _ c.args.core _ (opens c.args.core c.facts.ensures c.requires.fresh) c.in-Err.ensures.err
 
 pub returns-in-Ok-create-clause-end : goal.returns-in-Ok-create-clause-end
 returns-in-Ok-create-clause-end g c = ends_beside _ _ _ _ _ _ c.close.result.log (returns-in-Ok-create-clause-session g c)

@@ -1,7 +1,7 @@
 use Rattle.std.proofs.Common.{◌≡◌, ℕ, ◌+◌, List, length, slice_index, ap, ◌∙◌, subst, arith}
 use Rattle.std.proofs.lemmas.List.{length-take-le}
 use Rattle.ltm_curve.specs.Table.{destinations_of, counts_of, SetsRow}
-use Rattle.ltm_desk.specs.declared.given.Given.TheVariants.{Moved}
+use Rattle.ltm_desk.specs.declared.step_form.StepForm.TheVariants.{Moved}
 use Rattle.ltm_desk.specs.Counted.{counted_row}
 use Rattle.ltm_desk.specs.Waking.{row_differs}
 use Rattle.ltm_desk.proofs.Counted.{sums_are}

@@ -6,6 +6,6 @@ use Rattle.ltm_editing.proofs.report.report.Goals as goal
 pub returns-in-Ok : goal.returns-in-Ok
 returns-in-Ok c =
     if_ok c.finish-text.result _ _
-    (λ text told. tells_history c.args.office.core c.into_core-core.result.log c.args.office.history c.calls.result.now c.in-Ok.lines.items text.items (ap (λ (d : CoreData). d.log) c.into_core-core.ensures) c.holds.ensures c.in-Ok.ensures
+    (λ text told. tells_history c.args.office.core c.into_core-core.result.log c.args.office.history c.calls.result.now c.in-Ok.lines.items text.items (ap (λ (d : CoreData). d.log) c.into_core-core.ensures) c.facts.ensures c.in-Ok.ensures
     c.calls.ensures.calls told)
     c.finish-text.ensures

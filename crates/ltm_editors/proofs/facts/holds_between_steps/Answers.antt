@@ -4,10 +4,10 @@ use Rattle.ltm_editors.proofs.facts.holds_between_steps.Goals as goal
 
 pub returns : goal.returns
 returns g c = record {
-  one_holder = one_holder (boxed g.T.Kept.opening) (boxed g.T.Kept.history) g.T.Kept.author;
-  one_opening = one_opening (boxed g.T.Kept.opening) (boxed g.T.Kept.history) g.T.Kept.author;
-  one_history = one_history (boxed g.T.Kept.opening) (boxed g.T.Kept.history) g.T.Kept.author;
-  seen_belongs = seen_belongs (boxed g.T.Kept.opening) (boxed g.T.Kept.history) g.T.Kept.author;
-  home_belongs = home_belongs (boxed g.T.Kept.opening) (boxed g.T.Kept.history) g.T.Kept.author;
-  may_be_put_back = may_be_put_back (boxed g.T.Kept.opening) (boxed g.T.Kept.history) g.T.Kept.author;
+  one_holder = one_holder (boxed g.T.Recorded.opening) (boxed g.T.Recorded.history) g.T.Recorded.author;
+  one_opening = one_opening (boxed g.T.Recorded.opening) (boxed g.T.Recorded.history) g.T.Recorded.author;
+  one_history = one_history (boxed g.T.Recorded.opening) (boxed g.T.Recorded.history) g.T.Recorded.author;
+  seen_belongs = seen_belongs (boxed g.T.Recorded.opening) (boxed g.T.Recorded.history) g.T.Recorded.author;
+  home_belongs = home_belongs (boxed g.T.Recorded.opening) (boxed g.T.Recorded.history) g.T.Recorded.author;
+  may_be_put_back = may_be_put_back (boxed g.T.Recorded.opening) (boxed g.T.Recorded.history) g.T.Recorded.author;
 }

@@ -25,7 +25,7 @@ overflow_sub-after g c =
 
 pub returns-clause-total : goal.returns-clause-total
 returns-clause-total g c = λ time is.
-    found_past (total_of c.args.curves.now c.args.group) c.args.step.0 c.args.slot c.args.delay.slots c.args.delay.rest time (c.from-end.result + 1 - c.from-slots.result) c.args.delay.rest (c.total-before.result + c.part_of-part.result) is.slots
+    found_past (total_of c.args.curves.now c.args.group) c.args.step.0 c.args.slot c.args.delay.slots c.args.delay.rest time (c.from-end.result + 1 - c.from-slots.result) c.args.delay.rest (c.total-before.result + c.interpolated_part-part.result) is.slots
     (omega (arith, c.if-end-slots.false, c.from-end.ensures, c.from-slots.ensures)) (omega (arith, c.from-end.ensures, c.from-slots.ensures)) refl
-    (past_part (total_of c.args.curves.now c.args.group) c.args.step.0 (c.from-end.result + 1 - c.from-slots.result) c.args.delay.rest c.total-before.result c.total-after.result c.part_of-part.result (c.total-before.result + c.part_of-part.result)
-    c.requires.rest c.total-before.ensures.total c.total-after.ensures.total c.part_of-part.ensures.part refl)
+    (past_part (total_of c.args.curves.now c.args.group) c.args.step.0 (c.from-end.result + 1 - c.from-slots.result) c.args.delay.rest c.total-before.result c.total-after.result c.interpolated_part-part.result (c.total-before.result + c.interpolated_part-part.result)
+    c.requires.rest c.total-before.ensures.total c.total-after.ensures.total c.interpolated_part-part.ensures.part refl)

@@ -7,12 +7,12 @@ use Rattle.ltm_session.proofs.Ending.{ends_as_told}
 use Rattle.ltm_session.proofs.serving.serve_alone.Goals as goal
 
 pub serve_lines-alone-requires-clause-awaits : goal.serve_lines-alone-requires-clause-awaits
-serve_lines-alone-requires-clause-awaits g c = awaits_first c.args.core c.holds.ensures c.requires.fresh
+serve_lines-alone-requires-clause-awaits g c = awaits_first c.args.core c.facts.ensures c.requires.fresh
 
 pub returns-in-Ok-clause-session : goal.returns-in-Ok-clause-session
 returns-in-Ok-clause-session g c =
     served_one AnswersAlone c.args.core.log.opening (state_of c.args.core) (state_of c.serve_lines-alone.result.0.core) _ _ _ _ _
-    (opens c.args.core c.holds.ensures c.requires.fresh) c.serve_lines-alone.ensures.serves
+    (opens c.args.core c.facts.ensures c.requires.fresh) c.serve_lines-alone.ensures.serves
 
 pub returns-in-Ok-clause-end : goal.returns-in-Ok-clause-end
 returns-in-Ok-clause-end g c =
@@ -25,13 +25,13 @@ returns-in-Ok-clause-read g c = c.serve_lines-alone.ensures.serves.read
 pub returns-in-Err-clause-session : goal.returns-in-Err-clause-session
 returns-in-Err-clause-session g c =
     never_begun_at AnswersAlone c.args.core.log.opening (g.S.Source.left c.args.source.now) (g.S.Source.left c.args.source.now) (g.W.Sink.written c.args.sink.now) (state_of c.args.core)
-    (opens c.args.core c.holds.ensures c.requires.fresh)
+    (opens c.args.core c.facts.ensures c.requires.fresh)
 
 pub returns-in-Err-clause-awaits : goal.returns-in-Err-clause-awaits
-returns-in-Err-clause-awaits g c = awaits_first c.args.core c.holds.ensures c.requires.fresh
+returns-in-Err-clause-awaits g c = awaits_first c.args.core c.facts.ensures c.requires.fresh
 
 pub returns-in-Ok-clause-awaits : goal.returns-in-Ok-clause-awaits
-returns-in-Ok-clause-awaits g c = c.serve_lines-alone.ensures.keeps (awaits_first c.args.core c.holds.ensures c.requires.fresh)
+returns-in-Ok-clause-awaits g c = c.serve_lines-alone.ensures.keeps (awaits_first c.args.core c.facts.ensures c.requires.fresh)
 
 pub returns-in-Ok-clause-read_fault : goal.returns-in-Ok-clause-read_fault
 returns-in-Ok-clause-read_fault g c = c.serve_lines-alone.ensures.read_fault

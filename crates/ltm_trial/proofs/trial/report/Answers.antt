@@ -12,7 +12,7 @@ returns c =
       done.edited,
       done.edits,
       record {
-        scenario = opens_scenario c.args.core.now c.requires.opening c.holds.ensures.core;
+        scenario = opens_scenario c.args.core.now c.requires.opening c.facts.ensures.core;
         edited = done.scenario;
         network = done.network;
         before = shows.0;

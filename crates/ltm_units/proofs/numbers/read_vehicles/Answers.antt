@@ -4,6 +4,6 @@ use Rattle.ltm_units.proofs.numbers.read_vehicles.Goals as goal
 
 pub returns-clause-bad_byte : goal.returns-clause-bad_byte
 returns-clause-bad_byte c place = (
-  λ told. bad_byte_is_first c.args.text.now place (sym c.tell.ensures.value ∙ told),
-  λ first. c.tell.ensures.value ∙ first_bad_byte_is_told c.args.text.now place first,
+  λ told. bad_byte_is_first c.args.text.now place (sym c.parse.ensures.value ∙ told),
+  λ first. c.parse.ensures.value ∙ first_bad_byte_is_told c.args.text.now place first,
 )

@@ -16,7 +16,7 @@ post_all-requires-clause-alike g c = alike c.args.boards.now _ c.requires.posted
 
 pub post_all-requires-clause-leads : goal.post_all-requires-clause-leads
 post_all-requires-clause-leads g c =
-    leads_newer c.lists_lead.ensures c.args.core.now c.args.before _ _ _ c.holds.ensures c.requires.posted.0 (c.after-batches.ensures ∙ ap (λ l. drop c.args.before l) c.accepted.ensures) c.scenario.ensures.scenario
+    leads_newer c.lists_lead.ensures c.args.core.now c.args.before _ _ _ c.facts.ensures c.requires.posted.0 (c.after-batches.ensures ∙ ap (λ l. drop c.args.before l) c.accepted.ensures) c.scenario.ensures.scenario
 
 pub post_all-requires-clause-loading : goal.post_all-requires-clause-loading
 post_all-requires-clause-loading g c =

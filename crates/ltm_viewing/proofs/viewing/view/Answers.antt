@@ -8,8 +8,8 @@ use Rattle.ltm_viewing.proofs.viewing.view.Goals as goal
 
 pub view_from-boards-requires-clause-set : goal.view_from-boards-requires-clause-set
 view_from-boards-requires-clause-set g c κs within = record {
-  fresh = opens c.args.core.now c.holds.ensures c.requires.fresh;
-  awaits = awaits_first c.args.core.now c.holds.ensures c.requires.fresh;
+  fresh = opens c.args.core.now c.facts.ensures c.requires.fresh;
+  awaits = awaits_first c.args.core.now c.facts.ensures c.requires.fresh;
   posted = c.in-Ok.ensures.lists;
   unread = c.in-Ok.ensures.unread;
 }
@@ -30,5 +30,5 @@ returns-in-Ok-clause-end g c =
 
 pub returns-in-Err-clause-view : goal.returns-in-Err-clause-view
 returns-in-Err-clause-view g c =
-    let v = never_viewed c.args.viewers c.args.core.now (g.S.Source.left c.args.source.now) (g.S.Source.left c.args.source.now) (g.W.Sink.written c.args.sink.now) (opens c.args.core.now c.holds.ensures c.requires.fresh) in
+    let v = never_viewed c.args.viewers c.args.core.now (g.S.Source.left c.args.source.now) (g.S.Source.left c.args.source.now) (g.W.Sink.written c.args.sink.now) (opens c.args.core.now c.facts.ensures c.requires.fresh) in
     (v.output, v.view, v.wrote)

@@ -13,10 +13,10 @@ returns-in-Ended-clause-view g c =
     let left = g.S.Source.left c.serve_beside-boards.new.source in
     let old = g.W.Sink.written c.args.sink.now in
     let mid = g.W.Sink.written c.serve_beside-boards.new.sink in
-    let new = g.W.Sink.written c.tell_last-told.new.sink in
+    let new = g.W.Sink.written c.push_last-told.new.sink in
     let serves = c.serve_beside-boards.ensures.serves in
-    let tells = subst (λ (hooks : Hook × Option Hook). TellsLast (how_many hooks) (state_of c.serve_beside-boards.new.core) c.tell_last-told.result mid new) serves.hooks c.tell_last-told.ensures.tells in
-    told_last count c.args.core.now c.serve_beside-boards.new.core told left c.tell_last-told.result old mid new (rw c.in-Ended.is at serves.script) tells
+    let tells = subst (λ (hooks : Hook × Option Hook). TellsLast (how_many hooks) (state_of c.serve_beside-boards.new.core) c.push_last-told.result mid new) serves.hooks c.push_last-told.ensures.tells in
+    told_last count c.args.core.now c.serve_beside-boards.new.core told left c.push_last-told.result old mid new (rw c.in-Ended.is at serves.script) tells
 
 pub returns-in_default-clause-view : goal.returns-in_default-clause-view
 returns-in_default-clause-view g c =

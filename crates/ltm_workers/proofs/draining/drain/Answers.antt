@@ -7,7 +7,7 @@ returns-clause-count c = counts_left c.runs_of_cores.ensures c.args.core.now c.w
 
 pub returns-clause-exact : goal.returns-clause-exact
 returns-clause-exact c =
-    counts_differences c.args.core.now c.work_to_rest.new.core c.holds.ensures
+    counts_differences c.args.core.now c.work_to_rest.new.core c.facts.ensures
     (counts_left c.runs_of_cores.ensures c.args.core.now c.work_to_rest.new.core c.args.steps.now c.work_to_rest.new.steps c.work_to_rest.ensures.works c.work_to_rest.ensures.rest)
 
 pub invariant_of-bench : goal.invariant_of-bench

@@ -11,16 +11,16 @@ pub returns-clause-drive : goal.returns-clause-drive
 returns-clause-drive c =
     tells_drive c.follow-followed.result c.end.result c.args.core.now c.follow-followed.new.core c.lay_all_down.new.core c.args.steps.now c.follow-followed.new.steps c.args.schedule.now (all_held c.follow-followed.new.hands)
     c.follow-followed.ensures.followed c.lay_all_down.ensures.run
-    (λ none. none_laid_down c.follow-followed.new.core c.lay_all_down.new.core c.follow-followed.new.hands c.holds-2.ensures.core none c.follow-followed.ensures.kept c.lay_all_down.ensures.run) c.end.ensures
+    (λ none. none_laid_down c.follow-followed.new.core c.lay_all_down.new.core c.follow-followed.new.hands c.facts-2.ensures.core none c.follow-followed.ensures.kept c.lay_all_down.ensures.run) c.end.ensures
 
 pub returns-clause-works : goal.returns-clause-works
 returns-clause-works c =
     drive_works c.follow-followed.result c.args.core.now c.follow-followed.new.core c.lay_all_down.new.core c.args.steps.now c.follow-followed.new.steps c.args.schedule.now (all_held c.follow-followed.new.hands)
-    c.holds.ensures.core c.requires c.follow-followed.ensures.followed c.lay_all_down.ensures.run
-    (λ none. none_laid_down c.follow-followed.new.core c.lay_all_down.new.core c.follow-followed.new.hands c.holds-2.ensures.core none c.follow-followed.ensures.kept c.lay_all_down.ensures.run)
+    c.facts.ensures.core c.requires c.follow-followed.ensures.followed c.lay_all_down.ensures.run
+    (λ none. none_laid_down c.follow-followed.new.core c.lay_all_down.new.core c.follow-followed.new.hands c.facts-2.ensures.core none c.follow-followed.ensures.kept c.lay_all_down.ensures.run)
     (keeps_more c.args.core.now c.follow-followed.new.core c.lay_all_down.new.core c.follow-followed.ensures.keeps c.lay_all_down.ensures.keeps)
 
 pub returns-clause-short : goal.returns-clause-short
 returns-clause-short c =
     drive_short c.runs_of_cores.ensures c.logs_tell_all.ensures c.follow-followed.result c.end.result c.args.core.now c.follow-followed.new.core c.lay_all_down.new.core c.args.steps.now c.follow-followed.new.steps c.args.schedule.now
-    (all_held c.follow-followed.new.hands) c.holds.ensures.core c.requires (sym c.claimed-out.ensures.count ∙ c.claimed-out.ensures.none.1 c.requires) c.follow-followed.ensures.followed c.end.ensures
+    (all_held c.follow-followed.new.hands) c.facts.ensures.core c.requires (sym c.claimed-out.ensures.count ∙ c.claimed-out.ensures.none.1 c.requires) c.follow-followed.ensures.followed c.end.ensures

@@ -13,10 +13,10 @@ returns-in-Got-clause-act c =
 
 pub returns-in-Got-clause-spares : goal.returns-in-Got-clause-spares
 returns-in-Got-clause-spares c =
-    got_spares c.args.core.now c.claim.new.self c.in-Got.claim.pair.node.0 c.in-Got.claim.pair.slot c.in-Got.claim.ticket c.in-Got.claim.inputs.row c.args.scratch c.holds.ensures.core c.in-Got.ensures.keeps c.in-Got.ensures.answer
+    got_spares c.args.core.now c.claim.new.self c.in-Got.claim.pair.node.0 c.in-Got.claim.pair.slot c.in-Got.claim.ticket c.in-Got.claim.inputs.row c.args.scratch c.facts.ensures.core c.in-Got.ensures.keeps c.in-Got.ensures.answer
 
 pub returns-in-Got-clause-next : goal.returns-in-Got-clause-next
-returns-in-Got-clause-next c = got_next c.args.core.now c.claim.new.self c.in-Got.claim c.args.scratch c.holds.ensures.core c.in-Got.ensures.answer c.in-Got.ensures.kept
+returns-in-Got-clause-next c = got_next c.args.core.now c.claim.new.self c.in-Got.claim c.args.scratch c.facts.ensures.core c.in-Got.ensures.answer c.in-Got.ensures.kept
 
 pub returns-in-NotYet-clause-act : goal.returns-in-NotYet-clause-act
 returns-in-NotYet-clause-act c = λ byte. (Look, record { give_back = refl; look = refl; commit = refl }, (c.in-NotYet.ensures.answer, refl, c.in-NotYet.ensures.adds))

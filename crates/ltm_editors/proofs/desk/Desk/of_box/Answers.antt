@@ -7,4 +7,4 @@ pub new-requires : goal.new-requires
 new-requires g c =
     let e : c.push.new.self.items ≡ Some c.args.boxed ∷ [] = search rules in
     let e' : c.args.about.now.value ≡ c.args.boxed.value = search rules in
-    rw (e, e') (opens (boxed g.T.Kept.opening) (boxed g.T.Kept.history) g.T.Kept.author c.args.boxed c.requires.empty)
+    rw (e, e') (opens (boxed g.T.Recorded.opening) (boxed g.T.Recorded.history) g.T.Recorded.author c.args.boxed c.requires.empty)

@@ -15,14 +15,14 @@ use Rattle.ltm_node.specs.declared.shape.NodeShape.{NodeShape}
 use Rattle.ltm_node.proofs.Amounts.{entered_past, place_on}
 use Rattle.ltm_node.proofs.moves.Mover.split.Goals as goal
 
-pub part_of-requires-clause-left : goal.part_of-requires-clause-left
-part_of-requires-clause-left c =
+pub share_of_rest-requires-clause-left : goal.share_of_rest-requires-clause-left
+share_of_rest-requires-clause-left c =
     let n = c.args.self.now.inputs.now in
     let s : IsSolvable n = search rules in
     omega (arith, c.loop-rest.invariant.split.within, c.requires.load.amount, sending_small n c.args.load.arm c.args.load.destination s c.requires.load.arm c.requires.load.destination)
 
-pub part_of-requires-clause-weight : goal.part_of-requires-clause-weight
-part_of-requires-clause-weight c =
+pub share_of_rest-requires-clause-weight : goal.share_of_rest-requires-clause-weight
+share_of_rest-requires-clause-weight c =
     let ws : List ℕ = weights c.args.self.now.inputs.now c.args.load.destination in
     let split : IsSplitUpTo c.args.load.amount ws c.loop-rest.out c.loop-rest.left c.loop-rest.rest = c.loop-rest.invariant.split in
     omega (
@@ -31,8 +31,8 @@ part_of-requires-clause-weight c =
       ap (λ (zs : List ℕ). get_or zs c.loop-rest.out 0) c.weights-weights.ensures.weights,
     )
 
-pub part_of-requires-clause-rest : goal.part_of-requires-clause-rest
-part_of-requires-clause-rest c =
+pub share_of_rest-requires-clause-rest : goal.share_of_rest-requires-clause-rest
+share_of_rest-requires-clause-rest c =
     let n = c.args.self.now.inputs.now in
     let s : IsSolvable n = search rules in
     omega (
@@ -62,13 +62,13 @@ enter-total-requires-clause-part c =
     let split : IsSplitUpTo c.args.load.amount ws k c.loop-rest.left c.loop-rest.rest = c.loop-rest.invariant.split in
     let inside : k < length ws = out_within c.args.load.amount ws k c.loop-rest.left c.loop-rest.rest split c.loop-rest-test.true in
     let weight : get_or c.weights-weights.result.now k 0 ≡ get_or ws k 0 = ap (λ (zs : List ℕ). get_or zs k 0) c.weights-weights.ensures.weights in
-    let share : c.part_of.result ≡ c.loop-rest.left * get_or ws k 0 / c.loop-rest.rest = c.part_of.ensures.part ∙ ap (λ z. c.loop-rest.left * z / c.loop-rest.rest) weight in
-    let part : c.part_of.result ≡ slice_index (nested_split c.args.load.amount ws) k = part_next c.args.load.amount ws k c.loop-rest.left c.loop-rest.rest c.part_of.result split inside share in
+    let share : c.share_of_rest.result ≡ c.loop-rest.left * get_or ws k 0 / c.loop-rest.rest = c.share_of_rest.ensures.part ∙ ap (λ z. c.loop-rest.left * z / c.loop-rest.rest) weight in
+    let part : c.share_of_rest.result ≡ slice_index (nested_split c.args.load.amount ws) k = part_next c.args.load.amount ws k c.loop-rest.left c.loop-rest.rest c.share_of_rest.result split inside share in
     subst (IsPart n) (sym c.by-part.ensures) (record {
       arm = c.requires.load.arm;
       destination = c.requires.load.destination;
       out = omega (arith, inside, ap length c.weights-weights.ensures.weights, c.weights-weights.ensures.outs);
-      amount = part_is n c.args.load.amount a b k c.part_of.result c.requires.elsewhere c.requires.load.amount part;
+      amount = part_is n c.args.load.amount a b k c.share_of_rest.result c.requires.elsewhere c.requires.load.amount part;
     })
 
 pub overflow_add-total : goal.overflow_add-total
@@ -100,7 +100,7 @@ loop-rest-preserved c =
     let weight : get_or c.weights-weights.result.now k 0 ≡ get_or ws k 0 = ap (λ (zs : List ℕ). get_or zs k 0) c.weights-weights.ensures.weights in
     let v : ℕ = c.by-part.result.amount in
     let share : v ≡ c.loop-rest.left * get_or ws k 0 / c.loop-rest.rest =
-    ap (λ (q : Part). q.amount) c.by-part.ensures ∙ (c.part_of.ensures.part ∙ ap (λ z. c.loop-rest.left * z / c.loop-rest.rest) weight) in
+    ap (λ (q : Part). q.amount) c.by-part.ensures ∙ (c.share_of_rest.ensures.part ∙ ap (λ z. c.loop-rest.left * z / c.loop-rest.rest) weight) in
     let next : c.enter-total.result ≡ moved n e p a b k = c.enter-total.ensures.moved ∙ ap (λ (q : Part). moved n e p q.arm q.destination q.out) c.by-part.ensures in
     record {
       within = omega (arith, inside, ap length c.weights-weights.ensures.weights, c.weights-weights.ensures.outs);

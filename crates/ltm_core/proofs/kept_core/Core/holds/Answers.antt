@@ -1,5 +1,0 @@
-use Rattle.ltm_core.proofs.Running.{core_holds_at}
-use Rattle.ltm_core.proofs.kept_core.Core.holds.Goals as goal
-
-pub returns : goal.returns
-returns c = core_holds_at c.repair_laws.ensures c.none_twice.ensures _ _ c.self.view_is c.self.invariant.0 c.self.invariant.2
