@@ -1,13 +1,13 @@
 //! - **What it is**: the program `ltm`. `main` only makes the real folder, input and output and calls `run`, whose
 //!   contract is that of the whole program.
-//! - **On what it stands**: `ltm_program`, which has `run`, `ltm_io` for the real ends, and `ltm_texts` for the exit statuses.
+//! - **On what it stands**: `ltm_program`, which has `run`, `ltm_io` for the real ends, and `ltm_command` for the exit statuses.
 //! - **What a call costs**: what `run` costs.
 //! - **When to change it here**: when the program meets another end of the system. All else stands in `ltm_program`.
 #![tactic(auto)]
 
+use ltm_command::Status;
 use ltm_io::{DiskFolder, RealInput, RealOutput};
 use ltm_program::run;
-use ltm_texts::Status;
 use ltm_workers::PlainGate;
 use std::process::ExitCode;
 use std::{env, io};

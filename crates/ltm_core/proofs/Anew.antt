@@ -4,11 +4,11 @@ use Rattle.ltm_units.specs.declared.places.Pair.{Pair}
 use Rattle.ltm_setting.specs.Setting.{setting_of}
 use Rattle.ltm_repair.specs.Events.{CoreEvent, Look, Claim, Commit}
 use Rattle.ltm_repair.specs.Answers.{ClaimAnswer, Got, AnswersClaim}
-use Rattle.ltm_desk.specs.declared.table.Table.{Table}
-use Rattle.ltm_desk.specs.Desks.{desk_at, changed_at}
-use Rattle.ltm_desk.specs.Ready.{IsReady}
-use Rattle.ltm_desk.specs.Searching.{AnswersSearch}
-use Rattle.ltm_desk.specs.Recomputing.{RecomputesPair as RecomputesInTable}
+use Rattle.ltm_working.specs.declared.table.Table.{Table}
+use Rattle.ltm_working.specs.Desks.{desk_at, changed_at}
+use Rattle.ltm_working.specs.Ready.{IsReady}
+use Rattle.ltm_working.specs.Searching.{AnswersSearch}
+use Rattle.ltm_working.specs.Recomputing.{RecomputesPair as RecomputesInTable}
 use Rattle.ltm_core.specs.Log.{version_now}
 use Rattle.ltm_core.specs.Laws.{RepairLaws}
 use Rattle.ltm_core.specs.Cores.{CoreData, desk_in, repair_of, IsCore}

@@ -19,11 +19,11 @@ use Rattle.ltm_repair.specs.State.{RepairState, now}
 use Rattle.ltm_repair.specs.Moves.{Accepts}
 use Rattle.ltm_repair.specs.Events.{CoreEvent, Accept, Accepted}
 use Rattle.ltm_pairs.specs.Touched.{HaveSlots, BatchTouchesReaders}
-use Rattle.ltm_desk.specs.declared.table.Table.{Table}
-use Rattle.ltm_desk.specs.Desks.{desk_at, changed_at}
-use Rattle.ltm_desk.specs.Ready.{IsReady}
-use Rattle.ltm_desk.specs.Growing.{SeenAs as TableSeenAs}
-use Rattle.ltm_desk.specs.Batches.{LeadsTo, TakesIn, touches}
+use Rattle.ltm_working.specs.declared.table.Table.{Table}
+use Rattle.ltm_working.specs.Desks.{desk_at, changed_at}
+use Rattle.ltm_working.specs.Ready.{IsReady}
+use Rattle.ltm_working.specs.Growing.{SeenAs as TableSeenAs}
+use Rattle.ltm_working.specs.Batches.{LeadsTo, TakesIn, touches}
 use Rattle.ltm_core.specs.Log.{Log, log_of, version_now, scenario_at, scenario_now, with_batch}
 use Rattle.ltm_core.specs.Settling.{setting_at}
 use Rattle.ltm_core.specs.Laws.{RepairLaws}

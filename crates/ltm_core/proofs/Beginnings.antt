@@ -16,9 +16,9 @@ use Rattle.ltm_flows.specs.Shown.{Shows, curves_of, version_of, last_of, loading
 use Rattle.ltm_repair.specs.Desk.{IsSettled}
 use Rattle.ltm_repair.specs.State.{now}
 use Rattle.ltm_repair.specs.Repair.{IsOpening}
-use Rattle.ltm_desk.specs.declared.table.Table.{Table}
-use Rattle.ltm_desk.specs.Desks.{desk_at}
-use Rattle.ltm_desk.specs.Ready.{IsOpened}
+use Rattle.ltm_working.specs.declared.table.Table.{Table}
+use Rattle.ltm_working.specs.Desks.{desk_at}
+use Rattle.ltm_working.specs.Ready.{IsOpened}
 use Rattle.ltm_core.specs.Log.{Log, HoldsAccepted, batches_of, log_of, version_now, settled_of, scenario_at, scenario_now}
 use Rattle.ltm_core.specs.Settling.{setting_at}
 use Rattle.ltm_core.specs.Laws.{RepairLaws}

@@ -16,10 +16,10 @@ use Rattle.ltm_repair.specs.Moves.{GivesBack}
 use Rattle.ltm_repair.specs.Events.{CoreEvent, GiveBack, GaveBack}
 use Rattle.ltm_repair.specs.Making.{claim_event}
 use Rattle.ltm_repair.specs.Answers.{ClaimAnswer, Got, NotYet, Rest, ClaimLeaves, IsKept, AnswersClaim}
-use Rattle.ltm_desk.specs.declared.table.Table.{Table}
-use Rattle.ltm_desk.specs.Desks.{desk_at, changed_at}
-use Rattle.ltm_desk.specs.Ready.{IsReady}
-use Rattle.ltm_desk.specs.Searching.{AnswersSearch}
+use Rattle.ltm_working.specs.declared.table.Table.{Table}
+use Rattle.ltm_working.specs.Desks.{desk_at, changed_at}
+use Rattle.ltm_working.specs.Ready.{IsReady}
+use Rattle.ltm_working.specs.Searching.{AnswersSearch}
 use Rattle.ltm_core.specs.Log.{version_now}
 use Rattle.ltm_core.specs.Laws.{RepairLaws}
 use Rattle.ltm_core.specs.Claims.{ClaimData, DoneData}

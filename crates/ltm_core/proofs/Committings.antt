@@ -20,10 +20,10 @@ use Rattle.ltm_repair.specs.Work.{ClaimsAreUndone}
 use Rattle.ltm_repair.proofs.Cases.{or_none}
 use Rattle.ltm_pairs.specs.Changes.{differs_at}
 use Rattle.ltm_pairs.proofs.Bools.{same_at}
-use Rattle.ltm_desk.specs.declared.table.Table.{Table}
-use Rattle.ltm_desk.specs.Desks.{desk_at, changed_at}
-use Rattle.ltm_desk.specs.Ready.{IsReady}
-use Rattle.ltm_desk.specs.Committing.{readers, rewritten, CommitsPair}
+use Rattle.ltm_working.specs.declared.table.Table.{Table}
+use Rattle.ltm_working.specs.Desks.{desk_at, changed_at}
+use Rattle.ltm_working.specs.Ready.{IsReady}
+use Rattle.ltm_working.specs.Committing.{readers, rewritten, CommitsPair}
 use Rattle.ltm_core.specs.Log.{version_now, settled_of}
 use Rattle.ltm_core.specs.Laws.{RepairLaws}
 use Rattle.ltm_core.specs.Cores.{CoreData, desk_in, repair_of, IsCore}

@@ -14,10 +14,10 @@ use Rattle.ltm_repair.specs.Repair.{IsRepair}
 use Rattle.ltm_repair.specs.Events.{CoreEvent, Happens, OnlyDesk}
 use Rattle.ltm_repair.specs.Answers.{IsNoneClaimed}
 use Rattle.ltm_repair.specs.Kept.{RunsKeepFacts, RestIsLoading}
-use Rattle.ltm_desk.specs.declared.table.Table.{Table}
-use Rattle.ltm_desk.specs.Desks.{changed_at}
-use Rattle.ltm_desk.specs.Cells.{count_cells}
-use Rattle.ltm_desk.specs.Ready.{IsReady}
+use Rattle.ltm_working.specs.declared.table.Table.{Table}
+use Rattle.ltm_working.specs.Desks.{changed_at}
+use Rattle.ltm_working.specs.Cells.{count_cells}
+use Rattle.ltm_working.specs.Ready.{IsReady}
 use Rattle.ltm_core.specs.Cores.{CoreData, desk_in, repair_of, IsResting, IsNoneOut, claims_of, IsCore}
 use Rattle.ltm_core.proofs.Logs.{last_scenario}
 

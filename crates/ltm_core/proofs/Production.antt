@@ -17,7 +17,7 @@ use Rattle.ltm_setting.specs.Setting.{setting_of, produced_by}
 use Rattle.ltm_flows.specs.declared.loading.Loading.{Loading}
 use Rattle.ltm_flows.specs.Origins.{produced_in_all}
 use Rattle.ltm_flows.specs.Shown.{version_of, nodes_of, last_of, produced_of, HasProduction}
-use Rattle.ltm_desk.specs.declared.table.Table.{Table}
+use Rattle.ltm_working.specs.declared.table.Table.{Table}
 use Rattle.ltm_pairs.proofs.EditKeeps.{bound, placed}
 use Rattle.ltm_core.specs.Log.{Log, log_of, batches_of, version_now, after_batch, after_batches, AreAccepted, HoldsAccepted, scenario_at, scenario_now}
 use Rattle.ltm_core.specs.Settling.{setting_at}

@@ -20,10 +20,10 @@ use Rattle.ltm_repair.specs.Desk.{IsAtRest}
 use Rattle.ltm_repair.specs.State.{RepairState, now}
 use Rattle.ltm_repair.specs.Repair.{IsRepair}
 use Rattle.ltm_repair.specs.Events.{CoreEvent, Publish, Published}
-use Rattle.ltm_desk.specs.declared.table.Table.{Table}
-use Rattle.ltm_desk.specs.Desks.{desk_at, changed_at}
-use Rattle.ltm_desk.specs.Cells.{count_cells}
-use Rattle.ltm_desk.specs.Ready.{IsReady}
+use Rattle.ltm_working.specs.declared.table.Table.{Table}
+use Rattle.ltm_working.specs.Desks.{desk_at, changed_at}
+use Rattle.ltm_working.specs.Cells.{count_cells}
+use Rattle.ltm_working.specs.Ready.{IsReady}
 use Rattle.ltm_core.specs.Log.{version_now, scenario_at}
 use Rattle.ltm_core.specs.Settling.{setting_at}
 use Rattle.ltm_core.specs.Laws.{RepairLaws}

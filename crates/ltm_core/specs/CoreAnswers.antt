@@ -12,9 +12,9 @@ use Rattle.ltm_setting.specs.Setting.{setting_of}
 use Rattle.ltm_flows.specs.Shown.{version_of, SameLoading}
 use Rattle.ltm_repair.specs.Answers.{ClaimAnswer, Got, NotYet, Rest, AnswersClaim}
 use Rattle.ltm_repair.specs.Events.{CoreEvent, Look, Claim, GiveBack, Commit, Accept, Publish, Settle, Stay, Committed as CommitHappened, GaveBack, Accepted, Published as PublishHappened, Settled}
-use Rattle.ltm_desk.specs.Committing.{readers, rewritten}
-use Rattle.ltm_desk.specs.Batches.{touches}
-use Rattle.ltm_desk.specs.Cells.{count_cells}
+use Rattle.ltm_working.specs.Committing.{readers, rewritten}
+use Rattle.ltm_working.specs.Batches.{touches}
+use Rattle.ltm_working.specs.Cells.{count_cells}
 use Rattle.ltm_core.specs.declared.answers.Claimed.{Claimed}
 use Rattle.ltm_core.specs.declared.answers.Claimed.TheVariants.{Got as GotClaim, NotYet as NoneYet, Rest as AtRest}
 use Rattle.ltm_core.specs.declared.answers.Committed.{Committed}

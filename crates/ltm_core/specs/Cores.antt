@@ -15,9 +15,9 @@ use Rattle.ltm_repair.specs.State.{RepairState, now}
 use Rattle.ltm_repair.specs.Repair.{IsRepair}
 use Rattle.ltm_repair.specs.Events.{CoreEvent}
 use Rattle.ltm_repair.specs.Answers.{IsNoneClaimed}
-use Rattle.ltm_desk.specs.declared.table.Table.{Table}
-use Rattle.ltm_desk.specs.Desks.{desk_at, changed_at}
-use Rattle.ltm_desk.specs.Ready.{IsReady}
+use Rattle.ltm_working.specs.declared.table.Table.{Table}
+use Rattle.ltm_working.specs.Desks.{desk_at, changed_at}
+use Rattle.ltm_working.specs.Ready.{IsReady}
 use Rattle.ltm_core.specs.Log.{Log, log_of, HoldsAccepted, version_now, settled_of, scenario_at, scenario_now}
 use Rattle.ltm_core.specs.Settling.{setting_at}
 

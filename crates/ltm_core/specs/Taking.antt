@@ -8,8 +8,8 @@ use Rattle.ltm_scenario.specs.Valid.{IsValid}
 use Rattle.ltm_loading.specs.Setting.{IsSetting}
 use Rattle.ltm_loading.specs.Networks.{SameNetwork}
 use Rattle.ltm_setting.specs.Setting.{setting_of}
-use Rattle.ltm_desk.specs.declared.table.Table.{Table}
-use Rattle.ltm_desk.specs.Batches.{TakesIn}
+use Rattle.ltm_working.specs.declared.table.Table.{Table}
+use Rattle.ltm_working.specs.Batches.{TakesIn}
 use Rattle.ltm_core.specs.Cores.{IsAlike}
 
 -- the edits lead from s to next, and the table of s becomes one of next

@@ -1,9 +1,9 @@
 //! The buffers of one worker.
 ghost use Rattle.std.specs.Prelude.{◌≡◌, length};
 
-use ltm_desk::WIDEST;
 use ltm_node::{NodeInputs, NodeOutputs};
 use ltm_units::NoMemory;
+use ltm_working::WIDEST;
 use std::alloc::Global;
 use std::marker::Model;
 

@@ -5,8 +5,8 @@ ghost use Rattle.ltm_scenario.specs.Valid.{IsValid};
 ghost use Rattle.ltm_scenario.specs.IsScenario.{IsScenario};
 ghost use Rattle.ltm_setting.specs.Setting.{setting_of};
 ghost use Rattle.ltm_flows.specs.Shown.{Shows, last_of, loading_room};
-ghost use Rattle.ltm_desk.specs.Cells.{count_cells};
-ghost use Rattle.ltm_desk.specs.Ready.{IsOpened};
+ghost use Rattle.ltm_working.specs.Cells.{count_cells};
+ghost use Rattle.ltm_working.specs.Ready.{IsOpened};
 ghost use Rattle.ltm_core.specs.Log.{batches_of, version_now, scenario_now};
 
 mod batches;
@@ -17,7 +17,6 @@ mod showing;
 use crate::history::History;
 use crate::laws::repair_laws;
 use crate::scratch::Scratch;
-use ltm_desk::Table;
 use ltm_flows::Loading;
 use ltm_loading::one_loading;
 use ltm_repair::none_twice;
@@ -25,6 +24,7 @@ use ltm_scenario::{Batch, Scenario};
 use ltm_setting::{is_setting, node_count, slot_count};
 use ltm_turn::Told;
 use ltm_units::NoMemory;
+use ltm_working::Table;
 use std::alloc::Global;
 use std::marker::Model;
 
@@ -70,7 +70,7 @@ impl Model for Core {
     ghost Value = { CoreData };
 
     ghost use Rattle.std.specs.Coded.{codes};
-    ghost use Rattle.ltm_desk.specs.contracts.table.Table as table_row;
+    ghost use Rattle.ltm_working.specs.contracts.table.Table as table_row;
 
     ghost coded = { Prim.hlevel (codes, table_row.the_row.coded) };
 

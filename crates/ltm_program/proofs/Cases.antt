@@ -10,20 +10,20 @@ use Rattle.ltm_casefile.specs.declared.faults.CaseFault.{CaseFault}
 use Rattle.ltm_casefile.specs.declared.faults.CaseFault.TheVariants as fault
 use Rattle.ltm_casefile.specs.Faults.{Agrees, HasRisen, WasAsked}
 use Rattle.ltm_casefile.specs.Case.{case_of, asks_for}
-use Rattle.ltm_checking.specs.declared.refusal.Refusal.TheVariants as checked
+use Rattle.ltm_check_command.specs.declared.refusal.Refusal.TheVariants as checked
 use Rattle.ltm_core.specs.Log.{version_now}
 use Rattle.ltm_core.specs.Cores.{CoreData}
 use Rattle.ltm_core.specs.CoreAnswers.{IsOpeningCore}
 use Rattle.ltm_session.specs.declared.ends.SessionEnd.{SessionEnd}
-use Rattle.ltm_texts.specs.declared.status.Status.{Status}
-use Rattle.ltm_texts.specs.declared.status.Status.TheVariants as ending
-use Rattle.ltm_texts.specs.declared.words.Command.TheVariants as command
-use Rattle.ltm_texts.specs.Answers.{Describes}
-use Rattle.ltm_texts.specs.Program.{IsWhole, IsTold, IsMissing, Fetches, case_status, refusal_of}
-use Rattle.ltm_texts.specs.Run.{Outside, outside, WritesFront, IsRun}
-use Rattle.ltm_texts.proofs.MissingFile.{failed}
-use Rattle.ltm_texts.proofs.Running.{Unread, missed, run_refused}
-use Rattle.ltm_texts.proofs.Told.{told_given, never_ok, never_read}
+use Rattle.ltm_command.specs.declared.status.Status.{Status}
+use Rattle.ltm_command.specs.declared.status.Status.TheVariants as ending
+use Rattle.ltm_command.specs.declared.words.Command.TheVariants as command
+use Rattle.ltm_command.specs.Answers.{Describes}
+use Rattle.ltm_command.specs.Program.{IsWhole, IsTold, IsMissing, Fetches, case_status, refusal_of}
+use Rattle.ltm_command.specs.Run.{Outside, outside, WritesFront, IsRun}
+use Rattle.ltm_command.proofs.MissingFile.{failed}
+use Rattle.ltm_command.proofs.Running.{Unread, missed, run_refused}
+use Rattle.ltm_command.proofs.Told.{told_given, never_ok, never_read}
 use Rattle.ltm_program.specs.Sessions.{EndsUnder, IsCaseUnder}
 
 -- ---- a core that has just begun

@@ -12,10 +12,10 @@ use Rattle.ltm_session.specs.declared.ends.SessionEnd.TheVariants as end
 use Rattle.ltm_session.specs.Analysts.{Analysts, opening_state}
 use Rattle.ltm_session.specs.Session.{Answering, AnswersLines, IsSession, Wrote, EndsBefore, end_of}
 use Rattle.ltm_session.proofs.Progress.{nothing_more, appended_more, whole_front, front_more}
-use Rattle.ltm_texts.specs.declared.status.Status.{Status}
-use Rattle.ltm_texts.specs.declared.status.Status.TheVariants as ending
-use Rattle.ltm_texts.specs.Program.{IsWhole}
-use Rattle.ltm_texts.specs.Run.{Outside, IsRun}
+use Rattle.ltm_command.specs.declared.status.Status.{Status}
+use Rattle.ltm_command.specs.declared.status.Status.TheVariants as ending
+use Rattle.ltm_command.specs.Program.{IsWhole}
+use Rattle.ltm_command.specs.Run.{Outside, IsRun}
 use Rattle.ltm_program.specs.Sessions.{closing_of, status_of_end, EndsUnder, ServesWhole}
 
 -- ---- fronts

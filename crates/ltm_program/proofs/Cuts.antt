@@ -3,17 +3,17 @@ use Rattle.std.proofs.Common.{ℕ, ◌≡◌, ◌⊎◌, inl, inr, refl, ap, sym
 use Rattle.std.proofs.lemmas.List.{append-nil}
 use Rattle.ltm_io.specs.Sink.{appended}
 use Rattle.ltm_scenario.specs.Data.{ScenarioData}
-use Rattle.ltm_checking.specs.declared.refusal.Refusal.TheVariants as refusal
+use Rattle.ltm_check_command.specs.declared.refusal.Refusal.TheVariants as refusal
 use Rattle.ltm_session.specs.declared.ends.SessionEnd.{SessionEnd}
 use Rattle.ltm_session.specs.declared.ends.SessionEnd.TheVariants as end
 use Rattle.ltm_session.specs.Analysts.{Analysts}
 use Rattle.ltm_session.specs.Answers.{AnswersAlone}
 use Rattle.ltm_session.specs.Session.{Answering, IsSession}
-use Rattle.ltm_viewing.specs.View.{IsView, Closes as ClosesView}
-use Rattle.ltm_texts.specs.declared.status.Status.TheVariants as ending
-use Rattle.ltm_texts.specs.Answers.{Describes}
-use Rattle.ltm_texts.specs.Run.{Outside}
-use Rattle.ltm_texts.proofs.Told.{never_read}
+use Rattle.ltm_session_viewers.specs.View.{IsView, Closes as ClosesView}
+use Rattle.ltm_command.specs.declared.status.Status.TheVariants as ending
+use Rattle.ltm_command.specs.Answers.{Describes}
+use Rattle.ltm_command.specs.Run.{Outside}
+use Rattle.ltm_command.proofs.Told.{never_read}
 use Rattle.ltm_program.specs.Sessions.{IsSessionUnder, ServesWhatCame, status_of_end, closing_of}
 use Rattle.ltm_program.specs.Views.{IsViewUnder}
 use Rattle.ltm_program.specs.RanLaws.{Wrote}

@@ -10,20 +10,20 @@ use Rattle.ltm_scenario.specs.Data.{ScenarioData}
 use Rattle.ltm_casefile.specs.declared.faults.CaseFault.{CaseFault}
 use Rattle.ltm_casefile.specs.declared.faults.CaseFault.TheVariants as fault
 use Rattle.ltm_casefile.specs.Case.{is_case_file, asks_for}
-use Rattle.ltm_checking.specs.declared.refusal.Refusal.TheVariants as checked
-use Rattle.ltm_editing.specs.declared.fault.EditsFault.TheVariants as edits
-use Rattle.ltm_editing.specs.declared.fault.LineCause.{LineCause}
-use Rattle.ltm_editing.specs.Files.{docs_of}
-use Rattle.ltm_editing.specs.declared.refusal.Refusal.{Refusal}
-use Rattle.ltm_editing.specs.declared.refusal.Refusal.TheVariants as refusal
-use Rattle.ltm_editing.specs.Lines.{bad_script_line}
-use Rattle.ltm_editing.specs.Editing.{IsEditingText}
-use Rattle.ltm_editing.specs.Answers.{Answer, EditingAnswer, AnswersEditing, IsTold, IsMissing, MayAsk, Missed}
-use Rattle.ltm_texts.specs.declared.status.Status.{Status}
-use Rattle.ltm_texts.specs.declared.status.Status.TheVariants as ending
-use Rattle.ltm_texts.specs.Program as texts
-use Rattle.ltm_texts.specs.Program.{IsWhole, case_status, refusal_of}
-use Rattle.ltm_texts.proofs.Running.{kept}
+use Rattle.ltm_check_command.specs.declared.refusal.Refusal.TheVariants as checked
+use Rattle.ltm_session_editors.specs.declared.fault.EditsFault.TheVariants as edits
+use Rattle.ltm_session_editors.specs.declared.fault.LineCause.{LineCause}
+use Rattle.ltm_session_editors.specs.Files.{docs_of}
+use Rattle.ltm_session_editors.specs.declared.refusal.Refusal.{Refusal}
+use Rattle.ltm_session_editors.specs.declared.refusal.Refusal.TheVariants as refusal
+use Rattle.ltm_session_editors.specs.Lines.{bad_script_line}
+use Rattle.ltm_session_editors.specs.Editing.{IsEditingText}
+use Rattle.ltm_session_editors.specs.Answers.{Answer, EditingAnswer, AnswersEditing, IsTold, IsMissing, MayAsk, Missed}
+use Rattle.ltm_command.specs.declared.status.Status.{Status}
+use Rattle.ltm_command.specs.declared.status.Status.TheVariants as ending
+use Rattle.ltm_command.specs.Program as texts
+use Rattle.ltm_command.specs.Program.{IsWhole, case_status, refusal_of}
+use Rattle.ltm_command.proofs.Running.{kept}
 use Rattle.ltm_program.specs.Editors.{editing_words, editing_status, IsEditingUnder, HasScripts, IsCalmFor}
 
 -- ---- a fault of the case is told as other commands tell it

@@ -10,9 +10,9 @@ use Rattle.ltm_session.specs.declared.ends.SessionEnd.{SessionEnd}
 use Rattle.ltm_session.specs.Session.{IsSessionOutput}
 use Rattle.ltm_session.specs.Promise.{KeepsPromise, KeepsPromiseSoFar}
 use Rattle.ltm_session.specs.Laws.{OutputsKeepThePromise, FrontsKeepThePromise, FrontsKeepIt}
-use Rattle.ltm_viewing.specs.View.{IsViewOutput}
-use Rattle.ltm_texts.specs.declared.status.Status.{Status}
-use Rattle.ltm_texts.specs.Run.{WritesFront}
+use Rattle.ltm_session_viewers.specs.View.{IsViewOutput}
+use Rattle.ltm_command.specs.declared.status.Status.{Status}
+use Rattle.ltm_command.specs.Run.{WritesFront}
 use Rattle.ltm_program.specs.Sessions.{IsSessionUnder, ServesWhole, closing_of}
 use Rattle.ltm_program.specs.Ran.{rule_of}
 use Rattle.ltm_program.specs.RanLaws.{SessionsSay}

@@ -11,7 +11,7 @@ use Rattle.ltm_casefile.specs.declared.faults.File.{File}
 use Rattle.ltm_casefile.specs.declared.faults.CaseFault.{CaseFault}
 use Rattle.ltm_casefile.specs.declared.faults.CaseFault.TheVariants as fault
 use Rattle.ltm_casefile.specs.Case.{case_of, is_case_file, asks_for}
-use Rattle.ltm_checking.specs.declared.refusal.Refusal.TheVariants as refusal
+use Rattle.ltm_check_command.specs.declared.refusal.Refusal.TheVariants as refusal
 use Rattle.ltm_session.specs.declared.ends.SessionEnd.{SessionEnd}
 use Rattle.ltm_session.specs.declared.ends.SessionEnd.TheVariants as end
 use Rattle.ltm_session.specs.Analysts.{Analysts}
@@ -20,19 +20,19 @@ use Rattle.ltm_session.specs.Session.{Answering, IsSession, IsOutputAlone, IsSes
 use Rattle.ltm_session.specs.Laws.{AloneIsASession}
 use Rattle.ltm_session.proofs.Ending.{ends_as_told}
 use Rattle.ltm_session.proofs.Progress.{nothing_more}
-use Rattle.ltm_viewing.specs.View.{IsView, IsViewOutput, Closes as ClosesView}
-use Rattle.ltm_editing.specs.Files.{docs_of}
-use Rattle.ltm_editing.specs.Answers.{Answer as Editing, AnswersEditing, MayAsk}
-use Rattle.ltm_texts.specs.declared.status.Status.{Status}
-use Rattle.ltm_texts.specs.declared.status.Status.TheVariants as ending
-use Rattle.ltm_texts.specs.declared.words.Command.{Command}
-use Rattle.ltm_texts.specs.declared.words.Command.TheVariants as command
-use Rattle.ltm_texts.specs.Answers.{Answer, Answers, Describes, HasText, may_fetch, fetches}
-use Rattle.ltm_texts.specs.Program.{IsAnswerUnder, IsWhole, IsCalm, Fetches, status_of, case_status, words_of}
-use Rattle.ltm_texts.specs.Words.{usage_line}
-use Rattle.ltm_texts.specs.Run.{Outside, WritesFront, IsRun}
-use Rattle.ltm_texts.proofs.Running.{sorted}
-use Rattle.ltm_texts.proofs.Told as texts
+use Rattle.ltm_session_viewers.specs.View.{IsView, IsViewOutput, Closes as ClosesView}
+use Rattle.ltm_session_editors.specs.Files.{docs_of}
+use Rattle.ltm_session_editors.specs.Answers.{Answer as Editing, AnswersEditing, MayAsk}
+use Rattle.ltm_command.specs.declared.status.Status.{Status}
+use Rattle.ltm_command.specs.declared.status.Status.TheVariants as ending
+use Rattle.ltm_command.specs.declared.words.Command.{Command}
+use Rattle.ltm_command.specs.declared.words.Command.TheVariants as command
+use Rattle.ltm_command.specs.Answers.{Answer, Answers, Describes, HasText, may_fetch, fetches}
+use Rattle.ltm_command.specs.Program.{IsAnswerUnder, IsWhole, IsCalm, Fetches, status_of, case_status, words_of}
+use Rattle.ltm_command.specs.Words.{usage_line}
+use Rattle.ltm_command.specs.Run.{Outside, WritesFront, IsRun}
+use Rattle.ltm_command.proofs.Running.{sorted}
+use Rattle.ltm_command.proofs.Told as texts
 use Rattle.ltm_program.specs.Sessions.{IsCaseUnder, IsServed, IsSessionUnder, ServesWhole, status_of_end, session_status, closing_of}
 use Rattle.ltm_program.specs.Views.{IsViewed, IsViewUnder}
 use Rattle.ltm_program.specs.Editors.{IsEditingUnder, IsCalmFor, editing_status, editing_words}

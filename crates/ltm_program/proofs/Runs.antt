@@ -3,12 +3,12 @@ use Rattle.std.proofs.Common.{ℕ, zero, suc, ◌≡◌, ◌<◌, refl, ap, sym,
 use Rattle.std.specs.Prelude.{nat_lt, if◌then◌else◌}
 use Rattle.std.proofs.lemmas.Bool.Decides.{nat_tests}
 use Rattle.ltm_session.specs.Answers.{AnswersBeside}
-use Rattle.ltm_texts.specs.declared.status.Status.{Status}
-use Rattle.ltm_texts.specs.declared.words.Command.{Command}
-use Rattle.ltm_texts.specs.declared.words.Command.TheVariants as command
-use Rattle.ltm_texts.specs.Answers.{HasText}
-use Rattle.ltm_texts.specs.Program.{IsAnswerUnder, Fetches}
-use Rattle.ltm_texts.specs.Run.{Outside, IsRun}
+use Rattle.ltm_command.specs.declared.status.Status.{Status}
+use Rattle.ltm_command.specs.declared.words.Command.{Command}
+use Rattle.ltm_command.specs.declared.words.Command.TheVariants as command
+use Rattle.ltm_command.specs.Answers.{HasText}
+use Rattle.ltm_command.specs.Program.{IsAnswerUnder, Fetches}
+use Rattle.ltm_command.specs.Run.{Outside, IsRun}
 use Rattle.ltm_program.specs.Sessions.{IsSessionUnder}
 use Rattle.ltm_program.specs.Ran.{Ran, needs_threads, without_threads}
 

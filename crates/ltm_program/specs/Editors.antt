@@ -7,15 +7,15 @@ use Rattle.ltm_scenario.specs.declared.edit.Edit.{Edit}
 use Rattle.ltm_scenario.specs.Data.{ScenarioData}
 use Rattle.ltm_casefile.specs.Case.{case_of}
 use Rattle.ltm_report.specs.Refusals.{too_many_line}
-use Rattle.ltm_editing.specs.declared.fault.EditsFault.{EditsFault}
-use Rattle.ltm_editing.specs.declared.fault.EditsFault.TheVariants as edits
-use Rattle.ltm_editing.specs.Scripts.{scripts_of}
-use Rattle.ltm_editing.specs.declared.refusal.Refusal.TheVariants as refusal
-use Rattle.ltm_editing.specs.Lines.{long_edits_line, bad_script_line}
-use Rattle.ltm_editing.specs.Answers.{Answer, AnswersEditing, MayAsk}
-use Rattle.ltm_texts.specs.declared.status.Status.{Status}
-use Rattle.ltm_texts.specs.declared.status.Status.TheVariants as ending
-use Rattle.ltm_texts.specs.Program.{case_status, refusal_of}
+use Rattle.ltm_session_editors.specs.declared.fault.EditsFault.{EditsFault}
+use Rattle.ltm_session_editors.specs.declared.fault.EditsFault.TheVariants as edits
+use Rattle.ltm_session_editors.specs.Scripts.{scripts_of}
+use Rattle.ltm_session_editors.specs.declared.refusal.Refusal.TheVariants as refusal
+use Rattle.ltm_session_editors.specs.Lines.{long_edits_line, bad_script_line}
+use Rattle.ltm_session_editors.specs.Answers.{Answer, AnswersEditing, MayAsk}
+use Rattle.ltm_command.specs.declared.status.Status.{Status}
+use Rattle.ltm_command.specs.declared.status.Status.TheVariants as ending
+use Rattle.ltm_command.specs.Program.{case_status, refusal_of}
 
 -- the line that refuses files of edits, and nothing where one is missing
 abbrev pub edits_refusal : EditsFault → List ℕ

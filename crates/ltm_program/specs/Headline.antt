@@ -5,11 +5,11 @@ use Rattle.ltm_scenario.specs.Data.{ScenarioData}
 use Rattle.ltm_casefile.specs.Case.{case_of}
 use Rattle.ltm_session.specs.declared.ends.SessionEnd.{SessionEnd}
 use Rattle.ltm_session.specs.Promise.{KeepsPromise, KeepsPromiseSoFar}
-use Rattle.ltm_texts.specs.declared.status.Status.{Status}
-use Rattle.ltm_texts.specs.declared.status.Status.TheVariants as ending
-use Rattle.ltm_texts.specs.declared.words.Command.TheVariants as command
-use Rattle.ltm_texts.specs.Answers.{Describes}
-use Rattle.ltm_texts.specs.Run.{Outside}
+use Rattle.ltm_command.specs.declared.status.Status.{Status}
+use Rattle.ltm_command.specs.declared.status.Status.TheVariants as ending
+use Rattle.ltm_command.specs.declared.words.Command.TheVariants as command
+use Rattle.ltm_command.specs.Answers.{Describes}
+use Rattle.ltm_command.specs.Run.{Outside}
 use Rattle.ltm_program.specs.Sessions.{closing_of}
 use Rattle.ltm_program.specs.Ran.{Ran}
 use Rattle.ltm_program.specs.RanLaws.{Wrote}

@@ -4,14 +4,14 @@ use Rattle.ltm_io.specs.declared.doc.Doc.{Doc}
 use Rattle.ltm_io.specs.Folder.{Files}
 use Rattle.ltm_session.specs.Answers.{AnswersAlone, AnswersBeside}
 use Rattle.ltm_session.specs.Session.{Answering}
-use Rattle.ltm_editing.specs.Answers.{MayAsk}
-use Rattle.ltm_texts.specs.declared.status.Status.{Status}
-use Rattle.ltm_texts.specs.declared.status.Status.TheVariants as ending
-use Rattle.ltm_texts.specs.declared.words.Command.{Command}
-use Rattle.ltm_texts.specs.declared.words.Command.TheVariants as command
-use Rattle.ltm_texts.specs.Words.{usage_line}
-use Rattle.ltm_texts.specs.Program.{IsAnswerUnder, Fetches}
-use Rattle.ltm_texts.specs.Run.{Outside, IsRun}
+use Rattle.ltm_session_editors.specs.Answers.{MayAsk}
+use Rattle.ltm_command.specs.declared.status.Status.{Status}
+use Rattle.ltm_command.specs.declared.status.Status.TheVariants as ending
+use Rattle.ltm_command.specs.declared.words.Command.{Command}
+use Rattle.ltm_command.specs.declared.words.Command.TheVariants as command
+use Rattle.ltm_command.specs.Words.{usage_line}
+use Rattle.ltm_command.specs.Program.{IsAnswerUnder, Fetches}
+use Rattle.ltm_command.specs.Run.{Outside, IsRun}
 use Rattle.ltm_program.specs.Sessions.{IsSessionUnder}
 use Rattle.ltm_program.specs.Views.{IsViewUnder}
 use Rattle.ltm_program.specs.Editors.{IsEditingUnder}

@@ -14,34 +14,34 @@ use Rattle.ltm_casefile.specs.Case.{case_of, is_case_file, asks_for}
 use Rattle.ltm_report.specs.CaseFaults.{bad_case_line}
 use Rattle.ltm_report.specs.Reports.{IsReport}
 use Rattle.ltm_report.specs.DelayReports.{IsDelayReport}
-use Rattle.ltm_routing.specs.File.{IsSplitsFile, IsTimesFile}
-use Rattle.ltm_trial.specs.Trial.{IsTrial}
+use Rattle.ltm_routes_command.specs.File.{IsSplitsFile, IsTimesFile}
+use Rattle.ltm_try_command.specs.Trial.{IsTrial}
 use Rattle.ltm_records.specs.Left.{records_of}
 use Rattle.ltm_check.specs.ReadBack.{TellsLoading}
-use Rattle.ltm_checking.specs.declared.refusal.Refusal.{Refusal}
-use Rattle.ltm_checking.specs.declared.refusal.Refusal.TheVariants as refusal
-use Rattle.ltm_checking.specs.Lines.{yes_line}
-use Rattle.ltm_checking.specs.Loaded.{IsLoadingText}
-use Rattle.ltm_checking.specs.Checks.{HasCurves, most_bytes}
+use Rattle.ltm_check_command.specs.declared.refusal.Refusal.{Refusal}
+use Rattle.ltm_check_command.specs.declared.refusal.Refusal.TheVariants as refusal
+use Rattle.ltm_check_command.specs.Lines.{yes_line}
+use Rattle.ltm_check_command.specs.Loaded.{IsLoadingText}
+use Rattle.ltm_check_command.specs.Checks.{HasCurves, most_bytes}
 use Rattle.ltm_session.specs.Answers.{AnswersAlone}
 use Rattle.ltm_session.specs.Session.{IsOutputAlone, IsSessionOutput}
-use Rattle.ltm_viewing.specs.View.{IsViewOutput}
-use Rattle.ltm_editing.specs.declared.fault.EditsFault.TheVariants as edits
-use Rattle.ltm_editing.specs.declared.fault.LineCause.{LineCause}
-use Rattle.ltm_editing.specs.Files.{docs_of}
-use Rattle.ltm_editing.specs.declared.refusal.Refusal.{Refusal as Unedited}
-use Rattle.ltm_editing.specs.declared.refusal.Refusal.TheVariants as unedited
-use Rattle.ltm_editing.specs.Lines.{bad_script_line}
-use Rattle.ltm_editing.specs.Editing.{IsEditingText}
-use Rattle.ltm_editing.specs.Answers.{Answer as Editing, AnswersEditing, IsMissing as IsUngiven}
-use Rattle.ltm_texts.specs.declared.status.Status.{Status}
-use Rattle.ltm_texts.specs.declared.status.Status.TheVariants as ending
-use Rattle.ltm_texts.specs.declared.words.Command.{Command}
-use Rattle.ltm_texts.specs.declared.words.Command.TheVariants as command
-use Rattle.ltm_texts.specs.Words.{usage_line}
-use Rattle.ltm_texts.specs.Answers.{Answer, Answers, Describes, HasText, may_fetch, fetches}
-use Rattle.ltm_texts.specs.Program.{IsMissing, IsLong, IsWhole, IsCalm, status_of, words_of}
-use Rattle.ltm_texts.specs.Run.{Outside}
+use Rattle.ltm_session_viewers.specs.View.{IsViewOutput}
+use Rattle.ltm_session_editors.specs.declared.fault.EditsFault.TheVariants as edits
+use Rattle.ltm_session_editors.specs.declared.fault.LineCause.{LineCause}
+use Rattle.ltm_session_editors.specs.Files.{docs_of}
+use Rattle.ltm_session_editors.specs.declared.refusal.Refusal.{Refusal as Unedited}
+use Rattle.ltm_session_editors.specs.declared.refusal.Refusal.TheVariants as unedited
+use Rattle.ltm_session_editors.specs.Lines.{bad_script_line}
+use Rattle.ltm_session_editors.specs.Editing.{IsEditingText}
+use Rattle.ltm_session_editors.specs.Answers.{Answer as Editing, AnswersEditing, IsMissing as IsUngiven}
+use Rattle.ltm_command.specs.declared.status.Status.{Status}
+use Rattle.ltm_command.specs.declared.status.Status.TheVariants as ending
+use Rattle.ltm_command.specs.declared.words.Command.{Command}
+use Rattle.ltm_command.specs.declared.words.Command.TheVariants as command
+use Rattle.ltm_command.specs.Words.{usage_line}
+use Rattle.ltm_command.specs.Answers.{Answer, Answers, Describes, HasText, may_fetch, fetches}
+use Rattle.ltm_command.specs.Program.{IsMissing, IsLong, IsWhole, IsCalm, status_of, words_of}
+use Rattle.ltm_command.specs.Run.{Outside}
 use Rattle.ltm_program.specs.Sessions.{ServesWhole, ServesWhatCame, session_status}
 use Rattle.ltm_program.specs.Editors.{HasScripts, IsCalmFor, editing_words, editing_status}
 use Rattle.ltm_program.specs.Ran.{Ran, rule_of}

@@ -9,10 +9,10 @@ use Rattle.ltm_session.specs.declared.ends.SessionEnd.{SessionEnd}
 use Rattle.ltm_session.specs.declared.ends.SessionEnd.TheVariants as end
 use Rattle.ltm_session.specs.Analysts.{Analysts, opening_state}
 use Rattle.ltm_session.specs.Session.{Answering, AnswersLines, CameWhole, IsSession, end_of}
-use Rattle.ltm_texts.specs.declared.status.Status.{Status}
-use Rattle.ltm_texts.specs.declared.status.Status.TheVariants as ending
-use Rattle.ltm_texts.specs.Answers.{Describes}
-use Rattle.ltm_texts.specs.Program.{case_status, refusal_of}
+use Rattle.ltm_command.specs.declared.status.Status.{Status}
+use Rattle.ltm_command.specs.declared.status.Status.TheVariants as ending
+use Rattle.ltm_command.specs.Answers.{Describes}
+use Rattle.ltm_command.specs.Program.{case_status, refusal_of}
 
 -- the line that closes a session which its script ends early
 abbrev pub closing_of : SessionEnd → List ℕ

@@ -4,8 +4,8 @@ use Rattle.ltm_io.specs.Folder.{Files}
 use Rattle.ltm_scenario.specs.Data.{ScenarioData}
 use Rattle.ltm_session.specs.declared.ends.SessionEnd.{SessionEnd}
 use Rattle.ltm_session.specs.Analysts.{Analysts}
-use Rattle.ltm_viewing.specs.View.{IsView}
-use Rattle.ltm_texts.specs.declared.status.Status.{Status}
+use Rattle.ltm_session_viewers.specs.View.{IsView}
+use Rattle.ltm_command.specs.declared.status.Status.{Status}
 use Rattle.ltm_program.specs.Sessions.{IsCaseUnder}
 
 -- the outputs of a view of a scenario by so many viewers, with a script, what is left of it, and up to an end

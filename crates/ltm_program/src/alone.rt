@@ -2,14 +2,14 @@
 ghost use Rattle.std.specs.Prelude.{◌≡◌, ℕ, List, Option, None, Some, IfSome, map, string_bytes, false};
 ghost use Rattle.ltm_io.specs.Folder.{Files};
 ghost use Rattle.ltm_io.specs.declared.doc.Doc.{Doc};
-ghost use Rattle.ltm_texts.specs.Words as words_say;
-ghost use Rattle.ltm_texts.specs.Words.{IsSized};
-ghost use Rattle.ltm_texts.specs.Run.{outside};
+ghost use Rattle.ltm_command.specs.Words as words_say;
+ghost use Rattle.ltm_command.specs.Words.{IsSized};
+ghost use Rattle.ltm_command.specs.Run.{outside};
 ghost use Rattle.ltm_program.specs.Ran.{Ran, needs_threads, without_threads};
 
 use crate::serve::serve;
+use ltm_command::{Command, Status, command_of, run_command, usage_text, write_text};
 use ltm_io::{OpenFolder, Sink, Source};
-use ltm_texts::{Command, Status, command_of, run_command, usage_text, write_text};
 use std::alloc::Global;
 
 /// Says what could have been asked for, where the words ask for no command; whatever else there is stays as it is.

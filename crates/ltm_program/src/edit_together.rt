@@ -2,20 +2,22 @@
 ghost use Rattle.std.specs.Prelude.{◌≡◌, ◌⊎◌, ◌≤◌, ℕ, List, Option, Some, Err};
 ghost use Rattle.ltm_io.specs.Faults.{Rose};
 ghost use Rattle.ltm_io.specs.Sink.{appended, AppendsFront};
-ghost use Rattle.ltm_editing.specs.declared.fault.EditsFault.{EditsFault};
-ghost use Rattle.ltm_editing.specs.declared.refusal.Refusal.{Refusal};
-ghost use Rattle.ltm_editing.specs.Lines.{long_edits_line, bad_script_line};
-ghost use Rattle.ltm_editing.specs.Answers.{IsTold, IsMissing};
-ghost use Rattle.ltm_texts.specs.declared.words.Command.{Command};
-ghost use Rattle.ltm_texts.specs.Program.{IsWhole};
-ghost use Rattle.ltm_texts.specs.Run.{outside};
+ghost use Rattle.ltm_session_editors.specs.declared.fault.EditsFault.{EditsFault};
+ghost use Rattle.ltm_session_editors.specs.declared.refusal.Refusal.{Refusal};
+ghost use Rattle.ltm_session_editors.specs.Lines.{long_edits_line, bad_script_line};
+ghost use Rattle.ltm_session_editors.specs.Answers.{IsTold, IsMissing};
+ghost use Rattle.ltm_command.specs.declared.words.Command.{Command};
+ghost use Rattle.ltm_command.specs.Program.{IsWhole};
+ghost use Rattle.ltm_command.specs.Run.{outside};
 ghost use Rattle.ltm_program.specs.Editors.{edits_refusal, edits_status, editing_words, editing_status};
 ghost use Rattle.ltm_program.specs.Ran.{Ran};
 
 use crate::serve::close_many;
-use ltm_editing::{EditsFault, LineCause, Refusal, bad_script_text, editing_text, long_edits_text};
+use ltm_command::{Status, refuse_fault, write_text};
 use ltm_io::{Folder, Sink};
-use ltm_texts::{Status, refuse_fault, write_text};
+use ltm_session_editors::{
+    EditsFault, LineCause, Refusal, bad_script_text, editing_text, long_edits_text,
+};
 use std::alloc::Global;
 use std::sync::Wait;
 use std::thread::Threads;

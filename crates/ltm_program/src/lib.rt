@@ -1,13 +1,13 @@
 //! - **What it is**: the whole program but its `main`: `run`, which does what the words of a command line ask for over a
 //!   folder, an input and an output, and `run_alone`, which needs no threads; and the laws of every run.
-//! - **On what it stands**: `ltm_texts` for the commands that answer one text, `ltm_session` for the session, which
-//!   answers a script line by line, `ltm_crew` for workers beside it, `ltm_viewing` for viewers at it,
-//!   `ltm_editing` for several editors, and `ltm_casefile`, which reads the case.
+//! - **On what it stands**: `ltm_command` for the commands that answer one text, `ltm_session` for the session, which
+//!   answers a script line by line, `ltm_session_workers` for workers beside it, `ltm_session_viewers` for viewers at it,
+//!   `ltm_session_editors` for several editors, and `ltm_casefile`, which reads the case.
 //! - **What a call costs**: a cold loading, the routes to each destination or a trial; a session a cold loading, and then
 //!   what its lines cost.
 //! - **When to change it here**: when there is another command that is served, or when a session ends or is closed in
 //!   another way. Such a command gets a line in each definition of `specs/Ran.antt`, a server with the clause `Ran`, an arm
-//!   of `do_command`, and its law (`specs/RanLaws.antt`). A command with a text of its own stands in `ltm_texts`.
+//!   of `do_command`, and its law (`specs/RanLaws.antt`). A command with a text of its own stands in `ltm_command`.
 #![tactic(auto)]
 
 mod alone;

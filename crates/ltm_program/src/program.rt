@@ -1,9 +1,9 @@
 //! The top call of the program: what the words ask for, over a folder, an input and an output.
 ghost use Rattle.std.specs.Prelude.{◌≤◌, Some, map, string_bytes};
-ghost use Rattle.ltm_texts.specs.declared.words.Command.{Command};
-ghost use Rattle.ltm_texts.specs.Words as words_say;
-ghost use Rattle.ltm_texts.specs.Words.{IsSized};
-ghost use Rattle.ltm_texts.specs.Run.{outside};
+ghost use Rattle.ltm_command.specs.declared.words.Command.{Command};
+ghost use Rattle.ltm_command.specs.Words as words_say;
+ghost use Rattle.ltm_command.specs.Words.{IsSized};
+ghost use Rattle.ltm_command.specs.Run.{outside};
 ghost use Rattle.ltm_program.specs.Ran.{Ran};
 
 use crate::alone::refuse_words;
@@ -11,8 +11,8 @@ use crate::edit_together::edit_together;
 use crate::serve::serve;
 use crate::serve_beside::serve_beside;
 use crate::view::serve_viewed;
+use ltm_command::{Command, Status, command_of, run_command};
 use ltm_io::{Folder, OpenFolder, Sink, Source};
-use ltm_texts::{Command, Status, command_of, run_command};
 use ltm_workers::Gate;
 use std::alloc::Global;
 use std::sync::Wait;

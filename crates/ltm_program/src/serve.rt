@@ -8,19 +8,19 @@ ghost use Rattle.ltm_scenario.specs.Valid.{IsValid};
 ghost use Rattle.ltm_core.specs.Log.{version_now};
 ghost use Rattle.ltm_session.specs.declared.ends.SessionEnd.{SessionEnd};
 ghost use Rattle.ltm_session.specs.Answers.{AnswersAlone};
-ghost use Rattle.ltm_texts.specs.declared.words.Command.{Command};
-ghost use Rattle.ltm_texts.specs.Program.{IsWhole};
-ghost use Rattle.ltm_texts.specs.Run.{IsRun, outside};
+ghost use Rattle.ltm_command.specs.declared.words.Command.{Command};
+ghost use Rattle.ltm_command.specs.Program.{IsWhole};
+ghost use Rattle.ltm_command.specs.Run.{IsRun, outside};
 ghost use Rattle.ltm_program.specs.Sessions.{EndsUnder, IsServed, closing_of, status_of_end};
 ghost use Rattle.ltm_program.specs.Ran.{Ran};
 
 use ltm_casefile::read_case;
+use ltm_command::{Status, refuse_fault, write_text};
 use ltm_core::Core;
 use ltm_io::{Folder, Sink, Source};
 use ltm_report::{long_script_text, too_many_text};
 use ltm_scenario::Scenario;
 use ltm_session::{Served, SessionEnd, serve_alone};
-use ltm_texts::{Status, refuse_fault, write_text};
 use std::alloc::Global;
 
 /// Says that a line of the script has more bytes than are read.

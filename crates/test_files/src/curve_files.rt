@@ -1,7 +1,7 @@
 //! The curve files of small cases, and files that do not tell their loading.
 use ltm_casefile::read_case;
 use ltm_check::CurvesCause;
-use ltm_checking::{Refusal, check_text, write_loading};
+use ltm_check_command::{Refusal, check_text, write_loading};
 use ltm_io::{Doc, MemFolder, SureSink};
 use ltm_units::{Name, NoMemory};
 use std::alloc::Global;

@@ -1,6 +1,6 @@
 //! The loading of a made case of 400 nodes, checked as it is, and once it was written and read; and written to a sink that fails.
 use ltm_check::{Checked, check_curves, read_curves, write_curves};
-use ltm_checking::write_loading;
+use ltm_check_command::write_loading;
 use ltm_flows::cold;
 use ltm_io::{MemSink, SinkError};
 use ltm_make::make_case;

@@ -1,7 +1,7 @@
 //! A small case in memory, and one run of the program over a folder, a script and an output in memory.
+use ltm_command::Status;
 use ltm_io::{Doc, MemFolder, MemSink, MemSource};
 use ltm_program::run_alone;
-use ltm_texts::Status;
 use ltm_units::NoMemory;
 use std::alloc::{AllocError, Global};
 use std::process::Abort;

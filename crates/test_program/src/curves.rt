@@ -1,7 +1,7 @@
 //! A curve file is written and is then found right; with another count, or without a record, it is not.
 use crate::cases::{expect, one_road};
+use ltm_command::Status;
 use ltm_io::Doc;
-use ltm_texts::Status;
 use std::test::Fail;
 
 const CURVES: &str =

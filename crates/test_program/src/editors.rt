@@ -1,8 +1,8 @@
 //! Editors of the one road.
 use crate::cases::{USAGE, one_road};
+use ltm_command::Status;
 use ltm_io::{Doc, MemFolder, SureSink, SureSource};
 use ltm_program::run;
-use ltm_texts::Status;
 use ltm_units::NoMemory;
 use ltm_workers::PlainGate;
 use std::alloc::{AllocError, Global};

@@ -1,7 +1,7 @@
 //! Loading a small case, and what is told of words, files and the outside. Values by hand.
 use crate::cases::{DEMAND, LINKS, SETUP, SPLITS, USAGE, expect, folder_of, one_road, run};
+use ltm_command::Status;
 use ltm_io::{Doc, MemFolder, MemSink, MemSource};
-use ltm_texts::Status;
 use std::test::Fail;
 
 const REPORT: &str =

@@ -1,8 +1,8 @@
 //! Two workers are at work on two pairs of one slot at once, while the editor waits for its next line.
 use crate::cases::one_road;
+use ltm_command::Status;
 use ltm_io::{ReadFault, Source, SureSink};
 use ltm_program::run;
-use ltm_texts::Status;
 use ltm_units::Pair;
 use ltm_workers::Gate;
 use std::sync::Wait;

@@ -1,7 +1,7 @@
 //! Cases of whole networks, whose output was computed by another engine. The folder `examples` has more.
 use crate::cases::{expect, folder_of, hour};
+use ltm_command::Status;
 use ltm_io::{Doc, MemFolder};
-use ltm_texts::Status;
 use ltm_units::NoMemory;
 use std::alloc::Global;
 use std::process::Abort;

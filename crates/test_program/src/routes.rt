@@ -1,7 +1,7 @@
 //! Routes by free-flow time, by hand.
 use crate::cases::{DEMAND, LINKS, SETUP, USAGE, expect};
+use ltm_command::Status;
 use ltm_io::{Doc, MemFolder};
-use ltm_texts::Status;
 use ltm_units::NoMemory;
 use std::alloc::Global;
 use std::test::Fail;

@@ -1,7 +1,7 @@
 //! Sessions of a small case: what is written under each status. Values by hand.
 use crate::cases::{DEMAND, LINKS, SETUP, SPLITS, expect_served, folder_of, one_road, run};
+use ltm_command::Status;
 use ltm_io::{MemFolder, MemSink, MemSource};
-use ltm_texts::Status;
 use std::alloc::Global;
 use std::process::Abort;
 use std::test::Fail;

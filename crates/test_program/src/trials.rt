@@ -1,7 +1,7 @@
 //! Trials of made cases, with values of an engine that was written without this one.
 use crate::cases::{USAGE, expect};
+use ltm_command::Status;
 use ltm_io::MemFolder;
-use ltm_texts::Status;
 use std::process::Abort;
 use std::test::Fail;
 

@@ -1,8 +1,8 @@
 //! Viewers at a session of the one road. Values by hand.
 use crate::cases::{USAGE, one_road};
+use ltm_command::Status;
 use ltm_io::{SureSink, SureSource};
 use ltm_program::run;
-use ltm_texts::Status;
 use ltm_workers::PlainGate;
 use std::alloc::{AllocError, Global};
 use std::sync::Wait;

@@ -1,8 +1,8 @@
 //! Sessions beside workers whose output is one text, or one of two, whatever the order in which threads run.
 use crate::cases::{USAGE, folder_of, hour, one_road};
+use ltm_command::Status;
 use ltm_io::{MemFolder, SureSink, SureSource};
 use ltm_program::run;
-use ltm_texts::Status;
 use ltm_units::NoMemory;
 use ltm_workers::PlainGate;
 use std::alloc::{AllocError, Global};

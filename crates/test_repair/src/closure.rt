@@ -6,15 +6,15 @@ ghost use Rattle.std.specs.Prelude.{◌≡◌};
 ghost use Rattle.ltm_scenario.specs.Edits.{HaveAmounts, horizon_after};
 ghost use Rattle.ltm_scenario.specs.Valid.{IsValid};
 ghost use Rattle.ltm_setting.specs.Setting.{setting_of};
-ghost use Rattle.ltm_desk.specs.Ready.{IsReady};
+ghost use Rattle.ltm_working.specs.Ready.{IsReady};
 
 use ltm_casefile::read_case;
-use ltm_desk::{Found, Table, WIDEST, tables_fit};
 use ltm_io::MemFolder;
 use ltm_node::{NodeInputs, NodeOutputs, solve};
 use ltm_pairs::batch_touches_readers;
 use ltm_scenario::{Batch, Edit, Scenario};
 use ltm_units::{Name, NoMemory, NodeId, Pair, Steps, Units};
+use ltm_working::{Found, Table, WIDEST, tables_fit};
 use std::alloc::Global;
 use std::process::Abort;
 

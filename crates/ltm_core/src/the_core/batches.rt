@@ -3,11 +3,11 @@ ghost use Rattle.std.specs.Prelude.{◌≡◌, ◌≢◌, ℕ, ◌<◌, ◌≤�
 ghost use Rattle.ltm_scenario.specs.Edits.{edited_all, horizon_after, HaveAmounts};
 ghost use Rattle.ltm_scenario.specs.Valid.{IsValid};
 ghost use Rattle.ltm_setting.specs.Setting.{setting_of};
-ghost use Rattle.ltm_desk.specs.Ready.{IsReady};
+ghost use Rattle.ltm_working.specs.Ready.{IsReady};
 ghost use Rattle.ltm_curve.specs.Counts.{Counts};
 ghost use Rattle.ltm_loading.specs.Setting.{Setting};
 ghost use Rattle.ltm_flows.specs.Shown.{ShowsCounts, SameLoading, loading_room};
-ghost use Rattle.ltm_desk.specs.Growing.{SeenAs as TableSeenAs, HasRoom as TableHasRoom};
+ghost use Rattle.ltm_working.specs.Growing.{SeenAs as TableSeenAs, HasRoom as TableHasRoom};
 ghost use Rattle.ltm_scenario.specs.Horizon.{MayReach};
 ghost use Rattle.ltm_repair.specs.Events.{Accept};
 ghost use Rattle.ltm_core.specs.Histories.{events_of};
@@ -16,12 +16,12 @@ ghost use Rattle.ltm_core.specs.Taking.{TakesBatch};
 use super::Core;
 use crate::history::{Event, History, add};
 use crate::laws::repair_laws;
-use ltm_desk::{Table, tables_fit, wide_room};
 use ltm_flows::Loading;
 use ltm_pairs::batch_touches_readers;
 use ltm_scenario::{Batch, EditCause, EditFault, Scenario};
 use ltm_setting::{is_setting, slot_count};
 use ltm_units::NoMemory;
+use ltm_working::{Table, tables_fit, wide_room};
 
 /// Takes the memory for one more batch and its mark.
 fn reserve_entry(batches: &mut Vec<Batch>, marks: &mut Vec<bool>) -> Result<(), NoMemory>

@@ -7,11 +7,11 @@ use crate::claim::{Claim, Done};
 use crate::history::{Event, add};
 use crate::laws::repair_laws;
 use crate::scratch::Scratch;
-use ltm_desk::Found;
 use ltm_inputs::shape_of;
 use ltm_node::{NodeInputs, NodeShape, Solved};
 use ltm_setting::{is_setting, node_count};
 use ltm_units::Pair;
+use ltm_working::Found;
 
 /// Whether two shapes are equal.
 fn same_shape(a: NodeShape, b: NodeShape) -> bool

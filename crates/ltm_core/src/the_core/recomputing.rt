@@ -4,8 +4,8 @@ use crate::answers::Recomputed;
 use crate::history::{Event, add};
 use crate::laws::repair_laws;
 use crate::scratch::Scratch;
-use ltm_desk::Found;
 use ltm_setting::{is_setting, node_count};
+use ltm_working::Found;
 
 impl Core {
     ghost use Rattle.ltm_core.specs.CoreAnswers.{Keeps, TellsRecompute};

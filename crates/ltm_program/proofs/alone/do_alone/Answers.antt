@@ -1,5 +1,5 @@
 use Rattle.std.proofs.Common.{ap, sym, ◌∙◌, Some}
-use Rattle.ltm_texts.specs.declared.words.Command.TheVariants as command
+use Rattle.ltm_command.specs.declared.words.Command.TheVariants as command
 use Rattle.ltm_program.proofs.Runs.{has_text, ran_text, ran_as, alone}
 use Rattle.ltm_program.proofs.alone.do_alone.Goals as goal
 

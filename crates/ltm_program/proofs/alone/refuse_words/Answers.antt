@@ -1,7 +1,7 @@
 use Rattle.std.proofs.Common.{refl}
-use Rattle.ltm_texts.specs.declared.status.Status.TheVariants as ending
-use Rattle.ltm_texts.specs.Words.{usage_line}
-use Rattle.ltm_texts.proofs.Running.{run_written}
+use Rattle.ltm_command.specs.declared.status.Status.TheVariants as ending
+use Rattle.ltm_command.specs.Words.{usage_line}
+use Rattle.ltm_command.proofs.Running.{run_written}
 use Rattle.ltm_program.proofs.alone.refuse_words.Goals as goal
 
 pub returns : goal.returns

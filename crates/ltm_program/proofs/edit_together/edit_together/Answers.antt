@@ -1,7 +1,7 @@
 use Rattle.std.proofs.Common.{refl, Ok, Err}
-use Rattle.ltm_editing.specs.Answers.{IsTold, IsMissing}
-use Rattle.ltm_texts.specs.declared.status.Status.TheVariants as ending
-use Rattle.ltm_texts.proofs.Running.{run_written, run_refused}
+use Rattle.ltm_session_editors.specs.Answers.{IsTold, IsMissing}
+use Rattle.ltm_command.specs.declared.status.Status.TheVariants as ending
+use Rattle.ltm_command.proofs.Running.{run_written, run_refused}
 use Rattle.ltm_program.specs.Editors.{editing_status, editing_words}
 use Rattle.ltm_program.proofs.Editing.{stays, told_given, never_ok, never_read}
 use Rattle.ltm_program.proofs.edit_together.edit_together.Goals as goal

@@ -1,5 +1,5 @@
 use Rattle.std.proofs.Common.{ap, sym, Some}
-use Rattle.ltm_texts.specs.declared.words.Command.TheVariants as command
+use Rattle.ltm_command.specs.declared.words.Command.TheVariants as command
 use Rattle.ltm_program.proofs.Runs.{ran_as}
 use Rattle.ltm_program.proofs.program.serve_session.Goals as goal
 

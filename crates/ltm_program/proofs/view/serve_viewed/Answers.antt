@@ -1,8 +1,8 @@
 use Rattle.std.proofs.Common.{refl}
 use Rattle.ltm_program.specs.Views.{IsViewed}
-use Rattle.ltm_texts.specs.declared.words.Command.TheVariants as command
-use Rattle.ltm_texts.specs.Run.{outside}
-use Rattle.ltm_texts.proofs.Running.{stays}
+use Rattle.ltm_command.specs.declared.words.Command.TheVariants as command
+use Rattle.ltm_command.specs.Run.{outside}
+use Rattle.ltm_command.proofs.Running.{stays}
 use Rattle.ltm_program.proofs.Cases.{run_case, run_unread}
 use Rattle.ltm_program.proofs.view.serve_viewed.Goals as goal
 

@@ -3,10 +3,10 @@ use Rattle.ltm_scenario.specs.declared.edit.Edit.{Edit}
 use Rattle.ltm_scenario.specs.Data.{ScenarioData}
 use Rattle.ltm_setting.specs.Setting.{setting_of}
 use Rattle.ltm_pairs.specs.Touched.{HaveSlots}
-use Rattle.ltm_desk.specs.Ready.{IsReady}
-use Rattle.ltm_desk.specs.Growing.{horizon_of, HasRoom}
-use Rattle.ltm_desk.specs.Batches.{LeadsTo}
-use Rattle.ltm_desk.proofs.Batching.{horizon_is}
+use Rattle.ltm_working.specs.Ready.{IsReady}
+use Rattle.ltm_working.specs.Growing.{horizon_of, HasRoom}
+use Rattle.ltm_working.specs.Batches.{LeadsTo}
+use Rattle.ltm_working.proofs.Batching.{horizon_is}
 use Rattle.test_repair.proofs.closure.take_in.Goals as goal
 
 pub take_in-requires-clause-fits : goal.take_in-requires-clause-fits

@@ -3,7 +3,7 @@ use Rattle.std.proofs.lemmas.Bool.{false≢true}
 use Rattle.ltm_scenario.specs.Edits.{horizon_after}
 use Rattle.ltm_setting.specs.Setting.{setting_of}
 use Rattle.ltm_flows.specs.Shown.{SameLoading, loading_room}
-use Rattle.ltm_desk.specs.Growing.{HasRoom}
+use Rattle.ltm_working.specs.Growing.{HasRoom}
 use Rattle.ltm_core.specs.Cores.{CoreData}
 use Rattle.ltm_scenario.specs.Horizon.{MayReach}
 use Rattle.ltm_core.proofs.Logs.{put_log, same_log, same_length, few_more}

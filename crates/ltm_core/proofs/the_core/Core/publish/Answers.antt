@@ -2,7 +2,7 @@ use Rattle.std.proofs.Common.{◌≡◌, ℕ, ◌∙◌, arith, length, ap, sym,
 use Rattle.ltm_curve.specs.Counts.{Counts}
 use Rattle.ltm_loading.specs.Loading.{IsLoading}
 use Rattle.ltm_setting.specs.Setting.{setting_of}
-use Rattle.ltm_desk.specs.Desks.{desk_at}
+use Rattle.ltm_working.specs.Desks.{desk_at}
 use Rattle.ltm_flows.specs.Shown.{ShowsCounts}
 use Rattle.ltm_core.specs.Log.{log_of, version_now}
 use Rattle.ltm_core.proofs.Logs.{kept_version}

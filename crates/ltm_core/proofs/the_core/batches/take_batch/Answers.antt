@@ -1,8 +1,8 @@
 use Rattle.std.proofs.Common.{◌≡◌, ℕ, subst, sym, ◌∙◌}
 use Rattle.ltm_scenario.specs.Edits.{horizon_after}
 use Rattle.ltm_setting.specs.Setting.{setting_of}
-use Rattle.ltm_desk.specs.Growing.{HasRoom}
-use Rattle.ltm_desk.proofs.Batching.{horizon_is}
+use Rattle.ltm_working.specs.Growing.{HasRoom}
+use Rattle.ltm_working.proofs.Batching.{horizon_is}
 use Rattle.ltm_core.proofs.Batches.{takes_batch}
 use Rattle.ltm_core.proofs.the_core.batches.take_batch.Goals as goal
 

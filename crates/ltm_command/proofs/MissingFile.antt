@@ -1,0 +1,75 @@
+-- A file that the folder did not give is one that the case has, and its count of faults rose.
+use Rattle.std.proofs.Common.{ℕ, ◌≡◌, true, refl, Some, None}
+use Rattle.ltm_io.specs.Faults.{Rose}
+use Rattle.std.specs.Prelude.{Option, IfSome}
+use Rattle.ltm_io.specs.declared.doc.Doc.{Doc}
+use Rattle.ltm_io.specs.declared.doc.Doc.TheVariants as doc
+use Rattle.ltm_io.specs.Folder.{Files}
+use Rattle.ltm_casefile.specs.declared.faults.File.{File}
+use Rattle.ltm_casefile.specs.declared.faults.File.TheVariants as file
+use Rattle.ltm_casefile.specs.declared.faults.CaseFault.{CaseFault}
+use Rattle.ltm_casefile.specs.declared.faults.CaseFault.TheVariants as fault
+use Rattle.ltm_casefile.specs.Case.{asks_for}
+use Rattle.ltm_casefile.specs.Faults.{HasRisen, WasAsked}
+use Rattle.ltm_casefile.specs.Roads.{is_of_roads}
+use Rattle.ltm_command.specs.declared.words.Command.TheVariants as command
+use Rattle.ltm_check_command.specs.declared.refusal.Refusal.{Refusal}
+use Rattle.ltm_check_command.specs.declared.refusal.Refusal.TheVariants as refusal
+use Rattle.ltm_check_command.specs.Checks.{HasMissed}
+use Rattle.ltm_command.specs.Program.{FileFailed, IsMissing}
+
+pub failed : (told : Option Files) (before now : Doc → ℕ) (f : File)
+    → IfSome told (λ files. WasAsked (asks_for files) (fault.Folder f)) → HasRisen before now (fault.Folder f) → FileFailed command.Load told before now
+failed told before now file.Setup asked rose = (doc.Setup, refl, asked, rose)
+failed told before now file.Links asked rose = (doc.Links, refl, asked, rose)
+failed told before now file.Demand asked rose = (doc.Demand, refl, asked, rose)
+failed told before now file.Splits asked rose = (doc.Splits, refl, asked, rose)
+failed told before now file.Signals asked rose = (doc.Signals, refl, asked, rose)
+failed told before now file.Limits asked rose = (doc.Limits, refl, asked, rose)
+failed told before now file.Whole asked rose = absurd rose
+
+pub delay_failed : (told : Option Files) (before now : Doc → ℕ) (f : File)
+    → IfSome told (λ files. WasAsked (asks_for files) (fault.Folder f)) → HasRisen before now (fault.Folder f) → FileFailed command.Delay told before now
+delay_failed told before now f asked rose = failed told before now f asked rose
+
+-- the same of the roads and the demand
+abbrev RoadsFailed : Option Files → (Doc → ℕ) → (Doc → ℕ) → Type 0
+RoadsFailed told before now = (d : Doc) × (is_of_roads d ≡ true) × IfSome told (λ files. is_of_roads d ≡ true) × Rose (before d) (now d)
+
+of_roads : (told : Option Files) (before now : Doc → ℕ) (d : Doc) → is_of_roads d ≡ true → Rose (before d) (now d) → RoadsFailed told before now
+of_roads None before now d is rose = (d, is, tt, rose)
+of_roads (Some files) before now d is rose = (d, is, is, rose)
+
+roads_failed : (told : Option Files) (before now : Doc → ℕ) (f : File) → WasAsked is_of_roads (fault.Folder f) → HasRisen before now (fault.Folder f) → RoadsFailed told before now
+roads_failed told before now file.Setup asked rose = of_roads told before now doc.Setup asked rose
+roads_failed told before now file.Links asked rose = of_roads told before now doc.Links asked rose
+roads_failed told before now file.Demand asked rose = of_roads told before now doc.Demand asked rose
+roads_failed told before now file.Splits asked rose = of_roads told before now doc.Splits asked rose
+roads_failed told before now file.Signals asked rose = of_roads told before now doc.Signals asked rose
+roads_failed told before now file.Limits asked rose = of_roads told before now doc.Limits asked rose
+roads_failed told before now file.Whole asked rose = absurd rose
+
+pub routes_failed : (told : Option Files) (before now : Doc → ℕ) (f : File) → WasAsked is_of_roads (fault.Folder f) → HasRisen before now (fault.Folder f) → FileFailed command.Routes told before now
+routes_failed told before now f asked rose = roads_failed told before now f asked rose
+
+pub times_failed : (told : Option Files) (before now : Doc → ℕ) (f : File) → WasAsked is_of_roads (fault.Folder f) → HasRisen before now (fault.Folder f) → FileFailed command.RouteTimes told before now
+times_failed told before now f asked rose = roads_failed told before now f asked rose
+
+-- of the curve file of a case, and of a check
+pub curves_missed : (told : Option Files) (before now : Doc → ℕ) (e : CaseFault)
+    → IfSome told (λ files. WasAsked (asks_for files) e) → HasRisen before now e → IsMissing (refusal.Case e) → FileFailed command.Curves told before now
+curves_missed told before now (fault.Folder f) asked rose missing = failed told before now f asked rose
+curves_missed told before now (fault.TooLong f) asked rose missing = absurd missing
+curves_missed told before now (fault.Bad f row cause) asked rose missing = absurd missing
+curves_missed told before now fault.NoMemory asked rose missing = absurd missing
+
+pub check_failed : (told : Option Files) (before now : Doc → ℕ) (e : Refusal) → HasMissed told before now e → IsMissing e → FileFailed command.Check told before now
+check_failed told before now (refusal.Case (fault.Folder f)) missed missing = missed
+check_failed told before now (refusal.Case (fault.TooLong f)) missed missing = absurd missing
+check_failed told before now (refusal.Case (fault.Bad f row cause)) missed missing = absurd missing
+check_failed told before now (refusal.Case fault.NoMemory) missed missing = absurd missing
+check_failed told before now refusal.NoCurves missed missing = missed
+check_failed told before now refusal.LongCurves missed missing = absurd missing
+check_failed told before now (refusal.BadCurves row cause) missed missing = absurd missing
+check_failed told before now refusal.NoStart missed missing = absurd missing
+check_failed told before now (refusal.NoStep node slot) missed missing = absurd missing

@@ -1,7 +1,0 @@
-use Rattle.std.proofs.Common.{take}
-use Rattle.ltm_frontier.specs.Frontier.{Activates}
-use Rattle.ltm_desk.specs.Batches.{in_reaches}
-use Rattle.ltm_desk.proofs.batches.mark_reaches.Given as goal
-
-abbrev pub invariant-loop-reach : goal.invariant-loop-reach
-invariant-loop-reach l = Activates l.fn.frontier l.frontier (in_reaches (take l.reach-index l.reaches))

@@ -1,5 +1,0 @@
-use Rattle.ltm_desk.proofs.Batching.{tables_fit}
-use Rattle.ltm_desk.proofs.laws.tables_fit.Goals as goal
-
-pub returns : goal.returns
-returns c = tables_fit

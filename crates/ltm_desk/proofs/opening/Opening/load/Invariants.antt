@@ -1,6 +1,0 @@
-use Rattle.ltm_setting.specs.Setting.{setting_of}
-use Rattle.ltm_desk.specs.Openings.{IsOpenTo}
-use Rattle.ltm_desk.proofs.opening.Opening.load.Given as goal
-
-abbrev pub invariant-loop-slot : goal.invariant-loop-slot
-invariant-loop-slot l = IsOpenTo (setting_of l.scenario) l.opening l.slot

@@ -1,6 +1,0 @@
-use Rattle.ltm_setting.specs.Setting.{setting_of}
-use Rattle.ltm_desk.specs.Openings.{IsOpenAt}
-use Rattle.ltm_desk.proofs.opening.Opening.open_slot.Given as goal
-
-abbrev pub invariant-loop-node : goal.invariant-loop-node
-invariant-loop-node l = IsOpenAt (setting_of l.scenario) l.self l.slot l.node

@@ -1,6 +1,0 @@
-use Rattle.std.proofs.Common.{◌∙◌}
-use Rattle.ltm_desk.proofs.Counting.{cells_are}
-use Rattle.ltm_desk.proofs.table.Table.changed.Goals as goal
-
-pub returns : goal.returns
-returns c = λ s ready. c.count.ensures ∙ cells_are s c.args.self.now ready

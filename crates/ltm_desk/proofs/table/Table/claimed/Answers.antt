@@ -1,6 +1,0 @@
-use Rattle.std.proofs.Common.{◌∙◌}
-use Rattle.ltm_desk.proofs.Counting.{claimed_are}
-use Rattle.ltm_desk.proofs.table.Table.claimed.Goals as goal
-
-pub returns : goal.returns
-returns c = λ s ready. c.claimed.ensures.count ∙ claimed_are s c.args.self.now ready

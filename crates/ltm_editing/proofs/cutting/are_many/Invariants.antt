@@ -1,7 +1,0 @@
-use Rattle.std.proofs.Common.{◌≡◌, drop}
-use Rattle.std.specs.List.{list_any}
-use Rattle.ltm_editing.specs.Files.{has_many}
-use Rattle.ltm_editing.proofs.cutting.are_many.Given as goal
-
-abbrev pub invariant-loop-text : goal.invariant-loop-text
-invariant-loop-text l = list_any has_many l.texts ≡ list_any has_many (drop l.text-index l.texts)

@@ -1,0 +1,83 @@
+-- The files of the roads with their splits are a case, where neither signals nor limits are asked for.
+use Rattle.std.proofs.Common.{ℕ, ◌≡◌, ◌≤◌, true, false, cond, List, length, Option, Some, None, Result, Ok, Err, IfSome, refl, ap, sym, arith, ◌∙◌}
+use Rattle.std.specs.Prelude.{nat_le}
+use Rattle.std.proofs.lemmas.Bool.Decides.{nat_tests}
+use Rattle.ltm_io.specs.declared.doc.Doc.TheVariants as doc
+use Rattle.ltm_io.specs.Folder.{Files}
+use Rattle.ltm_scenario.specs.Data.{ScenarioData}
+use Rattle.ltm_scenario.specs.Build.{◌>>=◌}
+use Rattle.ltm_records.specs.Left.{records_of}
+use Rattle.ltm_casefile.specs.declared.faults.CaseFault.{CaseFault}
+use Rattle.ltm_casefile.specs.declared.faults.CaseFault.TheVariants as fault
+use Rattle.ltm_casefile.specs.declared.faults.File.TheVariants as file
+use Rattle.ltm_casefile.specs.declared.setup.Asked.{Asked}
+use Rattle.ltm_casefile.specs.declared.setup.Opened.{Opened}
+use Rattle.ltm_casefile.specs.declared.tables.Table.TheVariants as table
+use Rattle.ltm_casefile.specs.Setup.{setup_of}
+use Rattle.ltm_casefile.specs.Folder.{sized}
+use Rattle.ltm_casefile.specs.Tables.{with_file}
+use Rattle.ltm_casefile.specs.Case.{CaseTexts, texts_of, filled, whole, CaseParts, opened_of, limit_texts_of, parts_of, built, case_of, asked_by, asks_for}
+use Rattle.ltm_casefile.specs.Roads.{RoadTexts, road_texts_of, roads_filled, roads_in, unsplit_case_of}
+use Rattle.ltm_routes_command.specs.File.{with_splits_file}
+use Rattle.ltm_routes_command.proofs.Cases.{went_well}
+
+-- what the texts of the roads say
+record AreFilled (texts : RoadTexts) (opened : Opened) (roads : ScenarioData) : Type 0 where
+  opens : setup_of (records_of texts.setup) ≡ Ok opened
+  fills : roads_filled opened.scenario texts ≡ Ok roads
+
+roads_there : (texts : RoadTexts) (roads : ScenarioData) → roads_in texts ≡ Ok roads → (opened : Opened) × AreFilled texts opened roads
+unfolding roads_in
+roads_there texts roads is =
+    let a = went_well (setup_of (records_of texts.setup)) _ roads is in
+    (a.0, record { opens = a.1; fills = a.2 })
+
+abbrev case_texts : RoadTexts → List ℕ → CaseTexts
+case_texts texts splits = record { roads = texts; splits = splits }
+
+fits : (text : List ℕ) → length text ≤ 16777216 → sized file.Splits (Some text) ≡ Ok text
+fits text short = let small : nat_le (length text) 16777216 ≡ true = grind (arith, nat_tests) in ap (λ b. cond b (Ok text) (Err (fault.TooLong file.Splits))) small
+
+-- the texts of the roads do not depend on the splits
+same_roads : (files : Files) (text : List ℕ) → road_texts_of (with_splits_file files text) ≡ road_texts_of files
+unfolding road_texts_of
+same_roads files text = refl
+
+texts_are : (files : Files) (texts : RoadTexts) (text : List ℕ) → road_texts_of files ≡ Ok texts → length text ≤ 16777216 → texts_of (with_splits_file files text) ≡ Ok (case_texts texts text)
+unfolding texts_of
+texts_are files texts text are short = rw (same_roads files text, are, fits text short) refl
+
+opened_is : (files : Files) (texts : CaseTexts) (opened : Opened) → texts_of files ≡ Ok texts → setup_of (records_of texts.roads.setup) ≡ Ok opened → opened_of files ≡ Ok opened
+opened_is files texts opened there is = ap (λ r. r >>= λ t. setup_of (records_of t.roads.setup)) there ∙ is
+
+parts_are : (files : Files) (texts : CaseTexts) (opened : Opened) → texts_of files ≡ Ok texts → setup_of (records_of texts.roads.setup) ≡ Ok opened → opened.asked.signals ≡ false → opened.asked.limits ≡ false
+    → parts_of files ≡ Ok (record { scenario = opened.scenario; texts = texts; limits = record { signals = None; limits = None } })
+unfolding parts_of limit_texts_of
+parts_are files texts opened there is signals limits = rw (there, is, signals, limits) refl
+
+filled_is : (texts : RoadTexts) (text : List ℕ) (opened : Opened) (roads split : ScenarioData) → AreFilled texts opened roads → with_file table.Splits roads text ≡ Ok split
+    → filled opened.scenario (case_texts texts text) (record { signals = None; limits = None }) ≡ Ok split
+unfolding filled
+filled_is texts text opened roads split are read = rw (are.fills, read) refl
+
+pub whole_case : (files : Files) (text : List ℕ) (roads split : ScenarioData) → unsplit_case_of files ≡ Ok roads → with_file table.Splits roads text ≡ Ok split → whole split ≡ Ok split
+    → length text ≤ 16777216 → asks_for (with_splits_file files text) doc.Signals ≡ false → asks_for (with_splits_file files text) doc.Limits ≡ false → case_of (with_splits_file files text) ≡ Ok split
+whole_case files text roads split said read valid short unsignalled unlimited =
+    let a = went_well (road_texts_of files) roads_in roads said in
+    let texts : RoadTexts = a.0 in
+    let b = roads_there texts roads a.2 in
+    let opened : Opened = b.0 in
+    let there : texts_of (with_splits_file files text) ≡ Ok (case_texts texts text) = texts_are files texts text a.1 short in
+    let opens : setup_of (records_of texts.setup) ≡ Ok opened = b.1.opens in
+    let asked : asked_by (opened_of (with_splits_file files text)) ≡ opened.asked = ap asked_by (opened_is (with_splits_file files text) (case_texts texts text) opened there opens) in
+    let signals : opened.asked.signals ≡ false = sym (ap (λ (a : Asked). a.signals) asked) ∙ unsignalled in
+    let limits : opened.asked.limits ≡ false = sym (ap (λ (a : Asked). a.limits) asked) ∙ unlimited in
+    ap (λ (r : Result CaseParts CaseFault). r >>= λ parts. built parts) (parts_are (with_splits_file files text) (case_texts texts text) opened there opens signals limits)
+    ∙ ap (λ (r : Result ScenarioData CaseFault). r >>= λ s. whole s) (filled_is texts text opened roads split b.1 read)
+    ∙ valid
+
+-- the same, where the folder tells its files
+pub whole_case_told : (told : Option Files) (text : List ℕ) (roads split : ScenarioData) → IfSome told (λ files. unsplit_case_of files ≡ Ok roads) → with_file table.Splits roads text ≡ Ok split → whole split ≡ Ok split
+    → length text ≤ 16777216 → IfSome told (λ files. asks_for (with_splits_file files text) doc.Signals ≡ false → asks_for (with_splits_file files text) doc.Limits ≡ false → case_of (with_splits_file files text) ≡ Ok split)
+whole_case_told None text roads split said read valid short = tt
+whole_case_told (Some files) text roads split said read valid short = λ unsignalled unlimited. whole_case files text roads split said read valid short unsignalled unlimited

@@ -1,4 +1,0 @@
-use Rattle.ltm_texts.proofs.texts.run_command.Goals as goal
-
-pub returns-in-Curves : goal.returns-in-Curves
-returns-in-Curves g c = λ left read_faults. rw c.in-Curves.is (c.run_curves.ensures left read_faults)

@@ -1,9 +1,0 @@
-use Rattle.std.proofs.Common.{rules}
-use denote.Param.Send.{sendable}
-use Rattle.std.proofs.Crossing.{crosses}
-use Rattle.ltm_viewing.proofs.news.News.TheSendSync as news
-use Rattle.ltm_viewing.proofs.Sent.{watches_send}
-use Rattle.ltm_viewing.proofs.viewing.serve_beside.Goals as goal
-
-pub join_mut-looked-requires-send-F : goal.join_mut-looked-requires-send-F
-join_mut-looked-requires-send-F g c κs within = search (rules, sendable, crosses, watches_send, news.the_sync) depth 30

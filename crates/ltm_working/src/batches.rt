@@ -1,0 +1,52 @@
+//! The pairs that a batch touches become active, and those of new slots.
+ghost use Rattle.std.specs.Prelude.{◌≡◌, ◌<◌, ◌≤◌, nat_le, All};
+ghost use Rattle.ltm_setting.specs.Setting.{setting_of};
+ghost use Rattle.ltm_frontier.specs.Frontier.{Activates};
+ghost use Rattle.ltm_pairs.specs.Adding.{IsFrom};
+ghost use Rattle.ltm_pairs.specs.Touched.{is_touched};
+ghost use Rattle.ltm_working.specs.Ready.{HasPairs};
+ghost use Rattle.ltm_working.specs.Batches.{in_reaches};
+
+use ltm_frontier::Frontier;
+use ltm_pairs::{Spread, touched};
+use ltm_scenario::{Edit, Scenario};
+use ltm_setting::{node_count, slot_count};
+use ltm_units::{NodeId, Reach};
+
+/// Marks the pairs of reaches.
+fn mark_reaches(scenario: &Scenario, frontier: &mut Frontier, reaches: &[Reach])
+    requires pairs { HasPairs (setting_of scenario.now) frontier.old }
+    requires there { All (IsFrom (setting_of scenario.now) 0) reaches.now }
+    ensures { Activates frontier.old frontier.new (in_reaches reaches.now) }
+{
+    for reach in reaches {
+        frontier.mark_range(*reach);
+    }
+}
+
+/// Marks the pairs that edits touch.
+pub(crate) fn mark_touched(scenario: &Scenario, frontier: &mut Frontier, edits: &[Edit])
+    requires { HasPairs (setting_of scenario.now) frontier.old }
+    ensures { Activates frontier.old frontier.new (is_touched scenario.now edits.now) }
+{
+    let mut spread = Spread::new();
+    for edit in edits {
+        touched(scenario, edit, &mut spread);
+        mark_reaches(scenario, frontier, spread.reaches());
+    }
+}
+
+/// Marks the pairs of a slot and of all later ones.
+pub(crate) fn mark_from(scenario: &Scenario, frontier: &mut Frontier, from: u32)
+    requires { HasPairs (setting_of scenario.now) frontier.old }
+    ensures { Activates frontier.old frontier.new (λ u t. nat_le from t) }
+{
+    let to = slot_count(scenario);
+    for node in 0..node_count(scenario) {
+        frontier.mark_range(Reach {
+            node: NodeId(node),
+            from,
+            to,
+        });
+    }
+}

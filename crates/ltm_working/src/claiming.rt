@@ -1,0 +1,283 @@
+//! The search for a pair to be worked on.
+//!
+//! Pairs are claimed slot by slot, from the front on: what a pair of the front slot reads is final. A pair that is active
+//! and reads what is kept of it is dropped on the way.
+ghost use Rattle.std.specs.Prelude.{◌≡◌, ◌<◌, ◌≤◌, ℕ, MatchOption, IfSome, IsTrue, IsFalse, true};
+ghost use Rattle.ltm_node.specs.Solvable.{IsSolvable};
+ghost use Rattle.ltm_loading.specs.Pairs.{shape_at};
+ghost use Rattle.ltm_setting.specs.Setting.{setting_of};
+ghost use Rattle.ltm_frontier.specs.Frontier.{is_active};
+ghost use Rattle.ltm_repair.specs.Answers.{HasClaimAt, IsNoneClaimed};
+ghost use Rattle.ltm_repair.specs.Desk.{IsSettled, IsIdleBefore, IsAtRest};
+ghost use Rattle.ltm_repair.specs.Moves.{DropsSettled, TakesClaim};
+ghost use Rattle.ltm_repair.specs.Index.{IsPlaced};
+ghost use Rattle.ltm_working.specs.Searching.{AnswersSearch, FitsFound, IsFound, Finds, answer_of};
+
+use crate::found::Found;
+use crate::places::place_pair;
+use crate::table::Table;
+use ltm_inputs::{count_in, uncounted_of};
+use ltm_node::NodeInputs;
+use ltm_rows::parts_of;
+use ltm_scenario::Scenario;
+use ltm_setting::{is_setting, node_count, slot_count};
+use ltm_units::{NodeId, Pair};
+
+impl Table {
+    ghost use Rattle.ltm_working.specs.Desks.{desk_at, changed_at, place_of};
+    ghost use Rattle.ltm_working.specs.Ready.{IsReady};
+    ghost use Rattle.ltm_working.specs.Dropping.{DropsOne, DropsAt, IsWork, HasWork, NoneActive, SameWorkAs};
+
+    /// Reads the inputs of an active pair at the front but for its counts, and places its positions; whether the inputs are
+    /// the kept ones.
+    fn look_at(&mut self, scenario: &Scenario, pair: Pair, inputs: &mut NodeInputs) -> bool
+        requires ready { IsReady (setting_of scenario.now) self.old }
+        requires node { pair.node.0 < (setting_of scenario.now).nodes }
+        requires slot { pair.slot < (setting_of scenario.now).slots }
+        requires idle { IsIdleBefore (setting_of scenario.now)
+            (desk_at (setting_of scenario.now) self.old) pair.slot }
+        requires active { is_active self.old.frontier pair.node.0 pair.slot ≡ true }
+        requires room { 1162 ≤ inputs.old.room }
+        ensures ready { IsReady (setting_of scenario.now) self.new }
+        ensures desk { desk_at (setting_of scenario.now) self.new
+            ≡ desk_at (setting_of scenario.now) self.old }
+        ensures same { self.new ≡ record self.old { index = self.new.index } }
+        ensures placed { IsPlaced (setting_of scenario.now)
+            (desk_at (setting_of scenario.now) self.new)
+            (place_of self.new.index) pair.node.0 pair.slot }
+        ensures settled { IsTrue result
+            → IsSettled (setting_of scenario.now)
+            (desk_at (setting_of scenario.now) self.new) pair.node.0 pair.slot }
+        ensures work { IsFalse result
+            → IsWork (setting_of scenario.now)
+            (desk_at (setting_of scenario.now) self.new) pair.node.0 pair.slot inputs.new }
+        ensures room { inputs.new.room ≡ inputs.old.room }
+    {
+        is_setting(scenario);
+        let mut positions = [0u32; 4];
+        uncounted_of(scenario, &self.curves, pair, inputs, &mut positions);
+        place_pair(scenario, &self.curves, pair, &positions, &mut self.index);
+        self.kept
+            .keeps(pair.node.0 as usize, pair.slot as usize, parts_of(inputs))
+    }
+
+    /// Drops an active pair that is settled and placed.
+    fn drop_settled(&mut self, scenario: &Scenario, pair: Pair)
+        requires ready { IsReady (setting_of scenario.now) self.old }
+        requires node { pair.node.0 < (setting_of scenario.now).nodes }
+        requires slot { pair.slot < (setting_of scenario.now).slots }
+        requires idle { IsIdleBefore (setting_of scenario.now)
+            (desk_at (setting_of scenario.now) self.old) pair.slot }
+        requires active { is_active self.old.frontier pair.node.0 pair.slot ≡ true }
+        requires settled { IsSettled (setting_of scenario.now)
+            (desk_at (setting_of scenario.now) self.old) pair.node.0 pair.slot }
+        requires placed { IsPlaced (setting_of scenario.now)
+            (desk_at (setting_of scenario.now) self.old)
+            (place_of self.old.index) pair.node.0 pair.slot }
+        ensures ready { IsReady (setting_of scenario.now) self.new }
+        ensures drops { DropsOne (setting_of scenario.now)
+            (desk_at (setting_of scenario.now) self.old) pair.node.0 pair.slot
+            (desk_at (setting_of scenario.now) self.new) }
+        ensures same { SameWorkAs self.old self.new }
+    {
+        self.frontier.unmark(pair);
+    }
+
+    /// The first active pair of a slot whose inputs differ from the kept ones, with its inputs but for the counts. Settled
+    /// pairs before it are dropped; where there is none, all active pairs of the slot.
+    fn find_at(&mut self, scenario: &Scenario, slot: u32, inputs: &mut NodeInputs) -> Option<NodeId>
+        requires ready { IsReady (setting_of scenario.now) self.old }
+        requires slot { slot < (setting_of scenario.now).slots }
+        requires idle { IsIdleBefore (setting_of scenario.now)
+            (desk_at (setting_of scenario.now) self.old) slot }
+        requires room { 1162 ≤ inputs.old.room }
+        ensures ready { IsReady (setting_of scenario.now) self.new }
+        ensures drops { DropsAt (setting_of scenario.now)
+            (desk_at (setting_of scenario.now) self.old) slot
+            (desk_at (setting_of scenario.now) self.new) }
+        ensures found { MatchOption result
+            (NoneActive (desk_at (setting_of scenario.now) self.new) slot
+            (setting_of scenario.now).nodes)
+            (λ node. IsWork (setting_of scenario.now)
+            (desk_at (setting_of scenario.now) self.new) node.0 slot inputs.new) }
+        ensures placed { IfSome result (λ node. IsPlaced (setting_of scenario.now)
+            (desk_at (setting_of scenario.now) self.new) (place_of self.new.index) node.0 slot) }
+        ensures same { SameWorkAs self.old self.new }
+        ensures room { inputs.new.room ≡ inputs.old.room }
+    {
+        is_setting(scenario);
+        let nodes = node_count(scenario);
+        let mut from = NodeId(0);
+        while from.0 < nodes {
+            let Some(node) = self.frontier.next_active(slot, from) else {
+                return None;
+            };
+            let pair = Pair { node, slot };
+            if !self.look_at(scenario, pair, inputs) {
+                return Some(node);
+            }
+            self.drop_settled(scenario, pair);
+            from = NodeId(node.0 + 1);
+        }
+        None
+    }
+
+    /// Claims a pair that was found, whose counts are written into its inputs.
+    fn take(&mut self, scenario: &Scenario, pair: Pair, inputs: &mut NodeInputs)
+        requires ready { IsReady (setting_of scenario.now) self.old }
+        requires found { IsFound (setting_of scenario.now) self.old pair.node.0 pair.slot inputs.old }
+        ensures ready { IsReady (setting_of scenario.now) self.new }
+        ensures takes { TakesClaim (setting_of scenario.now)
+            (desk_at (setting_of scenario.now) self.old) pair.node.0 pair.slot inputs.new.row
+            (desk_at (setting_of scenario.now) self.new) }
+        ensures changed { changed_at (setting_of scenario.now) self.new
+            ≡ changed_at (setting_of scenario.now) self.old }
+        ensures shape { inputs.new.shape ≡ shape_at (setting_of scenario.now) pair.node.0 }
+        ensures solvable { IsSolvable inputs.new }
+        ensures room { inputs.new.room ≡ inputs.old.room }
+    {
+        is_setting(scenario);
+        count_in(scenario, &self.curves, pair, inputs);
+        self.claims.put(pair.node.0 as usize, inputs.row());
+        self.frontier.claim_mark(pair);
+    }
+
+    /// The first pair to be worked on at the slot of the claims that are out, if there is one yet.
+    fn find_beside(&mut self, scenario: &Scenario, slot: u32, inputs: &mut NodeInputs) -> Found
+        requires ready { IsReady (setting_of scenario.now) self.old }
+        requires out { HasClaimAt (setting_of scenario.now)
+            (desk_at (setting_of scenario.now) self.old) slot }
+        requires room { 1162 ≤ inputs.old.room }
+        ensures ready { IsReady (setting_of scenario.now) self.new }
+        ensures finds { Finds (setting_of scenario.now)
+            (desk_at (setting_of scenario.now) self.old) result inputs.new self.new }
+        ensures same { SameWorkAs self.old self.new }
+        ensures room { inputs.new.room ≡ inputs.old.room }
+    {
+        match self.find_at(scenario, slot, inputs) {
+            Some(node) => return Found::Work(Pair { node, slot }),
+            None => return Found::Wait,
+        }
+    }
+
+    /// The first pair to be worked on, from a slot on before which every pair is idle, where none is claimed.
+    fn first_work(
+        &mut self,
+        scenario: &Scenario,
+        front: u32,
+        inputs: &mut NodeInputs,
+    ) -> Option<Pair>
+        requires ready { IsReady (setting_of scenario.now) self.old }
+        requires front { front ≤ (setting_of scenario.now).slots }
+        requires idle { IsIdleBefore (setting_of scenario.now)
+            (desk_at (setting_of scenario.now) self.old) front }
+        requires none { IsNoneClaimed (setting_of scenario.now)
+            (desk_at (setting_of scenario.now) self.old) }
+        requires room { 1162 ≤ inputs.old.room }
+        ensures ready { IsReady (setting_of scenario.now) self.new }
+        ensures drops { DropsSettled (setting_of scenario.now)
+            (desk_at (setting_of scenario.now) self.old)
+            (desk_at (setting_of scenario.now) self.new) }
+        ensures found { MatchOption result
+            (IsAtRest (setting_of scenario.now) (desk_at (setting_of scenario.now) self.new))
+            (λ pair. HasWork (setting_of scenario.now)
+            (desk_at (setting_of scenario.now) self.new) pair.node.0 pair.slot inputs.new) }
+        ensures placed { IfSome result
+            (λ pair. IsPlaced (setting_of scenario.now) (desk_at (setting_of scenario.now) self.new)
+            (place_of self.new.index) pair.node.0 pair.slot) }
+        ensures same { SameWorkAs self.old self.new }
+        ensures room { inputs.new.room ≡ inputs.old.room }
+    {
+        for slot in front..slot_count(scenario) {
+            if let Some(node) = self.find_at(scenario, slot, inputs) {
+                return Some(Pair { node, slot });
+            }
+        }
+        None
+    }
+
+    /// The first pair to be worked on, where none is claimed.
+    fn find_first(&mut self, scenario: &Scenario, front: u32, inputs: &mut NodeInputs) -> Found
+        requires ready { IsReady (setting_of scenario.now) self.old }
+        requires front { front ≤ (setting_of scenario.now).slots }
+        requires idle { IsIdleBefore (setting_of scenario.now)
+            (desk_at (setting_of scenario.now) self.old) front }
+        requires none { IsNoneClaimed (setting_of scenario.now)
+            (desk_at (setting_of scenario.now) self.old) }
+        requires room { 1162 ≤ inputs.old.room }
+        ensures ready { IsReady (setting_of scenario.now) self.new }
+        ensures finds { Finds (setting_of scenario.now)
+            (desk_at (setting_of scenario.now) self.old) result inputs.new self.new }
+        ensures same { SameWorkAs self.old self.new }
+        ensures room { inputs.new.room ≡ inputs.old.room }
+    {
+        match self.first_work(scenario, front, inputs) {
+            Some(pair) => return Found::Work(pair),
+            None => return Found::Rest,
+        }
+    }
+
+    /// The least slot of a pair that is active or claimed, or the horizon. It is not sought below that slot again until a
+    /// pair there becomes active.
+    fn front(&mut self, scenario: &Scenario) -> u32
+        requires { IsReady (setting_of scenario.now) self.old }
+        ensures ready { IsReady (setting_of scenario.now) self.new }
+        ensures within { result ≤ (setting_of scenario.now).slots }
+        ensures idle { IsIdleBefore (setting_of scenario.now)
+            (desk_at (setting_of scenario.now) self.new) result }
+        ensures claims { (v : ℕ)
+            → HasClaimAt (setting_of scenario.now) (desk_at (setting_of scenario.now) self.new) v
+            → v ≡ result }
+        ensures desk { desk_at (setting_of scenario.now) self.new
+            ≡ desk_at (setting_of scenario.now) self.old }
+        ensures same { SameWorkAs self.old self.new }
+    {
+        match self.frontier.advance() {
+            Some(slot) => return slot,
+            None => return slot_count(scenario),
+        }
+    }
+
+    /// A pair of the front slot whose inputs differ from the kept ones, with its inputs but for the counts, for which there is
+    /// room for 1,162 numbers. Settled pairs that it passes are dropped; while claims are out, at their slot alone.
+    pub(crate) fn find(&mut self, scenario: &Scenario, inputs: &mut NodeInputs) -> Found
+        requires ready { IsReady (setting_of scenario.now) self.old }
+        requires room { 1162 ≤ inputs.old.room }
+        ensures ready { IsReady (setting_of scenario.now) self.new }
+        ensures finds { Finds (setting_of scenario.now)
+            (desk_at (setting_of scenario.now) self.old) result inputs.new self.new }
+        ensures changed { changed_at (setting_of scenario.now) self.new
+            ≡ changed_at (setting_of scenario.now) self.old }
+        ensures room { inputs.new.room ≡ inputs.old.room }
+    {
+        let front = self.front(scenario);
+        if self.frontier.claimed() > 0 {
+            return self.find_beside(scenario, front, inputs);
+        }
+        self.find_first(scenario, front, inputs)
+    }
+
+    /// Claims a pair of the front slot whose inputs differ from the kept ones, and writes its inputs, for which there is
+    /// room for 1,162 numbers. Settled pairs that it passes are dropped; while claims are out, at their slot alone.
+    pub fn claim(&mut self, scenario: &Scenario, inputs: &mut NodeInputs) -> Found
+        requires ready { IsReady (setting_of scenario.now) self.old }
+        requires room { 1162 ≤ inputs.old.room }
+        ensures ready { IsReady (setting_of scenario.now) self.new }
+        ensures answer { (ticket : ℕ)
+            → AnswersSearch (setting_of scenario.now) (desk_at (setting_of scenario.now) self.old)
+            (answer_of ticket result inputs.new.row) (desk_at (setting_of scenario.now) self.new) }
+        ensures fits { FitsFound (setting_of scenario.now) result inputs.new }
+        ensures room { inputs.new.room ≡ inputs.old.room }
+        ensures changed { changed_at (setting_of scenario.now) self.new
+            ≡ changed_at (setting_of scenario.now) self.old }
+    {
+        match self.find(scenario, inputs) {
+            Found::Work(pair) => {
+                self.take(scenario, pair, inputs);
+                return Found::Work(pair);
+            }
+            Found::Wait => return Found::Wait,
+            Found::Rest => return Found::Rest,
+        }
+    }
+}

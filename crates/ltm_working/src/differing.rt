@@ -1,0 +1,292 @@
+//! Counts of a pair are set where they differ from those that stand, and the cells that change are noted.
+//!
+//! They are given as they are, or as what has moved since the slot's beginning: then they are those of the slot's beginning
+//! and what has moved, which are nowhere written but where they are set. Of one, two and four numbers, as with so many
+//! destinations, they are made without a loop.
+ghost use Rattle.std.specs.Prelude.{◌≡◌, ◌==◌, ◌&&◌, ◌+◌, ◌<◌, ◌≤◌, ◌^◌, ℕ, length, slice_index, None};
+ghost use Rattle.ltm_curve.specs.Table.{groups_of, destinations_of, slots_of, counts_of, SetsRow};
+ghost use Rattle.ltm_curve.specs.Cells.{HasCells};
+ghost use Rattle.ltm_loading.specs.Groups.{arr_of, groups};
+ghost use Rattle.ltm_loading.specs.Pairs.{arrived_by};
+ghost use Rattle.ltm_setting.specs.Setting.{setting_of};
+ghost use Rattle.ltm_loading.specs.Shaped.{IsShaped};
+ghost use Rattle.ltm_flows.specs.Applying.{SetsSink};
+ghost use Rattle.ltm_frontier.specs.Frontier.{is_pair};
+ghost use Rattle.ltm_working.specs.declared.step_form.StepForm.TheVariants.{Moved};
+ghost use Rattle.ltm_working.specs.Counted.{counted_number, counted_row};
+ghost use Rattle.ltm_working.specs.Waking.{row_differs, sink_differs, PutsCells};
+
+use crate::step_form::StepForm;
+use ltm_curve::{Changed, Curves};
+use ltm_rows::same_numbers;
+use ltm_scenario::Scenario;
+use ltm_setting::{arr_of, destination_at};
+use ltm_units::Pair;
+
+/// Sets the counts of a group at a boundary, and no others; whether some count was another one. If so the cell is noted as
+/// changed, and else nothing is written: of the groups of a pair that is worked on again about half have the counts that
+/// they had.
+#[inline]
+fn renew_row(
+    curves: &mut Curves,
+    changed: &mut Changed,
+    group: u32,
+    boundary: u32,
+    counts: &[u64],
+) -> bool
+    requires group { group < groups_of curves.old }
+    requires boundary { boundary ≤ slots_of curves.old }
+    requires count { length counts.now ≡ destinations_of curves.old }
+    requires small { (d : ℕ) → d < length counts.now → slice_index counts.now d < 2 ^ 31 }
+    requires cells { HasCells changed.old (groups_of curves.old) (slots_of curves.old) }
+    ensures value { result
+        ≡ row_differs (destinations_of curves.old) (counts_of curves.old) group boundary
+        (slice_index counts.now) }
+    ensures sets { SetsRow curves.old curves.new group boundary counts.now }
+    ensures cells { PutsCells changed.old changed.new
+        (λ g k. result && is_pair group boundary g k) }
+{
+    if same_numbers(curves.row(group, boundary), counts) {
+        return false;
+    }
+    curves.set_row(group, boundary, counts);
+    changed.put(group, boundary);
+    true
+}
+
+/// The same, for counts that are given. Kept out of line, so that counts that are made of moves are set in line.
+#[inline(never)]
+fn renew_counts(
+    curves: &mut Curves,
+    changed: &mut Changed,
+    group: u32,
+    boundary: u32,
+    counts: &[u64],
+) -> bool
+    requires group { group < groups_of curves.old }
+    requires boundary { boundary ≤ slots_of curves.old }
+    requires count { length counts.now ≡ destinations_of curves.old }
+    requires small { (d : ℕ) → d < length counts.now → slice_index counts.now d < 2 ^ 31 }
+    requires cells { HasCells changed.old (groups_of curves.old) (slots_of curves.old) }
+    ensures value { result
+        ≡ row_differs (destinations_of curves.old) (counts_of curves.old) group boundary
+        (slice_index counts.now) }
+    ensures sets { SetsRow curves.old curves.new group boundary counts.now }
+    ensures cells { PutsCells changed.old changed.new
+        (λ g k. result && is_pair group boundary g k) }
+{
+    renew_row(curves, changed, group, boundary, counts)
+}
+
+/// Writes counts and what has moved onto them.
+fn write_sums(before: &[u32], moves: &[u64], into: &mut [u64])
+    requires before { length before.now ≡ length into.old }
+    requires moves { length moves.now ≡ length into.old }
+    requires small { (i : ℕ) → i < length into.old
+        → slice_index before.now i + slice_index moves.now i < 2 ^ 64 }
+    ensures { (i : ℕ) → i < length into.new
+        → slice_index into.new i ≡ slice_index before.now i + slice_index moves.now i }
+{
+    for place in 0..into.len() {
+        into[place] = u64::from(before[place]) + moves[place];
+    }
+}
+
+/// Sets the counts of a group at a slot's end to those of its beginning and what has moved, which are written into a room
+/// first; whether some count was another one.
+fn renew_in(
+    curves: &mut Curves,
+    changed: &mut Changed,
+    group: u32,
+    slot: u32,
+    moves: &[u64],
+    room: &mut [u64],
+) -> bool
+    requires group { group < groups_of curves.old }
+    requires slot { slot < slots_of curves.old }
+    requires count { length moves.now ≡ destinations_of curves.old }
+    requires small { (d : ℕ) → d < length moves.now
+        → counts_of curves.old group d slot + slice_index moves.now d < 2 ^ 31 }
+    requires cells { HasCells changed.old (groups_of curves.old) (slots_of curves.old) }
+    requires room { length moves.now ≤ length room.old }
+    ensures value { result
+        ≡ row_differs (destinations_of curves.old) (counts_of curves.old) group (slot + 1)
+        (slice_index (counted_row Moved (counts_of curves.old) group slot moves.now)) }
+    ensures sets { SetsRow curves.old curves.new group (slot + 1)
+        (counted_row Moved (counts_of curves.old) group slot moves.now) }
+    ensures cells { PutsCells changed.old changed.new (λ g k. result && is_pair group (slot
+        + 1) g k) }
+{
+    let counts = &mut room[..moves.len()];
+    write_sums(curves.row(group, slot), moves, counts);
+    renew_row(curves, changed, group, slot + 1, counts)
+}
+
+/// The same for any count of destinations, and with four without a loop. Kept out of line.
+#[inline(never)]
+fn renew_many(
+    curves: &mut Curves,
+    changed: &mut Changed,
+    group: u32,
+    slot: u32,
+    moves: &[u64],
+) -> bool
+    requires group { group < groups_of curves.old }
+    requires slot { slot < slots_of curves.old }
+    requires count { length moves.now ≡ destinations_of curves.old }
+    requires small { (d : ℕ) → d < length moves.now
+        → counts_of curves.old group d slot + slice_index moves.now d < 2 ^ 31 }
+    requires cells { HasCells changed.old (groups_of curves.old) (slots_of curves.old) }
+    ensures value { result
+        ≡ row_differs (destinations_of curves.old) (counts_of curves.old) group (slot + 1)
+        (slice_index (counted_row Moved (counts_of curves.old) group slot moves.now)) }
+    ensures sets { SetsRow curves.old curves.new group (slot + 1)
+        (counted_row Moved (counts_of curves.old) group slot moves.now) }
+    ensures cells { PutsCells changed.old changed.new (λ g k. result && is_pair group (slot
+        + 1) g k) }
+{
+    let _most = curves.destinations();
+    if moves.len() == 4 {
+        let before = curves.row(group, slot);
+        let first = u64::from(before[0]) + moves[0];
+        let second = u64::from(before[1]) + moves[1];
+        let third = u64::from(before[2]) + moves[2];
+        let fourth = u64::from(before[3]) + moves[3];
+        return renew_row(
+            curves,
+            changed,
+            group,
+            slot + 1,
+            &[first, second, third, fourth],
+        );
+    }
+    if moves.len() <= 8 {
+        return renew_in(curves, changed, group, slot, moves, &mut [0; 8]);
+    }
+    renew_in(curves, changed, group, slot, moves, &mut [0; 64])
+}
+
+/// The same, with one and with two destinations without a loop.
+#[inline]
+fn renew_moves(
+    curves: &mut Curves,
+    changed: &mut Changed,
+    group: u32,
+    slot: u32,
+    moves: &[u64],
+) -> bool
+    requires group { group < groups_of curves.old }
+    requires slot { slot < slots_of curves.old }
+    requires count { length moves.now ≡ destinations_of curves.old }
+    requires small { (d : ℕ) → d < length moves.now
+        → counts_of curves.old group d slot + slice_index moves.now d < 2 ^ 31 }
+    requires cells { HasCells changed.old (groups_of curves.old) (slots_of curves.old) }
+    ensures value { result
+        ≡ row_differs (destinations_of curves.old) (counts_of curves.old) group (slot + 1)
+        (slice_index (counted_row Moved (counts_of curves.old) group slot moves.now)) }
+    ensures sets { SetsRow curves.old curves.new group (slot + 1)
+        (counted_row Moved (counts_of curves.old) group slot moves.now) }
+    ensures cells { PutsCells changed.old changed.new (λ g k. result && is_pair group (slot
+        + 1) g k) }
+{
+    let before = curves.row(group, slot);
+    if moves.len() == 2 {
+        let first = u64::from(before[0]) + moves[0];
+        let second = u64::from(before[1]) + moves[1];
+        return renew_row(curves, changed, group, slot + 1, &[first, second]);
+    }
+    if moves.len() == 1 {
+        let only = u64::from(before[0]) + moves[0];
+        return renew_row(curves, changed, group, slot + 1, &[only]);
+    }
+    renew_many(curves, changed, group, slot, moves)
+}
+
+/// Sets the counts of a group at a slot's end, and no others; whether some count was another one. If so the cell is noted as
+/// changed, and else nothing is written.
+#[inline]
+pub(crate) fn renew(
+    curves: &mut Curves,
+    changed: &mut Changed,
+    group: u32,
+    slot: u32,
+    given: StepForm,
+    numbers: &[u64],
+) -> bool
+    requires group { group < groups_of curves.old }
+    requires slot { slot < slots_of curves.old }
+    requires count { length numbers.now ≡ destinations_of curves.old }
+    requires small { (d : ℕ) → d < length numbers.now → slice_index
+        (counted_row given (counts_of curves.old) group slot numbers.now) d < 2 ^ 31 }
+    requires cells { HasCells changed.old (groups_of curves.old) (slots_of curves.old) }
+    ensures value { result
+        ≡ row_differs (destinations_of curves.old) (counts_of curves.old) group (slot + 1)
+        (slice_index (counted_row given (counts_of curves.old) group slot numbers.now)) }
+    ensures sets { SetsRow curves.old curves.new group (slot + 1)
+        (counted_row given (counts_of curves.old) group slot numbers.now) }
+    ensures cells { PutsCells changed.old changed.new (λ g k. result && is_pair group (slot
+        + 1) g k) }
+{
+    match given {
+        StepForm::Counted => return renew_counts(curves, changed, group, slot + 1, numbers),
+        StepForm::Moved => return renew_moves(curves, changed, group, slot, numbers),
+    }
+}
+
+/// A count at a slot's end, which was another at its beginning.
+#[inline]
+fn count_of(given: StepForm, before: u64, number: u64) -> u64
+    requires { counted_number given before number < 2 ^ 64 }
+    ensures { result ≡ counted_number given before number }
+{
+    match given {
+        StepForm::Counted => number,
+        StepForm::Moved => before + number,
+    }
+}
+
+/// Sets what has arrived at a node by a slot's end, where it is a destination; whether it was another number. If so the cell
+/// is noted as changed.
+pub(crate) fn renew_sink(
+    scenario: &Scenario,
+    curves: &mut Curves,
+    changed: &mut Changed,
+    pair: Pair,
+    given: StepForm,
+    arrived: u64,
+) -> bool
+    requires slot { pair.slot < (setting_of scenario.now).slots }
+    requires shape { IsShaped (setting_of scenario.now) curves.old }
+    requires small { counted_number given
+        (arrived_by (setting_of scenario.now) (counts_of curves.old)
+        ((setting_of scenario.now).own pair.node.0) pair.slot) arrived < 2 ^ 31 }
+    requires no_sink { (setting_of scenario.now).own pair.node.0 ≡ None → arrived ≡ 0 }
+    requires cells { HasCells changed.old (groups (setting_of scenario.now))
+        (setting_of scenario.now).slots }
+    ensures value { result
+        ≡ sink_differs (setting_of scenario.now) (counts_of curves.old)
+        ((setting_of scenario.now).own pair.node.0) (pair.slot + 1)
+        (counted_number given (arrived_by (setting_of scenario.now) (counts_of curves.old)
+        ((setting_of scenario.now).own pair.node.0) pair.slot) arrived) }
+    ensures shape { IsShaped (setting_of scenario.now) curves.new }
+    ensures sets { SetsSink (setting_of scenario.now) pair.node.0 (pair.slot + 1)
+        (counted_number given (arrived_by (setting_of scenario.now) (counts_of curves.old)
+        ((setting_of scenario.now).own pair.node.0) pair.slot) arrived)
+        (counts_of curves.old) (counts_of curves.new) }
+    ensures cells { PutsCells changed.old changed.new
+        (λ g k. result && is_pair (arr_of (setting_of scenario.now)) (pair.slot + 1) g k) }
+{
+    let Some(destination) = destination_at(scenario, pair.node) else {
+        return false;
+    };
+    let group = arr_of(scenario);
+    let boundary = pair.slot + 1;
+    let before = curves.get(group, destination, pair.slot);
+    let count = count_of(given, before, arrived);
+    if curves.get(group, destination, boundary) == count {
+        return false;
+    }
+    curves.set(group, destination, boundary, count);
+    changed.put(group, boundary);
+    true
+}

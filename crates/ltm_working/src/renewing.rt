@@ -1,0 +1,219 @@
+//! The counts of a commit are set, its readers become active, and the cells that it changes are noted.
+//!
+//! All is done in one pass over the groups of the node: each row is compared once, with the one that is to be set, which is
+//! given as it is or as what has moved in the slot (`Given`). Where a row differs it is written, its cell is noted, and the
+//! tail or the head of the link wakes in the slots that read it. Where any row differs the node's own next slot wakes, and
+//! what was kept of it is forgotten: its counts are not those of its slot's beginning any more.
+ghost use Rattle.std.specs.Prelude.{◌≡◌, ◌&&◌, ◌+◌, ◌^◌, ◌<◌, ◌≤◌, ℕ, slice_index, false, None};
+ghost use Rattle.ltm_curve.specs.Table.{counts_of};
+ghost use Rattle.ltm_curve.specs.Cells.{HasCells};
+ghost use Rattle.ltm_loading.specs.Groups.{dep_of, groups};
+ghost use Rattle.ltm_loading.specs.Pairs.{shape_at};
+ghost use Rattle.ltm_loading.specs.NextPair.{Applies};
+ghost use Rattle.ltm_loading.specs.Shaped.{IsShaped};
+ghost use Rattle.ltm_node.specs.Outputs.{left_after, arrived_after};
+ghost use Rattle.ltm_setting.specs.Setting.{setting_of};
+ghost use Rattle.ltm_flows.specs.Applying.{SetsGroups};
+ghost use Rattle.ltm_frontier.specs.Frontier.{is_pair, Activates};
+ghost use Rattle.ltm_working.specs.Renewed.{renewed};
+ghost use Rattle.ltm_working.specs.Desks.{place_of};
+ghost use Rattle.ltm_working.specs.Ready.{HasPairs, HasLists};
+ghost use Rattle.ltm_rows.specs.Rows.{ForgetsRow, HasRows};
+ghost use Rattle.ltm_working.specs.Waking.{arm_differs, any_differs, PutsCells, changes, wakes_others, wakes, ForgetsIf};
+
+use crate::differing::{renew, renew_sink};
+use crate::renewal::Renewal;
+use crate::renewing_links::{renew_heads, renew_tails};
+use ltm_curve::{Changed, Curves};
+use ltm_frontier::Frontier;
+use ltm_loading::counts_by_place;
+use ltm_pairs::ReadIndex;
+use ltm_rows::KeptRows;
+use ltm_scenario::Scenario;
+use ltm_setting::{dep_of, in_links, is_setting, out_links, slot_count};
+use ltm_units::Pair;
+
+/// Makes the next slot of a pair's node active, where there is one, and forgets what is kept of it.
+#[inline]
+fn wake_next(scenario: &Scenario, frontier: &mut Frontier, kept: &mut KeptRows, pair: Pair)
+    requires node { pair.node.0 < (setting_of scenario.now).nodes }
+    requires slot { pair.slot < (setting_of scenario.now).slots }
+    requires pairs { HasPairs (setting_of scenario.now) frontier.old }
+    requires kept { HasRows (setting_of scenario.now) (setting_of scenario.now).slots kept.old }
+    ensures wakes { Activates frontier.old frontier.new (is_pair pair.node.0 (pair.slot + 1)) }
+    ensures kept { ForgetsRow kept.old kept.new pair.node.0 (pair.slot + 1) }
+{
+    let slot = pair.slot + 1;
+    if slot >= slot_count(scenario) {
+        return;
+    }
+    frontier.mark(Pair { slot, ..pair });
+    kept.forget(pair.node.0 as usize, slot as usize);
+}
+
+/// Sets what has left the origin of a node, where the node has out-links; whether some count was another one. If so the cell
+/// is noted as changed.
+fn renew_origin(renewal: Renewal, curves: &mut Curves, changed: &mut Changed) -> bool
+    requires node { renewal.pair.node.0 < (setting_of renewal.scenario.now).nodes }
+    requires slot { renewal.pair.slot < (setting_of renewal.scenario.now).slots }
+    requires outputs { renewal.outputs.now.shape ≡ shape_at (setting_of renewal.scenario.now)
+        renewal.pair.node.0 }
+    requires small { (i : ℕ) → slice_index
+        (renewed renewal (counts_of curves.old)).row i < 2 ^ 31 }
+    requires shape { IsShaped (setting_of renewal.scenario.now) curves.old }
+    requires cells { HasCells changed.old (groups (setting_of renewal.scenario.now))
+        (setting_of renewal.scenario.now).slots }
+    ensures origin { 0 < (setting_of renewal.entry.scenario.now).outs renewal.entry.pair.node.0
+        → result ≡ arm_differs (setting_of renewal.entry.scenario.now) (counts_of curves.old)
+        renewal.entry.pair.node.0
+        (renewal.entry.pair.slot + 1)
+        (renewed renewal.entry (counts_of curves.old))
+        ((setting_of renewal.entry.scenario.now).ins renewal.entry.pair.node.0) }
+    ensures none { (setting_of renewal.entry.scenario.now).outs renewal.entry.pair.node.0 ≡ 0
+        → result
+        ≡ false }
+    ensures shape { IsShaped (setting_of renewal.entry.scenario.now) curves.new }
+    ensures sets { 0 < (setting_of renewal.entry.scenario.now).outs renewal.entry.pair.node.0
+        → SetsGroups (setting_of renewal.entry.scenario.now) (renewal.entry.pair.slot + 1) 1
+        (λ i. dep_of (setting_of renewal.entry.scenario.now) renewal.entry.pair.node.0)
+        (λ i. left_after
+        (renewed renewal.entry (counts_of curves.old))
+        ((setting_of renewal.entry.scenario.now).ins renewal.entry.pair.node.0))
+        (counts_of curves.old) (counts_of curves.new) }
+    ensures stays { (setting_of renewal.entry.scenario.now).outs renewal.entry.pair.node.0 ≡ 0
+        → counts_of curves.new ≡ counts_of curves.old }
+    ensures cells { PutsCells changed.old changed.new
+        (λ g k. result && is_pair
+        (dep_of (setting_of renewal.entry.scenario.now) renewal.entry.pair.node.0)
+        (renewal.entry.pair.slot + 1) g k) }
+{
+    let Renewal {
+        scenario,
+        pair,
+        given,
+        outputs,
+    } = renewal;
+    is_setting(scenario);
+    if out_links(scenario, pair.node).is_empty() {
+        return false;
+    }
+    let origin = in_links(scenario, pair.node).len() as u32;
+    let group = dep_of(scenario, pair.node);
+    renew(
+        curves,
+        changed,
+        group,
+        pair.slot,
+        given,
+        outputs.left_row(origin),
+    )
+}
+
+/// Sets the counts of a pair, wakes the readers of those that were others, but for the pair's own next slot, and notes the
+/// cells; whether there is one.
+fn renew_all(
+    renewal: Renewal,
+    curves: &mut Curves,
+    index: &ReadIndex,
+    changed: &mut Changed,
+    frontier: &mut Frontier,
+) -> bool
+    requires node { renewal.pair.node.0 < (setting_of renewal.scenario.now).nodes }
+    requires slot { renewal.pair.slot < (setting_of renewal.scenario.now).slots }
+    requires outputs { renewal.outputs.now.shape ≡ shape_at (setting_of renewal.scenario.now)
+        renewal.pair.node.0 }
+    requires small { (i : ℕ) → slice_index
+        (renewed renewal (counts_of curves.old)).row i < 2 ^ 31 }
+    requires no_sink { (setting_of renewal.scenario.now).own renewal.pair.node.0 ≡ None
+        → arrived_after renewal.outputs.now ≡ 0 }
+    requires shape { IsShaped (setting_of renewal.scenario.now) curves.old }
+    requires lists { HasLists (setting_of renewal.scenario.now) index.now }
+    requires cells { HasCells changed.old (groups (setting_of renewal.scenario.now))
+        (setting_of renewal.scenario.now).slots }
+    requires pairs { HasPairs (setting_of renewal.scenario.now) frontier.old }
+    ensures value { result
+        ≡ any_differs (setting_of renewal.entry.scenario.now) (counts_of curves.old)
+        renewal.entry.pair.node.0 (renewal.entry.pair.slot + 1)
+        (renewed renewal.entry (counts_of curves.old)) }
+    ensures shape { IsShaped (setting_of renewal.entry.scenario.now) curves.new }
+    ensures applies { Applies (setting_of renewal.entry.scenario.now) renewal.entry.pair.node.0
+        (renewal.entry.pair.slot + 1)
+        (renewed renewal.entry (counts_of curves.old)).row
+        (counts_of curves.old) (counts_of curves.new) }
+    ensures cells { PutsCells changed.old changed.new
+        (changes (setting_of renewal.entry.scenario.now) (counts_of curves.old)
+        renewal.entry.pair.node.0
+        (renewal.entry.pair.slot + 1)
+        (renewed renewal.entry (counts_of curves.old))) }
+    ensures wakes { Activates frontier.old frontier.new
+        (wakes_others (setting_of renewal.entry.scenario.now) (counts_of curves.old)
+        (place_of index.now) renewal.entry.pair.node.0 (renewal.entry.pair.slot + 1)
+        (renewed renewal.entry (counts_of curves.old))) }
+{
+    let Renewal {
+        scenario,
+        pair,
+        given,
+        outputs,
+    } = renewal;
+    is_setting(scenario);
+    counts_by_place();
+    let _shape = outputs.shape();
+    let tails = renew_tails(renewal, curves, changed, frontier);
+    let origin = renew_origin(renewal, curves, changed);
+    let heads = renew_heads(renewal, curves, index, changed, frontier);
+    let sink = renew_sink(scenario, curves, changed, pair, given, outputs.arrived());
+    (tails | origin) | (heads | sink)
+}
+
+/// Sets the counts of a pair, and no others. The readers of those that were others become active, and the cells are noted.
+/// Where there is one, what is kept of the next slot is forgotten.
+pub(crate) fn renew_pair(
+    renewal: Renewal,
+    curves: &mut Curves,
+    index: &ReadIndex,
+    changed: &mut Changed,
+    frontier: &mut Frontier,
+    kept: &mut KeptRows,
+)
+    requires node { renewal.pair.node.0 < (setting_of renewal.scenario.now).nodes }
+    requires slot { renewal.pair.slot < (setting_of renewal.scenario.now).slots }
+    requires outputs { renewal.outputs.now.shape ≡ shape_at (setting_of renewal.scenario.now)
+        renewal.pair.node.0 }
+    requires small { (i : ℕ) → slice_index
+        (renewed renewal (counts_of curves.old)).row i < 2 ^ 31 }
+    requires no_sink { (setting_of renewal.scenario.now).own renewal.pair.node.0 ≡ None
+        → arrived_after renewal.outputs.now ≡ 0 }
+    requires shape { IsShaped (setting_of renewal.scenario.now) curves.old }
+    requires lists { HasLists (setting_of renewal.scenario.now) index.now }
+    requires cells { HasCells changed.old (groups (setting_of renewal.scenario.now))
+        (setting_of renewal.scenario.now).slots }
+    requires pairs { HasPairs (setting_of renewal.scenario.now) frontier.old }
+    requires kept { HasRows (setting_of renewal.scenario.now)
+        (setting_of renewal.scenario.now).slots kept.old }
+    ensures shape { IsShaped (setting_of renewal.entry.scenario.now) curves.new }
+    ensures applies { Applies (setting_of renewal.entry.scenario.now) renewal.entry.pair.node.0
+        (renewal.entry.pair.slot + 1)
+        (renewed renewal.entry (counts_of curves.old)).row
+        (counts_of curves.old) (counts_of curves.new) }
+    ensures cells { PutsCells changed.old changed.new
+        (changes (setting_of renewal.entry.scenario.now) (counts_of curves.old)
+        renewal.entry.pair.node.0
+        (renewal.entry.pair.slot + 1)
+        (renewed renewal.entry (counts_of curves.old))) }
+    ensures wakes { Activates frontier.old frontier.new
+        (wakes (setting_of renewal.entry.scenario.now) (counts_of curves.old) (place_of index.now)
+        renewal.entry.pair.node.0
+        (renewal.entry.pair.slot + 1)
+        (renewed renewal.entry (counts_of curves.old))) }
+    ensures kept { ForgetsIf (any_differs (setting_of renewal.entry.scenario.now)
+        (counts_of curves.old) renewal.entry.pair.node.0 (renewal.entry.pair.slot + 1)
+        (renewed renewal.entry (counts_of curves.old)))
+        kept.old kept.new renewal.entry.pair.node.0 (renewal.entry.pair.slot + 1) }
+{
+    let any = renew_all(renewal, curves, index, changed, frontier);
+    if !any {
+        return;
+    }
+    wake_next(renewal.scenario, frontier, kept, renewal.pair);
+}
