@@ -7,6 +7,7 @@ use Rattle.ltm_casefile.specs.declared.faults.CaseFault.{CaseFault}
 use Rattle.ltm_casefile.specs.declared.faults.CaseFault.TheVariants.{Folder, TooLong}
 use Rattle.ltm_casefile.specs.declared.faults.File.{File}
 use Rattle.ltm_casefile.specs.declared.faults.File.TheVariants as file
+use Rattle.ltm_units.specs.Bounds.{longest_file}
 
 -- the file of a folder
 abbrev pub doc_of : File → Option Doc
@@ -21,7 +22,7 @@ doc_of file.Whole = None
 -- the bytes of a file that is there and has at most 16,777,216 of them
 abbrev pub sized : File → Option (List ℕ) → Result (List ℕ) CaseFault
 sized f None = Err (Folder f)
-sized f (Some bytes) = if nat_le (length bytes) 16777216 then Ok bytes else Err (TooLong f)
+sized f (Some bytes) = if nat_le (length bytes) longest_file then Ok bytes else Err (TooLong f)
 
 -- the same of a file that is one of the folder's
 abbrev pub text_of : Files → File → Result (List ℕ) CaseFault

@@ -6,6 +6,7 @@ ghost use Rattle.ltm_casefile.specs.Causes.{taken, Tells};
 ghost use Rattle.csv.specs.Records.{fields_of};
 ghost use Rattle.ltm_casefile.specs.Demand.{is_demand_header, demand_record, demand_ends, place_of, with_demand_record, demand_added};
 ghost use Rattle.ltm_casefile.specs.declared.faults.CaseCause.TheVariants.{TooManyDestinations};
+ghost use Rattle.ltm_units.specs.Bounds.{most_amount};
 
 use crate::faults::{CaseCause, RecordFault};
 use crate::fields::{check_width, read_amount, read_name, read_number};
@@ -46,7 +47,7 @@ pub fn is_demand_header(row: &ByteRecord) -> bool
 #[tactic(auto, unfolding(crate::specs::Demand::demand_record))]
 fn read_demand(row: &ByteRecord) -> Result<DemandRecord, CaseCause>
     ensures record { result ≡ demand_record (fields_of row.now) }
-    ensures small { IfOk result (λ r. r.amount.0 ≤ 1000000000) }
+    ensures small { IfOk result (λ r. r.amount.0 ≤ most_amount) }
 {
     check_width(row, WIDTH)?;
     let origin = read_name(row, 1)?;
@@ -114,7 +115,7 @@ pub fn add_destination(scenario: &mut Scenario, node: NodeId) -> Result<u32, Rec
 }
 
 fn set_demand(scenario: &mut Scenario, row: &DemandRecord) -> Result<(), RecordFault>
-    requires { row.now.amount.0 ≤ 1000000000 }
+    requires { row.now.amount.0 ≤ most_amount }
     ensures ok { OnOk result (with_demand_record scenario.old row.now ≡ Ok scenario.new) }
     ensures cause { IfErr result (Tells (with_demand_record scenario.old row.now)) }
 {

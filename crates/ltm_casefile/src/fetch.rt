@@ -6,6 +6,7 @@ ghost use Rattle.ltm_casefile.specs.Folder.{doc_of, text_of};
 ghost use Rattle.ltm_casefile.specs.Case.{texts_of, text_if, limit_texts_of, is_of_each, is_asked};
 ghost use Rattle.ltm_casefile.specs.Roads.{road_texts_of, is_of_roads};
 ghost use Rattle.ltm_casefile.specs.Faults.{Agrees, HasRisen, WasAsked, HidesNoMemory};
+ghost use Rattle.ltm_units.specs.Bounds.{longest_file};
 
 use crate::faults::{CaseFault, File};
 use crate::setup::Asked;
@@ -41,18 +42,19 @@ pub struct FileText {
 
 impl Model for FileText {
     ghost use Rattle.std.specs.Prelude.{◌≤◌, ℕ, List, length};
+    ghost use Rattle.ltm_units.specs.Bounds.{longest_file};
 
     ghost Value = { List ℕ };
 
     ghost view = { λ t. t.bytes.items };
 
-    ghost invariant = { λ t. length t.bytes.items ≤ 16777216 };
+    ghost invariant = { λ t. length t.bytes.items ≤ longest_file };
 }
 
 impl FileText {
     pub fn bytes(&self) -> &[u8]
         ensures bytes { result.now ≡ self.now }
-        ensures short { length self.now ≤ 16777216 }
+        ensures short { length self.now ≤ longest_file }
     {
         &self.bytes
     }

@@ -2,6 +2,7 @@
 ghost use Rattle.std.specs.Prelude.{◌≡◌, ◌≤◌, IfOk};
 ghost use Rattle.csv.specs.Records.{fields_of};
 ghost use Rattle.ltm_casefile.specs.Fields.{has_width, name_in, number_in, amount_in, weights_in};
+ghost use Rattle.ltm_units.specs.Bounds.{most_amount};
 
 use crate::faults::CaseCause;
 use csv::ByteRecord;
@@ -43,7 +44,7 @@ pub fn read_number(row: &ByteRecord, field: u32) -> Result<u32, CaseCause>
 pub fn read_amount(row: &ByteRecord, field: u32) -> Result<Units, CaseCause>
     requires { 1 ≤ field }
     ensures amount { result ≡ amount_in (fields_of row.now) field }
-    ensures small { IfOk result (λ amount. amount.0 ≤ 1000000000) }
+    ensures small { IfOk result (λ amount. amount.0 ≤ most_amount) }
 {
     match vehicles_at(row, (field - 1) as usize) {
         Some(amount) => Ok(amount),

@@ -1,14 +1,14 @@
 //! The check that curves are the loading of a scenario.
-ghost use Rattle.std.specs.Prelude.{◌≡◌, ◌<◌, ◌+◌, IfOk, IfSome, IsNone};
+ghost use Rattle.std.specs.Prelude.{◌≡◌, ◌+◌, IfOk, IfSome, IsNone};
 ghost use Rattle.ltm_curve.specs.Table.{counts_of};
 ghost use Rattle.ltm_loading.specs.Loading.{IsFront};
 ghost use Rattle.ltm_loading.specs.NextPair.{IsFrontTo};
 ghost use Rattle.ltm_loading.specs.Pairs.{MeetsStep};
 ghost use Rattle.ltm_setting.specs.Setting.{setting_of};
-ghost use Rattle.ltm_sending.specs.Front.{IsAtFront};
-ghost use Rattle.ltm_loading.specs.Shaped.{IsShaped};
-ghost use Rattle.ltm_flows.specs.Working.{HasRoom};
 ghost use Rattle.ltm_check.specs.Verdict.{IsVerdict, IsFirstWrongNode};
+ghost use Rattle.ltm_flows.specs.WorkingOn.{HasNodeRoom};
+ghost use Rattle.ltm_sending.specs.Fronts.{FrontAt};
+ghost use Rattle.ltm_setting.specs.Places.{IsShapedFor};
 
 use crate::faults::Checked;
 use crate::meets::{Room, make_room, meets_step};
@@ -22,15 +22,15 @@ use std::alloc::Global;
 
 /// The first node whose counts at the end of a slot are not its node step.
 fn first_wrong(scenario: &Scenario, curves: &Curves, slot: u32, room: &mut Room) -> Option<NodeId>
-    requires front { IsAtFront (setting_of scenario.now) curves.now slot }
-    requires inputs { HasRoom (setting_of scenario.now) room.old.inputs.room }
-    requires outputs { HasRoom (setting_of scenario.now) room.old.outputs.room }
+    requires front { FrontAt scenario.now curves.now slot }
+    requires inputs { HasNodeRoom scenario.now room.old.inputs.room }
+    requires outputs { HasNodeRoom scenario.now room.old.outputs.room }
     ensures none { IsNone result
         → IsFront (setting_of scenario.now) (counts_of curves.now) (slot + 1) }
     ensures wrong { IfSome result (λ node. IsFirstWrongNode (setting_of scenario.now)
         (counts_of curves.now) slot node.0) }
-    ensures inputs { HasRoom (setting_of scenario.now) room.new.inputs.room }
-    ensures outputs { HasRoom (setting_of scenario.now) room.new.outputs.room }
+    ensures inputs { HasNodeRoom scenario.now room.new.inputs.room }
+    ensures outputs { HasNodeRoom scenario.now room.new.outputs.room }
 {
     next_slot();
     for node in 0..node_count(scenario) {
@@ -50,7 +50,7 @@ pub fn check_curves(
     scenario: &Scenario,
     curves: &Curves,
 ) -> Result<Checked, NoMemory>
-    requires { IsShaped (setting_of scenario.now) curves.now }
+    requires { IsShapedFor scenario.now curves.now }
     ensures { IfOk result (IsVerdict (setting_of scenario.now) (counts_of curves.now)) }
 {
     if !starts_right(scenario, curves) {

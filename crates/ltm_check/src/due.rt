@@ -1,9 +1,9 @@
 //! Which record stands where in a curve file.
 ghost use Rattle.std.specs.Prelude.{◌≡◌, ◌<◌, ◌^◌};
-ghost use Rattle.ltm_loading.specs.Groups.{groups};
 ghost use Rattle.ltm_setting.specs.Setting.{setting_of};
 ghost use Rattle.ltm_scenario.specs.Reads.{destination_name};
 ghost use Rattle.ltm_check.specs.Due.{record_count, kind_of, name_of};
+ghost use Rattle.ltm_setting.specs.Places.{IsDestination, all_groups};
 
 use ltm_loading::up_of;
 use ltm_scenario::Scenario;
@@ -39,7 +39,7 @@ pub(crate) fn kind_of(scenario: &Scenario, group: u32) -> &'static [u8]
 /// The name of a destination.
 #[tactic(auto, unfolding(ltm_setting::specs::Setting::setting_of))]
 pub(crate) fn name_of_destination(scenario: &Scenario, destination: u32) -> Name
-    requires { destination < (setting_of scenario.now).destinations }
+    requires { IsDestination scenario.now destination }
     ensures { result ≡ destination_name scenario.now destination }
 {
     let node = scenario.destination_node(destination);
@@ -49,8 +49,8 @@ pub(crate) fn name_of_destination(scenario: &Scenario, destination: u32) -> Name
 /// The name of the link, of the node, or of the destination, of which a group counts.
 #[tactic(auto, unfolding(ltm_setting::specs::Setting::setting_of))]
 pub(crate) fn name_of(scenario: &Scenario, group: u32, destination: u32) -> Name
-    requires group { group < groups (setting_of scenario.now) }
-    requires destination { destination < (setting_of scenario.now).destinations }
+    requires group { group < all_groups scenario.now }
+    requires destination { IsDestination scenario.now destination }
     ensures { result ≡ name_of scenario.now group destination }
 {
     let network = scenario.network();

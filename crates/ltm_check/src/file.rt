@@ -5,12 +5,12 @@ ghost use Rattle.ltm_io.specs.Source.{prepended};
 ghost use Rattle.ltm_records.specs.Fields.{Fields};
 ghost use Rattle.ltm_records.specs.Left.{records_of};
 ghost use Rattle.ltm_setting.specs.Setting.{setting_of};
-ghost use Rattle.ltm_loading.specs.Shaped.{IsShaped};
 ghost use Rattle.ltm_check.specs.Due.{record_count};
 ghost use Rattle.ltm_check.specs.File.{IsCurveFile, told};
 ghost use Rattle.ltm_check.specs.Faults.{IsFault};
 ghost use Rattle.ltm_check.specs.Kept.{Keeps};
 ghost use Rattle.ltm_check.specs.Pieces.{HasRead, IsReadTo, AnswersFile, EndsWith};
+ghost use Rattle.ltm_setting.specs.Places.{IsShapedFor};
 
 use crate::cut::{cut_at_line_end, cut_of};
 use crate::due::record_count;
@@ -62,9 +62,9 @@ fn read_front(
     text: &mut Vec<u8>,
     worth: usize,
 ) -> Result<u32, CurvesFault>
-    requires shape { IsShaped (setting_of scenario.now) curves.old }
+    requires shape { IsShapedFor scenario.now curves.old }
     requires next { next ≤ record_count scenario.now + 1 }
-    ensures shape { IsShaped (setting_of scenario.now) curves.new }
+    ensures shape { IsShapedFor scenario.now curves.new }
     ensures few { IfOk result (λ n. n ≤ record_count scenario.now + 1) }
     ensures right { IfOk result (λ n. (bytes : List ℕ)
         → HasRead scenario.now bytes curves.old next text.old.items
@@ -100,7 +100,7 @@ fn read_end(
     next: u32,
     text: &[u8],
 ) -> Result<(), CurvesFault>
-    requires shape { IsShaped (setting_of scenario.now) curves.old }
+    requires shape { IsShapedFor scenario.now curves.old }
     requires next { next ≤ record_count scenario.now + 1 }
     ensures right { OnOk result ((bytes : List ℕ)
         → HasRead scenario.now bytes curves.old next text.now
@@ -122,7 +122,7 @@ fn read_end(
 
 /// Whether all records were read where none is left.
 fn all_read(scenario: &Scenario, curves: &Curves, next: u32) -> Result<(), CurvesFault>
-    requires shape { IsShaped (setting_of scenario.now) curves.now }
+    requires shape { IsShapedFor scenario.now curves.now }
     requires next { next ≤ record_count scenario.now + 1 }
     ensures right { OnOk result ((records : List Fields)
         → IsReadTo scenario.now records curves.now next → drop next records ≡ []

@@ -1,13 +1,14 @@
 //! Whether the counts of a node at the end of a slot are its node step.
-ghost use Rattle.std.specs.Prelude.{◌≡◌, ◌<◌, ◌≤◌, ◌+◌, ◌↔◌, IsTrue, IfOk};
+ghost use Rattle.std.specs.Prelude.{◌≡◌, ◌+◌, ◌↔◌, IsTrue, IfOk};
 ghost use Rattle.ltm_curve.specs.Table.{counts_of};
 ghost use Rattle.ltm_node.specs.Solvable.{IsSolvable};
 ghost use Rattle.ltm_loading.specs.Pairs.{MeetsStep};
 ghost use Rattle.ltm_loading.specs.Uncounted.{IsUncountedPair};
 ghost use Rattle.ltm_setting.specs.Setting.{setting_of};
-ghost use Rattle.ltm_sending.specs.Front.{IsAtFront};
 ghost use Rattle.ltm_inputs.specs.Idle.{IsIdle};
-ghost use Rattle.ltm_flows.specs.Working.{HasRoom};
+ghost use Rattle.ltm_flows.specs.WorkingOn.{HasNodeRoom};
+ghost use Rattle.ltm_sending.specs.Fronts.{FrontAt};
+ghost use Rattle.ltm_setting.specs.Places.{IsNode};
 
 use crate::rows::node_grows;
 use ltm_curve::Curves;
@@ -28,8 +29,8 @@ pub(crate) struct Room {
 
 /// Room for the step of any node of a scenario.
 pub(crate) fn make_room(alloc: Global, scenario: &Scenario) -> Result<Room, NoMemory>
-    ensures inputs { IfOk result (λ room. HasRoom (setting_of scenario.now) room.inputs.room) }
-    ensures outputs { IfOk result (λ room. HasRoom (setting_of scenario.now) room.outputs.room) }
+    ensures inputs { IfOk result (λ room. HasNodeRoom scenario.now room.inputs.room) }
+    ensures outputs { IfOk result (λ room. HasNodeRoom scenario.now room.outputs.room) }
 {
     let widest = widest(scenario);
     let inputs = NodeInputs::create(alloc, widest)?;
@@ -40,17 +41,17 @@ pub(crate) fn make_room(alloc: Global, scenario: &Scenario) -> Result<Room, NoMe
 /// Whether the counts of a node whose arms send something grow in a slot by what moves: by the node step of inputs with 0 for
 /// each count.
 fn meets_moves(scenario: &Scenario, curves: &Curves, pair: Pair, room: &mut Room) -> bool
-    requires node { pair.node.0 < (setting_of scenario.now).nodes }
-    requires front { IsAtFront (setting_of scenario.now) curves.now pair.slot }
+    requires node { IsNode scenario.now pair.node.0 }
+    requires front { FrontAt scenario.now curves.now pair.slot }
     requires reads { IsUncountedPair (setting_of scenario.now)
         (counts_of curves.now) pair.node.0 pair.slot room.old.inputs }
     requires solvable { IsSolvable room.old.inputs }
-    requires inputs { HasRoom (setting_of scenario.now) room.old.inputs.room }
-    requires outputs { HasRoom (setting_of scenario.now) room.old.outputs.room }
+    requires inputs { HasNodeRoom scenario.now room.old.inputs.room }
+    requires outputs { HasNodeRoom scenario.now room.old.outputs.room }
     ensures meets { IsTrue result
         ↔ MeetsStep (setting_of scenario.now) (counts_of curves.now) pair.node.0 pair.slot }
-    ensures inputs { HasRoom (setting_of scenario.now) room.new.inputs.room }
-    ensures outputs { HasRoom (setting_of scenario.now) room.new.outputs.room }
+    ensures inputs { HasNodeRoom scenario.now room.new.inputs.room }
+    ensures outputs { HasNodeRoom scenario.now room.new.outputs.room }
 {
     groups_by_row();
     same_shape();
@@ -64,8 +65,8 @@ fn meets_moves(scenario: &Scenario, curves: &Curves, pair: Pair, room: &mut Room
 
 /// Whether the counts of a node whose arms send nothing stay in a slot.
 fn meets_nothing(scenario: &Scenario, curves: &Curves, pair: Pair) -> bool
-    requires node { pair.node.0 < (setting_of scenario.now).nodes }
-    requires front { IsAtFront (setting_of scenario.now) curves.now pair.slot }
+    requires node { IsNode scenario.now pair.node.0 }
+    requires front { FrontAt scenario.now curves.now pair.slot }
     requires idle { IsIdle (setting_of scenario.now) (counts_of curves.now) pair.node.0 pair.slot }
     ensures { IsTrue result
         ↔ MeetsStep (setting_of scenario.now) (counts_of curves.now) pair.node.0 pair.slot }
@@ -83,14 +84,14 @@ fn meets_nothing(scenario: &Scenario, curves: &Curves, pair: Pair) -> bool
 
 /// Whether the counts of a node at the end of a slot are its node step. Takes no memory.
 pub(crate) fn meets_step(scenario: &Scenario, curves: &Curves, pair: Pair, room: &mut Room) -> bool
-    requires node { pair.node.0 < (setting_of scenario.now).nodes }
-    requires front { IsAtFront (setting_of scenario.now) curves.now pair.slot }
-    requires inputs { HasRoom (setting_of scenario.now) room.old.inputs.room }
-    requires outputs { HasRoom (setting_of scenario.now) room.old.outputs.room }
+    requires node { IsNode scenario.now pair.node.0 }
+    requires front { FrontAt scenario.now curves.now pair.slot }
+    requires inputs { HasNodeRoom scenario.now room.old.inputs.room }
+    requires outputs { HasNodeRoom scenario.now room.old.outputs.room }
     ensures meets { IsTrue result
         ↔ MeetsStep (setting_of scenario.now) (counts_of curves.now) pair.node.0 pair.slot }
-    ensures inputs { HasRoom (setting_of scenario.now) room.new.inputs.room }
-    ensures outputs { HasRoom (setting_of scenario.now) room.new.outputs.room }
+    ensures inputs { HasNodeRoom scenario.now room.new.inputs.room }
+    ensures outputs { HasNodeRoom scenario.now room.new.outputs.room }
 {
     if uncounted_if_sent(scenario, curves, pair, &mut room.inputs) {
         meets_moves(scenario, curves, pair, room)

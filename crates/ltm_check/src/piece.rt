@@ -4,12 +4,11 @@ ghost use Rattle.std.specs.Prelude.{slice_get};
 ghost use Rattle.csv.specs.Records.{fields_of};
 ghost use Rattle.ltm_records.specs.Fields.{Fields};
 ghost use Rattle.ltm_records.specs.Left.{records_of};
-ghost use Rattle.ltm_setting.specs.Setting.{setting_of};
-ghost use Rattle.ltm_loading.specs.Shaped.{IsShaped};
 ghost use Rattle.ltm_check.specs.Due.{record_count};
 ghost use Rattle.ltm_check.specs.Faults.{IsFault};
 ghost use Rattle.ltm_check.specs.File.{is_curves_header};
 ghost use Rattle.ltm_check.specs.Pieces.{IsReadTo};
+ghost use Rattle.ltm_setting.specs.Places.{IsShapedFor};
 
 use crate::due::record_count;
 use crate::faults::{CurvesCause, CurvesFault};
@@ -44,9 +43,9 @@ fn read_below(
     place: u32,
     row: &ByteRecord,
 ) -> Result<(), CurvesFault>
-    requires shape { IsShaped (setting_of scenario.now) curves.old }
+    requires shape { IsShapedFor scenario.now curves.old }
     requires place { place < record_count scenario.now }
-    ensures shape { IsShaped (setting_of scenario.now) curves.new }
+    ensures shape { IsShapedFor scenario.now curves.new }
     ensures right { OnOk result ((records : List Fields)
         → IsReadTo scenario.now records curves.old (place + 1)
         → slice_get records (place + 1) ≡ Some (fields_of row.now)
@@ -72,9 +71,9 @@ fn read_next(
     next: u32,
     row: &ByteRecord,
 ) -> Result<(), CurvesFault>
-    requires shape { IsShaped (setting_of scenario.now) curves.old }
+    requires shape { IsShapedFor scenario.now curves.old }
     requires next { next ≤ record_count scenario.now }
-    ensures shape { IsShaped (setting_of scenario.now) curves.new }
+    ensures shape { IsShapedFor scenario.now curves.new }
     ensures right { OnOk result ((records : List Fields)
         → IsReadTo scenario.now records curves.old next
         → slice_get records next ≡ Some (fields_of row.now)
@@ -98,9 +97,9 @@ pub(crate) fn read_piece(
     next: u32,
     piece: &[u8],
 ) -> Result<u32, CurvesFault>
-    requires shape { IsShaped (setting_of scenario.now) curves.old }
+    requires shape { IsShapedFor scenario.now curves.old }
     requires next { next ≤ record_count scenario.now + 1 }
-    ensures shape { IsShaped (setting_of scenario.now) curves.new }
+    ensures shape { IsShapedFor scenario.now curves.new }
     ensures few { IfOk result (λ n. n ≤ record_count scenario.now + 1) }
     ensures right { IfOk result (λ n. (records rest : List Fields)
         → IsReadTo scenario.now records curves.old next

@@ -3,11 +3,11 @@ ghost use Rattle.std.specs.Prelude.{◌≡◌, ◌<◌, ◌^◌, ◌+◌, OnOk, 
 ghost use Rattle.ltm_records.specs.Left.{records_of};
 ghost use Rattle.ltm_curve.specs.Table.{SameShape};
 ghost use Rattle.ltm_setting.specs.Setting.{setting_of};
-ghost use Rattle.ltm_loading.specs.Shaped.{IsShaped};
 ghost use Rattle.ltm_check.specs.Due.{record_count};
 ghost use Rattle.ltm_check.specs.File.{AreRightBelow, IsCurveFile, told, told_by};
 ghost use Rattle.ltm_check.specs.Faults.{IsFaultBelow, IsFault};
 ghost use Rattle.ltm_check.specs.Kept.{Keeps};
+ghost use Rattle.ltm_setting.specs.Places.{IsShapedFor};
 
 use crate::due::record_count;
 use crate::faults::{CurvesCause, CurvesFault};
@@ -27,7 +27,7 @@ fn read_rows(
     records: &mut Records,
     row: &mut ByteRecord,
 ) -> Result<(), CurvesFault>
-    requires shape { IsShaped (setting_of scenario.now) curves.old }
+    requires shape { IsShapedFor scenario.now curves.old }
     ensures right { OnOk result (AreRightBelow scenario.now records.old (record_count scenario.now
         + 1)) }
     ensures keeps { OnOk result (Keeps (setting_of scenario.now)

@@ -2,11 +2,9 @@
 ghost use Rattle.std.specs.Prelude.{◌≡◌, ◌<◌, IsNone};
 ghost use Rattle.csv.specs.Records.{fields_of};
 ghost use Rattle.ltm_curve.specs.Table.{SameShape};
-ghost use Rattle.ltm_loading.specs.Groups.{groups};
-ghost use Rattle.ltm_setting.specs.Setting.{setting_of};
-ghost use Rattle.ltm_loading.specs.Shaped.{IsShaped};
 ghost use Rattle.ltm_check.specs.File.{is_curves_header, counts_in, fault_of, or_no_counts};
 ghost use Rattle.ltm_check.specs.Kept.{PutsCounts};
+ghost use Rattle.ltm_setting.specs.Places.{IsDestination, IsShapedFor, all_groups};
 
 use crate::counts::read_counts;
 use crate::due::{kind_of, name_of, name_of_destination};
@@ -35,9 +33,9 @@ pub(crate) fn read_record(
     destination: u32,
     row: &ByteRecord,
 ) -> Option<CurvesCause>
-    requires shape { IsShaped (setting_of scenario.now) curves.old }
-    requires group { group < groups (setting_of scenario.now) }
-    requires destination { destination < (setting_of scenario.now).destinations }
+    requires shape { IsShapedFor scenario.now curves.old }
+    requires group { group < all_groups scenario.now }
+    requires destination { IsDestination scenario.now destination }
     ensures fault { result ≡ fault_of scenario.now group destination (fields_of row.now) }
     ensures puts { IsNone result
         → PutsCounts curves.old curves.new group destination

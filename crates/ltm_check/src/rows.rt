@@ -1,11 +1,11 @@
 //! Whether the counts of a node grow in a slot by what moves.
-ghost use Rattle.std.specs.Prelude.{◌≡◌, ◌<◌, ◌≤◌, ◌+◌, ◌↔◌, ℕ, IsTrue, IfSome, length, option_map, slice_index};
+ghost use Rattle.std.specs.Prelude.{◌≡◌, ◌<◌, ◌+◌, ◌↔◌, ℕ, IsTrue, IfSome, length, option_map, slice_index};
 ghost use Rattle.ltm_curve.specs.Table.{counts_of, groups_of, destinations_of, slots_of};
 ghost use Rattle.ltm_loading.specs.NodeGroups.{group_count, node_group};
-ghost use Rattle.ltm_loading.specs.Pairs.{arrived_by, shape_at};
+ghost use Rattle.ltm_loading.specs.Pairs.{arrived_by};
 ghost use Rattle.ltm_setting.specs.Setting.{setting_of};
-ghost use Rattle.ltm_loading.specs.Shaped.{IsShaped};
 ghost use Rattle.ltm_check.specs.Moves.{moving, arrives, GrowBy};
+ghost use Rattle.ltm_setting.specs.Places.{IsDestination, IsNode, IsShapedFor, IsSlot, node_shape};
 
 use ltm_curve::Curves;
 use ltm_loading::groups_are_set;
@@ -109,14 +109,14 @@ fn groups_grow(
     pair: Pair,
     moves: Option<&NodeOutputs>,
 ) -> bool
-    requires node { pair.node.0 < (setting_of scenario.now).nodes }
-    requires slot { pair.slot < (setting_of scenario.now).slots }
-    requires shape { IsShaped (setting_of scenario.now) curves.now }
+    requires node { IsNode scenario.now pair.node.0 }
+    requires slot { IsSlot scenario.now pair.slot }
+    requires shape { IsShapedFor scenario.now curves.now }
     requires moves { IfSome moves (λ m. m.now.shape
-        ≡ shape_at (setting_of scenario.now) pair.node.0) }
+        ≡ node_shape scenario.now pair.node.0) }
     ensures { IsTrue result
         ↔ ((i d : ℕ) → i < group_count (setting_of scenario.now) pair.node.0
-        → d < (setting_of scenario.now).destinations
+        → IsDestination scenario.now d
         → counts_of curves.now (node_group (setting_of scenario.now) pair.node.0 i) d
         (pair.slot + 1)
         ≡ counts_of curves.now (node_group (setting_of scenario.now) pair.node.0 i) d pair.slot
@@ -150,8 +150,8 @@ fn has_arrived(
     pair: Pair,
     moves: Option<&NodeOutputs>,
 ) -> bool
-    requires slot { pair.slot < (setting_of scenario.now).slots }
-    requires shape { IsShaped (setting_of scenario.now) curves.now }
+    requires slot { IsSlot scenario.now pair.slot }
+    requires shape { IsShapedFor scenario.now curves.now }
     ensures { IsTrue result
         ↔ (arrived_by (setting_of scenario.now) (counts_of curves.now)
         ((setting_of scenario.now).own pair.node.0) (pair.slot + 1)
@@ -178,11 +178,11 @@ pub(crate) fn node_grows(
     pair: Pair,
     moves: Option<&NodeOutputs>,
 ) -> bool
-    requires node { pair.node.0 < (setting_of scenario.now).nodes }
-    requires slot { pair.slot < (setting_of scenario.now).slots }
-    requires shape { IsShaped (setting_of scenario.now) curves.now }
+    requires node { IsNode scenario.now pair.node.0 }
+    requires slot { IsSlot scenario.now pair.slot }
+    requires shape { IsShapedFor scenario.now curves.now }
     requires moves { IfSome moves (λ m. m.now.shape
-        ≡ shape_at (setting_of scenario.now) pair.node.0) }
+        ≡ node_shape scenario.now pair.node.0) }
     ensures { IsTrue result
         ↔ GrowBy (setting_of scenario.now) (counts_of curves.now) pair.node.0 pair.slot
         (option_map (λ m. m.now) moves.entry) }

@@ -3,8 +3,8 @@ ghost use Rattle.std.specs.Prelude.{◌≡◌, ◌<◌, ◌≤◌, ◌↔◌, �
 ghost use Rattle.ltm_curve.specs.Table.{counts_of, groups_of, destinations_of, slots_of};
 ghost use Rattle.ltm_loading.specs.Loading.{OriginsWithoutOutsAreEmpty};
 ghost use Rattle.ltm_setting.specs.Setting.{setting_of};
-ghost use Rattle.ltm_loading.specs.Shaped.{IsShaped};
 ghost use Rattle.ltm_check.specs.Verdict.{StartsRight};
+ghost use Rattle.ltm_setting.specs.Places.{IsShapedFor};
 
 use ltm_curve::Curves;
 use ltm_scenario::Scenario;
@@ -58,7 +58,7 @@ fn stays_empty(curves: &Curves, group: u32) -> bool
 
 /// Whether nothing ever leaves the origin of a node without out-links.
 fn sinks_send_nothing(scenario: &Scenario, curves: &Curves) -> bool
-    requires { IsShaped (setting_of scenario.now) curves.now }
+    requires { IsShapedFor scenario.now curves.now }
     ensures { IsTrue result
         ↔ OriginsWithoutOutsAreEmpty (setting_of scenario.now) (counts_of curves.now) }
 {
@@ -73,7 +73,7 @@ fn sinks_send_nothing(scenario: &Scenario, curves: &Curves) -> bool
 
 /// Whether curves of a scenario's shape start as a loading does.
 pub(crate) fn starts_right(scenario: &Scenario, curves: &Curves) -> bool
-    requires { IsShaped (setting_of scenario.now) curves.now }
+    requires { IsShapedFor scenario.now curves.now }
     ensures { IsTrue result ↔ StartsRight (setting_of scenario.now) (counts_of curves.now) }
 {
     starts_empty(curves) && sinks_send_nothing(scenario, curves)

@@ -1,13 +1,11 @@
 //! The lines of a curve file.
-ghost use Rattle.std.specs.Prelude.{◌≡◌, ◌++◌, ◌<◌, ◌≤◌, ◌+◌, OnOk};
+ghost use Rattle.std.specs.Prelude.{◌≡◌, ◌++◌, ◌<◌, ◌+◌, OnOk};
 ghost use Rattle.std.specs.Fmt.{decimal};
 ghost use Rattle.ltm_curve.specs.Table.{counts_of, destinations_of, slots_of};
-ghost use Rattle.ltm_loading.specs.Groups.{groups};
-ghost use Rattle.ltm_setting.specs.Setting.{setting_of};
-ghost use Rattle.ltm_loading.specs.Shaped.{IsShaped};
 ghost use Rattle.ltm_units.specs.Texts.{texts_below};
 ghost use Rattle.ltm_check.specs.Seen.{curves_of, IsSeen};
 ghost use Rattle.ltm_check.specs.Text.{further_count, counts_text, due_text, record_text, header_text};
+ghost use Rattle.ltm_setting.specs.Places.{IsDestination, IsShapedFor, all_groups};
 
 use crate::due::{kind_of, name_of, name_of_destination};
 use crate::window::Window;
@@ -71,8 +69,8 @@ fn push_due(
     destination: u32,
     into: &mut Vec<u8>,
 ) -> Result<(), NoMemory>
-    requires group { group < groups (setting_of scenario.now) }
-    requires destination { destination < (setting_of scenario.now).destinations }
+    requires group { group < all_groups scenario.now }
+    requires destination { IsDestination scenario.now destination }
     ensures { OnOk result (into.new.items
         ≡ into.old.items ++ due_text scenario.now group destination) }
 {
@@ -93,9 +91,9 @@ pub(crate) fn push_record(
     destination: u32,
     into: &mut Vec<u8>,
 ) -> Result<(), NoMemory>
-    requires shape { IsShaped (setting_of scenario.now) (curves_of window.now) }
+    requires shape { IsShapedFor scenario.now (curves_of window.now) }
     requires group { IsSeen window.now group }
-    requires destination { destination < (setting_of scenario.now).destinations }
+    requires destination { IsDestination scenario.now destination }
     ensures { OnOk result (into.new.items ≡ into.old.items
         ++ record_text scenario.now (counts_of (curves_of window.now)) group destination) }
 {

@@ -4,12 +4,11 @@ ghost use Rattle.ltm_io.specs.Faults.{Rose};
 ghost use Rattle.ltm_io.specs.Sink.{appended, AppendsFront};
 ghost use Rattle.ltm_curve.specs.Table.{counts_of};
 ghost use Rattle.ltm_loading.specs.Groups.{groups};
-ghost use Rattle.ltm_setting.specs.Setting.{setting_of};
-ghost use Rattle.ltm_loading.specs.Shaped.{IsShaped};
 ghost use Rattle.ltm_units.specs.Texts.{texts_below};
 ghost use Rattle.ltm_check.specs.Text.{record_text, header_text, group_text, curves_file};
 ghost use Rattle.ltm_check.specs.Passing.{Passes};
 ghost use Rattle.ltm_check.specs.Seen.{curves_of, IsSeen};
+ghost use Rattle.ltm_setting.specs.Places.{IsDestination, IsShapedFor, all_groups};
 
 use crate::text::{push_header, push_record};
 use crate::window::Window;
@@ -84,9 +83,9 @@ fn put_record<W: Sink>(
     output: &mut W,
     waiting: &mut Vec<u8>,
 ) -> Result<(), SinkError>
-    requires shape { IsShaped (setting_of scenario.now) (curves_of window.now) }
+    requires shape { IsShapedFor scenario.now (curves_of window.now) }
     requires group { IsSeen window.now group }
-    requires destination { destination < (setting_of scenario.now).destinations }
+    requires destination { IsDestination scenario.now destination }
     ensures ok { OnOk result (Passes (waiting.old.items
         ++ record_text scenario.now (counts_of (curves_of window.now)) group destination)
         (W.written output.old) (W.written output.new) waiting.new.items) }
@@ -112,7 +111,7 @@ fn put_records<W: Sink>(
     output: &mut W,
     waiting: &mut Vec<u8>,
 ) -> Result<(), SinkError>
-    requires shape { IsShaped (setting_of scenario.now) (curves_of window.now) }
+    requires shape { IsShapedFor scenario.now (curves_of window.now) }
     requires group { IsSeen window.now group }
     ensures ok { OnOk result (Passes (waiting.old.items
         ++ group_text scenario.now (counts_of (curves_of window.now)) group)
@@ -138,8 +137,8 @@ fn put_group<W: Sink>(
     output: &mut W,
     waiting: &mut Vec<u8>,
 ) -> Result<(), SinkError>
-    requires shape { IsShaped (setting_of scenario.now) (curves_of window.old) }
-    requires group { group < groups (setting_of scenario.now) }
+    requires shape { IsShapedFor scenario.now (curves_of window.old) }
+    requires group { group < all_groups scenario.now }
     ensures same { curves_of window.new ≡ curves_of window.old }
     ensures ok { OnOk result (Passes (waiting.old.items
         ++ group_text scenario.now (counts_of (curves_of window.old)) group)
@@ -164,13 +163,13 @@ fn put_groups<W: Sink>(
     output: &mut W,
     waiting: &mut Vec<u8>,
 ) -> Result<(), SinkError>
-    requires { IsShaped (setting_of scenario.now) (curves_of window.old) }
+    requires { IsShapedFor scenario.now (curves_of window.old) }
     ensures ok { OnOk result (Passes (waiting.old.items
-        ++ texts_below (groups (setting_of scenario.now))
+        ++ texts_below (all_groups scenario.now)
         (group_text scenario.now (counts_of (curves_of window.old))))
         (W.written output.old) (W.written output.new) waiting.new.items) }
     ensures err { OnErr result (AppendsFront (W.written output.old) (W.written output.new)
-        (waiting.old.items ++ texts_below (groups (setting_of scenario.now))
+        (waiting.old.items ++ texts_below (all_groups scenario.now)
         (group_text scenario.now (counts_of (curves_of window.old))))) }
     ensures later { W.faults output.old ≤ W.faults output.new }
     ensures cause { IsErrOf result SinkError.WriteFault
@@ -193,7 +192,7 @@ pub fn write_curves<W: Sink>(
     curves: &Curves,
     output: &mut W,
 ) -> Result<(), SinkError>
-    requires { IsShaped (setting_of scenario.now) curves.now }
+    requires { IsShapedFor scenario.now curves.now }
     ensures ok { OnOk result (W.written output.new
         ≡ appended (curves_file scenario.now (counts_of curves.now)) (W.written output.old)) }
     ensures err { OnErr result (AppendsFront (W.written output.old) (W.written output.new)

@@ -1,12 +1,11 @@
 //! Whether the curve file beside a case is its loading.
-ghost use Rattle.std.specs.Prelude.{◌≡◌, ◌≤◌, ◌<◌, ◌⊎◌, List, true, false, Ok, Err, IfOk, IfErr, IfSome};
+ghost use Rattle.std.specs.Prelude.{◌≡◌, ◌≤◌, ◌⊎◌, List, true, false, Ok, Err, IfOk, IfErr, IfSome};
 ghost use Rattle.ltm_io.specs.declared.doc.Doc.{Doc};
 ghost use Rattle.ltm_curve.specs.Counts.{Counts};
 ghost use Rattle.ltm_curve.specs.Table.{counts_of};
 ghost use Rattle.ltm_network.specs.Network.{node_name};
 ghost use Rattle.ltm_records.specs.Fields.{Fields};
 ghost use Rattle.ltm_setting.specs.Setting.{setting_of};
-ghost use Rattle.ltm_loading.specs.Shaped.{IsShaped};
 ghost use Rattle.ltm_check.specs.Kept.{Keeps};
 ghost use Rattle.ltm_check.specs.Verdict.{IsVerdict};
 ghost use Rattle.ltm_casefile.specs.declared.faults.CaseFault.{CaseFault};
@@ -14,6 +13,7 @@ ghost use Rattle.ltm_check_command.specs.declared.refusal.Refusal.{Refusal};
 ghost use Rattle.ltm_check_command.specs.Lines.{yes_line};
 ghost use Rattle.ltm_check_command.specs.Checks.{Refuses, RecordsAnswer, AnswersCheck, AnswersRefusal, HasMissed, is_check_file, check_asks_for};
 ghost use Rattle.ltm_check_command.specs.Curves.{KeepsRecords};
+ghost use Rattle.ltm_setting.specs.Places.{IsNode, IsShapedFor};
 
 use crate::curves::read_file;
 use crate::lines::yes_text;
@@ -29,7 +29,7 @@ use std::alloc::Global;
 
 /// What is said of the counts that curves keep.
 fn said_of(alloc: Global, scenario: &Scenario, curves: &Curves) -> Result<Checked, NoMemory>
-    requires { IsShaped (setting_of scenario.now) curves.now }
+    requires { IsShapedFor scenario.now curves.now }
     ensures kept { IfOk result (IsVerdict (setting_of scenario.now) (counts_of curves.now)) }
     ensures told { IfOk result (λ said. (counts : Counts)
         → Keeps (setting_of scenario.now) counts curves.now
@@ -44,7 +44,7 @@ fn said_of(alloc: Global, scenario: &Scenario, curves: &Curves) -> Result<Checke
 /// That the counts of a pair are not its node step.
 #[tactic(auto, unfolding(ltm_setting::specs::Setting::setting_of))]
 fn no_step(scenario: &Scenario, pair: Pair) -> Refusal
-    requires { pair.node.0 < (setting_of scenario.now).nodes }
+    requires { IsNode scenario.now pair.node.0 }
     ensures { result ≡ Refusal.NoStep (node_name scenario.now.network pair.node.0) pair.slot }
 {
     Refusal::NoStep {
@@ -66,7 +66,7 @@ fn say_yes(alloc: Global) -> Result<Vec<u8>, Refusal>
 
 /// What is answered to a curve file whose counts curves keep.
 fn answer_curves(alloc: Global, scenario: &Scenario, curves: &Curves) -> Result<Vec<u8>, Refusal>
-    requires { IsShaped (setting_of scenario.now) curves.now }
+    requires { IsShapedFor scenario.now curves.now }
     ensures text { IfOk result (λ text. (records : List Fields)
         → KeepsRecords scenario.now records curves.now
         → RecordsAnswer scenario.now records (Ok text.items)) }

@@ -4,6 +4,7 @@ use Rattle.ltm_units.specs.declared.places.Pair.{Pair}
 use Rattle.ltm_node.specs.Inputs.{Inputs}
 use Rattle.ltm_node.specs.Outputs.{Outputs}
 use Rattle.ltm_node.specs.Solution.{Solution}
+use Rattle.ltm_units.specs.Bounds.{widest_row}
 
 -- the buffers of a worker
 pub record ScratchData : Type 0 where
@@ -25,5 +26,5 @@ pub record DoneData : Type 0 where
 
 -- there is room for the inputs and the counts of any pair: at most 5 arms, 4 out-links and 64 destinations
 pub record HasWidestRoom (n : Inputs) (o : Outputs) : Type 0 where
-  pub inputs : 1162 ≤ n.room
-  pub outputs : 1162 ≤ o.room
+  pub inputs : widest_row ≤ n.room
+  pub outputs : widest_row ≤ o.room

@@ -18,12 +18,13 @@ pub struct Scratch {
 impl Model for Scratch {
     ghost use Rattle.std.specs.Prelude.{◌≤◌};
     ghost use Rattle.ltm_core.specs.Claims.{ScratchData};
+    ghost use Rattle.ltm_units.specs.Bounds.{widest_row};
 
     ghost Value = { ScratchData };
 
     ghost view = { λ s. record { inputs = s.inputs; outputs = s.outputs } };
 
-    ghost invariant = { λ s. (1162 ≤ s.inputs.room) × (1162 ≤ s.outputs.room) };
+    ghost invariant = { λ s. (widest_row ≤ s.inputs.room) × (widest_row ≤ s.outputs.room) };
 }
 
 impl Scratch {

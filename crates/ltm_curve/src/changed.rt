@@ -3,6 +3,7 @@ ghost use Rattle.std.specs.Prelude.{◌≡◌, ℕ, ◌+◌, ◌-◌, ◌/◌, �
 ghost use Rattle.std.specs.Int.{bit_at};
 ghost use Rattle.ltm_marks.specs.Marks.{width_of, rows_of, is_marked, SameSize};
 ghost use Rattle.ltm_curve.specs.MarkedCount.{marked_count};
+ghost use Rattle.ltm_units.specs.Bounds.{most_marked};
 
 use ltm_marks::Marks;
 use ltm_units::NoMemory;
@@ -135,7 +136,7 @@ impl Changed {
     #[inline]
     pub(crate) fn groups(&self) -> usize
         ensures value { result ≡ cell_groups self.now }
-        ensures few { result ≤ 65536 }
+        ensures few { result ≤ most_marked }
     {
         self.marks.width()
     }

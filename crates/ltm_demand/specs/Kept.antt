@@ -6,12 +6,13 @@ use Rattle.ltm_demand.specs.Rows.{OriginRoom, row_cmp, IsDemandRow}
 use Rattle.ltm_demand.specs.Produced.{by_end, origin_by_end}
 use Rattle.ltm_demand.specs.Tables.{told, IsReached}
 use Rattle.ltm_demand.specs.Origins.{OriginData, origin_at, rows_of}
+use Rattle.ltm_units.specs.Bounds.{most_demand_rows}
 
 -- the rows are in the order of their keys, each a row within the horizon, and at most 10,000
 pub record AreDemandRows (slots : ℕ) (rows : List DemandRow) : Type 0 where
   pub ordered : IsStrictlySortedBy row_cmp rows
   pub each : All (IsDemandRow slots) rows
-  pub few : length rows ≤ 10000
+  pub few : length rows ≤ most_demand_rows
 
 -- the room that the origins have
 abbrev pub room_in : OriginData → OriginRoom

@@ -5,6 +5,7 @@ use Rattle.std.specs.Ordering.{nat_cmp, ordering_then, is_lt, is_eq, is_gt}
 use Rattle.ltm_demand.specs.declared.row.DemandRow.{DemandRow}
 use Rattle.ltm_demand.specs.declared.row.DemandFault.{DemandFault}
 use Rattle.ltm_demand.specs.declared.row.DemandFault.TheVariants.{BadSlots, TooManyRows}
+use Rattle.ltm_units.specs.Bounds.{most_amount, most_demand_rows}
 
 -- the horizon, and the rows in the order of their keys
 pub record DemandData : Type 0 where
@@ -62,7 +63,7 @@ has_slots slots row = nat_lt row.from row.to && nat_le row.to slots
 unfoldable pub with_row : DemandData → DemandRow → Result DemandData DemandFault
 with_row d row =
     if not (has_slots d.slots row) then Err BadSlots
-    else if nat_lt 10000 (length (edited d.rows row)) then Err TooManyRows
+    else if nat_lt most_demand_rows (length (edited d.rows row)) then Err TooManyRows
     else Ok (record { slots = d.slots; rows = edited d.rows row })
 
 -- the row with another amount
@@ -85,7 +86,7 @@ takes_no_memory d row = (row.amount.0 == 0) || (not (amount_at d.demand.rows row
 
 -- the row can be set, and that takes no memory
 pub record CanRestore (d : DemandState) (row : DemandRow) : Type 0 where
-  pub small : row.amount.0 ≤ 1000000000
+  pub small : row.amount.0 ≤ most_amount
   pub accepted : IsOk (with_row d.demand row)
   pub free : takes_no_memory d row ≡ true
 
@@ -104,4 +105,4 @@ pub record IsDemandRow (slots : ℕ) (row : DemandRow) : Type 0 where
   pub some_slots : row.from < row.to
   pub within : row.to ≤ slots
   pub some_units : 0 < row.amount.0
-  pub small : row.amount.0 ≤ 1000000000
+  pub small : row.amount.0 ≤ most_amount

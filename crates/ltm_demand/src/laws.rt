@@ -5,6 +5,7 @@ ghost use Rattle.ltm_demand.specs.declared.row.DemandRow.{DemandRow};
 ghost use Rattle.ltm_demand.specs.Produced.{by_end, origin_by_end, total, IsSilent};
 ghost use Rattle.ltm_demand.specs.Rows.{edited};
 ghost use Rattle.ltm_demand.specs.Kept.{AreDemandRows};
+ghost use Rattle.ltm_units.specs.Bounds.{most_produced};
 
 /// What rows have produced never falls from slot to slot, and is at most their units, which are few.
 pub fn production_never_falls()
@@ -12,7 +13,7 @@ pub fn production_never_falls()
         → by_end rows o d s ≤ by_end rows o d t }
     ensures within { (rows : List DemandRow) (o d t : ℕ) → by_end rows o d t ≤ total rows }
     ensures small { (slots : ℕ) (rows : List DemandRow) → AreDemandRows slots rows
-        → total rows ≤ 10000000000000 }
+        → total rows ≤ most_produced }
 {}
 
 /// What the rows of an origin have produced for each destination adds up to what they have produced, which is at most

@@ -6,6 +6,7 @@ ghost use Rattle.ltm_demand.specs.Places.{IsAt, IsGap};
 ghost use Rattle.ltm_demand.specs.Tables.{no_table, told, IsRoomy, IsReached, IsShifted};
 ghost use Rattle.ltm_demand.specs.Origins.{OriginData};
 ghost use Rattle.ltm_demand.specs.Kept.{room_in};
+ghost use Rattle.ltm_units.specs.Bounds.{most_amount};
 
 use crate::DemandRow;
 use crate::rows::{find, put_in, put_over};
@@ -99,8 +100,8 @@ impl Origin {
     /// Writes over the row at the place, or takes it out where the amount is 0; the amount that stood there.
     pub fn replace(&mut self, place: usize, row: &DemandRow) -> u64
         requires at { IsAt self.old.rows row.now place }
-        requires was { amount_at self.old.rows row.now ≤ 1000000000 }
-        requires now { row.now.amount.0 ≤ 1000000000 }
+        requires was { amount_at self.old.rows row.now ≤ most_amount }
+        requires now { row.now.amount.0 ≤ most_amount }
         requires slots { row.now.from < row.now.to }
         requires reached { IsReached self.old.table row.now }
         requires roomy { IsRoomy self.old.table row.now (amount_at self.old.rows row.now) }
@@ -119,7 +120,7 @@ impl Origin {
     pub fn fill(&mut self, place: usize, row: &DemandRow)
         requires gap { IsGap self.old.rows row.now place }
         requires some { 0 < row.now.amount.0 }
-        requires now { row.now.amount.0 ≤ 1000000000 }
+        requires now { row.now.amount.0 ≤ most_amount }
         requires slots { row.now.from < row.now.to }
         requires vacant { length self.old.rows < self.old.places }
         requires reached { IsReached self.old.table row.now }

@@ -1,5 +1,6 @@
 //! Units that start evenly over some slots, told slot by slot.
 ghost use Rattle.std.specs.Prelude.{◌≡◌, ◌+◌, ◌*◌, ◌/◌, ◌<◌, ◌≤◌, ◌^◌};
+ghost use Rattle.ltm_units.specs.Bounds.{most_amount};
 
 /// What an amount has produced after some of its slots, floored: one sum a slot, and no division.
 #[derive(Drop)]
@@ -26,7 +27,7 @@ impl Pace {
     /// Before the first of the slots.
     #[inline]
     pub fn of(amount: u64, slots: u64) -> Pace
-        requires amount { amount ≤ 1000000000 }
+        requires amount { amount ≤ most_amount }
         requires some { 0 < slots }
         requires short { slots < 2 ^ 32 }
         ensures amount { result.amount ≡ amount }

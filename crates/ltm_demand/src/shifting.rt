@@ -5,6 +5,7 @@
 ghost use Rattle.std.specs.Prelude.{◌≡◌, ◌≢◌, ℕ, ◌+◌, ◌-◌, ◌*◌, ◌<◌, ◌≤◌, ◌^◌, length, slice_index, slice_set};
 ghost use Rattle.ltm_demand.specs.Produced.{produced};
 ghost use Rattle.ltm_demand.specs.Tables.{IsOneOf};
+ghost use Rattle.ltm_units.specs.Bounds.{most_amount};
 
 use crate::DemandRow;
 use crate::pace::Pace;
@@ -12,8 +13,8 @@ use crate::pace::Pace;
 /// Puts the amount of a row in place of another in a table of `slots` slots.
 pub(crate) fn shift(units: &mut [u64], width: usize, slots: usize, row: &DemandRow, was: u64)
     requires own { row.now.destination + 1 < width }
-    requires was { was ≤ 1000000000 }
-    requires now { row.now.amount.0 ≤ 1000000000 }
+    requires was { was ≤ most_amount }
+    requires now { row.now.amount.0 ≤ most_amount }
     requires slots { row.now.from < row.now.to }
     requires within { row.now.to ≤ slots }
     requires reaches { slots * width ≤ length units.old }
@@ -39,7 +40,7 @@ fn exchange(units: &mut [u64], place: usize, gone: u64, come: u64)
     requires place { place < length units.old }
     requires has { gone ≤ slice_index units.old place }
     requires room { slice_index units.old place < 2 ^ 63 }
-    requires come { come ≤ 1000000000 }
+    requires come { come ≤ most_amount }
     ensures { units.new ≡ slice_set units.old place (slice_index units.old place - gone + come) }
 {
     units[place] = units[place] - gone + come;
@@ -53,7 +54,7 @@ fn exchange_both(units: &mut [u64], width: usize, own: usize, slot: usize, gone:
     requires within { (slot + 1) * width ≤ length units.old }
     requires has { (c : ℕ) → IsOneOf own c → gone ≤ slice_index units.old (slot * width + c) }
     requires room { (c : ℕ) → IsOneOf own c → slice_index units.old (slot * width + c) < 2 ^ 63 }
-    requires come { come ≤ 1000000000 }
+    requires come { come ≤ most_amount }
     ensures len { length units.new ≡ length units.old }
     ensures here { (c : ℕ) → IsOneOf own c
         → slice_index units.new (slot * width + c) + gone
@@ -71,8 +72,8 @@ fn exchange_both(units: &mut [u64], width: usize, own: usize, slot: usize, gone:
 /// The slots of the row.
 fn shift_during(units: &mut [u64], width: usize, row: &DemandRow, was: u64)
     requires own { row.now.destination + 1 < width }
-    requires was { was ≤ 1000000000 }
-    requires now { row.now.amount.0 ≤ 1000000000 }
+    requires was { was ≤ most_amount }
+    requires now { row.now.amount.0 ≤ most_amount }
     requires slots { row.now.from < row.now.to }
     requires reaches { row.now.to * width ≤ length units.old }
     requires has { (c t : ℕ) → IsOneOf (row.now.destination + 1) c → t < row.now.to
@@ -101,7 +102,7 @@ fn shift_during(units: &mut [u64], width: usize, row: &DemandRow, was: u64)
 /// The slots behind the row, up to and without `slots`.
 fn shift_after(units: &mut [u64], width: usize, slots: usize, row: &DemandRow, was: u64)
     requires own { row.now.destination + 1 < width }
-    requires now { row.now.amount.0 ≤ 1000000000 }
+    requires now { row.now.amount.0 ≤ most_amount }
     requires reaches { slots * width ≤ length units.old }
     requires has { (c t : ℕ) → IsOneOf (row.now.destination + 1) c → row.now.to ≤ t → t < slots
         → was ≤ slice_index units.old (t * width + c) }

@@ -5,6 +5,7 @@
 //! slot reads the last, and a longer horizon changes no table.
 ghost use Rattle.std.specs.Prelude.{◌≡◌, ℕ, ◌+◌, ◌-◌, ◌*◌, ◌<◌, ◌≤◌, ◌^◌, min, length, vec_len, slice_index, OnOk, IfOk, IsTrue, ◌↔◌};
 ghost use Rattle.ltm_demand.specs.Tables.{TableData, no_table, told, IsRoomy, IsReached, IsShifted};
+ghost use Rattle.ltm_units.specs.Bounds.{most_amount};
 
 use crate::DemandRow;
 use crate::shifting::shift;
@@ -170,8 +171,8 @@ impl Table {
 
     /// Puts the amount of a row in place of another.
     pub fn put_amount(&mut self, row: &DemandRow, was: u64)
-        requires was { was ≤ 1000000000 }
-        requires now { row.now.amount.0 ≤ 1000000000 }
+        requires was { was ≤ most_amount }
+        requires now { row.now.amount.0 ≤ most_amount }
         requires slots { row.now.from < row.now.to }
         requires reached { IsReached self.old row.now }
         requires roomy { IsRoomy self.old row.now was }

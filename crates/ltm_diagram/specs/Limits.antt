@@ -8,6 +8,7 @@ use Rattle.ltm_diagram.specs.declared.diagram.Field.{Field}
 use Rattle.ltm_diagram.specs.declared.diagram.Field.TheVariants.{Length, Free, Wave, Jam}
 use Rattle.ltm_diagram.specs.declared.diagram.DiagramFault.{DiagramFault}
 use Rattle.ltm_diagram.specs.declared.diagram.DiagramFault.TheVariants.{Zero, Over, StepTooLong, NoCapacity, CapacityOver}
+use Rattle.ltm_units.specs.Bounds.{most_in_slot, most_per_km}
 
 -- the milliseconds in which a vehicle drives through a link at free speed: at 1 km/h a metre takes 3600
 abbrev pub free_flow_time : Diagram → ℕ
@@ -35,8 +36,8 @@ limits_of d step =
     sized Length 1000000 d.length_m
     >>> sized Free 1000 d.free_kmh
     >>> sized Wave 1000 d.wave_kmh
-    >>> sized Jam 10000 d.jam_per_km
+    >>> sized Jam most_per_km d.jam_per_km
     >>> refuse (nat_lt (free_flow_time d) step || nat_lt (wave_time d) step) (StepTooLong (free_flow_time d) (wave_time d))
     >>> refuse (capacity_of d step == 0) NoCapacity
-    >>> refuse (nat_lt 32000 (capacity_of d step)) CapacityOver
+    >>> refuse (nat_lt most_in_slot (capacity_of d step)) CapacityOver
     >>> Ok (record { free_ms = free_flow_time d; wave_ms = wave_time d; capacity = capacity_of d step; storage = storage_of d })

@@ -1,6 +1,7 @@
 //! Times counted in slots.
 ghost use Rattle.std.specs.Prelude.{◌≡◌, ◌≤◌, ◌*◌, ◌+◌, ◌<◌};
 ghost use Rattle.ltm_diagram.specs.Delays.{IsDelay, AreDelays};
+ghost use Rattle.ltm_units.specs.Bounds.{longest_step, longest_time};
 
 use crate::diagram::Limits;
 use ltm_units::Millis;
@@ -31,8 +32,8 @@ impl Delay {
     #[tactic(auto, using(std::proofs::lemmas::Grind::div_ceil_times))]
     pub fn of(time: Millis, step: Millis) -> Delay
         requires some { 1 ≤ step.0 }
-        requires most { step.0 ≤ 60000 }
-        requires time { time.0 ≤ 3600000000 }
+        requires most { step.0 ≤ longest_step }
+        requires time { time.0 ≤ longest_time }
         ensures { IsDelay step.0 time.0 result }
     {
         let slots = time.0.div_ceil(step.0);
@@ -47,9 +48,9 @@ impl Delays {
     /// The times of some limits, in slots of `step`.
     pub fn of(limits: &Limits, step: Millis) -> Delays
         requires some { 1 ≤ step.0 }
-        requires most { step.0 ≤ 60000 }
-        requires free { limits.now.free_ms ≤ 3600000000 }
-        requires wave { limits.now.wave_ms ≤ 3600000000 }
+        requires most { step.0 ≤ longest_step }
+        requires free { limits.now.free_ms ≤ longest_time }
+        requires wave { limits.now.wave_ms ≤ longest_time }
         ensures { AreDelays step.0 limits.now result }
     {
         Delays {

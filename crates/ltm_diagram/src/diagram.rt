@@ -3,6 +3,7 @@ ghost use Rattle.std.specs.Prelude.{◌≡◌, ◌≤◌, ◌*◌, IfOk};
 ghost use Rattle.std.specs.Int.{div_ceil};
 ghost use Rattle.ltm_diagram.specs.Limits.{limits_of, sized, capacity_of};
 ghost use Rattle.ltm_diagram.specs.InRange.{AreInRange};
+ghost use Rattle.ltm_units.specs.Bounds.{longest_step, most_per_km};
 
 use ltm_units::Millis;
 
@@ -72,7 +73,7 @@ impl Diagram {
     #[tactic(auto, unfolding(crate::specs::Limits::limits_of))]
     pub fn limits(&self, step: Millis) -> Result<Limits, DiagramFault>
         requires some { 1 ≤ step.0 }
-        requires most { step.0 ≤ 60000 }
+        requires most { step.0 ≤ longest_step }
         ensures value { result ≡ limits_of self.now step.0 }
         ensures in_range { IfOk result (λ limits. AreInRange step.0 limits) }
     {
@@ -106,8 +107,8 @@ impl Diagram {
         requires free { 1 ≤ self.now.free_kmh }
         requires free_most { self.now.free_kmh ≤ 1000 }
         requires wave_most { self.now.wave_kmh ≤ 1000 }
-        requires jam_most { self.now.jam_per_km ≤ 10000 }
-        requires step_most { step.0 ≤ 60000 }
+        requires jam_most { self.now.jam_per_km ≤ most_per_km }
+        requires step_most { step.0 ≤ longest_step }
         ensures { result ≡ capacity_of self.now step.0 }
     {
         let free = u64::from(self.free_kmh);

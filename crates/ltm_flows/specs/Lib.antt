@@ -6,3 +6,4 @@ pub mod Production
 pub mod Shown
 pub mod InAll
 pub mod Counted
+pub mod WorkingOn

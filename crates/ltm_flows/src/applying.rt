@@ -1,13 +1,12 @@
 //! The counts of a node are written into the curves of a loading.
-ghost use Rattle.std.specs.Prelude.{◌≡◌, ◌≤◌, ◌<◌, ◌+◌, ◌^◌, ℕ, slice_index, None};
+ghost use Rattle.std.specs.Prelude.{◌≡◌, ◌<◌, ◌+◌, ◌^◌, ℕ, slice_index, None};
 ghost use Rattle.ltm_curve.specs.Table.{counts_of};
 ghost use Rattle.ltm_node.specs.Outputs.{arrived_after};
 ghost use Rattle.ltm_loading.specs.NextPair.{Applies};
 ghost use Rattle.ltm_loading.specs.NodeGroups.{group_count, node_group};
-ghost use Rattle.ltm_loading.specs.Pairs.{shape_at};
-ghost use Rattle.ltm_loading.specs.Shaped.{IsShaped};
 ghost use Rattle.ltm_setting.specs.Setting.{setting_of};
 ghost use Rattle.ltm_flows.specs.Applying.{in_row, SetsGroups, SetsSink};
+ghost use Rattle.ltm_setting.specs.Places.{IsBoundary, IsNode, IsShapedFor, IsSlot, node_shape};
 
 use ltm_curve::Curves;
 use ltm_loading::{groups_are_set, groups_by_row};
@@ -24,12 +23,12 @@ fn write_groups(
     boundary: u32,
     outputs: &NodeOutputs,
 )
-    requires node { node.0 < (setting_of scenario.now).nodes }
-    requires boundary { boundary ≤ (setting_of scenario.now).slots }
-    requires shape { IsShaped (setting_of scenario.now) curves.old }
-    requires outputs { outputs.now.shape ≡ shape_at (setting_of scenario.now) node.0 }
+    requires node { IsNode scenario.now node.0 }
+    requires boundary { IsBoundary scenario.now boundary }
+    requires shape { IsShapedFor scenario.now curves.old }
+    requires outputs { outputs.now.shape ≡ node_shape scenario.now node.0 }
     requires small { (i : ℕ) → slice_index outputs.now.row i < 2 ^ 31 }
-    ensures shape { IsShaped (setting_of scenario.now) curves.new }
+    ensures shape { IsShapedFor scenario.now curves.new }
     ensures sets { SetsGroups (setting_of scenario.now) boundary
         (group_count (setting_of scenario.now) node.0)
         (node_group (setting_of scenario.now) node.0)
@@ -46,11 +45,11 @@ fn write_groups(
 
 /// Writes what has arrived at a node that is a destination.
 fn write_sink(scenario: &Scenario, curves: &mut Curves, node: NodeId, boundary: u32, arrived: u64)
-    requires boundary { boundary ≤ (setting_of scenario.now).slots }
-    requires shape { IsShaped (setting_of scenario.now) curves.old }
+    requires boundary { IsBoundary scenario.now boundary }
+    requires shape { IsShapedFor scenario.now curves.old }
     requires small { arrived < 2 ^ 31 }
     requires no_sink { (setting_of scenario.now).own node.0 ≡ None → arrived ≡ 0 }
-    ensures shape { IsShaped (setting_of scenario.now) curves.new }
+    ensures shape { IsShapedFor scenario.now curves.new }
     ensures sets { SetsSink (setting_of scenario.now) node.0 boundary arrived (counts_of curves.old)
         (counts_of curves.new) }
 {
@@ -62,14 +61,14 @@ fn write_sink(scenario: &Scenario, curves: &mut Curves, node: NodeId, boundary: 
 
 /// Writes the counts of a node at the end of a slot, and no others. The outputs are of the node's shape. Takes no memory.
 pub fn apply(scenario: &Scenario, curves: &mut Curves, pair: Pair, outputs: &NodeOutputs)
-    requires node { pair.node.0 < (setting_of scenario.now).nodes }
-    requires slot { pair.slot < (setting_of scenario.now).slots }
-    requires shape { IsShaped (setting_of scenario.now) curves.old }
-    requires outputs { outputs.now.shape ≡ shape_at (setting_of scenario.now) pair.node.0 }
+    requires node { IsNode scenario.now pair.node.0 }
+    requires slot { IsSlot scenario.now pair.slot }
+    requires shape { IsShapedFor scenario.now curves.old }
+    requires outputs { outputs.now.shape ≡ node_shape scenario.now pair.node.0 }
     requires small { (i : ℕ) → slice_index outputs.now.row i < 2 ^ 31 }
     requires no_sink { (setting_of scenario.now).own pair.node.0 ≡ None
         → arrived_after outputs.now ≡ 0 }
-    ensures shape { IsShaped (setting_of scenario.now) curves.new }
+    ensures shape { IsShapedFor scenario.now curves.new }
     ensures applies { Applies (setting_of scenario.now) pair.node.0 (pair.slot + 1) outputs.now.row
         (counts_of curves.old) (counts_of curves.new) }
 {

@@ -1,10 +1,10 @@
 //! What curves come to in all at the last boundary, of a scenario whose loading is kept by nobody.
 ghost use Rattle.std.specs.Prelude.{◌≡◌};
 ghost use Rattle.ltm_curve.specs.Table.{counts_of};
-ghost use Rattle.ltm_loading.specs.Shaped.{IsShaped};
 ghost use Rattle.ltm_loading.specs.Totals.{generated};
 ghost use Rattle.ltm_setting.specs.Setting.{setting_of};
 ghost use Rattle.ltm_flows.specs.InAll.{AreTotals};
+ghost use Rattle.ltm_setting.specs.Places.{IsShapedFor};
 
 use crate::in_all::Totals;
 use crate::sums::sum_up;
@@ -27,7 +27,7 @@ fn generated_at_end(scenario: &Scenario) -> u64
 
 /// What curves of a scenario come to in all at the last boundary. Takes no memory.
 pub fn totals_at_end(scenario: &Scenario, curves: &Curves) -> Totals
-    requires { IsShaped (setting_of scenario.now) curves.now }
+    requires { IsShapedFor scenario.now curves.now }
     ensures { AreTotals (setting_of scenario.now) (counts_of curves.now)
         (setting_of scenario.now).slots result }
 {

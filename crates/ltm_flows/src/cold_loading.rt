@@ -4,13 +4,12 @@ ghost use Rattle.ltm_curve.specs.Table.{counts_of, IsEmpty};
 ghost use Rattle.ltm_node.specs.Shape.{width};
 ghost use Rattle.ltm_node.specs.Solvable.{IsSolvable};
 ghost use Rattle.ltm_loading.specs.Setting.{IsSetting};
-ghost use Rattle.ltm_loading.specs.Groups.{groups};
 ghost use Rattle.ltm_loading.specs.Loading.{IsFront, IsLoading};
 ghost use Rattle.ltm_loading.specs.Uncounted.{IsUncountedPair};
-ghost use Rattle.ltm_loading.specs.Pairs.{shape_at};
 ghost use Rattle.ltm_setting.specs.Setting.{setting_of};
-ghost use Rattle.ltm_loading.specs.Shaped.{IsShaped};
-ghost use Rattle.ltm_flows.specs.Working.{IsWorking, IsWorkingAt, HasRoom};
+ghost use Rattle.ltm_flows.specs.Working.{IsWorking};
+ghost use Rattle.ltm_flows.specs.WorkingOn.{HasNodeRoom, WorksAt};
+ghost use Rattle.ltm_setting.specs.Places.{IsDestination, IsNode, IsShapedFor, IsSlot, all_groups};
 
 use crate::moves::add_moves;
 use ltm_curve::Curves;
@@ -34,7 +33,7 @@ struct Room {
 
 /// Curves for the loadings of a scenario, in which all counts are 0.
 pub fn fresh(alloc: Global, scenario: &Scenario) -> Result<Curves, NoMemory>
-    ensures shape { IfOk result (λ c. IsShaped (setting_of scenario.now) c) }
+    ensures shape { IfOk result (λ c. IsShapedFor scenario.now c) }
     ensures empty { IfOk result IsEmpty }
 {
     Curves::create(
@@ -47,8 +46,8 @@ pub fn fresh(alloc: Global, scenario: &Scenario) -> Result<Curves, NoMemory>
 
 /// Room for the step of any node of a scenario.
 fn make_room(alloc: Global, scenario: &Scenario) -> Result<Room, NoMemory>
-    ensures inputs { IfOk result (λ room. HasRoom (setting_of scenario.now) room.inputs.room) }
-    ensures outputs { IfOk result (λ room. HasRoom (setting_of scenario.now) room.outputs.room) }
+    ensures inputs { IfOk result (λ room. HasNodeRoom scenario.now room.inputs.room) }
+    ensures outputs { IfOk result (λ room. HasNodeRoom scenario.now room.outputs.room) }
 {
     let widest = widest(scenario);
     let inputs = NodeInputs::create(alloc, widest)?;
@@ -59,14 +58,14 @@ fn make_room(alloc: Global, scenario: &Scenario) -> Result<Room, NoMemory>
 /// The step of a node in a slot. Where its arms send nothing, its counts stay as they were carried on.
 fn load_pair(scenario: &Scenario, curves: &mut Curves, pair: Pair, room: &mut Room)
     requires setting { IsSetting (setting_of scenario.now) }
-    requires node { pair.node.0 < (setting_of scenario.now).nodes }
-    requires slot { pair.slot < (setting_of scenario.now).slots }
-    requires working { IsWorkingAt (setting_of scenario.now) curves.old pair.slot pair.node.0 }
-    requires inputs { HasRoom (setting_of scenario.now) room.old.inputs.room }
-    requires outputs { HasRoom (setting_of scenario.now) room.old.outputs.room }
-    ensures working { IsWorkingAt (setting_of scenario.now) curves.new pair.slot (pair.node.0 + 1) }
-    ensures inputs { HasRoom (setting_of scenario.now) room.new.inputs.room }
-    ensures outputs { HasRoom (setting_of scenario.now) room.new.outputs.room }
+    requires node { IsNode scenario.now pair.node.0 }
+    requires slot { IsSlot scenario.now pair.slot }
+    requires working { WorksAt scenario.now curves.old pair.slot pair.node.0 }
+    requires inputs { HasNodeRoom scenario.now room.old.inputs.room }
+    requires outputs { HasNodeRoom scenario.now room.old.outputs.room }
+    ensures working { WorksAt scenario.now curves.new pair.slot (pair.node.0 + 1) }
+    ensures inputs { HasNodeRoom scenario.now room.new.inputs.room }
+    ensures outputs { HasNodeRoom scenario.now room.new.outputs.room }
 {
     inputs_by_place();
     counts_by_place();
@@ -86,16 +85,16 @@ pub fn move_pair(
     outputs: &mut NodeOutputs,
 )
     requires setting { IsSetting (setting_of scenario.now) }
-    requires node { pair.node.0 < (setting_of scenario.now).nodes }
-    requires slot { pair.slot < (setting_of scenario.now).slots }
-    requires working { IsWorkingAt (setting_of scenario.now) curves.old pair.slot pair.node.0 }
+    requires node { IsNode scenario.now pair.node.0 }
+    requires slot { IsSlot scenario.now pair.slot }
+    requires working { WorksAt scenario.now curves.old pair.slot pair.node.0 }
     requires reads { IsUncountedPair (setting_of scenario.now)
         (counts_of curves.old) pair.node.0 pair.slot inputs.now }
     requires solvable { IsSolvable inputs.now }
-    requires room { HasRoom (setting_of scenario.now) outputs.old.room }
-    ensures working { IsWorkingAt (setting_of scenario.now) curves.new pair.slot (pair.node.0 + 1) }
-    ensures stays { (g d k : ℕ) → g < groups (setting_of scenario.now)
-        → d < (setting_of scenario.now).destinations → k ≤ pair.slot
+    requires room { HasNodeRoom scenario.now outputs.old.room }
+    ensures working { WorksAt scenario.now curves.new pair.slot (pair.node.0 + 1) }
+    ensures stays { (g d k : ℕ) → g < all_groups scenario.now
+        → IsDestination scenario.now d → k ≤ pair.slot
         → counts_of curves.new g d k ≡ counts_of curves.old g d k }
     ensures room { outputs.new.room ≡ outputs.old.room }
 {
@@ -115,13 +114,13 @@ pub fn move_pair(
 /// there.
 fn load_slot(scenario: &Scenario, curves: &mut Curves, slot: u32, room: &mut Room)
     requires setting { IsSetting (setting_of scenario.now) }
-    requires slot { slot < (setting_of scenario.now).slots }
+    requires slot { IsSlot scenario.now slot }
     requires working { IsWorking (setting_of scenario.now) curves.old slot }
-    requires inputs { HasRoom (setting_of scenario.now) room.old.inputs.room }
-    requires outputs { HasRoom (setting_of scenario.now) room.old.outputs.room }
+    requires inputs { HasNodeRoom scenario.now room.old.inputs.room }
+    requires outputs { HasNodeRoom scenario.now room.old.outputs.room }
     ensures working { IsWorking (setting_of scenario.now) curves.new (slot + 1) }
-    ensures inputs { HasRoom (setting_of scenario.now) room.new.inputs.room }
-    ensures outputs { HasRoom (setting_of scenario.now) room.new.outputs.room }
+    ensures inputs { HasNodeRoom scenario.now room.new.inputs.room }
+    ensures outputs { HasNodeRoom scenario.now room.new.outputs.room }
 {
     next_slot();
     begin_slot(scenario, curves, slot);
@@ -134,11 +133,11 @@ fn load_slot(scenario: &Scenario, curves: &mut Curves, slot: u32, room: &mut Roo
 /// Carries all counts on to the end of a slot. No count up to the slot's beginning changes. Takes no memory.
 pub fn begin_slot(scenario: &Scenario, curves: &mut Curves, slot: u32)
     requires setting { IsSetting (setting_of scenario.now) }
-    requires slot { slot < (setting_of scenario.now).slots }
+    requires slot { IsSlot scenario.now slot }
     requires working { IsWorking (setting_of scenario.now) curves.old slot }
-    ensures working { IsWorkingAt (setting_of scenario.now) curves.new slot 0 }
-    ensures stays { (g d k : ℕ) → g < groups (setting_of scenario.now)
-        → d < (setting_of scenario.now).destinations → k ≤ slot
+    ensures working { WorksAt scenario.now curves.new slot 0 }
+    ensures stays { (g d k : ℕ) → g < all_groups scenario.now
+        → IsDestination scenario.now d → k ≤ slot
         → counts_of curves.new g d k ≡ counts_of curves.old g d k }
 {
     inputs_read_only();
@@ -149,7 +148,7 @@ pub fn begin_slot(scenario: &Scenario, curves: &mut Curves, slot: u32)
 
 /// The loading of a scenario: slot by slot from an empty network, all nodes of a slot in order of number.
 pub fn cold(alloc: Global, scenario: &Scenario) -> Result<Curves, NoMemory>
-    ensures shape { IfOk result (λ c. IsShaped (setting_of scenario.now) c) }
+    ensures shape { IfOk result (λ c. IsShapedFor scenario.now c) }
     ensures loading { IfOk result (λ c. IsLoading (setting_of scenario.now) (counts_of c)) }
 {
     is_setting(scenario);

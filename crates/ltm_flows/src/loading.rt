@@ -8,7 +8,8 @@ ghost use Rattle.ltm_loading.specs.Setting.{Setting, IsSetting};
 ghost use Rattle.ltm_loading.specs.Groups.{groups};
 ghost use Rattle.ltm_loading.specs.Loading.{IsLoading};
 ghost use Rattle.ltm_setting.specs.Setting.{setting_of};
-ghost use Rattle.ltm_loading.specs.Shaped.{IsShaped};
+ghost use Rattle.ltm_setting.specs.Places.{IsShapedFor, all_groups};
+ghost use Rattle.ltm_units.specs.Bounds.{longest_step, most_links};
 
 mod reading;
 
@@ -87,7 +88,7 @@ impl Loading {
         curves: &Curves,
         version: u64,
     ) -> Result<Loading, NoMemory>
-        requires shape { IsShaped (setting_of scenario.now) curves.now }
+        requires shape { IsShapedFor scenario.now curves.now }
         requires loading { IsLoading (setting_of scenario.now) (counts_of curves.now) }
         ensures { IfOk result (ShowsCounts (setting_of scenario.now) version
             (counts_of curves.now)) }
@@ -150,9 +151,9 @@ impl Loading {
     /// them it is written. Takes no memory.
     pub fn refresh(&mut self, scenario: &Scenario, curves: &Curves, changed: &Changed, version: u64)
         requires fits { Fits (setting_of scenario.now) self.old }
-        requires shape { IsShaped (setting_of scenario.now) curves.now }
+        requires shape { IsShapedFor scenario.now curves.now }
         requires loading { IsLoading (setting_of scenario.now) (counts_of curves.now) }
-        requires cells { HasCells changed.now (groups (setting_of scenario.now))
+        requires cells { HasCells changed.now (all_groups scenario.now)
             (setting_of scenario.now).slots }
         requires outside { AgreesOutside self.old curves.now changed.now }
         requires produced { HasProduction (setting_of scenario.now) self.old }
@@ -192,7 +193,7 @@ impl Loading {
     pub fn step(&self) -> Millis
         ensures value { result.0 ≡ step_of self.now }
         ensures some { 1 ≤ result.0 }
-        ensures small { result.0 ≤ 60000 }
+        ensures small { result.0 ≤ longest_step }
     {
         self.step
     }
@@ -207,7 +208,7 @@ impl Loading {
     /// How many links there are.
     pub fn links(&self) -> u32
         ensures value { result ≡ links_of self.now }
-        ensures few { result ≤ 4000 }
+        ensures few { result ≤ most_links }
     {
         self.links
     }

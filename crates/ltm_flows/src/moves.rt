@@ -1,14 +1,14 @@
 //! What moves at a node in a slot is added to the counts of a loading.
-ghost use Rattle.std.specs.Prelude.{◌≡◌, ◌≤◌, ◌<◌, ◌+◌, ◌^◌, ℕ, length, slice_index, None};
+ghost use Rattle.std.specs.Prelude.{◌≡◌, ◌<◌, ◌+◌, ◌^◌, ℕ, length, slice_index, None};
 ghost use Rattle.ltm_curve.specs.Table.{counts_of};
 ghost use Rattle.ltm_node.specs.Outputs.{left_after, entered_after, arrived_after};
 ghost use Rattle.ltm_loading.specs.Setting.{IsSetting};
-ghost use Rattle.ltm_loading.specs.Pairs.{arms_of, arm_group, arrived_by, shape_at};
+ghost use Rattle.ltm_loading.specs.Pairs.{arm_group, arrived_by};
 ghost use Rattle.ltm_loading.specs.NextPair.{Applies};
 ghost use Rattle.ltm_loading.specs.Uncounted.{moved_on};
 ghost use Rattle.ltm_setting.specs.Setting.{setting_of};
 ghost use Rattle.ltm_flows.specs.Applying.{out_group, with_moves, SetsGroups, SetsSink};
-ghost use Rattle.ltm_loading.specs.Shaped.{IsShaped};
+ghost use Rattle.ltm_setting.specs.Places.{HasOut, IsBoundary, IsDestination, IsNode, IsShapedFor, IsSlot, arms_at, node_shape};
 
 use ltm_curve::Curves;
 use ltm_loading::{counts_by_place, down_of, up_of};
@@ -28,17 +28,17 @@ fn add_arms(
     moves: &NodeOutputs,
 )
     requires setting { IsSetting (setting_of scenario.now) }
-    requires node { node.0 < (setting_of scenario.now).nodes }
-    requires boundary { boundary ≤ (setting_of scenario.now).slots }
-    requires shape { IsShaped (setting_of scenario.now) curves.old }
-    requires moves { moves.now.shape ≡ shape_at (setting_of scenario.now) node.0 }
-    requires small { (i d : ℕ) → i < arms_of (setting_of scenario.now) node.0
-        → d < (setting_of scenario.now).destinations
+    requires node { IsNode scenario.now node.0 }
+    requires boundary { IsBoundary scenario.now boundary }
+    requires shape { IsShapedFor scenario.now curves.old }
+    requires moves { moves.now.shape ≡ node_shape scenario.now node.0 }
+    requires small { (i d : ℕ) → i < arms_at scenario.now node.0
+        → IsDestination scenario.now d
         → with_moves (counts_of curves.old) boundary (arm_group (setting_of scenario.now) node.0)
         (left_after moves.now) i d < 2 ^ 31 }
-    ensures shape { IsShaped (setting_of scenario.now) curves.new }
+    ensures shape { IsShapedFor scenario.now curves.new }
     ensures sets { SetsGroups (setting_of scenario.now) boundary
-        (arms_of (setting_of scenario.now) node.0)
+        (arms_at scenario.now node.0)
         (arm_group (setting_of scenario.now) node.0)
         (with_moves (counts_of curves.old) boundary (arm_group (setting_of scenario.now) node.0)
         (left_after moves.now))
@@ -64,15 +64,15 @@ fn add_outs(
     moves: &NodeOutputs,
 )
     requires setting { IsSetting (setting_of scenario.now) }
-    requires node { node.0 < (setting_of scenario.now).nodes }
-    requires boundary { boundary ≤ (setting_of scenario.now).slots }
-    requires shape { IsShaped (setting_of scenario.now) curves.old }
-    requires moves { moves.now.shape ≡ shape_at (setting_of scenario.now) node.0 }
-    requires small { (j d : ℕ) → j < (setting_of scenario.now).outs node.0
-        → d < (setting_of scenario.now).destinations
+    requires node { IsNode scenario.now node.0 }
+    requires boundary { IsBoundary scenario.now boundary }
+    requires shape { IsShapedFor scenario.now curves.old }
+    requires moves { moves.now.shape ≡ node_shape scenario.now node.0 }
+    requires small { (j d : ℕ) → HasOut scenario.now node.0 j
+        → IsDestination scenario.now d
         → with_moves (counts_of curves.old) boundary (out_group (setting_of scenario.now) node.0)
         (entered_after moves.now) j d < 2 ^ 31 }
-    ensures shape { IsShaped (setting_of scenario.now) curves.new }
+    ensures shape { IsShapedFor scenario.now curves.new }
     ensures sets { SetsGroups (setting_of scenario.now) boundary
         ((setting_of scenario.now).outs node.0)
         (out_group (setting_of scenario.now) node.0)
@@ -88,12 +88,12 @@ fn add_outs(
 
 /// Adds what arrives at a node that is a destination.
 fn add_sink(scenario: &Scenario, curves: &mut Curves, node: NodeId, boundary: u32, arrives: u64)
-    requires boundary { boundary ≤ (setting_of scenario.now).slots }
-    requires shape { IsShaped (setting_of scenario.now) curves.old }
+    requires boundary { IsBoundary scenario.now boundary }
+    requires shape { IsShapedFor scenario.now curves.old }
     requires small { arrived_by (setting_of scenario.now) (counts_of curves.old)
         ((setting_of scenario.now).own node.0) boundary + arrives < 2 ^ 31 }
     requires no_sink { (setting_of scenario.now).own node.0 ≡ None → arrives ≡ 0 }
-    ensures shape { IsShaped (setting_of scenario.now) curves.new }
+    ensures shape { IsShapedFor scenario.now curves.new }
     ensures sets { SetsSink (setting_of scenario.now) node.0 boundary
         (arrived_by (setting_of scenario.now) (counts_of curves.old)
         ((setting_of scenario.now).own node.0) boundary + arrives)
@@ -109,16 +109,16 @@ fn add_sink(scenario: &Scenario, curves: &mut Curves, node: NodeId, boundary: u3
 /// Adds what moves at a node in a slot to its counts at the slot's end, and to no others. The moves are of the node's
 /// shape. Takes no memory.
 pub(crate) fn add_moves(scenario: &Scenario, curves: &mut Curves, pair: Pair, moves: &NodeOutputs)
-    requires node { pair.node.0 < (setting_of scenario.now).nodes }
-    requires slot { pair.slot < (setting_of scenario.now).slots }
-    requires shape { IsShaped (setting_of scenario.now) curves.old }
-    requires moves { moves.now.shape ≡ shape_at (setting_of scenario.now) pair.node.0 }
+    requires node { IsNode scenario.now pair.node.0 }
+    requires slot { IsSlot scenario.now pair.slot }
+    requires shape { IsShapedFor scenario.now curves.old }
+    requires moves { moves.now.shape ≡ node_shape scenario.now pair.node.0 }
     requires small { (i : ℕ)
         → slice_index (moved_on (setting_of scenario.now) (counts_of curves.old) pair.node.0
         (pair.slot + 1) moves.now.row) i < 2 ^ 31 }
     requires no_sink { (setting_of scenario.now).own pair.node.0 ≡ None
         → arrived_after moves.now ≡ 0 }
-    ensures shape { IsShaped (setting_of scenario.now) curves.new }
+    ensures shape { IsShapedFor scenario.now curves.new }
     ensures applies { Applies (setting_of scenario.now) pair.node.0 (pair.slot + 1)
         (moved_on (setting_of scenario.now) (counts_of curves.old) pair.node.0 (pair.slot
         + 1) moves.now.row)

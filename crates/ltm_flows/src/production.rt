@@ -6,6 +6,7 @@ ghost use Rattle.std.specs.Prelude.{◌≡◌, ℕ, ◌+◌, ◌-◌, ◌*◌, �
 ghost use Rattle.ltm_units.specs.Sums.{sum_below};
 ghost use Rattle.ltm_flows.specs.Amounts.{amount_at, AreAmounts};
 ghost use Rattle.ltm_setting.specs.Setting.{setting_of};
+ghost use Rattle.ltm_units.specs.Bounds.{most_nodes, most_produced};
 
 use ltm_scenario::Scenario;
 use ltm_setting::{is_setting, produced_total, slot_count};
@@ -26,7 +27,7 @@ pub struct Production {
 
 /// How many amounts there are of so many nodes.
 fn table_size(nodes: u32, room: u32) -> usize
-    requires { nodes ≤ 8000 }
+    requires { nodes ≤ most_nodes }
     ensures { result ≡ (room + 1) * (nodes + 1) }
 {
     (room as usize + 1) * (nodes as usize + 1)
@@ -63,7 +64,7 @@ impl Production {
 
     /// Nothing, by the boundaries up to so many.
     pub fn none(alloc: Global, nodes: u32, room: u32) -> Result<Production, NoMemory>
-        requires { nodes ≤ 8000 }
+        requires { nodes ≤ most_nodes }
         ensures nodes { IfOk result (λ p. p.nodes ≡ nodes) }
         ensures room { IfOk result (λ p. p.room ≡ room) }
         ensures nothing { IfOk result ProducesNothing }
@@ -102,7 +103,7 @@ impl Production {
         requires node { node.0 < self.now.nodes }
         requires boundary { boundary ≤ self.now.room }
         ensures value { result ≡ produced_in self.now node.0 boundary }
-        ensures small { result ≤ 10000000000000 }
+        ensures small { result ≤ most_produced }
     {
         self.amounts[self.place(node.0, boundary)]
     }
@@ -138,7 +139,7 @@ impl Production {
     fn set(&mut self, node: NodeId, boundary: u32, amount: u64)
         requires node { node.0 < self.old.nodes }
         requires boundary { boundary ≤ self.old.room }
-        requires small { amount ≤ 10000000000000 }
+        requires small { amount ≤ most_produced }
         ensures { SetsAmount self.old self.new node.0 boundary amount }
     {
         let one = self.place(node.0, boundary);

@@ -3,6 +3,7 @@ ghost use Rattle.std.specs.Prelude.{◌≡◌, ◌+◌, ◌-◌, ◌*◌, ◌^�
 ghost use Rattle.ltm_units.specs.Sums.{sum_below};
 ghost use Rattle.ltm_loading.specs.Groups.{up_of, down_of};
 ghost use Rattle.ltm_flows.specs.InAll.{AreSums};
+ghost use Rattle.ltm_units.specs.Bounds.{most_links, most_nodes};
 
 use crate::in_all::Totals;
 use ltm_curve::{Curves, TotalCurves};
@@ -55,7 +56,7 @@ impl GroupTotals for TotalCurves {
 
 /// What is on so many links at a boundary.
 fn on_links<T: GroupTotals>(totals: &T, links: u32, boundary: u32) -> u64
-    requires few { links ≤ 4000 }
+    requires few { links ≤ most_links }
     requires groups { 2 * links ≤ T.groups totals.now }
     requires boundary { boundary ≤ T.last totals.now }
     ensures { result ≡ sum_below links (λ l. T.totals totals.now
@@ -72,8 +73,8 @@ fn on_links<T: GroupTotals>(totals: &T, links: u32, boundary: u32) -> u64
 
 /// What has left the origins of so many nodes by a boundary.
 fn departed<T: GroupTotals>(totals: &T, links: u32, nodes: u32, boundary: u32) -> u64
-    requires few { links ≤ 4000 }
-    requires few_nodes { nodes ≤ 8000 }
+    requires few { links ≤ most_links }
+    requires few_nodes { nodes ≤ most_nodes }
     requires groups { 2 * links + nodes ≤ T.groups totals.now }
     requires boundary { boundary ≤ T.last totals.now }
     ensures { result ≡ sum_below nodes (λ u. T.totals totals.now (2 * links + u) boundary) }
@@ -93,8 +94,8 @@ pub(crate) fn sum_up<T: GroupTotals>(
     boundary: u32,
     generated: u64,
 ) -> Totals
-    requires few { links ≤ 4000 }
-    requires few_nodes { nodes ≤ 8000 }
+    requires few { links ≤ most_links }
+    requires few_nodes { nodes ≤ most_nodes }
     requires groups { 2 * links + nodes < T.groups totals.now }
     requires boundary { boundary ≤ T.last totals.now }
     ensures { AreSums (T.totals totals.now) links nodes boundary generated result }

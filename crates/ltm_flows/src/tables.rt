@@ -1,8 +1,9 @@
 //! What a loading keeps of a scenario: the free-flow times of its links, and what its origins produce.
-ghost use Rattle.std.specs.Prelude.{◌≡◌, ◌≤◌, ◌<◌, ℕ, length, map, slice_index, IfOk};
+ghost use Rattle.std.specs.Prelude.{◌≡◌, ℕ, length, map, slice_index, IfOk};
 ghost use Rattle.ltm_setting.specs.Setting.{setting_of};
 ghost use Rattle.ltm_flows.specs.Origins.{produced_in_all};
 ghost use Rattle.ltm_flows.specs.Production.{produced_in};
+ghost use Rattle.ltm_setting.specs.Places.{IsBoundary, IsLink, IsNode};
 
 use crate::production::Production;
 use ltm_scenario::Scenario;
@@ -13,7 +14,7 @@ use std::alloc::Global;
 /// The free-flow time of each link.
 pub(crate) fn free_times(alloc: Global, scenario: &Scenario) -> Result<Vec<Millis>, NoMemory>
     ensures count { IfOk result (λ times. length times.items ≡ (setting_of scenario.now).links) }
-    ensures times { IfOk result (λ times. (l : ℕ) → l < (setting_of scenario.now).links
+    ensures times { IfOk result (λ times. (l : ℕ) → IsLink scenario.now l
         → slice_index (map (λ time. time.0) times.items) l
         ≡ (setting_of scenario.now).free_time l) }
 {
@@ -25,7 +26,7 @@ pub(crate) fn free_times(alloc: Global, scenario: &Scenario) -> Result<Vec<Milli
 /// Writes the free-flow time of each link.
 pub(crate) fn write_free_times(scenario: &Scenario, into: &mut [Millis])
     requires { length into.old ≡ (setting_of scenario.now).links }
-    ensures { (l : ℕ) → l < (setting_of scenario.now).links
+    ensures { (l : ℕ) → IsLink scenario.now l
         → slice_index (map (λ time. time.0) into.new) l ≡ (setting_of scenario.now).free_time l }
 {
     for link in 0..link_count(scenario) {
@@ -37,8 +38,8 @@ pub(crate) fn write_free_times(scenario: &Scenario, into: &mut [Millis])
 pub(crate) fn production(alloc: Global, scenario: &Scenario) -> Result<Production, NoMemory>
     ensures nodes { IfOk result (λ p. p.nodes ≡ (setting_of scenario.now).nodes) }
     ensures room { IfOk result (λ p. p.room ≡ (setting_of scenario.now).slots) }
-    ensures amounts { IfOk result (λ p. (n k : ℕ) → n < (setting_of scenario.now).nodes
-        → k ≤ (setting_of scenario.now).slots
+    ensures amounts { IfOk result (λ p. (n k : ℕ) → IsNode scenario.now n
+        → IsBoundary scenario.now k
         → produced_in p n k ≡ produced_in_all (setting_of scenario.now) n k) }
 {
     let last = slot_count(scenario);

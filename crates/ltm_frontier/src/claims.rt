@@ -3,6 +3,7 @@ ghost use Rattle.std.specs.Prelude.{◌≡◌, ℕ, ◌+◌, ◌<◌, ◌≤◌,
 ghost use Rattle.ltm_units.specs.Sums.{sum_below};
 ghost use Rattle.ltm_marks.specs.Marks.{width_of, rows_of, is_marked};
 ghost use Rattle.ltm_frontier.specs.Ones.{one_if};
+ghost use Rattle.ltm_units.specs.Bounds.{most_marked};
 
 use ltm_marks::Marks;
 use ltm_units::NoMemory;
@@ -23,7 +24,7 @@ impl Claims {
 
     /// No claims, with room for one of each node.
     pub fn create(alloc: Global, nodes: u32) -> Result<Claims, NoMemory>
-        requires { nodes ≤ 65536 }
+        requires { nodes ≤ most_marked }
         ensures nodes { IfOk result (λ c. width c ≡ nodes) }
         ensures none { IfOk result (λ c. (u : ℕ) → has_node c u ≡ false) }
     {

@@ -2,6 +2,7 @@
 ghost use Rattle.std.specs.Prelude.{◌≡◌, ℕ, ◌+◌, ◌<◌, ◌≤◌, min, true, false, IfOk, OnOk, OnErr, IsTrue};
 ghost use Rattle.ltm_marks.specs.Marks.{width_of, rows_of, is_marked};
 ghost use Rattle.ltm_frontier.specs.Claims.{width, slot_in, count_in, has_node};
+ghost use Rattle.ltm_units.specs.Bounds.{most_marked};
 
 mod seeking;
 
@@ -77,8 +78,8 @@ impl Frontier {
 
     /// No pair is active or claimed, and there is room for a claim of every node.
     pub fn create(alloc: Global, nodes: u32, slots: u32) -> Result<Frontier, NoMemory>
-        requires nodes { nodes ≤ 65536 }
-        requires slots { slots ≤ 65536 }
+        requires nodes { nodes ≤ most_marked }
+        requires slots { slots ≤ most_marked }
         ensures nodes { IfOk result (λ f. nodes_of f ≡ nodes) }
         ensures slots { IfOk result (λ f. slots_of f ≡ slots) }
         ensures idle { IfOk result AllIdle }
@@ -228,7 +229,7 @@ impl Frontier {
 
     /// Makes room for so many slots. With want of memory nothing changes.
     pub fn reserve(&mut self, slots: u32) -> Result<(), NoMemory>
-        requires { slots ≤ 65536 }
+        requires { slots ≤ most_marked }
         ensures same { SamePairs self.old self.new }
         ensures slots { slots_of self.new ≡ slots_of self.old }
         ensures room { OnOk result (slots ≤ slot_room self.new) }

@@ -1,3 +1,4 @@
+pub mod Sizes
 pub mod Cells
 pub mod Chains
 pub mod Lists

@@ -1,5 +1,7 @@
 //! The numbers that the index keeps, in one flat table.
 ghost use Rattle.std.specs.Prelude.{◌≡◌, ℕ, ◌+◌, ◌*◌, ◌/◌, ◌%◌, ◌<◌, ◌≤◌, length, take, replicate, slice_index_or, ◌++◌, ◌-◌, vec_len, IfOk, OnErr, OnOk};
+ghost use Rattle.ltm_index.specs.Sizes.{most_room};
+ghost use Rattle.ltm_units.specs.Bounds.{most_links, most_slots};
 
 use ltm_units::NoMemory;
 use std::alloc::Global;
@@ -42,9 +44,9 @@ pub struct Cells {
 /// The greatest horizon for which a whole number of blocks has cells, where it is to be at least so long.
 #[inline]
 fn whole_room(slots: u32) -> u32
-    requires { slots ≤ 10000 }
+    requires { slots ≤ most_slots }
     ensures enough { slots ≤ result }
-    ensures short { result ≤ 10015 }
+    ensures short { result ≤ most_room }
     ensures whole { (result + 1) % 16 ≡ 0 }
 {
     slots / SPAN * SPAN + (SPAN - 1)
@@ -54,8 +56,8 @@ fn whole_room(slots: u32) -> u32
 #[inline]
 #[tactic(auto, using(crate::proofs::Writes::size_fits))]
 fn size(links: u32, room: u32) -> usize
-    requires links { links ≤ 4000 }
-    requires room { room ≤ 10015 }
+    requires links { links ≤ most_links }
+    requires room { room ≤ most_room }
     ensures { result ≡ (room + 1) / 16 * links * 16 }
 {
     (room as usize + 1) / SPAN as usize * links as usize * SPAN as usize
@@ -67,8 +69,8 @@ impl Cells {
     /// Cells in which nothing is named.
     #[tactic(auto, using(crate::proofs::Writes::all_empty))]
     pub fn create(alloc: Global, links: u32, slots: u32) -> Result<Cells, NoMemory>
-        requires links { links ≤ 4000 }
-        requires slots { slots ≤ 10000 }
+        requires links { links ≤ most_links }
+        requires slots { slots ≤ most_slots }
         ensures links { IfOk result (λ c. c.links ≡ links) }
         ensures room { IfOk result (λ c. slots ≤ c.room) }
         ensures empty { IfOk result (λ c. (l k : ℕ) → cell_at c l k ≡ empty_cell) }
@@ -88,7 +90,7 @@ impl Cells {
 
     /// Adds empty cells for a longer horizon.
     pub fn reserve(&mut self, slots: u32) -> Result<(), NoMemory>
-        requires { slots ≤ 10000 }
+        requires { slots ≤ most_slots }
         ensures cells { SameCells self.old self.new }
         ensures room { OnOk result (slots ≤ self.new.room) }
         ensures no_less { self.old.room ≤ self.new.room }

@@ -1,13 +1,14 @@
 //! Taking a slot out of its list, and putting it first in one.
 ghost use Rattle.std.specs.Prelude.{◌≡◌, ℕ, ◌+◌, ◌*◌, ◌<◌, ◌≤◌};
 ghost use Rattle.ltm_index.specs.Cells.{entry_at, AreLists, SetsAfter, SetsBefore, TakesOut, PutsFirst};
+ghost use Rattle.ltm_index.specs.Sizes.{most_room};
 
 use crate::cells::{Cell, Cells};
 
 /// What names a slot or a boundary: one more.
 #[inline]
 fn naming(number: u32) -> u16
-    requires { number ≤ 10015 }
+    requires { number ≤ most_room }
     ensures { result ≡ number + 1 }
 {
     (number + 1) as u16

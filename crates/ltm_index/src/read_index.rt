@@ -2,6 +2,7 @@
 ghost use Rattle.std.specs.Prelude.{◌≡◌, ℕ, ◌+◌, ◌*◌, ◌<◌, ◌≤◌, ◌↔◌, IfOk, OnOk, OnErr, IfSome, IsTrue, Some, Contains};
 ghost use Rattle.ltm_index.specs.Chains.{named, first_in, left_after, list_from};
 ghost use Rattle.ltm_index.specs.Cells.{IsChained, IsChained-prop, IsEntered, IsUpTo};
+ghost use Rattle.ltm_units.specs.Bounds.{most_links, most_slots};
 
 use crate::cells::Cells;
 use crate::lists::{put_first, take_out};
@@ -39,8 +40,8 @@ impl ReadIndex {
     /// An index of so many links and slots, at most 4,000 and 10,000, in which every list is empty. There is one boundary
     /// more than slots.
     pub fn create(alloc: Global, links: u32, slots: u32) -> Result<ReadIndex, NoMemory>
-        requires links { links ≤ 4000 }
-        requires slots { slots ≤ 10000 }
+        requires links { links ≤ most_links }
+        requires slots { slots ≤ most_slots }
         ensures links { IfOk result (λ x. links_of x ≡ links) }
         ensures slots { IfOk result (λ x. slots_of x ≡ slots) }
         ensures empty { IfOk result IsEmpty }
@@ -105,7 +106,7 @@ impl ReadIndex {
     /// Makes room for a horizon of so many slots, at most 10,000, and changes nothing else. With want of memory nothing
     /// changes.
     pub fn reserve(&mut self, slots: u32) -> Result<(), NoMemory>
-        requires { slots ≤ 10000 }
+        requires { slots ≤ most_slots }
         ensures same { SameLists self.old self.new }
         ensures slots { slots_of self.new ≡ slots_of self.old }
         ensures room { OnOk result (slots ≤ room_of self.new) }

@@ -1,8 +1,8 @@
 //! The capacities of the arms of a node.
-ghost use Rattle.std.specs.Prelude.{◌≡◌, ◌<◌, length};
-ghost use Rattle.ltm_loading.specs.Pairs.{arms_of};
+ghost use Rattle.std.specs.Prelude.{◌≡◌, length};
 ghost use Rattle.ltm_setting.specs.Setting.{setting_of};
 ghost use Rattle.ltm_inputs.specs.Parts.{capacity_part};
+ghost use Rattle.ltm_setting.specs.Places.{IsNode, arms_at};
 
 use ltm_scenario::Scenario;
 use ltm_setting::{in_links, limits, origin_capacity, out_links};
@@ -10,8 +10,8 @@ use ltm_units::NodeId;
 
 /// Writes the capacity of each arm of a node.
 pub(crate) fn put_capacity(scenario: &Scenario, node: NodeId, into: &mut [u64])
-    requires node { node.0 < (setting_of scenario.now).nodes }
-    requires room { length into.old ≡ arms_of (setting_of scenario.now) node.0 }
+    requires node { IsNode scenario.now node.0 }
+    requires room { length into.old ≡ arms_at scenario.now node.0 }
     ensures { into.new ≡ capacity_part (setting_of scenario.now) node.0 }
 {
     let links = in_links(scenario, node);

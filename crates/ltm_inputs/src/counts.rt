@@ -5,6 +5,7 @@ ghost use Rattle.ltm_loading.specs.Groups.{groups};
 ghost use Rattle.ltm_loading.specs.NodeGroups.{group_count, node_group};
 ghost use Rattle.ltm_loading.specs.Pairs.{arrived_by, grid};
 ghost use Rattle.ltm_setting.specs.Setting.{setting_of};
+ghost use Rattle.ltm_setting.specs.Places.{IsBoundary, IsNode, all_groups};
 
 use crate::numbers::put_numbers;
 use ltm_curve::Curves;
@@ -33,9 +34,9 @@ fn put_groups(curves: &Curves, groups: &[u32], boundary: u32, into: &mut [u64])
 
 /// Writes what has left each arm of a node and what has entered each out-link by the beginning of a slot.
 pub(crate) fn put_flows_counted(scenario: &Scenario, curves: &Curves, pair: Pair, into: &mut [u64])
-    requires node { pair.node.0 < (setting_of scenario.now).nodes }
-    requires slot { pair.slot ≤ (setting_of scenario.now).slots }
-    requires curves { HasShape curves.now (groups (setting_of scenario.now))
+    requires node { IsNode scenario.now pair.node.0 }
+    requires slot { IsBoundary scenario.now pair.slot }
+    requires curves { HasShape curves.now (all_groups scenario.now)
         (setting_of scenario.now).destinations (setting_of scenario.now).slots }
     requires room { length into.old
         ≡ group_count (setting_of scenario.now) pair.node.0 *
@@ -53,9 +54,9 @@ pub(crate) fn put_flows_counted(scenario: &Scenario, curves: &Curves, pair: Pair
 
 /// What has arrived at a node by the beginning of a slot: 0 at a node that is no destination.
 pub(crate) fn arrived(scenario: &Scenario, curves: &Curves, pair: Pair) -> u64
-    requires node { pair.node.0 < (setting_of scenario.now).nodes }
-    requires slot { pair.slot ≤ (setting_of scenario.now).slots }
-    requires curves { HasShape curves.now (groups (setting_of scenario.now))
+    requires node { IsNode scenario.now pair.node.0 }
+    requires slot { IsBoundary scenario.now pair.slot }
+    requires curves { HasShape curves.now (all_groups scenario.now)
         (setting_of scenario.now).destinations (setting_of scenario.now).slots }
     ensures { result ≡ arrived_by (setting_of scenario.now) (counts_of curves.now)
         ((setting_of scenario.now).own pair.node.0) pair.slot }

@@ -1,10 +1,10 @@
 //! The numbers of a pair that are read of its links: what its arms send, what its out-links can take, and the capacities.
-ghost use Rattle.std.specs.Prelude.{◌≡◌, ◌+◌, ◌*◌, ◌<◌, ◌≤◌, length};
+ghost use Rattle.std.specs.Prelude.{◌≡◌, ◌+◌, ◌*◌, ◌≤◌, length};
 ghost use Rattle.ltm_curve.specs.Table.{counts_of, destinations_of};
-ghost use Rattle.ltm_loading.specs.Pairs.{arms_of, shape_at};
 ghost use Rattle.ltm_setting.specs.Setting.{setting_of};
-ghost use Rattle.ltm_sending.specs.Front.{IsAtFront};
 ghost use Rattle.ltm_inputs.specs.Parts.{sending_part, supply_part, capacity_part, limit_parts, ArePositions};
+ghost use Rattle.ltm_sending.specs.Fronts.{FrontAt};
+ghost use Rattle.ltm_setting.specs.Places.{IsNode, arms_at, node_shape};
 
 use crate::sending::{Front, put_arms, put_supply_of};
 use crate::weights::put_weights;
@@ -24,15 +24,15 @@ fn put_flows_of<K: Kind>(
     capacity: &mut [u64],
 )
     requires kind { K.fits (destinations_of front.curves.now) }
-    requires node { pair.node.0 < (setting_of front.scenario.now).nodes }
-    requires ready { IsAtFront (setting_of front.scenario.now) front.curves.now pair.slot }
+    requires node { IsNode front.scenario.now pair.node.0 }
+    requires ready { FrontAt front.scenario.now front.curves.now pair.slot }
     requires few_outs { length supply.old ≤ 4 }
     requires room { length sending.old
-        ≡ arms_of (setting_of front.scenario.now) pair.node.0
+        ≡ arms_at front.scenario.now pair.node.0
         * (setting_of front.scenario.now).destinations }
     requires places { (setting_of front.scenario.now).ins pair.node.0 ≤ length positions.old }
     requires outs { length supply.old ≡ (setting_of front.scenario.now).outs pair.node.0 }
-    requires arms { length capacity.old ≡ arms_of (setting_of front.scenario.now) pair.node.0 }
+    requires arms { length capacity.old ≡ arms_at front.scenario.now pair.node.0 }
     ensures sends { sending.new
         ≡ sending_part (setting_of front.entry.scenario.now)
         (counts_of front.entry.curves.now) pair.node.0 pair.slot }
@@ -65,15 +65,15 @@ pub(crate) fn put_flows(
     supply: &mut [u64],
     capacity: &mut [u64],
 )
-    requires node { pair.node.0 < (setting_of front.scenario.now).nodes }
-    requires ready { IsAtFront (setting_of front.scenario.now) front.curves.now pair.slot }
+    requires node { IsNode front.scenario.now pair.node.0 }
+    requires ready { FrontAt front.scenario.now front.curves.now pair.slot }
     requires few_outs { length supply.old ≤ 4 }
     requires room { length sending.old
-        ≡ arms_of (setting_of front.scenario.now) pair.node.0
+        ≡ arms_at front.scenario.now pair.node.0
         * (setting_of front.scenario.now).destinations }
     requires places { (setting_of front.scenario.now).ins pair.node.0 ≤ length positions.old }
     requires outs { length supply.old ≡ (setting_of front.scenario.now).outs pair.node.0 }
-    requires arms { length capacity.old ≡ arms_of (setting_of front.scenario.now) pair.node.0 }
+    requires arms { length capacity.old ≡ arms_at front.scenario.now pair.node.0 }
     ensures sends { sending.new
         ≡ sending_part (setting_of front.entry.scenario.now)
         (counts_of front.entry.curves.now) pair.node.0 pair.slot }
@@ -112,13 +112,13 @@ pub(crate) fn put_flows_and_limits(
     positions: &mut [u32],
     limits: &mut [u64],
 )
-    requires node { pair.node.0 < (setting_of front.scenario.now).nodes }
-    requires ready { IsAtFront (setting_of front.scenario.now) front.curves.now pair.slot }
-    requires shape { shape ≡ shape_at (setting_of front.scenario.now) pair.node.0 }
+    requires node { IsNode front.scenario.now pair.node.0 }
+    requires ready { FrontAt front.scenario.now front.curves.now pair.slot }
+    requires shape { shape ≡ node_shape front.scenario.now pair.node.0 }
     requires few_arms { shape.arms ≤ 5 }
     requires few_outs { shape.outs ≤ 4 }
     requires sending_room { length sending.old
-        ≡ arms_of (setting_of front.scenario.now) pair.node.0
+        ≡ arms_at front.scenario.now pair.node.0
         * (setting_of front.scenario.now).destinations }
     requires places { (setting_of front.scenario.now).ins pair.node.0 ≤ length positions.old }
     requires limits_room { length limits.old

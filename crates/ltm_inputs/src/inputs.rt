@@ -1,14 +1,15 @@
 //! The inputs of a pair of node and slot: those with 0 for each count, and its counts written in.
-ghost use Rattle.std.specs.Prelude.{◌≡◌, ◌<◌, ◌≤◌, length, take};
+ghost use Rattle.std.specs.Prelude.{◌≡◌, ◌≤◌, length, take};
 ghost use Rattle.ltm_curve.specs.Table.{counts_of};
 ghost use Rattle.ltm_node.specs.Shape.{width};
 ghost use Rattle.ltm_node.specs.Solvable.{IsSolvable};
-ghost use Rattle.ltm_loading.specs.Pairs.{shape_at, pair_row};
+ghost use Rattle.ltm_loading.specs.Pairs.{pair_row};
 ghost use Rattle.ltm_loading.specs.NextPair.{IsPairInputs};
 ghost use Rattle.ltm_loading.specs.Uncounted.{uncounted_row, IsUncountedPair};
 ghost use Rattle.ltm_setting.specs.Setting.{setting_of};
-ghost use Rattle.ltm_sending.specs.Front.{IsAtFront};
 ghost use Rattle.ltm_inputs.specs.Parts.{ArePositions};
+ghost use Rattle.ltm_sending.specs.Fronts.{FrontAt};
+ghost use Rattle.ltm_setting.specs.Places.{IsNode, node_shape};
 
 use crate::row::put_counts;
 use crate::shapes::shape_of;
@@ -32,9 +33,9 @@ pub fn inputs_of(
     into: &mut NodeInputs,
     positions: &mut [u32],
 )
-    requires node { pair.node.0 < (setting_of scenario.now).nodes }
-    requires ready { IsAtFront (setting_of scenario.now) curves.now pair.slot }
-    requires room { width (shape_at (setting_of scenario.now) pair.node.0) ≤ into.old.room }
+    requires node { IsNode scenario.now pair.node.0 }
+    requires ready { FrontAt scenario.now curves.now pair.slot }
+    requires room { width (node_shape scenario.now pair.node.0) ≤ into.old.room }
     requires places { (setting_of scenario.now).ins pair.node.0 ≤ length positions.old }
     ensures positions { ArePositions (setting_of scenario.now)
         (counts_of curves.now) pair.node.0 pair.slot positions.new }
@@ -55,9 +56,9 @@ fn put_counts_in(
     shape: NodeShape,
     row: &mut [u64],
 )
-    requires node { pair.node.0 < (setting_of scenario.now).nodes }
-    requires ready { IsAtFront (setting_of scenario.now) curves.now pair.slot }
-    requires shape { shape ≡ shape_at (setting_of scenario.now) pair.node.0 }
+    requires node { IsNode scenario.now pair.node.0 }
+    requires ready { FrontAt scenario.now curves.now pair.slot }
+    requires shape { shape ≡ node_shape scenario.now pair.node.0 }
     requires few_arms { shape.arms ≤ 5 }
     requires few_destinations { shape.destinations ≤ 64 }
     requires room { length row.old ≡ width shape }
@@ -80,9 +81,9 @@ fn put_counts_in_front(
     shape: NodeShape,
     room: &mut [u64],
 )
-    requires node { pair.node.0 < (setting_of scenario.now).nodes }
-    requires ready { IsAtFront (setting_of scenario.now) curves.now pair.slot }
-    requires shape { shape ≡ shape_at (setting_of scenario.now) pair.node.0 }
+    requires node { IsNode scenario.now pair.node.0 }
+    requires ready { FrontAt scenario.now curves.now pair.slot }
+    requires shape { shape ≡ node_shape scenario.now pair.node.0 }
     requires few_arms { shape.arms ≤ 5 }
     requires few_destinations { shape.destinations ≤ 64 }
     requires room { width shape ≤ length room.old }
@@ -98,8 +99,8 @@ fn put_counts_in_front(
 /// Writes the counts of a pair at the front of a loading into its inputs that have 0 for each: then they are those that
 /// `inputs_of` reads. Takes no memory.
 pub fn count_in(scenario: &Scenario, curves: &Curves, pair: Pair, into: &mut NodeInputs)
-    requires node { pair.node.0 < (setting_of scenario.now).nodes }
-    requires ready { IsAtFront (setting_of scenario.now) curves.now pair.slot }
+    requires node { IsNode scenario.now pair.node.0 }
+    requires ready { FrontAt scenario.now curves.now pair.slot }
     requires uncounted { IsUncountedPair (setting_of scenario.now)
         (counts_of curves.now) pair.node.0 pair.slot into.old }
     ensures inputs { IsPairInputs (setting_of scenario.now)

@@ -1,11 +1,12 @@
 //! The blocks of a pair's row: its counts, its limits, and zeros in place of its counts.
-ghost use Rattle.std.specs.Prelude.{◌≡◌, ◌+◌, ◌*◌, ◌<◌, ◌≤◌, length};
+ghost use Rattle.std.specs.Prelude.{◌≡◌, ◌+◌, ◌*◌, ◌≤◌, length};
 ghost use Rattle.ltm_curve.specs.Table.{counts_of};
 ghost use Rattle.ltm_node.specs.Shape.{width, counts_width, counts_begin};
-ghost use Rattle.ltm_loading.specs.Pairs.{shape_at, count_row};
+ghost use Rattle.ltm_loading.specs.Pairs.{count_row};
 ghost use Rattle.ltm_setting.specs.Setting.{setting_of};
-ghost use Rattle.ltm_sending.specs.Front.{IsAtFront};
 ghost use Rattle.ltm_inputs.specs.Parts.{limit_parts, uncounted_parts};
+ghost use Rattle.ltm_sending.specs.Fronts.{FrontAt};
+ghost use Rattle.ltm_setting.specs.Places.{IsNode, node_shape};
 
 use crate::capacities::put_capacity;
 use crate::counts::{arrived, put_flows_counted};
@@ -27,9 +28,9 @@ pub(crate) fn put_limits(
     shape: NodeShape,
     into: &mut [u64],
 )
-    requires node { pair.node.0 < (setting_of scenario.now).nodes }
-    requires ready { IsAtFront (setting_of scenario.now) curves.now pair.slot }
-    requires shape { shape ≡ shape_at (setting_of scenario.now) pair.node.0 }
+    requires node { IsNode scenario.now pair.node.0 }
+    requires ready { FrontAt scenario.now curves.now pair.slot }
+    requires shape { shape ≡ node_shape scenario.now pair.node.0 }
     requires few_arms { shape.arms ≤ 5 }
     requires few_outs { shape.outs ≤ 4 }
     requires room { length into.old ≡ shape.outs + (shape.arms + shape.destinations * shape.outs) }
@@ -51,9 +52,9 @@ pub(crate) fn put_counts(
     shape: NodeShape,
     into: &mut [u64],
 )
-    requires node { pair.node.0 < (setting_of scenario.now).nodes }
-    requires ready { IsAtFront (setting_of scenario.now) curves.now pair.slot }
-    requires shape { shape ≡ shape_at (setting_of scenario.now) pair.node.0 }
+    requires node { IsNode scenario.now pair.node.0 }
+    requires ready { FrontAt scenario.now curves.now pair.slot }
+    requires shape { shape ≡ node_shape scenario.now pair.node.0 }
     requires few_arms { shape.arms ≤ 5 }
     requires few_destinations { shape.destinations ≤ 64 }
     requires room { length into.old ≡ counts_width shape }
@@ -74,9 +75,9 @@ pub(crate) fn put_uncounted(
     shape: NodeShape,
     into: &mut [u64],
 )
-    requires node { pair.node.0 < (setting_of scenario.now).nodes }
-    requires ready { IsAtFront (setting_of scenario.now) curves.now pair.slot }
-    requires shape { shape ≡ shape_at (setting_of scenario.now) pair.node.0 }
+    requires node { IsNode scenario.now pair.node.0 }
+    requires ready { FrontAt scenario.now curves.now pair.slot }
+    requires shape { shape ≡ node_shape scenario.now pair.node.0 }
     requires few_arms { shape.arms ≤ 5 }
     requires few_outs { shape.outs ≤ 4 }
     requires few_destinations { shape.destinations ≤ 64 }

@@ -2,10 +2,11 @@
 ghost use Rattle.std.specs.Prelude.{◌≡◌, ℕ, ◌*◌, ◌<◌, ◌≤◌, All, length, slice_index};
 ghost use Rattle.ltm_curve.specs.Table.{counts_of, destinations_of};
 ghost use Rattle.ltm_loading.specs.Flows.{link_sending, position};
-ghost use Rattle.ltm_loading.specs.Pairs.{arms_of, grid};
+ghost use Rattle.ltm_loading.specs.Pairs.{grid};
 ghost use Rattle.ltm_setting.specs.Setting.{setting_of};
-ghost use Rattle.ltm_sending.specs.Front.{IsAtFront};
 ghost use Rattle.ltm_inputs.specs.Parts.{link_at, sending_part, supply_part, capacity_part, ArePositions};
+ghost use Rattle.ltm_sending.specs.Fronts.{FrontAt};
+ghost use Rattle.ltm_setting.specs.Places.{IsLink, IsNode, arms_at};
 
 use ltm_curve::{Any, Curves, Kind};
 use ltm_scenario::Scenario;
@@ -23,8 +24,8 @@ pub(crate) struct Front<'a> {
 /// Writes what some links send.
 #[inline]
 fn put_links(scenario: &Scenario, curves: &Curves, links: &[LinkId], slot: u32, into: &mut [u64])
-    requires ready { IsAtFront (setting_of scenario.now) curves.now slot }
-    requires links { All (λ link. link.0 < (setting_of scenario.now).links) links.now }
+    requires ready { FrontAt scenario.now curves.now slot }
+    requires links { All (λ link. IsLink scenario.now link.0) links.now }
     requires few { length links.now ≤ 4 }
     requires room { length into.old ≡ length links.now * (setting_of scenario.now).destinations }
     ensures { into.new ≡ grid (length links.now) (setting_of scenario.now).destinations
@@ -47,10 +48,10 @@ fn put_links(scenario: &Scenario, curves: &Curves, links: &[LinkId], slot: u32, 
 
 /// Writes what each arm of a node sends in a slot.
 pub(crate) fn put_sending(scenario: &Scenario, curves: &Curves, pair: Pair, into: &mut [u64])
-    requires node { pair.node.0 < (setting_of scenario.now).nodes }
-    requires ready { IsAtFront (setting_of scenario.now) curves.now pair.slot }
+    requires node { IsNode scenario.now pair.node.0 }
+    requires ready { FrontAt scenario.now curves.now pair.slot }
     requires room { length into.old
-        ≡ arms_of (setting_of scenario.now) pair.node.0 * (setting_of scenario.now).destinations }
+        ≡ arms_at scenario.now pair.node.0 * (setting_of scenario.now).destinations }
     ensures { into.new ≡ sending_part (setting_of scenario.now)
         (counts_of curves.now) pair.node.0 pair.slot }
 {
@@ -75,8 +76,8 @@ fn put_links_at<K: Kind>(
     capacity: &mut [u64],
 )
     requires kind { K.fits (destinations_of front.curves.now) }
-    requires ready { IsAtFront (setting_of front.scenario.now) front.curves.now slot }
-    requires links { All (λ link. link.0 < (setting_of front.scenario.now).links) links.now }
+    requires ready { FrontAt front.scenario.now front.curves.now slot }
+    requires links { All (λ link. IsLink front.scenario.now link.0) links.now }
     requires few { length links.now ≤ 4 }
     requires room { length into.old
         ≡ length links.now * (setting_of front.scenario.now).destinations }
@@ -124,14 +125,14 @@ pub(crate) fn put_arms<K: Kind>(
     capacity: &mut [u64],
 )
     requires kind { K.fits (destinations_of front.curves.now) }
-    requires node { pair.node.0 < (setting_of front.scenario.now).nodes }
-    requires ready { IsAtFront (setting_of front.scenario.now) front.curves.now pair.slot }
+    requires node { IsNode front.scenario.now pair.node.0 }
+    requires ready { FrontAt front.scenario.now front.curves.now pair.slot }
     requires outs { outs ≡ (setting_of front.scenario.now).outs pair.node.0 }
     requires room { length into.old
-        ≡ arms_of (setting_of front.scenario.now) pair.node.0
+        ≡ arms_at front.scenario.now pair.node.0
         * (setting_of front.scenario.now).destinations }
     requires places { (setting_of front.scenario.now).ins pair.node.0 ≤ length positions.old }
-    requires arms { length capacity.old ≡ arms_of (setting_of front.scenario.now) pair.node.0 }
+    requires arms { length capacity.old ≡ arms_at front.scenario.now pair.node.0 }
     ensures sends { into.new
         ≡ sending_part (setting_of front.entry.scenario.now)
         (counts_of front.entry.curves.now) pair.node.0 pair.slot }
@@ -153,8 +154,8 @@ pub(crate) fn put_arms<K: Kind>(
 
 /// Writes what each out-link of a node can take in a slot.
 pub(crate) fn put_supply(scenario: &Scenario, curves: &Curves, pair: Pair, into: &mut [u64])
-    requires node { pair.node.0 < (setting_of scenario.now).nodes }
-    requires ready { IsAtFront (setting_of scenario.now) curves.now pair.slot }
+    requires node { IsNode scenario.now pair.node.0 }
+    requires ready { FrontAt scenario.now curves.now pair.slot }
     requires room { length into.old ≡ (setting_of scenario.now).outs pair.node.0 }
     ensures { into.new ≡ supply_part (setting_of scenario.now)
         (counts_of curves.now) pair.node.0 pair.slot }
@@ -171,8 +172,8 @@ pub(crate) fn put_supply_of<K: Kind>(
     into: &mut [u64],
 )
     requires kind { K.fits (destinations_of curves.now) }
-    requires node { pair.node.0 < (setting_of scenario.now).nodes }
-    requires ready { IsAtFront (setting_of scenario.now) curves.now pair.slot }
+    requires node { IsNode scenario.now pair.node.0 }
+    requires ready { FrontAt scenario.now curves.now pair.slot }
     requires room { length into.old ≡ (setting_of scenario.now).outs pair.node.0 }
     ensures { into.new ≡ supply_part (setting_of scenario.now)
         (counts_of curves.now) pair.node.0 pair.slot }

@@ -1,9 +1,9 @@
 //! The shape of a node: how many arms, out-links and destinations its inputs speak of.
-ghost use Rattle.std.specs.Prelude.{◌≡◌, ◌<◌, ◌≤◌};
+ghost use Rattle.std.specs.Prelude.{◌≡◌, ◌≤◌};
 ghost use Rattle.ltm_node.specs.Shape.{width};
-ghost use Rattle.ltm_loading.specs.Pairs.{shape_at};
 ghost use Rattle.ltm_setting.specs.Setting.{setting_of};
 ghost use Rattle.ltm_inputs.specs.Widest.{IsWidest};
+ghost use Rattle.ltm_setting.specs.Places.{IsNode, node_shape};
 
 use ltm_node::NodeShape;
 use ltm_scenario::Scenario;
@@ -13,8 +13,8 @@ use ltm_units::NodeId;
 /// The shape of a node of a scenario: at most 5 arms, 4 out-links and 64 destinations.
 #[inline]
 pub fn shape_of(scenario: &Scenario, node: NodeId) -> NodeShape
-    requires { node.0 < (setting_of scenario.now).nodes }
-    ensures shape { result ≡ shape_at (setting_of scenario.now) node.0 }
+    requires { IsNode scenario.now node.0 }
+    ensures shape { result ≡ node_shape scenario.now node.0 }
     ensures few_arms { result.arms ≤ 5 }
     ensures few_outs { result.outs ≤ 4 }
     ensures few_destinations { result.destinations ≤ 64 }
@@ -31,8 +31,8 @@ pub fn shape_of(scenario: &Scenario, node: NodeId) -> NodeShape
 
 /// How many numbers the inputs of a node are.
 fn width_of(scenario: &Scenario, node: NodeId) -> u32
-    requires { node.0 < (setting_of scenario.now).nodes }
-    ensures { result ≡ width (shape_at (setting_of scenario.now) node.0) }
+    requires { IsNode scenario.now node.0 }
+    ensures { result ≡ width (node_shape scenario.now node.0) }
 {
     shape_of(scenario, node).width() as u32
 }

@@ -1,14 +1,14 @@
 //! The inputs of a pair of node and slot with 0 for each count: what moves does not depend on the counts.
-ghost use Rattle.std.specs.Prelude.{◌≡◌, ◌<◌, ◌≤◌, ◌↔◌, length, take, IsTrue, IsFalse};
+ghost use Rattle.std.specs.Prelude.{◌≡◌, ◌≤◌, ◌↔◌, length, take, IsTrue, IsFalse};
 ghost use Rattle.ltm_curve.specs.Table.{counts_of};
 ghost use Rattle.ltm_node.specs.Shape.{width};
 ghost use Rattle.ltm_node.specs.Solvable.{IsSolvable};
-ghost use Rattle.ltm_loading.specs.Pairs.{shape_at};
 ghost use Rattle.ltm_loading.specs.Uncounted.{uncounted_row, IsUncountedPair};
 ghost use Rattle.ltm_setting.specs.Setting.{setting_of};
-ghost use Rattle.ltm_sending.specs.Front.{IsAtFront};
 ghost use Rattle.ltm_inputs.specs.Idle.{IsIdle};
 ghost use Rattle.ltm_inputs.specs.Parts.{ArePositions};
+ghost use Rattle.ltm_sending.specs.Fronts.{FrontAt};
+ghost use Rattle.ltm_setting.specs.Places.{IsNode, node_shape};
 
 use crate::flows::put_flows_and_limits;
 use crate::numbers::{is_any_sent, put_zeros};
@@ -30,9 +30,9 @@ fn put_row_if_sent(
     shape: NodeShape,
     row: &mut [u64],
 ) -> bool
-    requires node { pair.node.0 < (setting_of scenario.now).nodes }
-    requires ready { IsAtFront (setting_of scenario.now) curves.now pair.slot }
-    requires shape { shape ≡ shape_at (setting_of scenario.now) pair.node.0 }
+    requires node { IsNode scenario.now pair.node.0 }
+    requires ready { FrontAt scenario.now curves.now pair.slot }
+    requires shape { shape ≡ node_shape scenario.now pair.node.0 }
     requires few_arms { shape.arms ≤ 5 }
     requires few_outs { shape.outs ≤ 4 }
     requires few_destinations { shape.destinations ≤ 64 }
@@ -62,9 +62,9 @@ fn put_front_if_sent(
     shape: NodeShape,
     room: &mut [u64],
 ) -> bool
-    requires node { pair.node.0 < (setting_of scenario.now).nodes }
-    requires ready { IsAtFront (setting_of scenario.now) curves.now pair.slot }
-    requires shape { shape ≡ shape_at (setting_of scenario.now) pair.node.0 }
+    requires node { IsNode scenario.now pair.node.0 }
+    requires ready { FrontAt scenario.now curves.now pair.slot }
+    requires shape { shape ≡ node_shape scenario.now pair.node.0 }
     requires few_arms { shape.arms ≤ 5 }
     requires few_outs { shape.outs ≤ 4 }
     requires few_destinations { shape.destinations ≤ 64 }
@@ -89,9 +89,9 @@ pub fn uncounted_if_sent(
     pair: Pair,
     into: &mut NodeInputs,
 ) -> bool
-    requires node { pair.node.0 < (setting_of scenario.now).nodes }
-    requires ready { IsAtFront (setting_of scenario.now) curves.now pair.slot }
-    requires room { width (shape_at (setting_of scenario.now) pair.node.0) ≤ into.old.room }
+    requires node { IsNode scenario.now pair.node.0 }
+    requires ready { FrontAt scenario.now curves.now pair.slot }
+    requires room { width (node_shape scenario.now pair.node.0) ≤ into.old.room }
     ensures inputs { IsTrue result
         → IsUncountedPair (setting_of scenario.now)
         (counts_of curves.now) pair.node.0 pair.slot into.new }
@@ -116,9 +116,9 @@ fn put_uncounted_row(
     row: &mut [u64],
     positions: &mut [u32],
 )
-    requires node { pair.node.0 < (setting_of scenario.now).nodes }
-    requires ready { IsAtFront (setting_of scenario.now) curves.now pair.slot }
-    requires shape { shape ≡ shape_at (setting_of scenario.now) pair.node.0 }
+    requires node { IsNode scenario.now pair.node.0 }
+    requires ready { FrontAt scenario.now curves.now pair.slot }
+    requires shape { shape ≡ node_shape scenario.now pair.node.0 }
     requires few_arms { shape.arms ≤ 5 }
     requires few_outs { shape.outs ≤ 4 }
     requires few_destinations { shape.destinations ≤ 64 }
@@ -146,9 +146,9 @@ fn put_uncounted_front(
     room: &mut [u64],
     positions: &mut [u32],
 )
-    requires node { pair.node.0 < (setting_of scenario.now).nodes }
-    requires ready { IsAtFront (setting_of scenario.now) curves.now pair.slot }
-    requires shape { shape ≡ shape_at (setting_of scenario.now) pair.node.0 }
+    requires node { IsNode scenario.now pair.node.0 }
+    requires ready { FrontAt scenario.now curves.now pair.slot }
+    requires shape { shape ≡ node_shape scenario.now pair.node.0 }
     requires few_arms { shape.arms ≤ 5 }
     requires few_outs { shape.outs ≤ 4 }
     requires few_destinations { shape.destinations ≤ 64 }
@@ -174,9 +174,9 @@ pub fn uncounted_of(
     into: &mut NodeInputs,
     positions: &mut [u32],
 )
-    requires node { pair.node.0 < (setting_of scenario.now).nodes }
-    requires ready { IsAtFront (setting_of scenario.now) curves.now pair.slot }
-    requires room { width (shape_at (setting_of scenario.now) pair.node.0) ≤ into.old.room }
+    requires node { IsNode scenario.now pair.node.0 }
+    requires ready { FrontAt scenario.now curves.now pair.slot }
+    requires room { width (node_shape scenario.now pair.node.0) ≤ into.old.room }
     requires places { (setting_of scenario.now).ins pair.node.0 ≤ length positions.old }
     ensures positions { ArePositions (setting_of scenario.now)
         (counts_of curves.now) pair.node.0 pair.slot positions.new }

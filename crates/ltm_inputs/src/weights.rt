@@ -1,8 +1,9 @@
 //! The weights of the out-links of a node.
-ghost use Rattle.std.specs.Prelude.{◌≡◌, ℕ, ◌*◌, ◌<◌, ◌≤◌, length};
+ghost use Rattle.std.specs.Prelude.{◌≡◌, ℕ, ◌*◌, ◌≤◌, length};
 ghost use Rattle.ltm_curve.specs.First.{list_below};
 ghost use Rattle.ltm_setting.specs.Setting.{setting_of};
 ghost use Rattle.ltm_inputs.specs.Parts.{weights_part};
+ghost use Rattle.ltm_setting.specs.Places.{IsNode};
 
 use crate::numbers::put_numbers;
 use ltm_scenario::Scenario;
@@ -12,7 +13,7 @@ use ltm_units::Pair;
 /// Writes the weights of a destination in a slot: 0 where no split row is in force.
 #[inline]
 fn put_weights_of(scenario: &Scenario, pair: Pair, destination: u32, into: &mut [u64])
-    requires node { pair.node.0 < (setting_of scenario.now).nodes }
+    requires node { IsNode scenario.now pair.node.0 }
     requires room { length into.old ≡ (setting_of scenario.now).outs pair.node.0 }
     ensures { into.new ≡ list_below ((setting_of scenario.now).outs pair.node.0)
         ((setting_of scenario.now).weight pair.node.0 destination pair.slot) }
@@ -25,7 +26,7 @@ fn put_weights_of(scenario: &Scenario, pair: Pair, destination: u32, into: &mut 
 
 /// Writes the weights of each destination in a slot, for so many out-links: of one destination, without a loop.
 pub(crate) fn put_weights(scenario: &Scenario, pair: Pair, outs: u32, into: &mut [u64])
-    requires node { pair.node.0 < (setting_of scenario.now).nodes }
+    requires node { IsNode scenario.now pair.node.0 }
     requires outs { outs ≡ (setting_of scenario.now).outs pair.node.0 }
     requires few { outs ≤ 4 }
     requires room { length into.old

@@ -1,9 +1,10 @@
 -- The limits of links: for each link its limit at each slot.
 use Rattle.std.specs.Prelude.{◌≡◌, ℕ, ◌+◌, ◌-◌, List, [], ◌∷◌, ◌++◌, All, length, map, take, drop, replicate, slice_index, slice_index_or, slice_set}
+use Rattle.ltm_units.specs.Bounds.{most_in_slot}
 
 -- a limit that was never set: no link passes more in a slot
 abbrev pub never_set : ℕ
-never_set = 32000
+never_set = most_in_slot
 
 -- the limit of a link at a slot
 abbrev pub limit_at : List (List ℕ) → ℕ → ℕ → ℕ

@@ -2,6 +2,7 @@
 ghost use Rattle.std.specs.Prelude.{◌≡◌, ℕ, ◌+◌, ◌-◌, ◌*◌, ◌/◌, ◌%◌, ◌<◌, ◌≤◌, ◌==◌, List, [], length, vec_len, slice_index, slice_index_or, replicate, IfOk, OnOk, OnErr, if◌then◌else◌};
 ghost use Rattle.ltm_limits.specs.Limits.{never_set};
 ghost use Rattle.ltm_limits.specs.Tables.{said, wide_at, AreExchanged};
+ghost use Rattle.ltm_units.specs.Bounds.{most_links, most_slots};
 
 use ltm_units::NoMemory;
 use std::alloc::Global;
@@ -25,12 +26,13 @@ impl Model for SlotLimits {
     ghost use Rattle.std.specs.Prelude.{◌≤◌, vec_len};
     ghost use Rattle.ltm_limits.specs.Limits.{LimitsState};
     ghost use Rattle.ltm_limits.specs.Tables.{limits_in, IsQuiet};
+    ghost use Rattle.ltm_units.specs.Bounds.{most_links, most_slots};
 
     ghost Value = { LimitsState };
 
     ghost view = { λ t. record { limits = limits_in t.table.items t.links t.slots; slots = t.slots; places = vec_len t.table } };
 
-    ghost invariant = { λ t. (t.links ≤ 4000) × (t.slots ≤ 10000) × IsQuiet t.table.items t.links t.slots };
+    ghost invariant = { λ t. (t.links ≤ most_links) × (t.slots ≤ most_slots) × IsQuiet t.table.items t.links t.slots };
 }
 
 impl SlotLimits {
@@ -39,7 +41,7 @@ impl SlotLimits {
     /// No link, and that many slots.
     #[tactic(auto, using(crate::proofs::Rows::limits_none, crate::proofs::Horizons::quiet_without_links))]
     pub fn new(alloc: Global, slots: u32) -> SlotLimits
-        requires { slots ≤ 10000 }
+        requires { slots ≤ most_slots }
         ensures limits { result.limits ≡ [] }
         ensures slots { result.slots ≡ slots }
     {
@@ -137,7 +139,7 @@ impl SlotLimits {
     /// The limits with one link more, whose limits were never set.
     #[tactic(auto, using(crate::proofs::Rows::limits_widened, crate::proofs::Rows::limits_more_of_none, crate::proofs::Rows::limits_long, crate::proofs::Horizons::quiet_past, crate::proofs::Horizons::quiet_empty))]
     pub fn with_link(&self) -> Result<SlotLimits, NoMemory>
-        requires { length self.now.limits < 4000 }
+        requires { length self.now.limits < most_links }
         ensures limits { IfOk result (λ t. t.limits ≡ with_link self.now.limits self.now.slots) }
         ensures slots { IfOk result (λ t. t.slots ≡ self.now.slots) }
     {
@@ -162,7 +164,7 @@ impl SlotLimits {
     #[tactic(auto, using(crate::proofs::Horizons::limits_lengthened, crate::proofs::Horizons::quiet_later, crate::proofs::Horizons::shortened_back))]
     pub fn lengthen(&mut self, slots: u32)
         requires longer { self.old.slots ≤ slots }
-        requires most { slots ≤ 10000 }
+        requires most { slots ≤ most_slots }
         ensures limits { self.new.limits ≡ lengthened self.old.limits slots }
         ensures back { shortened self.new.limits self.old.slots ≡ self.old.limits }
         ensures slots { self.new.slots ≡ slots }
@@ -198,7 +200,7 @@ impl SlotLimits {
 
 /// What a table says at a place.
 fn read(table: &[u16], place: usize) -> u16
-    ensures { result ≡ slice_index_or table.now place 32000 }
+    ensures { result ≡ slice_index_or table.now place never_set }
 {
     if place < table.len() {
         table[place]
@@ -221,8 +223,8 @@ fn forget(table: &mut Vec<u16>, from: usize)
 
 /// The whole table with one link more, whose limits were never set.
 fn widened(alloc: Global, table: &[u16], links: usize, slots: usize) -> Result<Vec<u16>, NoMemory>
-    requires links { links < 4000 }
-    requires slots { slots ≤ 10000 }
+    requires links { links < most_links }
+    requires slots { slots ≤ most_slots }
     ensures len { IfOk result (λ wide. vec_len wide ≡ slots * (links + 1)) }
     ensures limits { IfOk result (λ wide. (k : ℕ) → k < slots * (links + 1)
         → slice_index wide.items k ≡ wide_at table.now links (k / (links + 1)) (k % (links + 1))) }
@@ -244,8 +246,8 @@ fn widened(alloc: Global, table: &[u16], links: usize, slots: usize) -> Result<V
 /// Exchanges the limits of a link from a slot on with these.
 fn exchange(table: &mut Vec<u16>, links: usize, link: usize, from: usize, values: &mut [u16])
     requires link { link < links }
-    requires links { links ≤ 4000 }
-    requires slots { from + length values.old ≤ 10000 }
+    requires links { links ≤ most_links }
+    requires slots { from + length values.old ≤ most_slots }
     requires places { (from + length values.old) * links ≤ vec_len table.old }
     ensures exchanged { AreExchanged table.old.items table.new.items links link from values.old }
     ensures were { (k : ℕ) → k < length values.old

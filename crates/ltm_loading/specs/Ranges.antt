@@ -10,6 +10,7 @@ use Rattle.ltm_loading.specs.Groups.{up_of, down_of, dep_of, arr_of}
 use Rattle.ltm_loading.specs.Pairs.{pair_inputs}
 use Rattle.ltm_loading.specs.Loading.{IsFront}
 use Rattle.ltm_loading.specs.NextPair.{IsPairInputs}
+use Rattle.ltm_units.specs.Bounds.{most_in_slot}
 
 -- what a pair of the front's slot reads is in the range of a node step
 abbrev pub InRange : Type 0
@@ -35,8 +36,8 @@ WithinCapacity =
 abbrev pub TotalsSmall : Type 0
 TotalsSmall =
     (s : Setting) (c : Counts) → IsSetting s → (t : ℕ) → IsFront s c t → t ≤ s.slots →
-    ((l : ℕ) → l < s.links → (total s.destinations (c (up_of l)) t ≤ t * 32000) × (total s.destinations (c (down_of l)) t ≤ t * 32000))
-    × ((u : ℕ) → u < s.nodes → 0 < s.outs u → total s.destinations (c (dep_of s u)) t ≤ t * 32000)
+    ((l : ℕ) → l < s.links → (total s.destinations (c (up_of l)) t ≤ t * most_in_slot) × (total s.destinations (c (down_of l)) t ≤ t * most_in_slot))
+    × ((u : ℕ) → u < s.nodes → 0 < s.outs u → total s.destinations (c (dep_of s u)) t ≤ t * most_in_slot)
 
 -- the numbers of a pair's node step at the front are counts of the next boundary, and as small
 abbrev pub OutputsSmall : Type 0

@@ -1,6 +1,7 @@
 -- What a loading reads of a case.
 use Rattle.std.specs.Prelude.{◌≡◌, ℕ, ◌<◌, ◌≤◌, Option, Some}
 use Rattle.ltm_curve.specs.First.{RowsRise}
+use Rattle.ltm_units.specs.Bounds.{most_in_slot, most_slots}
 
 -- links, nodes and destinations are numbers; a time is in milliseconds, an amount in units
 pub record Setting : Type 0 where
@@ -57,12 +58,12 @@ pub record IsNetwork (s : Setting) : Type 0 where
 
 -- the sizes that an engine is made for
 pub record IsSmall (s : Setting) : Type 0 where
-  pub few_slots : s.slots ≤ 10000
+  pub few_slots : s.slots ≤ most_slots
   pub few_ins : (u : ℕ) → u < s.nodes → s.ins u ≤ 4
   pub few_outs : (u : ℕ) → u < s.nodes → s.outs u ≤ 4
   pub few_destinations : s.destinations ≤ 64
-  pub capacities : (l : ℕ) → l < s.links → s.capacity l ≤ 32000
-  pub origin_capacity : s.origin_capacity ≤ 32000
+  pub capacities : (l : ℕ) → l < s.links → s.capacity l ≤ most_in_slot
+  pub origin_capacity : s.origin_capacity ≤ most_in_slot
   pub weights : (u d t j : ℕ) → u < s.nodes → d < s.destinations → t < s.slots → j < s.outs u → s.weight u d t j ≤ 4294967295
 
 -- a network whose links take at least a step to pass, freely and for a wave, and let something through, and origins

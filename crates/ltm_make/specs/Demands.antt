@@ -10,6 +10,7 @@ use Rattle.ltm_make.specs.declared.making.Making.{Making}
 use Rattle.ltm_make.specs.Words.{word, rest}
 use Rattle.ltm_make.specs.Branches.{number}
 use Rattle.ltm_make.specs.Splits.{IsFound}
+use Rattle.ltm_units.specs.Bounds.{most_demand_rows}
 
 -- 1 to 20 vehicles from a node over the slots 0 to 29, as is drawn
 abbrev pub row_from : NetworkData → ℕ → ℕ → Lcg → DemandRow
@@ -43,7 +44,7 @@ with_demands width (suc k) m = with_awayward width k (with_homeward k (with_dema
 -- demand of a node for a destination finds room
 pub record IsOrigin (s : ScenarioData) (k destination : ℕ) : Type 0 where
   pub slots : s.setup.slots ≡ 60
-  pub few : length s.demand < 10000
+  pub few : length s.demand < most_demand_rows
   pub found : IsFound s.network k
   pub goes_out : 0 < length (out_links s.network (number s.network k))
   pub there : destination < length s.destinations

@@ -15,6 +15,7 @@ use Rattle.ltm_make.specs.Names.{name_of_node}
 use Rattle.ltm_make.specs.Grid.{IsWidth, roads}
 use Rattle.ltm_make.specs.Roads.{IsAlong}
 use Rattle.ltm_make.specs.Branches.{number, weight_of, words_after, weight_to, home_first, home_second, away_first, away_second}
+use Rattle.ltm_units.specs.Bounds.{most_split_rows}
 
 -- the two destinations: the first node, and the end of the first row
 abbrev pub with_ends : ℕ → Making → Making
@@ -79,7 +80,7 @@ pub record AreBranches (d : NetworkData) (k : ℕ) (first : Branch) (second : Op
 -- a split row of a node for a destination finds room
 pub record HasRoom (s : ScenarioData) (k destination : ℕ) : Type 0 where
   pub slots : s.setup.slots ≡ 60
-  pub few : length s.splits < 50000
+  pub few : length s.splits < most_split_rows
   pub there : destination < length s.destinations
   pub apart : (number s.network k == destination_node s destination) ≡ false
 

@@ -2,6 +2,7 @@
 ghost use Rattle.std.specs.Prelude.{◌≡◌, ◌≢◌, ◌<◌, ◌≤◌, true, length, OnOk};
 ghost use Rattle.ltm_demand.specs.Rows.{has_slots, edited};
 ghost use Rattle.ltm_scenario.specs.IsScenario.{IsDemandOf};
+ghost use Rattle.ltm_units.specs.Bounds.{most_amount, most_demand_rows};
 
 use crate::branches::node_at;
 use crate::grid::Grid;
@@ -26,10 +27,10 @@ fn only_memory(fault: DemandFault) -> NoMemory
 /// Sets a demand row.
 #[tactic(auto, using(crate::proofs::Demanded::row_is_set))]
 fn put_row(scenario: &mut Scenario, row: DemandRow) -> Result<(), NoMemory>
-    requires amount { row.amount.0 ≤ 1000000000 }
+    requires amount { row.amount.0 ≤ most_amount }
     requires row { IsDemandOf scenario.old row }
     requires slots { has_slots scenario.old.setup.slots row ≡ true }
-    requires few { length scenario.old.demand < 10000 }
+    requires few { length scenario.old.demand < most_demand_rows }
     ensures { OnOk result (scenario.new
         ≡ record scenario.old { demand = edited scenario.old.demand row }) }
 {
@@ -65,7 +66,7 @@ impl Making {
     fn add_homeward(&mut self, alloc: Global, grid: Grid, node: u32) -> Result<(), NoMemory>
         requires laid { IsLaid grid.nodes grid.width self.old.scenario }
         requires there { node < grid.nodes }
-        requires few { length self.old.scenario.demand < 10000 }
+        requires few { length self.old.scenario.demand < most_demand_rows }
         ensures { OnOk result (self.new ≡ with_homeward node self.old) }
     {
         if node == 0 {
@@ -78,7 +79,7 @@ impl Making {
     fn add_awayward(&mut self, alloc: Global, grid: Grid, node: u32) -> Result<(), NoMemory>
         requires laid { IsLaid grid.nodes grid.width self.old.scenario }
         requires there { node < grid.nodes }
-        requires few { length self.old.scenario.demand < 10000 }
+        requires few { length self.old.scenario.demand < most_demand_rows }
         ensures { OnOk result (self.new ≡ with_awayward grid.width node self.old) }
     {
         if node + 1 == grid.width {

@@ -5,6 +5,7 @@ ghost use Rattle.ltm_scenario.specs.Reads.{destination_of};
 ghost use Rattle.ltm_scenario.specs.IsScenario.{IsSplitOf};
 ghost use Rattle.ltm_make.specs.Splits.{IsFound, way_of};
 ghost use Rattle.ltm_make.specs.Branches.{words_after};
+ghost use Rattle.ltm_units.specs.Bounds.{most_split_rows};
 
 use crate::branches::{Branch, Way, away_of, draw_weight, home_of, node_at, weights_of};
 use crate::grid::Grid;
@@ -59,7 +60,7 @@ fn put_row(
 ) -> Result<(), NoMemory>
     requires row { IsSplitOf scenario.old (key_of node.0 destination 0, weights.now) }
     requires some { (sum weights.now == 0) ≡ false }
-    requires few { length scenario.old.splits < 50000 }
+    requires few { length scenario.old.splits < most_split_rows }
     requires slots { scenario.old.setup.slots ≡ 60 }
     ensures { OnOk result (scenario.new
         ≡ record scenario.old {
@@ -134,7 +135,7 @@ impl Making {
     fn add_home(&mut self, alloc: Global, grid: Grid, node: u32) -> Result<(), NoMemory>
         requires laid { IsLaid grid.nodes grid.width self.old.scenario }
         requires there { node < grid.nodes }
-        requires few { length self.old.scenario.splits < 50000 }
+        requires few { length self.old.scenario.splits < most_split_rows }
         ensures { OnOk result (self.new ≡ with_home grid.width node self.old) }
     {
         if node == 0 {
@@ -147,7 +148,7 @@ impl Making {
     fn add_away(&mut self, alloc: Global, grid: Grid, node: u32) -> Result<(), NoMemory>
         requires laid { IsLaid grid.nodes grid.width self.old.scenario }
         requires there { node < grid.nodes }
-        requires few { length self.old.scenario.splits < 50000 }
+        requires few { length self.old.scenario.splits < most_split_rows }
         ensures { OnOk result (self.new ≡ with_away grid.nodes grid.width node self.old) }
     {
         if node + 1 == grid.width {

@@ -2,6 +2,7 @@
 ghost use Rattle.std.specs.Int.{bit_at};
 ghost use Rattle.ltm_marks.specs.Bits.{NoBit, IsFirstBit};
 ghost use Rattle.std.specs.Prelude.{◌≡◌, ℕ, ◌+◌, ◌*◌, ◌/◌, ◌%◌, ◌==◌, ◌^◌, ◌<◌, ◌≤◌, ◌⊎◌, length, true, false, IfOk, OnErr, OnOk, MatchOption, slice_index, replicate, ◌++◌};
+ghost use Rattle.ltm_units.specs.Bounds.{most_marked};
 
 use ltm_units::NoMemory;
 use std::alloc::Global;
@@ -39,7 +40,7 @@ pub fn first_from(word: u64, from: u32) -> Option<u32>
 #[tactic(auto, using(crate::proofs::Bits::words_fit))]
 fn zeros(alloc: Global, words: usize, rows: usize) -> Result<Vec<u64>, NoMemory>
     requires words { words ≤ 1025 }
-    requires rows { rows ≤ 65536 }
+    requires rows { rows ≤ most_marked }
     ensures { IfOk result (λ bits. bits.items ≡ replicate (rows * words) 0) }
 {
     vec![in alloc; 0u64; rows * words].map_err(|_| NoMemory)
@@ -48,7 +49,7 @@ fn zeros(alloc: Global, words: usize, rows: usize) -> Result<Vec<u64>, NoMemory>
 /// Puts words without bits for some rows behind those that are there.
 fn extend(bits: &mut Vec<u64>, words: usize, rows: usize) -> Result<(), NoMemory>
     requires words { words ≤ 1025 }
-    requires rows { rows ≤ 65536 }
+    requires rows { rows ≤ most_marked }
     ensures ok { OnOk result (bits.new.items ≡ bits.old.items ++ replicate (rows * words) 0) }
     ensures err { OnErr result (bits.new.items ≡ bits.old.items) }
 {
@@ -88,8 +89,8 @@ impl Marks {
     /// So many rows of so many places, none of them marked, at most 65,536 of each.
     #[tactic(auto, using(crate::proofs::Bits::none_marked))]
     pub fn create(alloc: Global, width: usize, rows: usize) -> Result<Marks, NoMemory>
-        requires width { width ≤ 65536 }
-        requires rows { rows ≤ 65536 }
+        requires width { width ≤ most_marked }
+        requires rows { rows ≤ most_marked }
         ensures width { IfOk result (λ m. width_of m ≡ width) }
         ensures rows { IfOk result (λ m. rows_of m ≡ rows) }
         ensures none { IfOk result (λ m. (place row : ℕ) → is_marked m place row ≡ false) }
@@ -109,7 +110,7 @@ impl Marks {
     #[inline]
     pub fn width(&self) -> usize
         ensures value { result ≡ width_of self.now }
-        ensures small { result ≤ 65536 }
+        ensures small { result ≤ most_marked }
     {
         self.width
     }
@@ -118,7 +119,7 @@ impl Marks {
     #[inline]
     pub fn rows(&self) -> usize
         ensures value { result ≡ rows_of self.now }
-        ensures small { result ≤ 65536 }
+        ensures small { result ≤ most_marked }
     {
         self.rows
     }
@@ -264,7 +265,7 @@ impl Marks {
 
     /// Makes room for so many rows, at most 65,536. With want of memory nothing changes.
     pub fn reserve(&mut self, rows: usize) -> Result<(), NoMemory>
-        requires { rows ≤ 65536 }
+        requires { rows ≤ most_marked }
         ensures same { SameMarks self.old self.new }
         ensures room { OnOk result (rows ≤ room_of self.new) }
         ensures stays { OnErr result (room_of self.new ≡ room_of self.old) }

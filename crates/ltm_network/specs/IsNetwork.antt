@@ -2,6 +2,7 @@
 use Rattle.std.specs.Prelude.{◌≡◌, ◌≢◌, ℕ, ◌*◌, ◌<◌, ◌≤◌, List, [], length, Ok, Some}
 use Rattle.ltm_network.specs.Names.{AreApart}
 use Rattle.ltm_network.specs.Network.{NetworkData, tail_of, head_of, link_names, link_name, node_name, out_links, in_links, find_link, find_node, with_link}
+use Rattle.ltm_units.specs.Bounds.{most_links}
 
 pub record IsNetwork (d : NetworkData) : Type 0 where
   pub tail_is_node : (link : ℕ) → link < length d.links → tail_of d link < length d.nodes
@@ -11,7 +12,7 @@ pub record IsNetwork (d : NetworkData) : Type 0 where
   pub few_in : (node : ℕ) → length (in_links d node) ≤ 4
   pub nodes_apart : AreApart d.nodes
   pub links_apart : AreApart (link_names d)
-  pub few_links : length d.links ≤ 4000
+  pub few_links : length d.links ≤ most_links
   pub few_nodes : length d.nodes ≤ 2 * length d.links
 
 -- nothing is a network, and a network with a link that it takes is one

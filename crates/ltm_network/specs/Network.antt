@@ -6,6 +6,7 @@ use Rattle.ltm_network.specs.declared.network.NetworkFault.{NetworkFault}
 use Rattle.ltm_network.specs.declared.network.NetworkFault.TheVariants.{TwiceNamed, SelfLoop, TooManyLinks, TooManyOut, TooManyIn}
 use Rattle.ltm_network.specs.Names.{same, place_of, named, number_of}
 use Rattle.ltm_network.specs.Numbers.{numbers_of}
+use Rattle.ltm_units.specs.Bounds.{most_links}
 
 -- a link leads from its tail to its head, two nodes by number
 pub record Link : Type 0 where
@@ -84,7 +85,7 @@ unfoldable pub checked : NetworkData → List ℕ → List ℕ → List ℕ → 
 checked d name tail head =
     refuse (is_some (find_link d name)) TwiceNamed
     >>> refuse (same tail head) SelfLoop
-    >>> refuse (nat_le 4000 (length d.links)) TooManyLinks
+    >>> refuse (nat_le most_links (length d.links)) TooManyLinks
     >>> refuse (nat_le 4 (out_degree d tail)) TooManyOut
     >>> refuse (nat_le 4 (in_degree d head)) TooManyIn
 

@@ -5,6 +5,10 @@ use Rattle.ltm_node.specs.Outputs.{Outputs, left_after_place, entered_after_plac
 use Rattle.ltm_node.specs.Step.{gone}
 use Rattle.ltm_node.specs.declared.shape.NodeShape.{NodeShape}
 
+-- more than what any narrow node moves in a slot
+abbrev pub most_moved : ℕ
+most_moved = 320000
+
 -- a node with at most one out-link, in a case with one destination
 pub record IsNarrow (s : NodeShape) : Type 0 where
   pub few_outs : s.outs ≤ 1

@@ -1,6 +1,7 @@
 use Rattle.std.specs.Prelude.{ℕ, ◌<◌, ◌≤◌, ◌^◌}
 use Rattle.ltm_node.specs.Inputs.{Inputs, left, entered, arrived, supply, capacity, weight}
 use Rattle.ltm_node.specs.Demands.{sent}
+use Rattle.ltm_units.specs.Bounds.{most_in_slot}
 
 -- the sizes that a node step is made for
 pub record IsSolvable (n : Inputs) : Type 0 where
@@ -8,9 +9,9 @@ pub record IsSolvable (n : Inputs) : Type 0 where
   pub few_outs : n.shape.outs ≤ 4
   pub few_destinations : n.shape.destinations ≤ 64
   pub some_capacity : (arm : ℕ) → arm < n.shape.arms → 1 ≤ capacity n arm
-  pub capacities : (arm : ℕ) → arm < n.shape.arms → capacity n arm ≤ 32000
+  pub capacities : (arm : ℕ) → arm < n.shape.arms → capacity n arm ≤ most_in_slot
   pub within_capacity : (arm : ℕ) → arm < n.shape.arms → sent n arm ≤ capacity n arm
-  pub supplies : (out : ℕ) → out < n.shape.outs → supply n out ≤ 32000
+  pub supplies : (out : ℕ) → out < n.shape.outs → supply n out ≤ most_in_slot
   pub weights : (destination out : ℕ) → destination < n.shape.destinations → out < n.shape.outs →
       weight n destination out ≤ 4294967295
   pub left_counts : (arm destination : ℕ) → arm < n.shape.arms → destination < n.shape.destinations →

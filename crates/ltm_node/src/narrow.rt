@@ -7,7 +7,8 @@ ghost use Rattle.ltm_node.specs.Shape.{counts_width, is_own, width};
 ghost use Rattle.ltm_node.specs.Inputs.{sending};
 ghost use Rattle.ltm_node.specs.Solvable.{IsSolvable};
 ghost use Rattle.ltm_node.specs.Step.{IsNodeStep};
-ghost use Rattle.ltm_node.specs.Narrow.{IsNarrow, HaveLeft, HaveMoved, HaveShifted, leaves, laid};
+ghost use Rattle.ltm_node.specs.Narrow.{IsNarrow, HaveLeft, HaveMoved, HaveShifted, leaves, laid, most_moved};
+ghost use Rattle.ltm_units.specs.Bounds.{most_in_slot};
 
 mod readers;
 
@@ -67,7 +68,7 @@ impl Narrow<'_> {
         requires all { (arm : ℕ)
             → leaves self.now.inputs.now arm ≡ sending self.now.inputs.now arm 0 }
         requires width { length counts.old ≡ counts_width self.now.inputs.now.shape }
-        ensures small { result ≤ 320000 }
+        ensures small { result ≤ most_moved }
         ensures width { length counts.new ≡ counts_width self.now.inputs.now.shape }
         ensures after { result ≤ most
             → HaveLeft self.now.inputs.now self.now.inputs.now.shape.arms
@@ -93,8 +94,8 @@ impl Narrow<'_> {
     fn write_rest(&self, counts: &mut [u64], entering: u64, arriving: u64)
         requires before { HaveLeft self.now.inputs.now self.now.inputs.now.shape.arms
             (laid self.now.inputs.now.shape counts.old) }
-        requires entering { entering ≤ 320000 }
-        requires arriving { arriving ≤ 320000 }
+        requires entering { entering ≤ most_moved }
+        requires arriving { arriving ≤ most_moved }
         ensures after { HaveMoved self.now.inputs.now entering arriving
             (laid self.now.inputs.now.shape counts.new) }
     {
@@ -111,7 +112,7 @@ impl Narrow<'_> {
     fn shift(&self, counts: &mut [u64], amount: u64)
         requires arm { self.now.inputs.now.shape.arms ≡ 1 }
         requires out { self.now.inputs.now.shape.outs ≡ 1 }
-        requires amount { amount ≤ 32000 }
+        requires amount { amount ≤ most_in_slot }
         requires width { length counts.old ≡ counts_width self.now.inputs.now.shape }
         ensures after { HaveShifted self.now.inputs.now amount
             (laid self.now.inputs.now.shape counts.new) }

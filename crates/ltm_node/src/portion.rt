@@ -1,5 +1,6 @@
 //! What part of what it sends an arm moves.
 ghost use Rattle.std.specs.Prelude.{◌≡◌, ◌<◌, ◌≤◌, ◌*◌, ◌/◌};
+ghost use Rattle.ltm_units.specs.Bounds.{most_in_slot};
 
 use ltm_shares::Shares;
 
@@ -20,7 +21,7 @@ impl Portion<'_> {
     pub fn of(self, arm: u32, amount: u64) -> u64
         requires arm { arm < 5 }
         requires fraction { numerator self arm ≤ denominator self }
-        requires amount { amount ≤ 32000 }
+        requires amount { amount ≤ most_in_slot }
         ensures { result ≡ numerator self.entry arm * amount / denominator self.entry }
     {
         match self {

@@ -5,6 +5,7 @@ ghost use Rattle.ltm_pairs.specs.Reaches.{lies_in_one};
 ghost use Rattle.ltm_pairs.specs.Windows.{reads_ago};
 ghost use Rattle.ltm_pairs.specs.Adding.{IsFrom, Adds};
 ghost use Rattle.ltm_pairs.specs.Dependents.{has_place, depends_on_left, depends_on_entered, depends};
+ghost use Rattle.ltm_setting.specs.Places.{IsLink, IsNode, IsSlot};
 
 use crate::arm_set::ArmSet;
 use crate::spread::Spread;
@@ -24,7 +25,7 @@ fn has_place(places: u32, place: usize) -> bool
 
 /// Adds the slots of a link's tail that read a boundary a wave time later.
 fn add_tail(scenario: &Scenario, link: LinkId, boundary: u32, into: &mut Spread)
-    requires link { link.0 < (setting_of scenario.now).links }
+    requires link { IsLink scenario.now link.0 }
     requires room { length into.old.reaches < 16 }
     ensures { let s = setting_of scenario.now in Adds s boundary 1 into.old into.new
         (λ w v. (w == s.tail link.0) && reads_ago s.step (s.wave_time link.0) v boundary) }
@@ -37,7 +38,7 @@ fn add_tail(scenario: &Scenario, link: LinkId, boundary: u32, into: &mut Spread)
 
 /// Adds the slots of a link's head from a boundary on.
 fn add_head(scenario: &Scenario, link: LinkId, boundary: u32, into: &mut Spread)
-    requires link { link.0 < (setting_of scenario.now).links }
+    requires link { IsLink scenario.now link.0 }
     requires room { length into.old.reaches < 16 }
     ensures { let s = setting_of scenario.now in Adds s boundary 1 into.old into.new
         (λ w v. nat_le boundary v && (w == s.head link.0)) }
@@ -52,7 +53,7 @@ fn add_head(scenario: &Scenario, link: LinkId, boundary: u32, into: &mut Spread)
 
 /// Adds the tails of the in-links at some places of a node.
 fn add_tails(scenario: &Scenario, node: NodeId, boundary: u32, arms: u32, into: &mut Spread)
-    requires node { node.0 < (setting_of scenario.now).nodes }
+    requires node { IsNode scenario.now node.0 }
     requires room { length into.old.reaches + 4 ≤ 16 }
     ensures { let s = setting_of scenario.now in Adds s boundary 4 into.old into.new
         (depends_on_left s node.0 boundary arms (s.ins node.0)) }
@@ -66,7 +67,7 @@ fn add_tails(scenario: &Scenario, node: NodeId, boundary: u32, arms: u32, into: 
 
 /// Adds the heads of the out-links at some places of a node.
 fn add_heads(scenario: &Scenario, node: NodeId, boundary: u32, outs: u32, into: &mut Spread)
-    requires node { node.0 < (setting_of scenario.now).nodes }
+    requires node { IsNode scenario.now node.0 }
     requires room { length into.old.reaches + 4 ≤ 16 }
     ensures { let s = setting_of scenario.now in Adds s boundary 4 into.old into.new
         (λ w v. nat_le boundary v && depends_on_entered s node.0 outs (s.outs node.0) w) }
@@ -85,8 +86,8 @@ fn add_heads(scenario: &Scenario, node: NodeId, boundary: u32, outs: u32, into: 
 /// So there are at most nine. Which of a head's slots read the change in truth depends on the counts. `dependents_are_all`
 /// says that every other pair reads the same as before. A pair that is not of the scenario has no reach. Takes no memory.
 pub fn dependents(scenario: &Scenario, pair: Pair, changed: ArmSet, into: &mut Spread)
-    ensures each { (w v : ℕ) → pair.node.0 < (setting_of scenario.now).nodes
-        → v < (setting_of scenario.now).slots
+    ensures each { (w v : ℕ) → IsNode scenario.now pair.node.0
+        → IsSlot scenario.now v
         → lies_in_one into.new.reaches w v
         ≡ depends (setting_of scenario.now) pair.node.0 (pair.slot + 1) changed w v }
     ensures from { All (IsFrom (setting_of scenario.now) (pair.slot + 1)) into.new.reaches }

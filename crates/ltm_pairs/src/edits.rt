@@ -1,9 +1,10 @@
 //! The pairs whose inputs an edit may change.
-ghost use Rattle.std.specs.Prelude.{◌≡◌, ◌<◌, ◌≤◌, ◌+◌, ◌++◌, All, length};
+ghost use Rattle.std.specs.Prelude.{◌≡◌, ◌<◌, ◌+◌, ◌++◌, All, length};
 ghost use Rattle.ltm_network.specs.Network.{tail_of, head_of};
 ghost use Rattle.ltm_setting.specs.Setting.{setting_of};
 ghost use Rattle.ltm_pairs.specs.Adding.{IsFrom};
 ghost use Rattle.ltm_pairs.specs.Touched.{of_node, of_end, touched_by, new_slots};
+ghost use Rattle.ltm_setting.specs.Places.{IsBoundary};
 
 use crate::spread::Spread;
 use ltm_scenario::{Edit, Scenario};
@@ -13,7 +14,7 @@ use ltm_units::{Name, Reach};
 /// Adds slots of the node of that name.
 fn add_node(scenario: &Scenario, name: &Name, from: u32, to: u32, into: &mut Spread)
     requires room { length into.old.reaches < 16 }
-    requires slots { to ≤ (setting_of scenario.now).slots }
+    requires slots { IsBoundary scenario.now to }
     ensures reaches { into.new
         ≡ record into.old {
           reaches = into.old.reaches
@@ -30,7 +31,7 @@ fn add_node(scenario: &Scenario, name: &Name, from: u32, to: u32, into: &mut Spr
 /// Adds slots of the tail of the link of that name.
 fn add_tail(scenario: &Scenario, name: &Name, from: u32, to: u32, into: &mut Spread)
     requires room { length into.old.reaches < 16 }
-    requires slots { to ≤ (setting_of scenario.now).slots }
+    requires slots { IsBoundary scenario.now to }
     ensures reaches { into.new
         ≡ record into.old {
           reaches = into.old.reaches
@@ -49,7 +50,7 @@ fn add_tail(scenario: &Scenario, name: &Name, from: u32, to: u32, into: &mut Spr
 /// Adds slots of the head of the link of that name.
 fn add_head(scenario: &Scenario, name: &Name, from: u32, to: u32, into: &mut Spread)
     requires room { length into.old.reaches < 16 }
-    requires slots { to ≤ (setting_of scenario.now).slots }
+    requires slots { IsBoundary scenario.now to }
     ensures reaches { into.new
         ≡ record into.old {
           reaches = into.old.reaches

@@ -2,6 +2,7 @@
 ghost use Rattle.std.specs.Prelude.{◌≡◌, ◌≤◌, IfSome, length};
 ghost use Rattle.csv.specs.Records.{fields_of};
 ghost use Rattle.ltm_records.specs.Fields.{field, has, name_at as the_name, whole_at as the_whole, vehicles_at as the_vehicles};
+ghost use Rattle.ltm_units.specs.Bounds.{most_amount};
 
 use csv::ByteRecord;
 use ltm_units::{Name, Units, read_vehicles, read_whole};
@@ -47,7 +48,7 @@ pub fn whole_at(row: &ByteRecord, place: usize) -> Option<u32>
 /// The field at a place, where it is an amount of vehicles, at most 1,000,000 of them.
 pub fn vehicles_at(row: &ByteRecord, place: usize) -> Option<Units>
     ensures value { result ≡ the_vehicles (fields_of row.now) place }
-    ensures small { IfSome result (λ units. units.0 ≤ 1000000000) }
+    ensures small { IfSome result (λ units. units.0 ≤ most_amount) }
 {
     match read_vehicles(text_at(row, place)) {
         Ok(amount) => Some(amount),

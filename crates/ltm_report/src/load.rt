@@ -1,10 +1,10 @@
 //! The report of a whole loading, as one text.
 ghost use Rattle.std.specs.Prelude.{◌≡◌, ◌++◌, ◌<◌, IfOk, OnOk, length};
 ghost use Rattle.ltm_curve.specs.Table.{counts_of};
-ghost use Rattle.ltm_loading.specs.Shaped.{IsShaped};
 ghost use Rattle.ltm_setting.specs.Setting.{setting_of};
 ghost use Rattle.ltm_units.specs.Texts.{texts_below};
 ghost use Rattle.ltm_report.specs.Reports.{totals_report, link_report_of, IsReport};
+ghost use Rattle.ltm_setting.specs.Places.{IsShapedFor};
 
 use crate::links::load_link_line_text;
 use crate::totals::totals_line_text;
@@ -22,7 +22,7 @@ fn push_totals(
     curves: &Curves,
     into: &mut Vec<u8>,
 ) -> Result<(), NoMemory>
-    requires { IsShaped (setting_of scenario.now) curves.now }
+    requires { IsShapedFor scenario.now curves.now }
     ensures { OnOk result (into.new.items
         ≡ into.old.items ++ totals_report 0 (setting_of scenario.now) (counts_of curves.now)) }
 {
@@ -38,7 +38,7 @@ fn push_link(
     into: &mut Vec<u8>,
 ) -> Result<(), NoMemory>
     requires link { link.0 < length scenario.now.network.links }
-    requires shape { IsShaped (setting_of scenario.now) curves.now }
+    requires shape { IsShapedFor scenario.now curves.now }
     ensures { OnOk result (into.new.items
         ≡ into.old.items ++ link_report_of scenario.now (counts_of curves.now) link.0) }
 {
@@ -56,7 +56,7 @@ fn push_links(
     curves: &Curves,
     into: &mut Vec<u8>,
 ) -> Result<(), NoMemory>
-    requires { IsShaped (setting_of scenario.now) curves.now }
+    requires { IsShapedFor scenario.now curves.now }
     ensures { OnOk result (into.new.items
         ≡ into.old.items ++ texts_below (length scenario.now.network.links)
         (link_report_of scenario.now (counts_of curves.now))) }

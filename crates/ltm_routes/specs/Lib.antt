@@ -1,3 +1,4 @@
+pub mod Sizes
 pub mod Roads
 pub mod Routes
 pub mod Potentials

@@ -4,6 +4,7 @@ use Rattle.std.specs.Option.{option_map_or}
 use Rattle.ltm_network.specs.Network.{tail_of, head_of}
 use Rattle.ltm_diagram.specs.Limits.{free_flow_time}
 use Rattle.ltm_scenario.specs.Data.{ScenarioData}
+use Rattle.ltm_units.specs.Bounds.{longest_time, most_nodes}
 
 -- how many nodes and links there are; where each link leads from and to, and the milliseconds that it takes at free speed
 pub record Roads : Type 0 where
@@ -28,5 +29,5 @@ pub record AreRoads (r : Roads) : Type 0 where
   pub heads : (link : ℕ) → link < r.links → r.head link < r.nodes
   pub apart : (link : ℕ) → link < r.links → r.tail link ≢ r.head link
   pub some_time : (link : ℕ) → link < r.links → 1 ≤ r.free_time link
-  pub most_time : (link : ℕ) → link < r.links → r.free_time link ≤ 3600000000
-  pub few_nodes : r.nodes ≤ 8000
+  pub most_time : (link : ℕ) → link < r.links → r.free_time link ≤ longest_time
+  pub few_nodes : r.nodes ≤ most_nodes

@@ -4,6 +4,7 @@ use Rattle.ltm_units.specs.declared.quantities.Millis.{Millis}
 use Rattle.ltm_routes.specs.declared.search.Waiting.{Waiting}
 use Rattle.ltm_routes.specs.Roads.{Roads}
 use Rattle.ltm_routes.specs.Potentials.{potential_at, AreTaken, is_zero, fits_over}
+use Rattle.ltm_units.specs.Bounds.{longest_time}
 
 abbrev pub millis : ℕ → Millis
 millis time = record { 0 = time }
@@ -30,7 +31,7 @@ pub record IsSearch (r : Roads) (to : ℕ) (p : List (Option Millis)) (w : List 
   pub one_for_each : length p ≡ r.nodes
   pub start : is_zero (potential_at p to) ≡ true
   pub taken : AreTaken r to p
-  pub small : (node : ℕ) (time : Millis) → potential_at p node ≡ Some time → time.0 ≤ 3600000000 * found p
+  pub small : (node : ℕ) (time : Millis) → potential_at p node ≡ Some time → time.0 ≤ longest_time * found p
   pub waits : All (λ x. x.node < r.nodes) w
   pub fits : (link : ℕ) → link < r.links → (fits_over r p link ≡ true) ⊎ (IsWaiting w (r.head link) (potential_at p (r.head link)) ⊎ Contains left link)
 

@@ -5,6 +5,7 @@ ghost use Rattle.ltm_network.specs.Network.{out_links};
 ghost use Rattle.ltm_scenario.specs.Reads.{destination_node};
 ghost use Rattle.ltm_routes.specs.Roads.{roads_of};
 ghost use Rattle.ltm_routes.specs.Potentials.{potential_at, AreLeastTimes, AllFit, AllLeadOn, LeadsOn, IsSmall, is_zero, fits, is_tight, fits_over, is_tight_over};
+ghost use Rattle.ltm_units.specs.Bounds.{longest_time};
 
 use crate::roads::{free_time, keep_roads};
 use ltm_network::links_at_their_places;
@@ -22,7 +23,7 @@ fn is_zero(potential: Option<Millis>) -> bool
 
 fn fits(tail: Option<Millis>, time: Millis, head: Option<Millis>) -> bool
     requires small { IsSmall head }
-    requires most { time.0 ≤ 3600000000 }
+    requires most { time.0 ≤ longest_time }
     ensures { result ≡ fits tail time.0 head }
 {
     let Some(head) = head else {
@@ -36,7 +37,7 @@ fn fits(tail: Option<Millis>, time: Millis, head: Option<Millis>) -> bool
 
 fn is_tight(tail: Option<Millis>, time: Millis, head: Option<Millis>) -> bool
     requires small { IsSmall head }
-    requires most { time.0 ≤ 3600000000 }
+    requires most { time.0 ≤ longest_time }
     ensures { result ≡ is_tight tail time.0 head }
 {
     let Some(tail) = tail else {

@@ -10,6 +10,7 @@ ghost use Rattle.ltm_network.specs.Network.{head_of};
 ghost use Rattle.ltm_routes.specs.Roads.{roads_of};
 ghost use Rattle.ltm_routes.specs.Potentials.{potential_at, AreLeastTimes, IsSmall};
 ghost use Rattle.ltm_routes.specs.Search.{IsSearch, millis, waiting, is_lower, is_current, effort};
+ghost use Rattle.ltm_routes.specs.Sizes.{longest_route};
 
 use crate::roads::{free_time, keep_roads};
 use ltm_network::links_at_their_places;
@@ -95,7 +96,7 @@ impl Search {
         requires link { link.0 < length scenario.now.network.links }
         requires one_for_each { length self.old.potentials.items
             ≡ length scenario.now.network.nodes }
-        requires time { time ≤ 28800000000000 }
+        requires time { time ≤ longest_route }
         ensures end { self.new.end ≡ self.old.end }
         ensures search { (left : List ℕ)
             → IsSearch (roads_of scenario.now) self.old.end.0 self.old.potentials.items

@@ -15,6 +15,7 @@ use Rattle.ltm_casefile.specs.Roads.{unsplit_case_of}
 use Rattle.ltm_routes.specs.Split.{RoutesData, AreAllRoutes, route_splits, with_splits}
 use Rattle.ltm_routes_command.specs.declared.lines.RouteLines.TheVariants as lines
 use Rattle.ltm_routes_command.specs.Lines.{names_over, routes_text}
+use Rattle.ltm_units.specs.Bounds.{longest_file}
 
 -- the names in a row's record are names
 pub record IsNamed (d : NetworkData) (destinations : List ℕ) (row : SplitRow) : Type 0 where
@@ -36,7 +37,7 @@ pub record IsSplitsOf (roads split : ScenarioData) (text : List ℕ) : Type 0 wh
   pub valid : IsValid split
   pub whole : whole split ≡ Ok split
   pub text_is : text ≡ routes_text lines.Splits roads routes
-  pub short : length text ≤ 16777216
+  pub short : length text ≤ longest_file
   pub read_back : with_file table.Splits roads text ≡ Ok split
 
 -- a text is the least times of routes over these roads: no route is shorter than its time, and one takes just that time

@@ -15,11 +15,12 @@ use Rattle.ltm_casefile.specs.Roads.{unsplit_case_of}
 use Rattle.ltm_routes.specs.Split.{RoutesData, AreAllRoutes, route_splits, with_splits}
 use Rattle.ltm_routes_command.specs.declared.lines.RouteLines.{RouteLines}
 use Rattle.ltm_routes_command.specs.Lines.{routes_text}
+use Rattle.ltm_units.specs.Bounds.{most_split_rows}
 
 -- the scenario with the route splits, where that is a valid case; too many rows are told first
 unfoldable pub routed : ScenarioData → List RoutesData → Result ScenarioData CaseFault
 routed s all =
-    at_row file.Whole 0 (refuse (nat_lt 50000 (length (route_splits s all))) TooManyRows) >>= λ _.
+    at_row file.Whole 0 (refuse (nat_lt most_split_rows (length (route_splits s all))) TooManyRows) >>= λ _.
     at_row file.Whole 0 (taken (with_splits s (route_splits s all)) TooManyRows) >>= λ split.
     whole split
 

@@ -10,6 +10,7 @@ ghost use Rattle.ltm_casefile.specs.Roads.{is_of_roads};
 ghost use Rattle.ltm_routes.specs.Split.{AreAllRoutes, route_splits, with_splits, KeepsRest};
 ghost use Rattle.ltm_routes_command.specs.Routing.{routed, RoutesAnswer, AnswersRoutes, SaysOfRoutes, AnswersFault};
 ghost use Rattle.ltm_routes_command.specs.File.{IsSplitsOf, IsTimesOf, IsSplitsFile, IsTimesFile};
+ghost use Rattle.ltm_units.specs.Bounds.{most_split_rows};
 
 use crate::lines::RouteLines;
 use crate::texts::routes_text;
@@ -27,7 +28,7 @@ fn split_roads(alloc: Global, roads: Scenario, all: &[Routes]) -> Result<Scenari
     requires routes { AreAllRoutes roads all.now }
     ensures ok { IfOk result (λ split. routed roads all.now ≡ Ok split) }
     ensures set { IfOk result (λ split. with_splits roads (route_splits roads all.now) ≡ Ok split) }
-    ensures few { OnOk result (length (route_splits roads all.now) ≤ 50000) }
+    ensures few { OnOk result (length (route_splits roads all.now) ≤ most_split_rows) }
     ensures rest { IfOk result (KeepsRest roads) }
     ensures valid { IfOk result IsValid }
     ensures whole { IfOk result (λ split. whole split ≡ Ok split) }

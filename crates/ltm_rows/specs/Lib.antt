@@ -1,3 +1,4 @@
+pub mod Sizes
 pub mod Starts
 pub mod Layouts
 pub mod Rows

@@ -6,6 +6,7 @@ use Rattle.ltm_loading.specs.Setting.{Setting}
 use Rattle.ltm_loading.specs.Pairs.{shape_at}
 use Rattle.ltm_rows.specs.declared.layout.Part.{Part}
 use Rattle.ltm_rows.specs.declared.layout.Part.TheVariants.{All, Amounts, Weights}
+use Rattle.ltm_units.specs.Bounds.{widest_row}
 
 -- how many numbers a part of the inputs of a shape is: all that a pair reads; what its arms send, its supplies and its
 -- capacities; its weights
@@ -22,4 +23,4 @@ row_width s part u = part_width part (shape_at s u)
 pub record AreStarts (s : Setting) (part : Part) (nodes : ℕ) (starts : List ℕ) : Type 0 where
   pub long : length starts ≡ nodes + 1
   pub steps : (u : ℕ) → u < nodes → slice_index starts (u + 1) ≡ slice_index starts u + row_width s part u
-  pub small : slice_index starts nodes ≤ nodes * 1162
+  pub small : slice_index starts nodes ≤ nodes * widest_row

@@ -3,6 +3,9 @@ ghost use Rattle.std.specs.Prelude.{◌≡◌, ℕ, ◌+◌, ◌-◌, ◌*◌, �
 ghost use Rattle.ltm_loading.specs.Setting.{IsSetting};
 ghost use Rattle.ltm_setting.specs.Setting.{setting_of};
 ghost use Rattle.ltm_rows.specs.Starts.{row_width, AreStarts};
+ghost use Rattle.ltm_setting.specs.Places.{IsNode};
+ghost use Rattle.ltm_rows.specs.Sizes.{widest_slot};
+ghost use Rattle.ltm_units.specs.Bounds.{most_slots, widest_row};
 
 use ltm_inputs::shape_of;
 use ltm_scenario::Scenario;
@@ -50,9 +53,9 @@ fn starts_of(alloc: Global, scenario: &Scenario, part: Part) -> Result<Vec<usize
 /// How many numbers a part of the inputs of a node is.
 fn width_of(scenario: &Scenario, node: NodeId, part: Part) -> usize
     requires setting { IsSetting (setting_of scenario.now) }
-    requires node { node.0 < (setting_of scenario.now).nodes }
+    requires node { IsNode scenario.now node.0 }
     ensures width { result ≡ row_width (setting_of scenario.now) part node.0 }
-    ensures small { result ≤ 1162 }
+    ensures small { result ≤ widest_row }
 {
     let shape = shape_of(scenario, node);
     match part {
@@ -80,7 +83,7 @@ impl Layout {
     #[inline]
     pub fn slot_width(&self) -> usize
         ensures value { result ≡ slot_width self.now }
-        ensures small { result ≤ 9296000 }
+        ensures small { result ≤ widest_slot }
     {
         self.starts[self.starts.len() - 1]
     }
@@ -89,7 +92,7 @@ impl Layout {
     #[inline]
     pub fn bounds(&self, node: usize, slot: usize) -> (usize, usize)
         requires node { node < nodes_in self.now }
-        requires slot { slot < 10000 }
+        requires slot { slot < most_slots }
         ensures start { result.0 ≡ start_in self.now node slot }
         ensures end { result.1 ≡ start_in self.now node slot + width_in self.now node }
     {

@@ -3,6 +3,8 @@ ghost use Rattle.std.specs.Prelude.{◌≡◌, ℕ, ◌+◌, ◌*◌, ◌^◌, �
 ghost use Rattle.ltm_marks.specs.Marks.{width_of as places_of, rows_of, room_of};
 ghost use Rattle.ltm_setting.specs.Setting.{setting_of};
 ghost use Rattle.ltm_rows.specs.Layouts.{slot_width, nodes_in};
+ghost use Rattle.ltm_rows.specs.Sizes.{widest_slot};
+ghost use Rattle.ltm_units.specs.Bounds.{most_slots};
 
 use crate::comparing::{same_row, write_row};
 use crate::layout::{Layout, Part};
@@ -37,8 +39,8 @@ pub struct KeptRows {
 
 /// So many zeros of 16 bits.
 fn narrow_zeros(alloc: Global, slots: usize, width: usize) -> Result<Vec<u16>, NoMemory>
-    requires slots { slots ≤ 10000 }
-    requires width { width ≤ 9296000 }
+    requires slots { slots ≤ most_slots }
+    requires width { width ≤ widest_slot }
     ensures { IfOk result (λ numbers. length numbers.items ≡ slots * width) }
 {
     vec![in alloc; 0u16; slots * width].map_err(|_| NoMemory)
@@ -46,8 +48,8 @@ fn narrow_zeros(alloc: Global, slots: usize, width: usize) -> Result<Vec<u16>, N
 
 /// So many zeros of 32 bits.
 fn wide_zeros(alloc: Global, slots: usize, width: usize) -> Result<Vec<u32>, NoMemory>
-    requires slots { slots ≤ 10000 }
-    requires width { width ≤ 9296000 }
+    requires slots { slots ≤ most_slots }
+    requires width { width ≤ widest_slot }
     ensures { IfOk result (λ numbers. length numbers.items ≡ slots * width) }
 {
     vec![in alloc; 0u32; slots * width].map_err(|_| NoMemory)
@@ -75,7 +77,7 @@ impl KeptRows {
 
     /// Room for so many slots; no row is there.
     pub fn create(alloc: Global, scenario: &Scenario, slots: usize) -> Result<KeptRows, NoMemory>
-        requires { slots ≤ 10000 }
+        requires { slots ≤ most_slots }
         ensures rows { IfOk result (HasRows (setting_of scenario.now) slots) }
         ensures none { IfOk result (λ k. (u t : ℕ) → has_row k u t ≡ false) }
     {
@@ -206,7 +208,7 @@ impl KeptRows {
 
     /// Makes room for so many slots. Nothing else that is seen changes, also with want of memory.
     pub fn reserve(&mut self, slots: usize) -> Result<(), NoMemory>
-        requires { slots ≤ 10000 }
+        requires { slots ≤ most_slots }
         ensures same { SameRows self.old self.new }
         ensures slots { slots_of self.new ≡ slots_of self.old }
         ensures room { OnOk result (slots ≤ row_room self.new) }

@@ -24,6 +24,7 @@ use Rattle.ltm_scenario.specs.declared.side.Side.{Side}
 use Rattle.ltm_scenario.specs.declared.side.Side.TheVariants.{Entry, Exit}
 use Rattle.ltm_scenario.specs.Data.{ScenarioData, demand_of, splits_of}
 use Rattle.ltm_scenario.specs.Reads.{destination_of}
+use Rattle.ltm_units.specs.Bounds.{most_in_slot}
 
 infixl 10 ◌>>=◌
 abbrev pub ◌>>=◌ : {A B F : Type 0} → Result A F → (A → Result B F) → Result B F
@@ -77,7 +78,7 @@ are_slots s from to = nat_lt from to && nat_le to s.setup.slots
 
 -- a limit in thousandths of a vehicle: no link passes more than 32 in a slot
 abbrev pub as_limit : ℕ → ℕ
-as_limit amount = min amount 32000
+as_limit amount = min amount most_in_slot
 
 -- the entry limits, or the exit limits
 abbrev pub limits_at : ScenarioData → Side → List (List ℕ)

@@ -29,6 +29,7 @@ use Rattle.ltm_scenario.specs.Reads.{destination_of, has_no_out_link, has_split}
 use Rattle.ltm_scenario.specs.Valid.{all_lead_on}
 use Rattle.ltm_scenario.specs.Horizon.{with_horizon}
 use Rattle.ltm_scenario.specs.Build.{with_demand, with_split, with_limit_at, are_slots, ◌>>=◌}
+use Rattle.ltm_units.specs.Bounds.{most_amount}
 
 abbrev pub cause_of_demand : DemandFault → EditCause
 cause_of_demand DemandSlots = BadSlots
@@ -183,4 +184,4 @@ horizon_after slots (edit ∷ edits) = horizon_after (slots_after slots edit) ed
 
 -- each amount is at most a million vehicles
 abbrev pub HaveAmounts : List Edit → Type 0
-HaveAmounts edits = All (λ edit. amount_of edit ≤ 1000000000) edits
+HaveAmounts edits = All (λ edit. amount_of edit ≤ most_amount) edits

@@ -6,6 +6,7 @@ use Rattle.ltm_scenario.specs.declared.faults.HorizonFault.{HorizonFault}
 use Rattle.ltm_scenario.specs.declared.faults.HorizonFault.TheVariants.{BadSlots, CellsOver}
 use Rattle.ltm_scenario.specs.Data.{ScenarioData}
 use Rattle.ltm_scenario.specs.Cells.{cells_with, most_cells}
+use Rattle.ltm_units.specs.Bounds.{most_slots}
 
 -- the setup with another horizon
 abbrev pub setup_over : Setup → ℕ → Setup
@@ -21,7 +22,7 @@ with_fewer_slots s slots = record s { setup = setup_over s.setup slots; entry = 
 
 -- the horizon is longer than it was, and at most 10,000
 abbrev pub is_longer : ScenarioData → ℕ → Bool
-is_longer s slots = nat_lt s.setup.slots slots && nat_le slots 10000
+is_longer s slots = nat_lt s.setup.slots slots && nat_le slots most_slots
 
 -- the scenario over that many slots, or why the horizon is not raised to them
 unfoldable pub with_horizon : ScenarioData → ℕ → Result ScenarioData HorizonFault
@@ -33,5 +34,5 @@ with_horizon s slots =
 -- a horizon that is no shorter than the scenario's, of at most 10,000 slots, and over which its cells are few
 pub record MayReach (s : ScenarioData) (slots : ℕ) : Type 0 where
   pub longer : s.setup.slots ≤ slots
-  pub most : slots ≤ 10000
+  pub most : slots ≤ most_slots
   pub small : cells_with s slots ≤ most_cells s

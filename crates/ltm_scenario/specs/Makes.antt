@@ -18,6 +18,7 @@ use Rattle.ltm_scenario.specs.Valid.{is_demand_split, is_small}
 use Rattle.ltm_scenario.specs.Build.{with_limit_at}
 use Rattle.ltm_scenario.specs.Horizon.{with_slots}
 use Rattle.ltm_scenario.specs.Edits.{edited, weights_at, is_open, with_diagram}
+use Rattle.ltm_units.specs.Bounds.{most_slots}
 
 -- the name is that of a destination
 abbrev pub IsNamed : ScenarioData → List ℕ → ℕ → Type 0
@@ -51,7 +52,7 @@ pub record IsSplitSaid (s : ScenarioData) (node destination : List ℕ) (from : 
 -- the horizon that an edit says: longer than it was, and short enough
 pub record IsHorizonSaid (s : ScenarioData) (slots : ℕ) : Type 0 where
   pub longer : s.setup.slots < slots
-  pub within : slots ≤ 10000
+  pub within : slots ≤ most_slots
   pub small : is_small (with_slots s slots) ≡ true
 
 -- an edit of each kind changes one part of the scenario

@@ -2,6 +2,7 @@
 ghost use Rattle.std.specs.Prelude.{◌≡◌, ◌≤◌, ◌+◌, length, List, IfOk, Ok, Err, ◌&&◌, nat_le, OnOk, true, false, ◌≢◌, IfErr, ◌↔◌, IsTrue};
 ghost use Rattle.std.specs.List.{list_all};
 ghost use Rattle.ltm_scenario.specs.Edits.{amount_of, horizon_after};
+ghost use Rattle.ltm_units.specs.Bounds.{most_amount};
 
 use crate::edit::Edit;
 use ltm_units::NoMemory;
@@ -102,7 +103,7 @@ fn horizon_after(edits: &[Edit], slots: u32) -> u32
 }
 
 fn are_amounts(edits: &[Edit]) -> bool
-    ensures { result ≡ list_all (λ edit. nat_le (amount_of edit) 1000000000) edits.now }
+    ensures { result ≡ list_all (λ edit. nat_le (amount_of edit) most_amount) edits.now }
 {
     edits.iter().all(|edit| edit.amount().0 <= 1_000_000_000)
 }

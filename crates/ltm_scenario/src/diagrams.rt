@@ -2,6 +2,7 @@
 ghost use Rattle.std.specs.Prelude.{◌≡◌, ℕ, ◌+◌, ◌<◌, ◌≤◌, List, [], ◌∷◌, ◌++◌, length, slice_get, slice_set, Some, Ok, IfOk, OnOk};
 ghost use Rattle.ltm_diagram.specs.Limits.{limits_of};
 ghost use Rattle.ltm_diagram.specs.Delays.{AreDelays};
+ghost use Rattle.ltm_units.specs.Bounds.{longest_step};
 
 use ltm_diagram::{Delays, Diagram, Limits, limits_in_range};
 use ltm_units::{Millis, NoMemory};
@@ -48,7 +49,7 @@ impl Model for Diagrams {
 impl Diagrams {
     pub fn new(alloc: Global, step: Millis) -> Diagrams
         requires some { 1 ≤ step.0 }
-        requires most { step.0 ≤ 60000 }
+        requires most { step.0 ≤ longest_step }
         ensures step { result.step ≡ step.0 }
         ensures diagrams { result.diagrams ≡ [] }
     {

@@ -7,6 +7,7 @@ ghost use Rattle.ltm_scenario.specs.State.{KeepsRoom};
 ghost use Rattle.ltm_scenario.specs.Undo.{Undoes};
 ghost use Rattle.ltm_scenario.specs.IsScenario.{IsDemandOf};
 ghost use Rattle.ltm_scenario.specs.Parts.{scenario_in, state_in, AreParts};
+ghost use Rattle.ltm_units.specs.Bounds.{most_amount};
 
 mod split;
 
@@ -72,7 +73,7 @@ impl Parts {
     /// Makes one edit, and gives what undoes it.
     fn apply(&mut self, edit: &Edit) -> Result<Undo, EditCause>
         requires parts { AreParts self.old }
-        requires amount { amount_of edit.now ≤ 1000000000 }
+        requires amount { amount_of edit.now ≤ most_amount }
         ensures ok { OnOk result (edited (scenario_in self.old) edit.now
             ≡ Ok (scenario_in self.new)) }
         ensures undo { IfOk result (Undoes (state_in self.old) (state_in self.new)) }
@@ -122,7 +123,7 @@ impl Parts {
         amount: Units,
     ) -> Result<Undo, EditCause>
         requires parts { AreParts self.old }
-        requires amount { amount.0 ≤ 1000000000 }
+        requires amount { amount.0 ≤ most_amount }
         ensures ok { OnOk result
             (demand_edited (scenario_in self.old) origin.now destination.now from to amount.0
             ≡ Ok (scenario_in self.new)) }

@@ -4,6 +4,7 @@ ghost use Rattle.serde_json.specs.View.{view, items_view};
 ghost use Rattle.ltm_scenario.specs.Edits.{amount_of, HaveAmounts};
 ghost use Rattle.ltm_script.specs.Edits.{demand_of, limit_of, split_of, diagram_of, exit_of, horizon_of, edit_of, edits_from};
 ghost use Rattle.ltm_script.specs.Gives.{Gives};
+ghost use Rattle.ltm_units.specs.Bounds.{most_amount};
 
 use crate::CommandFault;
 use crate::members::{find_amount, find_name, find_text, find_whole};
@@ -16,7 +17,7 @@ use std::alloc::Global;
 #[tactic(auto, unfolding(crate::specs::Edits::demand_of))]
 fn read_demand(value: &Value) -> Option<Edit>
     ensures edit { result ≡ demand_of (view value.now) }
-    ensures small { IfSome result (λ edit. amount_of edit ≤ 1000000000) }
+    ensures small { IfSome result (λ edit. amount_of edit ≤ most_amount) }
 {
     let origin = find_name(value, "origin")?;
     let destination = find_name(value, "destination")?;
@@ -35,7 +36,7 @@ fn read_demand(value: &Value) -> Option<Edit>
 #[tactic(auto, unfolding(crate::specs::Edits::limit_of))]
 fn read_limit(value: &Value) -> Option<Edit>
     ensures edit { result ≡ limit_of (view value.now) }
-    ensures small { IfSome result (λ edit. amount_of edit ≤ 1000000000) }
+    ensures small { IfSome result (λ edit. amount_of edit ≤ most_amount) }
 {
     let link = find_name(value, "link")?;
     let from = find_whole(value, "from")?;
@@ -52,7 +53,7 @@ fn read_limit(value: &Value) -> Option<Edit>
 #[tactic(auto, unfolding(crate::specs::Edits::exit_of))]
 fn read_exit(value: &Value) -> Option<Edit>
     ensures edit { result ≡ exit_of (view value.now) }
-    ensures small { IfSome result (λ edit. amount_of edit ≤ 1000000000) }
+    ensures small { IfSome result (λ edit. amount_of edit ≤ most_amount) }
 {
     let link = find_name(value, "link")?;
     let from = find_whole(value, "from")?;
@@ -69,7 +70,7 @@ fn read_exit(value: &Value) -> Option<Edit>
 #[tactic(auto, unfolding(crate::specs::Edits::split_of))]
 fn read_split(value: &Value) -> Option<Edit>
     ensures edit { result ≡ split_of (view value.now) }
-    ensures small { IfSome result (λ edit. amount_of edit ≤ 1000000000) }
+    ensures small { IfSome result (λ edit. amount_of edit ≤ most_amount) }
 {
     let node = find_name(value, "node")?;
     let destination = find_name(value, "destination")?;
@@ -86,7 +87,7 @@ fn read_split(value: &Value) -> Option<Edit>
 #[tactic(auto, unfolding(crate::specs::Edits::diagram_of))]
 fn read_diagram(value: &Value) -> Option<Edit>
     ensures edit { result ≡ diagram_of (view value.now) }
-    ensures small { IfSome result (λ edit. amount_of edit ≤ 1000000000) }
+    ensures small { IfSome result (λ edit. amount_of edit ≤ most_amount) }
 {
     let link = find_name(value, "link")?;
     let length_m = find_whole(value, "length_m")?;
@@ -105,7 +106,7 @@ fn read_diagram(value: &Value) -> Option<Edit>
 #[tactic(auto, unfolding(crate::specs::Edits::horizon_of))]
 fn read_horizon(value: &Value) -> Option<Edit>
     ensures edit { result ≡ horizon_of (view value.now) }
-    ensures small { IfSome result (λ edit. amount_of edit ≤ 1000000000) }
+    ensures small { IfSome result (λ edit. amount_of edit ≤ most_amount) }
 {
     let slots = find_whole(value, "slots")?;
     Some(Edit::Horizon { slots })
@@ -114,7 +115,7 @@ fn read_horizon(value: &Value) -> Option<Edit>
 /// The edit that a value is, by its kind.
 fn read_edit(value: &Value) -> Option<Edit>
     ensures edit { result ≡ edit_of (view value.now) }
-    ensures small { IfSome result (λ edit. amount_of edit ≤ 1000000000) }
+    ensures small { IfSome result (λ edit. amount_of edit ≤ most_amount) }
 {
     match find_text(value, "kind")? {
         "demand" => read_demand(value),

@@ -2,6 +2,7 @@
 ghost use Rattle.std.specs.Prelude.{◌≡◌, ◌≤◌, option_map, IfSome};
 ghost use Rattle.serde_json.specs.View.{view};
 ghost use Rattle.ltm_script.specs.Members.{text_in, name_in, whole_of, whole_in, amount_in};
+ghost use Rattle.ltm_units.specs.Bounds.{most_amount};
 
 use ltm_units::{Name, Units, read_vehicles};
 use serde_json::Value;
@@ -49,7 +50,7 @@ pub(crate) fn find_whole(value: &Value, key: &str) -> Option<u32>
 /// The vehicles in the text of a member.
 pub(crate) fn find_amount(value: &Value, key: &str) -> Option<Units>
     ensures amount { result ≡ amount_in key.now (view value.now) }
-    ensures small { IfSome result (λ units. units.0 ≤ 1000000000) }
+    ensures small { IfSome result (λ units. units.0 ≤ most_amount) }
 {
     match find_text(value, key) {
         Some(text) => match read_vehicles(text.as_bytes()) {

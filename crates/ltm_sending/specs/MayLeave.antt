@@ -7,6 +7,7 @@ use Rattle.ltm_curve.specs.FirstLaws.{IsPart}
 use Rattle.ltm_loading.specs.Setting.{Setting}
 use Rattle.ltm_loading.specs.Groups.{up_of, down_of, dep_of}
 use Rattle.ltm_loading.specs.Flows.{limited, link_goal, link_sending, origin_sending}
+use Rattle.ltm_units.specs.Bounds.{most_in_slot}
 
 -- what each destination has of the first units that has not left yet
 abbrev pub rest_of : ℕ → (ℕ → ℕ → ℕ) → (ℕ → ℕ) → ℕ → ℕ → ℕ → ℕ
@@ -26,7 +27,7 @@ pub record WaitOnLink (s : Setting) (c : Counts) (l t destinations : ℕ) (goal 
   pub entered : by ≤ t
   pub gone : left ≡ total destinations (c (down_of l)) t
   pub over : left ≤ goal
-  pub few : goal ≤ left + 32000
+  pub few : goal ≤ left + most_in_slot
   pub sends : (d : ℕ) → d < destinations → link_sending s c l t d
       ≡ limited (s.exit_limit l t) (goal - left) (rest_of destinations (c (up_of l)) (λ e. c (down_of l) e t) goal by d)
 

@@ -4,6 +4,7 @@ ghost use Rattle.ltm_curve.specs.Counts.{Rises};
 ghost use Rattle.ltm_curve.specs.Table.{groups_of, destinations_of, slots_of, total_of};
 ghost use Rattle.ltm_diagram.specs.Delays.{IsDelay};
 ghost use Rattle.ltm_loading.specs.Flows.{earlier};
+ghost use Rattle.ltm_units.specs.Bounds.{longest_step};
 
 use ltm_curve::{Curves, Kind};
 use ltm_diagram::Delay;
@@ -30,7 +31,7 @@ pub(crate) fn total_ago<K: Kind>(
     requires kind { K.fits (destinations_of curves.now) }
     requires group { group < groups_of curves.now }
     requires slot { slot ≤ slots_of curves.now }
-    requires small_step { step.0 ≤ 60000 }
+    requires small_step { step.0 ≤ longest_step }
     requires rest { delay.rest < step.0 }
     requires long { step.0 + delay.rest ≤ delay.slots * step.0 }
     requires rises { Rises (total_of curves.now group) slot }
@@ -65,7 +66,7 @@ pub(crate) fn total_ago<K: Kind>(
 #[inline]
 #[tactic(auto, using(crate::proofs::Past::part_fits))]
 fn interpolated_part(units: u64, rest: u32, step: Millis) -> u64
-    requires small_step { step.0 ≤ 60000 }
+    requires small_step { step.0 ≤ longest_step }
     requires rest { rest < step.0 }
     requires small { units ≤ 2 ^ 37 }
     ensures part { result ≡ units * rest / step.0 }

@@ -6,8 +6,9 @@ ghost use Rattle.ltm_curve.specs.Table.{groups_of, destinations_of, slots_of, co
 ghost use Rattle.ltm_loading.specs.Setting.{IsSetting};
 ghost use Rattle.ltm_loading.specs.Flows.{position};
 ghost use Rattle.ltm_setting.specs.Setting.{setting_of};
-ghost use Rattle.ltm_sending.specs.Front.{IsAtFront};
 ghost use Rattle.ltm_sending.specs.MayLeave.{WaitOnLink};
+ghost use Rattle.ltm_sending.specs.Fronts.{FrontAt};
+ghost use Rattle.ltm_setting.specs.Places.{IsLink};
 
 use crate::ago::total_ago;
 use ltm_curve::{Curves, Kind};
@@ -43,9 +44,9 @@ pub(crate) fn waiting_on<K: Kind>(
     slot: u32,
 ) -> Waiting
     requires kind { K.fits (destinations_of curves.now) }
-    requires link { link.0 < (setting_of scenario.now).links }
+    requires link { IsLink scenario.now link.0 }
     requires setting { IsSetting (setting_of scenario.now) }
-    requires ready { IsAtFront (setting_of scenario.now) curves.now slot }
+    requires ready { FrontAt scenario.now curves.now slot }
     ensures { WaitOnLink (setting_of scenario.now) (counts_of curves.now) link.0 slot
         (destinations_of curves.now) result.goal result.by result.left }
 {
@@ -109,8 +110,8 @@ pub(crate) fn position_from<K: Kind>(
     waiting: Waiting,
 ) -> u32
     requires kind { K.fits (destinations_of curves.now) }
-    requires link { link.0 < (setting_of scenario.now).links }
-    requires ready { IsAtFront (setting_of scenario.now) curves.now slot }
+    requires link { IsLink scenario.now link.0 }
+    requires ready { FrontAt scenario.now curves.now slot }
     requires waiting { WaitOnLink (setting_of scenario.now) (counts_of curves.now) link.0 slot
         (destinations_of curves.now) waiting.goal waiting.by waiting.left }
     ensures position { result

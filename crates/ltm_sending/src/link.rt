@@ -1,10 +1,12 @@
 //! What a link sends and what it can take.
-ghost use Rattle.std.specs.Prelude.{◌≡◌, ℕ, ◌+◌, ◌*◌, ◌^◌, ◌<◌, ◌≤◌, length, slice_index};
+ghost use Rattle.std.specs.Prelude.{◌≡◌, ℕ, ◌+◌, ◌*◌, ◌^◌, ◌≤◌, length, slice_index};
 ghost use Rattle.ltm_curve.specs.Table.{destinations_of, counts_of};
 ghost use Rattle.ltm_loading.specs.Flows.{position, link_sending, receiving};
 ghost use Rattle.ltm_setting.specs.Setting.{setting_of};
-ghost use Rattle.ltm_sending.specs.Front.{IsAtFront};
 ghost use Rattle.ltm_sending.specs.MayLeave.{WaitOnLink};
+ghost use Rattle.ltm_sending.specs.Fronts.{FrontAt};
+ghost use Rattle.ltm_setting.specs.Places.{IsDestination, IsLink};
+ghost use Rattle.ltm_units.specs.Bounds.{most_in_slot};
 
 use crate::ago::total_ago;
 use crate::leaving::{Waiting, WaitingAt, position_from, waiting_on};
@@ -26,12 +28,12 @@ fn send_parts(
     waiting: Waiting,
     into: &mut [u64],
 )
-    requires link { link.0 < (setting_of scenario.now).links }
-    requires ready { IsAtFront (setting_of scenario.now) curves.now slot }
+    requires link { IsLink scenario.now link.0 }
+    requires ready { FrontAt scenario.now curves.now slot }
     requires waiting { WaitOnLink (setting_of scenario.now) (counts_of curves.now) link.0 slot
         (destinations_of curves.now) waiting.goal waiting.by waiting.left }
     requires room { length into.old ≡ (setting_of scenario.now).destinations }
-    ensures { (d : ℕ) → d < (setting_of scenario.now).destinations → slice_index into.new d
+    ensures { (d : ℕ) → IsDestination scenario.now d → slice_index into.new d
         ≡ link_sending (setting_of scenario.now) (counts_of curves.now) link.0 slot d }
 {
     let _links = link_count(scenario);
@@ -51,12 +53,12 @@ fn send_waiting(
     waiting: Waiting,
     into: &mut [u64],
 )
-    requires link { link.0 < (setting_of scenario.now).links }
-    requires ready { IsAtFront (setting_of scenario.now) curves.now slot }
+    requires link { IsLink scenario.now link.0 }
+    requires ready { FrontAt scenario.now curves.now slot }
     requires waiting { WaitOnLink (setting_of scenario.now) (counts_of curves.now) link.0 slot
         (destinations_of curves.now) waiting.goal waiting.by waiting.left }
     requires room { length into.old ≡ (setting_of scenario.now).destinations }
-    ensures { (d : ℕ) → d < (setting_of scenario.now).destinations → slice_index into.new d
+    ensures { (d : ℕ) → IsDestination scenario.now d → slice_index into.new d
         ≡ link_sending (setting_of scenario.now) (counts_of curves.now) link.0 slot d }
 {
     let whole = waiting.goal - waiting.left;
@@ -82,15 +84,15 @@ fn send_parts_at(
     waiting: WaitingAt,
     into: &mut [u64],
 )
-    requires link { link.0 < (setting_of scenario.now).links }
-    requires ready { IsAtFront (setting_of scenario.now) curves.now slot }
+    requires link { IsLink scenario.now link.0 }
+    requires ready { FrontAt scenario.now curves.now slot }
     requires several { 2 ≤ destinations_of curves.now }
     requires waiting { WaitOnLink (setting_of scenario.now) (counts_of curves.now) link.0 slot
         (destinations_of curves.now) waiting.goal waiting.by waiting.left }
     requires position { waiting.at
         ≡ position (setting_of scenario.now) (counts_of curves.now) link.0 slot }
     requires room { length into.old ≡ (setting_of scenario.now).destinations }
-    ensures { (d : ℕ) → d < (setting_of scenario.now).destinations → slice_index into.new d
+    ensures { (d : ℕ) → IsDestination scenario.now d → slice_index into.new d
         ≡ link_sending (setting_of scenario.now) (counts_of curves.now) link.0 slot d }
 {
     is_setting(scenario);
@@ -118,15 +120,15 @@ fn send_two_at(
     waiting: WaitingAt,
     into: &mut [u64],
 )
-    requires link { link.0 < (setting_of scenario.now).links }
-    requires ready { IsAtFront (setting_of scenario.now) curves.now slot }
+    requires link { IsLink scenario.now link.0 }
+    requires ready { FrontAt scenario.now curves.now slot }
     requires two { destinations_of curves.now ≡ 2 }
     requires waiting { WaitOnLink (setting_of scenario.now) (counts_of curves.now) link.0 slot
         (destinations_of curves.now) waiting.goal waiting.by waiting.left }
     requires position { waiting.at
         ≡ position (setting_of scenario.now) (counts_of curves.now) link.0 slot }
     requires room { length into.old ≡ (setting_of scenario.now).destinations }
-    ensures { (d : ℕ) → d < (setting_of scenario.now).destinations → slice_index into.new d
+    ensures { (d : ℕ) → IsDestination scenario.now d → slice_index into.new d
         ≡ link_sending (setting_of scenario.now) (counts_of curves.now) link.0 slot d }
 {
     is_setting(scenario);
@@ -155,14 +157,14 @@ fn send_waiting_at<K: Kind>(
     into: &mut [u64],
 )
     requires kind { K.fits (destinations_of curves.now) }
-    requires link { link.0 < (setting_of scenario.now).links }
-    requires ready { IsAtFront (setting_of scenario.now) curves.now slot }
+    requires link { IsLink scenario.now link.0 }
+    requires ready { FrontAt scenario.now curves.now slot }
     requires waiting { WaitOnLink (setting_of scenario.now) (counts_of curves.now) link.0 slot
         (destinations_of curves.now) waiting.goal waiting.by waiting.left }
     requires position { waiting.at
         ≡ position (setting_of scenario.now) (counts_of curves.now) link.0 slot }
     requires room { length into.old ≡ (setting_of scenario.now).destinations }
-    ensures { (d : ℕ) → d < (setting_of scenario.now).destinations → slice_index into.new d
+    ensures { (d : ℕ) → IsDestination scenario.now d → slice_index into.new d
         ≡ link_sending (setting_of scenario.now) (counts_of curves.now) link.0 slot d }
 {
     let whole = waiting.goal - waiting.left;
@@ -185,10 +187,10 @@ fn send_waiting_at<K: Kind>(
 /// in their order, those that have not left yet, as many as its capacity and its exit limit let pass. The exit limit cuts
 /// each destination in proportion, rounded down.
 pub fn send_link(scenario: &Scenario, curves: &Curves, link: LinkId, slot: u32, into: &mut [u64])
-    requires link { link.0 < (setting_of scenario.now).links }
-    requires ready { IsAtFront (setting_of scenario.now) curves.now slot }
+    requires link { IsLink scenario.now link.0 }
+    requires ready { FrontAt scenario.now curves.now slot }
     requires room { length into.old ≡ (setting_of scenario.now).destinations }
-    ensures { (d : ℕ) → d < (setting_of scenario.now).destinations → slice_index into.new d
+    ensures { (d : ℕ) → IsDestination scenario.now d → slice_index into.new d
         ≡ link_sending (setting_of scenario.now) (counts_of curves.now) link.0 slot d }
 {
     is_setting(scenario);
@@ -207,10 +209,10 @@ pub fn link_sends<K: Kind>(
     into: &mut [u64],
 ) -> u32
     requires kind { K.fits (destinations_of curves.now) }
-    requires link { link.0 < (setting_of scenario.now).links }
-    requires ready { IsAtFront (setting_of scenario.now) curves.now slot }
+    requires link { IsLink scenario.now link.0 }
+    requires ready { FrontAt scenario.now curves.now slot }
     requires room { length into.old ≡ (setting_of scenario.now).destinations }
-    ensures sends { (d : ℕ) → d < (setting_of scenario.now).destinations → slice_index into.new d
+    ensures sends { (d : ℕ) → IsDestination scenario.now d → slice_index into.new d
         ≡ link_sending (setting_of scenario.now) (counts_of curves.now) link.0 slot d }
     ensures position { result
         ≡ position (setting_of scenario.now) (counts_of curves.now) link.0 slot }
@@ -228,11 +230,11 @@ pub fn link_sends<K: Kind>(
 /// What a link can take in a slot, at most 32,000 units: its capacity, its entry limit, and the room that it has had since
 /// its wave time ago.
 pub fn receive(scenario: &Scenario, curves: &Curves, link: LinkId, slot: u32) -> u64
-    requires link { link.0 < (setting_of scenario.now).links }
-    requires ready { IsAtFront (setting_of scenario.now) curves.now slot }
+    requires link { IsLink scenario.now link.0 }
+    requires ready { FrontAt scenario.now curves.now slot }
     ensures value { result
         ≡ receiving (setting_of scenario.now) (counts_of curves.now) link.0 slot }
-    ensures small { result ≤ 32000 }
+    ensures small { result ≤ most_in_slot }
 {
     link_takes::<Any>(scenario, curves, link, slot)
 }
@@ -241,11 +243,11 @@ pub fn receive(scenario: &Scenario, curves: &Curves, link: LinkId, slot: u32) ->
 #[inline]
 pub fn link_takes<K: Kind>(scenario: &Scenario, curves: &Curves, link: LinkId, slot: u32) -> u64
     requires kind { K.fits (destinations_of curves.now) }
-    requires link { link.0 < (setting_of scenario.now).links }
-    requires ready { IsAtFront (setting_of scenario.now) curves.now slot }
+    requires link { IsLink scenario.now link.0 }
+    requires ready { FrontAt scenario.now curves.now slot }
     ensures value { result
         ≡ receiving (setting_of scenario.now) (counts_of curves.now) link.0 slot }
-    ensures small { result ≤ 32000 }
+    ensures small { result ≤ most_in_slot }
 {
     is_setting(scenario);
     links_are_ready();

@@ -1,5 +1,5 @@
 //! What the origin of a node sends.
-ghost use Rattle.std.specs.Prelude.{◌≡◌, ℕ, ◌+◌, ◌-◌, ◌^◌, ◌<◌, ◌≤◌, length, slice_index};
+ghost use Rattle.std.specs.Prelude.{◌≡◌, ℕ, ◌+◌, ◌-◌, ◌^◌, ◌≤◌, length, slice_index};
 ghost use Rattle.ltm_curve.specs.Counts.{total};
 ghost use Rattle.ltm_curve.specs.First.{first_units};
 ghost use Rattle.ltm_curve.specs.FirstLaws.{IsPart};
@@ -7,8 +7,9 @@ ghost use Rattle.ltm_curve.specs.Table.{counts_of, destinations_of};
 ghost use Rattle.ltm_loading.specs.Setting.{IsSetting};
 ghost use Rattle.ltm_loading.specs.Flows.{origin_sending};
 ghost use Rattle.ltm_setting.specs.Setting.{setting_of};
-ghost use Rattle.ltm_sending.specs.Front.{IsAtFront};
 ghost use Rattle.ltm_sending.specs.MayLeave.{WaitAtOrigin};
+ghost use Rattle.ltm_sending.specs.Fronts.{FrontAt};
+ghost use Rattle.ltm_setting.specs.Places.{HasOut, IsBoundary, IsDestination, IsNode};
 
 use crate::parts::send_none;
 use crate::produced::Produced;
@@ -31,10 +32,10 @@ struct Queue {
 #[inline]
 fn queue_at<K: Kind>(scenario: &Scenario, curves: &Curves, node: NodeId, slot: u32) -> Queue
     requires kind { K.fits (destinations_of curves.now) }
-    requires node { node.0 < (setting_of scenario.now).nodes }
-    requires some_out { 0 < (setting_of scenario.now).outs node.0 }
+    requires node { IsNode scenario.now node.0 }
+    requires some_out { HasOut scenario.now node.0 0 }
     requires setting { IsSetting (setting_of scenario.now) }
-    requires ready { IsAtFront (setting_of scenario.now) curves.now slot }
+    requires ready { FrontAt scenario.now curves.now slot }
     ensures { WaitAtOrigin (setting_of scenario.now)
         (counts_of curves.now) node.0 slot result.all result.goal result.left }
 {
@@ -50,7 +51,7 @@ fn queue_at<K: Kind>(scenario: &Scenario, curves: &Curves, node: NodeId, slot: u
 /// less what has left; else the search for the slot in which those that may leave end, kept out of line.
 #[inline(never)]
 fn send_queue(rows: &Produced<'_>, queue: Queue, boundary: u32, gone: &[u32], into: &mut [u64])
-    requires boundary { boundary ≤ (setting_of rows.now.scenario.now).slots }
+    requires boundary { IsBoundary rows.now.scenario.now boundary }
     requires all { queue.all
         ≡ total (setting_of rows.now.scenario.now).destinations
         ((setting_of rows.now.scenario.now).produced rows.now.node.0) boundary }
@@ -58,11 +59,11 @@ fn send_queue(rows: &Produced<'_>, queue: Queue, boundary: u32, gone: &[u32], in
         ((setting_of rows.now.scenario.now).produced rows.now.node.0) queue.goal boundary }
     requires gone { length gone.now ≡ (setting_of rows.now.scenario.now).destinations }
     requires room { length into.old ≡ (setting_of rows.now.scenario.now).destinations }
-    requires behind { (d : ℕ) → d < (setting_of rows.now.scenario.now).destinations
+    requires behind { (d : ℕ) → IsDestination rows.now.scenario.now d
         → slice_index gone.now d
         ≤ first_units (setting_of rows.now.scenario.now).destinations
         ((setting_of rows.now.scenario.now).produced rows.now.node.0) queue.goal boundary d }
-    ensures { (d : ℕ) → d < (setting_of rows.now.scenario.now).destinations → slice_index into.new d
+    ensures { (d : ℕ) → IsDestination rows.now.scenario.now d → slice_index into.new d
         ≡ first_units (setting_of rows.now.scenario.now).destinations
         ((setting_of rows.now.scenario.now).produced rows.now.node.0) queue.goal boundary d - slice_index gone.now d }
 {
@@ -76,11 +77,11 @@ fn send_queue(rows: &Produced<'_>, queue: Queue, boundary: u32, gone: &[u32], in
 /// Writes what the origin of a node sends of each destination in a slot: of the units that the node has produced by the
 /// end of the slot, in their order, those that have not left yet, as many as the capacity of origins lets pass.
 pub fn send_origin(scenario: &Scenario, curves: &Curves, node: NodeId, slot: u32, into: &mut [u64])
-    requires node { node.0 < (setting_of scenario.now).nodes }
-    requires some_out { 0 < (setting_of scenario.now).outs node.0 }
-    requires ready { IsAtFront (setting_of scenario.now) curves.now slot }
+    requires node { IsNode scenario.now node.0 }
+    requires some_out { HasOut scenario.now node.0 0 }
+    requires ready { FrontAt scenario.now curves.now slot }
     requires room { length into.old ≡ (setting_of scenario.now).destinations }
-    ensures { (d : ℕ) → d < (setting_of scenario.now).destinations → slice_index into.new d
+    ensures { (d : ℕ) → IsDestination scenario.now d → slice_index into.new d
         ≡ origin_sending (setting_of scenario.now) (counts_of curves.now) node.0 slot d }
 {
     origin_sends::<Any>(scenario, curves, node, slot, into);
@@ -96,11 +97,11 @@ pub fn origin_sends<K: Kind>(
     into: &mut [u64],
 )
     requires kind { K.fits (destinations_of curves.now) }
-    requires node { node.0 < (setting_of scenario.now).nodes }
-    requires some_out { 0 < (setting_of scenario.now).outs node.0 }
-    requires ready { IsAtFront (setting_of scenario.now) curves.now slot }
+    requires node { IsNode scenario.now node.0 }
+    requires some_out { HasOut scenario.now node.0 0 }
+    requires ready { FrontAt scenario.now curves.now slot }
     requires room { length into.old ≡ (setting_of scenario.now).destinations }
-    ensures { (d : ℕ) → d < (setting_of scenario.now).destinations → slice_index into.new d
+    ensures { (d : ℕ) → IsDestination scenario.now d → slice_index into.new d
         ≡ origin_sending (setting_of scenario.now) (counts_of curves.now) node.0 slot d }
 {
     is_setting(scenario);

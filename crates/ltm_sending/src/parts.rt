@@ -2,6 +2,7 @@
 ghost use Rattle.std.specs.Prelude.{◌≡◌, ℕ, ◌<◌, ◌≤◌, length, slice_index};
 ghost use Rattle.ltm_curve.specs.Table.{destinations_of};
 ghost use Rattle.ltm_loading.specs.Flows.{limited};
+ghost use Rattle.ltm_units.specs.Bounds.{most_in_slot};
 
 use ltm_curve::{Curves, Kind};
 
@@ -37,7 +38,7 @@ pub(crate) fn send_none<K: Kind>(curves: &Curves, into: &mut [u64])
 fn within(limit: u64, whole: u64, part: u64) -> u64
     requires limit { limit < whole }
     requires part { part ≤ whole }
-    requires small { whole ≤ 32000 }
+    requires small { whole ≤ most_in_slot }
     ensures { result ≡ limited limit whole part }
 {
     part * limit / whole
@@ -47,7 +48,7 @@ fn within(limit: u64, whole: u64, part: u64) -> u64
 #[inline]
 pub(crate) fn limit_all(limit: u64, whole: u64, parts: &mut [u64])
     requires parts { (d : ℕ) → d < length parts.old → slice_index parts.old d ≤ whole }
-    requires small { whole ≤ 32000 }
+    requires small { whole ≤ most_in_slot }
     ensures { (d : ℕ) → d < length parts.old
         → slice_index parts.new d ≡ limited limit whole (slice_index parts.old d) }
 {
@@ -62,7 +63,7 @@ pub(crate) fn limit_all(limit: u64, whole: u64, parts: &mut [u64])
 fn limit_each(limit: u64, whole: u64, parts: &mut [u64])
     requires cuts { limit < whole }
     requires parts { (d : ℕ) → d < length parts.old → slice_index parts.old d ≤ whole }
-    requires small { whole ≤ 32000 }
+    requires small { whole ≤ most_in_slot }
     ensures { (d : ℕ) → d < length parts.old
         → slice_index parts.new d ≡ limited limit whole (slice_index parts.old d) }
 {

@@ -4,6 +4,7 @@ ghost use Rattle.ltm_io.specs.Faults.{Rose};
 ghost use Rattle.ltm_io.specs.Lines.{max_of, text_of, kept_by, coming};
 ghost use Rattle.ltm_io.specs.Answers.{GivesLine};
 ghost use Rattle.ltm_session.specs.Serving.{EndsIfTold};
+ghost use Rattle.ltm_session.specs.Session.{longest_line, most_lines};
 
 use crate::ends::SessionEnd;
 use ltm_io::{Line, Lines, Source};
@@ -46,13 +47,13 @@ pub(crate) fn next_line<S: Source>(
     answered: u32,
 ) -> Result<(), SessionEnd>
     requires unkept { kept_by lines.old ≡ None }
-    requires max { max_of lines.old ≡ 65536 }
-    requires few { answered < 100000 }
+    requires max { max_of lines.old ≡ longest_line }
+    requires few { answered < most_lines }
     ensures line { OnOk result (GivesLine (coming lines.old (S.left source.old)) (text_of lines.new)
         (coming lines.new (S.left source.new))) }
-    ensures fits { OnOk result (length (text_of lines.new) ≤ 65536) }
+    ensures fits { OnOk result (length (text_of lines.new) ≤ longest_line) }
     ensures unkept { OnOk result (kept_by lines.new ≡ None) }
-    ensures max { max_of lines.new ≡ 65536 }
+    ensures max { max_of lines.new ≡ longest_line }
     ensures end { IfErr result (λ end. EndsIfTold end answered
         (coming lines.old (S.left source.old))
         (S.left source.new)) }
@@ -73,8 +74,8 @@ pub(crate) fn next_line<S: Source>(
 /// How the session ends that has answered as many lines as a script may have.
 pub(crate) fn end_of_lines<S: Source>(lines: &mut Lines, source: &mut S) -> SessionEnd
     requires unkept { kept_by lines.old ≡ None }
-    requires max { max_of lines.old ≡ 65536 }
-    ensures end { EndsIfTold result 100000 (coming lines.old (S.left source.old))
+    requires max { max_of lines.old ≡ longest_line }
+    ensures end { EndsIfTold result most_lines (coming lines.old (S.left source.old))
         (S.left source.new) }
     ensures read { (result ≡ SessionEnd.Ended)
         ⊎ ((result ≡ SessionEnd.ReadFault) ⊎ (result ≡ SessionEnd.TooManyCommands)) }

@@ -3,6 +3,7 @@ ghost use Rattle.std.specs.Prelude.{◌≡◌, ◌≢◌, ◌≤◌, ◌<◌, �
 ghost use Rattle.std.specs.List.{list_any};
 ghost use Rattle.ltm_io.specs.Script.{lines_of};
 ghost use Rattle.ltm_session_editors.specs.Files.{has_many};
+ghost use Rattle.ltm_units.specs.Bounds.{longest_file};
 
 use crate::text::Text;
 
@@ -34,7 +35,7 @@ pub(crate) fn line_len(text: &[u8]) -> usize
 
 /// How many lines a text has.
 fn line_count(text: &[u8]) -> usize
-    requires { length text.now ≤ 16777216 }
+    requires { length text.now ≤ longest_file }
     ensures { result ≡ length (lines_of text.now) }
 {
     let mut count: usize = 0;

@@ -4,6 +4,7 @@ ghost use Rattle.ltm_scenario.specs.Edits.{HaveAmounts};
 ghost use Rattle.ltm_session_editors.specs.Each.{each_from};
 ghost use Rattle.ltm_session_editors.specs.Scripts.{batch_at, script_of};
 ghost use Rattle.ltm_session_editors.specs.Faults.{IfMissing};
+ghost use Rattle.ltm_units.specs.Bounds.{longest_file};
 
 use crate::cutting::line_len;
 use crate::fault::{EditsFault, LineCause};
@@ -46,7 +47,7 @@ fn read_line(alloc: Global, editor: u32, line: u32, bytes: &[u8]) -> Result<Batc
 
 /// The batches of all lines of an editor's file.
 fn read_script(alloc: Global, editor: u32, text: &[u8]) -> Result<Script, EditsFault>
-    requires { length text.now ≤ 16777216 }
+    requires { length text.now ≤ longest_file }
     ensures ok { IfOk result (λ script. script_of editor text.now ≡ Ok script) }
     ensures amounts { IfOk result (All HaveAmounts) }
     ensures fault { IfErr result (λ e. (e ≡ EditsFault.NoMemory)

@@ -3,6 +3,7 @@
 ghost use Rattle.std.specs.Prelude.{◌≡◌, ◌≤◌};
 ghost use Rattle.ltm_loading.specs.Groups.{dep_of, arr_of, groups};
 ghost use Rattle.ltm_setting.specs.Setting.{setting_of};
+ghost use Rattle.ltm_setting.specs.Places.{all_groups, last_group, most_groups};
 
 use crate::readers::{link_count, node_count};
 use ltm_loading::{arr_behind, dep_behind};
@@ -15,7 +16,7 @@ use ltm_units::NodeId;
 pub fn dep_of(scenario: &Scenario, node: NodeId) -> u32
     requires { node.0 ≤ (setting_of scenario.now).nodes }
     ensures group { result ≡ dep_of (setting_of scenario.now) node.0 }
-    ensures small { result ≤ 16000 }
+    ensures small { result ≤ last_group }
 {
     let _nodes = node_count(scenario);
     dep_behind(link_count(scenario), node)
@@ -25,7 +26,7 @@ pub fn dep_of(scenario: &Scenario, node: NodeId) -> u32
 #[inline]
 pub fn arr_of(scenario: &Scenario) -> u32
     ensures group { result ≡ arr_of (setting_of scenario.now) }
-    ensures small { result ≤ 16000 }
+    ensures small { result ≤ last_group }
 {
     arr_behind(link_count(scenario), node_count(scenario))
 }
@@ -33,8 +34,8 @@ pub fn arr_of(scenario: &Scenario) -> u32
 /// How many groups there are.
 #[inline]
 pub fn group_count(scenario: &Scenario) -> u32
-    ensures count { result ≡ groups (setting_of scenario.now) }
-    ensures few { result ≤ 16001 }
+    ensures count { result ≡ all_groups scenario.now }
+    ensures few { result ≤ most_groups }
 {
     arr_of(scenario) + 1
 }

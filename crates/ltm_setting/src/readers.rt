@@ -4,6 +4,8 @@ ghost use Rattle.ltm_diagram.specs.Delays.{IsDelay};
 ghost use Rattle.ltm_curve.specs.Counts.{total};
 ghost use Rattle.ltm_loading.specs.Setting.{Setting};
 ghost use Rattle.ltm_setting.specs.Setting.{setting_of};
+ghost use Rattle.ltm_setting.specs.Places.{IsDestination, IsLink, IsNode, IsSlot};
+ghost use Rattle.ltm_units.specs.Bounds.{longest_step, longest_time, most_in_slot, most_links, most_nodes, most_on_link, most_produced, most_slots};
 
 use ltm_demand::{destinations_add_up, production_never_falls};
 use ltm_diagram::{Delays, Limits, limits_in_range};
@@ -17,7 +19,7 @@ use ltm_units::{LinkId, Millis, NodeId, Units};
 pub fn step(scenario: &Scenario) -> Millis
     ensures value { result.0 ≡ (setting_of scenario.now).step }
     ensures some { 1 ≤ result.0 }
-    ensures small { result.0 ≤ 60000 }
+    ensures small { result.0 ≤ longest_step }
 {
     scenario.setup().step
 }
@@ -28,7 +30,7 @@ pub fn step(scenario: &Scenario) -> Millis
 pub fn slot_count(scenario: &Scenario) -> u32
     ensures value { result ≡ (setting_of scenario.now).slots }
     ensures some { 1 ≤ result }
-    ensures few { result ≤ 10000 }
+    ensures few { result ≤ most_slots }
 {
     scenario.setup().slots
 }
@@ -39,7 +41,7 @@ pub fn slot_count(scenario: &Scenario) -> u32
 pub fn origin_capacity(scenario: &Scenario) -> u64
     ensures value { result ≡ (setting_of scenario.now).origin_capacity }
     ensures some { 1 ≤ result }
-    ensures small { result ≤ 32000 }
+    ensures small { result ≤ most_in_slot }
 {
     scenario.setup().origin_capacity.0
 }
@@ -49,7 +51,7 @@ pub fn origin_capacity(scenario: &Scenario) -> u64
 #[tactic(auto, unfolding(crate::specs::Setting::setting_of))]
 pub fn node_count(scenario: &Scenario) -> u32
     ensures value { result ≡ (setting_of scenario.now).nodes }
-    ensures few { result ≤ 8000 }
+    ensures few { result ≤ most_nodes }
 {
     scenario.network().nodes()
 }
@@ -59,7 +61,7 @@ pub fn node_count(scenario: &Scenario) -> u32
 #[tactic(auto, unfolding(crate::specs::Setting::setting_of))]
 pub fn link_count(scenario: &Scenario) -> u32
     ensures value { result ≡ (setting_of scenario.now).links }
-    ensures few { result ≤ 4000 }
+    ensures few { result ≤ most_links }
 {
     scenario.network().links()
 }
@@ -79,9 +81,9 @@ pub fn destination_count(scenario: &Scenario) -> u32
 #[inline]
 #[tactic(auto, unfolding(crate::specs::Setting::setting_of))]
 pub fn tail(scenario: &Scenario, link: LinkId) -> NodeId
-    requires { link.0 < (setting_of scenario.now).links }
+    requires { IsLink scenario.now link.0 }
     ensures node { result.0 ≡ (setting_of scenario.now).tail link.0 }
-    ensures there { result.0 < (setting_of scenario.now).nodes }
+    ensures there { IsNode scenario.now result.0 }
 {
     scenario.network().tail(link)
 }
@@ -90,9 +92,9 @@ pub fn tail(scenario: &Scenario, link: LinkId) -> NodeId
 #[inline]
 #[tactic(auto, unfolding(crate::specs::Setting::setting_of))]
 pub fn head(scenario: &Scenario, link: LinkId) -> NodeId
-    requires { link.0 < (setting_of scenario.now).links }
+    requires { IsLink scenario.now link.0 }
     ensures node { result.0 ≡ (setting_of scenario.now).head link.0 }
-    ensures there { result.0 < (setting_of scenario.now).nodes }
+    ensures there { IsNode scenario.now result.0 }
 {
     scenario.network().head(link)
 }
@@ -101,13 +103,13 @@ pub fn head(scenario: &Scenario, link: LinkId) -> NodeId
 #[inline]
 #[tactic(auto, unfolding(crate::specs::Setting::setting_of))]
 pub fn in_links(scenario: &Scenario, node: NodeId) -> &[LinkId]
-    requires { node.0 < (setting_of scenario.now).nodes }
+    requires { IsNode scenario.now node.0 }
     ensures count { length result.now ≡ (setting_of scenario.now).ins node.0 }
     ensures few { length result.now ≤ 4 }
     ensures links { (i : ℕ) → i < length result.now
         → slice_index (map (λ link. link.0) result.now) i
         ≡ (setting_of scenario.now).in_link node.0 i }
-    ensures there { All (λ link. link.0 < (setting_of scenario.now).links) result.now }
+    ensures there { All (λ link. IsLink scenario.now link.0) result.now }
 {
     scenario.network().in_links(node)
 }
@@ -116,13 +118,13 @@ pub fn in_links(scenario: &Scenario, node: NodeId) -> &[LinkId]
 #[inline]
 #[tactic(auto, unfolding(crate::specs::Setting::setting_of))]
 pub fn out_links(scenario: &Scenario, node: NodeId) -> &[LinkId]
-    requires { node.0 < (setting_of scenario.now).nodes }
+    requires { IsNode scenario.now node.0 }
     ensures count { length result.now ≡ (setting_of scenario.now).outs node.0 }
     ensures few { length result.now ≤ 4 }
     ensures links { (j : ℕ) → j < length result.now
         → slice_index (map (λ link. link.0) result.now) j
         ≡ (setting_of scenario.now).out_link node.0 j }
-    ensures there { All (λ link. link.0 < (setting_of scenario.now).links) result.now }
+    ensures there { All (λ link. IsLink scenario.now link.0) result.now }
 {
     scenario.network().out_links(node)
 }
@@ -131,14 +133,14 @@ pub fn out_links(scenario: &Scenario, node: NodeId) -> &[LinkId]
 #[inline]
 #[tactic(auto, unfolding(crate::specs::Setting::setting_of))]
 pub fn limits(scenario: &Scenario, link: LinkId) -> Limits
-    requires { link.0 < (setting_of scenario.now).links }
+    requires { IsLink scenario.now link.0 }
     ensures free_time { result.free_ms ≡ (setting_of scenario.now).free_time link.0 }
     ensures wave_time { result.wave_ms ≡ (setting_of scenario.now).wave_time link.0 }
     ensures capacity { result.capacity ≡ (setting_of scenario.now).capacity link.0 }
     ensures storage { result.storage ≡ (setting_of scenario.now).storage link.0 }
-    ensures small_free_time { result.free_ms ≤ 3600000000 }
-    ensures small_wave_time { result.wave_ms ≤ 3600000000 }
-    ensures small_storage { result.storage ≤ 10000000000 }
+    ensures small_free_time { result.free_ms ≤ longest_time }
+    ensures small_wave_time { result.wave_ms ≤ longest_time }
+    ensures small_storage { result.storage ≤ most_on_link }
 {
     limits_in_range();
     let _diagram = scenario.diagram(link);
@@ -149,7 +151,7 @@ pub fn limits(scenario: &Scenario, link: LinkId) -> Limits
 #[inline]
 #[tactic(auto, unfolding(crate::specs::Setting::setting_of))]
 pub fn delays(scenario: &Scenario, link: LinkId) -> Delays
-    requires { link.0 < (setting_of scenario.now).links }
+    requires { IsLink scenario.now link.0 }
     ensures free { IsDelay (setting_of scenario.now).step
         ((setting_of scenario.now).free_time link.0) result.free }
     ensures wave { IsDelay (setting_of scenario.now).step
@@ -164,8 +166,8 @@ pub fn delays(scenario: &Scenario, link: LinkId) -> Delays
 #[inline]
 #[tactic(auto, unfolding(crate::specs::Setting::setting_of))]
 pub fn entry_limit(scenario: &Scenario, link: LinkId, slot: u32) -> u64
-    requires link { link.0 < (setting_of scenario.now).links }
-    requires slot { slot < (setting_of scenario.now).slots }
+    requires link { IsLink scenario.now link.0 }
+    requires slot { IsSlot scenario.now slot }
     ensures { result ≡ (setting_of scenario.now).entry_limit link.0 slot }
 {
     scenario.entry_limit(link, slot).0
@@ -175,8 +177,8 @@ pub fn entry_limit(scenario: &Scenario, link: LinkId, slot: u32) -> u64
 #[inline]
 #[tactic(auto, unfolding(crate::specs::Setting::setting_of))]
 pub fn exit_limit(scenario: &Scenario, link: LinkId, slot: u32) -> u64
-    requires link { link.0 < (setting_of scenario.now).links }
-    requires slot { slot < (setting_of scenario.now).slots }
+    requires link { IsLink scenario.now link.0 }
+    requires slot { IsSlot scenario.now slot }
     ensures { result ≡ (setting_of scenario.now).exit_limit link.0 slot }
 {
     scenario.exit_limit(link, slot).0
@@ -187,7 +189,7 @@ pub fn exit_limit(scenario: &Scenario, link: LinkId, slot: u32) -> u64
 #[tactic(auto, unfolding(crate::specs::Setting::setting_of))]
 pub fn destination_at(scenario: &Scenario, node: NodeId) -> Option<u32>
     ensures place { result ≡ (setting_of scenario.now).own node.0 }
-    ensures there { IfSome result (λ place. place < (setting_of scenario.now).destinations) }
+    ensures there { IfSome result (λ place. IsDestination scenario.now place) }
 {
     scenario.destination_at(node)
 }
@@ -197,7 +199,7 @@ pub fn destination_at(scenario: &Scenario, node: NodeId) -> Option<u32>
 #[tactic(auto, unfolding(crate::specs::Setting::setting_of))]
 pub fn produced(scenario: &Scenario, node: NodeId, destination: u32, boundary: u32) -> u64
     ensures value { result ≡ (setting_of scenario.now).produced node.0 destination boundary }
-    ensures small { result ≤ 10000000000000 }
+    ensures small { result ≤ most_produced }
 {
     if boundary == 0 {
         return 0;
@@ -215,7 +217,7 @@ pub fn produced_total(scenario: &Scenario, node: NodeId, boundary: u32) -> u64
     ensures value { result
         ≡ total (setting_of scenario.now).destinations
         ((setting_of scenario.now).produced node.0) boundary }
-    ensures small { result ≤ 10000000000000 }
+    ensures small { result ≤ most_produced }
 {
     production_never_falls();
     destinations_add_up();

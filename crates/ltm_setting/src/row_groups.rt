@@ -2,8 +2,8 @@
 ghost use Rattle.std.specs.Prelude.{◌≡◌, ◌<◌, ◌++◌, ◌∷◌, [], ◌≤◌, length};
 ghost use Rattle.ltm_curve.specs.First.{list_below};
 ghost use Rattle.ltm_loading.specs.NodeGroups.{node_group, node_groups};
-ghost use Rattle.ltm_loading.specs.Pairs.{arms_of};
 ghost use Rattle.ltm_setting.specs.Setting.{setting_of};
+ghost use Rattle.ltm_setting.specs.Places.{IsNode, arms_at};
 
 use crate::groups::dep_of;
 use crate::readers::{in_links, link_count, out_links};
@@ -55,9 +55,9 @@ impl NodeGroups {
 /// Adds the group of what has left each arm: each in-link, then the origin.
 #[inline]
 fn put_arms(scenario: &Scenario, node: NodeId, into: &mut NodeGroups)
-    requires node { node.0 < (setting_of scenario.now).nodes }
+    requires node { IsNode scenario.now node.0 }
     requires none { into.old ≡ [] }
-    ensures { into.new ≡ list_below (arms_of (setting_of scenario.now) node.0)
+    ensures { into.new ≡ list_below (arms_at scenario.now node.0)
         (node_group (setting_of scenario.now) node.0) }
 {
     let _links = link_count(scenario);
@@ -72,9 +72,9 @@ fn put_arms(scenario: &Scenario, node: NodeId, into: &mut NodeGroups)
 /// Adds the group of what has entered each out-link.
 #[inline]
 fn put_outs(scenario: &Scenario, node: NodeId, into: &mut NodeGroups)
-    requires node { node.0 < (setting_of scenario.now).nodes }
+    requires node { IsNode scenario.now node.0 }
     requires arms { into.old
-        ≡ list_below (arms_of (setting_of scenario.now) node.0)
+        ≡ list_below (arms_at scenario.now node.0)
         (node_group (setting_of scenario.now) node.0) }
     ensures { into.new ≡ node_groups (setting_of scenario.now) node.0 }
 {
@@ -88,7 +88,7 @@ fn put_outs(scenario: &Scenario, node: NodeId, into: &mut NodeGroups)
 /// The groups that the pairs of a node set, in the order of the node's row: at most nine. Takes no memory.
 #[inline]
 pub fn node_groups(scenario: &Scenario, node: NodeId) -> NodeGroups
-    requires { node.0 < (setting_of scenario.now).nodes }
+    requires { IsNode scenario.now node.0 }
     ensures { result ≡ node_groups (setting_of scenario.now) node.0 }
 {
     let mut groups = NodeGroups {

@@ -2,6 +2,7 @@ use Rattle.std.specs.Prelude.{◌≡◌, ◌≢◌, ℕ, ◌+◌, ◌*◌, ◌^�
 use Rattle.ltm_units.specs.Sums.{sum_below}
 use Rattle.ltm_shares.specs.Shares.{Demands, inflow, Uses}
 use Rattle.ltm_shares.specs.declared.rounds.Progress.{Progress}
+use Rattle.ltm_shares.specs.Demands.{greatest_weight}
 
 -- one arm is fixed at a share, and what it sends is taken from the out-links
 pub record Fixes (n : Demands) (arm share : ℕ) (old new : Progress) : Type 0 where
@@ -57,7 +58,7 @@ pub record IsLevel (n : Demands) (x y : ℕ) (s : Progress) : Type 0 where
 
 pub record IsSound (n : Demands) (s : Progress) : Type 0 where
   pub positive : 0 < s.denominator
-  pub within : s.denominator * 163840000 ^ open_outs n s ≤ 163840000 ^ 4
+  pub within : s.denominator * greatest_weight ^ open_outs n s ≤ greatest_weight ^ 4
   pub balance : (j : ℕ) → j < n.outs → inflow n (slice_index s.numerators) j + slice_index s.left j ≡ n.supply j * s.denominator
   pub ordered : (i j : ℕ) → i < n.arms → j < n.outs → slice_index s.numerators i * weight n s j ≤ slice_index s.left j * n.priority i
   pub arms : (i : ℕ) → i < n.arms → IsOpen n s i ⊎ IsFixed n s i

@@ -3,6 +3,8 @@
 //! With it a share of an amount is one product and a shift in nearly all cases.
 ghost use Rattle.std.specs.Prelude.{◌≡◌, ◌<◌, ◌≤◌, ◌*◌, ◌+◌, ◌/◌, ◌^◌};
 ghost use Rattle.ltm_shares.specs.Factors.{factor};
+ghost use Rattle.ltm_shares.specs.Demands.{greatest_weight};
+ghost use Rattle.ltm_units.specs.Bounds.{most_in_slot};
 
 use crate::wide::product;
 
@@ -18,7 +20,7 @@ const WIDE: u128 = 0x8000_0000_0000_0000_0000_0000;
 /// How many 2^-32nds a fraction of at most 1 is, rounded down.
 pub fn factor_of(numerator: u128, denominator: u128) -> u64
     requires positive { 0 < denominator }
-    requires small { denominator ≤ 163840000 ^ 4 }
+    requires small { denominator ≤ greatest_weight ^ 4 }
     ensures { numerator ≤ denominator → result ≡ factor numerator denominator }
 {
     if numerator >= denominator {
@@ -37,7 +39,7 @@ pub fn factor_of(numerator: u128, denominator: u128) -> u64
 #[inline(never)]
 fn wide_factor(numerator: u128, denominator: u128) -> u64
     requires below_one { numerator < denominator }
-    requires small { denominator ≤ 163840000 ^ 4 }
+    requires small { denominator ≤ greatest_weight ^ 4 }
     ensures { result ≡ factor numerator denominator }
 {
     if denominator < WIDE {
@@ -51,7 +53,7 @@ fn wide_factor(numerator: u128, denominator: u128) -> u64
 /// How many 2^-16ths a fraction below 1 is, and the numerator of what remains of the next 2^-16th.
 fn digit(numerator: u128, denominator: u128) -> (u64, u128)
     requires below_one { numerator < denominator }
-    requires small { denominator ≤ 163840000 ^ 4 }
+    requires small { denominator ≤ greatest_weight ^ 4 }
     ensures whole { numerator * 2 ^ 16 ≡ result.0 * denominator + result.1 }
     ensures digit { result.0 < 2 ^ 16 }
     ensures below_one { result.1 < denominator }
@@ -64,9 +66,9 @@ fn digit(numerator: u128, denominator: u128) -> (u64, u128)
 #[inline(never)]
 pub fn nearest_below(numerator: u128, denominator: u128, amount: u64, low: u64) -> u64
     requires fraction { numerator ≤ denominator }
-    requires small { denominator ≤ 163840000 ^ 4 }
-    requires amount { amount ≤ 32000 }
-    requires low { low ≤ 32000 }
+    requires small { denominator ≤ greatest_weight ^ 4 }
+    requires amount { amount ≤ most_in_slot }
+    requires low { low ≤ most_in_slot }
     requires at_least { low * denominator ≤ numerator * amount }
     requires below { numerator * amount < (low + 2) * denominator }
     ensures { result ≡ numerator * amount / denominator }

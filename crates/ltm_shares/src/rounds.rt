@@ -7,7 +7,7 @@
 //! (`IsSound`, `within`).
 ghost use Rattle.std.specs.Prelude.{◌≡◌, ◌<◌, ◌≤◌, ◌*◌, ◌+◌, ◌^◌, ℕ, slice_index, MatchOption, IsTrue, IsFalse};
 ghost use Rattle.ltm_shares.specs.Shares.{AreShares, Uses};
-ghost use Rattle.ltm_shares.specs.Demands.{demands_of, IsSmall};
+ghost use Rattle.ltm_shares.specs.Demands.{demands_of, IsSmall, greatest_weight};
 ghost use Rattle.ltm_shares.specs.Sent.{sent_at};
 ghost use Rattle.ltm_shares.specs.Rounds.{Fixes, Finishes, Scales, IsSound, IsTightest, weight, open_arms};
 
@@ -59,7 +59,7 @@ pub fn shares(demands: &NodeDemands) -> Shares
 fn weight_on(demands: &NodeDemands, progress: &Progress, out: usize) -> u64
     requires arms { demands.now.arms ≤ 5 }
     requires out { out < 4 }
-    requires fits { weight (demands_of demands.now) progress.now out ≤ 163840000 }
+    requires fits { weight (demands_of demands.now) progress.now out ≤ greatest_weight }
     ensures { result ≡ weight (demands_of demands.now) progress.now out }
 {
     let mut sum = 0u64;

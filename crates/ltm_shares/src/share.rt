@@ -1,6 +1,8 @@
 //! The shares of the arms of a node.
 ghost use Rattle.std.specs.Prelude.{◌≡◌, ℕ, ◌<◌, ◌≤◌, ◌*◌, ◌/◌, ◌^◌, slice_index};
 ghost use Rattle.ltm_shares.specs.Factors.{AreFactors};
+ghost use Rattle.ltm_shares.specs.Demands.{greatest_weight};
+ghost use Rattle.ltm_units.specs.Bounds.{most_in_slot};
 
 use crate::factor::{WHOLE, factor_of, nearest_below};
 use crate::sent::ARMS;
@@ -23,7 +25,7 @@ impl Shares {
     /// The shares with these numerators.
     pub(crate) fn over(denominator: u128, numerators: [u128; ARMS]) -> Shares
         requires positive { 0 < denominator }
-        requires small { denominator ≤ 163840000 ^ 4 }
+        requires small { denominator ≤ greatest_weight ^ 4 }
         ensures denominator { result.denominator ≡ denominator }
         ensures numerators { result.numerators ≡ numerators }
     {
@@ -43,7 +45,7 @@ impl Shares {
     pub fn of(&self, arm: usize, amount: u64) -> u64
         requires arm { arm < 5 }
         requires fraction { slice_index self.now.numerators arm ≤ self.now.denominator }
-        requires amount { amount ≤ 32000 }
+        requires amount { amount ≤ most_in_slot }
         ensures { result ≡ slice_index self.now.numerators arm * amount / self.now.denominator }
     {
         let scaled = self.factors[arm] * amount;

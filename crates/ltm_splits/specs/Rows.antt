@@ -11,6 +11,7 @@ use Rattle.ltm_splits.specs.Weights.{AreWeights}
 use Rattle.ltm_splits.specs.declared.keys.SplitKey.{SplitKey}
 use Rattle.ltm_splits.specs.declared.keys.SplitFault.{SplitFault}
 use Rattle.ltm_splits.specs.declared.keys.SplitFault.TheVariants.{BadSlots, ZeroWeight, TooManyRows}
+use Rattle.ltm_units.specs.Bounds.{most_split_rows}
 
 -- by node, then by destination, then by first slot
 abbrev pub split_cmp : SplitKey → SplitKey → Ordering
@@ -61,7 +62,7 @@ put_back rows key (Some weights) = put_in rows key weights
 
 -- whether it would be the 50,001st row
 abbrev pub is_over : List SplitRow → SplitKey → Bool
-is_over rows key = is_none (row_of rows key) && nat_le 50000 (length rows)
+is_over rows key = is_none (row_of rows key) && nat_le most_split_rows (length rows)
 
 -- the table with the row, or the first reason to refuse it
 abbrev pub with_row : SplitsData → SplitKey → List ℕ → Result SplitsData SplitFault

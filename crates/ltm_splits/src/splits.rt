@@ -2,6 +2,7 @@
 ghost use Rattle.std.specs.Prelude.{◌≡◌, ◌≢◌, ◌≤◌, ◌<◌, [], Ok, Err, Some, None, IsTrue, IsSome, IsNone, IfSome, IfOk, IfErr, OnOk, OnErr, is_some, if◌then◌else◌, length};
 ghost use Rattle.std.specs.Option.{option_copied};
 ghost use Rattle.ltm_splits.specs.Weights.{AreWeights};
+ghost use Rattle.ltm_units.specs.Bounds.{most_slots, most_split_rows};
 
 use crate::keys::{SplitFault, SplitKey};
 use crate::node_table::NodeTable;
@@ -187,7 +188,7 @@ impl Splits {
     /// Raises the horizon. No row changes, and no memory is taken.
     pub fn lengthen(&mut self, slots: u32)
         requires longer { self.old.slots ≤ slots }
-        requires most { slots ≤ 10000 }
+        requires most { slots ≤ most_slots }
         ensures { self.new ≡ with_slots self.old slots }
     {
         self.slots = slots;
@@ -265,7 +266,7 @@ impl Splits {
     // Adds a row with a key that no row has.
     fn add(&mut self, key: SplitKey, weights: Weights) -> Result<(), NoMemory>
         requires new { row_of self.old.rows key ≡ None }
-        requires few { length self.old.rows < 50000 }
+        requires few { length self.old.rows < most_split_rows }
         requires weights { AreWeights weights }
         ensures ok { OnOk result (self.new
             ≡ with_rows self.old (put_in self.old.rows key weights)) }

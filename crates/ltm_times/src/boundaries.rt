@@ -3,6 +3,7 @@ ghost use Rattle.std.specs.Prelude.{◌≡◌, ◌↔◌, ℕ, ◌+◌, ◌-◌,
 ghost use Rattle.ltm_curve.specs.Counts.{Rises};
 ghost use Rattle.ltm_curve.specs.TotalCurves.{total_groups, total_slots, total_at};
 ghost use Rattle.ltm_times.specs.Moments.{first_moment};
+ghost use Rattle.ltm_units.specs.Bounds.{longest_step};
 
 use ltm_curve::TotalCurves;
 use ltm_units::Millis;
@@ -34,7 +35,7 @@ fn wait_in_slot(from: u64, to: u64, count: u64, step: u64) -> u64
     requires not_yet { from < count }
     requires reached { count ≤ to }
     requires few { to ≤ 2 ^ 37 }
-    requires short_step { step ≤ 60000 }
+    requires short_step { step ≤ longest_step }
     requires some_step { 1 ≤ step }
     ensures some { 1 ≤ result }
     ensures within { result ≤ step }
@@ -54,7 +55,7 @@ pub(crate) fn moment_of(
     requires group { group < total_groups curves.now }
     requires rises { Rises (total_at curves.now group) (total_slots curves.now) }
     requires some_step { 1 ≤ step.0 }
-    requires short_step { step.0 ≤ 60000 }
+    requires short_step { step.0 ≤ longest_step }
     ensures time { option_map (λ time. time.0) result
         ≡ first_moment (total_at curves.now group) step.0 (total_slots curves.now) count }
     ensures none { (result ≡ None) ↔ (total_at curves.now group (total_slots curves.now) < count) }

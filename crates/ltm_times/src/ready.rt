@@ -3,6 +3,7 @@ ghost use Rattle.std.specs.Prelude.{◌≡◌, ◌+◌, ◌-◌, ◌*◌, ◌<�
 ghost use Rattle.ltm_curve.specs.Counts.{Rises, interpolated};
 ghost use Rattle.ltm_curve.specs.TotalCurves.{total_groups, total_slots, total_at};
 ghost use Rattle.ltm_times.specs.Queues.{delayed};
+ghost use Rattle.ltm_units.specs.Bounds.{longest_step};
 
 use ltm_curve::TotalCurves;
 use ltm_units::{Millis, share_of};
@@ -40,7 +41,7 @@ pub(crate) fn total_ago(
     requires boundary { boundary ≤ total_slots curves.now }
     requires rises { Rises (total_at curves.now group) (total_slots curves.now) }
     requires some_step { 1 ≤ step.0 }
-    requires short_step { step.0 ≤ 60000 }
+    requires short_step { step.0 ≤ longest_step }
     ensures total { result ≡ delayed (total_at curves.now group) step.0 delay.0 boundary }
     ensures small { result ≤ 2 ^ 37 }
 {

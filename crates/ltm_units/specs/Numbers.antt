@@ -4,6 +4,7 @@ use Rattle.std.specs.List.{list_all, list_any, before_first, after_first}
 use Rattle.ltm_units.specs.declared.numbers.NumberFault.{NumberFault}
 use Rattle.ltm_units.specs.declared.numbers.NumberFault.TheVariants.{Empty, BadByte, TooManyDecimals, TooLarge}
 use Rattle.ltm_units.specs.declared.quantities.Units.{Units}
+use Rattle.ltm_units.specs.Bounds.{most_amount}
 
 abbrev pub is_digit : ℕ → Bool
 is_digit b = nat_le 48 b && nat_le b 57
@@ -54,7 +55,7 @@ abbrev pub units_of : List ℕ → List ℕ → ℕ
 units_of front back = value front * 1000 + value back * 10 ^ (3 - length back)
 
 abbrev pub sized : List ℕ → List ℕ → Result Units NumberFault
-sized front back = if nat_lt 3 (length back) then Err TooManyDecimals else if nat_lt 1000000000 (units_of front back) then Err TooLarge else Ok (record { 0 = units_of front back })
+sized front back = if nat_lt 3 (length back) then Err TooManyDecimals else if nat_lt most_amount (units_of front back) then Err TooLarge else Ok (record { 0 = units_of front back })
 
 abbrev pub checked : List ℕ → Option ℕ → Result Units NumberFault
 checked text (Some place) = Err (BadByte place)

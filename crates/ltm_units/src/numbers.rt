@@ -2,6 +2,7 @@
 ghost use Rattle.std.specs.Prelude.{◌≡◌, ℕ, ◌<◌, ◌≤◌, ◌+◌, ◌^◌, ◌↔◌, ◌==◌, ◌&&◌, ◌||◌, not, min, nat_lt, true, Some, None, Err, IfOk, IfSome, position, if◌then◌else◌};
 ghost use Rattle.std.specs.List.{list_all};
 ghost use Rattle.ltm_units.specs.Numbers.{is_digit, is_point, value, number_told, whole, vehicles, bad_place, sized, IsFirstBad};
+ghost use Rattle.ltm_units.specs.Bounds.{most_amount};
 
 use crate::Units;
 
@@ -108,7 +109,7 @@ fn amount(front: &[u8], back: &[u8]) -> Result<Units, NumberFault>
     requires front { list_all is_digit front.now ≡ true }
     requires back { list_all is_digit back.now ≡ true }
     ensures value { result ≡ sized front.now back.now }
-    ensures small { IfOk result (λ units. units.0 ≤ 1000000000) }
+    ensures small { IfOk result (λ units. units.0 ≤ most_amount) }
 {
     if back.len() > 3 {
         return Err(NumberFault::TooManyDecimals);
@@ -131,7 +132,7 @@ fn amount(front: &[u8], back: &[u8]) -> Result<Units, NumberFault>
 #[tactic(auto, using(crate::proofs::BadBytes::parts))]
 fn parse(text: &[u8]) -> Result<Units, NumberFault>
     ensures value { result ≡ vehicles text.now }
-    ensures small { IfOk result (λ units. units.0 ≤ 1000000000) }
+    ensures small { IfOk result (λ units. units.0 ≤ most_amount) }
 {
     if text.is_empty() {
         return Err(NumberFault::Empty);
@@ -152,7 +153,7 @@ fn parse(text: &[u8]) -> Result<Units, NumberFault>
 /// first.
 pub fn read_vehicles(text: &[u8]) -> Result<Units, NumberFault>
     ensures value { result ≡ vehicles text.now }
-    ensures small { IfOk result (λ units. units.0 ≤ 1000000000) }
+    ensures small { IfOk result (λ units. units.0 ≤ most_amount) }
     ensures bad_byte { (place : ℕ)
         → (result ≡ Err (NumberFault.BadByte place)) ↔ IsFirstBad text.now place }
 {

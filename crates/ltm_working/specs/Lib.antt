@@ -13,3 +13,4 @@ pub mod Waking
 pub mod Committing
 pub mod Recomputing
 pub mod Batches
+pub mod Scenarios

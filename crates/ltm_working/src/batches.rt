@@ -1,11 +1,11 @@
 //! The pairs that a batch touches become active, and those of new slots.
-ghost use Rattle.std.specs.Prelude.{◌≡◌, ◌<◌, ◌≤◌, nat_le, All};
+ghost use Rattle.std.specs.Prelude.{◌≡◌, nat_le, All};
 ghost use Rattle.ltm_setting.specs.Setting.{setting_of};
 ghost use Rattle.ltm_frontier.specs.Frontier.{Activates};
 ghost use Rattle.ltm_pairs.specs.Adding.{IsFrom};
 ghost use Rattle.ltm_pairs.specs.Touched.{is_touched};
-ghost use Rattle.ltm_working.specs.Ready.{HasPairs};
 ghost use Rattle.ltm_working.specs.Batches.{in_reaches};
+ghost use Rattle.ltm_working.specs.Scenarios.{HasPairsOf};
 
 use ltm_frontier::Frontier;
 use ltm_pairs::{Spread, touched};
@@ -15,7 +15,7 @@ use ltm_units::{NodeId, Reach};
 
 /// Marks the pairs of reaches.
 fn mark_reaches(scenario: &Scenario, frontier: &mut Frontier, reaches: &[Reach])
-    requires pairs { HasPairs (setting_of scenario.now) frontier.old }
+    requires pairs { HasPairsOf scenario.now frontier.old }
     requires there { All (IsFrom (setting_of scenario.now) 0) reaches.now }
     ensures { Activates frontier.old frontier.new (in_reaches reaches.now) }
 {
@@ -26,7 +26,7 @@ fn mark_reaches(scenario: &Scenario, frontier: &mut Frontier, reaches: &[Reach])
 
 /// Marks the pairs that edits touch.
 pub(crate) fn mark_touched(scenario: &Scenario, frontier: &mut Frontier, edits: &[Edit])
-    requires { HasPairs (setting_of scenario.now) frontier.old }
+    requires { HasPairsOf scenario.now frontier.old }
     ensures { Activates frontier.old frontier.new (is_touched scenario.now edits.now) }
 {
     let mut spread = Spread::new();
@@ -38,7 +38,7 @@ pub(crate) fn mark_touched(scenario: &Scenario, frontier: &mut Frontier, edits: 
 
 /// Marks the pairs of a slot and of all later ones.
 pub(crate) fn mark_from(scenario: &Scenario, frontier: &mut Frontier, from: u32)
-    requires { HasPairs (setting_of scenario.now) frontier.old }
+    requires { HasPairsOf scenario.now frontier.old }
     ensures { Activates frontier.old frontier.new (λ u t. nat_le from t) }
 {
     let to = slot_count(scenario);

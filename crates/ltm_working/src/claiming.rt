@@ -4,7 +4,6 @@
 //! and reads what is kept of it is dropped on the way.
 ghost use Rattle.std.specs.Prelude.{◌≡◌, ◌<◌, ◌≤◌, ℕ, MatchOption, IfSome, IsTrue, IsFalse, true};
 ghost use Rattle.ltm_node.specs.Solvable.{IsSolvable};
-ghost use Rattle.ltm_loading.specs.Pairs.{shape_at};
 ghost use Rattle.ltm_setting.specs.Setting.{setting_of};
 ghost use Rattle.ltm_frontier.specs.Frontier.{is_active};
 ghost use Rattle.ltm_repair.specs.Answers.{HasClaimAt, IsNoneClaimed};
@@ -12,6 +11,9 @@ ghost use Rattle.ltm_repair.specs.Desk.{IsSettled, IsIdleBefore, IsAtRest};
 ghost use Rattle.ltm_repair.specs.Moves.{DropsSettled, TakesClaim};
 ghost use Rattle.ltm_repair.specs.Index.{IsPlaced};
 ghost use Rattle.ltm_working.specs.Searching.{AnswersSearch, FitsFound, IsFound, Finds, answer_of};
+ghost use Rattle.ltm_setting.specs.Places.{IsBoundary, IsNode, IsSlot, node_shape};
+ghost use Rattle.ltm_working.specs.Scenarios.{IsReadyFor, changed_for, desk_for};
+ghost use Rattle.ltm_units.specs.Bounds.{widest_row};
 
 use crate::found::Found;
 use crate::places::place_pair;
@@ -24,33 +26,32 @@ use ltm_setting::{is_setting, node_count, slot_count};
 use ltm_units::{NodeId, Pair};
 
 impl Table {
-    ghost use Rattle.ltm_working.specs.Desks.{desk_at, changed_at, place_of};
-    ghost use Rattle.ltm_working.specs.Ready.{IsReady};
+    ghost use Rattle.ltm_working.specs.Desks.{place_of};
     ghost use Rattle.ltm_working.specs.Dropping.{DropsOne, DropsAt, IsWork, HasWork, NoneActive, SameWorkAs};
 
     /// Reads the inputs of an active pair at the front but for its counts, and places its positions; whether the inputs are
     /// the kept ones.
     fn look_at(&mut self, scenario: &Scenario, pair: Pair, inputs: &mut NodeInputs) -> bool
-        requires ready { IsReady (setting_of scenario.now) self.old }
-        requires node { pair.node.0 < (setting_of scenario.now).nodes }
-        requires slot { pair.slot < (setting_of scenario.now).slots }
+        requires ready { IsReadyFor scenario.now self.old }
+        requires node { IsNode scenario.now pair.node.0 }
+        requires slot { IsSlot scenario.now pair.slot }
         requires idle { IsIdleBefore (setting_of scenario.now)
-            (desk_at (setting_of scenario.now) self.old) pair.slot }
+            (desk_for scenario.now self.old) pair.slot }
         requires active { is_active self.old.frontier pair.node.0 pair.slot ≡ true }
-        requires room { 1162 ≤ inputs.old.room }
-        ensures ready { IsReady (setting_of scenario.now) self.new }
-        ensures desk { desk_at (setting_of scenario.now) self.new
-            ≡ desk_at (setting_of scenario.now) self.old }
+        requires room { widest_row ≤ inputs.old.room }
+        ensures ready { IsReadyFor scenario.now self.new }
+        ensures desk { desk_for scenario.now self.new
+            ≡ desk_for scenario.now self.old }
         ensures same { self.new ≡ record self.old { index = self.new.index } }
         ensures placed { IsPlaced (setting_of scenario.now)
-            (desk_at (setting_of scenario.now) self.new)
+            (desk_for scenario.now self.new)
             (place_of self.new.index) pair.node.0 pair.slot }
         ensures settled { IsTrue result
             → IsSettled (setting_of scenario.now)
-            (desk_at (setting_of scenario.now) self.new) pair.node.0 pair.slot }
+            (desk_for scenario.now self.new) pair.node.0 pair.slot }
         ensures work { IsFalse result
             → IsWork (setting_of scenario.now)
-            (desk_at (setting_of scenario.now) self.new) pair.node.0 pair.slot inputs.new }
+            (desk_for scenario.now self.new) pair.node.0 pair.slot inputs.new }
         ensures room { inputs.new.room ≡ inputs.old.room }
     {
         is_setting(scenario);
@@ -63,21 +64,21 @@ impl Table {
 
     /// Drops an active pair that is settled and placed.
     fn drop_settled(&mut self, scenario: &Scenario, pair: Pair)
-        requires ready { IsReady (setting_of scenario.now) self.old }
-        requires node { pair.node.0 < (setting_of scenario.now).nodes }
-        requires slot { pair.slot < (setting_of scenario.now).slots }
+        requires ready { IsReadyFor scenario.now self.old }
+        requires node { IsNode scenario.now pair.node.0 }
+        requires slot { IsSlot scenario.now pair.slot }
         requires idle { IsIdleBefore (setting_of scenario.now)
-            (desk_at (setting_of scenario.now) self.old) pair.slot }
+            (desk_for scenario.now self.old) pair.slot }
         requires active { is_active self.old.frontier pair.node.0 pair.slot ≡ true }
         requires settled { IsSettled (setting_of scenario.now)
-            (desk_at (setting_of scenario.now) self.old) pair.node.0 pair.slot }
+            (desk_for scenario.now self.old) pair.node.0 pair.slot }
         requires placed { IsPlaced (setting_of scenario.now)
-            (desk_at (setting_of scenario.now) self.old)
+            (desk_for scenario.now self.old)
             (place_of self.old.index) pair.node.0 pair.slot }
-        ensures ready { IsReady (setting_of scenario.now) self.new }
+        ensures ready { IsReadyFor scenario.now self.new }
         ensures drops { DropsOne (setting_of scenario.now)
-            (desk_at (setting_of scenario.now) self.old) pair.node.0 pair.slot
-            (desk_at (setting_of scenario.now) self.new) }
+            (desk_for scenario.now self.old) pair.node.0 pair.slot
+            (desk_for scenario.now self.new) }
         ensures same { SameWorkAs self.old self.new }
     {
         self.frontier.unmark(pair);
@@ -86,22 +87,22 @@ impl Table {
     /// The first active pair of a slot whose inputs differ from the kept ones, with its inputs but for the counts. Settled
     /// pairs before it are dropped; where there is none, all active pairs of the slot.
     fn find_at(&mut self, scenario: &Scenario, slot: u32, inputs: &mut NodeInputs) -> Option<NodeId>
-        requires ready { IsReady (setting_of scenario.now) self.old }
-        requires slot { slot < (setting_of scenario.now).slots }
+        requires ready { IsReadyFor scenario.now self.old }
+        requires slot { IsSlot scenario.now slot }
         requires idle { IsIdleBefore (setting_of scenario.now)
-            (desk_at (setting_of scenario.now) self.old) slot }
-        requires room { 1162 ≤ inputs.old.room }
-        ensures ready { IsReady (setting_of scenario.now) self.new }
+            (desk_for scenario.now self.old) slot }
+        requires room { widest_row ≤ inputs.old.room }
+        ensures ready { IsReadyFor scenario.now self.new }
         ensures drops { DropsAt (setting_of scenario.now)
-            (desk_at (setting_of scenario.now) self.old) slot
-            (desk_at (setting_of scenario.now) self.new) }
+            (desk_for scenario.now self.old) slot
+            (desk_for scenario.now self.new) }
         ensures found { MatchOption result
-            (NoneActive (desk_at (setting_of scenario.now) self.new) slot
+            (NoneActive (desk_for scenario.now self.new) slot
             (setting_of scenario.now).nodes)
             (λ node. IsWork (setting_of scenario.now)
-            (desk_at (setting_of scenario.now) self.new) node.0 slot inputs.new) }
+            (desk_for scenario.now self.new) node.0 slot inputs.new) }
         ensures placed { IfSome result (λ node. IsPlaced (setting_of scenario.now)
-            (desk_at (setting_of scenario.now) self.new) (place_of self.new.index) node.0 slot) }
+            (desk_for scenario.now self.new) (place_of self.new.index) node.0 slot) }
         ensures same { SameWorkAs self.old self.new }
         ensures room { inputs.new.room ≡ inputs.old.room }
     {
@@ -124,15 +125,15 @@ impl Table {
 
     /// Claims a pair that was found, whose counts are written into its inputs.
     fn take(&mut self, scenario: &Scenario, pair: Pair, inputs: &mut NodeInputs)
-        requires ready { IsReady (setting_of scenario.now) self.old }
+        requires ready { IsReadyFor scenario.now self.old }
         requires found { IsFound (setting_of scenario.now) self.old pair.node.0 pair.slot inputs.old }
-        ensures ready { IsReady (setting_of scenario.now) self.new }
+        ensures ready { IsReadyFor scenario.now self.new }
         ensures takes { TakesClaim (setting_of scenario.now)
-            (desk_at (setting_of scenario.now) self.old) pair.node.0 pair.slot inputs.new.row
-            (desk_at (setting_of scenario.now) self.new) }
-        ensures changed { changed_at (setting_of scenario.now) self.new
-            ≡ changed_at (setting_of scenario.now) self.old }
-        ensures shape { inputs.new.shape ≡ shape_at (setting_of scenario.now) pair.node.0 }
+            (desk_for scenario.now self.old) pair.node.0 pair.slot inputs.new.row
+            (desk_for scenario.now self.new) }
+        ensures changed { changed_for scenario.now self.new
+            ≡ changed_for scenario.now self.old }
+        ensures shape { inputs.new.shape ≡ node_shape scenario.now pair.node.0 }
         ensures solvable { IsSolvable inputs.new }
         ensures room { inputs.new.room ≡ inputs.old.room }
     {
@@ -144,13 +145,13 @@ impl Table {
 
     /// The first pair to be worked on at the slot of the claims that are out, if there is one yet.
     fn find_beside(&mut self, scenario: &Scenario, slot: u32, inputs: &mut NodeInputs) -> Found
-        requires ready { IsReady (setting_of scenario.now) self.old }
+        requires ready { IsReadyFor scenario.now self.old }
         requires out { HasClaimAt (setting_of scenario.now)
-            (desk_at (setting_of scenario.now) self.old) slot }
-        requires room { 1162 ≤ inputs.old.room }
-        ensures ready { IsReady (setting_of scenario.now) self.new }
+            (desk_for scenario.now self.old) slot }
+        requires room { widest_row ≤ inputs.old.room }
+        ensures ready { IsReadyFor scenario.now self.new }
         ensures finds { Finds (setting_of scenario.now)
-            (desk_at (setting_of scenario.now) self.old) result inputs.new self.new }
+            (desk_for scenario.now self.old) result inputs.new self.new }
         ensures same { SameWorkAs self.old self.new }
         ensures room { inputs.new.room ≡ inputs.old.room }
     {
@@ -167,23 +168,23 @@ impl Table {
         front: u32,
         inputs: &mut NodeInputs,
     ) -> Option<Pair>
-        requires ready { IsReady (setting_of scenario.now) self.old }
-        requires front { front ≤ (setting_of scenario.now).slots }
+        requires ready { IsReadyFor scenario.now self.old }
+        requires front { IsBoundary scenario.now front }
         requires idle { IsIdleBefore (setting_of scenario.now)
-            (desk_at (setting_of scenario.now) self.old) front }
+            (desk_for scenario.now self.old) front }
         requires none { IsNoneClaimed (setting_of scenario.now)
-            (desk_at (setting_of scenario.now) self.old) }
-        requires room { 1162 ≤ inputs.old.room }
-        ensures ready { IsReady (setting_of scenario.now) self.new }
+            (desk_for scenario.now self.old) }
+        requires room { widest_row ≤ inputs.old.room }
+        ensures ready { IsReadyFor scenario.now self.new }
         ensures drops { DropsSettled (setting_of scenario.now)
-            (desk_at (setting_of scenario.now) self.old)
-            (desk_at (setting_of scenario.now) self.new) }
+            (desk_for scenario.now self.old)
+            (desk_for scenario.now self.new) }
         ensures found { MatchOption result
-            (IsAtRest (setting_of scenario.now) (desk_at (setting_of scenario.now) self.new))
+            (IsAtRest (setting_of scenario.now) (desk_for scenario.now self.new))
             (λ pair. HasWork (setting_of scenario.now)
-            (desk_at (setting_of scenario.now) self.new) pair.node.0 pair.slot inputs.new) }
+            (desk_for scenario.now self.new) pair.node.0 pair.slot inputs.new) }
         ensures placed { IfSome result
-            (λ pair. IsPlaced (setting_of scenario.now) (desk_at (setting_of scenario.now) self.new)
+            (λ pair. IsPlaced (setting_of scenario.now) (desk_for scenario.now self.new)
             (place_of self.new.index) pair.node.0 pair.slot) }
         ensures same { SameWorkAs self.old self.new }
         ensures room { inputs.new.room ≡ inputs.old.room }
@@ -198,16 +199,16 @@ impl Table {
 
     /// The first pair to be worked on, where none is claimed.
     fn find_first(&mut self, scenario: &Scenario, front: u32, inputs: &mut NodeInputs) -> Found
-        requires ready { IsReady (setting_of scenario.now) self.old }
-        requires front { front ≤ (setting_of scenario.now).slots }
+        requires ready { IsReadyFor scenario.now self.old }
+        requires front { IsBoundary scenario.now front }
         requires idle { IsIdleBefore (setting_of scenario.now)
-            (desk_at (setting_of scenario.now) self.old) front }
+            (desk_for scenario.now self.old) front }
         requires none { IsNoneClaimed (setting_of scenario.now)
-            (desk_at (setting_of scenario.now) self.old) }
-        requires room { 1162 ≤ inputs.old.room }
-        ensures ready { IsReady (setting_of scenario.now) self.new }
+            (desk_for scenario.now self.old) }
+        requires room { widest_row ≤ inputs.old.room }
+        ensures ready { IsReadyFor scenario.now self.new }
         ensures finds { Finds (setting_of scenario.now)
-            (desk_at (setting_of scenario.now) self.old) result inputs.new self.new }
+            (desk_for scenario.now self.old) result inputs.new self.new }
         ensures same { SameWorkAs self.old self.new }
         ensures room { inputs.new.room ≡ inputs.old.room }
     {
@@ -220,16 +221,16 @@ impl Table {
     /// The least slot of a pair that is active or claimed, or the horizon. It is not sought below that slot again until a
     /// pair there becomes active.
     fn front(&mut self, scenario: &Scenario) -> u32
-        requires { IsReady (setting_of scenario.now) self.old }
-        ensures ready { IsReady (setting_of scenario.now) self.new }
-        ensures within { result ≤ (setting_of scenario.now).slots }
+        requires { IsReadyFor scenario.now self.old }
+        ensures ready { IsReadyFor scenario.now self.new }
+        ensures within { IsBoundary scenario.now result }
         ensures idle { IsIdleBefore (setting_of scenario.now)
-            (desk_at (setting_of scenario.now) self.new) result }
+            (desk_for scenario.now self.new) result }
         ensures claims { (v : ℕ)
-            → HasClaimAt (setting_of scenario.now) (desk_at (setting_of scenario.now) self.new) v
+            → HasClaimAt (setting_of scenario.now) (desk_for scenario.now self.new) v
             → v ≡ result }
-        ensures desk { desk_at (setting_of scenario.now) self.new
-            ≡ desk_at (setting_of scenario.now) self.old }
+        ensures desk { desk_for scenario.now self.new
+            ≡ desk_for scenario.now self.old }
         ensures same { SameWorkAs self.old self.new }
     {
         match self.frontier.advance() {
@@ -241,13 +242,13 @@ impl Table {
     /// A pair of the front slot whose inputs differ from the kept ones, with its inputs but for the counts, for which there is
     /// room for 1,162 numbers. Settled pairs that it passes are dropped; while claims are out, at their slot alone.
     pub(crate) fn find(&mut self, scenario: &Scenario, inputs: &mut NodeInputs) -> Found
-        requires ready { IsReady (setting_of scenario.now) self.old }
-        requires room { 1162 ≤ inputs.old.room }
-        ensures ready { IsReady (setting_of scenario.now) self.new }
+        requires ready { IsReadyFor scenario.now self.old }
+        requires room { widest_row ≤ inputs.old.room }
+        ensures ready { IsReadyFor scenario.now self.new }
         ensures finds { Finds (setting_of scenario.now)
-            (desk_at (setting_of scenario.now) self.old) result inputs.new self.new }
-        ensures changed { changed_at (setting_of scenario.now) self.new
-            ≡ changed_at (setting_of scenario.now) self.old }
+            (desk_for scenario.now self.old) result inputs.new self.new }
+        ensures changed { changed_for scenario.now self.new
+            ≡ changed_for scenario.now self.old }
         ensures room { inputs.new.room ≡ inputs.old.room }
     {
         let front = self.front(scenario);
@@ -260,16 +261,16 @@ impl Table {
     /// Claims a pair of the front slot whose inputs differ from the kept ones, and writes its inputs, for which there is
     /// room for 1,162 numbers. Settled pairs that it passes are dropped; while claims are out, at their slot alone.
     pub fn claim(&mut self, scenario: &Scenario, inputs: &mut NodeInputs) -> Found
-        requires ready { IsReady (setting_of scenario.now) self.old }
-        requires room { 1162 ≤ inputs.old.room }
-        ensures ready { IsReady (setting_of scenario.now) self.new }
+        requires ready { IsReadyFor scenario.now self.old }
+        requires room { widest_row ≤ inputs.old.room }
+        ensures ready { IsReadyFor scenario.now self.new }
         ensures answer { (ticket : ℕ)
-            → AnswersSearch (setting_of scenario.now) (desk_at (setting_of scenario.now) self.old)
-            (answer_of ticket result inputs.new.row) (desk_at (setting_of scenario.now) self.new) }
+            → AnswersSearch (setting_of scenario.now) (desk_for scenario.now self.old)
+            (answer_of ticket result inputs.new.row) (desk_for scenario.now self.new) }
         ensures fits { FitsFound (setting_of scenario.now) result inputs.new }
         ensures room { inputs.new.room ≡ inputs.old.room }
-        ensures changed { changed_at (setting_of scenario.now) self.new
-            ≡ changed_at (setting_of scenario.now) self.old }
+        ensures changed { changed_for scenario.now self.new
+            ≡ changed_for scenario.now self.old }
     {
         match self.find(scenario, inputs) {
             Found::Work(pair) => {

@@ -1,9 +1,10 @@
 //! A claimed pair is committed.
 ghost use Rattle.std.specs.Prelude.{◌≡◌, ◌||◌, ℕ, Some};
-ghost use Rattle.ltm_loading.specs.Pairs.{shape_at};
 ghost use Rattle.ltm_setting.specs.Setting.{setting_of};
 ghost use Rattle.ltm_repair.specs.Moves.{Commits};
 ghost use Rattle.ltm_working.specs.Committing.{readers, rewritten};
+ghost use Rattle.ltm_setting.specs.Places.{node_shape};
+ghost use Rattle.ltm_working.specs.Scenarios.{IsReadyFor, changed_for, desk_for};
 
 use crate::renewal::Renewal;
 use crate::renewing::renew_pair;
@@ -18,26 +19,23 @@ use ltm_setting::{is_setting, slot_count};
 use ltm_units::Pair;
 
 impl Table {
-    ghost use Rattle.ltm_working.specs.Desks.{desk_at, changed_at};
-    ghost use Rattle.ltm_working.specs.Ready.{IsReady};
-
     /// Sets the counts of a claimed pair to the step of its inputs and keeps these. The readers of what changed become
     /// active, exactly those, and the cells with another count are noted. Takes no memory.
     pub fn commit(&mut self, scenario: &Scenario, pair: Pair, solved: &Solved)
-        requires ready { IsReady (setting_of scenario.now) self.old }
-        requires claimed { (desk_at (setting_of scenario.now) self.old).claimed
+        requires ready { IsReadyFor scenario.now self.old }
+        requires claimed { (desk_for scenario.now self.old).claimed
             pair.node.0 pair.slot ≡ Some solved.now.inputs.row }
-        requires shape { solved.now.inputs.shape ≡ shape_at (setting_of scenario.now) pair.node.0 }
-        ensures ready { IsReady (setting_of scenario.now) self.new }
+        requires shape { solved.now.inputs.shape ≡ node_shape scenario.now pair.node.0 }
+        ensures ready { IsReadyFor scenario.now self.new }
         ensures desk { Commits (setting_of scenario.now)
-            (desk_at (setting_of scenario.now) self.old) pair.node.0 pair.slot solved.now.inputs.row
-            (readers (setting_of scenario.now) (desk_at (setting_of scenario.now) self.old)
-            (desk_at (setting_of scenario.now) self.new) pair.node.0 pair.slot)
-            (desk_at (setting_of scenario.now) self.new) }
-        ensures changed { (g k : ℕ) → changed_at (setting_of scenario.now) self.new g k
-            ≡ (changed_at (setting_of scenario.now) self.old g k
-            || rewritten (setting_of scenario.now) (desk_at (setting_of scenario.now) self.old)
-            (desk_at (setting_of scenario.now) self.new) g k) }
+            (desk_for scenario.now self.old) pair.node.0 pair.slot solved.now.inputs.row
+            (readers (setting_of scenario.now) (desk_for scenario.now self.old)
+            (desk_for scenario.now self.new) pair.node.0 pair.slot)
+            (desk_for scenario.now self.new) }
+        ensures changed { (g k : ℕ) → changed_for scenario.now self.new g k
+            ≡ (changed_for scenario.now self.old g k
+            || rewritten (setting_of scenario.now) (desk_for scenario.now self.old)
+            (desk_for scenario.now self.new) g k) }
     {
         is_setting(scenario);
         inputs_by_place();

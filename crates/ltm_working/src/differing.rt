@@ -9,12 +9,12 @@ ghost use Rattle.ltm_curve.specs.Cells.{HasCells};
 ghost use Rattle.ltm_loading.specs.Groups.{arr_of, groups};
 ghost use Rattle.ltm_loading.specs.Pairs.{arrived_by};
 ghost use Rattle.ltm_setting.specs.Setting.{setting_of};
-ghost use Rattle.ltm_loading.specs.Shaped.{IsShaped};
 ghost use Rattle.ltm_flows.specs.Applying.{SetsSink};
 ghost use Rattle.ltm_frontier.specs.Frontier.{is_pair};
 ghost use Rattle.ltm_working.specs.declared.step_form.StepForm.TheVariants.{Moved};
 ghost use Rattle.ltm_working.specs.Counted.{counted_number, counted_row};
 ghost use Rattle.ltm_working.specs.Waking.{row_differs, sink_differs, PutsCells};
+ghost use Rattle.ltm_setting.specs.Places.{IsShapedFor, IsSlot, all_groups};
 
 use crate::step_form::StepForm;
 use ltm_curve::{Changed, Curves};
@@ -255,20 +255,20 @@ pub(crate) fn renew_sink(
     given: StepForm,
     arrived: u64,
 ) -> bool
-    requires slot { pair.slot < (setting_of scenario.now).slots }
-    requires shape { IsShaped (setting_of scenario.now) curves.old }
+    requires slot { IsSlot scenario.now pair.slot }
+    requires shape { IsShapedFor scenario.now curves.old }
     requires small { counted_number given
         (arrived_by (setting_of scenario.now) (counts_of curves.old)
         ((setting_of scenario.now).own pair.node.0) pair.slot) arrived < 2 ^ 31 }
     requires no_sink { (setting_of scenario.now).own pair.node.0 ≡ None → arrived ≡ 0 }
-    requires cells { HasCells changed.old (groups (setting_of scenario.now))
+    requires cells { HasCells changed.old (all_groups scenario.now)
         (setting_of scenario.now).slots }
     ensures value { result
         ≡ sink_differs (setting_of scenario.now) (counts_of curves.old)
         ((setting_of scenario.now).own pair.node.0) (pair.slot + 1)
         (counted_number given (arrived_by (setting_of scenario.now) (counts_of curves.old)
         ((setting_of scenario.now).own pair.node.0) pair.slot) arrived) }
-    ensures shape { IsShaped (setting_of scenario.now) curves.new }
+    ensures shape { IsShapedFor scenario.now curves.new }
     ensures sets { SetsSink (setting_of scenario.now) pair.node.0 (pair.slot + 1)
         (counted_number given (arrived_by (setting_of scenario.now) (counts_of curves.old)
         ((setting_of scenario.now).own pair.node.0) pair.slot) arrived)

@@ -16,12 +16,12 @@
 ghost use Rattle.std.specs.Prelude.{◌≡◌, ◌==◌, ◌&&◌, ◌<◌, ◌≤◌, nat_le};
 ghost use Rattle.ltm_curve.specs.Table.{counts_of};
 ghost use Rattle.ltm_setting.specs.Setting.{setting_of};
-ghost use Rattle.ltm_loading.specs.Shaped.{IsShaped};
 ghost use Rattle.ltm_frontier.specs.Frontier.{nodes_of, slots_of as slots_in, is_pair, Activates};
 ghost use Rattle.ltm_index.specs.Lists.{links_of, slots_of};
 ghost use Rattle.ltm_working.specs.Desks.{place_of};
-ghost use Rattle.ltm_working.specs.Ready.{HasPairs, HasLists};
 ghost use Rattle.ltm_working.specs.Waking.{wakes_tail, wakes_later, wakes_listed, wakes_head};
+ghost use Rattle.ltm_setting.specs.Places.{IsBoundary, IsLink, IsShapedFor};
+ghost use Rattle.ltm_working.specs.Scenarios.{HasListsOf, HasPairsOf};
 
 use ltm_curve::Curves;
 use ltm_frontier::Frontier;
@@ -76,11 +76,11 @@ fn mark_listed(
     low: u32,
     boundary: u32,
 )
-    requires link { link.0 < (setting_of scenario.now).links }
+    requires link { IsLink scenario.now link.0 }
     requires low { low ≤ boundary }
-    requires boundary { boundary ≤ (setting_of scenario.now).slots }
-    requires lists { HasLists (setting_of scenario.now) index.now }
-    requires pairs { HasPairs (setting_of scenario.now) frontier.old }
+    requires boundary { IsBoundary scenario.now boundary }
+    requires lists { HasListsOf scenario.now index.now }
+    requires pairs { HasPairsOf scenario.now frontier.old }
     ensures { Activates frontier.old frontier.new
         (wakes_listed (setting_of scenario.now) (place_of index.now) link.0 low boundary) }
 {
@@ -92,8 +92,8 @@ fn mark_listed(
 
 /// Marks the head of a link in the slots that read a boundary a free-flow time later.
 fn mark_later(scenario: &Scenario, frontier: &mut Frontier, link: LinkId, boundary: u32)
-    requires link { link.0 < (setting_of scenario.now).links }
-    requires pairs { HasPairs (setting_of scenario.now) frontier.old }
+    requires link { IsLink scenario.now link.0 }
+    requires pairs { HasPairsOf scenario.now frontier.old }
     ensures { Activates frontier.old frontier.new
         (wakes_later (setting_of scenario.now) link.0 boundary) }
 {
@@ -105,8 +105,8 @@ fn mark_later(scenario: &Scenario, frontier: &mut Frontier, link: LinkId, bounda
 
 /// Marks the tail of a link in the slots that read a boundary a wave time later.
 pub(crate) fn mark_tail(scenario: &Scenario, frontier: &mut Frontier, link: LinkId, boundary: u32)
-    requires link { link.0 < (setting_of scenario.now).links }
-    requires pairs { HasPairs (setting_of scenario.now) frontier.old }
+    requires link { IsLink scenario.now link.0 }
+    requires pairs { HasPairsOf scenario.now frontier.old }
     ensures { Activates frontier.old frontier.new
         (wakes_tail (setting_of scenario.now) link.0 boundary) }
 {
@@ -132,11 +132,11 @@ pub(crate) fn mark_head(
     frontier: &mut Frontier,
     entered: Entered,
 )
-    requires link { entered.link.0 < (setting_of scenario.now).links }
-    requires boundary { entered.boundary ≤ (setting_of scenario.now).slots }
-    requires shape { IsShaped (setting_of scenario.now) curves.now }
-    requires lists { HasLists (setting_of scenario.now) index.now }
-    requires pairs { HasPairs (setting_of scenario.now) frontier.old }
+    requires link { IsLink scenario.now entered.link.0 }
+    requires boundary { IsBoundary scenario.now entered.boundary }
+    requires shape { IsShapedFor scenario.now curves.now }
+    requires lists { HasListsOf scenario.now index.now }
+    requires pairs { HasPairsOf scenario.now frontier.old }
     ensures { Activates frontier.old frontier.new
         (wakes_head (setting_of scenario.now) (counts_of curves.now)
         (place_of index.now) entered.link.0 entered.boundary entered.units) }

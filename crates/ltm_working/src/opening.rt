@@ -6,10 +6,11 @@ ghost use Rattle.ltm_node.specs.Solvable.{IsSolvable};
 ghost use Rattle.ltm_loading.specs.Setting.{IsSetting};
 ghost use Rattle.ltm_loading.specs.Uncounted.{IsUncountedPair};
 ghost use Rattle.ltm_setting.specs.Setting.{setting_of};
-ghost use Rattle.ltm_flows.specs.Working.{IsWorkingAt, HasRoom};
-ghost use Rattle.ltm_sending.specs.Front.{IsAtFront};
 ghost use Rattle.ltm_working.specs.Placing.{KeepsSlots};
 ghost use Rattle.ltm_working.specs.Openings.{StaysTo};
+ghost use Rattle.ltm_flows.specs.WorkingOn.{HasNodeRoom, WorksAt};
+ghost use Rattle.ltm_sending.specs.Fronts.{FrontAt};
+ghost use Rattle.ltm_setting.specs.Places.{IsNode, IsSlot};
 
 use crate::places::place_pair;
 use crate::table::WIDEST;
@@ -56,11 +57,11 @@ fn keep_pair(
     inputs: &mut NodeInputs,
 )
     requires setting { IsSetting (setting_of scenario.now) }
-    requires node { pair.node.0 < (setting_of scenario.now).nodes }
-    requires front { IsAtFront (setting_of scenario.now) curves.now pair.slot }
+    requires node { IsNode scenario.now pair.node.0 }
+    requires front { FrontAt scenario.now curves.now pair.slot }
     requires keeps { KeepsSlots (setting_of scenario.now)
         (counts_of curves.now) kept.old index.old pair.slot pair.node.0 }
-    requires room { HasRoom (setting_of scenario.now) inputs.old.room }
+    requires room { HasNodeRoom scenario.now inputs.old.room }
     ensures keeps { KeepsSlots (setting_of scenario.now)
         (counts_of curves.now) kept.new index.new pair.slot (pair.node.0 + 1) }
     ensures inputs { IsUncountedPair (setting_of scenario.now)
@@ -84,14 +85,14 @@ fn load_pair(
     outputs: &mut NodeOutputs,
 )
     requires setting { IsSetting (setting_of scenario.now) }
-    requires node { pair.node.0 < (setting_of scenario.now).nodes }
-    requires slot { pair.slot < (setting_of scenario.now).slots }
-    requires working { IsWorkingAt (setting_of scenario.now) curves.old pair.slot pair.node.0 }
+    requires node { IsNode scenario.now pair.node.0 }
+    requires slot { IsSlot scenario.now pair.slot }
+    requires working { WorksAt scenario.now curves.old pair.slot pair.node.0 }
     requires inputs { IsUncountedPair (setting_of scenario.now)
         (counts_of curves.old) pair.node.0 pair.slot inputs.now }
     requires solvable { IsSolvable inputs.now }
-    requires room { HasRoom (setting_of scenario.now) outputs.old.room }
-    ensures working { IsWorkingAt (setting_of scenario.now) curves.new pair.slot (pair.node.0 + 1) }
+    requires room { HasNodeRoom scenario.now outputs.old.room }
+    ensures working { WorksAt scenario.now curves.new pair.slot (pair.node.0 + 1) }
     ensures stays { StaysTo (setting_of scenario.now) pair.slot (counts_of curves.old)
         (counts_of curves.new) }
     ensures room { outputs.new.room ≡ outputs.old.room }
@@ -140,8 +141,8 @@ impl Opening {
     /// The next pair reads, which is kept, and is loaded.
     fn open_pair(&mut self, scenario: &Scenario, pair: Pair)
         requires setting { IsSetting (setting_of scenario.now) }
-        requires node { pair.node.0 < (setting_of scenario.now).nodes }
-        requires slot { pair.slot < (setting_of scenario.now).slots }
+        requires node { IsNode scenario.now pair.node.0 }
+        requires slot { IsSlot scenario.now pair.slot }
         requires so_far { IsOpenAt (setting_of scenario.now) self.old pair.slot pair.node.0 }
         ensures { IsOpenAt (setting_of scenario.now) self.new pair.slot (pair.node.0 + 1) }
     {
@@ -165,7 +166,7 @@ impl Opening {
     /// All pairs of the next slot.
     fn open_slot(&mut self, scenario: &Scenario, slot: u32)
         requires setting { IsSetting (setting_of scenario.now) }
-        requires slot { slot < (setting_of scenario.now).slots }
+        requires slot { IsSlot scenario.now slot }
         requires so_far { IsOpenTo (setting_of scenario.now) self.old slot }
         ensures { IsOpenTo (setting_of scenario.now) self.new (slot + 1) }
     {

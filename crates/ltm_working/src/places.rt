@@ -3,9 +3,10 @@ ghost use Rattle.std.specs.Prelude.{◌<◌, ◌≤◌, length};
 ghost use Rattle.ltm_curve.specs.Table.{counts_of};
 ghost use Rattle.ltm_setting.specs.Setting.{setting_of};
 ghost use Rattle.ltm_inputs.specs.Parts.{ArePositions};
-ghost use Rattle.ltm_working.specs.Ready.{HasLists};
 ghost use Rattle.ltm_index.specs.Lists.{links_of, slots_of};
 ghost use Rattle.ltm_working.specs.Placing.{PlacesAt, PlacesPair};
+ghost use Rattle.ltm_setting.specs.Places.{IsNode, IsSlot};
+ghost use Rattle.ltm_working.specs.Scenarios.{HasListsOf};
 
 use ltm_curve::Curves;
 use ltm_pairs::ReadIndex;
@@ -35,12 +36,12 @@ pub(crate) fn place_pair(
     positions: &[u32],
     index: &mut ReadIndex,
 )
-    requires node { pair.node.0 < (setting_of scenario.now).nodes }
-    requires slot { pair.slot < (setting_of scenario.now).slots }
+    requires node { IsNode scenario.now pair.node.0 }
+    requires slot { IsSlot scenario.now pair.slot }
     requires positions { ArePositions (setting_of scenario.now)
         (counts_of curves.now) pair.node.0 pair.slot positions.now }
     requires places { (setting_of scenario.now).ins pair.node.0 ≤ length positions.now }
-    requires lists { HasLists (setting_of scenario.now) index.old }
+    requires lists { HasListsOf scenario.now index.old }
     ensures { PlacesPair (setting_of scenario.now)
         (counts_of curves.now) index.old index.new pair.node.0 pair.slot
         ((setting_of scenario.now).ins pair.node.0) }

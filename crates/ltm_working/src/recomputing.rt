@@ -6,6 +6,8 @@ ghost use Rattle.ltm_repair.specs.Answers.{DropsAtFront};
 ghost use Rattle.ltm_setting.specs.Setting.{setting_of};
 ghost use Rattle.ltm_working.specs.Searching.{IsFound};
 ghost use Rattle.ltm_working.specs.Recomputing.{RecomputesPair, Recomputes};
+ghost use Rattle.ltm_working.specs.Scenarios.{IsReadyFor, changed_for, desk_for};
+ghost use Rattle.ltm_units.specs.Bounds.{widest_row};
 
 use crate::found::Found;
 use crate::renewal::Renewal;
@@ -21,8 +23,7 @@ use ltm_setting::{is_setting, slot_count};
 use ltm_units::Pair;
 
 impl Table {
-    ghost use Rattle.ltm_working.specs.Desks.{desk_at, changed_at, curves_of};
-    ghost use Rattle.ltm_working.specs.Ready.{IsReady};
+    ghost use Rattle.ltm_working.specs.Desks.{curves_of};
 
     /// Makes the step of a pair that was found, which tells what moves, sets its counts to those of the slot's beginning and
     /// what moves, and keeps its inputs. The pair is marked as claimed meanwhile, and its inputs are not written beside the
@@ -34,15 +35,15 @@ impl Table {
         inputs: &NodeInputs,
         moves: &mut NodeOutputs,
     )
-        requires ready { IsReady (setting_of scenario.now) self.old }
+        requires ready { IsReadyFor scenario.now self.old }
         requires found { IsFound (setting_of scenario.now) self.old pair.node.0 pair.slot inputs.now }
-        requires room { 1162 ≤ moves.old.room }
-        ensures ready { IsReady (setting_of scenario.now) self.new }
+        requires room { widest_row ≤ moves.old.room }
+        ensures ready { IsReadyFor scenario.now self.new }
         ensures sets { (before : Table)
-            → DropsAtFront (setting_of scenario.now) (desk_at (setting_of scenario.now) before)
-            (desk_at (setting_of scenario.now) self.old)
-            → changed_at (setting_of scenario.now) self.old
-            ≡ changed_at (setting_of scenario.now) before
+            → DropsAtFront (setting_of scenario.now) (desk_for scenario.now before)
+            (desk_for scenario.now self.old)
+            → changed_for scenario.now self.old
+            ≡ changed_for scenario.now before
             → RecomputesPair (setting_of scenario.now) before pair.node.0 pair.slot
             (pair_row (setting_of scenario.now)
             (counts_of (curves_of self.old)) pair.node.0 pair.slot) self.new }
@@ -85,10 +86,10 @@ impl Table {
         inputs: &mut NodeInputs,
         outputs: &mut NodeOutputs,
     ) -> Found
-        requires ready { IsReady (setting_of scenario.now) self.old }
-        requires inputs { 1162 ≤ inputs.old.room }
-        requires outputs { 1162 ≤ outputs.old.room }
-        ensures ready { IsReady (setting_of scenario.now) self.new }
+        requires ready { IsReadyFor scenario.now self.old }
+        requires inputs { widest_row ≤ inputs.old.room }
+        requires outputs { widest_row ≤ outputs.old.room }
+        ensures ready { IsReadyFor scenario.now self.new }
         ensures recomputes { Recomputes (setting_of scenario.now) self.old result self.new }
         ensures inputs { inputs.new.room ≡ inputs.old.room }
         ensures outputs { outputs.new.room ≡ outputs.old.room }

@@ -4,22 +4,21 @@
 //! given as it is or as what has moved in the slot (`Given`). Where a row differs it is written, its cell is noted, and the
 //! tail or the head of the link wakes in the slots that read it. Where any row differs the node's own next slot wakes, and
 //! what was kept of it is forgotten: its counts are not those of its slot's beginning any more.
-ghost use Rattle.std.specs.Prelude.{◌≡◌, ◌&&◌, ◌+◌, ◌^◌, ◌<◌, ◌≤◌, ℕ, slice_index, false, None};
+ghost use Rattle.std.specs.Prelude.{◌≡◌, ◌&&◌, ◌+◌, ◌^◌, ◌<◌, ℕ, slice_index, false, None};
 ghost use Rattle.ltm_curve.specs.Table.{counts_of};
 ghost use Rattle.ltm_curve.specs.Cells.{HasCells};
 ghost use Rattle.ltm_loading.specs.Groups.{dep_of, groups};
-ghost use Rattle.ltm_loading.specs.Pairs.{shape_at};
 ghost use Rattle.ltm_loading.specs.NextPair.{Applies};
-ghost use Rattle.ltm_loading.specs.Shaped.{IsShaped};
 ghost use Rattle.ltm_node.specs.Outputs.{left_after, arrived_after};
 ghost use Rattle.ltm_setting.specs.Setting.{setting_of};
 ghost use Rattle.ltm_flows.specs.Applying.{SetsGroups};
 ghost use Rattle.ltm_frontier.specs.Frontier.{is_pair, Activates};
 ghost use Rattle.ltm_working.specs.Renewed.{renewed};
 ghost use Rattle.ltm_working.specs.Desks.{place_of};
-ghost use Rattle.ltm_working.specs.Ready.{HasPairs, HasLists};
 ghost use Rattle.ltm_rows.specs.Rows.{ForgetsRow, HasRows};
 ghost use Rattle.ltm_working.specs.Waking.{arm_differs, any_differs, PutsCells, changes, wakes_others, wakes, ForgetsIf};
+ghost use Rattle.ltm_setting.specs.Places.{HasOut, IsNode, IsShapedFor, IsSlot, all_groups, node_shape};
+ghost use Rattle.ltm_working.specs.Scenarios.{HasListsOf, HasPairsOf};
 
 use crate::differing::{renew, renew_sink};
 use crate::renewal::Renewal;
@@ -36,9 +35,9 @@ use ltm_units::Pair;
 /// Makes the next slot of a pair's node active, where there is one, and forgets what is kept of it.
 #[inline]
 fn wake_next(scenario: &Scenario, frontier: &mut Frontier, kept: &mut KeptRows, pair: Pair)
-    requires node { pair.node.0 < (setting_of scenario.now).nodes }
-    requires slot { pair.slot < (setting_of scenario.now).slots }
-    requires pairs { HasPairs (setting_of scenario.now) frontier.old }
+    requires node { IsNode scenario.now pair.node.0 }
+    requires slot { IsSlot scenario.now pair.slot }
+    requires pairs { HasPairsOf scenario.now frontier.old }
     requires kept { HasRows (setting_of scenario.now) (setting_of scenario.now).slots kept.old }
     ensures wakes { Activates frontier.old frontier.new (is_pair pair.node.0 (pair.slot + 1)) }
     ensures kept { ForgetsRow kept.old kept.new pair.node.0 (pair.slot + 1) }
@@ -54,16 +53,16 @@ fn wake_next(scenario: &Scenario, frontier: &mut Frontier, kept: &mut KeptRows, 
 /// Sets what has left the origin of a node, where the node has out-links; whether some count was another one. If so the cell
 /// is noted as changed.
 fn renew_origin(renewal: Renewal, curves: &mut Curves, changed: &mut Changed) -> bool
-    requires node { renewal.pair.node.0 < (setting_of renewal.scenario.now).nodes }
-    requires slot { renewal.pair.slot < (setting_of renewal.scenario.now).slots }
-    requires outputs { renewal.outputs.now.shape ≡ shape_at (setting_of renewal.scenario.now)
+    requires node { IsNode renewal.scenario.now renewal.pair.node.0 }
+    requires slot { IsSlot renewal.scenario.now renewal.pair.slot }
+    requires outputs { renewal.outputs.now.shape ≡ node_shape renewal.scenario.now
         renewal.pair.node.0 }
     requires small { (i : ℕ) → slice_index
         (renewed renewal (counts_of curves.old)).row i < 2 ^ 31 }
-    requires shape { IsShaped (setting_of renewal.scenario.now) curves.old }
-    requires cells { HasCells changed.old (groups (setting_of renewal.scenario.now))
+    requires shape { IsShapedFor renewal.scenario.now curves.old }
+    requires cells { HasCells changed.old (all_groups renewal.scenario.now)
         (setting_of renewal.scenario.now).slots }
-    ensures origin { 0 < (setting_of renewal.entry.scenario.now).outs renewal.entry.pair.node.0
+    ensures origin { HasOut renewal.entry.scenario.now renewal.entry.pair.node.0 0
         → result ≡ arm_differs (setting_of renewal.entry.scenario.now) (counts_of curves.old)
         renewal.entry.pair.node.0
         (renewal.entry.pair.slot + 1)
@@ -72,8 +71,8 @@ fn renew_origin(renewal: Renewal, curves: &mut Curves, changed: &mut Changed) ->
     ensures none { (setting_of renewal.entry.scenario.now).outs renewal.entry.pair.node.0 ≡ 0
         → result
         ≡ false }
-    ensures shape { IsShaped (setting_of renewal.entry.scenario.now) curves.new }
-    ensures sets { 0 < (setting_of renewal.entry.scenario.now).outs renewal.entry.pair.node.0
+    ensures shape { IsShapedFor renewal.entry.scenario.now curves.new }
+    ensures sets { HasOut renewal.entry.scenario.now renewal.entry.pair.node.0 0
         → SetsGroups (setting_of renewal.entry.scenario.now) (renewal.entry.pair.slot + 1) 1
         (λ i. dep_of (setting_of renewal.entry.scenario.now) renewal.entry.pair.node.0)
         (λ i. left_after
@@ -118,24 +117,24 @@ fn renew_all(
     changed: &mut Changed,
     frontier: &mut Frontier,
 ) -> bool
-    requires node { renewal.pair.node.0 < (setting_of renewal.scenario.now).nodes }
-    requires slot { renewal.pair.slot < (setting_of renewal.scenario.now).slots }
-    requires outputs { renewal.outputs.now.shape ≡ shape_at (setting_of renewal.scenario.now)
+    requires node { IsNode renewal.scenario.now renewal.pair.node.0 }
+    requires slot { IsSlot renewal.scenario.now renewal.pair.slot }
+    requires outputs { renewal.outputs.now.shape ≡ node_shape renewal.scenario.now
         renewal.pair.node.0 }
     requires small { (i : ℕ) → slice_index
         (renewed renewal (counts_of curves.old)).row i < 2 ^ 31 }
     requires no_sink { (setting_of renewal.scenario.now).own renewal.pair.node.0 ≡ None
         → arrived_after renewal.outputs.now ≡ 0 }
-    requires shape { IsShaped (setting_of renewal.scenario.now) curves.old }
-    requires lists { HasLists (setting_of renewal.scenario.now) index.now }
-    requires cells { HasCells changed.old (groups (setting_of renewal.scenario.now))
+    requires shape { IsShapedFor renewal.scenario.now curves.old }
+    requires lists { HasListsOf renewal.scenario.now index.now }
+    requires cells { HasCells changed.old (all_groups renewal.scenario.now)
         (setting_of renewal.scenario.now).slots }
-    requires pairs { HasPairs (setting_of renewal.scenario.now) frontier.old }
+    requires pairs { HasPairsOf renewal.scenario.now frontier.old }
     ensures value { result
         ≡ any_differs (setting_of renewal.entry.scenario.now) (counts_of curves.old)
         renewal.entry.pair.node.0 (renewal.entry.pair.slot + 1)
         (renewed renewal.entry (counts_of curves.old)) }
-    ensures shape { IsShaped (setting_of renewal.entry.scenario.now) curves.new }
+    ensures shape { IsShapedFor renewal.entry.scenario.now curves.new }
     ensures applies { Applies (setting_of renewal.entry.scenario.now) renewal.entry.pair.node.0
         (renewal.entry.pair.slot + 1)
         (renewed renewal.entry (counts_of curves.old)).row
@@ -176,22 +175,22 @@ pub(crate) fn renew_pair(
     frontier: &mut Frontier,
     kept: &mut KeptRows,
 )
-    requires node { renewal.pair.node.0 < (setting_of renewal.scenario.now).nodes }
-    requires slot { renewal.pair.slot < (setting_of renewal.scenario.now).slots }
-    requires outputs { renewal.outputs.now.shape ≡ shape_at (setting_of renewal.scenario.now)
+    requires node { IsNode renewal.scenario.now renewal.pair.node.0 }
+    requires slot { IsSlot renewal.scenario.now renewal.pair.slot }
+    requires outputs { renewal.outputs.now.shape ≡ node_shape renewal.scenario.now
         renewal.pair.node.0 }
     requires small { (i : ℕ) → slice_index
         (renewed renewal (counts_of curves.old)).row i < 2 ^ 31 }
     requires no_sink { (setting_of renewal.scenario.now).own renewal.pair.node.0 ≡ None
         → arrived_after renewal.outputs.now ≡ 0 }
-    requires shape { IsShaped (setting_of renewal.scenario.now) curves.old }
-    requires lists { HasLists (setting_of renewal.scenario.now) index.now }
-    requires cells { HasCells changed.old (groups (setting_of renewal.scenario.now))
+    requires shape { IsShapedFor renewal.scenario.now curves.old }
+    requires lists { HasListsOf renewal.scenario.now index.now }
+    requires cells { HasCells changed.old (all_groups renewal.scenario.now)
         (setting_of renewal.scenario.now).slots }
-    requires pairs { HasPairs (setting_of renewal.scenario.now) frontier.old }
+    requires pairs { HasPairsOf renewal.scenario.now frontier.old }
     requires kept { HasRows (setting_of renewal.scenario.now)
         (setting_of renewal.scenario.now).slots kept.old }
-    ensures shape { IsShaped (setting_of renewal.entry.scenario.now) curves.new }
+    ensures shape { IsShapedFor renewal.entry.scenario.now curves.new }
     ensures applies { Applies (setting_of renewal.entry.scenario.now) renewal.entry.pair.node.0
         (renewal.entry.pair.slot + 1)
         (renewed renewal.entry (counts_of curves.old)).row

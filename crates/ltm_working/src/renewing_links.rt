@@ -4,9 +4,8 @@ ghost use Rattle.ltm_units.specs.Sums.{sum_below};
 ghost use Rattle.ltm_curve.specs.Table.{counts_of, SetsRow};
 ghost use Rattle.ltm_curve.specs.Cells.{HasCells};
 ghost use Rattle.ltm_loading.specs.Setting.{IsSetting};
-ghost use Rattle.ltm_loading.specs.Groups.{up_of, down_of, groups};
-ghost use Rattle.ltm_loading.specs.Pairs.{shape_at, arm_group};
-ghost use Rattle.ltm_loading.specs.Shaped.{IsShaped};
+ghost use Rattle.ltm_loading.specs.Groups.{up_of, down_of};
+ghost use Rattle.ltm_loading.specs.Pairs.{arm_group};
 ghost use Rattle.ltm_node.specs.Outputs.{left_after, entered_after};
 ghost use Rattle.ltm_setting.specs.Setting.{setting_of};
 ghost use Rattle.ltm_flows.specs.Applying.{out_group, SetsGroups};
@@ -14,7 +13,6 @@ ghost use Rattle.ltm_frontier.specs.Frontier.{Activates, is_pair};
 ghost use Rattle.ltm_pairs.specs.Changes.{some_below};
 ghost use Rattle.ltm_working.specs.Renewed.{renewed_row, renewed};
 ghost use Rattle.ltm_working.specs.Desks.{place_of};
-ghost use Rattle.ltm_working.specs.Ready.{HasPairs, HasLists};
 ghost use Rattle.ltm_working.specs.Waking.{
   row_differs,
   arm_differs,
@@ -27,6 +25,8 @@ ghost use Rattle.ltm_working.specs.Waking.{
   wakes_tails,
   wakes_heads,
 };
+ghost use Rattle.ltm_setting.specs.Places.{IsLink, IsNode, IsShapedFor, IsSlot, all_groups, node_shape};
+ghost use Rattle.ltm_working.specs.Scenarios.{HasListsOf, HasPairsOf};
 
 use crate::differing::renew;
 use crate::marking::{Entered, mark_head, mark_tail};
@@ -46,15 +46,15 @@ fn renew_tail(
     changed: &mut Changed,
     frontier: &mut Frontier,
 ) -> bool
-    requires link { row.link.0 < (setting_of scenario.now).links }
-    requires slot { row.slot < (setting_of scenario.now).slots }
+    requires link { IsLink scenario.now row.link.0 }
+    requires slot { IsSlot scenario.now row.slot }
     requires count { length row.numbers.now ≡ (setting_of scenario.now).destinations }
     requires small { (d : ℕ) → d < length row.numbers.now → slice_index
         (renewed_row row (counts_of curves.old) (down_of row.link.0)) d < 2 ^ 31 }
-    requires shape { IsShaped (setting_of scenario.now) curves.old }
-    requires cells { HasCells changed.old (groups (setting_of scenario.now))
+    requires shape { IsShapedFor scenario.now curves.old }
+    requires cells { HasCells changed.old (all_groups scenario.now)
         (setting_of scenario.now).slots }
-    requires pairs { HasPairs (setting_of scenario.now) frontier.old }
+    requires pairs { HasPairsOf scenario.now frontier.old }
     ensures value { result
         ≡ row_differs (setting_of scenario.now).destinations (counts_of curves.old)
         (down_of row.entry.link.0) (row.entry.slot + 1)
@@ -91,16 +91,16 @@ fn renew_head(
     changed: &mut Changed,
     frontier: &mut Frontier,
 ) -> bool
-    requires link { row.link.0 < (setting_of scenario.now).links }
-    requires slot { row.slot < (setting_of scenario.now).slots }
+    requires link { IsLink scenario.now row.link.0 }
+    requires slot { IsSlot scenario.now row.slot }
     requires count { length row.numbers.now ≡ (setting_of scenario.now).destinations }
     requires small { (d : ℕ) → d < length row.numbers.now → slice_index
         (renewed_row row (counts_of curves.old) (up_of row.link.0)) d < 2 ^ 31 }
-    requires shape { IsShaped (setting_of scenario.now) curves.old }
-    requires lists { HasLists (setting_of scenario.now) index.now }
-    requires cells { HasCells changed.old (groups (setting_of scenario.now))
+    requires shape { IsShapedFor scenario.now curves.old }
+    requires lists { HasListsOf scenario.now index.now }
+    requires cells { HasCells changed.old (all_groups scenario.now)
         (setting_of scenario.now).slots }
-    requires pairs { HasPairs (setting_of scenario.now) frontier.old }
+    requires pairs { HasPairsOf scenario.now frontier.old }
     ensures value { result
         ≡ row_differs (setting_of scenario.now).destinations (counts_of curves.old)
         (up_of row.entry.link.0) (row.entry.slot + 1)
@@ -146,22 +146,22 @@ pub(crate) fn renew_tails(
     frontier: &mut Frontier,
 ) -> bool
     requires setting { IsSetting (setting_of renewal.scenario.now) }
-    requires node { renewal.pair.node.0 < (setting_of renewal.scenario.now).nodes }
-    requires slot { renewal.pair.slot < (setting_of renewal.scenario.now).slots }
-    requires outputs { renewal.outputs.now.shape ≡ shape_at (setting_of renewal.scenario.now)
+    requires node { IsNode renewal.scenario.now renewal.pair.node.0 }
+    requires slot { IsSlot renewal.scenario.now renewal.pair.slot }
+    requires outputs { renewal.outputs.now.shape ≡ node_shape renewal.scenario.now
         renewal.pair.node.0 }
     requires small { (i : ℕ) → slice_index
         (renewed renewal (counts_of curves.old)).row i < 2 ^ 31 }
-    requires shape { IsShaped (setting_of renewal.scenario.now) curves.old }
-    requires cells { HasCells changed.old (groups (setting_of renewal.scenario.now))
+    requires shape { IsShapedFor renewal.scenario.now curves.old }
+    requires cells { HasCells changed.old (all_groups renewal.scenario.now)
         (setting_of renewal.scenario.now).slots }
-    requires pairs { HasPairs (setting_of renewal.scenario.now) frontier.old }
+    requires pairs { HasPairsOf renewal.scenario.now frontier.old }
     ensures value { result ≡ some_below
         ((setting_of renewal.entry.scenario.now).ins renewal.entry.pair.node.0)
         (arm_differs (setting_of renewal.entry.scenario.now) (counts_of curves.old)
         renewal.entry.pair.node.0 (renewal.entry.pair.slot + 1)
         (renewed renewal.entry (counts_of curves.old))) }
-    ensures shape { IsShaped (setting_of renewal.entry.scenario.now) curves.new }
+    ensures shape { IsShapedFor renewal.entry.scenario.now curves.new }
     ensures sets { SetsGroups (setting_of renewal.entry.scenario.now)
         (renewal.entry.pair.slot + 1)
         ((setting_of renewal.entry.scenario.now).ins renewal.entry.pair.node.0)
@@ -209,23 +209,23 @@ pub(crate) fn renew_heads(
     changed: &mut Changed,
     frontier: &mut Frontier,
 ) -> bool
-    requires node { renewal.pair.node.0 < (setting_of renewal.scenario.now).nodes }
-    requires slot { renewal.pair.slot < (setting_of renewal.scenario.now).slots }
-    requires outputs { renewal.outputs.now.shape ≡ shape_at (setting_of renewal.scenario.now)
+    requires node { IsNode renewal.scenario.now renewal.pair.node.0 }
+    requires slot { IsSlot renewal.scenario.now renewal.pair.slot }
+    requires outputs { renewal.outputs.now.shape ≡ node_shape renewal.scenario.now
         renewal.pair.node.0 }
     requires small { (i : ℕ) → slice_index
         (renewed renewal (counts_of curves.old)).row i < 2 ^ 31 }
-    requires shape { IsShaped (setting_of renewal.scenario.now) curves.old }
-    requires lists { HasLists (setting_of renewal.scenario.now) index.now }
-    requires cells { HasCells changed.old (groups (setting_of renewal.scenario.now))
+    requires shape { IsShapedFor renewal.scenario.now curves.old }
+    requires lists { HasListsOf renewal.scenario.now index.now }
+    requires cells { HasCells changed.old (all_groups renewal.scenario.now)
         (setting_of renewal.scenario.now).slots }
-    requires pairs { HasPairs (setting_of renewal.scenario.now) frontier.old }
+    requires pairs { HasPairsOf renewal.scenario.now frontier.old }
     ensures value { result ≡ some_below
         ((setting_of renewal.entry.scenario.now).outs renewal.entry.pair.node.0)
         (out_differs (setting_of renewal.entry.scenario.now) (counts_of curves.old)
         renewal.entry.pair.node.0 (renewal.entry.pair.slot + 1)
         (renewed renewal.entry (counts_of curves.old))) }
-    ensures shape { IsShaped (setting_of renewal.entry.scenario.now) curves.new }
+    ensures shape { IsShapedFor renewal.entry.scenario.now curves.new }
     ensures sets { SetsGroups (setting_of renewal.entry.scenario.now)
         (renewal.entry.pair.slot + 1)
         ((setting_of renewal.entry.scenario.now).outs renewal.entry.pair.node.0)

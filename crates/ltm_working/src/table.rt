@@ -13,6 +13,8 @@ ghost use Rattle.ltm_repair.specs.Counting.{claims_out};
 ghost use Rattle.ltm_repair.specs.Desk.{IsAtRest};
 ghost use Rattle.ltm_repair.specs.Moves.{GivesBack};
 ghost use Rattle.ltm_working.specs.Cells.{count_cells};
+ghost use Rattle.ltm_working.specs.Scenarios.{IsReadyFor, changed_for, desk_for};
+ghost use Rattle.ltm_units.specs.Bounds.{most_slots};
 
 use crate::batches::{mark_from, mark_touched};
 use crate::opening::Opening;
@@ -139,9 +141,9 @@ impl Table {
 
     /// Whether no pair is active or claimed.
     pub fn is_at_rest(&self, scenario: &Scenario) -> bool
-        requires { IsReady (setting_of scenario.now) self.now }
+        requires { IsReadyFor scenario.now self.now }
         ensures { IsTrue result
-            ↔ IsAtRest (setting_of scenario.now) (desk_at (setting_of scenario.now) self.now) }
+            ↔ IsAtRest (setting_of scenario.now) (desk_for scenario.now self.now) }
     {
         match self.frontier.front() {
             None => return true,
@@ -151,8 +153,8 @@ impl Table {
 
     /// Whether the pair is active. It may be any pair.
     pub fn is_active(&self, scenario: &Scenario, pair: Pair) -> bool
-        requires { IsReady (setting_of scenario.now) self.now }
-        ensures { result ≡ (desk_at (setting_of scenario.now) self.now).active pair.node.0 pair.slot }
+        requires { IsReadyFor scenario.now self.now }
+        ensures { result ≡ (desk_for scenario.now self.now).active pair.node.0 pair.slot }
     {
         if pair.node.0 >= node_count(scenario) {
             return false;
@@ -165,9 +167,9 @@ impl Table {
 
     /// Whether the pair is claimed with these inputs. It may be any pair.
     pub fn holds(&self, scenario: &Scenario, pair: Pair, row: &[u64]) -> bool
-        requires { IsReady (setting_of scenario.now) self.now }
+        requires { IsReadyFor scenario.now self.now }
         ensures { IsTrue result
-            ↔ ((desk_at (setting_of scenario.now) self.now).claimed pair.node.0 pair.slot
+            ↔ ((desk_for scenario.now self.now).claimed pair.node.0 pair.slot
             ≡ Some row.now) }
     {
         if pair.node.0 >= node_count(scenario) {
@@ -184,13 +186,13 @@ impl Table {
 
     /// Makes a claimed pair active again.
     pub fn give_back(&mut self, scenario: &Scenario, pair: Pair)
-        requires ready { IsReady (setting_of scenario.now) self.old }
-        requires claimed { (desk_at (setting_of scenario.now) self.old).claimed pair.node.0 pair.slot ≢ None }
-        ensures ready { IsReady (setting_of scenario.now) self.new }
-        ensures desk { GivesBack (desk_at (setting_of scenario.now) self.old) pair.node.0 pair.slot
-            (desk_at (setting_of scenario.now) self.new) }
-        ensures changed { changed_at (setting_of scenario.now) self.new
-            ≡ changed_at (setting_of scenario.now) self.old }
+        requires ready { IsReadyFor scenario.now self.old }
+        requires claimed { (desk_for scenario.now self.old).claimed pair.node.0 pair.slot ≢ None }
+        ensures ready { IsReadyFor scenario.now self.new }
+        ensures desk { GivesBack (desk_for scenario.now self.old) pair.node.0 pair.slot
+            (desk_for scenario.now self.new) }
+        ensures changed { changed_for scenario.now self.new
+            ≡ changed_for scenario.now self.old }
     {
         self.frontier.release(pair);
         self.frontier.mark(pair);
@@ -199,7 +201,7 @@ impl Table {
     /// Makes room for so many slots, and for more where `wide_room` says so. Nothing else that is seen changes, also with want
     /// of memory.
     pub fn reserve(&mut self, slots: u32) -> Result<(), NoMemory>
-        requires { slots ≤ 10000 }
+        requires { slots ≤ most_slots }
         ensures seen { SeenAs self.old self.new }
         ensures room { OnOk result (HasRoom self.new slots) }
     {
@@ -240,7 +242,7 @@ impl Table {
         requires longer { horizon_of self.old ≤ (setting_of scenario.now).slots }
         requires room { HasRoom self.old (setting_of scenario.now).slots }
         ensures { (before : ScenarioData) → LeadsTo before scenario.now edits.now
-            → IsReady (setting_of before) self.old
+            → IsReadyFor before self.old
             → TakesIn before scenario.now edits.now self.old self.new }
     {
         is_setting(scenario);

@@ -1,8 +1,8 @@
 //! What a link sends below its exit limit.
 ghost use Rattle.ltm_curve.specs.Table.{counts_of};
 ghost use Rattle.ltm_loading.specs.Loading.{IsLoading};
-ghost use Rattle.ltm_loading.specs.Shaped.{IsShaped};
 ghost use Rattle.ltm_setting.specs.Setting.{setting_of};
+ghost use Rattle.ltm_setting.specs.Places.{IsShapedFor};
 
 use crate::cases::scenario_of;
 use crate::loadings::accept;
@@ -50,7 +50,7 @@ fn read_at(
     curves: &Curves,
     pair: Pair,
 ) -> NodeInputs
-    requires shape { IsShaped (setting_of scenario.now) curves.now }
+    requires shape { IsShapedFor scenario.now curves.now }
     requires loading { IsLoading (setting_of scenario.now) (counts_of curves.now) }
 {
     let mut inputs = NodeInputs::create(alloc, 100).expect(rt, "memory");

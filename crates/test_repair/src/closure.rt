@@ -5,8 +5,7 @@
 ghost use Rattle.std.specs.Prelude.{◌≡◌};
 ghost use Rattle.ltm_scenario.specs.Edits.{HaveAmounts, horizon_after};
 ghost use Rattle.ltm_scenario.specs.Valid.{IsValid};
-ghost use Rattle.ltm_setting.specs.Setting.{setting_of};
-ghost use Rattle.ltm_working.specs.Ready.{IsReady};
+ghost use Rattle.ltm_working.specs.Scenarios.{IsReadyFor};
 
 use ltm_casefile::read_case;
 use ltm_io::MemFolder;
@@ -48,11 +47,11 @@ fn closure(rt: &impl Abort) -> Edit {
 
 /// Gives the scenario and its table a batch that leaves the horizon; whether it is accepted.
 fn take_in(scenario: &mut Scenario, table: &mut Table, batch: &Batch) -> bool
-    requires ready { IsReady (setting_of scenario.old) table.old }
+    requires ready { IsReadyFor scenario.old table.old }
     requires valid { IsValid scenario.old }
     requires amounts { HaveAmounts batch.now }
     requires horizon { horizon_after scenario.old.setup.slots batch.now ≡ scenario.old.setup.slots }
-    ensures { IsReady (setting_of scenario.new) table.new }
+    ensures { IsReadyFor scenario.new table.new }
 {
     batch_touches_readers();
     tables_fit();
@@ -68,8 +67,8 @@ fn take_in(scenario: &mut Scenario, table: &mut Table, batch: &Batch) -> bool
 
 /// Gives the scenario and its table the closure.
 fn close(rt: &impl Abort, alloc: Global, scenario: &mut Scenario, table: &mut Table)
-    requires { IsReady (setting_of scenario.old) table.old }
-    ensures { IsReady (setting_of scenario.new) table.new }
+    requires { IsReadyFor scenario.old table.old }
+    ensures { IsReadyFor scenario.new table.new }
 {
     let batch = Batch::of(alloc, &[closure(rt)]).expect(rt, "a batch");
     let slots = scenario.setup().slots;
@@ -86,8 +85,8 @@ fn repair_one(
     scenario: &Scenario,
     table: &mut Table,
 ) -> Option<Pair>
-    requires { IsReady (setting_of scenario.now) table.old }
-    ensures { IsReady (setting_of scenario.now) table.new }
+    requires { IsReadyFor scenario.now table.old }
+    ensures { IsReadyFor scenario.now table.new }
 {
     let mut inputs = NodeInputs::create(alloc, WIDEST).expect(rt, "memory");
     let outputs = NodeOutputs::create(alloc, WIDEST).expect(rt, "memory");
@@ -105,7 +104,7 @@ fn repair_one(
 
 /// Whether each slot of a node is active.
 fn active(scenario: &Scenario, table: &Table, node: u32) -> [bool; 4]
-    requires { IsReady (setting_of scenario.now) table.now }
+    requires { IsReadyFor scenario.now table.now }
 {
     let mut slots = [false; 4];
     for slot in 0..4u32 {

@@ -3,7 +3,6 @@ ghost use Rattle.std.specs.Prelude.{◌≡◌, ◌≢◌, ℕ, ◌<◌, ◌≤�
 ghost use Rattle.ltm_scenario.specs.Edits.{edited_all, horizon_after, HaveAmounts};
 ghost use Rattle.ltm_scenario.specs.Valid.{IsValid};
 ghost use Rattle.ltm_setting.specs.Setting.{setting_of};
-ghost use Rattle.ltm_working.specs.Ready.{IsReady};
 ghost use Rattle.ltm_curve.specs.Counts.{Counts};
 ghost use Rattle.ltm_loading.specs.Setting.{Setting};
 ghost use Rattle.ltm_flows.specs.Shown.{ShowsCounts, SameLoading, loading_room};
@@ -12,6 +11,8 @@ ghost use Rattle.ltm_scenario.specs.Horizon.{MayReach};
 ghost use Rattle.ltm_repair.specs.Events.{Accept};
 ghost use Rattle.ltm_core.specs.Histories.{events_of};
 ghost use Rattle.ltm_core.specs.Taking.{TakesBatch};
+ghost use Rattle.ltm_working.specs.Scenarios.{IsReadyFor};
+ghost use Rattle.ltm_units.specs.Bounds.{most_slots};
 
 use super::Core;
 use crate::history::{Event, History, add};
@@ -55,7 +56,7 @@ fn push_entry(batches: &mut Vec<Batch>, marks: &mut Vec<bool>, batch: Batch)
 
 /// Takes the memory for a horizon.
 fn reserve_slots(table: &mut Table, shown: &mut Loading, slots: u32) -> Result<(), NoMemory>
-    requires { slots ≤ 10000 }
+    requires { slots ≤ most_slots }
     ensures table { TableSeenAs table.old table.new }
     ensures shown { SameLoading shown.old shown.new }
     ensures shows { (s : Setting) (version : ℕ) (c : Counts) → ShowsCounts s version c shown.old
@@ -79,7 +80,7 @@ fn reserve_all(
     shown: &mut Loading,
     slots: u32,
 ) -> Result<(), NoMemory>
-    requires { slots ≤ 10000 }
+    requires { slots ≤ most_slots }
     ensures batches { batches.new.items ≡ batches.old.items }
     ensures marks { marks.new.items ≡ marks.old.items }
     ensures table { TableSeenAs table.old table.new }
@@ -112,7 +113,7 @@ fn take_batch(
     requires valid { IsValid scenario.old }
     requires amounts { HaveAmounts batch }
     requires room { TableHasRoom table.old (horizon_after scenario.old.setup.slots batch) }
-    requires ready { IsReady (setting_of scenario.old) table.old }
+    requires ready { IsReadyFor scenario.old table.old }
     ensures ok { OnOk result (TakesBatch scenario.old scenario.new table.old table.new batch) }
     ensures slots { OnOk result ((setting_of scenario.new).slots
         ≡ horizon_after scenario.old.setup.slots batch) }

@@ -2,6 +2,7 @@
 ghost use Rattle.std.specs.Prelude.{◌≡◌, ◌≢◌, true, ℕ, ◌+◌, ◌<◌, ◌≤◌, length, OnErr, OnOk, IfErr, IfOk, Ok, Err, vec_len};
 ghost use Rattle.ltm_demand.specs.Rows.{shown};
 ghost use Rattle.ltm_demand.specs.Origins.{rows_of, origin_at, IsAlike};
+ghost use Rattle.ltm_units.specs.Bounds.{most_amount, most_demand_rows};
 
 use crate::demand::{Demand, origin_of};
 use crate::origin::Origin;
@@ -55,7 +56,7 @@ impl Demand {
     fn replace(&mut self, place: usize, row: &DemandRow) -> u64
         requires at { IsAt (own_rows self.old.demand.rows row.now.origin.0) row.now place }
         requires slots { has_slots self.old.demand.slots row.now ≡ true }
-        requires small { row.now.amount.0 ≤ 1000000000 }
+        requires small { row.now.amount.0 ≤ most_amount }
         ensures done { with_row self.old.demand row.now ≡ Ok self.new.demand }
         ensures was { result ≡ amount_at self.old.demand.rows row.now }
         ensures back { with_row self.new.demand (with_amount row.now result) ≡ Ok self.old.demand }
@@ -72,9 +73,9 @@ impl Demand {
     fn fill(&mut self, place: usize, row: &DemandRow)
         requires gap { IsGap (own_rows self.old.demand.rows row.now.origin.0) row.now place }
         requires slots { has_slots self.old.demand.slots row.now ≡ true }
-        requires small { row.now.amount.0 ≤ 1000000000 }
+        requires small { row.now.amount.0 ≤ most_amount }
         requires some { 0 < row.now.amount.0 }
-        requires few { length self.old.demand.rows < 10000 }
+        requires few { length self.old.demand.rows < most_demand_rows }
         requires vacant { has_place self.old row.now ≡ true }
         ensures done { with_row self.old.demand row.now ≡ Ok self.new.demand }
         ensures back { with_row self.new.demand (with_amount row.now 0) ≡ Ok self.old.demand }
@@ -114,7 +115,7 @@ impl Demand {
     fn add(&mut self, place: usize, row: &DemandRow) -> Result<(), DemandFault>
         requires gap { IsGap (own_rows self.old.demand.rows row.now.origin.0) row.now place }
         requires slots { has_slots self.old.demand.slots row.now ≡ true }
-        requires small { row.now.amount.0 ≤ 1000000000 }
+        requires small { row.now.amount.0 ≤ most_amount }
         requires some { 0 < row.now.amount.0 }
         ensures done { OnOk result (with_row self.old.demand row.now ≡ Ok self.new.demand) }
         ensures back { OnOk result (with_row self.new.demand (with_amount row.now 0)
@@ -140,7 +141,7 @@ impl Demand {
     /// that is told makes the change undone, without memory. The amount is at most 1,000,000,000 units.
     #[tactic(auto, using(crate::proofs::Restoring::with_row_bad))]
     pub fn change(&mut self, row: DemandRow) -> Result<Units, DemandFault>
-        requires { row.amount.0 ≤ 1000000000 }
+        requires { row.amount.0 ≤ most_amount }
 
         ensures ok { OnOk result (with_row self.old.demand row ≡ Ok self.new.demand) }
         ensures was { IfOk result (λ was. was.0 ≡ amount_at self.old.demand.rows row) }
@@ -178,7 +179,7 @@ impl Demand {
     ///
     /// The amount is at most 1,000,000,000 units.
     pub fn set(&mut self, row: DemandRow) -> Result<(), DemandFault>
-        requires { row.amount.0 ≤ 1000000000 }
+        requires { row.amount.0 ≤ most_amount }
 
         ensures ok { OnOk result (with_row self.old.demand row ≡ Ok self.new.demand) }
 

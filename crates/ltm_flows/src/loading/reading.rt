@@ -4,6 +4,7 @@ ghost use Rattle.ltm_curve.specs.Counts.{Counts};
 ghost use Rattle.ltm_loading.specs.Setting.{Setting};
 ghost use Rattle.ltm_loading.specs.Totals.{arrived, entered_link, left_link};
 ghost use Rattle.ltm_flows.specs.Origins.{produced_in_all, departed_from};
+ghost use Rattle.ltm_units.specs.Bounds.{most_produced};
 
 use super::Loading;
 use crate::in_all::Totals;
@@ -22,7 +23,7 @@ impl Loading {
         requires node { node.0 < nodes_of self.now }
         requires boundary { boundary ≤ last_of self.now }
         ensures counted { result.0 ≡ produced_of self.now node.0 boundary }
-        ensures small { result.0 ≤ 10000000000000 }
+        ensures small { result.0 ≤ most_produced }
         ensures shown { (s : Setting) (version : ℕ) (c : Counts) → ShowsCounts s version c self.now
             → result.0 ≡ produced_in_all s node.0 boundary }
     {

@@ -8,6 +8,7 @@ ghost use Rattle.ltm_scenario.specs.SplitNote.{IsSplitNote};
 ghost use Rattle.ltm_scenario.specs.Undo.{Undoes};
 ghost use Rattle.ltm_scenario.specs.IsScenario.{IsDemandOf, IsSplitOf};
 ghost use Rattle.ltm_scenario.specs.Parts.{scenario_in, state_in, AreParts};
+ghost use Rattle.ltm_units.specs.Bounds.{most_amount};
 
 use crate::parts::Parts;
 use crate::parts::undo::Undo;
@@ -21,7 +22,7 @@ impl Parts {
     #[tactic(auto, using(crate::proofs::Undoing::demand_undoes, crate::proofs::Changed::with_demand_row, crate::proofs::Changed::with_same_demand))]
     pub fn change_demand(&mut self, row: DemandRow) -> Result<Undo, DemandFault>
         requires parts { AreParts self.old }
-        requires amount { row.amount.0 ≤ 1000000000 }
+        requires amount { row.amount.0 ≤ most_amount }
         requires row { IsDemandOf (scenario_in self.old) row }
         ensures ok { OnOk result (with_demand (scenario_in self.old) row
             ≡ Ok (scenario_in self.new)) }

@@ -5,6 +5,7 @@ ghost use Rattle.ltm_scenario.specs.Horizon.{with_slots, with_horizon};
 ghost use Rattle.ltm_scenario.specs.State.{KeepsRoom};
 ghost use Rattle.ltm_scenario.specs.Undo.{undone, CanUndo, Undoes};
 ghost use Rattle.ltm_scenario.specs.Parts.{scenario_in, state_in, AreParts};
+ghost use Rattle.ltm_units.specs.Bounds.{most_slots};
 
 use crate::faults::HorizonFault;
 use crate::parts::Parts;
@@ -35,7 +36,7 @@ impl Parts {
         ensures ok { OnOk result (with_horizon (scenario_in self.now) slots
             ≡ Ok (with_slots (scenario_in self.now) slots)) }
         ensures longer { OnOk result ((scenario_in self.now).setup.slots < slots) }
-        ensures most { OnOk result (slots ≤ 10000) }
+        ensures most { OnOk result (slots ≤ most_slots) }
         ensures cause { IfErr result (λ e. with_horizon (scenario_in self.now) slots ≡ Err e) }
     {
         if slots <= self.setup.slots || slots > MOST_SLOTS {
@@ -53,7 +54,7 @@ impl Parts {
     fn stretch(&mut self, slots: u32) -> Undo
         requires parts { AreParts self.old }
         requires longer { (scenario_in self.old).setup.slots < slots }
-        requires most { slots ≤ 10000 }
+        requires most { slots ≤ most_slots }
         ensures done { scenario_in self.new ≡ with_slots (scenario_in self.old) slots }
         ensures undo { Undoes (state_in self.old) (state_in self.new) result }
         ensures room { KeepsRoom (state_in self.old) (state_in self.new) }

@@ -8,6 +8,7 @@ ghost use Rattle.ltm_scenario.specs.Valid.{leads_on};
 ghost use Rattle.ltm_scenario.specs.Build.{are_slots};
 ghost use Rattle.ltm_scenario.specs.Edits.{is_out_link, weight_of, weights_at};
 ghost use Rattle.ltm_scenario.specs.Parts.{scenario_in};
+ghost use Rattle.ltm_units.specs.Bounds.{most_links};
 
 use crate::parts::Parts;
 use ltm_splits::Weights as RowWeights;
@@ -195,7 +196,7 @@ fn width_of(arms: u32, outs: u32, destinations: u32) -> u32
 /// The cells of a case of that shape.
 fn cells_of(slots: u32, widths: u32, links: u32, nodes: u32, destinations: u32) -> u128
     requires nodes { nodes < 100000 }
-    requires links { links ≤ 4000 }
+    requires links { links ≤ most_links }
     ensures { result ≡ cells_of slots widths links nodes destinations }
 {
     let rows = slots as u128 * widths as u128;

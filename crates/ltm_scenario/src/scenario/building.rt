@@ -7,6 +7,7 @@ ghost use Rattle.ltm_splits.specs.Rows.{key_of};
 ghost use Rattle.ltm_scenario.specs.Reads.{destination_of};
 ghost use Rattle.ltm_scenario.specs.Build.{with_link, linked, with_destination, with_demand, with_split, with_limit_set, with_exit, HasNoSplitAt};
 ghost use Rattle.ltm_scenario.specs.IsScenario.{IsDemandOf, IsSplitOf};
+ghost use Rattle.ltm_units.specs.Bounds.{most_amount};
 
 use crate::faults::{DestinationFault, LinkFault};
 use crate::scenario::Scenario;
@@ -105,7 +106,7 @@ impl Scenario {
     /// The amount is at most 1,000,000,000 units. The origin has an out-link and is not the destination.
     #[tactic(auto, using(crate::proofs::Changed::with_demand_row, crate::proofs::Changed::with_same_demand))]
     pub fn set_demand(&mut self, row: DemandRow) -> Result<(), DemandFault>
-        requires amount { row.amount.0 ≤ 1000000000 }
+        requires amount { row.amount.0 ≤ most_amount }
         requires row { IsDemandOf self.old row }
         ensures ok { OnOk result (with_demand self.old row ≡ Ok self.new) }
         ensures err { OnErr result (self.new ≡ self.old) }

@@ -1,0 +1,6 @@
+-- How large tables of this crate may be.
+use Rattle.std.specs.Prelude.{ℕ}
+
+-- the free-flow time of a route, in milliseconds: as many links as there may be nodes, each of the longest time
+abbrev pub longest_route : ℕ
+longest_route = 28800000000000

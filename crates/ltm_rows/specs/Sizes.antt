@@ -1,0 +1,6 @@
+-- How large tables of this crate may be.
+use Rattle.std.specs.Prelude.{ℕ}
+
+-- the rows of all nodes in one slot: as many nodes as there may be, each of the widest row
+abbrev pub widest_slot : ℕ
+widest_slot = 9296000

@@ -1,0 +1,63 @@
+-- How large the numbers of a case and of its files may be.
+use Rattle.std.specs.Prelude.{ℕ}
+
+-- ---- a network and its horizon
+abbrev pub most_slots : ℕ
+most_slots = 10000
+
+abbrev pub most_links : ℕ
+most_links = 4000
+
+-- two ends of each link
+abbrev pub most_nodes : ℕ
+most_nodes = 8000
+
+-- a step, in milliseconds
+abbrev pub longest_step : ℕ
+longest_step = 60000
+
+-- the free-flow time and the wave time of a link, in milliseconds
+abbrev pub longest_time : ℕ
+longest_time = 3600000000
+
+-- vehicles that stand on a kilometre
+abbrev pub most_per_km : ℕ
+most_per_km = 10000
+
+-- ---- amounts, in thousandths of a vehicle
+-- what passes a link, or leaves an origin, in one slot
+abbrev pub most_in_slot : ℕ
+most_in_slot = 32000
+
+-- what stands on a link
+abbrev pub most_on_link : ℕ
+most_on_link = 10000000000
+
+-- what one record or edit says
+abbrev pub most_amount : ℕ
+most_amount = 1000000000
+
+-- what an origin has produced for a destination, or for all
+abbrev pub most_produced : ℕ
+most_produced = 10000000000000
+
+-- ---- rows and bytes
+-- rows of demand
+abbrev pub most_demand_rows : ℕ
+most_demand_rows = 10000
+
+-- rows of splits
+abbrev pub most_split_rows : ℕ
+most_split_rows = 50000
+
+-- numbers that a pair of node and slot reads, at five arms, four out-links and 64 destinations
+abbrev pub widest_row : ℕ
+widest_row = 1162
+
+-- bytes of a file of a case, of edits or of routes
+abbrev pub longest_file : ℕ
+longest_file = 16777216
+
+-- places and rows of a table of marks
+abbrev pub most_marked : ℕ
+most_marked = 65536
