@@ -1,5 +1,6 @@
 //! The lines of a source.
-ghost use Rattle.std.specs.Prelude.{◌≡◌, ◌≢◌, ◌≤◌, ◌<◌, ℕ, List, [], length, None, Some, IfOk, IfSome, vec_capacity};
+ghost use Rattle.std.specs.Prelude.{◌≡◌, ◌≢◌, ◌≤◌, ◌<◌, ℕ, List, [], length, None, Some, IfOk, IfSome, vec_capacity, ◌==◌};
+ghost use Rattle.std.specs.List.{list_any};
 ghost use Rattle.ltm_io.specs.Faults.{Rose};
 
 use crate::Source;
@@ -73,6 +74,13 @@ impl Lines {
         ensures { result.now ≡ text_of self.now }
     {
         self.line.as_slice()
+    }
+
+    /// Whether a whole line is at hand, so that the next call of `next` reads nothing.
+    pub fn has_line(&self) -> bool
+        ensures { result ≡ list_any (λ byte. byte == 10) (taken_by self.now) }
+    {
+        self.ahead.has_newline()
     }
 
     /// Reads the next line. It takes no memory.

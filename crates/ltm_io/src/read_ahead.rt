@@ -1,5 +1,6 @@
 //! Bytes that were read ahead.
-ghost use Rattle.std.specs.Prelude.{◌≡◌, ◌≢◌, ◌<◌, ◌≤◌, [], ◌∷◌, length, IfOk, IfSome, OnOk, OnErr, IsTrue, ◌↔◌};
+ghost use Rattle.std.specs.Prelude.{◌≡◌, ◌≢◌, ◌<◌, ◌≤◌, [], ◌∷◌, length, IfOk, IfSome, OnOk, OnErr, IsTrue, ◌↔◌, ◌==◌};
+ghost use Rattle.std.specs.List.{list_any};
 ghost use Rattle.ltm_io.specs.Faults.{Rose};
 ghost use Rattle.ltm_io.specs.Source.{prepended};
 ghost use Rattle.ltm_io.specs.Bytes.{TakesOne};
@@ -64,6 +65,13 @@ impl ReadAhead {
         self.at = 0;
         self.end = count;
         Ok(())
+    }
+
+    // Whether a newline is among the bytes.
+    pub(crate) fn has_newline(&self) -> bool
+        ensures { result ≡ list_any (λ byte. byte == 10) self.now }
+    {
+        self.bytes[self.at..self.end].contains(&b'\n')
     }
 
     // Gives the first byte.
