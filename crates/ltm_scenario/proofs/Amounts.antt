@@ -6,15 +6,16 @@ use Rattle.std.proofs.lemmas.List.Sums.{AllPass-from_list_all, list_all-from_All
 use Rattle.std.specs.List.{list_all}
 use Rattle.ltm_scenario.specs.declared.edit.Edit.{Edit}
 use Rattle.ltm_scenario.specs.Edits.{amount_of, HaveAmounts}
+use Rattle.ltm_units.specs.Bounds.{most_amount}
 
-small : (n : ℕ) → nat_le n 1000000000 ≡ true → n ≤ 1000000000
+small : (n : ℕ) → nat_le n most_amount ≡ true → n ≤ most_amount
 small n is = grind (arith, nat_tests)
 
-is_small : (n : ℕ) → n ≤ 1000000000 → nat_le n 1000000000 ≡ true
+is_small : (n : ℕ) → n ≤ most_amount → nat_le n most_amount ≡ true
 is_small n is = grind (arith, nat_tests)
 
-pub have_amounts : (edits : List Edit) (r : Bool) → r ≡ list_all (λ edit. nat_le (amount_of edit) 1000000000) edits → IsTrue r ↔ HaveAmounts edits
+pub have_amounts : (edits : List Edit) (r : Bool) → r ≡ list_all (λ edit. nat_le (amount_of edit) most_amount) edits → IsTrue r ↔ HaveAmounts edits
 have_amounts edits r is = (
-  λ t. All-weaker (λ edit. nat_le (amount_of edit) 1000000000 ≡ true) (λ edit. amount_of edit ≤ 1000000000) (λ edit. small (amount_of edit)) edits (AllPass-from_list_all (λ edit. nat_le (amount_of edit) 1000000000) edits (sym is ∙ t)),
-  λ all. is ∙ list_all-from_AllPass (λ edit. nat_le (amount_of edit) 1000000000) edits (All-weaker (λ edit. amount_of edit ≤ 1000000000) (λ edit. nat_le (amount_of edit) 1000000000 ≡ true) (λ edit. is_small (amount_of edit)) edits all),
+  λ t. All-weaker (λ edit. nat_le (amount_of edit) most_amount ≡ true) (λ edit. amount_of edit ≤ most_amount) (λ edit. small (amount_of edit)) edits (AllPass-from_list_all (λ edit. nat_le (amount_of edit) most_amount) edits (sym is ∙ t)),
+  λ all. is ∙ list_all-from_AllPass (λ edit. nat_le (amount_of edit) most_amount) edits (All-weaker (λ edit. amount_of edit ≤ most_amount) (λ edit. nat_le (amount_of edit) most_amount ≡ true) (λ edit. is_small (amount_of edit)) edits all),
 )
