@@ -44,6 +44,8 @@ impl Answerer for Alone {
         (Alone { alloc, core, bench }, done)
     }
 
+    fn before_wait(&self) {}
+
     ghost stays = { λ a p. p };
 
     ghost goes_on = { λ a b c p q r. q (p r) };

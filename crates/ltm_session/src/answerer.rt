@@ -41,6 +41,9 @@ pub trait Answerer: Sized {
         ensures fault { result.1 ≡ Err SessionEnd.WriteFault
             → Rose (W.faults sink.old) (W.faults sink.new) };
 
+    /// Is told that the next line is not at hand, so that whoever works beside it may go on meanwhile.
+    fn before_wait(&self);
+
     ghost stays: { (a : Self) → keeps a a };
 
     ghost goes_on: { (a b c : Self) → keeps a b → keeps b c → keeps a c };

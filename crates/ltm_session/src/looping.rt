@@ -6,7 +6,14 @@ ghost use Rattle.ltm_session.specs.Answerers.{IsUnread, Serves};
 use crate::answerer::Answerer;
 use crate::ends::SessionEnd;
 use crate::script::{MOST_LINES, Script, end_of_lines, next_line};
-use ltm_io::{Sink, Source};
+use ltm_io::{Lines, Sink, Source};
+
+/// Tells who answers lines if the next one is not at hand.
+fn tell_if_waiting<A: Answerer>(answerer: &A, lines: &Lines) {
+    if !lines.has_line() {
+        answerer.before_wait();
+    }
+}
 
 /// Has each line of a script answered in order, its answer written whole before the next line is read, and says how
 /// that ends.
@@ -36,6 +43,7 @@ pub fn serve_lines<A: Answerer, S: Source, W: Sink>(
     } = script;
     let mut answerer = answerer;
     for answered in 0..MOST_LINES {
+        tell_if_waiting(&answerer, &lines);
         if let Err(end) = next_line(&mut lines, source, answered) {
             return (answerer, end);
         }

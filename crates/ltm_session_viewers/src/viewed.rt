@@ -73,6 +73,8 @@ impl<'a, R: Wait> Answerer for Viewed<'a, R> {
         (viewed, posted)
     }
 
+    fn before_wait(&self) {}
+
     ghost use Rattle.std.proofs.Common.{refl, ◌∙◌};
 
     ghost stays = { λ a. (refl, refl) };

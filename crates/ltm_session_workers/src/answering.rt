@@ -55,7 +55,7 @@ fn is_behind(core: &Core) -> bool {
     core.shown().version() != core.version()
 }
 
-/// Answers a command that is no settle, in one turn. Where there is work to do then, workers are called.
+/// Answers a command that is no settle, in one turn, and notes whether there is work to do then.
 fn reply_beside<R: Wait>(
     place: &Place<R>,
     editor: EditorPass<Core>,
@@ -81,9 +81,7 @@ fn reply_beside<R: Wait>(
     let done = reply_held(place.alloc, held.get_mut(), command, text);
     let behind = is_behind(held.get());
     let editor = turn.give_editor(held);
-    if behind {
-        place.hints.call_after_batch(turn);
-    }
+    place.hints.note_behind(behind);
     (editor, done)
 }
 
@@ -122,6 +120,7 @@ fn settle_in_room<R: Wait>(
         editor,
         settler,
     );
+    place.hints.note_behind(false);
     push_settled(settled, text);
     (editor, settler)
 }

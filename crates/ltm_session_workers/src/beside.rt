@@ -50,6 +50,10 @@ impl<'a, R: Wait> Answerer for Beside<'a, R> {
         (beside, done)
     }
 
+    fn before_wait(&self) {
+        self.place.hints.call_while_reading(self.place.turn);
+    }
+
     ghost use Rattle.std.proofs.Common.{refl, ◌∙◌};
 
     ghost stays = { λ a. (refl, refl) };

@@ -5,20 +5,22 @@ use ltm_turn::Turn;
 use std::sync::atomic::AtomicU64;
 use std::sync::atomic::Ordering::SeqCst;
 
-/// How many workers are called once a batch is accepted, so that they repair while the editor reads. The first is told, and
-/// tells the next one when it has a pair.
+/// How many workers are called where something is left to do and the editor waits for a line. The first is told, and tells the
+/// next one when it has a pair.
 const WHILE_READING: u64 = 2;
 
 /// How many workers are called by a settle that finds slots and rows wide: one more never helped.
 const WHERE_WIDE: u64 = 3;
 
-/// How many workers are called, how many have come, and how many pairs workers have committed. These are hints: any thread may
-/// change them at any time, so nothing is claimed of them, and only who works when depends on them.
+/// How many workers are called, how many have come, how many pairs workers have committed, and whether a batch left something to
+/// do. These are hints: any thread may change them at any time, so nothing is claimed of them, and only who works when depends on
+/// them.
 #[derive(Drop)]
 pub struct Hints {
     called: CachePadded<AtomicU64>,
     came: CachePadded<AtomicU64>,
     helped: CachePadded<AtomicU64>,
+    behind: CachePadded<AtomicU64>,
 }
 
 impl Hints {
@@ -28,11 +30,20 @@ impl Hints {
             called: CachePadded::new(AtomicU64::new(0)),
             came: CachePadded::new(AtomicU64::new(0)),
             helped: CachePadded::new(AtomicU64::new(0)),
+            behind: CachePadded::new(AtomicU64::new(0)),
         }
     }
 
-    /// Calls workers to what an accepted batch left to do. The turn was given before.
-    pub fn call_after_batch(&self, turn: &Turn<Core>) {
+    /// Notes whether an accepted batch left something to do.
+    pub fn note_behind(&self, behind: bool) {
+        self.behind.store(u64::from(behind), SeqCst);
+    }
+
+    /// Calls workers to what was left to do, if anything was: the editor may be about to wait. The turn was given before.
+    pub fn call_while_reading(&self, turn: &Turn<Core>) {
+        if self.behind.load(SeqCst) == 0 {
+            return;
+        }
         self.called.store(WHILE_READING, SeqCst);
         turn.notify_one();
     }

@@ -78,8 +78,8 @@ fn go_round<R: Wait, G: Gate>(
 /// core is stopped. In each held turn it makes one call of the core; each node step is made with no turn held.
 ///
 /// Where claims are out and no pair is left to claim it looks again after a pause; where it is not called, and where the core
-/// rests, it sleeps until it is told of news: so whoever accepts a batch calls (`Hints::call_after_batch`), and whoever stops the
-/// core calls all. Takes no memory.
+/// rests, it sleeps until it is told of news: so an editor that may wait for a line calls (`Hints::call_while_reading`), and whoever
+/// stops the core calls all. Takes no memory.
 pub fn work<R: Wait, G: Gate>(
     rt: &R,
     turn: &Turn<Core>,
