@@ -14,6 +14,7 @@ from .errors import Fault
 
 CLONE = Path(__file__).resolve().parents[2]
 BUILT = CLONE / "crates" / "ltm" / "out" / "ltm"
+LARGE_PAGES = {"GLIBC_TUNABLES": "glibc.malloc.hugetlb=1"}  # for large tables, where the system gives them to whoever asks: less time
 HOW = "./ltm --prove in a clone of the repository makes it, and --program FILE or the variable LTM names one"
 
 
@@ -54,7 +55,7 @@ def start(folder: str | os.PathLike[str], words: Sequence[str], program: str | o
     path = find_program(program)
     check_folder(folder)
     try:
-        return subprocess.Popen([str(path), *words], cwd=folder, stdin=stdin, stdout=subprocess.PIPE)
+        return subprocess.Popen([str(path), *words], cwd=folder, stdin=stdin, stdout=subprocess.PIPE, env={**LARGE_PAGES, **os.environ})
     except OSError as error:
         raise Fault(f"{path}: {error.strerror or error}") from None
 

@@ -7,6 +7,7 @@ from pathlib import Path
 from support import BUILT, EXAMPLES, FolderTest, needs_program
 from ltm_tools import edits
 from ltm_tools.errors import Fault
+from ltm_tools.program import output
 from ltm_tools.session import Refused, Session
 
 DATA = Path(__file__).resolve().parent / "data" / "delay"
@@ -21,6 +22,12 @@ with open("asked.txt", "w") as asked:
         print(answer, flush=True)
 sys.exit({status})
 """
+
+
+class Pages(FolderTest):
+    def test_the_program_asks_for_large_pages(self) -> None:
+        shows = self.program("import os\nprint(os.environ['GLIBC_TUNABLES'])")
+        self.assertEqual(output(self.case(), "load", program=shows), b"glibc.malloc.hugetlb=1\n")
 
 
 class Made(FolderTest):

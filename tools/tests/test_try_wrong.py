@@ -45,17 +45,18 @@ class CopiesTrees(unittest.TestCase):
         room = tempfile.TemporaryDirectory()
         self.addCleanup(room.cleanup)
         self.top, self.scratch = Path(room.name, "top"), Path(room.name, "scratch")
-        for path in ("crates/a/src/lib.rt", "crates/a/out/rlib/big", "crates/a/wrong/one.edit", "crates/a/must-fail/two.edit",
-                     "crates/b/src/lib.rt", "crates.txt", "HANDLES"):
+        for path in ("crates/a/src/lib.rt", "crates/a/out/rlib/big", "crates/a/out/incremental/a", "crates/a/out/a", "crates/a/wrong/one.edit", "crates/a/must-fail/two.edit",
+                     "crates/b/src/lib.rt", "crates/b/out/rlib/small", "crates/b/out/incremental/b", "crates.txt", "HANDLES"):
             file = self.top / path
             file.parent.mkdir(parents=True, exist_ok=True)
             file.write_text(path)
 
-    def test_all_edits_in_one_folder_and_nothing_that_was_built(self):
-        try_wrong.copy_tree(self.top, self.scratch)
+    def test_all_edits_in_one_folder_and_all_libraries(self):
+        try_wrong.copy_tree(self.top, self.scratch, ["a"])
         self.assertEqual(sorted(it.name for it in self.scratch.glob("crates/a/must-fail/*")), ["one.edit", "two.edit"])
         self.assertEqual((self.scratch / "crates/a/must-fail/one.edit").read_text(), "crates/a/wrong/one.edit")
-        self.assertFalse((self.scratch / "crates/a/out").exists())
+        built = sorted(str(it.relative_to(self.scratch)) for it in self.scratch.glob("crates/*/out/**/*") if it.is_file())
+        self.assertEqual(built, ["crates/a/out/incremental/a", "crates/a/out/rlib/big", "crates/b/out/rlib/small"])
         self.assertTrue((self.top / "crates/a/wrong/one.edit").exists())
 
     def test_names(self):

@@ -7,6 +7,7 @@ import subprocess
 import sys
 import time
 import unittest
+from unittest import mock
 
 from support import CLONE, FolderTest, TOOLS
 from ltm_tools.errors import Fault
@@ -158,6 +159,12 @@ class Proved(Clone):
         done = self.run_ltm("case", "session", "4", script="a line\n")
         self.assertEqual((done.returncode, done.stdout, done.stderr), (0, f"{self.folder / 'case'}\nsession 4\na line\n", ""))
         self.assertFalse((self.made / "called").exists())
+
+    def test_it_asks_for_large_pages(self) -> None:
+        self.build('echo "$GLIBC_TUNABLES"')
+        self.assertEqual(self.run_ltm("case", "load").stdout, "glibc.malloc.hugetlb=1\n")
+        with mock.patch.object(self, "environment", lambda: {**Clone.environment(self), "GLIBC_TUNABLES": "my own"}):
+            self.assertEqual(self.run_ltm("case", "load").stdout, "my own\n")
 
     def test_line_by_line(self) -> None:
         self.build("while read -r line; do echo answer to $line; done")
