@@ -80,6 +80,10 @@ last_front_if (Err e) bytes old mid new waits passed front = last_front bytes ol
 one_more : (k : ℕ) (f : ℕ → List ℕ) → texts_below k f ++ f k ≡ texts_below (k + 1) f
 one_more k f = texts_at (suc k) (k + 1) f (omega arith)
 
+-- a text more behind those below k
+pub texts_on : (bytes old new : List ℕ) (k : ℕ) (f : ℕ → List ℕ) → old ≡ bytes ++ texts_below k f → new ≡ old ++ f k → new ≡ bytes ++ texts_below (k + 1) f
+texts_on bytes old new k f before more = more ∙ (ap (λ (xs : List ℕ). xs ++ f k) before ∙ (append_assoc bytes (texts_below k f) (f k) ∙ ap (λ (xs : List ℕ). bytes ++ xs) (one_more k f)))
+
 pub text_on : (bytes : List ℕ) (k : ℕ) (f : ℕ → List ℕ) (old mid new : Option (List ℕ)) (waits rest : List ℕ)
     → Passes (bytes ++ texts_below k f) old mid waits → Passes (waits ++ f k) mid new rest → Passes (bytes ++ texts_below (k + 1) f) old new rest
 text_on bytes k f old mid new waits rest passed more =

@@ -150,10 +150,8 @@ fn put_group<W: Sink>(
     ensures cause { IsErrOf result SinkError.WriteFault
         → Rose (W.faults output.old) (W.faults output.new) }
 {
-    match window.move_to(group) {
-        Ok(()) => return put_records(scenario, window, group, output, waiting),
-        Err(_) => return Err(SinkError::NoMemory),
-    }
+    window.move_to(group);
+    put_records(scenario, window, group, output, waiting)
 }
 
 /// The same of all groups.
