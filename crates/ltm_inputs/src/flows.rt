@@ -6,7 +6,7 @@ ghost use Rattle.ltm_inputs.specs.Parts.{sending_part, supply_part, capacity_par
 ghost use Rattle.ltm_sending.specs.Fronts.{FrontAt};
 ghost use Rattle.ltm_setting.specs.Places.{IsNode, arms_at, node_shape};
 
-use crate::sending::{Front, put_arms, put_supply_of};
+use crate::sending::{Front, put_arms, put_supply};
 use crate::weights::put_weights;
 use ltm_curve::{Alone, Any, Kind, Several, Two};
 use ltm_node::NodeShape;
@@ -52,7 +52,7 @@ fn put_flows_of<K: Kind>(
         positions,
         capacity,
     );
-    put_supply_of::<K>(front.scenario, front.curves, pair, supply);
+    put_supply::<K>(front.scenario, front.curves, pair, supply);
 }
 
 /// The same for any curves: with one destination, with two and with several, each in code of its own.

@@ -1,6 +1,6 @@
 //! The blocks of a pair's row: its counts, its limits, and zeros in place of its counts.
 ghost use Rattle.std.specs.Prelude.{◌≡◌, ◌+◌, ◌*◌, ◌≤◌, length};
-ghost use Rattle.ltm_curve.specs.Table.{counts_of};
+ghost use Rattle.ltm_curve.specs.Table.{counts_of, destinations_of};
 ghost use Rattle.ltm_node.specs.Shape.{width, counts_width, counts_begin};
 ghost use Rattle.ltm_loading.specs.Pairs.{count_row};
 ghost use Rattle.ltm_setting.specs.Setting.{setting_of};
@@ -13,21 +13,22 @@ use crate::counts::{arrived, put_flows_counted};
 use crate::numbers::put_zeros;
 use crate::sending::put_supply;
 use crate::weights::put_weights;
-use ltm_curve::Curves;
+use ltm_curve::{Curves, Kind};
 use ltm_loading::groups_by_row;
 use ltm_node::NodeShape;
 use ltm_scenario::Scenario;
 use ltm_units::Pair;
 
-/// Writes the numbers of a pair that stand behind all counts.
+/// Writes the numbers of a pair that stand behind all counts, for curves of a kind.
 #[inline]
-pub(crate) fn put_limits(
+fn put_limits<K: Kind>(
     scenario: &Scenario,
     curves: &Curves,
     pair: Pair,
     shape: NodeShape,
     into: &mut [u64],
 )
+    requires kind { K.fits (destinations_of curves.now) }
     requires node { IsNode scenario.now pair.node.0 }
     requires ready { FrontAt scenario.now curves.now pair.slot }
     requires shape { shape ≡ node_shape scenario.now pair.node.0 }
@@ -39,7 +40,7 @@ pub(crate) fn put_limits(
 {
     let (supply, rest) = into.split_at_mut(shape.outs as usize);
     let (capacity, weights) = rest.split_at_mut(shape.arms as usize);
-    put_supply(scenario, curves, pair, supply);
+    put_supply::<K>(scenario, curves, pair, supply);
     put_capacity(scenario, pair.node, capacity);
     put_weights(scenario, pair, shape.outs, weights);
 }
@@ -67,14 +68,16 @@ pub(crate) fn put_counts(
     come[0] = arrived(scenario, curves, pair);
 }
 
-/// Writes the numbers of a pair that stand behind what its arms send, with 0 for each count.
-pub(crate) fn put_uncounted(
+/// Writes the numbers of a pair that stand behind what its arms send, with 0 for each count, for curves of a kind.
+#[inline]
+pub(crate) fn put_uncounted<K: Kind>(
     scenario: &Scenario,
     curves: &Curves,
     pair: Pair,
     shape: NodeShape,
     into: &mut [u64],
 )
+    requires kind { K.fits (destinations_of curves.now) }
     requires node { IsNode scenario.now pair.node.0 }
     requires ready { FrontAt scenario.now curves.now pair.slot }
     requires shape { shape ≡ node_shape scenario.now pair.node.0 }
@@ -87,5 +90,5 @@ pub(crate) fn put_uncounted(
 {
     let (counts, limits) = into.split_at_mut(shape.counts_width());
     put_zeros(counts);
-    put_limits(scenario, curves, pair, shape, limits);
+    put_limits::<K>(scenario, curves, pair, shape, limits);
 }

@@ -8,10 +8,10 @@ ghost use Rattle.ltm_inputs.specs.Parts.{link_at, sending_part, supply_part, cap
 ghost use Rattle.ltm_sending.specs.Fronts.{FrontAt};
 ghost use Rattle.ltm_setting.specs.Places.{IsLink, IsNode, arms_at};
 
-use ltm_curve::{Any, Curves, Kind};
+use ltm_curve::{Curves, Kind};
 use ltm_scenario::Scenario;
-use ltm_sending::{link_sends, link_takes, origin_sends, send_link, send_origin};
-use ltm_setting::{destination_count, in_links, limits, origin_capacity, out_links};
+use ltm_sending::{link_sends, link_sends_only, link_takes, origin_sends};
+use ltm_setting::{in_links, limits, origin_capacity, out_links};
 use ltm_units::{LinkId, Pair};
 
 /// What the numbers of pairs are read of: a scenario, and curves that are the front of its loading up to a slot.
@@ -23,7 +23,14 @@ pub(crate) struct Front<'a> {
 
 /// Writes what some links send.
 #[inline]
-fn put_links(scenario: &Scenario, curves: &Curves, links: &[LinkId], slot: u32, into: &mut [u64])
+fn put_links<K: Kind>(
+    scenario: &Scenario,
+    curves: &Curves,
+    links: &[LinkId],
+    slot: u32,
+    into: &mut [u64],
+)
+    requires kind { K.fits (destinations_of curves.now) }
     requires ready { FrontAt scenario.now curves.now slot }
     requires links { All (λ link. IsLink scenario.now link.0) links.now }
     requires few { length links.now ≤ 4 }
@@ -32,10 +39,10 @@ fn put_links(scenario: &Scenario, curves: &Curves, links: &[LinkId], slot: u32, 
         (λ i d. link_sending (setting_of scenario.now) (counts_of curves.now)
         (link_at links.now i) slot d) }
 {
-    let destinations = destination_count(scenario) as usize;
+    let destinations = K::destinations(curves) as usize;
     let mut place = 0;
     for link in links {
-        send_link(
+        link_sends_only::<K>(
             scenario,
             curves,
             *link,
@@ -46,8 +53,15 @@ fn put_links(scenario: &Scenario, curves: &Curves, links: &[LinkId], slot: u32, 
     }
 }
 
-/// Writes what each arm of a node sends in a slot.
-pub(crate) fn put_sending(scenario: &Scenario, curves: &Curves, pair: Pair, into: &mut [u64])
+/// Writes what each arm of a node sends in a slot, for curves of a kind.
+#[inline]
+pub(crate) fn put_sending<K: Kind>(
+    scenario: &Scenario,
+    curves: &Curves,
+    pair: Pair,
+    into: &mut [u64],
+)
+    requires kind { K.fits (destinations_of curves.now) }
     requires node { IsNode scenario.now pair.node.0 }
     requires ready { FrontAt scenario.now curves.now pair.slot }
     requires room { length into.old
@@ -56,12 +70,11 @@ pub(crate) fn put_sending(scenario: &Scenario, curves: &Curves, pair: Pair, into
         (counts_of curves.now) pair.node.0 pair.slot }
 {
     let links = in_links(scenario, pair.node);
-    let (of_links, of_origin) = into.split_at_mut(
-        links.len() * destination_count(scenario) as usize,
-    );
-    put_links(scenario, curves, links, pair.slot, of_links);
+    let destinations = K::destinations(curves) as usize;
+    let (of_links, of_origin) = into.split_at_mut(links.len() * destinations);
+    put_links::<K>(scenario, curves, links, pair.slot, of_links);
     if !out_links(scenario, pair.node).is_empty() {
-        send_origin(scenario, curves, pair.node, pair.slot, of_origin);
+        origin_sends::<K>(scenario, curves, pair.node, pair.slot, of_origin);
     }
 }
 
@@ -152,20 +165,9 @@ pub(crate) fn put_arms<K: Kind>(
     }
 }
 
-/// Writes what each out-link of a node can take in a slot.
-pub(crate) fn put_supply(scenario: &Scenario, curves: &Curves, pair: Pair, into: &mut [u64])
-    requires node { IsNode scenario.now pair.node.0 }
-    requires ready { FrontAt scenario.now curves.now pair.slot }
-    requires room { length into.old ≡ (setting_of scenario.now).outs pair.node.0 }
-    ensures { into.new ≡ supply_part (setting_of scenario.now)
-        (counts_of curves.now) pair.node.0 pair.slot }
-{
-    put_supply_of::<Any>(scenario, curves, pair, into);
-}
-
-/// The same for curves of a kind.
+/// Writes what each out-link of a node can take in a slot, for curves of a kind.
 #[inline]
-pub(crate) fn put_supply_of<K: Kind>(
+pub(crate) fn put_supply<K: Kind>(
     scenario: &Scenario,
     curves: &Curves,
     pair: Pair,

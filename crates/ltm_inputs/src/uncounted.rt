@@ -1,6 +1,6 @@
 //! The inputs of a pair of node and slot with 0 for each count: what moves does not depend on the counts.
 ghost use Rattle.std.specs.Prelude.{◌≡◌, ◌≤◌, ◌↔◌, length, take, IsTrue, IsFalse};
-ghost use Rattle.ltm_curve.specs.Table.{counts_of};
+ghost use Rattle.ltm_curve.specs.Table.{counts_of, destinations_of};
 ghost use Rattle.ltm_node.specs.Shape.{width};
 ghost use Rattle.ltm_node.specs.Solvable.{IsSolvable};
 ghost use Rattle.ltm_loading.specs.Uncounted.{uncounted_row, IsUncountedPair};
@@ -15,15 +15,49 @@ use crate::numbers::{is_any_sent, put_zeros};
 use crate::row::put_uncounted;
 use crate::sending::{Front, put_sending};
 use crate::shapes::shape_of;
-use ltm_curve::Curves;
+use ltm_curve::{Alone, Any, Curves, Kind, Several, Two};
 use ltm_loading::uncounted_in_range;
 use ltm_node::{NodeInputs, NodeShape};
 use ltm_scenario::Scenario;
 use ltm_setting::is_setting;
 use ltm_units::Pair;
 
-/// Writes the row of a pair with 0 for each count, if any of its arms sends something; whether one does.
-fn put_row_if_sent(
+/// Writes the row of a pair with 0 for each count, if any of its arms sends something; whether one does. For curves of a
+/// kind.
+#[inline]
+fn put_row_if_sent<K: Kind>(
+    scenario: &Scenario,
+    curves: &Curves,
+    pair: Pair,
+    shape: NodeShape,
+    row: &mut [u64],
+) -> bool
+    requires kind { K.fits (destinations_of curves.now) }
+    requires node { IsNode scenario.now pair.node.0 }
+    requires ready { FrontAt scenario.now curves.now pair.slot }
+    requires shape { shape ≡ node_shape scenario.now pair.node.0 }
+    requires few_arms { shape.arms ≤ 5 }
+    requires few_outs { shape.outs ≤ 4 }
+    requires few_destinations { shape.destinations ≤ 64 }
+    requires room { length row.old ≡ width shape }
+    ensures row { IsTrue result
+        → row.new ≡ uncounted_row (setting_of scenario.now)
+        (counts_of curves.now) pair.node.0 pair.slot }
+    ensures idle { IsFalse result
+        ↔ IsIdle (setting_of scenario.now) (counts_of curves.now) pair.node.0 pair.slot }
+{
+    let (sending, others) = row.split_at_mut(shape.counts_begin());
+    put_sending::<K>(scenario, curves, pair, sending);
+    let sent = is_any_sent(sending);
+    if sent {
+        put_uncounted::<K>(scenario, curves, pair, shape, others);
+    }
+    sent
+}
+
+/// The same for any curves: with one destination, with two and with several, each in code of its own.
+#[inline]
+fn put_any_row_if_sent(
     scenario: &Scenario,
     curves: &Curves,
     pair: Pair,
@@ -43,17 +77,20 @@ fn put_row_if_sent(
     ensures idle { IsFalse result
         ↔ IsIdle (setting_of scenario.now) (counts_of curves.now) pair.node.0 pair.slot }
 {
-    let (sending, others) = row.split_at_mut(shape.counts_begin());
-    put_sending(scenario, curves, pair, sending);
-    let sent = is_any_sent(sending);
-    if sent {
-        put_uncounted(scenario, curves, pair, shape, others);
+    let destinations = curves.destinations();
+    if destinations == 1 {
+        return put_row_if_sent::<Alone>(scenario, curves, pair, shape, row);
     }
-    sent
+    if destinations == 2 {
+        return put_row_if_sent::<Two>(scenario, curves, pair, shape, row);
+    }
+    if destinations >= 3 {
+        return put_row_if_sent::<Several>(scenario, curves, pair, shape, row);
+    }
+    put_row_if_sent::<Any>(scenario, curves, pair, shape, row)
 }
 
-/// Writes the row of a pair with 0 for each count at the front of a room, if any of its arms sends something; whether one
-/// does.
+/// Writes that row at the front of a room, if any arm sends something; whether one does.
 #[inline]
 fn put_front_if_sent(
     scenario: &Scenario,
@@ -76,7 +113,7 @@ fn put_front_if_sent(
         ↔ IsIdle (setting_of scenario.now) (counts_of curves.now) pair.node.0 pair.slot }
 {
     let row = &mut room[..shape.width()];
-    put_row_if_sent(scenario, curves, pair, shape, row)
+    put_any_row_if_sent(scenario, curves, pair, shape, row)
 }
 
 /// Reads the inputs of a pair of node and slot at the front of a loading with 0 for each count, if any of its arms sends

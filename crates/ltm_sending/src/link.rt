@@ -43,9 +43,10 @@ fn send_parts(
     limit_all(limit, waiting.goal - waiting.left, into);
 }
 
-/// Writes what a link sends of each destination, out of the units that wait, if any do.
+/// Writes what a link sends of each destination, out of the units that wait, if any do. Only then it is sought where they end:
+/// of two destinations boundary by boundary, of several by steps that double.
 #[inline]
-fn send_waiting(
+fn send_waiting<K: Kind>(
     scenario: &Scenario,
     curves: &Curves,
     link: LinkId,
@@ -53,6 +54,7 @@ fn send_waiting(
     waiting: Waiting,
     into: &mut [u64],
 )
+    requires kind { K.fits (destinations_of curves.now) }
     requires link { IsLink scenario.now link.0 }
     requires ready { FrontAt scenario.now curves.now slot }
     requires waiting { WaitOnLink (setting_of scenario.now) (counts_of curves.now) link.0 slot
@@ -63,11 +65,18 @@ fn send_waiting(
 {
     let whole = waiting.goal - waiting.left;
     if whole == 0 {
-        send_nothing(into);
+        send_none::<K>(curves, into);
         return;
     }
-    if into.len() == 1 {
+    if K::is_alone(curves) {
         into[0] = whole.min(exit_limit(scenario, link, slot));
+        return;
+    }
+    if K::is_two(curves) {
+        let at = position_from::<K>(scenario, curves, link, slot, waiting);
+        let Waiting { goal, by, left } = waiting;
+        let ended = WaitingAt { goal, left, by, at };
+        send_two_at(scenario, curves, link, slot, ended, into);
         return;
     }
     send_parts(scenario, curves, link, slot, waiting, into);
@@ -193,12 +202,31 @@ pub fn send_link(scenario: &Scenario, curves: &Curves, link: LinkId, slot: u32, 
     ensures { (d : ℕ) → IsDestination scenario.now d → slice_index into.new d
         ≡ link_sending (setting_of scenario.now) (counts_of curves.now) link.0 slot d }
 {
-    is_setting(scenario);
-    let waiting = waiting_on::<Any>(scenario, curves, link, slot);
-    send_waiting(scenario, curves, link, slot, waiting, into);
+    link_sends_only::<Any>(scenario, curves, link, slot, into);
 }
 
-/// Writes the same for curves of a kind, and tells the position of the slot for the link: the last boundary by which no more has
+/// The same for curves of a kind. Where the units end that may leave is sought only if some wait.
+#[inline]
+pub fn link_sends_only<K: Kind>(
+    scenario: &Scenario,
+    curves: &Curves,
+    link: LinkId,
+    slot: u32,
+    into: &mut [u64],
+)
+    requires kind { K.fits (destinations_of curves.now) }
+    requires link { IsLink scenario.now link.0 }
+    requires ready { FrontAt scenario.now curves.now slot }
+    requires room { length into.old ≡ (setting_of scenario.now).destinations }
+    ensures { (d : ℕ) → IsDestination scenario.now d → slice_index into.new d
+        ≡ link_sending (setting_of scenario.now) (counts_of curves.now) link.0 slot d }
+{
+    is_setting(scenario);
+    let waiting = waiting_on::<K>(scenario, curves, link, slot);
+    send_waiting::<K>(scenario, curves, link, slot, waiting, into);
+}
+
+/// Writes the same, and tells the position of the slot for the link: the last boundary by which no more has
 /// entered the link than may have left it by the slot's end. Of which destinations the last of these units are is read there.
 #[inline]
 pub fn link_sends<K: Kind>(

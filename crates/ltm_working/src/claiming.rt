@@ -86,6 +86,7 @@ impl Table {
 
     /// The first active pair of a slot whose inputs differ from the kept ones, with its inputs but for the counts. Settled
     /// pairs before it are dropped; where there is none, all active pairs of the slot.
+    #[inline]
     fn find_at(&mut self, scenario: &Scenario, slot: u32, inputs: &mut NodeInputs) -> Option<NodeId>
         requires ready { IsReadyFor scenario.now self.old }
         requires slot { IsSlot scenario.now slot }
@@ -143,7 +144,8 @@ impl Table {
         self.frontier.claim_mark(pair);
     }
 
-    /// The first pair to be worked on at the slot of the claims that are out, if there is one yet.
+    /// The first pair to be worked on at the slot of the claims that are out, if there is one yet. Kept out of line.
+    #[inline(never)]
     fn find_beside(&mut self, scenario: &Scenario, slot: u32, inputs: &mut NodeInputs) -> Found
         requires ready { IsReadyFor scenario.now self.old }
         requires out { HasClaimAt (setting_of scenario.now)
@@ -162,6 +164,7 @@ impl Table {
     }
 
     /// The first pair to be worked on, from a slot on before which every pair is idle, where none is claimed.
+    #[inline]
     fn first_work(
         &mut self,
         scenario: &Scenario,
@@ -198,6 +201,7 @@ impl Table {
     }
 
     /// The first pair to be worked on, where none is claimed.
+    #[inline]
     fn find_first(&mut self, scenario: &Scenario, front: u32, inputs: &mut NodeInputs) -> Found
         requires ready { IsReadyFor scenario.now self.old }
         requires front { IsBoundary scenario.now front }
@@ -241,6 +245,7 @@ impl Table {
 
     /// A pair of the front slot whose inputs differ from the kept ones, with its inputs but for the counts, for which there is
     /// room for 1,162 numbers. Settled pairs that it passes are dropped; while claims are out, at their slot alone.
+    #[inline]
     pub(crate) fn find(&mut self, scenario: &Scenario, inputs: &mut NodeInputs) -> Found
         requires ready { IsReadyFor scenario.now self.old }
         requires room { widest_row ≤ inputs.old.room }

@@ -7,7 +7,7 @@ use Rattle.ltm_inputs.proofs.Lists.{zeros_joined}
 use Rattle.ltm_inputs.proofs.row.put_uncounted.Goals as goal
 
 pub returns : goal.returns
-returns c =
+returns g c =
     let s = setting_of c.args.scenario.now in
     let a : ℕ = arms_of s c.args.pair.node.0 * s.destinations in
     let o : ℕ = s.outs c.args.pair.node.0 * s.destinations in

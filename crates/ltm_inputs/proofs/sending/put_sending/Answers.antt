@@ -13,7 +13,7 @@ use Rattle.ltm_inputs.proofs.Filling.{nothing_behind}
 use Rattle.ltm_inputs.proofs.sending.put_sending.Goals as goal
 
 pub returns-then-not-is_empty : goal.returns-then-not-is_empty
-returns-then-not-is_empty c =
+returns-then-not-is_empty g c =
     let s = setting_of c.args.scenario.now in
     let counts = counts_of c.args.curves.now in
     let links = c.in_links-links.result.now in
@@ -25,17 +25,17 @@ returns-then-not-is_empty c =
     let h : ℕ → ℕ = origin_sending s counts u t in
     let some : 0 < s.outs u = some_out c.is_empty.result (length c.out_links.result.now) (s.outs u) c.if-not-is_empty.true c.is_empty.ensures c.out_links.ensures.count in
     let all : arms_of s u * w ≡ (length links + 1) * w = ap (λ (z : ℕ). z * w) (omega (arith, some, c.in_links-links.ensures.count)) in
-    let mid : length links * c.destination_count.result ≡ length links * w = ap (λ (z : ℕ). length links * z) c.destination_count.ensures.value in
-    let long : length c.send_origin.new.into ≡ w = omega (arith, c.send_origin.auto.into, c.split_at_mut-of_links.ensures.back_len, c.requires.room, all, mid) in
-    let origin : c.send_origin.new.into ≡ list_below w h = list_from w h c.send_origin.new.into long c.send_origin.ensures in
-    ap (λ (z : List ℕ). z ++ c.send_origin.new.into) c.put_links.ensures
+    let mid : length links * c.destinations-destinations.result ≡ length links * w = ap (λ (z : ℕ). length links * z) (c.destinations-destinations.ensures ∙ c.requires.ready.shape.same_destinations) in
+    let long : length c.origin_sends.new.into ≡ w = omega (arith, c.origin_sends.auto.into, c.split_at_mut-of_links.ensures.back_len, c.requires.room, all, mid) in
+    let origin : c.origin_sends.new.into ≡ list_below w h = list_from w h c.origin_sends.new.into long c.origin_sends.ensures in
+    ap (λ (z : List ℕ). z ++ c.origin_sends.new.into) c.put_links.ensures
     ∙ (ap (λ (z : List ℕ). grid (length links) w g ++ z) origin
     ∙ arms_origin (length links) w s u f g h c.in_links-links.ensures.count some
     (λ i d l x. ap (λ (z : ℕ). link_sending s counts z t d) (c.in_links-links.ensures.links i (omega (arith, c.in_links-links.ensures.count))) ∙ sym (pick_first i (s.ins u) (link_sending s counts (s.in_link u i) t d) (origin_sending s counts u t d) l))
     (λ d l. sym (pick_second (s.ins u) (s.ins u) (link_sending s counts (s.in_link u (s.ins u)) t d) (origin_sending s counts u t d) (omega arith))))
 
 pub returns-else-not-is_empty : goal.returns-else-not-is_empty
-returns-else-not-is_empty c =
+returns-else-not-is_empty g c =
     let s = setting_of c.args.scenario.now in
     let counts = counts_of c.args.curves.now in
     let links = c.in_links-links.result.now in
@@ -44,7 +44,7 @@ returns-else-not-is_empty c =
     let w : ℕ = s.destinations in
     let none : s.outs u ≡ 0 = no_out c.is_empty.result (length c.out_links.result.now) (s.outs u) c.if-not-is_empty.false c.is_empty.ensures c.out_links.ensures.count in
     let all : arms_of s u * w ≡ length links * w = ap (λ (z : ℕ). z * w) (omega (arith, none, c.in_links-links.ensures.count)) in
-    let mid : length links * c.destination_count.result ≡ length links * w = ap (λ (z : ℕ). length links * z) c.destination_count.ensures.value in
+    let mid : length links * c.destinations-destinations.result ≡ length links * w = ap (λ (z : ℕ). length links * z) (c.destinations-destinations.ensures ∙ c.requires.ready.shape.same_destinations) in
     nothing_behind c.put_links.new.into c.split_at_mut-of_links.result.1.now (omega (arith, c.split_at_mut-of_links.ensures.back_len, c.requires.room, all, mid))
     ∙ (c.put_links.ensures
     ∙ arms_alone (length links) w s u (sending s counts u t) (λ i d. link_sending s counts (link_at links i) t d) c.in_links-links.ensures.count none

@@ -4,7 +4,7 @@ use Rattle.ltm_inputs.proofs.Idle.{idle_of_zeros, zeros_of_idle}
 use Rattle.ltm_inputs.proofs.uncounted.put_row_if_sent.Goals as goal
 
 pub returns-then-sent-clause-idle : goal.returns-then-sent-clause-idle
-returns-then-sent-clause-idle c =
+returns-then-sent-clause-idle g c =
     let s = setting_of c.args.scenario.now in
     let counts = counts_of c.args.curves.now in
     let u = c.args.pair.node.0 in
@@ -14,7 +14,7 @@ returns-then-sent-clause-idle c =
     )
 
 pub returns-else-sent-clause-idle : goal.returns-else-sent-clause-idle
-returns-else-sent-clause-idle c =
+returns-else-sent-clause-idle g c =
     let s = setting_of c.args.scenario.now in
     let counts = counts_of c.args.curves.now in
     let u = c.args.pair.node.0 in

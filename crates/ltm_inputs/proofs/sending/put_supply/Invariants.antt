@@ -2,7 +2,7 @@ use Rattle.std.proofs.Common.{◌≡◌, ℕ, ◌<◌, slice_index}
 use Rattle.ltm_curve.specs.Table.{counts_of}
 use Rattle.ltm_loading.specs.Flows.{receiving}
 use Rattle.ltm_setting.specs.Setting.{setting_of}
-use Rattle.ltm_inputs.proofs.sending.put_supply_of.Given as goal
+use Rattle.ltm_inputs.proofs.sending.put_supply.Given as goal
 
 abbrev pub invariant-loop-out : goal.invariant-loop-out
 invariant-loop-out g l =

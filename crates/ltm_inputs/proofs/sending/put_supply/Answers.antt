@@ -5,7 +5,7 @@ use Rattle.ltm_loading.specs.Flows.{receiving}
 use Rattle.ltm_setting.specs.Setting.{setting_of}
 use Rattle.ltm_setting.proofs.Links.{link_item}
 use Rattle.ltm_inputs.proofs.Filling.{set_next}
-use Rattle.ltm_inputs.proofs.sending.put_supply_of.Goals as goal
+use Rattle.ltm_inputs.proofs.sending.put_supply.Goals as goal
 
 pub loop-out-preserved : goal.loop-out-preserved
 loop-out-preserved g c =
