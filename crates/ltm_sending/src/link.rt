@@ -119,8 +119,8 @@ fn send_parts_at(
     limit_all(limit, goal - left, into);
 }
 
-/// The same of two destinations, without a loop.
-#[inline]
+/// The same of two destinations, without a loop. Always in line: two readers call it.
+#[inline(always)]
 fn send_two_at(
     scenario: &Scenario,
     curves: &Curves,

@@ -86,7 +86,7 @@ impl Table {
 
     /// The first active pair of a slot whose inputs differ from the kept ones, with its inputs but for the counts. Settled
     /// pairs before it are dropped; where there is none, all active pairs of the slot.
-    #[inline]
+    #[inline(always)]
     fn find_at(&mut self, scenario: &Scenario, slot: u32, inputs: &mut NodeInputs) -> Option<NodeId>
         requires ready { IsReadyFor scenario.now self.old }
         requires slot { IsSlot scenario.now slot }
@@ -164,7 +164,7 @@ impl Table {
     }
 
     /// The first pair to be worked on, from a slot on before which every pair is idle, where none is claimed.
-    #[inline]
+    #[inline(always)]
     fn first_work(
         &mut self,
         scenario: &Scenario,
@@ -201,7 +201,7 @@ impl Table {
     }
 
     /// The first pair to be worked on, where none is claimed.
-    #[inline]
+    #[inline(always)]
     fn find_first(&mut self, scenario: &Scenario, front: u32, inputs: &mut NodeInputs) -> Found
         requires ready { IsReadyFor scenario.now self.old }
         requires front { IsBoundary scenario.now front }
@@ -245,7 +245,7 @@ impl Table {
 
     /// A pair of the front slot whose inputs differ from the kept ones, with its inputs but for the counts, for which there is
     /// room for 1,162 numbers. Settled pairs that it passes are dropped; while claims are out, at their slot alone.
-    #[inline]
+    #[inline(always)]
     pub(crate) fn find(&mut self, scenario: &Scenario, inputs: &mut NodeInputs) -> Found
         requires ready { IsReadyFor scenario.now self.old }
         requires room { widest_row ≤ inputs.old.room }
