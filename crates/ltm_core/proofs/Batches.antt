@@ -192,7 +192,7 @@ came_batch d batch next u t l log h (Ok x) is table shown takes put p q e more s
     let m : CoreData = with_room d u l in
     let ready : IsCore m = core_looks d u l is table shown in
     subst (λ (z : Log). CameBy (told_batch d z next t l h)) (sym put)
-    (came_more m (after_accept m batch next t) Accept h (opening_batch d.log batch) more (touches d.scenario batch, core_accepted m batch next t ready takes) (came_looks d u l is table shown came))
+    (came_more m (after_accept m batch next t) Accept h (batch, refl) more (touches d.scenario batch, core_accepted m batch next t ready takes) (came_looks d u l is table shown came))
 came_batch d batch next u t l log h (Err f) is table shown takes put p q e more still came =
     subst (λ (z : List CoreEvent). CameBy (told_batch d log next t l z)) (sym still)
     (subst (λ (z : Log). CameBy (record d { log = z; scenario = next; table = t; shown = l })) (sym e)

@@ -27,6 +27,7 @@ use Rattle.ltm_core.specs.Cores.{CoreData, desk_in, repair_of, IsCore}
 use Rattle.ltm_core.specs.CoreAnswers.{IsKeptClaim, TellsGiveBack}
 use Rattle.ltm_core.specs.Histories.{CameBy}
 use Rattle.ltm_core.proofs.Cores.{core_now, core_desk, after_event, core_with, only_desk}
+use Rattle.ltm_core.proofs.Telling.{claim_leaves_log}
 use Rattle.ltm_core.proofs.Histories.{repair_told, came_more}
 
 -- a pair that is handed out has this ticket
@@ -75,7 +76,7 @@ pub came_claim : RepairLaws → (d : CoreData) (t : Table) (answer : ClaimAnswer
     AnswersSearch (setting_of d.scenario) (desk_in d) answer (desk_at (setting_of d.scenario) t) → IsTicket answer (version_now d.log) → h ≡ claim_event answer ∷ d.history → CameBy d →
     CameBy (record d { table = t; history = h })
 came_claim laws d t answer h is cells told at more came =
-    came_more d (record d { table = t }) (claim_event answer) h refl more
+    came_more d (record d { table = t }) (claim_event answer) h (claim_leaves_log answer d.log) more
     (laws.events.claim (repair_of d) (repair_of (record d { table = t })) answer (core_claims d t answer is cells told at)) came
 
 pub core_claims_at : (d v : CoreData) (t : Table) (h : List CoreEvent) (answer : ClaimAnswer) → d ≡ v → IsCore d → changed_at (setting_of d.scenario) t ≡ changed_at (setting_of d.scenario) d.table →

@@ -11,6 +11,8 @@ use Rattle.ltm_repair.specs.Work.{NoneTwice}
 use Rattle.ltm_core.specs.Cores.{CoreData, repair_of, IsCore}
 use Rattle.ltm_core.specs.CoreAnswers.{IsOpeningCore, with_event}
 use Rattle.ltm_core.specs.Histories.{CameBy}
+use Rattle.ltm_core.specs.Log.{Log}
+use Rattle.ltm_core.proofs.Telling.{LogAfter, opening_after, log_after, log_begun, log_stays}
 
 -- ---- a run with one event more, and a run that is cut in two
 run_more : (s m e : RepairState) (xs : List CoreEvent) (x : CoreEvent) → CoreRun s xs m → Happens m x e → CoreRun s (xs ++ (x ∷ [])) e
@@ -60,11 +62,13 @@ came_begun d is begins = record {
   core = is;
   begins = begins;
   run = subst (λ (h : List CoreEvent). CoreRun (repair_of d) (reverse h) (repair_of d)) (sym begins.history) refl;
+  log = log_begun d begins.history begins.log;
 }
 
 -- the event x leads to m, and is told
-pub came_more : (d m : CoreData) (x : CoreEvent) (h : List CoreEvent) → m.log.opening ≡ d.log.opening → h ≡ x ∷ d.history → Happens (repair_of d) x (repair_of m) → CameBy d → CameBy (record m { history = h })
-came_more d m x h same more step came =
+pub came_more : (d m : CoreData) (x : CoreEvent) (h : List CoreEvent) → LogAfter x d.log m.log → h ≡ x ∷ d.history → Happens (repair_of d) x (repair_of m) → CameBy d → CameBy (record m { history = h })
+came_more d m x h after more step came =
+    let same : m.log.opening ≡ d.log.opening = opening_after x d.log m.log after in
     let s : RepairState = repair_of came.first in
     let turned : reverse h ≡ reverse d.history ++ (x ∷ []) = ap reverse more ∙ reverse-append (x ∷ []) d.history in
     let run : CoreRun s (reverse d.history ++ (x ∷ [])) (repair_of m) = run_more s (repair_of d) (repair_of m) (reverse d.history) x came.run step in
@@ -73,16 +77,18 @@ came_more d m x h same more step came =
       core = came.core;
       begins = subst (λ (z : ScenarioData). IsOpeningCore z came.first) (sym same) came.begins;
       run = subst (λ (e : RepairState). CoreRun s (reverse h) e) (sym (repair_told m h)) (subst (λ (l : List CoreEvent). CoreRun s l (repair_of m)) (sym turned) run);
+      log = log_after d (record m { history = h }) x after more came.log;
     }
 
 -- nothing of the repair changes, and nothing is told
-pub came_stays : (d e : CoreData) → e.log.opening ≡ d.log.opening → e.history ≡ d.history → repair_of e ≡ repair_of d → CameBy d → CameBy e
+pub came_stays : (d e : CoreData) → e.log ≡ d.log → e.history ≡ d.history → repair_of e ≡ repair_of d → CameBy d → CameBy e
 came_stays d e same told still came = record {
   first = came.first;
   core = came.core;
-  begins = subst (λ (z : ScenarioData). IsOpeningCore z came.first) (sym same) came.begins;
+  begins = subst (λ (z : Log). IsOpeningCore z.opening came.first) (sym same) came.begins;
   run = subst (λ (z : RepairState). CoreRun (repair_of came.first) (reverse e.history) z) (sym still)
       (subst (λ (l : List CoreEvent). CoreRun (repair_of came.first) (reverse l) (repair_of d)) (sym told) came.run);
+  log = log_stays d e same told came.log;
 }
 
 -- ---- no pair twice between two batches

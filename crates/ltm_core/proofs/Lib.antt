@@ -1,6 +1,7 @@
 pub mod Logs
 pub mod Widths
 pub mod Cores
+pub mod Telling
 pub mod Histories
 pub mod Claimings
 pub mod Committings

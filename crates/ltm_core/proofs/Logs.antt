@@ -9,70 +9,7 @@ use Rattle.ltm_scenario.specs.declared.edit.Edit.{Edit}
 use Rattle.ltm_scenario.specs.declared.edit.EditFault.{EditFault}
 use Rattle.ltm_scenario.specs.Data.{ScenarioData}
 use Rattle.ltm_scenario.specs.Edits.{edited_all}
-use Rattle.ltm_core.specs.declared.entry.LogEntry.{LogEntry}
-use Rattle.ltm_core.specs.declared.entry.LogEntry.TheVariants.{Opening, Accepted, Mark}
-use Rattle.ltm_core.specs.Log.{Log, MarkedBatch, log_of, batches_of, entries_in, entries_of, version_now, settled_in, settled_of, edited_or, after_batch, after_batches, AreAccepted, HoldsAccepted, scenario_at, scenario_now, with_batch, marked, with_mark, LogLaws}
-
--- ---- the list that is told
-entries_more : (bs : List MarkedBatch) (b : List Edit) → entries_in (bs ++ (b, false) ∷ []) ≡ entries_in bs ++ Accepted b ∷ []
-entries_more [] b = refl
-entries_more ((c, true) ∷ bs) b = ap (λ l. Accepted c ∷ Mark ∷ l) (entries_more bs b)
-entries_more ((c, false) ∷ bs) b = ap (λ l. Accepted c ∷ l) (entries_more bs b)
-
--- the list is longer by the batch
-pub batch_last : (log : Log) (b : List Edit) → entries_of (with_batch log b) ≡ entries_of log ++ Accepted b ∷ []
-unfolding entries_of with_batch
-batch_last log b = ap (λ l. Opening log.opening ∷ l) (entries_more log.batches b)
-
-marks_more : (bs : List MarkedBatch) → (rest : List LogEntry) × (entries_in (marked bs) ≡ entries_in bs ++ rest)
-marks_more [] = ([], refl)
-marks_more ((b, true) ∷ []) = ([], refl)
-marks_more ((b, false) ∷ []) = (Mark ∷ [], refl)
-marks_more ((b, true) ∷ c ∷ bs) = let (rest, is) = marks_more (c ∷ bs) in (rest, ap (λ l. Accepted b ∷ Mark ∷ l) is)
-marks_more ((b, false) ∷ c ∷ bs) = let (rest, is) = marks_more (c ∷ bs) in (rest, ap (λ l. Accepted b ∷ l) is)
-
--- the list is the same, or longer by the mark
-pub mark_last : (log : Log) → (rest : List LogEntry) × (entries_of (with_mark log) ≡ entries_of log ++ rest)
-unfolding entries_of with_mark
-mark_last log = let (rest, is) = marks_more log.batches in (rest, ap (λ l. Opening log.opening ∷ l) is)
-
--- ---- what a list tells of its log
-begins_marked : List LogEntry → Bool
-begins_marked [] = false
-begins_marked (Opening s ∷ entries) = false
-begins_marked (Accepted b ∷ entries) = false
-begins_marked (Mark ∷ entries) = true
-
-batches_told : List LogEntry → List MarkedBatch
-batches_told [] = []
-batches_told (Opening s ∷ entries) = batches_told entries
-batches_told (Accepted b ∷ entries) = (b, begins_marked entries) ∷ batches_told entries
-batches_told (Mark ∷ entries) = batches_told entries
-
-told_back : (bs : List MarkedBatch) → batches_told (entries_in bs) ≡ bs
-unfolding batches_told begins_marked
-told_back [] = refl
-told_back ((b, true) ∷ bs) = ap (λ l. (b, true) ∷ l) (told_back bs)
-told_back ((b, false) ∷ []) = refl
-told_back ((b, false) ∷ (c, true) ∷ bs) = ap (λ l. (b, false) ∷ l) (told_back ((c, true) ∷ bs))
-told_back ((b, false) ∷ (c, false) ∷ bs) = ap (λ l. (b, false) ∷ l) (told_back ((c, false) ∷ bs))
-
-opening_told : ScenarioData → List LogEntry → ScenarioData
-opening_told s [] = s
-opening_told s (Opening o ∷ entries) = o
-opening_told s (Accepted b ∷ entries) = s
-opening_told s (Mark ∷ entries) = s
-
-log_told : ScenarioData → List LogEntry → Log
-log_told s entries = record { opening = opening_told s entries; batches = batches_told entries }
-
-log_back : (s : ScenarioData) (log : Log) → log_told s (entries_of log) ≡ log
-unfolding log_told opening_told batches_told entries_of
-log_back s log = ap (λ l. record { opening = log.opening; batches = l }) (told_back log.batches)
-
--- equal lists are of equal logs
-pub one_log : (a b : Log) → entries_of a ≡ entries_of b → a ≡ b
-one_log a b same = sym (log_back a.opening a) ∙ ap (log_told a.opening) same ∙ log_back a.opening b
+use Rattle.ltm_core.specs.Log.{Log, MarkedBatch, log_of, batches_of, version_now, settled_in, settled_of, edited_or, after_batch, after_batches, AreAccepted, HoldsAccepted, scenario_at, scenario_now, with_batch, marked, with_mark, LogLaws}
 
 -- ---- how many are accepted and settled
 pub version_batch : (log : Log) (b : List Edit) → version_now (with_batch log b) ≡ version_now log + 1
@@ -282,9 +219,6 @@ set_length bs ms new same made = ap length made ∙ (length-set ms (length ms - 
 
 pub logs_tell_all : LogLaws
 logs_tell_all = record {
-  one = one_log;
-  batch = batch_last;
-  mark = mark_last;
   version_batch = version_batch;
   version_mark = version_marked;
   settled_batch = settled_batch;

@@ -99,7 +99,7 @@ core_after_settle_at laws d log h made is at = core_told (record d { log = log; 
 
 pub came_settle : (d : CoreData) (log : Log) (h : List CoreEvent) → log ≡ with_mark d.log → version_of d.shown ≡ version_now d.log → h ≡ Settle d.commits ∷ d.history → CameBy d → CameBy (told_settle d log h)
 came_settle d log h made at more came =
-    subst (λ (z : Log). CameBy (told_settle d z h)) (sym made) (came_more d (after_settle d) (Settle d.commits) h (opening_marked d.log) more (settled_of_core d at) came)
+    subst (λ (z : Log). CameBy (told_settle d z h)) (sym made) (came_more d (after_settle d) (Settle d.commits) h refl more (settled_of_core d at) came)
 
 pub core_settles_at : RepairLaws → (d v : CoreData) (log : Log) (h : List CoreEvent) → d ≡ v → log ≡ with_mark d.log → IsCore d → version_of d.shown ≡ version_now d.log → h ≡ Settle d.commits ∷ d.history →
     SettlesAll v d.commits (told_settle d log h)

@@ -3,7 +3,9 @@ pub mod Log
 pub mod Settling
 pub mod Cores
 pub mod CoreAnswers
+pub mod Told
 pub mod Histories
+pub mod Telling
 pub mod Taking
 pub mod Laws
 pub mod Runs

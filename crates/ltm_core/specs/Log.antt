@@ -6,8 +6,6 @@ use Rattle.ltm_scenario.specs.declared.edit.Edit.{Edit}
 use Rattle.ltm_scenario.specs.declared.edit.EditFault.{EditFault}
 use Rattle.ltm_scenario.specs.Data.{ScenarioData}
 use Rattle.ltm_scenario.specs.Edits.{edited_all}
-use Rattle.ltm_core.specs.declared.entry.LogEntry.{LogEntry}
-use Rattle.ltm_core.specs.declared.entry.LogEntry.TheVariants.{Opening, Accepted, Mark}
 
 -- a batch, and whether a mark stands after it
 abbrev pub MarkedBatch : Type 0
@@ -24,15 +22,6 @@ log_of opening batches marks = record { opening = opening; batches = zip batches
 -- the accepted batches
 unfoldable pub batches_of : Log → List (List Edit)
 batches_of log = map (λ b. b.0) log.batches
-
--- ---- the log as a list: the opening, the batches and the marks
-abbrev pub entries_in : List MarkedBatch → List LogEntry
-entries_in [] = []
-entries_in ((batch, true) ∷ batches) = Accepted batch ∷ Mark ∷ entries_in batches
-entries_in ((batch, false) ∷ batches) = Accepted batch ∷ entries_in batches
-
-unfoldable pub entries_of : Log → List LogEntry
-entries_of log = Opening log.opening ∷ entries_in log.batches
 
 -- ---- how many batches were accepted, and how many settled
 unfoldable pub version_now : Log → ℕ
@@ -91,13 +80,8 @@ marked (batch ∷ next ∷ batches) = batch ∷ marked (next ∷ batches)
 unfoldable pub with_mark : Log → Log
 with_mark log = record log { batches = marked log.batches }
 
--- ---- what a list tells of its log, and what a batch and a mark leave
+-- ---- what a batch and a mark leave
 pub record LogLaws : Type 0 where
-  -- equal lists are of equal logs
-  pub one : (a b : Log) → entries_of a ≡ entries_of b → a ≡ b
-  -- the list grows at its end: by a batch, and by a mark where none stands there
-  pub batch : (log : Log) (batch : List Edit) → entries_of (with_batch log batch) ≡ entries_of log ++ Accepted batch ∷ []
-  pub mark : (log : Log) → (rest : List LogEntry) × (entries_of (with_mark log) ≡ entries_of log ++ rest)
   -- a batch is one more and settles nothing; after a mark all are settled
   pub version_batch : (log : Log) (batch : List Edit) → version_now (with_batch log batch) ≡ version_now log + 1
   pub version_mark : (log : Log) → version_now (with_mark log) ≡ version_now log

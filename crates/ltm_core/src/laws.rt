@@ -3,6 +3,7 @@ ghost use Rattle.ltm_core.specs.Laws.{RepairLaws, RunLaws};
 ghost use Rattle.ltm_core.specs.Log.{LogLaws};
 ghost use Rattle.ltm_core.specs.Runs.{CallsAreEvents, HoldsOfRuns};
 ghost use Rattle.ltm_core.specs.Settling.{SettleCountsAreExact};
+ghost use Rattle.ltm_core.specs.Telling.{ListLaws};
 
 use ltm_repair::{
     answers_are_events, batches_wake_touched, claims_are_undone, claims_balance,
@@ -59,9 +60,15 @@ pub fn runs_of_cores()
     run_laws();
 }
 
-/// The list that a core tells is that of one log, and grows at its end.
+/// What a batch and a mark leave of a log.
 pub fn logs_tell_all()
     ensures { LogLaws }
+{}
+
+/// The list that a core tells is that of its log and of the settles that it has counted; an editor's calls put an entry at its
+/// end, and no other call changes it.
+pub fn lists_tell_all()
+    ensures { ListLaws }
 {}
 
 /// With no batch since the last settle count the next one is 0, and with one batch it is how many pairs differ.

@@ -19,6 +19,8 @@ mod the_core;
 pub use answers::{Claimed, Committed, Published, Recomputed};
 pub use claim::{Claim, Done};
 pub use entry::LogEntry;
-pub use laws::{calls_are_events, logs_tell_all, runs_of_cores, settle_counts_are_exact};
+pub use laws::{
+    calls_are_events, lists_tell_all, logs_tell_all, runs_of_cores, settle_counts_are_exact,
+};
 pub use scratch::Scratch;
 pub use the_core::Core;

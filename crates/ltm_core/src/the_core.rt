@@ -85,12 +85,12 @@ impl Model for Core {
 }
 
 impl Told for Core {
-    ghost use Rattle.ltm_core.specs.Log.{entries_of};
+    ghost use Rattle.ltm_core.specs.Told.{told_of};
     ghost use Rattle.ltm_flows.specs.Shown.{version_of};
 
     type Entry = crate::entry::LogEntry;
 
-    ghost entries = { λ c. entries_of c.log };
+    ghost entries = { told_of };
 
     ghost number = { λ c. version_of c.shown };
 }

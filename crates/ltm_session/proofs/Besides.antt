@@ -68,7 +68,7 @@ finished laws s (Err fault.NoMemory) text t is none = absurd none
 
 line_beside : (laws : LogLaws) (s : Analysts) (line text : List ℕ) (t : Analysts) → IsFinished s → AnswersLine AnswersAlone s line text t → AnswersLine AnswersBeside s line text t × IsFinished t
 line_beside laws s line text t is a = (
-  (s, record { log = refl; later = omega arith; finished = is }, count_beside s (reading line) text t a),
+  (s, record { log = refl; settles = refl; later = omega arith; finished = is }, count_beside s (reading line) text t a),
   finished laws s (reading line) text t is a,
 )
 
@@ -80,5 +80,5 @@ lines_beside laws s (line ∷ lines) output t is (u, text, rest, first, others, 
 
 pub alone_is_a_session_holds : LogLaws → AloneIsASession
 alone_is_a_session_holds laws s script output (t, a) =
-    let none : 0 ≤ version_now (opening_state s).log = omega arith in
-    (t, lines_beside laws (opening_state s) (lines_of script) output t none a)
+    let none : 0 ≤ version_now (opening_state s 0).log = omega arith in
+    (t, lines_beside laws (opening_state s 0) (lines_of script) output t none a)

@@ -7,7 +7,7 @@ use Rattle.ltm_core.specs.Cores.{CoreData}
 use Rattle.ltm_core.specs.CoreAnswers.{AcceptsBatch, LooksAs, with_event}
 use Rattle.ltm_core.specs.Runs.{HoldsOfRuns, with_events}
 use Rattle.ltm_workers.specs.Draining.{Works}
-use Rattle.ltm_session.specs.Settles.{settle_in, settles_of}
+use Rattle.ltm_core.specs.Told.{settle_in, settles_of}
 
 one_more : (x : CoreEvent) (h : List CoreEvent) → in_all settle_in (with_event x h) ≡ settle_in x + in_all settle_in h
 one_more Look h = refl

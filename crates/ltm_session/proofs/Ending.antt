@@ -3,7 +3,6 @@ use Rattle.std.proofs.Common.{ℕ, suc, ◌≡◌, ◌+◌, ◌<◌, ◌≤◌, 
 use Rattle.std.proofs.lemmas.List.Elements.{All-head, All-tail}
 use Rattle.std.proofs.lemmas.Bool.{lt-leb, le-leb, lt-ltb, le-ltb}
 use Rattle.std.specs.Prelude.{All, Option, Some}
-use Rattle.ltm_scenario.specs.Data.{ScenarioData}
 use Rattle.ltm_session.specs.declared.ends.SessionEnd.{SessionEnd}
 use Rattle.ltm_session.specs.declared.ends.SessionEnd.TheVariants.{Ended, ReadFault, WriteFault, LineTooLong, TooManyCommands, NoMemory}
 use Rattle.ltm_session.specs.Analysts.{Analysts}
@@ -34,7 +33,7 @@ ends_there WriteFault n left e a b c = absurd (b refl)
 ends_there NoMemory n left e a b c = absurd (c refl)
 
 -- where nothing failed, the session ended as its script says
-pub one_end : (answers : Answering) (s : ScenarioData) (script output : List ℕ) (left : Option (List ℕ)) (end : SessionEnd) (t : Analysts) → IsSession answers s (Some script) left end output t
+pub one_end : (answers : Answering) (s : Analysts) (script output : List ℕ) (left : Option (List ℕ)) (end : SessionEnd) (t : Analysts) → IsSession answers s (Some script) left end output t
     → (end ≡ ReadFault → ⊥) → (end ≡ WriteFault → ⊥) → (end ≡ NoMemory → ⊥) → end_of script ≡ end
 one_end answers s script output left end t so a b c =
     let (rest, cut, ends) = so.ends in
@@ -43,7 +42,7 @@ one_end answers s script output left end t so a b c =
     ap (λ l. end_from 0 l) cut ∙ through 0 so.answered rest so.fit (omega (arith, few)) ∙ ap (λ n. end_from n rest) here
     ∙ ends_there end (length so.answered) rest ends a b c
 
-pub ends_as_told : (answers : Answering) (s : ScenarioData) (told left : Option (List ℕ)) (output : List ℕ) (end : SessionEnd) (t : Analysts) → IsSession answers s told left end output t
+pub ends_as_told : (answers : Answering) (s : Analysts) (told left : Option (List ℕ)) (output : List ℕ) (end : SessionEnd) (t : Analysts) → IsSession answers s told left end output t
     → (script : List ℕ) → told ≡ Some script → (end ≡ ReadFault → ⊥) → (end ≡ WriteFault → ⊥) → (end ≡ NoMemory → ⊥) → end ≡ end_of script
 ends_as_told answers s told left output end t so script is a b c =
     sym (one_end answers s script output left end t (subst (λ x. IsSession answers s x left end output t) is so) a b c)

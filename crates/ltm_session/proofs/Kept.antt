@@ -91,19 +91,19 @@ promised s past u (first ∷ lines) output t g all (v, text, rest, (w, later, an
     (x ∷ h.0, ap (λ l. first ∷ l) h.1, ap (λ o. text ++ o) h.2 ∙ sym whole, kept_more s past x h.0 kept h.3)
 
 -- the answers to these lines, beside any number of workers, keep the promise
-keeps_promise : (s : ScenarioData) (lines : List (List ℕ)) (output : List ℕ) (t : Analysts) → AnswersLines AnswersBeside (opening_state s) lines output t → KeepsPromise s lines output
-keeps_promise s lines output t runs =
-    let h = promised s [] (opening_state s) lines output t (begins s) (All-nil (λ (y : Exchange). y.shown ≤ 0)) runs in
+keeps_promise : (s : ScenarioData) (settles : ℕ) (lines : List (List ℕ)) (output : List ℕ) (t : Analysts) → AnswersLines AnswersBeside (opening_state s settles) lines output t → KeepsPromise s lines output
+keeps_promise s settles lines output t runs =
+    let h = promised s [] (opening_state s settles) lines output t (begins s settles) (All-nil (λ (y : Exchange). y.shown ≤ 0)) runs in
     record { exchanges = h.0; lines_are = h.1; output_is = h.2; kept = h.3 }
 
 -- and so without workers
-keeps_alone : (laws : LogLaws) (s : ScenarioData) (lines : List (List ℕ)) (output : List ℕ) (t : Analysts) → AnswersLines AnswersAlone (opening_state s) lines output t → KeepsPromise s lines output
-keeps_alone laws s lines output t runs = keeps_promise s lines output t (lines_beside laws (opening_state s) lines output t (omega arith) runs)
+keeps_alone : (laws : LogLaws) (s : ScenarioData) (settles : ℕ) (lines : List (List ℕ)) (output : List ℕ) (t : Analysts) → AnswersLines AnswersAlone (opening_state s settles) lines output t → KeepsPromise s lines output
+keeps_alone laws s settles lines output t runs = keeps_promise s settles lines output t (lines_beside laws (opening_state s settles) lines output t (omega arith) runs)
 
 pub outputs_keep : LogLaws → OutputsKeepThePromise
 outputs_keep laws = record {
-  beside = λ s script output is. keeps_promise s (lines_of script) output is.0 is.1;
-  alone = λ s script output is. keeps_alone laws s (lines_of script) output is.0 is.1;
+  beside = λ s script output is. keeps_promise s 0 (lines_of script) output is.0 is.1;
+  alone = λ s script output is. keeps_alone laws s 0 (lines_of script) output is.0 is.1;
 }
 
 -- ---- lines
@@ -206,6 +206,6 @@ front_keeps s told answered output n P k ends =
 
 pub fronts_keep : LogLaws → FrontsKeepThePromise
 fronts_keep laws = record {
-  beside = λ s told left end output t n so. front_keeps s told so.answered output n (EndsBefore end (length so.answered)) (keeps_promise s so.answered output t so.runs) so.ends;
-  alone = λ s told left end output t n so. front_keeps s told so.answered output n (EndsBefore end (length so.answered)) (keeps_alone laws s so.answered output t so.runs) so.ends;
+  beside = λ s settles told left end output t n so. front_keeps s told so.answered output n (EndsBefore end (length so.answered)) (keeps_promise s settles so.answered output t so.runs) so.ends;
+  alone = λ s settles told left end output t n so. front_keeps s told so.answered output n (EndsBefore end (length so.answered)) (keeps_alone laws s settles so.answered output t so.runs) so.ends;
 }

@@ -1,5 +1,6 @@
 mod Reported
 mod Settled
+mod Each
 pub mod Counted
 pub mod Opening
 pub mod Came

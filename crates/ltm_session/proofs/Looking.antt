@@ -1,6 +1,9 @@
 -- A core that looks as before, and one after a batch, for the analysts' machine.
-use Rattle.std.proofs.Common.{◌≡◌, List, refl, ap, sym, subst, ◌∙◌}
+use mathlib.Core.List.{IsPrefix}
+use Rattle.std.proofs.Common.{◌≡◌, List, [], ◌∷◌, refl, ap, sym, subst, ◌∙◌}
+use Rattle.std.proofs.lemmas.List.{append-nil}
 use Rattle.ltm_flows.specs.Shown.{version_of, SameLoading}
+use Rattle.ltm_repair.specs.Events.{Stay}
 use Rattle.ltm_flows.specs.declared.loading.Loading.{Loading}
 use Rattle.ltm_scenario.specs.declared.edit.Edit.{Edit}
 use Rattle.ltm_repair.specs.Answers.{IsNoneClaimed}
@@ -8,8 +11,13 @@ use Rattle.ltm_repair.specs.State.{RepairState, now}
 use Rattle.ltm_core.specs.Log.{Log, LogLaws, with_batch, settled_of}
 use Rattle.ltm_core.specs.Cores.{CoreData, repair_of, IsNoneOut}
 use Rattle.ltm_core.specs.CoreAnswers.{AcceptsBatch, LooksAs}
+use Rattle.ltm_core.specs.declared.entry.LogEntry.{LogEntry}
+use Rattle.ltm_core.specs.declared.entry.LogEntry.TheVariants.{Accepted}
+use Rattle.ltm_core.specs.Told.{settles_of, told_of}
+use Rattle.ltm_core.specs.Telling.{ListLaws}
 use Rattle.ltm_session.specs.Analysts.{state_of}
 use Rattle.ltm_session.specs.Ready.{AwaitsLine}
+use Rattle.ltm_session.proofs.Counted.{batch_settles_none, looks_settle_none}
 
 same_loading : (l : Loading) → SameLoading l l
 same_loading l = record {
@@ -29,8 +37,9 @@ looks_refl d = record { log = refl; scenario = refl; commits = refl; stopped = r
 
 pub looks_state : (old new : CoreData) → LooksAs old new → state_of new ≡ state_of old
 looks_state old new is =
-    ap (λ (l : Log). record { log = l; shown = version_of new.shown }) is.log
-    ∙ ap (λ v. record { log = old.log; shown = v }) is.shown.version
+    ap (λ (l : Log). record { log = l; shown = version_of new.shown; settles = settles_of new }) is.log
+    ∙ ap (λ v. record { log = old.log; shown = v; settles = settles_of new }) is.shown.version
+    ∙ ap (λ n. record { log = old.log; shown = version_of old.shown; settles = n }) (looks_settle_none old new is)
 
 none_so : (old new : CoreData) → repair_of new ≡ repair_of old → IsNoneOut old → IsNoneOut new
 unfolding IsNoneOut
@@ -45,8 +54,9 @@ looks_awaits old new is awaits = record {
 
 pub batch_state : (old new : CoreData) (batch : List Edit) → AcceptsBatch old batch new → state_of new ≡ record (state_of old) { log = with_batch old.log batch }
 batch_state old new batch is =
-    ap (λ (l : Log). record { log = l; shown = version_of new.shown }) (ap (λ (d : CoreData). d.log) is.keeps)
-    ∙ ap (λ v. record { log = with_batch old.log batch; shown = v }) is.shown.version
+    ap (λ (l : Log). record { log = l; shown = version_of new.shown; settles = settles_of new }) (ap (λ (d : CoreData). d.log) is.keeps)
+    ∙ ap (λ v. record { log = with_batch old.log batch; shown = v; settles = settles_of new }) is.shown.version
+    ∙ ap (λ n. record { log = with_batch old.log batch; shown = version_of old.shown; settles = n }) (batch_settles_none old new batch is)
 
 pub batch_awaits : (old new : CoreData) (batch : List Edit) → LogLaws → AcceptsBatch old batch new → AwaitsLine old → AwaitsLine new
 batch_awaits old new batch laws is awaits = record {
@@ -54,3 +64,16 @@ batch_awaits old new batch laws is awaits = record {
   uncounted = ap (λ (d : CoreData). d.commits) is.keeps ∙ awaits.uncounted;
   shown = is.shown.version ∙ awaits.shown ∙ sym (laws.settled_batch old.log batch) ∙ sym (ap (λ (d : CoreData). settled_of d.log) is.keeps);
 }
+
+-- ---- the list that a core tells
+pub list_begins : (d : CoreData) → IsPrefix (told_of d) (told_of d)
+list_begins d = ([], append-nil (told_of d))
+
+pub looks_told : (old new : CoreData) → ListLaws → LooksAs old new → told_of new ≡ told_of old
+looks_told old new laws is = laws.stays old new Stay is.log is.history refl
+
+pub looks_grow : (old new : CoreData) → ListLaws → LooksAs old new → IsPrefix (told_of old) (told_of new)
+looks_grow old new laws is = subst (λ (l : List LogEntry). IsPrefix (told_of old) l) (sym (looks_told old new laws is)) (list_begins old)
+
+pub batch_grows : (old new : CoreData) (batch : List Edit) → ListLaws → AcceptsBatch old batch new → IsPrefix (told_of old) (told_of new)
+batch_grows old new batch laws is = (Accepted batch ∷ [], sym (laws.batch old new batch is))

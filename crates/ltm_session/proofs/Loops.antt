@@ -5,18 +5,17 @@ use Rattle.ltm_io.specs.Source.{prepended}
 use Rattle.ltm_io.specs.Script.{after_line}
 use Rattle.ltm_io.specs.Answers.{GivesLine}
 use Rattle.ltm_io.specs.Sink.{appended}
-use Rattle.ltm_scenario.specs.Data.{ScenarioData}
 use Rattle.ltm_session.specs.declared.ends.SessionEnd.{SessionEnd}
 use Rattle.ltm_session.specs.declared.ends.SessionEnd.TheVariants.{Ended, WriteFault, NoMemory}
-use Rattle.ltm_session.specs.Analysts.{Analysts, opening_state}
+use Rattle.ltm_session.specs.Analysts.{Analysts}
 use Rattle.ltm_session.specs.Session.{Answering, longest_line, most_lines}
 use Rattle.ltm_session.specs.Serving.{IsServing, EndsIfTold}
 use Rattle.ltm_session.specs.Answerers.{Knowing, Leads, AnswersBy, StopsBy, Serves}
 use Rattle.ltm_session.proofs.Progress.{nothing_ahead, serving_begins, serving_more, serving_ends, serving_stops, never_begun}
 
--- so many lines were read and answered, from each opening scenario that may have been there
+-- so many lines were read and answered, from each machine that may have been there
 pub record ServesSoFar (rule : Answering) (old new : Knowing) (told coming before after : Option (List ℕ)) (count : ℕ) : Type 0 where
-  pub serving : (o : ScenarioData) → old (opening_state o) → (t : Analysts) × IsServing rule o told coming before after count t × new t
+  pub serving : (o : Analysts) → old o → (t : Analysts) × IsServing rule o told coming before after count t × new t
   -- what was told of the script is told of what is coming
   pub stays : (script : List ℕ) → told ≡ Some script → (rest : List ℕ) × (coming ≡ Some rest)
 
@@ -25,7 +24,7 @@ coming_first taken told none = ap (λ (bytes : List ℕ). prepended bytes told) 
 
 pub serves_first : (rule : Answering) (knows : Knowing) (told coming written : Option (List ℕ)) → coming ≡ told → ServesSoFar rule knows knows told coming written written 0
 serves_first rule knows told coming written same = record {
-  serving = λ o may. (opening_state o, serving_begins rule o told coming written same, may);
+  serving = λ o may. (o, serving_begins rule o told coming written same, may);
   stays = λ script is. (script, same ∙ is);
 }
 
@@ -84,6 +83,6 @@ serves_stops rule old mid next told now new left w w1 w2 count line end so few r
 -- nothing was done
 pub serves_none : (rule : Answering) (knows : Knowing) (told left w : Option (List ℕ)) → Serves rule knows knows told left NoMemory w w
 serves_none rule knows told left w = record {
-  session = λ o may. let (output, session, wrote) = never_begun rule o told left w in (output, opening_state o, session, wrote, may);
+  session = λ o may. let (output, session, wrote) = never_begun rule o told left w in (output, o, session, wrote, may);
   read = λ script is ended. absurd (cc);
 }

@@ -3,8 +3,7 @@ use Rattle.std.proofs.Common.{◌≡◌, List, ℕ, refl, sym, subst}
 use Rattle.std.specs.Prelude.{Option, Result, Ok, Err, OnOk, IfErr}
 use Rattle.ltm_io.specs.Sink.{appended}
 use Rattle.ltm_session.specs.declared.ends.SessionEnd.{SessionEnd}
-use Rattle.ltm_scenario.specs.Data.{ScenarioData}
-use Rattle.ltm_session.specs.Analysts.{Analysts, opening_state}
+use Rattle.ltm_session.specs.Analysts.{Analysts}
 use Rattle.ltm_session.specs.Session.{Answering, AnswersLine, IsSession, Wrote}
 use Rattle.ltm_session.specs.Serving.{StopsAt}
 use Rattle.ltm_session.specs.Answerers.{Leads, AnswersBy, StopsBy, Serves}
@@ -31,7 +30,7 @@ whenever (Ok x) p = p
 whenever (Err e) p = tt
 
 -- a script was served, from a core that has accepted nothing
-pub served_one : (rule : Answering) (o : ScenarioData) (a b : Analysts) (told left : Option (List ℕ)) (end : SessionEnd) (old new : Option (List ℕ)) → a ≡ opening_state o
+pub served_one : (rule : Answering) (o a b : Analysts) (told left : Option (List ℕ)) (end : SessionEnd) (old new : Option (List ℕ)) → a ≡ o
     → Serves rule (λ s. s ≡ a) (λ s. s ≡ b) told left end old new
     → (output : List ℕ) × IsSession rule o told left end output b × Wrote end old new output
 served_one rule o a b told left end old new first served =

@@ -218,4 +218,4 @@ lines_once k s (line ∷ lines) x y t u (v, text, rest, first, others, whole) (w
     whole ∙ ap (λ z. z ++ rest) one ∙ ap (λ z. text_too ++ z) after ∙ sym whole_too
 
 pub one_output_holds : Known → OneOutput
-one_output_holds k s script x y (t, a) (u, b) = lines_once k (opening_state s) (lines_of script) x y t u a b
+one_output_holds k s script x y (t, a) (u, b) = lines_once k (opening_state s 0) (lines_of script) x y t u a b

@@ -6,7 +6,8 @@ use Rattle.ltm_repair.specs.Repair.{IsRepair}
 use Rattle.ltm_core.specs.Log.{Log, MarkedBatch, version_now, settled_of}
 use Rattle.ltm_core.specs.Cores.{CoreData, repair_of}
 use Rattle.ltm_core.specs.Runs.{HoldsOfCore}
-use Rattle.ltm_session.specs.Analysts.{state_of, opening_state}
+use Rattle.ltm_core.specs.Told.{settles_of}
+use Rattle.ltm_session.specs.Analysts.{state_of, opening_of}
 use Rattle.ltm_session.specs.Ready.{AwaitsLine}
 use Rattle.ltm_session.proofs.Settled.{rest_none_out}
 
@@ -42,8 +43,8 @@ log_first : (log : Log) → version_now log ≡ 0 → log ≡ record { opening =
 unfolding version_now
 log_first log none = ap (λ (b : List MarkedBatch). record { opening = log.opening; batches = b }) (no_batches log.batches none)
 
-pub opens : (d : CoreData) → HoldsOfCore d → version_now d.log ≡ 0 → state_of d ≡ opening_state d.log.opening
+pub opens : (d : CoreData) → HoldsOfCore d → version_now d.log ≡ 0 → state_of d ≡ opening_of d
 opens d holds none =
     let (settled, shown, commits) = core_first d holds none in
-    ap (λ (l : Log). record { log = l; shown = version_of d.shown }) (log_first d.log none)
-    ∙ ap (λ v. record { log = record { opening = d.log.opening; batches = [] }; shown = v }) shown
+    ap (λ (l : Log). record { log = l; shown = version_of d.shown; settles = settles_of d }) (log_first d.log none)
+    ∙ ap (λ v. record { log = record { opening = d.log.opening; batches = [] }; shown = v; settles = settles_of d }) shown

@@ -8,10 +8,9 @@ use Rattle.ltm_io.specs.Source.{prepended}
 use Rattle.ltm_io.specs.Script.{lines_of}
 use Rattle.ltm_io.specs.Answers.{GivesLine}
 use Rattle.ltm_io.specs.Sink.{appended, AppendsFront}
-use Rattle.ltm_scenario.specs.Data.{ScenarioData}
 use Rattle.ltm_session.specs.declared.ends.SessionEnd.{SessionEnd}
 use Rattle.ltm_session.specs.declared.ends.SessionEnd.TheVariants.{Ended, ReadFault, WriteFault, LineTooLong, TooManyCommands, NoMemory}
-use Rattle.ltm_session.specs.Analysts.{Analysts, opening_state}
+use Rattle.ltm_session.specs.Analysts.{Analysts}
 use Rattle.ltm_session.specs.Session.{Answering, AnswersLine, AnswersLines, EndsBefore, IsSession, Wrote, longest_line, most_lines}
 use Rattle.ltm_session.specs.Serving.{HasRead, IsServing, EndsIfTold, StopsAt}
 use Rattle.ltm_session.proofs.Came.{has_read_more, came_so}
@@ -45,7 +44,7 @@ nothing_more None = refl
 nothing_more (Some w) = ap Some (sym (append-nil w))
 
 -- a session begins
-pub serving_begins : (answers : Answering) (s : ScenarioData) (told coming written : Option (List ℕ)) → coming ≡ told → IsServing answers s told coming written written 0 (opening_state s)
+pub serving_begins : (answers : Answering) (s : Analysts) (told coming written : Option (List ℕ)) → coming ≡ told → IsServing answers s told coming written written 0 s
 serving_begins answers s told coming written same = record {
   answered = [];
   output = [];
@@ -61,7 +60,7 @@ appended_more None a b = refl
 appended_more (Some w) a b = ap Some (append_assoc w a b)
 
 -- a line was read, answered and its answer written
-pub serving_more : (answers : Answering) (s : ScenarioData) (told now new w w1 w2 : Option (List ℕ)) (count : ℕ) (t u : Analysts) (line text : List ℕ)
+pub serving_more : (answers : Answering) (s : Analysts) (told now new w w1 w2 : Option (List ℕ)) (count : ℕ) (t u : Analysts) (line text : List ℕ)
     → IsServing answers s told now w w1 count t → GivesLine now line new → length line ≤ longest_line
     → AnswersLine answers t line text u → w2 ≡ appended text w1 → IsServing answers s told new w w2 (count + 1) u
 serving_more answers s told now new w w1 w2 count t u line text so reads fits is wrote = record {
@@ -69,7 +68,7 @@ serving_more answers s told now new w w1 w2 count t u line text so reads fits is
   output = so.output ++ text;
   counted = length-append so.answered (line ∷ []) ∙ ap (λ n. n + 1) so.counted;
   fit = All-push (λ l. length l ≤ longest_line) so.answered line so.fit fits;
-  runs = one_more answers (opening_state s) so.answered so.output t line text u so.runs is;
+  runs = one_more answers s so.answered so.output t line text u so.runs is;
   read = read_more told now new so.answered line so.read reads;
   wrote = wrote ∙ ap (appended text) so.wrote ∙ appended_more w so.output text;
 }
@@ -94,7 +93,7 @@ wrote_all WriteFault old new output is = whole_front old new output is
 wrote_all NoMemory old new output is = whole_front old new output is
 
 -- the session ends where the script does, or where it can't be read
-pub serving_ends : (answers : Answering) (s : ScenarioData) (told now new w w1 : Option (List ℕ)) (count : ℕ) (t : Analysts) (end : SessionEnd)
+pub serving_ends : (answers : Answering) (s : Analysts) (told now new w w1 : Option (List ℕ)) (count : ℕ) (t : Analysts) (end : SessionEnd)
     → IsServing answers s told now w w1 count t → count ≤ most_lines → EndsIfTold end count now new
     → (output : List ℕ) × IsSession answers s told new end output t × Wrote end w w1 output
 serving_ends answers s told now new w w1 count t end so few ends = (
@@ -135,7 +134,7 @@ front_more old now new output text is (n, few, wrote) =
     )
 
 -- the session stops at a line
-pub serving_stops : (answers : Answering) (s : ScenarioData) (told now new left w w1 w2 : Option (List ℕ)) (count : ℕ) (t u : Analysts) (line : List ℕ) (end : SessionEnd)
+pub serving_stops : (answers : Answering) (s : Analysts) (told now new left w w1 w2 : Option (List ℕ)) (count : ℕ) (t u : Analysts) (line : List ℕ) (end : SessionEnd)
     → IsServing answers s told now w w1 count t → count < most_lines → GivesLine now line new → length line ≤ longest_line
     → StopsAt answers t line u end w1 w2
     → (output : List ℕ) × IsSession answers s told left end output u × Wrote end w w2 output
@@ -145,7 +144,7 @@ serving_stops answers s told now new left w w1 w2 count t u line end so few read
     answered = so.answered;
     few = subst (λ n. n ≤ most_lines) (sym so.counted) (omega arith);
     fit = so.fit;
-    runs = subst (λ v. AnswersLines answers (opening_state s) so.answered so.output v) (sym same) so.runs;
+    runs = subst (λ v. AnswersLines answers s so.answered so.output v) (sym same) so.runs;
     ends = left_over end is told now so.answered so.read;
     came = λ failed. absurd (no_fault_read end is failed);
   },
@@ -157,7 +156,7 @@ serving_stops answers s told now new left w w1 w2 count t u line end so few read
     answered = so.answered ++ line ∷ [];
     few = let long = length-append so.answered (line ∷ []) in let counted = so.counted in omega (arith, long, counted, few);
     fit = All-push (λ l. length l ≤ longest_line) so.answered line so.fit fits;
-    runs = one_more answers (opening_state s) so.answered so.output t line text u so.runs answered;
+    runs = one_more answers s so.answered so.output t line text u so.runs answered;
     ends = left_over end is told new (so.answered ++ line ∷ []) (read_more told now new so.answered line so.read reads);
     came = λ failed. absurd (no_fault_read end is failed);
   },
@@ -165,7 +164,7 @@ serving_stops answers s told now new left w w1 w2 count t u line end so few read
 )
 
 -- nothing was done
-pub never_begun : (answers : Answering) (s : ScenarioData) (told left w : Option (List ℕ)) → (output : List ℕ) × IsSession answers s told left NoMemory output (opening_state s) × Wrote NoMemory w w output
+pub never_begun : (answers : Answering) (s : Analysts) (told left w : Option (List ℕ)) → (output : List ℕ) × IsSession answers s told left NoMemory output s × Wrote NoMemory w w output
 never_begun answers s told left w = (
   [],
   record {
@@ -179,7 +178,7 @@ never_begun answers s told left w = (
   whole_front w w [] (nothing_more w),
 )
 
-pub never_begun_at : (answers : Answering) (s : ScenarioData) (told left w : Option (List ℕ)) (t : Analysts) → t ≡ opening_state s
+pub never_begun_at : (answers : Answering) (s : Analysts) (told left w : Option (List ℕ)) (t : Analysts) → t ≡ s
     → (output : List ℕ) × IsSession answers s told left NoMemory output t × Wrote NoMemory w w output
 never_begun_at answers s told left w t same =
     subst (λ (u : Analysts). (output : List ℕ) × IsSession answers s told left NoMemory output u × Wrote NoMemory w w output) (sym same) (never_begun answers s told left w)

@@ -204,6 +204,6 @@ meanwhile s now u w g l =
     }
 
 -- before the first line
-pub begins : (s : ScenarioData) → Agrees s at_first (opening_state s)
+pub begins : (s : ScenarioData) (settles : ℕ) → Agrees s at_first (opening_state s settles)
 unfolding batches_of
-begins s = record { opening = refl; batches = refl; finished = omega arith; fresh = λ _. refl }
+begins s settles = record { opening = refl; batches = refl; finished = omega arith; fresh = λ _. refl }

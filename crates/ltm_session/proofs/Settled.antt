@@ -8,10 +8,11 @@ use Rattle.ltm_core.specs.Settling.{IsSettleCount, IsExactCount, setting_at}
 use Rattle.ltm_core.specs.Cores.{CoreData, IsShownOf, IsResting, IsNoneOut}
 use Rattle.ltm_core.specs.CoreAnswers.{SettlesAll}
 use Rattle.ltm_core.specs.Runs.{HoldsOfCore}
+use Rattle.ltm_core.specs.Told.{settles_of}
 use Rattle.ltm_session.specs.Analysts.{state_of, settled}
 use Rattle.ltm_session.specs.Answers.{IsScenarioOf, CountsAlone}
 use Rattle.ltm_session.specs.Ready.{AwaitsLine}
-use Rattle.ltm_session.specs.Settles.{settles_of, IsRepaired, IsShowing, SettlesAlone}
+use Rattle.ltm_session.specs.Settles.{IsRepaired, IsShowing, SettlesAlone}
 
 -- where no pair is active or claimed, none is claimed
 pub rest_none_out : (d : CoreData) → IsResting d → IsNoneOut d
@@ -66,10 +67,16 @@ settled_alone d r p e n so =
       exact = settled_exactly d r p e n so;
     }
 
+settled_once : (d r p e : CoreData) (n : ℕ) → SettlesCore d r p e n → settles_of e ≡ settles_of d + 1
+settled_once d r p e n so =
+    let one : settles_of e ≡ 1 + settles_of p = ap (λ (x : CoreData). settles_of x) so.counted.keeps in
+    let a = so.showing.settles in let b = so.repaired.settles in omega (one, a, b, arith)
+
 settled_state : (d r p e : CoreData) (n : ℕ) → SettlesCore d r p e n → state_of e ≡ settled (state_of d)
 settled_state d r p e n so =
-    ap (λ (l : Log). record { log = l; shown = version_of e.shown }) (log_settled d r p e n so)
-    ∙ ap (λ v. record { log = with_mark d.log; shown = v }) (shown_settled d r p e n so)
+    ap (λ (l : Log). record { log = l; shown = version_of e.shown; settles = settles_of e }) (log_settled d r p e n so)
+    ∙ ap (λ v. record { log = with_mark d.log; shown = v; settles = settles_of e }) (shown_settled d r p e n so)
+    ∙ ap (λ k. record { log = with_mark d.log; shown = version_now d.log; settles = k }) (settled_once d r p e n so)
 
 settled_rests : (laws : LogLaws) (d r p e : CoreData) (n : ℕ) → SettlesCore d r p e n → IsResting e
 settled_rests laws d r p e n so =
@@ -84,16 +91,10 @@ settled_awaits laws d r p e n so = record {
   shown = shown_settled d r p e n so ∙ sym (laws.settled_mark d.log) ∙ sym (ap settled_of (log_settled d r p e n so));
 }
 
-settled_once : (d r p e : CoreData) (n : ℕ) → SettlesCore d r p e n → settles_of e ≡ settles_of d + 1
-settled_once d r p e n so =
-    let one : settles_of e ≡ 1 + settles_of p = ap (λ (x : CoreData). settles_of x) so.counted.keeps in
-    let a = so.showing.settles in let b = so.repaired.settles in omega (one, a, b, arith)
-
 pub settles_alone : (laws : LogLaws) (d r p e : CoreData) (n : ℕ) → SettlesCore d r p e n → SettlesAlone d n e
 settles_alone laws d r p e n so = record {
   state = settled_state d r p e n so;
   count = settled_alone d r p e n so;
   rest = settled_rests laws d r p e n so;
   awaits = settled_awaits laws d r p e n so;
-  settles = settled_once d r p e n so;
 }

@@ -1,11 +1,10 @@
 -- What whoever answers lines does to what may be known of the machine.
 use Rattle.std.specs.Prelude.{◌≡◌, ◌⊎◌, ℕ, List, [], Option, Some, None}
 use Rattle.ltm_io.specs.Lines.{max_of, taken_by, kept_by}
-use Rattle.ltm_scenario.specs.Data.{ScenarioData}
 use Rattle.ltm_session.specs.declared.ends.SessionEnd.{SessionEnd}
 use Rattle.ltm_session.specs.declared.ends.SessionEnd.TheVariants.{Ended, WriteFault, NoMemory}
 use Rattle.ltm_session.specs.declared.script.Script.{Script}
-use Rattle.ltm_session.specs.Analysts.{Analysts, opening_state}
+use Rattle.ltm_session.specs.Analysts.{Analysts}
 use Rattle.ltm_session.specs.Session.{Answering, AnswersLine, IsSession, Wrote, longest_line}
 use Rattle.ltm_session.specs.Serving.{StopsAt}
 
@@ -34,8 +33,8 @@ pub record StopsBy (rule : Answering) (old new : Knowing) (line : List ℕ) (end
   pub which : (end ≡ WriteFault) ⊎ (end ≡ NoMemory)
   pub leads : Leads old new (λ s t. StopsAt rule s line t end before after)
 
--- a script was served, from each opening scenario that may have been there; with Ended it was read to its end
+-- a script was served, from each machine that may have been there; with Ended it was read to its end
 pub record Serves (rule : Answering) (old new : Knowing) (told left : Option (List ℕ)) (end : SessionEnd) (before after : Option (List ℕ)) : Type 0 where
-  pub session : (o : ScenarioData) → old (opening_state o) →
-      (output : List ℕ) × (t : Analysts) × IsSession rule o told left end output t × Wrote end before after output × new t
+  pub session : (s : Analysts) → old s →
+      (output : List ℕ) × (t : Analysts) × IsSession rule s told left end output t × Wrote end before after output × new t
   pub read : (script : List ℕ) → told ≡ Some script → end ≡ Ended → left ≡ Some []

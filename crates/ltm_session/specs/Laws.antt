@@ -1,12 +1,16 @@
 -- What holds of the outputs of sessions.
-use Rattle.std.specs.Prelude.{◌≡◌, ℕ, List, take, All, Option}
+use Rattle.std.specs.Prelude.{◌≡◌, ℕ, ◌+◌, List, [], ◌∷◌, take, All, Option, Result, Ok}
 use Rattle.std.specs.List.{concat}
 use Rattle.ltm_io.specs.Script.{lines_of}
 use Rattle.ltm_scenario.specs.Data.{ScenarioData}
+use Rattle.ltm_script.specs.Line.{reading}
+use Rattle.ltm_script.specs.declared.command.Command.{Command}
+use Rattle.ltm_script.specs.declared.command.Command.TheVariants as command
+use Rattle.ltm_script.specs.declared.command.CommandFault.{CommandFault}
 use Rattle.ltm_session.specs.declared.ends.SessionEnd.{SessionEnd}
-use Rattle.ltm_session.specs.Analysts.{Analysts}
+use Rattle.ltm_session.specs.Analysts.{Analysts, opening_state}
 use Rattle.ltm_session.specs.Answers.{AnswersAlone, AnswersBeside}
-use Rattle.ltm_session.specs.Session.{Answering, IsSession, IsSessionOutput, IsOutputAlone}
+use Rattle.ltm_session.specs.Session.{Answering, AnswersLines, IsSession, IsSessionOutput, IsOutputAlone}
 use Rattle.ltm_session.specs.OneLine.{IsOneLine, texts_of}
 use Rattle.ltm_session.specs.Promise.{texts_in, KeepsPromise, KeepsPromiseSoFar}
 
@@ -19,6 +23,25 @@ AloneIsASession = (s : ScenarioData) (script output : List ℕ)
 abbrev pub OneOutput : Type 0
 OneOutput = (s : ScenarioData) (script a b : List ℕ) → IsOutputAlone s script a → IsOutputAlone s script b → a ≡ b
 
+-- ---- settles
+-- how many of these lines settle
+abbrev pub settle_said : Result Command CommandFault → ℕ
+settle_said (Ok command.Settle) = 1
+settle_said other = 0
+
+abbrev pub settling : List (List ℕ) → ℕ
+settling [] = 0
+settling (line ∷ lines) = settle_said (reading line) + settling lines
+
+-- lines that were answered were counted: one settle more for each of them that settles
+abbrev pub CountsEach : Answering → Type 0
+CountsEach answers = (s t : Analysts) (lines : List (List ℕ)) (output : List ℕ)
+    → AnswersLines answers s lines output t → t.settles ≡ s.settles + settling lines
+
+pub record LinesSettleOnce : Type 0 where
+  pub beside : CountsEach AnswersBeside
+  pub alone : CountsEach AnswersAlone
+
 -- ---- the promise
 -- whole outputs keep it: those of sessions beside any number of workers, and those without
 pub record OutputsKeepThePromise : Type 0 where
@@ -30,8 +53,8 @@ pub record OutputsKeepThePromise : Type 0 where
 -- whatever front was written of what a session by a rule answered keeps it so far, however the session ended
 abbrev pub FrontsKeepIt : Answering → Type 0
 FrontsKeepIt answers =
-    (s : ScenarioData) (told left : Option (List ℕ)) (end : SessionEnd) (output : List ℕ) (t : Analysts) (n : ℕ)
-    → IsSession answers s told left end output t → KeepsPromiseSoFar s told (take n output)
+    (s : ScenarioData) (settles : ℕ) (told left : Option (List ℕ)) (end : SessionEnd) (output : List ℕ) (t : Analysts) (n : ℕ)
+    → IsSession answers (opening_state s settles) told left end output t → KeepsPromiseSoFar s told (take n output)
 
 pub record FrontsKeepThePromise : Type 0 where
   pub beside : FrontsKeepIt AnswersBeside

@@ -2,10 +2,9 @@
 use Rattle.std.specs.Prelude.{◌≡◌, ◌⊎◌, ℕ, ◌≤◌, List, [], ◌++◌, length, All, Option, None, Some}
 use Rattle.ltm_io.specs.Sink.{appended, AppendsFront}
 use Rattle.ltm_io.specs.Script.{lines_of, whole_lines}
-use Rattle.ltm_scenario.specs.Data.{ScenarioData}
 use Rattle.ltm_session.specs.declared.ends.SessionEnd.{SessionEnd}
 use Rattle.ltm_session.specs.declared.ends.SessionEnd.TheVariants.{Ended, ReadFault, WriteFault, NoMemory}
-use Rattle.ltm_session.specs.Analysts.{Analysts, opening_state}
+use Rattle.ltm_session.specs.Analysts.{Analysts}
 use Rattle.ltm_session.specs.Session.{Answering, AnswersLine, AnswersLines, EndsBefore, CameWhole, longest_line}
 
 -- these lines come whole before whatever comes behind
@@ -19,12 +18,12 @@ HasRead (Some script) coming answered = (front rest : List ℕ) × (script ≡ f
     × (lines_of script ≡ answered ++ lines_of rest) × (Begins front answered ⊎ (rest ≡ []))
 
 -- so many lines were read and answered, what is written is their answers, and the machine stands so
-pub record IsServing (answers : Answering) (s : ScenarioData) (told coming written new : Option (List ℕ)) (count : ℕ) (t : Analysts) : Type 0 where
+pub record IsServing (answers : Answering) (s : Analysts) (told coming written new : Option (List ℕ)) (count : ℕ) (t : Analysts) : Type 0 where
   pub answered : List (List ℕ)
   pub output : List ℕ
   pub counted : length answered ≡ count
   pub fit : All (λ line. length line ≤ longest_line) answered
-  pub runs : AnswersLines answers (opening_state s) answered output t
+  pub runs : AnswersLines answers s answered output t
   pub read : HasRead told coming answered
   pub wrote : new ≡ appended output written
 

@@ -27,11 +27,11 @@ AnswersLines answers s (line ∷ lines) output t = (u : Analysts) × (text : Lis
 
 -- an output of a session of this scenario with this script, beside any number of workers
 abbrev pub IsSessionOutput : ScenarioData → List ℕ → List ℕ → Type 0
-IsSessionOutput s script output = (t : Analysts) × AnswersLines AnswersBeside (opening_state s) (lines_of script) output t
+IsSessionOutput s script output = (t : Analysts) × AnswersLines AnswersBeside (opening_state s 0) (lines_of script) output t
 
 -- the same without workers
 abbrev pub IsOutputAlone : ScenarioData → List ℕ → List ℕ → Type 0
-IsOutputAlone s script output = (t : Analysts) × AnswersLines AnswersAlone (opening_state s) (lines_of script) output t
+IsOutputAlone s script output = (t : Analysts) × AnswersLines AnswersAlone (opening_state s 0) (lines_of script) output t
 
 -- ---- how a session ends
 abbrev pub longest_line : ℕ
@@ -72,12 +72,13 @@ abbrev pub CameWhole : List ℕ → Option (List ℕ) → List (List ℕ) → Ty
 CameWhole script left lines = (came rest : List ℕ) × (script ≡ came ++ rest) × (left ≡ Some rest)
     × ((lines ≡ whole_lines came) ⊎ ((rest ≡ []) × (lines ≡ lines_of script)))
 
--- a session of a scenario answered the first lines of a script and ended so; where a read failed, those that had come whole
-pub record IsSession (answers : Answering) (s : ScenarioData) (told left : Option (List ℕ)) (end : SessionEnd) (output : List ℕ) (t : Analysts) : Type 0 where
+-- a session that began with this machine answered the first lines of a script and ended so; where a read failed, those that
+-- had come whole
+pub record IsSession (answers : Answering) (s : Analysts) (told left : Option (List ℕ)) (end : SessionEnd) (output : List ℕ) (t : Analysts) : Type 0 where
   pub answered : List (List ℕ)
   pub few : length answered ≤ most_lines
   pub fit : All (λ line. length line ≤ longest_line) answered
-  pub runs : AnswersLines answers (opening_state s) answered output t
+  pub runs : AnswersLines answers s answered output t
   pub ends : IfSome told (λ script. (left : List (List ℕ)) × (lines_of script ≡ answered ++ left) × EndsBefore end (length answered) left)
   pub came : end ≡ ReadFault → IfSome told (λ script. CameWhole script left answered)
 

@@ -1,22 +1,13 @@
 -- A settle without workers, and its steps.
-use Rattle.std.specs.Prelude.{◌≡◌, ℕ, ◌+◌}
+use Rattle.std.specs.Prelude.{◌≡◌, ℕ}
 use Rattle.ltm_flows.specs.Shown.{version_of}
-use Rattle.ltm_repair.specs.Events.{CoreEvent, Settle}
-use Rattle.ltm_repair.specs.Runs.{in_all}
 use Rattle.ltm_core.specs.Log.{version_now}
 use Rattle.ltm_core.specs.Cores.{CoreData, IsResting}
+use Rattle.ltm_core.specs.Told.{settles_of}
 use Rattle.ltm_workers.specs.Draining.{CountsDifferences}
 use Rattle.ltm_session.specs.Analysts.{state_of, settled}
 use Rattle.ltm_session.specs.Answers.{CountsAlone}
 use Rattle.ltm_session.specs.Ready.{AwaitsLine}
-
--- how many settles a core has counted since it began
-abbrev pub settle_in : CoreEvent → ℕ
-settle_in (Settle count) = 1
-settle_in other = 0
-
-abbrev pub settles_of : CoreData → ℕ
-settles_of d = in_all settle_in d.history
 
 -- all pairs are worked on, and the commits are the pairs that differ from what was settled last
 pub record IsRepaired (old new : CoreData) : Type 0 where
@@ -33,10 +24,9 @@ pub record IsShowing (old new : CoreData) : Type 0 where
   pub commits : new.commits ≡ old.commits
   pub settles : settles_of new ≡ settles_of old
 
--- a settle without workers: all batches are shown and settled, and the count is exact; the history has one settle more
+-- a settle without workers: all batches are shown and settled, the count is exact, and one settle more was counted
 pub record SettlesAlone (old : CoreData) (n : ℕ) (new : CoreData) : Type 0 where
   pub state : state_of new ≡ settled (state_of old)
   pub count : CountsAlone old.log n
   pub rest : IsResting new
   pub awaits : AwaitsLine new
-  pub settles : settles_of new ≡ settles_of old + 1

@@ -7,7 +7,7 @@ ghost use Rattle.ltm_session.specs.Analysts.{state_of};
 ghost use Rattle.ltm_session.specs.Answers.{CountsAlone, AnswersAlone, Settles};
 ghost use Rattle.ltm_session.specs.Ready.{AwaitsLine};
 ghost use Rattle.ltm_session.specs.Session.{AnswersLine};
-ghost use Rattle.ltm_session.specs.Settles.{settles_of};
+ghost use Rattle.ltm_core.specs.Told.{settles_of};
 
 use crate::replies::{reply, reply_fault};
 use crate::settling::settle;

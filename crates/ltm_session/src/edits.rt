@@ -1,5 +1,6 @@
 //! The answer to an edit.
 ghost use Rattle.std.specs.Prelude.{◌≡◌, ◌≢◌, ◌++◌, ℕ, List, Ok, Err, IfErr, OnOk, OnErr};
+ghost use mathlib.Core.List.{IsPrefix};
 ghost use Rattle.ltm_scenario.specs.Edits.{edited_all, HaveAmounts};
 ghost use Rattle.ltm_script.specs.declared.command.Command.TheVariants as command;
 ghost use Rattle.ltm_core.specs.Log.{scenario_now};
@@ -8,9 +9,9 @@ ghost use Rattle.ltm_report.specs.EditFaults.{edit_fault_line};
 ghost use Rattle.ltm_session.specs.Analysts.{state_of};
 ghost use Rattle.ltm_session.specs.Answers.{Replies};
 ghost use Rattle.ltm_session.specs.Ready.{AwaitsLine};
-ghost use Rattle.ltm_session.specs.Settles.{settles_of};
+ghost use Rattle.ltm_core.specs.Told.{settles_of, told_of};
 
-use ltm_core::{Core, logs_tell_all};
+use ltm_core::{Core, lists_tell_all, logs_tell_all};
 use ltm_report::{accepted_text, edit_fault_text};
 use ltm_scenario::{Batch, EditCause, EditFault};
 use ltm_units::NoMemory;
@@ -44,7 +45,7 @@ fn push_refusal(alloc: Global, fault: EditFault, into: &mut Vec<u8>) -> Result<(
 
 /// Makes the edits of a batch, or refuses it, and appends which. The text of an accepted batch is written before it is
 /// accepted, so that nothing can fail after.
-#[tactic(auto, using(crate::proofs::Looking::looks_refl, crate::proofs::Looking::looks_state, crate::proofs::Looking::looks_awaits, crate::proofs::Looking::batch_state, crate::proofs::Looking::batch_awaits, crate::proofs::Counted::batch_settles_none, crate::proofs::Counted::looks_settle_none))]
+#[tactic(auto, using(crate::proofs::Looking::looks_refl, crate::proofs::Looking::looks_state, crate::proofs::Looking::looks_awaits, crate::proofs::Looking::batch_state, crate::proofs::Looking::batch_awaits, crate::proofs::Counted::batch_settles_none, crate::proofs::Counted::looks_settle_none, crate::proofs::Looking::batch_grows, crate::proofs::Looking::looks_grow))]
 pub(crate) fn reply_edit(
     alloc: Global,
     core: &mut Core,
@@ -58,8 +59,10 @@ pub(crate) fn reply_edit(
     ensures err { OnErr result ((into.new.items ≡ into.old.items) × LooksAs core.old core.new) }
     ensures awaits { AwaitsLine core.old → AwaitsLine core.new }
     ensures settles { settles_of core.new ≡ settles_of core.old }
+    ensures grows { IsPrefix (told_of core.old) (told_of core.new) }
 {
     logs_tell_all();
+    lists_tell_all();
     let before = into.len();
     accepted_text(core.version() + 1, into)?;
     match make_edits(core, batch) {

@@ -1,5 +1,5 @@
 //! What holds of the outputs of sessions. Each law is the contract of a function that does nothing.
-ghost use Rattle.ltm_session.specs.Laws.{AloneIsASession, AnswersAreLines, OneOutput};
+ghost use Rattle.ltm_session.specs.Laws.{AloneIsASession, AnswersAreLines, LinesSettleOnce, OneOutput};
 ghost use Rattle.ltm_session.specs.Laws.{FrontsKeepThePromise, OutputsKeepThePromise};
 
 use ltm_core::logs_tell_all;
@@ -20,6 +20,12 @@ pub fn one_output()
     scenarios_are_settings();
     one_loading();
 }
+
+/// Of the lines that a session answers each that settles is counted as one settle, and no other is: so the core that `serve_alone` or
+/// `serve` of `ltm_session_workers` hands back has counted exactly those.
+pub fn lines_settle_once()
+    ensures { LinesSettleOnce }
+{}
 
 /// The promise: every report that a session writes between a settle and the next accepted edit is that of the one
 /// loading of the scenario as the accepted edits leave it, and every other report is that of a finished loading of a

@@ -26,7 +26,9 @@ mod settling;
 pub use answerer::Answerer;
 pub use answering::answer;
 pub use ends::SessionEnd;
-pub use laws::{alone_is_a_session, answers_are_lines, one_output, sessions_keep_the_promise};
+pub use laws::{
+    alone_is_a_session, answers_are_lines, lines_settle_once, one_output, sessions_keep_the_promise,
+};
 pub use looping::serve_lines;
 pub use replies::{reply, reply_fault};
 pub use script::Script;

@@ -1,12 +1,13 @@
 //! Answers that change nothing but what an edit changes: to all lines but a settle.
 ghost use Rattle.std.specs.Prelude.{◌≡◌, ◌≢◌, ◌++◌, ℕ, ◌<◌, List, length, Ok, Err, OnOk, OnErr};
+ghost use mathlib.Core.List.{IsPrefix};
 ghost use Rattle.ltm_script.specs.Commands.{HasAmounts};
 ghost use Rattle.ltm_core.specs.CoreAnswers.{LooksAs};
 ghost use Rattle.ltm_report.specs.Reports.{link_report};
 ghost use Rattle.ltm_session.specs.Analysts.{Analysts, state_of};
 ghost use Rattle.ltm_session.specs.Answers.{Replies, ReportsShown, TellsTimeAt};
 ghost use Rattle.ltm_session.specs.Ready.{AwaitsLine};
-ghost use Rattle.ltm_session.specs.Settles.{settles_of};
+ghost use Rattle.ltm_core.specs.Told.{settles_of, told_of};
 
 use crate::edits::reply_edit;
 use crate::origins::reply_origin;
@@ -114,7 +115,7 @@ pub fn reply_fault(alloc: Global, fault: CommandFault, into: &mut Vec<u8>) -> Re
 }
 
 /// Answers a command that is no settle, and makes its event. It asks nothing of what is claimed or was counted.
-#[tactic(auto, using(crate::proofs::Looking::looks_refl))]
+#[tactic(auto, using(crate::proofs::Looking::looks_refl, crate::proofs::Looking::list_begins))]
 pub fn reply(
     alloc: Global,
     core: &mut Core,
@@ -129,6 +130,8 @@ pub fn reply(
     ensures err { OnErr result ((into.new.items ≡ into.old.items) × LooksAs core.old core.new) }
     ensures awaits { AwaitsLine core.old → AwaitsLine core.new }
     ensures settles { settles_of core.new ≡ settles_of core.old }
+    // An edit may lengthen the list that the core tells.
+    ensures grows { IsPrefix (told_of core.old) (told_of core.new) }
 {
     match command {
         Command::Edit(batch) => reply_edit(alloc, core, batch, into),

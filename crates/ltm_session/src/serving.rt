@@ -3,7 +3,7 @@ ghost use Rattle.std.specs.Prelude.{◌≡◌, ◌≢◌, ◌++◌, ◌≤◌, �
 ghost use Rattle.ltm_io.specs.Faults.{Rose};
 ghost use Rattle.ltm_io.specs.Sink.{appended, AppendsFront};
 ghost use Rattle.ltm_core.specs.Log.{version_now};
-ghost use Rattle.ltm_session.specs.Analysts.{state_of, opening_state};
+ghost use Rattle.ltm_session.specs.Analysts.{state_of, opening_of};
 ghost use Rattle.ltm_session.specs.Answers.{AnswersAlone};
 ghost use Rattle.ltm_session.specs.Ready.{AwaitsLine};
 ghost use Rattle.ltm_session.specs.Answerers.{IsUnread};
@@ -86,7 +86,7 @@ pub fn serve_line<W: Sink>(
 ///
 /// The core has accepted nothing, as `Core::create` gives it. A script has at most 100,000 lines of at most 65,536 bytes
 /// each, without their newlines; the last line needs no newline. The core that is handed back has the log of the lines that
-/// were answered, and shows what was settled last.
+/// were answered, has counted one settle for each of them that settles, and shows what was settled last.
 pub fn serve_alone<S: Source, W: Sink>(
     alloc: Global,
     core: Core,
@@ -94,11 +94,11 @@ pub fn serve_alone<S: Source, W: Sink>(
     sink: &mut W,
 ) -> Served
     requires fresh { version_now core.log ≡ 0 }
-    // What was answered, what was written of it, how that ended, and the log and what is shown then.
+    // What was answered, what was written of it, how that ended, and the log, what is shown and how many settles were
+    // counted then.
     ensures session { (output : List ℕ)
-        × IsSession AnswersAlone core.log.opening (S.left source.old) (S.left source.new)
-        result.end output
-        (state_of result.core)
+        × IsSession AnswersAlone (opening_of core) (S.left source.old) (S.left source.new)
+        result.end output (state_of result.core)
         × Wrote result.end (W.written sink.old) (W.written sink.new) output }
     ensures awaits { AwaitsLine result.core }
     // Where nothing failed, the session ended as its script says.

@@ -4,11 +4,10 @@ use Rattle.std.proofs.lemmas.List.{append-nil}
 use Rattle.std.specs.Prelude.{Option, Some, None, IfSome}
 use Rattle.ltm_io.specs.Sink.{appended, AppendsFront}
 use Rattle.ltm_io.specs.Script.{lines_of}
-use Rattle.ltm_scenario.specs.Data.{ScenarioData}
 use Rattle.ltm_core.specs.Cores.{CoreData}
 use Rattle.ltm_session.specs.declared.ends.SessionEnd.{SessionEnd}
 use Rattle.ltm_session.specs.declared.ends.SessionEnd.TheVariants.{Ended, ReadFault, WriteFault, LineTooLong, TooManyCommands, NoMemory}
-use Rattle.ltm_session.specs.Analysts.{Analysts, opening_state, state_of}
+use Rattle.ltm_session.specs.Analysts.{Analysts, opening_of, state_of}
 use Rattle.ltm_session.specs.Answers.{AnswersAlone}
 use Rattle.ltm_session.specs.Session.{IsSession, Wrote, EndsBefore, end_of}
 use Rattle.ltm_session.proofs.Progress.{whole_front, appended_more, front_more, no_fault_read, never_begun_at}
@@ -42,7 +41,7 @@ ends_anyhow : (answered : List (List ℕ)) (told : Option (List ℕ)) (n : ℕ)
 ends_anyhow answered None n ends = tt
 ends_anyhow answered (Some script) n (left, cut, none) = (left, cut, tt)
 
-anyhow : (s : ScenarioData) (told left : Option (List ℕ)) (output : List ℕ) (t : Analysts) → IsSession AnswersAlone s told left Ended output t → IsSession AnswersAlone s told left NoMemory output t
+anyhow : (s : Analysts) (told left : Option (List ℕ)) (output : List ℕ) (t : Analysts) → IsSession AnswersAlone s told left Ended output t → IsSession AnswersAlone s told left NoMemory output t
 anyhow s told left output t so = record {
   answered = so.answered;
   few = so.few;
@@ -64,7 +63,7 @@ told_last viewers d e told left end old mid new so (inl (is, same)) = record {
     session_end = NoMemory;
     answers = so.output;
     lines = [];
-    session = anyhow d.log.opening told left so.output (state_of e) so.session;
+    session = anyhow (opening_of d) told left so.output (state_of e) so.session;
     closes = (is, refl);
     output_is = sym (append-nil so.output);
   };
@@ -85,15 +84,15 @@ told_last viewers d e told left end old mid new so (inr (lines, tell, inr (is, f
 }
 
 -- ---- one that was not begun
-pub never_viewed : (viewers : ℕ) (d : CoreData) (told left w : Option (List ℕ)) → state_of d ≡ opening_state d.log.opening → Views viewers d told left NoMemory w w d
+pub never_viewed : (viewers : ℕ) (d : CoreData) (told left w : Option (List ℕ)) → state_of d ≡ opening_of d → Views viewers d told left NoMemory w w d
 never_viewed viewers d told left w same =
-    let (output, so, wrote) = never_begun_at AnswersAlone d.log.opening told left w (state_of d) same in
+    let (output, so, wrote) = never_begun_at AnswersAlone (opening_of d) told left w (state_of d) same in
     let none : NoMemory ≡ Ended → ⊥ = λ wrong. cc in
     stopped viewers d d told left NoMemory w w (record { output = output; session = so; wrote = wrote; read = λ script is ended. absurd (none ended) }) none
 
 -- ---- how it ends
 -- a view ends as its session, or where the writing or the memory failed
-pub view_ends : (viewers : ℕ) (s : ScenarioData) (script output : List ℕ) (left : Option (List ℕ)) (end : SessionEnd) (t : Analysts) → IsView viewers s (Some script) left end output t
+pub view_ends : (viewers : ℕ) (s : Analysts) (script output : List ℕ) (left : Option (List ℕ)) (end : SessionEnd) (t : Analysts) → IsView viewers s (Some script) left end output t
     → (end ≡ ReadFault → ⊥) → (end ≡ WriteFault → ⊥) → (end ≡ NoMemory → ⊥) → end ≡ end_of script
 view_ends viewers s script output left end t so a b c = go so.session_end so.session so.closes
   where

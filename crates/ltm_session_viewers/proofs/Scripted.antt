@@ -5,7 +5,7 @@ use Rattle.ltm_io.specs.Sink.{appended}
 use Rattle.ltm_core.specs.Cores.{CoreData}
 use Rattle.ltm_session.specs.declared.ends.SessionEnd.{SessionEnd}
 use Rattle.ltm_session.specs.declared.ends.SessionEnd.TheVariants.{Ended, WriteFault, NoMemory}
-use Rattle.ltm_session.specs.Analysts.{Analysts, state_of, opening_state}
+use Rattle.ltm_session.specs.Analysts.{Analysts, state_of, opening_of}
 use Rattle.ltm_session.specs.Answers.{AnswersAlone}
 use Rattle.ltm_session.specs.Answerers.{Serves, StopsBy}
 use Rattle.ltm_session.specs.Session.{Answering, AnswersLine}
@@ -13,10 +13,10 @@ use Rattle.ltm_session.proofs.OneMachine.{served_one, stops_one}
 use Rattle.ltm_session.proofs.Progress.{whole_front}
 use Rattle.ltm_session_viewers.specs.Serving.{IsScripted}
 
-pub scripted : (d e : CoreData) (told left : Option (List ℕ)) (end : SessionEnd) (old new : Option (List ℕ)) → state_of d ≡ opening_state d.log.opening
+pub scripted : (d e : CoreData) (told left : Option (List ℕ)) (end : SessionEnd) (old new : Option (List ℕ)) → state_of d ≡ opening_of d
     → Serves AnswersAlone (λ s. s ≡ state_of d) (λ s. s ≡ state_of e) told left end old new → IsScripted d told left end old new e
 scripted d e told left end old new fresh served =
-    let (output, session, wrote) = served_one AnswersAlone d.log.opening (state_of d) (state_of e) told left end old new fresh served in
+    let (output, session, wrote) = served_one AnswersAlone (opening_of d) (state_of d) (state_of e) told left end old new fresh served in
     record { output = output; session = session; wrote = wrote; read = served.read }
 
 -- a script that was read to its end stopped at no line

@@ -4,7 +4,7 @@ use Rattle.ltm_io.specs.Sink.{appended, AppendsFront}
 use Rattle.ltm_core.specs.Cores.{CoreData}
 use Rattle.ltm_session.specs.declared.ends.SessionEnd.{SessionEnd}
 use Rattle.ltm_session.specs.declared.ends.SessionEnd.TheVariants.{Ended, WriteFault, NoMemory}
-use Rattle.ltm_session.specs.Analysts.{Analysts, state_of, opening_state}
+use Rattle.ltm_session.specs.Analysts.{Analysts, state_of, opening_of}
 use Rattle.ltm_session.specs.Answers.{AnswersAlone}
 use Rattle.ltm_session.specs.Answerers.{IsUnread}
 use Rattle.ltm_session.specs.Ready.{AwaitsLine}
@@ -18,14 +18,14 @@ use Rattle.ltm_session_viewers.specs.View.{IsView}
 -- a session without workers led from a core to another; where it ended well the whole script was read
 pub record IsScripted (d : CoreData) (told left : Option (List ℕ)) (end : SessionEnd) (old new : Option (List ℕ)) (e : CoreData) : Type 0 where
   pub output : List ℕ
-  pub session : IsSession AnswersAlone d.log.opening told left end output (state_of e)
+  pub session : IsSession AnswersAlone (opening_of d) told left end output (state_of e)
   pub wrote : Wrote end old new output
   pub read : (script : List ℕ) → told ≡ Some script → end ≡ Ended → left ≡ Some []
 
 -- a session with viewers may begin: its core has accepted nothing and awaits a line, its boards have what is shown, and
 -- nothing of its script was read
 pub record IsSet (d : CoreData) (stage : Stage) : Type 0 where
-  pub fresh : state_of d ≡ opening_state d.log.opening
+  pub fresh : state_of d ≡ opening_of d
   pub awaits : AwaitsLine d
   pub posted : AllHave stage.boards (shown_list d)
   pub unread : IsUnread stage.script
@@ -47,6 +47,6 @@ TellsLast viewers t end old new =
 -- ended well the whole script was read
 pub record Views (viewers : ℕ) (d : CoreData) (told left : Option (List ℕ)) (end : SessionEnd) (old new : Option (List ℕ)) (e : CoreData) : Type 0 where
   pub output : List ℕ
-  pub view : IsView viewers d.log.opening told left end output (state_of e)
+  pub view : IsView viewers (opening_of d) told left end output (state_of e)
   pub wrote : Wrote end old new output
   pub read : (script : List ℕ) → told ≡ Some script → end ≡ Ended → left ≡ Some []

@@ -12,7 +12,7 @@ use Rattle.ltm_session_viewers.specs.Lines.{ViewersTell}
 -- an output with so many viewers: the answers to the whole script, as a session without workers gives them, and then the
 -- totals of the loading that the last settle has shown, told by each viewer
 abbrev pub IsViewOutput : ℕ → ScenarioData → List ℕ → List ℕ → Type 0
-IsViewOutput viewers s script output = (t : Analysts) × (answers lines : List ℕ) × AnswersLines AnswersAlone (opening_state s) (lines_of script) answers t
+IsViewOutput viewers s script output = (t : Analysts) × (answers lines : List ℕ) × AnswersLines AnswersAlone (opening_state s 0) (lines_of script) answers t
     × ViewersTell viewers t lines × (output ≡ answers ++ lines)
 
 -- how it ends with viewers after the session ended so, and what they tell: they tell it where the script was read to its end
@@ -24,9 +24,9 @@ Closes viewers t (LineTooLong number) end lines = (end ≡ LineTooLong number) �
 Closes viewers t TooManyCommands end lines = (end ≡ TooManyCommands) × (lines ≡ [])
 Closes viewers t NoMemory end lines = (end ≡ NoMemory) × (lines ≡ [])
 
--- a session of a scenario with viewers answered the first lines of a script and ended so; where a read failed, those that had
--- come whole
-pub record IsView (viewers : ℕ) (s : ScenarioData) (told left : Option (List ℕ)) (end : SessionEnd) (output : List ℕ) (t : Analysts) : Type 0 where
+-- a session with viewers that began with this machine answered the first lines of a script and ended so; where a read failed,
+-- those that had come whole
+pub record IsView (viewers : ℕ) (s : Analysts) (told left : Option (List ℕ)) (end : SessionEnd) (output : List ℕ) (t : Analysts) : Type 0 where
   pub session_end : SessionEnd
   pub answers : List ℕ
   pub lines : List ℕ

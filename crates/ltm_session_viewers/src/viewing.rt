@@ -3,7 +3,7 @@ ghost use Rattle.std.specs.Prelude.{◌≡◌, ◌≢◌, ◌≤◌, ◌<◌, �
 ghost use Rattle.std.specs.Thread.{IsSync};
 ghost use Rattle.ltm_io.specs.Faults.{Rose};
 ghost use Rattle.ltm_core.specs.Log.{version_now};
-ghost use Rattle.ltm_session.specs.Analysts.{state_of};
+ghost use Rattle.ltm_session.specs.Analysts.{state_of, opening_of};
 ghost use Rattle.ltm_session.specs.Session.{Wrote, end_of};
 ghost use Rattle.ltm_session_viewers.specs.Hung.{board_hooks, watch_hooks, how_many};
 ghost use Rattle.ltm_session_viewers.specs.Serving.{IsSet, ServesPosting, Views};
@@ -119,9 +119,10 @@ pub fn view<R: Threads + Wait + Sync, S: Source, W: Sink>(
 ) -> SessionEnd
     requires few { (0 < viewers) × (viewers ≤ 2) }
     requires fresh { version_now core.old.log ≡ 0 }
-    // What was answered and told, what was written of it, how that ended, and the log and what is shown then.
+    // What was answered and told, what was written of it, how that ended, and the log, what is shown and how many settles
+    // were counted then.
     ensures view { (output : List ℕ)
-        × IsView viewers core.old.log.opening (S.left source.old) (S.left source.new) result output
+        × IsView viewers (opening_of core.old) (S.left source.old) (S.left source.new) result output
         (state_of core.new)
         × Wrote result (W.written sink.old) (W.written sink.new) output }
     // Where nothing failed, it ended as the script says.

@@ -1,19 +1,21 @@
 //! A line beside workers.
 ghost use Rattle.std.specs.Prelude.{◌≡◌, ◌≢◌, ◌⊎◌, ◌++◌, ◌+◌, ◌≤◌, ℕ, List, Ok, Err, OnOk, OnErr, IfErr, vec_len, vec_capacity};
+ghost use mathlib.Core.List.{IsPrefix};
 ghost use Rattle.ltm_io.specs.Faults.{Rose};
 ghost use Rattle.ltm_io.specs.Sink.{appended};
 ghost use Rattle.ltm_flows.specs.Shown.{version_of};
 ghost use Rattle.ltm_script.specs.Commands.{HasAmounts};
 ghost use Rattle.ltm_report.specs.Answers.{settled_line, answer_room};
-ghost use Rattle.ltm_core.specs.declared.entry.LogEntry.{LogEntry};
-ghost use Rattle.ltm_core.specs.Log.{entries_of, version_now};
+ghost use Rattle.ltm_core.specs.Log.{version_now};
+ghost use Rattle.ltm_core.specs.CoreAnswers.{LooksAs};
+ghost use Rattle.ltm_core.specs.Told.{told_of, TellsLog};
 ghost use Rattle.ltm_turn.specs.Passes.{turn_id, editor_turn, editor_list, editor_seen, editor_workers};
 ghost use Rattle.ltm_session.specs.Analysts.{state_of};
 ghost use Rattle.ltm_session.specs.Answers.{Replies};
 ghost use Rattle.ltm_session_workers.specs.Beside.{SaidBeside, LineBeside, StopsBeside};
 
 use crate::place::Place;
-use ltm_core::{Core, logs_tell_all};
+use ltm_core::{Core, lists_tell_all, logs_tell_all};
 use ltm_io::Sink;
 use ltm_report::{ANSWER_ROOM, settled_text};
 use ltm_script::{Command, CommandFault, read_command};
@@ -36,17 +38,20 @@ fn reply_held(
     ensures ok { OnOk result ((words : List ℕ)
         × Replies (state_of core.old) (Ok command) words (state_of core.new)
         × (text.new.items ≡ text.old.items ++ words)) }
-    ensures err { OnErr result ((text.new.items ≡ text.old.items) × (core.new.log ≡ core.old.log)) }
-    ensures grows { (rest : List LogEntry)
-        × (entries_of core.old.log ++ rest ≡ entries_of core.new.log) }
+    ensures err { OnErr result ((text.new.items ≡ text.old.items) × LooksAs core.old core.new) }
+    ensures grows { IsPrefix (told_of core.old) (told_of core.new) }
+    ensures told { TellsLog (told_of core.old) core.old.log
+        × TellsLog (told_of core.new) core.new.log }
     ensures shown { version_of core.new.shown ≡ version_of core.old.shown }
     ensures finished { (version_of core.old.shown ≤ version_now core.old.log)
         × (version_of core.new.shown ≤ version_now core.new.log) }
 {
-    logs_tell_all();
+    lists_tell_all();
     let _before = core.shown();
+    core.facts();
     let done = reply(alloc, core, command, text);
     let _after = core.shown();
+    core.facts();
     done
 }
 
@@ -75,7 +80,7 @@ fn reply_beside<R: Wait>(
         × (editor_list result.0 ≡ editor_list editor)
         × (editor_seen editor ≤ editor_seen result.0)) }
 {
-    logs_tell_all();
+    lists_tell_all();
     let turn = place.turn;
     let mut held = turn.take_editor(place.rt, editor);
     let done = reply_held(place.alloc, held.get_mut(), command, text);
@@ -113,6 +118,7 @@ fn settle_in_room<R: Wait>(
         × (text.new.items ≡ text.old.items ++ words) }
 {
     logs_tell_all();
+    lists_tell_all();
     let (editor, settler, settled) = settle_beside(
         place.rt,
         place.turn,

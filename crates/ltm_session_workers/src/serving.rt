@@ -2,14 +2,15 @@
 ghost use Rattle.std.specs.Prelude.{◌≡◌, ◌≢◌, ◌≤◌, ℕ, List, [], Some, None, IfOk, false, vec_len};
 ghost use Rattle.ltm_io.specs.Faults.{Rose};
 ghost use Rattle.ltm_core.specs.Log.{version_now};
-ghost use Rattle.ltm_session.specs.Analysts.{Analysts, state_of};
+ghost use Rattle.ltm_core.specs.Told.{settles_of};
+ghost use Rattle.ltm_session.specs.Analysts.{Analysts, state_of, opening_of};
 ghost use Rattle.ltm_session.specs.Answerers.{IsUnread};
 ghost use Rattle.ltm_session.specs.Answers.{AnswersAlone, AnswersBeside};
 ghost use Rattle.ltm_session.specs.Session.{IsSession, Wrote, end_of};
 
 use crate::crew::{Desk, Gear, crew};
 use crate::place::Place;
-use ltm_core::{Core, Scratch, logs_tell_all};
+use ltm_core::{Core, Scratch, lists_tell_all, logs_tell_all};
 use ltm_io::{Sink, Source};
 use ltm_session::{Script, Served, SessionEnd, serve_alone};
 use ltm_turn::Turn;
@@ -46,7 +47,8 @@ fn take_gear(alloc: Global, core: &Core, workers: u32) -> Result<Gear, NoMemory>
 /// its answer is written whole before the next line is read. Without workers it is `serve_alone`.
 ///
 /// The core has accepted nothing and is not stopped, as `Core::create` gives it. A worker for which no thread can be made is
-/// left out. The core that is handed back has the log of the lines that were answered; with workers it is stopped.
+/// left out. The core that is handed back has the log of the lines that were answered, and has counted one settle for each of
+/// them that settles; with workers it is stopped.
 pub fn serve<R: Threads + Wait + Sync, S: Source, W: Sink, G: Gate>(
     rt: &R,
     alloc: Global,
@@ -59,17 +61,16 @@ pub fn serve<R: Threads + Wait + Sync, S: Source, W: Sink, G: Gate>(
     requires workers { workers ≤ 64 }
     requires fresh { version_now core.log ≡ 0 }
     requires running { core.stopped ≡ false }
-    // What was answered, what was written of it, how that ended, and the log then.
+    // What was answered, what was written of it, how that ended, and the log and how many settles were counted then.
     ensures session { (output : List ℕ) × (t : Analysts)
-        × IsSession AnswersBeside core.log.opening (S.left source.old) (S.left source.new)
+        × IsSession AnswersBeside (opening_of core) (S.left source.old) (S.left source.new)
         result.end output t
         × Wrote result.end (W.written sink.old) (W.written sink.new) output
-        × (result.core.log ≡ t.log) }
+        × (result.core.log ≡ t.log) × (settles_of result.core ≡ t.settles) }
     ensures alone { workers ≡ 0
         → (output : List ℕ)
-        × IsSession AnswersAlone core.log.opening (S.left source.old) (S.left source.new)
-        result.end output
-        (state_of result.core)
+        × IsSession AnswersAlone (opening_of core) (S.left source.old) (S.left source.new)
+        result.end output (state_of result.core)
         × Wrote result.end (W.written sink.old) (W.written sink.new) output }
     // Where nothing failed, the session ended as its script says.
     ensures end { (script : List ℕ) → S.left source.old ≡ Some script
@@ -85,6 +86,7 @@ pub fn serve<R: Threads + Wait + Sync, S: Source, W: Sink, G: Gate>(
     ensures later { W.faults sink.old ≤ W.faults sink.new }
 {
     logs_tell_all();
+    lists_tell_all();
     if workers == 0 {
         return serve_alone(alloc, core, source, sink);
     }
@@ -105,10 +107,9 @@ pub fn serve<R: Threads + Wait + Sync, S: Source, W: Sink, G: Gate>(
                 hints: &hints,
             };
             let (editor, end) = crew(&place, workers, Desk { editor, gear }, source, sink, gate);
-            return Served {
-                end,
-                core: turn.close(editor),
-            };
+            let core = turn.close(editor);
+            core.facts();
+            return Served { end, core };
         }
         Err((core, _)) => {
             return Served {

@@ -1,12 +1,13 @@
 -- What is done to a core in one held turn, and what a settle beside workers is.
-use Rattle.std.specs.Prelude.{◌≡◌, ◌<◌, ◌≤◌, ℕ, List, true, false}
+use Rattle.std.specs.Prelude.{◌≡◌, ◌+◌, ◌<◌, ◌≤◌, ℕ, List, true, false}
 use Rattle.ltm_flows.specs.Shown.{version_of}
 use Rattle.ltm_repair.specs.Answers.{AnswersClaim}
 use Rattle.ltm_repair.specs.Events.{Settle}
 use Rattle.ltm_repair.specs.Making.{claim_event}
 use Rattle.ltm_core.specs.declared.answers.Published.{Published}
 use Rattle.ltm_core.specs.declared.entry.LogEntry.{LogEntry}
-use Rattle.ltm_core.specs.Log.{Log, entries_of, with_mark, version_now}
+use Rattle.ltm_core.specs.Log.{Log, with_mark, version_now}
+use Rattle.ltm_core.specs.Told.{TellsLog, marks_in}
 use Rattle.ltm_core.specs.Settling.{IsSettleCount}
 use Rattle.ltm_core.specs.Cores.{CoreData, repair_of}
 use Rattle.ltm_core.specs.CoreAnswers.{answer_in, KeepsAll, Adds, TellsPublish}
@@ -33,7 +34,7 @@ pub record CountsCommits (old : CoreData) (version count : ℕ) (new : CoreData)
   pub adds : Adds old (Settle count) new
 
 -- a settle beside workers, by the list that its editor found and the list that it left: so many batches are settled, with
--- this count, and a mark is put; the editor has seen all batches shown
+-- this count; a mark is put into the log, and one settle more was counted; the editor has seen all batches shown
 unfoldable pub SettlesBeside : List LogEntry → ℕ → ℕ → List LogEntry → ℕ → Type 0
-SettlesBeside list version count list' seen' = (log : Log) × (list ≡ entries_of log) × IsSettleCount log count × (version ≡ version_now log)
-    × (list' ≡ entries_of (with_mark log)) × (version_now log ≤ seen')
+SettlesBeside list version count list' seen' = (log : Log) × TellsLog list log × IsSettleCount log count × (version ≡ version_now log)
+    × TellsLog list' (with_mark log) × (marks_in list' ≡ marks_in list + 1) × (version_now log ≤ seen')

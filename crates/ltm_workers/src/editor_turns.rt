@@ -1,11 +1,14 @@
 //! The turns of an editor that settles or ends: in each it makes one call of the core.
-ghost use Rattle.std.specs.Prelude.{◌≡◌, ◌≤◌, None, IfSome};
+ghost use Rattle.std.specs.Prelude.{◌≡◌, ◌≤◌, [], ◌∷◌, ◌++◌, None, IfSome};
+ghost use Rattle.ltm_flows.specs.Shown.{version_of};
+ghost use Rattle.ltm_core.specs.declared.entry.LogEntry.TheVariants.{Mark};
+ghost use Rattle.ltm_core.specs.Told.{told_of};
 ghost use Rattle.ltm_turn.specs.Passes.{turn_id, editor_turn, editor_list, editor_seen, editor_workers};
 ghost use Rattle.ltm_workers.specs.Beside.{CountsCommits, SettlesBeside};
 
 use crate::events::{commit_pair, show_counts};
 use crate::hints::Hints;
-use ltm_core::{Claimed, Core, Done, Recomputed, Scratch, logs_tell_all};
+use ltm_core::{Claimed, Core, Done, Recomputed, Scratch, lists_tell_all};
 use ltm_turn::{EditorPass, Turn};
 use std::sync::Wait;
 
@@ -22,6 +25,7 @@ pub(crate) fn recompute_as_editor<R: Wait>(
     ensures list { editor_list result.0 ≡ editor_list editor }
     ensures seen { editor_seen editor ≤ editor_seen result.0 }
 {
+    lists_tell_all();
     let mut held = turn.take_editor(rt, editor);
     let found = held.get_mut().recompute(scratch);
     (turn.give_editor(held), found)
@@ -40,6 +44,7 @@ pub(crate) fn claim_as_editor<R: Wait>(
     ensures list { editor_list result.0 ≡ editor_list editor }
     ensures seen { editor_seen editor ≤ editor_seen result.0 }
 {
+    lists_tell_all();
     let mut held = turn.take_editor(rt, editor);
     let claimed = held.get_mut().claim(scratch);
     (turn.give_editor(held), claimed)
@@ -94,9 +99,16 @@ fn count_commits(core: &mut Core) -> Option<Settled>
     ensures none { result ≡ None → core.new ≡ core.old }
     ensures some { IfSome result (λ n. CountsCommits core.old n.version n.count core.new) }
     ensures shown { core.new.shown ≡ core.old.shown }
+    ensures told { IfSome result (λ n. told_of core.new ≡ told_of core.old ++ Mark ∷ []) }
+    ensures settles { IfSome result (λ n. SettlesBeside (told_of core.old) n.version n.count
+        (told_of core.new) (version_of core.new.shown)) }
 {
+    lists_tell_all();
+    core.facts();
     let version = core.version();
-    match core.settle_count() {
+    let counted = core.settle_count();
+    core.facts();
+    match counted {
         Some(count) => return Some(Settled { version, count }),
         None => return None,
     }
@@ -116,7 +128,6 @@ pub(crate) fn count_as_editor<R: Wait>(
         (editor_list result.0) (editor_seen result.0)) }
     ensures seen { editor_seen editor ≤ editor_seen result.0 }
 {
-    logs_tell_all();
     let mut held = turn.take_editor(rt, editor);
     match count_commits(held.get_mut()) {
         Some(settled) => return (turn.give_editor(held), Some(settled)),

@@ -2,9 +2,10 @@
 ghost use Rattle.std.specs.Prelude.{◌≡◌, ◌≤◌};
 ghost use Rattle.ltm_flows.specs.Shown.{version_of};
 ghost use Rattle.ltm_core.specs.CoreAnswers.{Keeps, TellsCommit};
+ghost use Rattle.ltm_core.specs.Told.{told_of};
 ghost use Rattle.ltm_workers.specs.Beside.{Looks, ShowsRunning};
 
-use ltm_core::{Claimed, Committed, Core, Done, Scratch};
+use ltm_core::{Claimed, Committed, Core, Done, Scratch, lists_tell_all};
 
 /// What a worker found.
 pub(crate) enum Look {
@@ -18,7 +19,9 @@ pub(crate) enum Look {
 pub(crate) fn claim_pair(core: &mut Core, scratch: Scratch) -> Look
     ensures looks { Looks core.old result core.new }
     ensures keeps { Keeps core.old core.new }
+    ensures told { told_of core.new ≡ told_of core.old }
 {
+    lists_tell_all();
     if core.stopped() {
         return Look::Stopped(scratch);
     }
@@ -29,7 +32,9 @@ pub(crate) fn claim_pair(core: &mut Core, scratch: Scratch) -> Look
 pub(crate) fn commit_pair(core: &mut Core, done: Done) -> Scratch
     ensures commits { (answer : Committed) × TellsCommit core.old done answer core.new }
     ensures keeps { Keeps core.old core.new }
+    ensures told { told_of core.new ≡ told_of core.old }
 {
+    lists_tell_all();
     match core.commit(done) {
         Committed::Ok(scratch) => return scratch,
         Committed::Stale {
@@ -44,8 +49,10 @@ pub(crate) fn commit_pair(core: &mut Core, done: Done) -> Scratch
 pub(crate) fn show_counts(core: &mut Core)
     ensures shows { ShowsRunning core.old core.new }
     ensures log { core.new.log ≡ core.old.log }
+    ensures told { told_of core.new ≡ told_of core.old }
     ensures number { version_of core.old.shown ≤ version_of core.new.shown }
 {
+    lists_tell_all();
     let is_done = core.shown().version() == core.version();
     if is_done || core.stopped() {
         return;

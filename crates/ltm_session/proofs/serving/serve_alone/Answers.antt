@@ -1,4 +1,4 @@
-use Rattle.ltm_session.specs.Analysts.{state_of}
+use Rattle.ltm_session.specs.Analysts.{state_of, opening_of}
 use Rattle.ltm_session.specs.Answers.{AnswersAlone}
 use Rattle.ltm_session.proofs.Opening.{awaits_first, opens}
 use Rattle.ltm_session.proofs.Progress.{never_begun_at}
@@ -11,20 +11,20 @@ serve_lines-alone-requires-clause-awaits g c = awaits_first c.args.core c.facts.
 
 pub returns-in-Ok-clause-session : goal.returns-in-Ok-clause-session
 returns-in-Ok-clause-session g c =
-    served_one AnswersAlone c.args.core.log.opening (state_of c.args.core) (state_of c.serve_lines-alone.result.0.core) _ _ _ _ _
+    served_one AnswersAlone (opening_of c.args.core) (state_of c.args.core) (state_of c.serve_lines-alone.result.0.core) _ _ _ _ _
     (opens c.args.core c.facts.ensures c.requires.fresh) c.serve_lines-alone.ensures.serves
 
 pub returns-in-Ok-clause-end : goal.returns-in-Ok-clause-end
 returns-in-Ok-clause-end g c =
     let (output, so, wrote) = returns-in-Ok-clause-session g c in
-    ends_as_told AnswersAlone c.args.core.log.opening (g.S.Source.left c.args.source.now) _ output c.serve_lines-alone.result.1 (state_of c.serve_lines-alone.result.0.core) so
+    ends_as_told AnswersAlone (opening_of c.args.core) (g.S.Source.left c.args.source.now) _ output c.serve_lines-alone.result.1 (state_of c.serve_lines-alone.result.0.core) so
 
 pub returns-in-Ok-clause-read : goal.returns-in-Ok-clause-read
 returns-in-Ok-clause-read g c = c.serve_lines-alone.ensures.serves.read
 
 pub returns-in-Err-clause-session : goal.returns-in-Err-clause-session
 returns-in-Err-clause-session g c =
-    never_begun_at AnswersAlone c.args.core.log.opening (g.S.Source.left c.args.source.now) (g.S.Source.left c.args.source.now) (g.W.Sink.written c.args.sink.now) (state_of c.args.core)
+    never_begun_at AnswersAlone (opening_of c.args.core) (g.S.Source.left c.args.source.now) (g.S.Source.left c.args.source.now) (g.W.Sink.written c.args.sink.now) (state_of c.args.core)
     (opens c.args.core c.facts.ensures c.requires.fresh)
 
 pub returns-in-Err-clause-awaits : goal.returns-in-Err-clause-awaits

@@ -1,6 +1,6 @@
 use Rattle.std.proofs.Common.{◌≡◌, ◌+◌, ap, ◌∙◌, arith}
 use Rattle.ltm_core.specs.Cores.{CoreData}
-use Rattle.ltm_session.specs.Settles.{settles_of}
+use Rattle.ltm_core.specs.Told.{settles_of}
 use Rattle.ltm_session.proofs.settling.show.Goals as goal
 
 pub returns-in-Done : goal.returns-in-Done

@@ -1,7 +1,11 @@
 use Rattle.ltm_turn.specs.Passes.{editor_value}
-use Rattle.ltm_workers.proofs.Editing.{kept_list}
+use Rattle.ltm_workers.proofs.Editing.{kept_list, left_list, recompute_told}
 use Rattle.ltm_workers.proofs.editor_turns.recompute_as_editor.Goals as goal
 
 pub give_editor-requires-clause-list : goal.give_editor-requires-clause-list
 give_editor-requires-clause-list g c =
-    kept_list _ _ (editor_value c.take_editor-held.result) c.get_mut.result.now c.recompute-found.new.self c.get_mut.ensures.value c.take_editor-held.ensures.list.0 c.take_editor-held.ensures.list.1 c.recompute-found.ensures.stays.0
+    kept_list _ _ (editor_value c.take_editor-held.result) c.get_mut.result.now c.recompute-found.new.self c.get_mut.ensures.value c.take_editor-held.ensures.list.0 c.take_editor-held.ensures.list.1 (recompute_told c.lists_tell_all.ensures _ _ c.recompute-found.result c.recompute-found.ensures.answer)
+
+pub returns-clause-list : goal.returns-clause-list
+returns-clause-list g c =
+    left_list _ _ (editor_value c.take_editor-held.result) c.get_mut.result.now c.recompute-found.new.self c.give_editor.ensures.list (recompute_told c.lists_tell_all.ensures _ _ c.recompute-found.result c.recompute-found.ensures.answer) c.get_mut.ensures.value c.take_editor-held.ensures.list.0
