@@ -1,16 +1,25 @@
 //! What the origin of a node has produced, as rows of counts.
+ghost use Rattle.std.specs.Prelude.{◌≡◌, slice_index};
 ghost use Rattle.ltm_setting.specs.Setting.{setting_of};
 
 use ltm_curve::Rows;
 use ltm_scenario::Scenario;
-use ltm_setting::{destination_count, produced, produced_total};
-use ltm_units::NodeId;
+use ltm_setting::{destination_count, produced, produced_row, produced_total};
+use ltm_units::{NodeId, share_of};
 
 /// What a node has produced of each destination by each boundary.
 #[derive(Drop)]
 pub(crate) struct Produced<'a> {
     pub(crate) scenario: &'a Scenario,
     pub(crate) node: NodeId,
+}
+
+/// A number of a row, 0 past its end.
+#[inline]
+fn number_at(row: &[u64], place: usize) -> u64
+    ensures { result ≡ slice_index row.now place }
+{
+    if place < row.len() { row[place] } else { 0 }
 }
 
 impl Rows for Produced<'_> {
@@ -30,5 +39,27 @@ impl Rows for Produced<'_> {
 
     fn total(&self, boundary: u32) -> u64 {
         produced_total(self.scenario, self.node, boundary)
+    }
+
+    fn write_less(&self, boundary: u32, less: &[u32], into: &mut [u64]) {
+        let row = produced_row(self.scenario, self.node, boundary);
+        for destination in 0..into.len() {
+            into[destination] = number_at(row, destination) - u64::from(less[destination]);
+        }
+    }
+
+    fn write_mixed_less(&self, slot: u32, part: u64, less: &[u32], into: &mut [u64]) {
+        let first = produced_row(self.scenario, self.node, slot);
+        let next = produced_row(self.scenario, self.node, slot + 1);
+        let mut rest = part;
+        let mut whole = self.total(slot + 1) - self.total(slot);
+        for destination in 0..into.len() {
+            let before = number_at(first, destination);
+            let entered = number_at(next, destination) - before;
+            let share = share_of(rest, entered, whole);
+            rest -= share;
+            whole -= entered;
+            into[destination] = before + share - u64::from(less[destination]);
+        }
     }
 }

@@ -210,6 +210,19 @@ pub fn produced(scenario: &Scenario, node: NodeId, destination: u32, boundary: u
     demand.by_end(node, destination, boundary - 1).0
 }
 
+/// What a node has produced of each destination by a boundary, in units: a number for each, and 0 for those past the end.
+#[inline]
+#[tactic(auto, unfolding(crate::specs::Setting::setting_of))]
+pub fn produced_row(scenario: &Scenario, node: NodeId, boundary: u32) -> &[u64]
+    ensures { (d : ℕ) → slice_index result.now d
+        ≡ (setting_of scenario.now).produced node.0 d boundary }
+{
+    if boundary == 0 {
+        return &[];
+    }
+    scenario.demand().row_by_end(node, boundary - 1)
+}
+
 /// What a node has produced of all destinations together by a boundary, in units.
 #[inline]
 #[tactic(auto, unfolding(crate::specs::Setting::setting_of))]
