@@ -14,6 +14,10 @@ use Rattle.ltm_check_command.specs.declared.refusal.Refusal.TheVariants as check
 use Rattle.ltm_core.specs.Log.{version_now}
 use Rattle.ltm_core.specs.Cores.{CoreData}
 use Rattle.ltm_core.specs.CoreAnswers.{IsOpeningCore}
+use Rattle.ltm_core.specs.Told.{settles_of}
+use Rattle.ltm_session.specs.Analysts.{Analysts, opening_state, opening_of}
+use Rattle.ltm_session.specs.Session.{Answering, IsSession}
+use Rattle.ltm_session_viewers.specs.View.{IsView}
 use Rattle.ltm_session.specs.declared.ends.SessionEnd.{SessionEnd}
 use Rattle.ltm_command.specs.declared.status.Status.{Status}
 use Rattle.ltm_command.specs.declared.status.Status.TheVariants as ending
@@ -33,6 +37,21 @@ begins s d opens = ap (λ log. log.opening) opens.log
 pub nothing_accepted : (s : ScenarioData) (d : CoreData) → IsOpeningCore s d → version_now d.log ≡ 0
 unfolding version_now
 nothing_accepted s d opens = ap version_now opens.log
+
+pub nothing_counted : (s : ScenarioData) (d : CoreData) → IsOpeningCore s d → settles_of d ≡ 0
+nothing_counted s d opens = ap (λ h. settles_of (record d { history = h })) opens.history
+
+-- a session of such a core began with the opening state of its scenario
+opening_none : (d : CoreData) → settles_of d ≡ 0 → opening_of d ≡ opening_state d.log.opening 0
+opening_none d none = ap (opening_state d.log.opening) none
+
+pub session_began : (answers : Answering) (d : CoreData) (told left : Option (List ℕ)) (end : SessionEnd) (output : List ℕ) (t : Analysts) → settles_of d ≡ 0
+    → IsSession answers (opening_of d) told left end output t → IsSession answers (opening_state d.log.opening 0) told left end output t
+session_began answers d told left end output t none so = subst (λ (z : Analysts). IsSession answers z told left end output t) (opening_none d none) so
+
+pub view_began : (viewers : ℕ) (d : CoreData) (told left : Option (List ℕ)) (end : SessionEnd) (output : List ℕ) (t : Analysts) → settles_of d ≡ 0
+    → IsView viewers (opening_of d) told left end output t → IsView viewers (opening_state d.log.opening 0) told left end output t
+view_began viewers d told left end output t none so = subst (λ (z : Analysts). IsView viewers z told left end output t) (opening_none d none) so
 
 pub run_begun : (Of : ScenarioData → SessionEnd → List ℕ → Type 0) (s : ScenarioData) (d : CoreData) (status : Status) (b a : Outside) → IsOpeningCore s d
     → IsRun (EndsUnder (Of d.log.opening)) (λ e. ⊥) (Unit {0}) status b a → IsRun (EndsUnder (Of s)) (λ e. ⊥) (Unit {0}) status b a

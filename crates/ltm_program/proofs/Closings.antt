@@ -58,17 +58,17 @@ wrote_whole end.NoMemory old now output whole wrote = absurd whole
 -- ---- a session that ended well
 -- an output by this rule of answers
 abbrev pub IsOutputBy : Answering → ScenarioData → List ℕ → List ℕ → Type 0
-IsOutputBy answers s script output = (t : Analysts) × AnswersLines answers (opening_state s) (lines_of script) output t
+IsOutputBy answers s script output = (t : Analysts) × AnswersLines answers (opening_state s 0) (lines_of script) output t
 
 pub ended_whole : {answers : Answering} (s : ScenarioData) (script left old now : Option (List ℕ)) (e : SessionEnd) (output : List ℕ) (t : Analysts) → e ≡ end.Ended
-    → IsSession answers s script left e output t → Wrote e old now output → ((lines : List ℕ) → script ≡ Some lines → e ≡ end.Ended → left ≡ Some [])
+    → IsSession answers (opening_state s 0) script left e output t → Wrote e old now output → ((lines : List ℕ) → script ≡ Some lines → e ≡ end.Ended → left ≡ Some [])
     → ServesWhole (IsOutputBy answers) s script left old now
 ended_whole {answers = answers} s None left old now e output t is so wrote read = tt
 ended_whole {answers = answers} s (Some lines) left old now e output t is so wrote read =
     let (rest, cut, before) = so.ends in
     let none : rest ≡ [] = subst (λ x. EndsBefore x (length so.answered) rest) is before in
     let all : lines_of lines ≡ so.answered = cut ∙ ap (λ r. so.answered ++ r) none ∙ append-nil so.answered in
-    let runs = subst (λ ls. AnswersLines answers (opening_state s) ls output t) (sym all) so.runs in
+    let runs = subst (λ ls. AnswersLines answers (opening_state s 0) ls output t) (sym all) so.runs in
     (output, (t, runs), subst (λ x. Wrote x old now output) is wrote, read lines refl is)
 
 -- ---- statuses

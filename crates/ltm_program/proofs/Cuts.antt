@@ -6,7 +6,7 @@ use Rattle.ltm_scenario.specs.Data.{ScenarioData}
 use Rattle.ltm_check_command.specs.declared.refusal.Refusal.TheVariants as refusal
 use Rattle.ltm_session.specs.declared.ends.SessionEnd.{SessionEnd}
 use Rattle.ltm_session.specs.declared.ends.SessionEnd.TheVariants as end
-use Rattle.ltm_session.specs.Analysts.{Analysts}
+use Rattle.ltm_session.specs.Analysts.{Analysts, opening_state}
 use Rattle.ltm_session.specs.Answers.{AnswersAlone}
 use Rattle.ltm_session.specs.Session.{Answering, IsSession}
 use Rattle.ltm_session_viewers.specs.View.{IsView, Closes as ClosesView}
@@ -31,7 +31,7 @@ unclosed : (e : SessionEnd) (output t : List ℕ) → e ≡ end.ReadFault → t 
 unclosed e output t is at = at ∙ ap (λ x. output ++ closing_of x) is ∙ append-nil output
 
 what_came : (answers : Answering) (s : ScenarioData) (script left old new : Option (List ℕ)) (e : SessionEnd) (output : List ℕ) (m : Analysts) → e ≡ end.ReadFault
-    → IsSession answers s script left e output m → new ≡ appended output old → ServesWhatCame answers s script left old new
+    → IsSession answers (opening_state s 0) script left e output m → new ≡ appended output old → ServesWhatCame answers s script left old new
 what_came answers s None left old new e output m is so wrote = tt
 what_came answers s (Some script) left old new e output m is so wrote = (so.answered, output, m, so.came is, so.runs, wrote)
 
@@ -53,7 +53,7 @@ told_cut n m end.TooManyCommands e lines closes is = let wrong : end.TooManyComm
 told_cut n m end.NoMemory e lines closes is = let wrong : end.NoMemory ≡ end.ReadFault = sym closes.0 ∙ is in absurd (cc)
 
 viewed : (n : ℕ) (s : ScenarioData) (script left old new : Option (List ℕ)) (e : SessionEnd) (output : List ℕ) (m : Analysts) → e ≡ end.ReadFault
-    → IsView n s script left e output m → new ≡ appended output old → ServesWhatCame AnswersAlone s script left old new
+    → IsView n (opening_state s 0) script left e output m → new ≡ appended output old → ServesWhatCame AnswersAlone s script left old new
 viewed n s script left old new e output m is so wrote =
     let (session, none) = told_cut n m so.session_end e so.lines so.closes is in
     let answered : output ≡ so.answers = so.output_is ∙ ap (λ l. so.answers ++ l) none ∙ append-nil so.answers in

@@ -56,7 +56,7 @@ fronts_at kept n status (Some files) script left old new (inr (due, u, given, in
 fronts_at kept n status (Some files) script left old new (inr (due, u, given, inr (z, describes, (e, output, (m, so), under, at)), (k, few, wrote))) = λ s is.
     let both : Ok z ≡ Ok s = sym describes ∙ is in
     let same : z ≡ s = cc in
-    let promise = kept_so_far n kept z script left e output m k so in
+    let promise = kept_so_far n kept z 0 script left e output m k so in
     let over = take_over k output (closing_of e) in
     inr (
       take k output,

@@ -14,7 +14,7 @@ use Rattle.ltm_casefile.specs.Case.{case_of, is_case_file, asks_for}
 use Rattle.ltm_check_command.specs.declared.refusal.Refusal.TheVariants as refusal
 use Rattle.ltm_session.specs.declared.ends.SessionEnd.{SessionEnd}
 use Rattle.ltm_session.specs.declared.ends.SessionEnd.TheVariants as end
-use Rattle.ltm_session.specs.Analysts.{Analysts}
+use Rattle.ltm_session.specs.Analysts.{Analysts, opening_state}
 use Rattle.ltm_session.specs.Answers.{AnswersAlone}
 use Rattle.ltm_session.specs.Session.{Answering, IsSession, IsOutputAlone, IsSessionOutput, end_of}
 use Rattle.ltm_session.specs.Laws.{AloneIsASession}
@@ -105,10 +105,10 @@ ended end.NoMemory is = absurd (cc)
 read_to_end : (script left : Option (List ℕ)) (e : SessionEnd) → IfSome script (λ x. left ≡ Some []) → (lines : List ℕ) → script ≡ Some lines → e ≡ end.Ended → left ≡ Some []
 read_to_end script left e read lines is well = subst (λ (o : Option (List ℕ)). IfSome o (λ x. left ≡ Some [])) is read
 
-session_serves : (answers : Answering) (s : ScenarioData) (b a : Outside) (e : SessionEnd) (output t : List ℕ) (m : Analysts) → e ≡ end.Ended → IsSession answers s b.left a.left e output m → t ≡ output ++ closing_of e
+session_serves : (answers : Answering) (s : ScenarioData) (b a : Outside) (e : SessionEnd) (output t : List ℕ) (m : Analysts) → e ≡ end.Ended → IsSession answers (opening_state s 0) b.left a.left e output m → t ≡ output ++ closing_of e
     → Wrote t b a → IfSome b.left (λ x. a.left ≡ Some []) → ServesWhole (IsOutputBy answers) s b.left a.left b.written a.written
 session_serves answers s b a e output t m is so at wrote read =
-    let ended_so : IsSession answers s b.left a.left end.Ended output m = subst (λ x. IsSession answers s b.left a.left x output m) is so in
+    let ended_so : IsSession answers (opening_state s 0) b.left a.left end.Ended output m = subst (λ x. IsSession answers (opening_state s 0) b.left a.left x output m) is so in
     let whole : t ≡ output = at ∙ ap (λ x. output ++ closing_of x) is ∙ append-nil output in
     let now : a.written ≡ appended output b.written = wrote_as b a t output wrote whole in
     ended_whole s b.left a.left b.written a.written end.Ended output m refl ended_so now (read_to_end b.left a.left end.Ended read)
@@ -132,7 +132,7 @@ views : (n : ℕ) (b a : Outside) (t : List ℕ) → IsViewUnder n b.told b.left
 views n b a t (inl (f, describes, is, at)) wrote read = absurd (texts.never_ok (refusal.Case f) is)
 views n b a t (inr (s, describes, (e, output, (m, so), is, at))) wrote read =
     let well = ended e is in
-    let ended_so : IsView n s b.left a.left end.Ended output m = subst (λ x. IsView n s b.left a.left x output m) well so in
+    let ended_so : IsView n (opening_state s 0) b.left a.left end.Ended output m = subst (λ x. IsView n (opening_state s 0) b.left a.left x output m) well so in
     let whole : t ≡ output = at ∙ ap (λ x. output ++ closing_of x) well ∙ append-nil output in
     (s, describes, view_well n s b.left a.left b.written a.written a.written end.Ended output m refl ended_so (wrote_as b a t output wrote whole) (read_to_end b.left a.left end.Ended read) (nothing_more a.written))
 
@@ -164,16 +164,16 @@ module _ (told : Option Files) (left after : Option (List ℕ)) (files : Files) 
   session_ends answers (inl (f, describes, is, at)) = inl (case_ends told files script f status describes told_is is)
   session_ends answers (inr (s, describes, (e, output, (m, so), is, at))) =
       script_ends told files script s status describes told_is
-      (ends_well e script status (ends_as_told answers s left after output e m so script left_is) (not_end e end.ReadFault status is heard)
+      (ends_well e script status (ends_as_told answers (opening_state s 0) left after output e m so script left_is) (not_end e end.ReadFault status is heard)
       (not_end e end.WriteFault status is (no_write status whole)) (no_write status whole) (inl is))
 
   view_ends : (n : ℕ) → IsViewUnder n told left after status t → (status ≡ session_status (case_of files) script) ⊎ (status ≡ ending.NoMemory)
   view_ends n (inl (f, describes, is, at)) = inl (case_ends told files script f status describes told_is is)
   view_ends n (inr (s, describes, (e, output, (m, so), is, at))) =
       let same : e ≡ so.session_end = view_end n m so.session_end e so.lines so.closes (not_end e end.WriteFault status is (no_write status whole)) (not_end e end.NoMemory status is (no_memory status whole)) in
-      let session : IsSession AnswersAlone s left after e so.answers m = subst (λ x. IsSession AnswersAlone s left after x so.answers m) (sym same) so.session in
+      let session : IsSession AnswersAlone (opening_state s 0) left after e so.answers m = subst (λ x. IsSession AnswersAlone (opening_state s 0) left after x so.answers m) (sym same) so.session in
       script_ends told files script s status describes told_is
-      (ends_well e script status (ends_as_told AnswersAlone s left after so.answers e m session script left_is) (not_end e end.ReadFault status is heard)
+      (ends_well e script status (ends_as_told AnswersAlone (opening_state s 0) left after so.answers e m session script left_is) (not_end e end.ReadFault status is heard)
       (not_end e end.WriteFault status is (no_write status whole)) (no_write status whole) (inl is))
 
 session_completes : (b a : Outside) (status : Status) (files : Files) (script : List ℕ) (n : ℕ) → Ran (Some (command.Session n)) status b a → b.told ≡ Some files → b.left ≡ Some script

@@ -23,20 +23,20 @@ told_well viewers t (end.LineTooLong n) e lines closes is = let wrong : end.Line
 told_well viewers t end.TooManyCommands e lines closes is = let wrong : end.TooManyCommands ≡ end.Ended = sym closes.0 ∙ is in cc
 told_well viewers t end.NoMemory e lines closes is = let wrong : end.NoMemory ≡ end.Ended = sym closes.0 ∙ is in cc
 
-all_answered : (s : ScenarioData) (script answers : List ℕ) (left : Option (List ℕ)) (t : Analysts) → IsSession AnswersAlone s (Some script) left end.Ended answers t
-    → AnswersLines AnswersAlone (opening_state s) (lines_of script) answers t
+all_answered : (s : ScenarioData) (script answers : List ℕ) (left : Option (List ℕ)) (t : Analysts) → IsSession AnswersAlone (opening_state s 0) (Some script) left end.Ended answers t
+    → AnswersLines AnswersAlone (opening_state s 0) (lines_of script) answers t
 all_answered s script answers left t so =
     let (rest, cut, none) = so.ends in
     let all : lines_of script ≡ so.answered = cut ∙ ap (λ r. so.answered ++ r) none ∙ append-nil so.answered in
-    subst (λ ls. AnswersLines AnswersAlone (opening_state s) ls answers t) (sym all) so.runs
+    subst (λ ls. AnswersLines AnswersAlone (opening_state s 0) ls answers t) (sym all) so.runs
 
 pub view_well : (viewers : ℕ) (s : ScenarioData) (script left old now new : Option (List ℕ)) (e : SessionEnd) (output : List ℕ) (t : Analysts) → e ≡ end.Ended
-    → IsView viewers s script left e output t → Wrote e old now output → ((lines : List ℕ) → script ≡ Some lines → e ≡ end.Ended → left ≡ Some [])
+    → IsView viewers (opening_state s 0) script left e output t → Wrote e old now output → ((lines : List ℕ) → script ≡ Some lines → e ≡ end.Ended → left ≡ Some [])
     → new ≡ appended (closing_of e) now → ServesWhole (IsViewOutput viewers) s script left old new
 view_well viewers s None left old now new e output t is so wrote read closed = tt
 view_well viewers s (Some script) left old now new e output t is so wrote read closed =
     let (ended, tell) = told_well viewers t so.session_end e so.lines so.closes is in
-    let session : IsSession AnswersAlone s (Some script) left end.Ended so.answers t = subst (λ x. IsSession AnswersAlone s (Some script) left x so.answers t) ended so.session in
+    let session : IsSession AnswersAlone (opening_state s 0) (Some script) left end.Ended so.answers t = subst (λ x. IsSession AnswersAlone (opening_state s 0) (Some script) left x so.answers t) ended so.session in
     let still : new ≡ now = closed ∙ ap (λ k. appended (closing_of k) now) is ∙ sym (nothing_more now) in (
       output,
       (t, so.answers, so.lines, all_answered s script so.answers left t session, tell, so.output_is),

@@ -45,7 +45,7 @@ IsCaseUnder IsOutput told status text =
 
 -- the outputs of a session of a scenario, by this rule of answers, with a script, what is left of it, and up to an end
 abbrev pub IsServed : Answering → Option (List ℕ) → Option (List ℕ) → ScenarioData → SessionEnd → List ℕ → Type 0
-IsServed answers script left s end output = (t : Analysts) × IsSession answers s script left end output t
+IsServed answers script left s end output = (t : Analysts) × IsSession answers (opening_state s 0) script left end output t
 
 -- the whole text that belongs to a session and a status
 abbrev pub IsSessionUnder : Answering → Option Files → Option (List ℕ) → Option (List ℕ) → Status → List ℕ → Type 0
@@ -64,5 +64,5 @@ ServesWhole IsOutput s script left old new = IfSome script (λ lines. (output : 
 -- exactly the lines that had come whole of the script were answered, by this rule, and their answers were written
 abbrev pub ServesWhatCame : Answering → ScenarioData → Option (List ℕ) → Option (List ℕ) → Option (List ℕ) → Option (List ℕ) → Type 0
 ServesWhatCame answers s script left old new = IfSome script (λ bytes. (lines : List (List ℕ)) × (output : List ℕ)
-    × (t : Analysts) × CameWhole bytes left lines × AnswersLines answers (opening_state s) lines output t
+    × (t : Analysts) × CameWhole bytes left lines × AnswersLines answers (opening_state s 0) lines output t
     × (new ≡ appended output old))

@@ -6,6 +6,7 @@ ghost use Rattle.ltm_io.specs.Folder.{Files};
 ghost use Rattle.ltm_io.specs.declared.doc.Doc.{Doc};
 ghost use Rattle.ltm_scenario.specs.Valid.{IsValid};
 ghost use Rattle.ltm_core.specs.Log.{version_now};
+ghost use Rattle.ltm_core.specs.Told.{settles_of};
 ghost use Rattle.ltm_session.specs.declared.ends.SessionEnd.{SessionEnd};
 ghost use Rattle.ltm_session.specs.Answers.{AnswersAlone};
 ghost use Rattle.ltm_command.specs.declared.words.Command.{Command};
@@ -98,6 +99,7 @@ fn serve_core<S: Source, W: Sink>(
     output: &mut W,
 ) -> Status
     requires fresh { version_now core.log ≡ 0 }
+    requires uncounted { settles_of core ≡ 0 }
     ensures { (told : Option Files) (faults : Doc → ℕ)
         → IsRun (EndsUnder (IsServed AnswersAlone (S.left input.old) (S.left input.new)
         core.log.opening)) (λ d. ⊥) (Unit {0}) result

@@ -4,6 +4,7 @@ ghost use Rattle.ltm_io.specs.Folder.{Files};
 ghost use Rattle.ltm_io.specs.declared.doc.Doc.{Doc};
 ghost use Rattle.ltm_scenario.specs.Valid.{IsValid};
 ghost use Rattle.ltm_core.specs.Log.{version_now};
+ghost use Rattle.ltm_core.specs.Told.{settles_of};
 ghost use Rattle.ltm_session.specs.Answers.{AnswersBeside};
 ghost use Rattle.ltm_command.specs.declared.words.Command.{Command};
 ghost use Rattle.ltm_command.specs.Run.{IsRun, outside};
@@ -35,6 +36,7 @@ fn serve_core<R: Threads + Wait + Sync, S: Source, W: Sink, G: Gate>(
 ) -> Status
     requires workers { workers ≤ 64 }
     requires fresh { version_now core.log ≡ 0 }
+    requires uncounted { settles_of core ≡ 0 }
     requires running { core.stopped ≡ false }
     ensures { (told : Option Files) (faults : Doc → ℕ)
         → IsRun (EndsUnder (IsServed AnswersBeside (S.left input.old) (S.left input.new)

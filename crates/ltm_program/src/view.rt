@@ -4,6 +4,7 @@ ghost use Rattle.ltm_io.specs.Folder.{Files};
 ghost use Rattle.ltm_io.specs.declared.doc.Doc.{Doc};
 ghost use Rattle.ltm_scenario.specs.Valid.{IsValid};
 ghost use Rattle.ltm_core.specs.Log.{version_now};
+ghost use Rattle.ltm_core.specs.Told.{settles_of};
 ghost use Rattle.ltm_command.specs.declared.words.Command.{Command};
 ghost use Rattle.ltm_command.specs.Run.{IsRun, outside};
 ghost use Rattle.ltm_program.specs.Sessions.{EndsUnder};
@@ -32,6 +33,7 @@ fn view_core<R: Threads + Wait + Sync, S: Source, W: Sink>(
 ) -> Status
     requires few { (0 < viewers) × (viewers ≤ 2) }
     requires fresh { version_now core.log ≡ 0 }
+    requires uncounted { settles_of core ≡ 0 }
     ensures { (told : Option Files) (faults : Doc → ℕ)
         → IsRun (EndsUnder (IsViewed viewers (S.left input.old) (S.left input.new)
         core.log.opening)) (λ d. ⊥) (Unit {0}) result

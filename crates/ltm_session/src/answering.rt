@@ -52,7 +52,7 @@ pub fn answer(
     into: &mut Vec<u8>,
 ) -> Result<(), NoMemory>
     requires { AwaitsLine core.old }
-    // What is answered, and the log and what is shown after it.
+    // What is answered, and the log, what is shown and how many settles were counted after it.
     ensures ok { OnOk result ((text : List ℕ)
         × AnswersLine AnswersAlone (state_of core.old) line.now text (state_of core.new)
         × (into.new.items ≡ into.old.items ++ text)) }
