@@ -1,6 +1,7 @@
 """Sessions beside workers over a case of wide slots and rows, where a settle calls them: they answer as one without workers."""
 import json
 import subprocess
+import time
 import unittest
 
 from support import BUILT, FolderTest, needs_program
@@ -52,6 +53,25 @@ class Wide(FolderTest):
             # where two batches are settled at once, workers may have repaired the first before the second came: more pairs are counted
             self.assertEqual(beside[:20], alone[:20])
             self.assertEqual(beside[21:], alone[21:])
+
+    def test_workers_repair_while_the_editor_waits(self) -> None:
+        """Nobody settles: what a batch changes is shown because workers claimed its pairs, worked on them and committed them."""
+        ring().write(self.folder)
+        batch, settled, totals = script().splitlines(keepends=True)[:3]
+        repaired = self.served(0)[2]
+        with subprocess.Popen([BUILT, "session", "2"], cwd=self.folder, stdin=subprocess.PIPE, stdout=subprocess.PIPE, text=True, bufsize=1) as session:
+            assert session.stdin and session.stdout
+            self.addCleanup(session.kill)
+            session.stdin.write(batch)
+            self.assertEqual(session.stdout.readline(), "accepted version 1\n")
+            until = time.monotonic() + 60
+            answer = ""
+            while answer[:10] != "version 1 " and time.monotonic() < until:
+                time.sleep(0.05)
+                session.stdin.write(totals)
+                answer = session.stdout.readline()
+            session.stdin.close()
+        self.assertEqual(answer.rstrip(), repaired)
 
 
 if __name__ == "__main__":

@@ -1,5 +1,5 @@
 -- What a session wrote that a failed read ended.
-use Rattle.std.proofs.Common.{ℕ, ◌≡◌, ◌⊎◌, inl, inr, refl, ap, sym, subst, ◌∙◌, List, [], ◌++◌, Option, None, Some, Ok}
+use Rattle.std.proofs.Common.{ℕ, ◌≡◌, inl, inr, refl, ap, sym, ◌∙◌, List, [], ◌++◌, Option, None, Some, Ok}
 use Rattle.std.proofs.lemmas.List.{append-nil}
 use Rattle.ltm_io.specs.Sink.{appended}
 use Rattle.ltm_scenario.specs.Data.{ScenarioData}
