@@ -2,7 +2,7 @@
 use Rattle.std.proofs.Common.{◌≡◌, List, [], ◌∷◌, ◌++◌, map, take, refl, sym, ap, ◌∙◌, append_assoc}
 use Rattle.std.proofs.lemmas.List.{map-append}
 use mathlib.Core.List.{IsPrefix}
-use Rattle.ltm_board.specs.Lists.{joined}
+use Rattle.ltm_board.specs.Lists.{entries_of_posts}
 use Rattle.ltm_board.specs.Begins.{BeginsWith}
 
 module _ {E : Type 0} where
@@ -29,16 +29,16 @@ module _ {E : Type 0} where
   front_begins (x ∷ xs) = (xs, ap (λ l. x ∷ l ++ xs) (none_taken xs))
 
   -- ---- posts one behind another
-  pub joined_both : (a b : List (List E)) → joined (a ++ b) ≡ joined a ++ joined b
+  pub joined_both : (a b : List (List E)) → entries_of_posts (a ++ b) ≡ entries_of_posts a ++ entries_of_posts b
   joined_both [] b = refl
-  joined_both (post ∷ posts) b = ap (λ l. post ++ l) (joined_both posts b) ∙ sym (append_assoc post (joined posts) (joined b))
+  joined_both (post ∷ posts) b = ap (λ l. post ++ l) (joined_both posts b) ∙ sym (append_assoc post (entries_of_posts posts) (entries_of_posts b))
 
-  pub joined_more : (posts : List (List E)) (post : List E) → joined (posts ++ post ∷ []) ≡ joined posts ++ post
-  joined_more posts post = joined_both posts (post ∷ []) ∙ ap (λ l. joined posts ++ l) (append_nil post)
+  pub joined_more : (posts : List (List E)) (post : List E) → entries_of_posts (posts ++ post ∷ []) ≡ entries_of_posts posts ++ post
+  joined_more posts post = joined_both posts (post ∷ []) ∙ ap (λ l. entries_of_posts posts ++ l) (append_nil post)
 
   -- posts that begin with others have a list that begins with theirs
-  pub joined_begins : (a b : List (List E)) → IsPrefix a b → IsPrefix (joined a) (joined b)
-  joined_begins a b (rest, e) = (joined rest, sym (joined_both a rest) ∙ ap joined e)
+  pub joined_begins : (a b : List (List E)) → IsPrefix a b → IsPrefix (entries_of_posts a) (entries_of_posts b)
+  joined_begins a b (rest, e) = (entries_of_posts rest, sym (joined_both a rest) ∙ ap entries_of_posts e)
 
 pub map_begins : {E F : Type 0} (f : E → F) (xs ys : List E) → IsPrefix xs ys → IsPrefix (map f xs) (map f ys)
 map_begins f xs ys (rest, e) = (map f rest, sym (map-append f xs rest) ∙ ap (λ l. map f l) e)

@@ -8,7 +8,7 @@ use Rattle.ltm_board.specs.declared.panel.Panel.{Panel}
 use Rattle.ltm_board.specs.declared.panel.Posting.{Posting}
 use Rattle.ltm_scenario.specs.Makes.{EditsMake}
 use Rattle.ltm_board.specs.Sheets.{SheetData, links_on}
-use Rattle.ltm_board.specs.Lists.{PostData, list_of, opening_of, joined, entries_of_batches, IsSheetAfter}
+use Rattle.ltm_board.specs.Lists.{PostData, list_of, opening_of, entries_of_posts, entries_of_batches, IsSheetAfter}
 use Rattle.ltm_board.specs.Panels.{batches_in, posts_of, IsRight, AllKeep}
 use Rattle.ltm_board.proofs.Lists.{append_nil, none_taken, joined_more}
 use Rattle.ltm_board.proofs.Right.{links_stay}
@@ -53,22 +53,22 @@ all_keep_more n (o ∷ os) op h c = let k = keep n o os h in let r = all_keep_mo
 -- a posting that is right behind what is shown
 pub record IsNext (x : Panel) (op : Posting) : Type 0 where
   pub keeps : op.keeps ≡ length x.posts.items
-  pub sheet : IsSheetAfter (joined (posts_of x) ++ entries_of_batches op.batches.items) op.sheet
-  pub count : op.count + 1 ≡ length (joined (posts_of x) ++ entries_of_batches op.batches.items)
+  pub sheet : IsSheetAfter (entries_of_posts (posts_of x) ++ entries_of_batches op.batches.items) op.sheet
+  pub count : op.count + 1 ≡ length (entries_of_posts (posts_of x) ++ entries_of_batches op.batches.items)
 
 pub next_of : (x : Panel) (op : Posting) (batches : Batches) (count : ℕ) (sheet : SheetData) → op.keeps ≡ length x.posts.items → op.batches.items ≡ batches → op.count ≡ count → op.sheet ≡ sheet
-    → IsSheetAfter (joined (posts_of x) ++ entries_of_batches batches) sheet → count + 1 ≡ length (joined (posts_of x) ++ entries_of_batches batches) → IsNext x op
+    → IsSheetAfter (entries_of_posts (posts_of x) ++ entries_of_batches batches) sheet → count + 1 ≡ length (entries_of_posts (posts_of x) ++ entries_of_batches batches) → IsNext x op
 next_of x op batches count sheet k b n s right counted = record {
   keeps = k;
-  sheet = subst (λ (l : Batches). IsSheetAfter (joined (posts_of x) ++ entries_of_batches l) op.sheet) (sym b) (subst (λ (z : SheetData). IsSheetAfter (joined (posts_of x) ++ entries_of_batches batches) z) (sym s) right);
-  count = ap (λ m. m + 1) n ∙ (counted ∙ ap (λ (l : Batches). length (joined (posts_of x) ++ entries_of_batches l)) (sym b));
+  sheet = subst (λ (l : Batches). IsSheetAfter (entries_of_posts (posts_of x) ++ entries_of_batches l) op.sheet) (sym b) (subst (λ (z : SheetData). IsSheetAfter (entries_of_posts (posts_of x) ++ entries_of_batches batches) z) (sym s) right);
+  count = ap (λ m. m + 1) n ∙ (counted ∙ ap (λ (l : Batches). length (entries_of_posts (posts_of x) ++ entries_of_batches l)) (sym b));
 }
 
 -- what is shown then
 pub record Now (x next : Panel) (op : Posting) : Type 0 where
   pub posts : posts_of next ≡ posts_of x ++ entries_of_batches op.batches.items ∷ []
   pub opening : opening_of (posts_of next) ≡ opening_of (posts_of x)
-  pub sheet : IsSheetAfter (joined (posts_of x) ++ entries_of_batches op.batches.items) next.sheet
+  pub sheet : IsSheetAfter (entries_of_posts (posts_of x) ++ entries_of_batches op.batches.items) next.sheet
   pub right : IsRight next
 
 same_first : (x : PostData) (xs ys : List PostData) → opening_of (x ∷ xs) ≡ opening_of (x ∷ ys)
@@ -85,9 +85,9 @@ now_shown x next ops op keeps is same =
     ∙ posted s list [] x.count x.sheet ops op (subst (λ n. AllKeep n ops) long keeps) (is.keeps ∙ long)) in
     let posts : posts_of next ≡ posts_of x ++ entries_of_batches op.batches.items ∷ [] =
     ap (λ (p : Shown). list_of p.0 [] ∷ map entries_of_batches p.1) e ∙ ap (λ (l : List PostData). list_of s [] ∷ l) (map-append entries_of_batches list (op.batches.items ∷ [])) in
-    let all : joined (posts_of next) ≡ joined (posts_of x) ++ entries_of_batches op.batches.items = ap joined posts ∙ joined_more (posts_of x) (entries_of_batches op.batches.items) in
+    let all : entries_of_posts (posts_of next) ≡ entries_of_posts (posts_of x) ++ entries_of_batches op.batches.items = ap entries_of_posts posts ∙ joined_more (posts_of x) (entries_of_batches op.batches.items) in
     let sheet : next.sheet ≡ op.sheet = ap (λ (p : Shown). p.3) e in
-    let behind : IsSheetAfter (joined (posts_of x) ++ entries_of_batches op.batches.items) next.sheet = subst (λ (z : SheetData). IsSheetAfter (joined (posts_of x) ++ entries_of_batches op.batches.items) z) (sym sheet) is.sheet in
+    let behind : IsSheetAfter (entries_of_posts (posts_of x) ++ entries_of_batches op.batches.items) next.sheet = subst (λ (z : SheetData). IsSheetAfter (entries_of_posts (posts_of x) ++ entries_of_batches op.batches.items) z) (sym sheet) is.sheet in
     let count : next.count ≡ op.count = ap (λ (p : Shown). p.2) e in record {
       posts = posts;
       opening = ap opening_of posts ∙ same_first (list_of s []) (map entries_of_batches list ++ entries_of_batches op.batches.items ∷ []) (map entries_of_batches list);
@@ -115,7 +115,7 @@ after (Ok a) x y ops left op right keeps is h = let now = now_shown x y ops op k
   ok = now.posts;
   err = tt;
   opening = now.opening;
-  links = λ make. links_stay make (joined (posts_of x)) (entries_of_batches op.batches.items) x.sheet y.sheet right.sheet now.sheet;
+  links = λ make. links_stay make (entries_of_posts (posts_of x)) (entries_of_batches op.batches.items) x.sheet y.sheet right.sheet now.sheet;
 }
 after (Err b) x y ops left op right keeps is h = record {
   right = subst (λ (z : Panel). IsRight z) (sym h.0) right;
@@ -136,6 +136,6 @@ after_append (Err b) x x' y ops waiting left op e f right keeps is h = after (Er
 pub opens_right : (s : ScenarioData) (x : Panel) (sheet : SheetData) → x.opening.value ≡ s → x.posts.items ≡ [] → x.count ≡ 0 → x.sheet ≡ sheet → IsSheetAfter (list_of s []) sheet → IsRight x
 opens_right s x sheet opening none zero same right =
     let posts : posts_of x ≡ list_of s [] ∷ [] = λ i. list_of (opening i) [] ∷ map entries_of_batches (batches_in (none i)) in record {
-      sheet = subst (λ (l : List PostData). IsSheetAfter (joined l) x.sheet) (sym posts) (subst (λ (z : SheetData). IsSheetAfter (list_of s []) z) (sym same) right);
-      count = ap (λ n. n + 1) zero ∙ ap (λ (l : List PostData). length (joined l)) (sym posts);
+      sheet = subst (λ (l : List PostData). IsSheetAfter (entries_of_posts l) x.sheet) (sym posts) (subst (λ (z : SheetData). IsSheetAfter (list_of s []) z) (sym same) right);
+      count = ap (λ n. n + 1) zero ∙ ap (λ (l : List PostData). length (entries_of_posts l)) (sym posts);
     }

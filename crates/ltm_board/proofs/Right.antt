@@ -11,7 +11,7 @@ use Rattle.ltm_flows.specs.Shown.{ShowsCounts}
 use Rattle.ltm_core.specs.declared.entry.LogEntry.{LogEntry}
 use Rattle.ltm_core.specs.declared.entry.LogEntry.TheVariants.{Opening, Accepted, Mark}
 use Rattle.ltm_board.specs.Sheets.{SheetData, IsSheet, links_on}
-use Rattle.ltm_board.specs.Lists.{PostData, joined, list_of, opening_posts, opening_of, links_told, is_opened, LeadsTo, IsLoadingOf, IsSheetAfter}
+use Rattle.ltm_board.specs.Lists.{PostData, entries_of_posts, list_of, opening_posts, opening_of, links_told, is_opened, LeadsTo, IsLoadingOf, IsSheetAfter}
 use Rattle.ltm_board.proofs.Lists.{begins_trans, front_begins, joined_begins}
 use Rattle.ltm_board.proofs.Networks.{by_batches}
 
@@ -47,10 +47,10 @@ told_same (Mark ∷ rest) list opened begins = absurd (cc)
 told_same [] list opened begins = absurd (cc)
 
 -- what is shown has as many links as the opening of those posts that were seen
-pub links_seen : EditsMake → (seen posts : List PostData) (sheet : SheetData) → is_opened (joined (opening_of seen)) ≡ true → IsPrefix seen posts → IsSheetAfter (joined posts) sheet
-    → links_on sheet ≡ links_told (joined (opening_of seen))
+pub links_seen : EditsMake → (seen posts : List PostData) (sheet : SheetData) → is_opened (entries_of_posts (opening_of seen)) ≡ true → IsPrefix seen posts → IsSheetAfter (entries_of_posts posts) sheet
+    → links_on sheet ≡ links_told (entries_of_posts (opening_of seen))
 links_seen make seen posts sheet opened up is =
-    links_after make (joined posts) sheet is ∙ told_same (joined (opening_of seen)) (joined posts) opened (joined_begins (opening_of seen) posts (begins_trans (opening_of seen) seen posts (front_begins seen) up))
+    links_after make (entries_of_posts posts) sheet is ∙ told_same (entries_of_posts (opening_of seen)) (entries_of_posts posts) opened (joined_begins (opening_of seen) posts (begins_trans (opening_of seen) seen posts (front_begins seen) up))
 
 pub same_opened : (a b : List LogEntry) → a ≡ b → is_opened b ≡ true → is_opened a ≡ true
 same_opened a b e opened = ap is_opened e ∙ opened
@@ -69,5 +69,5 @@ links_stay make list more sheet next is now =
 pub links_opening : EditsMake → (s : ScenarioData) (sheet : SheetData) → IsSheetAfter (list_of s []) sheet → links_on sheet ≡ (setting_of s).links
 links_opening make s sheet is = links_after make (list_of s []) sheet is ∙ sym (links_in s)
 
-pub told_opening : (s : ScenarioData) (posts : List PostData) → posts ≡ opening_posts s → links_told (joined (opening_of posts)) ≡ (setting_of s).links
-told_opening s posts is = ap (λ (l : List PostData). links_told (joined (opening_of l))) is ∙ sym (links_in s)
+pub told_opening : (s : ScenarioData) (posts : List PostData) → posts ≡ opening_posts s → links_told (entries_of_posts (opening_of posts)) ≡ (setting_of s).links
+told_opening s posts is = ap (λ (l : List PostData). links_told (entries_of_posts (opening_of l))) is ∙ sym (links_in s)

@@ -10,7 +10,7 @@ use Rattle.ltm_board.specs.declared.panel.Posting.{Posting}
 use Rattle.ltm_board.specs.declared.glimpse.Glimpse.{Glimpse}
 use Rattle.ltm_board.specs.Glimpses.{newcomer}
 use Rattle.ltm_board.specs.Sheets.{SheetData}
-use Rattle.ltm_board.specs.Lists.{PostData, list_of, joined, entries_of_batches, IsSheetAfter}
+use Rattle.ltm_board.specs.Lists.{PostData, list_of, entries_of_posts, entries_of_batches, IsSheetAfter}
 use Rattle.ltm_board.specs.Panels.{posts_of, IsRight, AllKeep}
 use Rattle.ltm_board.specs.Rule.{Keeps, Looked}
 use Rattle.ltm_board.proofs.Lists.{itself, begins_trans}
@@ -41,8 +41,8 @@ shows_same seat v x next is views h at =
     let posts : posts_of x ≡ posts_of next = ap (λ (p : Shown). list_of p.0 [] ∷ map entries_of_batches p.1) (sym is) in
     let sheet : x.sheet ≡ next.sheet = ap (λ (p : Shown). p.3) (sym is) in
     let right : IsRight next = record {
-      sheet = subst (λ (l : List PostData). IsSheetAfter (joined l) next.sheet) posts (subst (λ (z : SheetData). IsSheetAfter (joined (posts_of x)) z) sheet h.0.sheet);
-      count = ap (λ (p : Shown). p.2 + 1) is ∙ (h.0.count ∙ ap (λ (l : List PostData). length (joined l)) posts);
+      sheet = subst (λ (l : List PostData). IsSheetAfter (entries_of_posts l) next.sheet) posts (subst (λ (z : SheetData). IsSheetAfter (entries_of_posts (posts_of x)) z) sheet h.0.sheet);
+      count = ap (λ (p : Shown). p.2 + 1) is ∙ (h.0.count ∙ ap (λ (l : List PostData). length (entries_of_posts l)) posts);
     } in
     rises seat v x next right (subst (λ l. IsPrefix (posts_of x) l) posts (itself (posts_of x))) views h at
 

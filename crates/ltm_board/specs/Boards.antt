@@ -2,7 +2,7 @@
 use Rattle.std.specs.Prelude.{ℕ, List, [], Option, Some, None}
 use Rattle.ltm_units.specs.declared.quantities.Units.{Units}
 use Rattle.ltm_board.specs.Sheets.{SheetData, links_on}
-use Rattle.ltm_board.specs.Lists.{PostData, joined, links_told, opening_of}
+use Rattle.ltm_board.specs.Lists.{PostData, entries_of_posts, links_told, opening_of}
 use Rattle.ltm_board.specs.Panels.{posts_of}
 use Rattle.ltm_board.specs.declared.note.Note.{Note}
 
@@ -44,7 +44,7 @@ abbrev pub board_links : BoardData → ℕ
 board_links b = links_on b.sheet
 
 abbrev pub viewer_links : ViewerData → ℕ
-viewer_links v = links_told (joined v.opening)
+viewer_links v = links_told (entries_of_posts v.opening)
 
 -- ---- while nothing is shown
 -- what is there, if anything is

@@ -2,7 +2,7 @@
 use Rattle.std.specs.Prelude.{◌≡◌, true, List, [], ◌∷◌}
 use Rattle.ltm_board.specs.declared.told.Told.{Told, None, Then'}
 use Rattle.ltm_board.specs.Begins.{BeginsWith}
-use Rattle.ltm_board.specs.Lists.{PostData, joined, is_opened, opening_of}
+use Rattle.ltm_board.specs.Lists.{PostData, entries_of_posts, is_opened, opening_of}
 use Rattle.ltm_board.specs.Panels.{posts_of}
 
 module _ {E : Type 0} where
@@ -18,5 +18,5 @@ lists_of (Then' panel at before) = posts_of panel.value ∷ lists_of before
 
 -- the posts that were seen last begin with an opening scenario, and with each list that is known
 pub record HasSeen (posts : List PostData) (known : List (List PostData)) : Type 0 where
-  pub opened : is_opened (joined (opening_of posts)) ≡ true
+  pub opened : is_opened (entries_of_posts (opening_of posts)) ≡ true
   pub begins : BeginsWith posts known

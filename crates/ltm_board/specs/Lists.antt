@@ -25,9 +25,9 @@ abbrev pub PostData : Type 0
 PostData = List LogEntry
 
 -- what posts put, as one list
-abbrev pub joined : {E : Type 0} → List (List E) → List E
-joined [] = []
-joined (post ∷ posts) = post ++ joined posts
+abbrev pub entries_of_posts : {E : Type 0} → List (List E) → List E
+entries_of_posts [] = []
+entries_of_posts (post ∷ posts) = post ++ entries_of_posts posts
 
 -- the posts of a board on which nothing was posted but its opening scenario
 abbrev pub opening_posts : ScenarioData → List PostData

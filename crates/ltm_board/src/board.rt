@@ -2,7 +2,7 @@
 ghost use Rattle.std.specs.Prelude.{◌≡◌, ◌+◌, ◌++◌, [], ◌∷◌, length, OnOk, OnErr, IfOk};
 ghost use Rattle.ltm_setting.specs.Setting.{setting_of};
 ghost use Rattle.ltm_board.specs.Sheets.{links_on};
-ghost use Rattle.ltm_board.specs.Lists.{opening_posts, joined, entries_of_batches, LeadsTo, IsLoadingOf, IsSheetAfter};
+ghost use Rattle.ltm_board.specs.Lists.{opening_posts, entries_of_posts, entries_of_batches, LeadsTo, IsLoadingOf, IsSheetAfter};
 ghost use Rattle.ltm_board.specs.Panels.{posts_of, IsRight};
 ghost use Rattle.ltm_board.specs.Boards.{board_opening, board_list, board_sheet, board_links, viewer_opening, viewer_lists, viewer_links, note_list};
 
@@ -58,7 +58,7 @@ impl Board {
         requires { IsLoadingOf opening.now loading.now }
         ensures list { IfOk result (λ r. (board_list r.0 ≡ opening_posts opening.now)
             × (viewer_lists r.1 ≡ opening_posts opening.now ∷ [])) }
-        ensures sheet { IfOk result (λ r. IsSheetAfter (joined (board_list r.0))
+        ensures sheet { IfOk result (λ r. IsSheetAfter (entries_of_posts (board_list r.0))
             (board_sheet r.0)) }
         ensures links { IfOk result (λ r. (board_links r.0 ≡ (setting_of opening.now).links)
             × (viewer_links r.1 ≡ (setting_of opening.now).links)) }
@@ -105,13 +105,13 @@ impl Board {
         scenario: &Scenario,
         loading: &Loading,
     ) -> Result<(), NoMemory>
-        requires leads { LeadsTo (joined (board_list self.old)
+        requires leads { LeadsTo (entries_of_posts (board_list self.old)
             ++ entries_of_batches batches.now) scenario.now }
         requires loading { IsLoadingOf scenario.now loading.now }
         // All batches are one post, behind those before it.
         ensures list { OnOk result (board_list self.new
             ≡ board_list self.old ++ entries_of_batches batches.now ∷ []) }
-        ensures sheet { OnOk result (IsSheetAfter (joined (board_list self.new))
+        ensures sheet { OnOk result (IsSheetAfter (entries_of_posts (board_list self.new))
             (board_sheet self.new)) }
         ensures refused { OnErr result ((board_list self.new ≡ board_list self.old)
             × (board_sheet self.new ≡ board_sheet self.old)) }
@@ -142,8 +142,8 @@ impl Board {
     pub fn sheet(&self, into: &mut Sheet) -> u64
         requires { links_on into.old ≡ board_links self.now }
         ensures sheet { into.new ≡ board_sheet self.now }
-        ensures right { IsSheetAfter (joined (board_list self.now)) into.new }
-        ensures count { result + 1 ≡ length (joined (board_list self.now)) }
+        ensures right { IsSheetAfter (entries_of_posts (board_list self.now)) into.new }
+        ensures count { result + 1 ≡ length (entries_of_posts (board_list self.now)) }
     {
         let panel = self.shown();
         into.copy_from(&panel.sheet);

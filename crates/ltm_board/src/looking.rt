@@ -3,7 +3,7 @@ ghost use Rattle.std.specs.Prelude.{◌≡◌, ◌+◌, true, length, IsTrue, Ma
 ghost use mathlib.Core.List.{IsPrefix};
 ghost use Rattle.left_right.specs.Sides.{view};
 ghost use Rattle.ltm_board.specs.Sheets.{links_on};
-ghost use Rattle.ltm_board.specs.Lists.{joined, opening_of, links_told, is_opened, IsSheetAfter};
+ghost use Rattle.ltm_board.specs.Lists.{entries_of_posts, opening_of, links_told, is_opened, IsSheetAfter};
 ghost use Rattle.ltm_board.specs.Panels.{posts_of};
 ghost use Rattle.ltm_board.specs.Looks.{HasRead};
 
@@ -29,8 +29,8 @@ pub struct Found {
 
 // One look, which gives the sheet.
 fn read_once(reader: BoardReader, into: &mut Sheet) -> Result<(Found, BoardReader), BoardReader>
-    requires opened { is_opened (joined (opening_of (view reader.place).seen)) ≡ true }
-    requires links { links_on into.old ≡ links_told (joined (opening_of (view reader.place).seen)) }
+    requires opened { is_opened (entries_of_posts (opening_of (view reader.place).seen)) ≡ true }
+    requires links { links_on into.old ≡ links_told (entries_of_posts (opening_of (view reader.place).seen)) }
     ensures read { MatchResult result (λ r. HasRead (view reader.place).seen
         (view r.1.place).seen r.0 into.new) (λ r. view r.place ≡ view reader.place) }
     ensures links { links_on into.new ≡ links_on into.old }
@@ -52,8 +52,8 @@ pub(crate) fn read_in<R: Wait>(
     mut reader: BoardReader,
     into: &mut Sheet,
 ) -> (Found, BoardReader)
-    requires opened { is_opened (joined (opening_of (view reader.place).seen)) ≡ true }
-    requires links { links_on into.old ≡ links_told (joined (opening_of (view reader.place).seen)) }
+    requires opened { is_opened (entries_of_posts (opening_of (view reader.place).seen)) ≡ true }
+    requires links { links_on into.old ≡ links_told (entries_of_posts (opening_of (view reader.place).seen)) }
     ensures read { HasRead (view reader.place).seen (view result.1.place).seen result.0 into.new }
     ensures links { links_on into.new ≡ links_on into.old }
 {
@@ -70,7 +70,7 @@ pub(crate) fn read_in<R: Wait>(
 
 // One look, and whether the posts that were found begin with those of a note.
 fn find_once(reader: BoardReader, note: &Panel) -> (bool, BoardReader)
-    requires opened { is_opened (joined (opening_of (view reader.place).seen)) ≡ true }
+    requires opened { is_opened (entries_of_posts (opening_of (view reader.place).seen)) ≡ true }
     requires opening { opening_of (posts_of note.now) ≡ opening_of (view reader.place).seen }
     ensures begins { IsPrefix (view reader.place).seen (view result.1.place).seen }
     ensures found { IsTrue result.0 → IsPrefix (posts_of note.now) (view result.1.place).seen }
@@ -86,7 +86,7 @@ fn find_once(reader: BoardReader, note: &Panel) -> (bool, BoardReader)
 
 /// Looks until the posts begin with those of a note, as they do at the first look where the note is of this board.
 pub(crate) fn find_in<R: Wait>(rt: &R, mut reader: BoardReader, note: &Panel) -> BoardReader
-    requires opened { is_opened (joined (opening_of (view reader.place).seen)) ≡ true }
+    requires opened { is_opened (entries_of_posts (opening_of (view reader.place).seen)) ≡ true }
     requires opening { opening_of (posts_of note.now) ≡ opening_of (view reader.place).seen }
     ensures begins { IsPrefix (view reader.place).seen (view result.place).seen }
     ensures found { IsPrefix (posts_of note.now) (view result.place).seen }

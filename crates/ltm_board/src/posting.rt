@@ -1,6 +1,6 @@
 //! The step of a post.
 ghost use Rattle.std.specs.Prelude.{◌≡◌, ◌+◌, [], ◌∷◌, ◌++◌, drop, length, OnOk, OnErr};
-ghost use Rattle.ltm_board.specs.Lists.{joined, entries_of_batches, opening_of, IsSheetAfter};
+ghost use Rattle.ltm_board.specs.Lists.{entries_of_posts, entries_of_batches, opening_of, IsSheetAfter};
 ghost use Rattle.ltm_board.specs.Panels.{posts_of, IsRight, AllKeep};
 ghost use Rattle.ltm_board.specs.Sheets.{links_on};
 
@@ -27,10 +27,10 @@ pub(crate) fn post_on<R: Wait>(
     requires right { IsRight writer.desk.shown.value }
     requires keeps { AllKeep (length writer.desk.shown.value.posts.items)
         (drop writer.behind writer.log.items) }
-    requires sheet { IsSheetAfter (joined (posts_of writer.desk.shown.value)
+    requires sheet { IsSheetAfter (entries_of_posts (posts_of writer.desk.shown.value)
         ++ entries_of_batches batches.items) sheet }
     requires count { count + 1
-        ≡ length (joined (posts_of writer.desk.shown.value) ++ entries_of_batches batches.items) }
+        ≡ length (entries_of_posts (posts_of writer.desk.shown.value) ++ entries_of_batches batches.items) }
     ensures right { IsRight result.0.desk.shown.value }
     ensures keeps { AllKeep (length result.0.desk.shown.value.posts.items)
         (drop result.0.behind result.0.log.items) }

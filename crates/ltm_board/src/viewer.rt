@@ -3,7 +3,7 @@ ghost use Rattle.std.specs.Prelude.{◌≡◌, ◌+◌, ◌∷◌, length};
 ghost use Rattle.left_right.specs.Sides.{view};
 ghost use Rattle.ltm_board.specs.Begins.{BeginsWith};
 ghost use Rattle.ltm_board.specs.Sheets.{links_on};
-ghost use Rattle.ltm_board.specs.Lists.{joined, opening_of, IsSheetAfter};
+ghost use Rattle.ltm_board.specs.Lists.{entries_of_posts, opening_of, IsSheetAfter};
 ghost use Rattle.ltm_board.specs.Known.{newest, lists_of, HasSeen};
 ghost use Rattle.ltm_board.specs.Boards.{viewer_opening, viewer_lists, viewer_links, note_opening, note_list};
 
@@ -65,8 +65,8 @@ impl Viewer {
         ensures list { viewer_lists self.new
             ≡ newest (viewer_lists self.new) ∷ viewer_lists self.old }
         ensures begins { BeginsWith (newest (viewer_lists self.new)) (viewer_lists self.old) }
-        ensures sheet { IsSheetAfter (joined (newest (viewer_lists self.new))) into.new }
-        ensures count { result + 1 ≡ length (joined (newest (viewer_lists self.new))) }
+        ensures sheet { IsSheetAfter (entries_of_posts (newest (viewer_lists self.new))) into.new }
+        ensures count { result + 1 ≡ length (entries_of_posts (newest (viewer_lists self.new))) }
         ensures viewer { (viewer_opening self.new ≡ viewer_opening self.old)
             × (viewer_links self.new ≡ viewer_links self.old) }
         ensures links { links_on into.new ≡ links_on into.old }

@@ -127,7 +127,7 @@ checked_told d name tail head =
 
 network_told : (d : NetworkData) (name tail head : List ℕ) → Told OfNetwork (network.with_link d name tail head)
 unfolding network.with_link
-network_told d name tail head = tested_told (network.checked d name tail head) (Ok (network.linked d name tail head)) (checked_told d name tail head) (fine OfNetwork (network.linked d name tail head))
+network_told d name tail head = tested_told (network.checked d name tail head) (Ok (network.network_linked d name tail head)) (checked_told d name tail head) (fine OfNetwork (network.network_linked d name tail head))
 
 of_network_told : {A : Type 0} (r : Result A NetworkFault) → Told OfNetwork r → Told OfLink (of_network r)
 of_network_told (Ok x) is = fine OfLink x

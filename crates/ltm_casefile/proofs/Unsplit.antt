@@ -10,7 +10,7 @@ use Rattle.ltm_demand.specs.Rows as demand
 use Rattle.ltm_demand.specs.Rows.{DemandData}
 use Rattle.ltm_scenario.specs.Data.{ScenarioData, demand_of}
 use Rattle.ltm_scenario.specs.Reads.{destination_of}
-use Rattle.ltm_scenario.specs.Build.{◌>>=◌, with_link, of_network, of_diagram, with_destination, added, with_demand}
+use Rattle.ltm_scenario.specs.Build.{◌>>=◌, with_link, of_network, of_diagram, with_destination, with_destination_at, with_demand}
 use Rattle.ltm_scenario.specs.declared.faults.LinkFault.{LinkFault}
 use Rattle.ltm_records.specs.Fields.{Fields}
 use Rattle.ltm_records.specs.Left.{records_of}
@@ -60,7 +60,7 @@ taken_keeps s (Ok next) cause keeps = keeps
 taken_keeps s (Err fault) cause keeps = tt
 
 destination_keeps : (s : ScenarioData) (node : ℕ) → Keeps s (with_destination s node)
-destination_keeps s node = then_keeps s (added s.destinations node (destination_of s.destinations node)) _ (λ destinations. refl)
+destination_keeps s node = then_keeps s (with_destination_at s.destinations node (destination_of s.destinations node)) _ (λ destinations. refl)
 
 demand_set_keeps : (s : ScenarioData) (row : DemandRow) → Keeps s (with_demand s row)
 demand_set_keeps s row = then_keeps s (demand.with_row (demand_of s) row) _ (λ next. refl)

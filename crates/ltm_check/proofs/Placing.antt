@@ -21,12 +21,12 @@ use Rattle.ltm_check.specs.declared.faults.CurvesFault.TheVariants.{Bad}
 use Rattle.ltm_check.specs.Due.{record_count, record_place, group_at, destination_at}
 use Rattle.ltm_check.specs.File.{counts_in, fault_of, fault_at, AreRightBelow, or_no_counts, counts_at, told_by}
 use Rattle.ltm_check.specs.Faults.{IsFaultBelow}
-use Rattle.ltm_check.specs.Kept.{kept, Keeps, PutsCounts}
+use Rattle.ltm_check.specs.Kept.{clipped_count, Keeps, PutsCounts}
 
 -- the counts of the first records are kept
 abbrev pub KeepsBelow : ScenarioData → List Fields → Curves → ℕ → Type 0
 KeepsBelow s rows c places =
-    (g d k : ℕ) → g < groups (setting_of s) → d < (setting_of s).destinations → k ≤ (setting_of s).slots → record_place s g d < places → counts_of c g d k ≡ kept (told_by s rows g d k)
+    (g d k : ℕ) → g < groups (setting_of s) → d < (setting_of s).destinations → k ≤ (setting_of s).slots → record_place s g d < places → counts_of c g d k ≡ clipped_count (told_by s rows g d k)
 
 -- ---- the records that are left
 tail_same : (a b : Fields) (xs ys : List Fields) → a ∷ xs ≡ b ∷ ys → (a ≡ b) × (xs ≡ ys)
@@ -93,7 +93,7 @@ keeps_next s rows old new place fields shape at done put g d k x y z l = elim (c
       let told : told_by s rows g d k ≡ slice_index (or_no_counts (counts_in s fields)) k =
       told_row s rows g d k ∙ (ap (λ (p : ℕ). slice_index (counts_at s rows p) k) here ∙ ap (λ (f : Fields). slice_index (or_no_counts (counts_in s f)) k) record_is) in
       ap (λ (z : ℕ). counts_of new z d k) group
-      ∙ (ap (λ (z : ℕ). counts_of new (group_at s place) z k) destination ∙ (put.here k (omega (arith, shape.same_slots)) ∙ ap kept (sym told)))
+      ∙ (ap (λ (z : ℕ). counts_of new (group_at s place) z k) destination ∙ (put.here k (omega (arith, shape.same_slots)) ∙ ap clipped_count (sym told)))
   | inr other ↦
       put.others g d k (record { is_group = omega (arith, shape.same_groups); is_destination = omega (arith, shape.same_destinations); is_boundary = omega (arith, shape.same_slots) }) (apart s place g d other)
       ∙ done g d k x y z (omega arith)

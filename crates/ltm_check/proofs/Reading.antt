@@ -9,7 +9,7 @@ use Rattle.ltm_curve.specs.Table.{counts_of, groups_of, slots_of, destinations_o
 use Rattle.ltm_curve.specs.declared.curves.Curves.{Curves}
 use Rattle.ltm_records.specs.Pieces.{is_space, pieces_behind}
 use Rattle.ltm_check.specs.CountsTold.{count_told, onto, each_told, if_many, counts_told}
-use Rattle.ltm_check.specs.Kept.{kept}
+use Rattle.ltm_check.specs.Kept.{clipped_count}
 
 -- some counts and those that follow them, where those are counts
 abbrev pub before : List ℕ → Option (List ℕ) → Option (List ℕ)
@@ -23,7 +23,7 @@ one_more counts count None = refl
 -- the counts read so far are put, and no other count changed
 pub record PutsFirst (old new : Curves) (group destination : ℕ) (counts : List ℕ) : Type 0 where
   pub shape : SameShape new old
-  pub here : (k : ℕ) → k < length counts → counts_of new group destination k ≡ kept (slice_index counts k)
+  pub here : (k : ℕ) → k < length counts → counts_of new group destination k ≡ clipped_count (slice_index counts k)
   pub others : (g d k : ℕ) → IsIn old g d k → (g ≢ group) ⊎ (d ≢ destination) → counts_of new g d k ≡ counts_of old g d k
 
 in_shape : (old mid : Curves) (g d k : ℕ) → SameShape mid old → IsIn old g d k → IsIn mid g d k
@@ -35,7 +35,7 @@ in_shape old mid g d k shape there = record {
 
 -- one count more
 pub puts_next : (old mid new : Curves) (group destination boundary count : ℕ) (counts : List ℕ) → length counts ≡ boundary → group < groups_of old → destination < destinations_of old → boundary ≤ slots_of old
-    → PutsFirst old mid group destination counts → Sets mid new group destination boundary (kept count) → PutsFirst old new group destination (counts ++ count ∷ [])
+    → PutsFirst old mid group destination counts → Sets mid new group destination boundary (clipped_count count) → PutsFirst old new group destination (counts ++ count ∷ [])
 puts_next old mid new group destination boundary count counts long x y z done set = record {
   shape = record {
     groups = set.shape.groups ∙ done.shape.groups;
@@ -46,10 +46,10 @@ puts_next old mid new group destination boundary count counts long x y z done se
     | inl less ↦
         let there : IsIn old group destination k = record { is_group = x; is_destination = y; is_boundary = omega arith } in
         set.others group destination k (in_shape old mid group destination k done.shape there) (inr (inr (λ e. omega arith)))
-        ∙ (done.here k (omega arith) ∙ ap kept (sym (get_or_append_left counts (count ∷ []) 0 k (omega arith))))
+        ∙ (done.here k (omega arith) ∙ ap clipped_count (sym (get_or_append_left counts (count ∷ []) 0 k (omega arith))))
     | inr last ↦
         let at : k ≡ boundary = omega (arith, length-append counts (count ∷ [])) in
-        ap (λ (j : ℕ). counts_of new group destination j) at ∙ (set.here ∙ ap kept (sym (get_or_push counts count 0 k (omega arith))))
+        ap (λ (j : ℕ). counts_of new group destination j) at ∙ (set.here ∙ ap clipped_count (sym (get_or_push counts count 0 k (omega arith))))
   ];
   others = λ g d k there other. elim other [
     | inl ne ↦ set.others g d k (in_shape old mid g d k done.shape there) (inl ne) ∙ done.others g d k there (inl ne)

@@ -13,7 +13,7 @@ use Rattle.ltm_check.specs.declared.faults.FileFault.TheVariants as file
 use Rattle.ltm_check.specs.Due.{record_place}
 use Rattle.ltm_check.specs.File.{is_headed, rows_of, AreRightBelow, IsCurveFile, told, told_by}
 use Rattle.ltm_check.specs.Faults.{IsFault}
-use Rattle.ltm_check.specs.Kept.{kept, Keeps}
+use Rattle.ltm_check.specs.Kept.{clipped_count, Keeps}
 
 -- no double quote stands in a text
 abbrev pub IsUnquoted : List ℕ → Type 0
@@ -28,7 +28,7 @@ pub record IsReadTo (s : ScenarioData) (records : List Fields) (c : Curves) (nex
   pub headed : 0 < next → is_headed records ≡ true
   pub right : AreRightBelow s (rows_of records) (next - 1)
   pub keeps : (g d k : ℕ) → g < groups (setting_of s) → d < (setting_of s).destinations → k ≤ (setting_of s).slots → record_place s g d < next - 1 →
-      counts_of c g d k ≡ kept (told_by s (rows_of records) g d k)
+      counts_of c g d k ≡ clipped_count (told_by s (rows_of records) g d k)
 
 -- whatever follows these bytes, the first records were read, and the others are those of a text and what follows
 pub record HasRead (s : ScenarioData) (bytes : List ℕ) (c : Curves) (next : ℕ) (text : List ℕ) : Type 0 where

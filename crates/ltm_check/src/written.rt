@@ -1,7 +1,7 @@
 //! What is written is read.
 ghost use Rattle.ltm_check.specs.ReadBack.{AreNamed, WrittenIsRead, LoadingIsTold};
 
-use crate::kept::kept_answers_alike;
+use crate::in_32_bits::kept_answers_alike;
 use ltm_loading::{counts_small, set_by_one_pair};
 use ltm_scenario::Scenario;
 use ltm_units::{LinkId, NodeId};

@@ -8,7 +8,7 @@ use Rattle.ltm_working.specs.declared.table.Table.{Table}
 use Rattle.ltm_working.specs.Desks.{desk_at, changed_at}
 use Rattle.ltm_working.specs.Ready.{IsReady}
 use Rattle.ltm_working.specs.Searching.{AnswersSearch}
-use Rattle.ltm_working.specs.Recomputing.{RecomputesPair as RecomputesInTable}
+use Rattle.ltm_working.specs.Recomputing.{RecomputesInTable}
 use Rattle.ltm_core.specs.Log.{version_now}
 use Rattle.ltm_core.specs.Laws.{RepairLaws}
 use Rattle.ltm_core.specs.Cores.{CoreData, desk_in, repair_of, IsCore}

@@ -22,7 +22,7 @@ use Rattle.ltm_pairs.specs.Touched.{HaveSlots, BatchTouchesReaders}
 use Rattle.ltm_working.specs.declared.table.Table.{Table}
 use Rattle.ltm_working.specs.Desks.{desk_at, changed_at}
 use Rattle.ltm_working.specs.Ready.{IsReady}
-use Rattle.ltm_working.specs.Growing.{SeenAs as TableSeenAs}
+use Rattle.ltm_working.specs.Growing.{TableSeenAs}
 use Rattle.ltm_working.specs.Batches.{LeadsTo, TakesIn, touches}
 use Rattle.ltm_core.specs.Log.{Log, log_of, version_now, scenario_at, scenario_now, with_batch}
 use Rattle.ltm_core.specs.Settling.{setting_at}

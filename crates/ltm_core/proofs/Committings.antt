@@ -15,7 +15,7 @@ use Rattle.ltm_repair.specs.Counting.{undone, claims_out}
 use Rattle.ltm_repair.specs.State.{RepairState, now}
 use Rattle.ltm_repair.specs.Repair.{IsRepair}
 use Rattle.ltm_repair.specs.Moves.{Commits}
-use Rattle.ltm_repair.specs.Events.{CoreEvent, Commit, Committed}
+use Rattle.ltm_repair.specs.Events.{CoreEvent, Commit, CommitHappened}
 use Rattle.ltm_repair.specs.Work.{ClaimsAreUndone}
 use Rattle.ltm_repair.proofs.Cases.{or_none}
 use Rattle.ltm_pairs.specs.Changes.{differs_at}
@@ -44,7 +44,7 @@ abbrev pub after_commit : CoreData → Table → CoreData
 after_commit d t = record d { table = t; commits = d.commits + 1 }
 
 committed_of : (d : CoreData) (t : Table) (u v : ℕ) (row : List ℕ) → now (repair_of d) ≡ setting_of d.scenario → CommitsPair (setting_of d.scenario) d.table u v row t →
-    Committed (repair_of d) u v row (readers (setting_of d.scenario) (desk_in d) (desk_at (setting_of d.scenario) t) u v) (repair_of (after_commit d t))
+    CommitHappened (repair_of d) u v row (readers (setting_of d.scenario) (desk_in d) (desk_at (setting_of d.scenario) t) u v) (repair_of (after_commit d t))
 unfolding repair_of
 committed_of d t u v row at step =
     let s : Setting = setting_of d.scenario in
@@ -62,7 +62,7 @@ committed_of d t u v row at step =
     }
 
 pub core_commits : (d : CoreData) (t : Table) (u v : ℕ) (row : List ℕ) → IsCore d → CommitsPair (setting_of d.scenario) d.table u v row t →
-    Committed (repair_of d) u v row (readers (setting_of d.scenario) (desk_in d) (desk_at (setting_of d.scenario) t) u v) (repair_of (after_commit d t))
+    CommitHappened (repair_of d) u v row (readers (setting_of d.scenario) (desk_in d) (desk_at (setting_of d.scenario) t) u v) (repair_of (after_commit d t))
 core_commits d t u v row is step = committed_of d t u v row (core_now d is) step
 
 pub core_after_commit : RepairLaws → (d : CoreData) (t : Table) (u v : ℕ) (row : List ℕ) → IsCore d → IsReady (setting_of d.scenario) t → CommitsPair (setting_of d.scenario) d.table u v row t →
@@ -97,7 +97,7 @@ pub commits_done : (d : CoreData) (t : Table) (h : List CoreEvent) (pair : Pair)
 commits_done d t h pair row is step more =
     let wakes : ℕ → ℕ → Bool = readers (setting_of d.scenario) (desk_in d) (desk_at (setting_of d.scenario) t) pair.node.0 pair.slot in
     record {
-      commits = subst (λ (e : RepairState). Committed (repair_of d) pair.node.0 pair.slot row wakes e) (sym (repair_told (after_commit d t) h)) (core_commits d t pair.node.0 pair.slot row is step);
+      commits = subst (λ (e : RepairState). CommitHappened (repair_of d) pair.node.0 pair.slot row wakes e) (sym (repair_told (after_commit d t) h)) (core_commits d t pair.node.0 pair.slot row is step);
       cells = cells_of d t h pair.node.0 pair.slot row step;
       keeps = ap (λ (l : List CoreEvent). told_commit d t l) more;
     }

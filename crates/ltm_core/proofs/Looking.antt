@@ -9,7 +9,7 @@ use Rattle.ltm_repair.specs.State.{RepairState}
 use Rattle.ltm_repair.specs.Repair.{IsRepair}
 use Rattle.ltm_working.specs.declared.table.Table.{Table}
 use Rattle.ltm_working.specs.Ready.{FitsTable}
-use Rattle.ltm_working.specs.Growing.{SeenAs as TableSeenAs}
+use Rattle.ltm_working.specs.Growing.{TableSeenAs}
 use Rattle.ltm_core.specs.Log.{Log}
 use Rattle.ltm_core.specs.Settling.{setting_at}
 use Rattle.ltm_core.specs.Cores.{CoreData, repair_of, IsCore}

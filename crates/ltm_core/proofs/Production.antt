@@ -8,7 +8,7 @@ use Rattle.ltm_curve.specs.Counts.{total}
 use Rattle.ltm_network.specs.Network.{NetworkData}
 use Rattle.ltm_demand.specs.declared.row.DemandRow.{DemandRow}
 use Rattle.ltm_demand.specs.Produced.{by_end, IsSilent}
-use Rattle.ltm_demand.specs.Rows.{edited as edited_rows}
+use Rattle.ltm_demand.specs.Rows.{edited_rows}
 use Rattle.ltm_scenario.specs.declared.edit.Edit.{Edit}
 use Rattle.ltm_scenario.specs.Data.{ScenarioData}
 use Rattle.ltm_scenario.specs.Edits.{edited, edited_from, at_place}

@@ -19,7 +19,7 @@ use Rattle.ltm_flows.specs.Shown.{ShowsCounts, Shows, Fits, AgreesOutside, versi
 use Rattle.ltm_repair.specs.Desk.{IsAtRest}
 use Rattle.ltm_repair.specs.State.{RepairState, now}
 use Rattle.ltm_repair.specs.Repair.{IsRepair}
-use Rattle.ltm_repair.specs.Events.{CoreEvent, Publish, Published}
+use Rattle.ltm_repair.specs.Events.{CoreEvent, Publish, PublishHappened}
 use Rattle.ltm_working.specs.declared.table.Table.{Table}
 use Rattle.ltm_working.specs.Desks.{desk_at, changed_at}
 use Rattle.ltm_working.specs.Cells.{count_cells}
@@ -48,7 +48,7 @@ abbrev pub after_publish : CoreData → Table → Loading → CoreData
 after_publish d t l = record d { table = t; shown = l }
 
 shown_of : (d : CoreData) (t : Table) (l : Loading) → now (repair_of d) ≡ setting_of d.scenario → IsAtRest (setting_of d.scenario) (desk_in d) →
-    ShowsTable (setting_of d.scenario) (version_now d.log) d.table t l → Published (repair_of d) (repair_of (after_publish d t l))
+    ShowsTable (setting_of d.scenario) (version_now d.log) d.table t l → PublishHappened (repair_of d) (repair_of (after_publish d t l))
 unfolding repair_of
 shown_of d t l at rest step =
     let s : Setting = setting_of d.scenario in
@@ -69,7 +69,7 @@ shown_of d t l at rest step =
     }
 
 pub core_publishes : (d : CoreData) (t : Table) (l : Loading) → IsCore d → IsAtRest (setting_of d.scenario) (desk_in d) →
-    ShowsTable (setting_of d.scenario) (version_now d.log) d.table t l → Published (repair_of d) (repair_of (after_publish d t l))
+    ShowsTable (setting_of d.scenario) (version_now d.log) d.table t l → PublishHappened (repair_of d) (repair_of (after_publish d t l))
 core_publishes d t l is rest step = shown_of d t l (core_now d is) rest step
 
 shows_last : (d : CoreData) (l : Loading) → IsCore d → Shows (setting_of d.scenario) (version_now d.log) l → Shows (setting_at d.log (version_of l)) (version_of l) l
@@ -115,7 +115,7 @@ publishes_all d t l h version at is rest step more = record {
   all = at;
   rest = rests_there d is rest;
   shown = step.shows.version ∙ sym at;
-  published = subst (λ (e : RepairState). Published (repair_of d) e) (sym (repair_told (after_publish d t l) h)) (core_publishes d t l is rest step);
+  published = subst (λ (e : RepairState). PublishHappened (repair_of d) e) (sym (repair_told (after_publish d t l) h)) (core_publishes d t l is rest step);
   cleared = cleared_of d t l h step.cleared;
   keeps = ap (λ (k : List CoreEvent). told_publish d t l k) more;
 }

@@ -11,7 +11,7 @@ use Rattle.ltm_loading.specs.Pairs.{shape_at}
 use Rattle.ltm_setting.specs.Setting.{setting_of}
 use Rattle.ltm_flows.specs.Shown.{version_of, SameLoading}
 use Rattle.ltm_repair.specs.Answers.{ClaimAnswer, Got, NotYet, Rest, AnswersClaim}
-use Rattle.ltm_repair.specs.Events.{CoreEvent, Look, Claim, GiveBack, Commit, Accept, Publish, Settle, Stay, Committed as CommitHappened, GaveBack, Accepted, Published as PublishHappened, Settled}
+use Rattle.ltm_repair.specs.Events.{CoreEvent, Look, Claim, GiveBack, Commit, Accept, Publish, Settle, Stay, CommitHappened, GaveBack, Accepted, PublishHappened, Settled}
 use Rattle.ltm_working.specs.Committing.{readers, rewritten}
 use Rattle.ltm_working.specs.Batches.{touches}
 use Rattle.ltm_working.specs.Cells.{count_cells}

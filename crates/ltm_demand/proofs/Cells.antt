@@ -2,7 +2,7 @@
 use Rattle.std.proofs.Common.{◌≡◌, ◌≢◌, ℕ, ◌+◌, ◌-◌, ◌*◌, ◌/◌, ◌<◌, ◌≤◌, List, length, slice_index, slice_set, refl, arith, ap, sym, subst, ◌∙◌, inl, inr}
 use Rattle.std.proofs.lemmas.Nat.{div-mul-add, mul-add-lt}
 use Rattle.std.proofs.lemmas.List.{get_or-set_same, get_or-set_other, length-set}
-use Rattle.ltm_demand.specs.Tables.{IsOneOf}
+use Rattle.ltm_demand.specs.Productions.{IsOneOf}
 
 -- a place tells its slot
 pub slot_of : (w s t c e : ℕ) → c < w → e < w → t * w + e ≡ s * w + c → t ≡ s

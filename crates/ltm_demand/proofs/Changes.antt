@@ -4,8 +4,8 @@ use Rattle.std.proofs.lemmas.Bool.{cases_lt}
 use Rattle.std.proofs.lemmas.Bool.Decides.{nat_tests}
 use Rattle.std.proofs.lemmas.List.{get_or-set_same, get_or_past}
 use Rattle.ltm_demand.specs.declared.row.DemandRow.{DemandRow}
-use Rattle.ltm_demand.specs.Rows.{OriginRoom, room_at, shown, edited, own_rows, amount_at, with_amount, has_slots, has_place}
-use Rattle.ltm_demand.specs.Tables.{IsShifted, IsReached}
+use Rattle.ltm_demand.specs.Rows.{OriginRoom, room_at, row_if_any, edited_rows, own_rows, amount_at, with_amount, has_slots, has_place}
+use Rattle.ltm_demand.specs.Productions.{IsShifted, IsReached}
 use Rattle.ltm_demand.specs.Origins.{OriginData, no_origin, origin_at, rows_of}
 use Rattle.ltm_demand.specs.Kept.{IsKept, room_in, room_of}
 use Rattle.ltm_demand.specs.Places.{IsAt, IsGap}
@@ -75,19 +75,19 @@ module _ (slots count : ℕ) (xs : List OriginData) (row : DemandRow) (i : ℕ) 
         record { destination = omega (arith, r.destination, ap (λ (x : DemandRow). x.destination) x_is); end = omega (arith, r.end, ap (λ (x : DemandRow). x.to) x_is) }
 
     module _ (was out : ℕ) (x : OriginData) (inside : row.origin.0 < length xs) (within : has_slots slots row ≡ true) (small : row.amount.0 ≤ 1000000000) (is : was ≡ amount_at (origin_at xs row.origin.0).rows row)
-        (rows : x.rows ≡ edited (origin_at xs row.origin.0).rows row) (shifted : IsShifted (origin_at xs row.origin.0).table x.table row was) (outs : out + length (shown row) ≡ 1) where
+        (rows : x.rows ≡ edited_rows (origin_at xs row.origin.0).rows row) (shifted : IsShifted (origin_at xs row.origin.0).table x.table row was) (outs : out + length (row_if_any row) ≡ 1) where
       joined_was : IsWas (rows_of xs) row was
       joined_was = was_joined xs kept.own row was (subst (λ w. IsWas (origin_at xs row.origin.0).rows row w) (sym is) stood)
 
       some : 0 < was
       some = omega (arith, is, stood_some)
 
-      fewer : length (edited (rows_of xs) row) ≤ 10000
+      fewer : length (edited_rows (rows_of xs) row) ≤ 10000
       fewer = omega (arith, length_replaced (rows_of xs) row was joined_was some, kept.are_rows.few)
 
       pub replaced_kept : IsKept slots (count - out) (set xs row.origin.0 x)
       replaced_kept =
-          let one : length (shown (with_amount row was)) ≡ 1 = length_shown (with_amount row was) (let e : (was == 0) ≡ false = (let s = some in grind (arith, nat_tests)) in e) in
+          let one : length (row_if_any (with_amount row was)) ≡ 1 = length_shown (with_amount row was) (let e : (was == 0) ≡ false = (let s = some in grind (arith, nat_tests)) in e) in
           kept_set slots count (count - out) xs row was x kept inside joined_was within small fewer rows shifted stood_reached (omega (arith, length_edited (rows_of xs) row was joined_was, one, kept.counted, outs))
 
       pub replaced_done : (row.amount.0 ≡ 0 → length x.rows < x.places) → IsDone (state_of slots (rows_of xs) (room_of xs)) (state_of slots (rows_of (set xs row.origin.0 x)) (room_of (set xs row.origin.0 x))) row was
@@ -103,8 +103,8 @@ module _ (slots count : ℕ) (xs : List OriginData) (row : DemandRow) (i : ℕ) 
     pub none_joined : IsWas (rows_of xs) row 0
     none_joined = was_joined xs kept.own row 0 (was_gap (origin_at xs row.origin.0).rows row i gap)
 
-    module _ (x : OriginData) (inside : row.origin.0 < length xs) (within : has_slots slots row ≡ true) (small : row.amount.0 ≤ 1000000000) (one : length (edited (rows_of xs) row) ≡ length (rows_of xs) + 1) (few : length (rows_of xs) < 10000)
-        (rows : x.rows ≡ edited (origin_at xs row.origin.0).rows row) (shifted : IsShifted (origin_at xs row.origin.0).table x.table row 0) (reached : IsReached (origin_at xs row.origin.0).table row) where
+    module _ (x : OriginData) (inside : row.origin.0 < length xs) (within : has_slots slots row ≡ true) (small : row.amount.0 ≤ 1000000000) (one : length (edited_rows (rows_of xs) row) ≡ length (rows_of xs) + 1) (few : length (rows_of xs) < 10000)
+        (rows : x.rows ≡ edited_rows (origin_at xs row.origin.0).rows row) (shifted : IsShifted (origin_at xs row.origin.0).table x.table row 0) (reached : IsReached (origin_at xs row.origin.0).table row) where
       pub filled_kept : IsKept slots (count + 1) (set xs row.origin.0 x)
       filled_kept = kept_set slots count (count + 1) xs row 0 x kept inside none_joined within small (omega (arith, one, few)) rows shifted reached (omega (arith, one, kept.counted))
 
@@ -115,6 +115,6 @@ module _ (slots count : ℕ) (xs : List OriginData) (row : DemandRow) (i : ℕ) 
 
     pub left_done : has_slots slots row ≡ true → row.amount.0 ≡ 0 → IsDone (state_of slots (rows_of xs) (room_of xs)) (state_of slots (rows_of xs) (room_of xs)) row 0
     left_done within none =
-        let same : edited (rows_of xs) row ≡ rows_of xs =
+        let same : edited_rows (rows_of xs) row ≡ rows_of xs =
         edited_joined xs kept.own row ∙ ap (λ t. front xs row.origin.0 ++ (t ++ back xs row.origin.0)) (edited_nothing (origin_at xs row.origin.0).rows row i gap none) ∙ sym (parted_at xs row.origin.0) in
         is_done slots (rows_of xs) (rows_of xs) row 0 (room_of xs) (room_of xs) kept.are_rows none_joined within (sym same) kept.are_rows.few (λ some _. absurd (omega (arith, some)))

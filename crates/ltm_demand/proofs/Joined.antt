@@ -14,7 +14,7 @@ use Rattle.std.proofs.lemmas.List.Elements.{filter-append, recursion_from_All}
 use Rattle.std.proofs.lemmas.List.Folds.{list_any-append}
 use Rattle.std.proofs.lemmas.List.Kept.{IsStrictlySortedBy-filter}
 use Rattle.ltm_demand.specs.declared.row.DemandRow.{DemandRow}
-use Rattle.ltm_demand.specs.Rows.{row_cmp, before, standing, behind, shown, edited, amount_at, with_amount, own_rows}
+use Rattle.ltm_demand.specs.Rows.{row_cmp, before, standing, behind, row_if_any, edited_rows, amount_at, with_amount, own_rows}
 use Rattle.ltm_demand.specs.Produced.{joins}
 use Rattle.ltm_demand.specs.Origins.{OriginData, no_origin, origin_at, rows_of}
 use Rattle.ltm_demand.proofs.State.{IsWas}
@@ -166,11 +166,11 @@ module _ (xs : List OriginData) (own : (o : ℕ) → All (λ r. r.origin.0 ≡ o
         ap (λ t. t ++ (ys ++ behind (rows_of xs) row)) before_joined ∙ ap (λ t. (f ++ p) ++ (ys ++ t)) behind_joined
         ∙ append_assoc f p (ys ++ (q ++ b)) ∙ ap (λ t. f ++ (p ++ t)) (sym (append_assoc ys q b)) ∙ ap (λ t. f ++ t) (sym (append_assoc p (ys ++ q) b))
 
-    pub edited_joined : edited (rows_of xs) row ≡ front xs row.origin.0 ++ (edited (origin_at xs row.origin.0).rows row ++ back xs row.origin.0)
-    unfolding edited
-    edited_joined = between (shown row)
+    pub edited_joined : edited_rows (rows_of xs) row ≡ front xs row.origin.0 ++ (edited_rows (origin_at xs row.origin.0).rows row ++ back xs row.origin.0)
+    unfolding edited_rows
+    edited_joined = between (row_if_any row)
 
-    pub set_joined : (x : OriginData) → row.origin.0 < length xs → x.rows ≡ edited (origin_at xs row.origin.0).rows row → rows_of (set xs row.origin.0 x) ≡ edited (rows_of xs) row
+    pub set_joined : (x : OriginData) → row.origin.0 < length xs → x.rows ≡ edited_rows (origin_at xs row.origin.0).rows row → rows_of (set xs row.origin.0 x) ≡ edited_rows (rows_of xs) row
     set_joined x inside is = set_parted xs row.origin.0 x inside ∙ ap (λ t. front xs row.origin.0 ++ (t ++ back xs row.origin.0)) is ∙ sym edited_joined
 
     pub amount_joined : amount_at (rows_of xs) row ≡ amount_at (origin_at xs row.origin.0).rows row
@@ -180,7 +180,7 @@ module _ (xs : List OriginData) (own : (o : ℕ) → All (λ r. r.origin.0 ≡ o
     pub was_joined : (was : ℕ) → IsWas (origin_at xs row.origin.0).rows row was → IsWas (rows_of xs) row was
     was_joined was is = record {
       standing_is = standing_joined ∙ is.standing_is;
-      parted = parted_at xs row.origin.0 ∙ ap (λ t. front xs row.origin.0 ++ (t ++ back xs row.origin.0)) is.parted ∙ sym (between (shown (with_amount row was)));
+      parted = parted_at xs row.origin.0 ∙ ap (λ t. front xs row.origin.0 ++ (t ++ back xs row.origin.0)) is.parted ∙ sym (between (row_if_any (with_amount row was)));
       amount = is.amount ∙ sym amount_joined;
       small = is.small;
     }

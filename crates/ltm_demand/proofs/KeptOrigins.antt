@@ -9,9 +9,9 @@ use Rattle.std.proofs.lemmas.Grind.{flat_map-append}
 use Rattle.std.proofs.lemmas.List.{get_or-set_same, get_or-set_other, get_or_past, append-nil}
 use Rattle.std.proofs.lemmas.List.Elements.{All-nil, All-filter}
 use Rattle.ltm_demand.specs.declared.row.DemandRow.{DemandRow}
-use Rattle.ltm_demand.specs.Rows.{OriginRoom, IsNoLess, room_at, edited, with_amount, has_slots, before, standing, behind, IsDemandRow}
+use Rattle.ltm_demand.specs.Rows.{OriginRoom, IsNoLess, room_at, edited_rows, with_amount, has_slots, before, standing, behind, IsDemandRow}
 use Rattle.ltm_demand.specs.Produced.{produced, part, joins, by_end, origin_part, origin_by_end}
-use Rattle.ltm_demand.specs.Tables.{TableData, told, no_table, IsShifted, IsRoomy, IsReached}
+use Rattle.ltm_demand.specs.Productions.{ProductionData, told, no_table, IsShifted, IsRoomy, IsReached}
 use Rattle.ltm_demand.specs.Origins.{OriginData, no_origin, origin_at, rows_of, IsAlike}
 use Rattle.ltm_demand.specs.Kept.{AreDemandRows, IsKept, room_in, room_of}
 use Rattle.ltm_demand.specs.Places.{IsAt, IsGap}
@@ -47,7 +47,7 @@ alike x = record { rows = refl; told = λ c t. refl; destinations = omega arith;
 
 -- one more origin that has no row says nothing new
 new_alike : (x : OriginData) → x.rows ≡ [] → x.table ≡ no_table → IsAlike no_origin x
-new_alike x rows table = record { rows = rows; told = λ c t. ap (λ (d : TableData). told d c t) table; destinations = omega arith; slots = omega arith }
+new_alike x rows table = record { rows = rows; told = λ c t. ap (λ (d : ProductionData). told d c t) table; destinations = omega arith; slots = omega arith }
 
 pub push_alike : (xs : List OriginData) (x : OriginData) → x.rows ≡ [] → x.table ≡ no_table → (o : ℕ) → IsAlike (origin_at xs o) (origin_at (xs ++ x ∷ []) o)
 push_alike [] x rows table zero = new_alike x rows table
@@ -88,16 +88,16 @@ origin_elsewhere o t row other = let e : (row.origin.0 == o) ≡ false = grind (
 
 -- once a row is set in the rows of its origin, and told to its table
 pub kept_set : (slots count count' : ℕ) (xs : List OriginData) (row : DemandRow) (was : ℕ) (x : OriginData) → IsKept slots count xs → row.origin.0 < length xs → IsWas (rows_of xs) row was → has_slots slots row ≡ true → row.amount.0 ≤ 1000000000 →
-    length (edited (rows_of xs) row) ≤ 10000 → x.rows ≡ edited (origin_at xs row.origin.0).rows row → IsShifted (origin_at xs row.origin.0).table x.table row was → IsReached (origin_at xs row.origin.0).table row → count' ≡ length (edited (rows_of xs) row) →
+    length (edited_rows (rows_of xs) row) ≤ 10000 → x.rows ≡ edited_rows (origin_at xs row.origin.0).rows row → IsShifted (origin_at xs row.origin.0).table x.table row was → IsReached (origin_at xs row.origin.0).table row → count' ≡ length (edited_rows (rows_of xs) row) →
     IsKept slots count' (set xs row.origin.0 x)
 kept_set slots count count' xs row was x kept inside is in' small few rows shifted reached counts =
     let i = row.origin.0 in
-    let joined : rows_of (set xs i x) ≡ edited (rows_of xs) row = set_joined xs kept.own row x inside rows in
+    let joined : rows_of (set xs i x) ≡ edited_rows (rows_of xs) row = set_joined xs kept.own row x inside rows in
     record {
       are_rows = subst (AreDemandRows slots) (sym joined) (rows_edited slots (rows_of xs) row kept.are_rows in' small few);
       counted = counts ∙ ap length (sym joined);
       own = λ o. at_set xs i x inside o (λ y. All (λ r. r.origin.0 ≡ o) y.rows)
-          (λ here. subst (All (λ r. r.origin.0 ≡ o)) (sym rows) (subst (λ n. All (λ r. r.origin.0 ≡ n) (edited (origin_at xs i).rows row)) (sym here) (all_edited (λ r. r.origin.0 ≡ i) (origin_at xs i).rows row (kept.own i) (all_shown (λ r. r.origin.0 ≡ i) row refl))))
+          (λ here. subst (All (λ r. r.origin.0 ≡ o)) (sym rows) (subst (λ n. All (λ r. r.origin.0 ≡ n) (edited_rows (origin_at xs i).rows row)) (sym here) (all_edited (λ r. r.origin.0 ≡ i) (origin_at xs i).rows row (kept.own i) (all_shown (λ r. r.origin.0 ≡ i) row refl))))
           (λ apart. kept.own o);
       reached = λ o. at_set xs i x inside o (λ y. All (IsReached y.table) y.rows)
           (λ here. subst (All (IsReached x.table)) (sym rows) (λ k d below.
@@ -197,7 +197,7 @@ copy_alike : (xs ys : List OriginData) → length ys ≡ length xs → ((i : ℕ
 copy_alike xs ys long copy o = elim (cases_lt o (length xs)) [
   | inl inside ↦
       let c = copy o inside in
-      record { rows = c.rows; told = λ k t. ap (λ (d : TableData). told d k t) c.table; destinations = omega (arith, ap (λ (d : TableData). d.destinations) c.table); slots = omega (arith, ap (λ (d : TableData). d.slots) c.table) }
+      record { rows = c.rows; told = λ k t. ap (λ (d : ProductionData). told d k t) c.table; destinations = omega (arith, ap (λ (d : ProductionData). d.destinations) c.table); slots = omega (arith, ap (λ (d : ProductionData). d.slots) c.table) }
   | inr past ↦
       subst (λ (x : OriginData). IsAlike x (origin_at ys o)) (sym (get_or_past xs o no_origin past))
       (subst (λ (y : OriginData). IsAlike no_origin y) (sym (get_or_past ys o no_origin (omega (arith, long)))) (alike no_origin))

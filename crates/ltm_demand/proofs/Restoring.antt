@@ -6,7 +6,7 @@ use Rattle.std.specs.declared.cmp.Ordering.TheVariants.{Less, Equal, Greater}
 use Rattle.std.specs.Ordering.{is_lt, is_eq, is_gt}
 use Rattle.ltm_demand.specs.declared.row.DemandRow.{DemandRow}
 use Rattle.ltm_demand.specs.declared.row.DemandFault.TheVariants.{BadSlots, TooManyRows}
-use Rattle.ltm_demand.specs.Rows.{DemandData, OriginRoom, DemandState, row_cmp, before, standing, behind, shown, edited, amount_at, own_rows, with_row, with_amount, has_slots, has_place, takes_no_memory, CanRestore}
+use Rattle.ltm_demand.specs.Rows.{DemandData, OriginRoom, DemandState, row_cmp, before, standing, behind, row_if_any, edited_rows, amount_at, own_rows, with_row, with_amount, has_slots, has_place, takes_no_memory, CanRestore}
 use Rattle.ltm_demand.specs.Kept.{AreDemandRows}
 use Rattle.ltm_demand.specs.Places.{IsGap}
 use Rattle.ltm_demand.proofs.Edits.{amount_absent}
@@ -19,32 +19,32 @@ data_of slots rows = record { slots = slots; rows = rows }
 abbrev pub state_of : ℕ → List DemandRow → List OriginRoom → DemandState
 state_of slots rows room = record { demand = data_of slots rows; room = room }
 
-pub with_row_done : (slots : ℕ) (rows : List DemandRow) (row : DemandRow) → has_slots slots row ≡ true → length (edited rows row) ≤ 10000 → with_row (data_of slots rows) row ≡ Ok (data_of slots (edited rows row))
+pub with_row_done : (slots : ℕ) (rows : List DemandRow) (row : DemandRow) → has_slots slots row ≡ true → length (edited_rows rows row) ≤ 10000 → with_row (data_of slots rows) row ≡ Ok (data_of slots (edited_rows rows row))
 unfolding with_row
 with_row_done slots rows row in' few =
-    let f : nat_lt 10000 (length (edited rows row)) ≡ false = grind (arith, nat_tests) in
-    ap (λ b. cond (not b) (Err BadSlots) (cond (nat_lt 10000 (length (edited rows row))) (Err TooManyRows) (Ok (data_of slots (edited rows row))))) in'
-    ∙ ap (λ b. cond b (Err TooManyRows) (Ok (data_of slots (edited rows row)))) f
+    let f : nat_lt 10000 (length (edited_rows rows row)) ≡ false = grind (arith, nat_tests) in
+    ap (λ b. cond (not b) (Err BadSlots) (cond (nat_lt 10000 (length (edited_rows rows row))) (Err TooManyRows) (Ok (data_of slots (edited_rows rows row))))) in'
+    ∙ ap (λ b. cond b (Err TooManyRows) (Ok (data_of slots (edited_rows rows row)))) f
 
 pub with_row_bad : (d : DemandData) (row : DemandRow) → has_slots d.slots row ≡ false → with_row d row ≡ Err BadSlots
 unfolding with_row
-with_row_bad d row out = ap (λ b. cond (not b) (Err BadSlots) (cond (nat_lt 10000 (length (edited d.rows row))) (Err TooManyRows) (Ok (data_of d.slots (edited d.rows row))))) out
+with_row_bad d row out = ap (λ b. cond (not b) (Err BadSlots) (cond (nat_lt 10000 (length (edited_rows d.rows row))) (Err TooManyRows) (Ok (data_of d.slots (edited_rows d.rows row))))) out
 
-pub with_row_over : (d : DemandData) (row : DemandRow) → has_slots d.slots row ≡ true → 10000 < length (edited d.rows row) → with_row d row ≡ Err TooManyRows
+pub with_row_over : (d : DemandData) (row : DemandRow) → has_slots d.slots row ≡ true → 10000 < length (edited_rows d.rows row) → with_row d row ≡ Err TooManyRows
 unfolding with_row
 with_row_over d row in' many =
-    let f : nat_lt 10000 (length (edited d.rows row)) ≡ true = grind (arith, nat_tests) in
-    ap (λ b. cond (not b) (Err BadSlots) (cond (nat_lt 10000 (length (edited d.rows row))) (Err TooManyRows) (Ok (data_of d.slots (edited d.rows row))))) in'
-    ∙ ap (λ b. cond b (Err TooManyRows) (Ok (data_of d.slots (edited d.rows row)))) f
+    let f : nat_lt 10000 (length (edited_rows d.rows row)) ≡ true = grind (arith, nat_tests) in
+    ap (λ b. cond (not b) (Err BadSlots) (cond (nat_lt 10000 (length (edited_rows d.rows row))) (Err TooManyRows) (Ok (data_of d.slots (edited_rows d.rows row))))) in'
+    ∙ ap (λ b. cond b (Err TooManyRows) (Ok (data_of d.slots (edited_rows d.rows row)))) f
 
-pub length_shown : (row : DemandRow) → (row.amount.0 == 0) ≡ false → length (shown row) ≡ 1
+pub length_shown : (row : DemandRow) → (row.amount.0 == 0) ≡ false → length (row_if_any row) ≡ 1
 length_shown row some = ap (λ b. length (cond b [] (row ∷ []))) some
 
-shown_le : (row : DemandRow) → length (shown row) ≤ 1
+shown_le : (row : DemandRow) → length (row_if_any row) ≤ 1
 shown_le row = elim (row.amount.0 == 0) as (λ b. length (cond b [] (row ∷ [])) ≤ 1) [ true ↦ omega arith | false ↦ omega arith ]
 
 -- writing over a row makes no more rows
-pub length_replaced : (rows : List DemandRow) (row : DemandRow) (was : ℕ) → IsWas rows row was → 0 < was → length (edited rows row) ≤ length rows
+pub length_replaced : (rows : List DemandRow) (row : DemandRow) (was : ℕ) → IsWas rows row was → 0 < was → length (edited_rows rows row) ≤ length rows
 length_replaced rows row was is some = omega (arith, length_edited rows row was is, length_shown (with_amount row was) (let e : (was == 0) ≡ false = grind (arith, nat_tests) in e), shown_le row)
 
 -- all rows are before, at and behind a row's place
@@ -65,9 +65,9 @@ length_parted (r ∷ rs) row =
     let q : List DemandRow = filter (λ x. is_gt (row_cmp x row)) rs in
     omega (arith, length_cond (is_lt (row_cmp r row)) r p, length_cond (is_eq (row_cmp r row)) r e, length_cond (is_gt (row_cmp r row)) r q, parted_by r row (length p) (length e) (length q) (length rs) (length_parted rs row))
 
-length_set : (rows : List DemandRow) (row : DemandRow) → length (edited rows row) + length (standing rows row) ≡ length rows + length (shown row)
-unfolding edited
-length_set rows row = omega (arith, length_parted rows row, length-append (before rows row) (shown row ++ behind rows row), length-append (shown row) (behind rows row))
+length_set : (rows : List DemandRow) (row : DemandRow) → length (edited_rows rows row) + length (standing rows row) ≡ length rows + length (row_if_any row)
+unfolding edited_rows
+length_set rows row = omega (arith, length_parted rows row, length-append (before rows row) (row_if_any row ++ behind rows row), length-append (row_if_any row) (behind rows row))
 
 -- rows with a key are rows of its origin
 pub standing_own : (rows : List DemandRow) (row : DemandRow) → standing (own_rows rows row.origin.0) row ≡ standing rows row
@@ -85,13 +85,13 @@ amount_own rows row = ap (sum_by (λ (r : DemandRow). r.amount.0)) (standing_own
 pub none_stands : (rows : List DemandRow) (row : DemandRow) (i : ℕ) → IsGap (own_rows rows row.origin.0) row i → amount_at rows row ≡ 0
 none_stands rows row i gap = sym (amount_own rows row) ∙ amount_absent (own_rows rows row.origin.0) row i gap
 
-pub length_filled : (rows : List DemandRow) (row : DemandRow) (i : ℕ) → IsGap (own_rows rows row.origin.0) row i → 0 < row.amount.0 → length (edited rows row) ≡ length rows + 1
+pub length_filled : (rows : List DemandRow) (row : DemandRow) (i : ℕ) → IsGap (own_rows rows row.origin.0) row i → 0 < row.amount.0 → length (edited_rows rows row) ≡ length rows + 1
 length_filled rows row i gap some =
     let e : (row.amount.0 == 0) ≡ false = grind (arith, nat_tests) in
     omega (arith, length_set rows row, ap length (sym (standing_own rows row) ∙ gap.standing_is), length_shown row e)
 
 -- once set, the row's amount stands at its key
-amount_edited : (rows : List DemandRow) (row : DemandRow) (was : ℕ) → amount_at (edited rows row) (with_amount row was) ≡ row.amount.0
+amount_edited : (rows : List DemandRow) (row : DemandRow) (was : ℕ) → amount_at (edited_rows rows row) (with_amount row was) ≡ row.amount.0
 unfolding amount_at standing
 amount_edited rows row was =
     ap (sum_by (λ (r : DemandRow). r.amount.0)) (standing_edited rows row)
@@ -108,16 +108,16 @@ or_left : (a b : Bool) → a ≡ true → (a || b) ≡ true
 or_left true b e = refl
 or_left false b e = cc
 
-free_was : (slots : ℕ) (rows : List DemandRow) (row : DemandRow) (was : ℕ) (room' : List OriginRoom) → (0 < was → row.amount.0 ≡ 0 → has_place (state_of slots (edited rows row) room') row ≡ true) →
-    takes_no_memory (state_of slots (edited rows row) room') (with_amount row was) ≡ true
+free_was : (slots : ℕ) (rows : List DemandRow) (row : DemandRow) (was : ℕ) (room' : List OriginRoom) → (0 < was → row.amount.0 ≡ 0 → has_place (state_of slots (edited_rows rows row) room') row ≡ true) →
+    takes_no_memory (state_of slots (edited_rows rows row) room') (with_amount row was) ≡ true
 free_was slots rows row was room' place =
     let now = amount_edited rows row was in
-    let P : Bool = has_place (state_of slots (edited rows row) room') row in
-    elim (was == 0) as (λ b. (was == 0) ≡ b → (b || (not (amount_at (edited rows row) (with_amount row was) == 0) || P)) ≡ true) [
+    let P : Bool = has_place (state_of slots (edited_rows rows row) room') row in
+    elim (was == 0) as (λ b. (was == 0) ≡ b → (b || (not (amount_at (edited_rows rows row) (with_amount row was) == 0) || P)) ≡ true) [
       | true ↦ λ _. refl
-      | false ↦ λ stood. elim (row.amount.0 == 0) as (λ b. (row.amount.0 == 0) ≡ b → (not (amount_at (edited rows row) (with_amount row was) == 0) || P) ≡ true) [
-        | true ↦ λ none. or_right (not (amount_at (edited rows row) (with_amount row was) == 0)) P (place (grind (arith, nat_tests)) (grind (arith, nat_tests)))
-        | false ↦ λ some. or_left (not (amount_at (edited rows row) (with_amount row was) == 0)) P (ap (λ a. not (a == 0)) now ∙ ap not some)
+      | false ↦ λ stood. elim (row.amount.0 == 0) as (λ b. (row.amount.0 == 0) ≡ b → (not (amount_at (edited_rows rows row) (with_amount row was) == 0) || P) ≡ true) [
+        | true ↦ λ none. or_right (not (amount_at (edited_rows rows row) (with_amount row was) == 0)) P (place (grind (arith, nat_tests)) (grind (arith, nat_tests)))
+        | false ↦ λ some. or_left (not (amount_at (edited_rows rows row) (with_amount row was) == 0)) P (ap (λ a. not (a == 0)) now ∙ ap not some)
       ] refl
     ] refl
 
@@ -127,12 +127,12 @@ pub record IsDone (old new : DemandState) (row : DemandRow) (was : ℕ) : Type 0
   pub back : with_row new.demand (with_amount row was) ≡ Ok old.demand
   pub undo : CanRestore new (with_amount row was)
 
-pub is_done : (slots : ℕ) (rows rows' : List DemandRow) (row : DemandRow) (was : ℕ) (room room' : List OriginRoom) → AreDemandRows slots rows → IsWas rows row was → has_slots slots row ≡ true → rows' ≡ edited rows row → length rows' ≤ 10000 →
+pub is_done : (slots : ℕ) (rows rows' : List DemandRow) (row : DemandRow) (was : ℕ) (room room' : List OriginRoom) → AreDemandRows slots rows → IsWas rows row was → has_slots slots row ≡ true → rows' ≡ edited_rows rows row → length rows' ≤ 10000 →
     (0 < was → row.amount.0 ≡ 0 → has_place (state_of slots rows' room') row ≡ true) → IsDone (state_of slots rows room) (state_of slots rows' room') row was
 is_done slots rows rows' row was room room' are is in' set few place =
-    let few' : length (edited rows row) ≤ 10000 = omega (arith, ap length set) in
-    let back : with_row (data_of slots (edited rows row)) (with_amount row was) ≡ Ok (data_of slots rows) =
-    with_row_done slots (edited rows row) (with_amount row was) in' (omega (arith, ap length (edited_back rows row was is), are.few)) ∙ ap (λ r. Ok (data_of slots r)) (edited_back rows row was is) in
+    let few' : length (edited_rows rows row) ≤ 10000 = omega (arith, ap length set) in
+    let back : with_row (data_of slots (edited_rows rows row)) (with_amount row was) ≡ Ok (data_of slots rows) =
+    with_row_done slots (edited_rows rows row) (with_amount row was) in' (omega (arith, ap length (edited_back rows row was is), are.few)) ∙ ap (λ r. Ok (data_of slots r)) (edited_back rows row was is) in
     subst (λ r. IsDone (state_of slots rows room) (state_of slots r room') row was) (sym set) (record {
       done = with_row_done slots rows row in' few';
       back = back;
@@ -144,16 +144,16 @@ pub restore_within : (d : DemandState) (row : DemandRow) → CanRestore d row �
 unfolding with_row
 restore_within d row can = within (has_slots d.demand.slots row) can.accepted
   where
-    within : (b : Bool) → IsOk (cond (not b) (Err BadSlots) (cond (nat_lt 10000 (length (edited d.demand.rows row))) (Err TooManyRows) (Ok (data_of d.demand.slots (edited d.demand.rows row))))) → b ≡ true
+    within : (b : Bool) → IsOk (cond (not b) (Err BadSlots) (cond (nat_lt 10000 (length (edited_rows d.demand.rows row))) (Err TooManyRows) (Ok (data_of d.demand.slots (edited_rows d.demand.rows row))))) → b ≡ true
     within true h = refl
     within false h = h
 
 -- what can be restored where no row has the key finds room
 pub restore_few : (d : DemandState) (row : DemandRow) (i : ℕ) → CanRestore d row → IsGap (own_rows d.demand.rows row.origin.0) row i → 0 < row.amount.0 → length d.demand.rows < 10000
 unfolding with_row
-restore_few d row i can gap some = fewer (has_slots d.demand.slots row) (nat_lt 10000 (length (edited d.demand.rows row))) refl can.accepted
+restore_few d row i can gap some = fewer (has_slots d.demand.slots row) (nat_lt 10000 (length (edited_rows d.demand.rows row))) refl can.accepted
   where
-    fewer : (b many : Bool) → nat_lt 10000 (length (edited d.demand.rows row)) ≡ many → IsOk (cond (not b) (Err BadSlots) (cond many (Err TooManyRows) (Ok (data_of d.demand.slots (edited d.demand.rows row))))) → length d.demand.rows < 10000
+    fewer : (b many : Bool) → nat_lt 10000 (length (edited_rows d.demand.rows row)) ≡ many → IsOk (cond (not b) (Err BadSlots) (cond many (Err TooManyRows) (Ok (data_of d.demand.slots (edited_rows d.demand.rows row))))) → length d.demand.rows < 10000
     fewer false many is h = absurd (let e : false ≡ true = h in cc)
     fewer true true is h = absurd (let e : false ≡ true = h in cc)
     fewer true false is h = let filled = length_filled d.demand.rows row i gap some in grind (arith, nat_tests)

@@ -11,7 +11,7 @@ use Rattle.std.proofs.lemmas.List.Elements.{filter-append, All-append, All-filte
 use Rattle.std.proofs.lemmas.List.Sums.{sum_by-append, sum_by-le, sum_by-le-sum_by}
 use Rattle.std.proofs.lemmas.List.Kept.{IsStrictlySortedBy-filter}
 use Rattle.ltm_demand.specs.declared.row.DemandRow.{DemandRow}
-use Rattle.ltm_demand.specs.Rows.{row_cmp, before, standing, behind, shown, edited, amount_at, with_amount, has_slots, IsDemandRow}
+use Rattle.ltm_demand.specs.Rows.{row_cmp, before, standing, behind, row_if_any, edited_rows, amount_at, with_amount, has_slots, IsDemandRow}
 use Rattle.ltm_demand.specs.Produced.{part, by_end, origin_part, origin_by_end}
 use Rattle.ltm_demand.specs.Kept.{AreDemandRows}
 use Rattle.ltm_demand.specs.Places.{IsAt, IsGap}
@@ -23,12 +23,12 @@ use Rattle.ltm_demand.proofs.Edits.{amount_found, amount_absent}
 
 -- was units stood at the key of the row
 pub record IsWas (rows : List DemandRow) (row : DemandRow) (was : ℕ) : Type 0 where
-  pub standing_is : standing rows row ≡ shown (with_amount row was)
-  pub parted : rows ≡ before rows row ++ (shown (with_amount row was) ++ behind rows row)
+  pub standing_is : standing rows row ≡ row_if_any (with_amount row was)
+  pub parted : rows ≡ before rows row ++ (row_if_any (with_amount row was) ++ behind rows row)
   pub amount : was ≡ amount_at rows row
   pub small : was ≤ 1000000000
 
-some_shown : (row : DemandRow) → 0 < row.amount.0 → shown row ≡ row ∷ []
+some_shown : (row : DemandRow) → 0 < row.amount.0 → row_if_any row ≡ row ∷ []
 some_shown row some = let e : (row.amount.0 == 0) ≡ false = grind (arith, nat_tests) in ap (λ b. cond b [] (row ∷ [])) e
 
 pub was_at : (slots : ℕ) (rows : List DemandRow) (row : DemandRow) (i was : ℕ) → All (IsDemandRow slots) rows → IsAt rows row i → was ≡ amount_at rows row → IsWas rows row was
@@ -37,7 +37,7 @@ was_at slots rows row i was each at is =
     let own : IsDemandRow slots x = All-get_or (IsDemandRow slots) rows i row at.within each in
     let amount : was ≡ x.amount.0 = is ∙ amount_found rows row i at in
     let key : x ≡ with_amount row was = same_key_is x row at.same ∙ ap (λ a. with_amount row a) (sym amount) in
-    let one : shown (with_amount row was) ≡ x ∷ [] = some_shown (with_amount row was) (omega (arith, own.some_units)) ∙ ap (λ y. y ∷ []) (sym key) in
+    let one : row_if_any (with_amount row was) ≡ x ∷ [] = some_shown (with_amount row was) (omega (arith, own.some_units)) ∙ ap (λ y. y ∷ []) (sym key) in
     let rest : drop i rows ≡ x ∷ drop (i + 1) rows = drop_more rows i row at.within in
     let next : drop (i + 1) rows ≡ behind rows row = ap (λ n. drop n rows) (let e : i + 1 ≡ suc i = omega arith in e) ∙ sym at.behind_is in
     record {
@@ -56,91 +56,91 @@ was_gap rows row i gap = record {
 }
 
 -- a row is neither before nor behind itself
-shown_fails : (p : DemandRow → Bool) (row : DemandRow) → p row ≡ false → filter p (shown row) ≡ []
+shown_fails : (p : DemandRow → Bool) (row : DemandRow) → p row ≡ false → filter p (row_if_any row) ≡ []
 shown_fails p row fails = elim (row.amount.0 == 0) as (λ b. filter p (cond b [] (row ∷ [])) ≡ []) [ true ↦ refl | false ↦ ap (λ b. cond b (row ∷ []) []) fails ]
 
-shown_passes : (p : DemandRow → Bool) (row : DemandRow) → p row ≡ true → filter p (shown row) ≡ shown row
+shown_passes : (p : DemandRow → Bool) (row : DemandRow) → p row ≡ true → filter p (row_if_any row) ≡ row_if_any row
 shown_passes p row passes = elim (row.amount.0 == 0) as (λ b. filter p (cond b [] (row ∷ [])) ≡ cond b [] (row ∷ [])) [ true ↦ refl | false ↦ ap (λ b. cond b (row ∷ []) []) passes ]
 
 filter_three : (p : DemandRow → Bool) (f s b : List DemandRow) → filter p (f ++ (s ++ b)) ≡ filter p f ++ (filter p s ++ filter p b)
 filter_three p f s b = filter-append p f (s ++ b) ∙ ap (λ t. filter p f ++ t) (filter-append p s b)
 
 -- what stands before the row's place, at its key and behind it once the row is set
-pub before_edited : (rows : List DemandRow) (row : DemandRow) → before (edited rows row) row ≡ before rows row
-unfolding before edited behind
+pub before_edited : (rows : List DemandRow) (row : DemandRow) → before (edited_rows rows row) row ≡ before rows row
+unfolding before edited_rows behind
 before_edited rows row =
     let p : DemandRow → Bool = λ r. is_lt (row_cmp r row) in
     let q : DemandRow → Bool = λ r. is_gt (row_cmp r row) in
-    filter_three p (filter p rows) (shown row) (filter q rows)
-    ∙ ap (λ f. f ++ (filter p (shown row) ++ filter p (filter q rows))) (filter_twice p rows)
+    filter_three p (filter p rows) (row_if_any row) (filter q rows)
+    ∙ ap (λ f. f ++ (filter p (row_if_any row) ++ filter p (filter q rows))) (filter_twice p rows)
     ∙ ap (λ s. filter p rows ++ (s ++ filter p (filter q rows))) (shown_fails p row (ap is_lt (tied_itself row_total row)))
     ∙ ap (λ b. filter p rows ++ b) (filter_apart p q (λ x is. ap is_lt (gt_greater (row_cmp x row) is)) rows)
     ∙ append-nil (filter p rows)
 
-pub behind_edited : (rows : List DemandRow) (row : DemandRow) → behind (edited rows row) row ≡ behind rows row
-unfolding before edited behind
+pub behind_edited : (rows : List DemandRow) (row : DemandRow) → behind (edited_rows rows row) row ≡ behind rows row
+unfolding before edited_rows behind
 behind_edited rows row =
     let p : DemandRow → Bool = λ r. is_lt (row_cmp r row) in
     let q : DemandRow → Bool = λ r. is_gt (row_cmp r row) in
-    filter_three q (filter p rows) (shown row) (filter q rows)
-    ∙ ap (λ f. f ++ (filter q (shown row) ++ filter q (filter q rows))) (filter_apart q p (λ x is. ap is_gt (lt_less (row_cmp x row) is)) rows)
+    filter_three q (filter p rows) (row_if_any row) (filter q rows)
+    ∙ ap (λ f. f ++ (filter q (row_if_any row) ++ filter q (filter q rows))) (filter_apart q p (λ x is. ap is_gt (lt_less (row_cmp x row) is)) rows)
     ∙ ap (λ s. s ++ filter q (filter q rows)) (shown_fails q row (ap is_gt (tied_itself row_total row)))
     ∙ filter_twice q rows
 
-pub standing_edited : (rows : List DemandRow) (row : DemandRow) → standing (edited rows row) row ≡ shown row
-unfolding before edited behind standing
+pub standing_edited : (rows : List DemandRow) (row : DemandRow) → standing (edited_rows rows row) row ≡ row_if_any row
+unfolding before edited_rows behind standing
 standing_edited rows row =
     let p : DemandRow → Bool = λ r. is_lt (row_cmp r row) in
     let q : DemandRow → Bool = λ r. is_gt (row_cmp r row) in
     let e : DemandRow → Bool = λ r. is_eq (row_cmp r row) in
-    filter_three e (filter p rows) (shown row) (filter q rows)
-    ∙ ap (λ f. f ++ (filter e (shown row) ++ filter e (filter q rows))) (filter_apart e p (λ x is. ap is_eq (lt_less (row_cmp x row) is)) rows)
+    filter_three e (filter p rows) (row_if_any row) (filter q rows)
+    ∙ ap (λ f. f ++ (filter e (row_if_any row) ++ filter e (filter q rows))) (filter_apart e p (λ x is. ap is_eq (lt_less (row_cmp x row) is)) rows)
     ∙ ap (λ s. s ++ filter e (filter q rows)) (shown_passes e row (ap is_eq (tied_itself row_total row)))
-    ∙ ap (λ b. shown row ++ b) (filter_apart e q (λ x is. ap is_eq (gt_greater (row_cmp x row) is)) rows)
-    ∙ append-nil (shown row)
+    ∙ ap (λ b. row_if_any row ++ b) (filter_apart e q (λ x is. ap is_eq (gt_greater (row_cmp x row) is)) rows)
+    ∙ append-nil (row_if_any row)
 
 -- setting the row with what was there gives the rows back
-pub edited_back : (rows : List DemandRow) (row : DemandRow) (was : ℕ) → IsWas rows row was → edited (edited rows row) (with_amount row was) ≡ rows
-unfolding edited before behind
+pub edited_back : (rows : List DemandRow) (row : DemandRow) (was : ℕ) → IsWas rows row was → edited_rows (edited_rows rows row) (with_amount row was) ≡ rows
+unfolding edited_rows before behind
 edited_back rows row was is =
-    let f : before (edited rows row) (with_amount row was) ≡ before rows row = before_edited rows row in
-    let b : behind (edited rows row) (with_amount row was) ≡ behind rows row = behind_edited rows row in
-    ap (λ x. x ++ (shown (with_amount row was) ++ behind (edited rows row) (with_amount row was))) f
-    ∙ ap (λ y. before rows row ++ (shown (with_amount row was) ++ y)) b
+    let f : before (edited_rows rows row) (with_amount row was) ≡ before rows row = before_edited rows row in
+    let b : behind (edited_rows rows row) (with_amount row was) ≡ behind rows row = behind_edited rows row in
+    ap (λ x. x ++ (row_if_any (with_amount row was) ++ behind (edited_rows rows row) (with_amount row was))) f
+    ∙ ap (λ y. before rows row ++ (row_if_any (with_amount row was) ++ y)) b
     ∙ sym is.parted
 
 sum_by-three : (f : DemandRow → ℕ) (xs ys zs : List DemandRow) → sum_by f (xs ++ (ys ++ zs)) ≡ sum_by f xs + (sum_by f ys + sum_by f zs)
 sum_by-three f xs ys zs = omega (arith, sum_by-append f xs (ys ++ zs), sum_by-append f ys zs)
 
 -- what a row of amount 0 has nothing of is of what is shown what it is of the row
-of_shown : (f : DemandRow → ℕ) → ((r : DemandRow) → f r ≤ r.amount.0) → (row : DemandRow) → sum_by f (shown row) ≡ f row
+of_shown : (f : DemandRow → ℕ) → ((r : DemandRow) → f r ≤ r.amount.0) → (row : DemandRow) → sum_by f (row_if_any row) ≡ f row
 of_shown f few row = elim (row.amount.0 == 0) as (λ b. (row.amount.0 == 0) ≡ b → sum_by f (cond b [] (row ∷ [])) ≡ f row) [
   | true ↦ λ none. let zero : row.amount.0 ≡ 0 = grind (arith, nat_tests) in omega (arith, few row)
   | false ↦ λ _. omega arith
 ] refl
 
-pub length_edited : (rows : List DemandRow) (row : DemandRow) (was : ℕ) → IsWas rows row was → length (edited rows row) + length (shown (with_amount row was)) ≡ length rows + length (shown row)
-unfolding edited
+pub length_edited : (rows : List DemandRow) (row : DemandRow) (was : ℕ) → IsWas rows row was → length (edited_rows rows row) + length (row_if_any (with_amount row was)) ≡ length rows + length (row_if_any row)
+unfolding edited_rows
 length_edited rows row was is =
-    omega (arith, ap length is.parted, length-append (before rows row) (shown row ++ behind rows row), length-append (shown row) (behind rows row), length-append (before rows row) (shown (with_amount row was) ++ behind rows row), length-append (shown (with_amount row was)) (behind rows row))
+    omega (arith, ap length is.parted, length-append (before rows row) (row_if_any row ++ behind rows row), length-append (row_if_any row) (behind rows row), length-append (before rows row) (row_if_any (with_amount row was) ++ behind rows row), length-append (row_if_any (with_amount row was)) (behind rows row))
 
 -- the sums of the rows after a set: the new part in place of the old, which is in the sum
 module _ (f : DemandRow → ℕ) (few : (r : DemandRow) → f r ≤ r.amount.0) (rows : List DemandRow) (row : DemandRow) (was : ℕ) (is : IsWas rows row was) where
-  sum_edited : sum_by f (edited rows row) + f (with_amount row was) ≡ sum_by f rows + f row
-  unfolding edited
+  sum_edited : sum_by f (edited_rows rows row) + f (with_amount row was) ≡ sum_by f rows + f row
+  unfolding edited_rows
   sum_edited =
-      omega (arith, ap (sum_by f) is.parted, sum_by-three f (before rows row) (shown row) (behind rows row), sum_by-three f (before rows row) (shown (with_amount row was)) (behind rows row), of_shown f few row, of_shown f few (with_amount row was))
+      omega (arith, ap (sum_by f) is.parted, sum_by-three f (before rows row) (row_if_any row) (behind rows row), sum_by-three f (before rows row) (row_if_any (with_amount row was)) (behind rows row), of_shown f few row, of_shown f few (with_amount row was))
 
   sum_was : f (with_amount row was) ≤ sum_by f rows
-  sum_was = omega (arith, ap (sum_by f) is.parted, sum_by-three f (before rows row) (shown (with_amount row was)) (behind rows row), of_shown f few (with_amount row was))
+  sum_was = omega (arith, ap (sum_by f) is.parted, sum_by-three f (before rows row) (row_if_any (with_amount row was)) (behind rows row), of_shown f few (with_amount row was))
 
-pub by_end_edited : (rows : List DemandRow) (row : DemandRow) (was o d t : ℕ) → IsWas rows row was → by_end (edited rows row) o d t + part o d t (with_amount row was) ≡ by_end rows o d t + part o d t row
+pub by_end_edited : (rows : List DemandRow) (row : DemandRow) (was o d t : ℕ) → IsWas rows row was → by_end (edited_rows rows row) o d t + part o d t (with_amount row was) ≡ by_end rows o d t + part o d t row
 by_end_edited rows row was o d t is = sum_edited (part o d t) (part_le o d t) rows row was is
 
 pub part_was : (rows : List DemandRow) (row : DemandRow) (was o d t : ℕ) → IsWas rows row was → part o d t (with_amount row was) ≤ by_end rows o d t
 part_was rows row was o d t is = sum_was (part o d t) (part_le o d t) rows row was is
 
-pub origin_edited : (rows : List DemandRow) (row : DemandRow) (was o t : ℕ) → IsWas rows row was → origin_by_end (edited rows row) o t + origin_part o t (with_amount row was) ≡ origin_by_end rows o t + origin_part o t row
+pub origin_edited : (rows : List DemandRow) (row : DemandRow) (was o t : ℕ) → IsWas rows row was → origin_by_end (edited_rows rows row) o t + origin_part o t (with_amount row was) ≡ origin_by_end rows o t + origin_part o t row
 origin_edited rows row was o t is = sum_edited (origin_part o t) (origin_part_le o t) rows row was is
 
 pub origin_part_was : (rows : List DemandRow) (row : DemandRow) (was o t : ℕ) → IsWas rows row was → origin_part o t (with_amount row was) ≤ origin_by_end rows o t
@@ -153,8 +153,8 @@ pub by_end_le : (rows : List DemandRow) (o d t : ℕ) → by_end rows o d t ≤ 
 by_end_le rows o d t = sum_by-le-sum_by (part o d t) (λ r. r.amount.0) rows (part_le o d t)
 
 -- the rows stay in the order of their keys
-ordered_edited : (rows : List DemandRow) (row : DemandRow) → IsStrictlySortedBy row_cmp rows → IsStrictlySortedBy row_cmp (edited rows row)
-unfolding before edited behind
+ordered_edited : (rows : List DemandRow) (row : DemandRow) → IsStrictlySortedBy row_cmp rows → IsStrictlySortedBy row_cmp (edited_rows rows row)
+unfolding before edited_rows behind
 ordered_edited rows row sorted =
     let p : DemandRow → Bool = λ r. is_lt (row_cmp r row) in
     let q : DemandRow → Bool = λ r. is_gt (row_cmp r row) in
@@ -168,22 +168,22 @@ ordered_edited rows row sorted =
           (all_passed p (λ x. AllByRecursion (λ y. row_cmp x y ≡ Less) (row ∷ filter q rows)) (λ x is. (lt_less (row_cmp x row) is, far x is)) rows)
     ]
 
-each_shown : (slots : ℕ) (row : DemandRow) → has_slots slots row ≡ true → row.amount.0 ≤ 1000000000 → All (IsDemandRow slots) (shown row)
+each_shown : (slots : ℕ) (row : DemandRow) → has_slots slots row ≡ true → row.amount.0 ≤ 1000000000 → All (IsDemandRow slots) (row_if_any row)
 each_shown slots row in' small = elim (row.amount.0 == 0) as (λ b. (row.amount.0 == 0) ≡ b → All (IsDemandRow slots) (cond b [] (row ∷ []))) [
   | true ↦ λ _. All-nil (IsDemandRow slots)
   | false ↦ λ some. All-cons (IsDemandRow slots) row [] (record { some_slots = grind (arith, nat_tests); within = grind (arith, nat_tests); some_units = grind (arith, nat_tests); small = small }) (All-nil (IsDemandRow slots))
 ] refl
 
 -- what holds of the rows and of the row holds of the rows once it is set
-pub all_edited : (P : DemandRow → Type 0) (rows : List DemandRow) (row : DemandRow) → All P rows → All P (shown row) → All P (edited rows row)
-unfolding before edited behind
-all_edited P rows row all own = All-append P (before rows row) (shown row ++ behind rows row) (All-filter (λ r. is_lt (row_cmp r row)) P rows all)
-    (All-append P (shown row) (behind rows row) own (All-filter (λ r. is_gt (row_cmp r row)) P rows all))
+pub all_edited : (P : DemandRow → Type 0) (rows : List DemandRow) (row : DemandRow) → All P rows → All P (row_if_any row) → All P (edited_rows rows row)
+unfolding before edited_rows behind
+all_edited P rows row all own = All-append P (before rows row) (row_if_any row ++ behind rows row) (All-filter (λ r. is_lt (row_cmp r row)) P rows all)
+    (All-append P (row_if_any row) (behind rows row) own (All-filter (λ r. is_gt (row_cmp r row)) P rows all))
 
-pub all_shown : (P : DemandRow → Type 0) (row : DemandRow) → P row → All P (shown row)
+pub all_shown : (P : DemandRow → Type 0) (row : DemandRow) → P row → All P (row_if_any row)
 all_shown P row is = elim (row.amount.0 == 0) as (λ b. All P (cond b [] (row ∷ []))) [ true ↦ All-nil P | false ↦ All-cons P row [] is (All-nil P) ]
 
-pub rows_edited : (slots : ℕ) (rows : List DemandRow) (row : DemandRow) → AreDemandRows slots rows → has_slots slots row ≡ true → row.amount.0 ≤ 1000000000 → length (edited rows row) ≤ 10000 → AreDemandRows slots (edited rows row)
+pub rows_edited : (slots : ℕ) (rows : List DemandRow) (row : DemandRow) → AreDemandRows slots rows → has_slots slots row ≡ true → row.amount.0 ≤ 1000000000 → length (edited_rows rows row) ≤ 10000 → AreDemandRows slots (edited_rows rows row)
 rows_edited slots rows row are in' small few = record {
   ordered = ordered_edited rows row are.ordered;
   each = all_edited (IsDemandRow slots) rows row are.each (each_shown slots row in' small);

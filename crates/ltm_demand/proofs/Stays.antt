@@ -8,7 +8,7 @@ use Rattle.std.proofs.lemmas.Bool.{cases_Bool}
 use Rattle.std.proofs.lemmas.Bool.Decides.{nat_tests}
 use Rattle.std.proofs.lemmas.List.Sums.{sum_by-append, sum_by-cons}
 use Rattle.ltm_demand.specs.declared.row.DemandRow.{DemandRow}
-use Rattle.ltm_demand.specs.Rows.{row_cmp, before, behind, shown, edited, with_amount}
+use Rattle.ltm_demand.specs.Rows.{row_cmp, before, behind, row_if_any, edited_rows, with_amount}
 use Rattle.ltm_demand.specs.Produced.{produced, joins, part, by_end, IsSilent}
 use Rattle.ltm_demand.proofs.Ordered.{same_key_is}
 
@@ -57,17 +57,17 @@ parted o d t row (r ∷ rs) h =
           sum_by-cons f r rs ∙ (go ∙ sym (ap (λ z. P + z) (sum_by-cons f r highs)))
     ] refl
 
-shown_silent : (o d t : ℕ) (row : DemandRow) → IsSilent o t row → sum_by (part o d t) (shown row) ≡ 0
+shown_silent : (o d t : ℕ) (row : DemandRow) → IsSilent o t row → sum_by (part o d t) (row_if_any row) ≡ 0
 shown_silent o d t row h = elim (cases_Bool (row.amount.0 == 0)) [
   | inl a ↦ rw a refl
   | inr a ↦ rw a (omega (silent_part o d t row h, arith))
 ]
 
 -- what is produced elsewhere, or by the end of an earlier slot, stays
-pub by_end_stays : (rows : List DemandRow) (row : DemandRow) (o d t : ℕ) → IsSilent o t row → by_end (edited rows row) o d t ≡ by_end rows o d t
-unfolding edited before behind
+pub by_end_stays : (rows : List DemandRow) (row : DemandRow) (o d t : ℕ) → IsSilent o t row → by_end (edited_rows rows row) o d t ≡ by_end rows o d t
+unfolding edited_rows before behind
 by_end_stays rows row o d t h =
     let f : DemandRow → ℕ = part o d t in
     let p : List DemandRow = filter (λ r. is_lt (row_cmp r row)) rows in
     let q : List DemandRow = filter (λ r. is_gt (row_cmp r row)) rows in
-    omega (sum_by-append f p (shown row ++ q), sum_by-append f (shown row) q, shown_silent o d t row h, parted o d t row rows h, arith)
+    omega (sum_by-append f p (row_if_any row ++ q), sum_by-append f (row_if_any row) q, shown_silent o d t row h, parted o d t row rows h, arith)

@@ -6,32 +6,32 @@ use Rattle.std.proofs.lemmas.List.{get_or-take, get_or-drop, get_or_past, length
 use Rattle.ltm_demand.specs.declared.row.DemandRow.{DemandRow}
 use Rattle.ltm_demand.specs.Rows.{with_amount}
 use Rattle.ltm_demand.specs.Produced.{produced, part, joins, origin_part}
-use Rattle.ltm_demand.specs.Tables.{TableData, told, IsOneOf, IsShifted}
+use Rattle.ltm_demand.specs.Productions.{ProductionData, told, IsOneOf, IsShifted}
 use Rattle.ltm_demand.proofs.Parts.{produced_after}
 
 -- the number of a column that the table has
-pub told_in : (t : TableData) (column slot : ℕ) → column ≤ t.destinations → told t column slot ≡ slice_index t.units (min slot (t.slots - 1) * (t.destinations + 1) + column)
+pub told_in : (t : ProductionData) (column slot : ℕ) → column ≤ t.destinations → told t column slot ≡ slice_index t.units (min slot (t.slots - 1) * (t.destinations + 1) + column)
 unfolding told
 told_in t column slot below =
     let e : nat_le column t.destinations ≡ true = grind (arith, nat_tests) in
     ap (λ b. cond b (slice_index t.units (min slot (t.slots - 1) * (t.destinations + 1) + column)) 0) e
 
-pub told_out : (t : TableData) (column slot : ℕ) → t.destinations < column → told t column slot ≡ 0
+pub told_out : (t : ProductionData) (column slot : ℕ) → t.destinations < column → told t column slot ≡ 0
 unfolding told
 told_out t column slot past =
     let e : nat_le column t.destinations ≡ false = grind (arith, nat_tests) in
     ap (λ b. cond b (slice_index t.units (min slot (t.slots - 1) * (t.destinations + 1) + column)) 0) e
 
-pub told_empty : (t : TableData) (column slot : ℕ) → length t.units ≡ 0 → told t column slot ≡ 0
+pub told_empty : (t : ProductionData) (column slot : ℕ) → length t.units ≡ 0 → told t column slot ≡ 0
 told_empty t column slot none = elim (cases_lt t.destinations column) [
   | inl past ↦ told_out t column slot past
   | inr below ↦ told_in t column slot below ∙ get_or_past t.units _ 0 (omega arith)
 ]
 
-pub told_at : (t : TableData) (column slot : ℕ) → column ≤ t.destinations → slot < t.slots → told t column slot ≡ slice_index t.units (slot * (t.destinations + 1) + column)
+pub told_at : (t : ProductionData) (column slot : ℕ) → column ≤ t.destinations → slot < t.slots → told t column slot ≡ slice_index t.units (slot * (t.destinations + 1) + column)
 told_at t column slot below inside = let here : min slot (t.slots - 1) ≡ slot = omega arith in told_in t column slot below ∙ ap (λ n. slice_index t.units (n * (t.destinations + 1) + column)) here
 
-pub told_last : (t : TableData) (column slot : ℕ) → t.slots ≤ slot → 0 < t.slots → told t column slot ≡ told t column (t.slots - 1)
+pub told_last : (t : ProductionData) (column slot : ℕ) → t.slots ≤ slot → 0 < t.slots → told t column slot ≡ told t column (t.slots - 1)
 told_last t column slot past some = elim (cases_lt t.destinations column) [
   | inl out ↦ told_out t column slot out ∙ sym (told_out t column (t.slots - 1) out)
   | inr below ↦
@@ -40,7 +40,7 @@ told_last t column slot past some = elim (cases_lt t.destinations column) [
 ]
 
 -- the numbers of a slot
-pub row_told : (t : TableData) (start slot column : ℕ) → start ≡ min slot (t.slots - 1) * (t.destinations + 1) → slice_index (take (start + (t.destinations + 1) - start) (drop start t.units)) column ≡ told t column slot
+pub row_told : (t : ProductionData) (start slot column : ℕ) → start ≡ min slot (t.slots - 1) * (t.destinations + 1) → slice_index (take (start + (t.destinations + 1) - start) (drop start t.units)) column ≡ told t column slot
 row_told t start slot column is = elim (cases_lt t.destinations column) [
   | inl past ↦
       get_or_past (take (start + (t.destinations + 1) - start) (drop start t.units)) column 0 (omega (arith, length-take (start + (t.destinations + 1) - start) (drop start t.units)))
@@ -51,7 +51,7 @@ row_told t start slot column is = elim (cases_lt t.destinations column) [
 ]
 
 -- the numbers spread over more destinations and slots say the same
-past_last : (old : TableData) (c s t : ℕ) → length old.units ≡ old.slots * (old.destinations + 1) → old.slots ≤ s + 1 → s ≤ t → told old c s ≡ told old c t
+past_last : (old : ProductionData) (c s t : ℕ) → length old.units ≡ old.slots * (old.destinations + 1) → old.slots ≤ s + 1 → s ≤ t → told old c s ≡ told old c t
 past_last old c s t full near later = elim (cases_lt 0 old.slots) [
   | inl any ↦ elim (cases_lt s old.slots) [
     | inl same ↦ elim (cases_lt t old.slots) [
@@ -66,7 +66,7 @@ past_last old c s t full near later = elim (cases_lt 0 old.slots) [
       told_empty old c s empty ∙ sym (told_empty old c t empty)
 ]
 
-pub told_spread : (old new : TableData) → old.destinations ≤ new.destinations → old.slots ≤ new.slots → length new.units ≡ new.slots * (new.destinations + 1) → length old.units ≡ old.slots * (old.destinations + 1) →
+pub told_spread : (old new : ProductionData) → old.destinations ≤ new.destinations → old.slots ≤ new.slots → length new.units ≡ new.slots * (new.destinations + 1) → length old.units ≡ old.slots * (old.destinations + 1) →
     ((c t : ℕ) → c ≤ new.destinations → t < new.slots → slice_index new.units (t * (new.destinations + 1) + c) ≡ told old c t) → (c t : ℕ) → told new c t ≡ told old c t
 told_spread old new wide long size full is c t = elim (cases_lt new.destinations c) [
   | inl out ↦ told_out new c t out ∙ sym (told_out old c t (omega arith))
@@ -96,7 +96,7 @@ unfolding origin_part
 own_origin t row = let e : (row.origin.0 == row.origin.0) ≡ true = grind (arith, nat_tests) in ap (λ b. cond b (produced row.from row.to row.amount.0 t) 0) e
 
 -- what holds of a column in each slot of the table holds in every slot
-module _ (old new : TableData) (wide : new.destinations ≡ old.destinations) (long : new.slots ≡ old.slots) where
+module _ (old new : ProductionData) (wide : new.destinations ≡ old.destinations) (long : new.slots ≡ old.slots) where
   column_shifted : (column from to was now : ℕ) → column ≤ old.destinations → from < to → to ≤ old.slots →
       ((t : ℕ) → t < old.slots → slice_index new.units (t * (old.destinations + 1) + column) + produced from to was t ≡ slice_index old.units (t * (old.destinations + 1) + column) + produced from to now t) →
       (t : ℕ) → told new column t + produced from to was t ≡ told old column t + produced from to now t

@@ -4,7 +4,7 @@ use Rattle.std.specs.List.Sorted.{IsStrictlySortedBy}
 use Rattle.ltm_demand.specs.declared.row.DemandRow.{DemandRow}
 use Rattle.ltm_demand.specs.Rows.{OriginRoom, row_cmp, IsDemandRow}
 use Rattle.ltm_demand.specs.Produced.{by_end, origin_by_end}
-use Rattle.ltm_demand.specs.Tables.{told, IsReached}
+use Rattle.ltm_demand.specs.Productions.{told, IsReached}
 use Rattle.ltm_demand.specs.Origins.{OriginData, origin_at, rows_of}
 use Rattle.ltm_units.specs.Bounds.{most_demand_rows}
 

@@ -1,6 +1,6 @@
 pub mod Rows
 pub mod Produced
-pub mod Tables
+pub mod Productions
 pub mod Origins
 pub mod Kept
 pub mod Places

@@ -2,13 +2,13 @@
 use Rattle.std.specs.Prelude.{◌≡◌, ℕ, ◌≤◌, List, [], slice_index_or}
 use Rattle.std.specs.List.{flat_map}
 use Rattle.ltm_demand.specs.declared.row.DemandRow.{DemandRow}
-use Rattle.ltm_demand.specs.Tables.{TableData, no_table, told}
+use Rattle.ltm_demand.specs.Productions.{ProductionData, no_table, told}
 
 -- the rows of an origin, how many of them find a place without memory, and the table of what they have produced
 pub record OriginData : Type 0 where
   pub rows : List DemandRow
   pub places : ℕ
-  pub table : TableData
+  pub table : ProductionData
 
 abbrev pub no_origin : OriginData
 no_origin = record { rows = []; places = 0; table = no_table }

@@ -44,12 +44,12 @@ unfoldable pub behind : List DemandRow → DemandRow → List DemandRow
 behind rows row = filter (λ r. is_gt (row_cmp r row)) rows
 
 -- a row of amount 0 is no row
-abbrev pub shown : DemandRow → List DemandRow
-shown row = if row.amount.0 == 0 then [] else row ∷ []
+abbrev pub row_if_any : DemandRow → List DemandRow
+row_if_any row = if row.amount.0 == 0 then [] else row ∷ []
 
 -- the rows once a row is set: it stands in its place, and any other with its key is gone
-unfoldable pub edited : List DemandRow → DemandRow → List DemandRow
-edited rows row = before rows row ++ (shown row ++ behind rows row)
+unfoldable pub edited_rows : List DemandRow → DemandRow → List DemandRow
+edited_rows rows row = before rows row ++ (row_if_any row ++ behind rows row)
 
 -- the amount that stands at the key of a row, 0 where none does
 unfoldable pub amount_at : List DemandRow → DemandRow → ℕ
@@ -63,8 +63,8 @@ has_slots slots row = nat_lt row.from row.to && nat_le row.to slots
 unfoldable pub with_row : DemandData → DemandRow → Result DemandData DemandFault
 with_row d row =
     if not (has_slots d.slots row) then Err BadSlots
-    else if nat_lt most_demand_rows (length (edited d.rows row)) then Err TooManyRows
-    else Ok (record { slots = d.slots; rows = edited d.rows row })
+    else if nat_lt most_demand_rows (length (edited_rows d.rows row)) then Err TooManyRows
+    else Ok (record { slots = d.slots; rows = edited_rows d.rows row })
 
 -- the row with another amount
 abbrev pub with_amount : DemandRow → ℕ → DemandRow

@@ -3,7 +3,7 @@ ghost use Rattle.std.specs.Prelude.{◌≡◌, ◌≤◌, ◌<◌, ℕ, List, Al
 ghost use Rattle.ltm_units.specs.Sums.{sum_below};
 ghost use Rattle.ltm_demand.specs.declared.row.DemandRow.{DemandRow};
 ghost use Rattle.ltm_demand.specs.Produced.{by_end, origin_by_end, total, IsSilent};
-ghost use Rattle.ltm_demand.specs.Rows.{edited};
+ghost use Rattle.ltm_demand.specs.Rows.{edited_rows};
 ghost use Rattle.ltm_demand.specs.Kept.{AreDemandRows};
 ghost use Rattle.ltm_units.specs.Bounds.{most_produced};
 
@@ -30,5 +30,5 @@ pub fn destinations_add_up()
 #[tactic(auto, using(crate::proofs::Stays::by_end_stays))]
 pub fn production_stays()
     ensures { (rows : List DemandRow) (row : DemandRow) (o d t : ℕ) → IsSilent o t row
-        → by_end (edited rows row) o d t ≡ by_end rows o d t }
+        → by_end (edited_rows rows row) o d t ≡ by_end rows o d t }
 {}

@@ -12,10 +12,10 @@ mod demand;
 mod laws;
 mod origin;
 mod pace;
+mod production;
 mod row;
 mod rows;
 mod shifting;
-mod table;
 
 pub use all_rows::DemandRows;
 pub use demand::Demand;

@@ -1,16 +1,16 @@
 //! The demand of one origin: its rows, and a table of what they have produced.
 ghost use Rattle.std.specs.Prelude.{◌≡◌, ℕ, ◌+◌, ◌<◌, ◌≤◌, [], length, slice_index, OnOk, IfOk, IfErr};
 ghost use Rattle.std.specs.List.Sorted.{IsStrictlySortedBy};
-ghost use Rattle.ltm_demand.specs.Rows.{row_cmp, edited, amount_at, IsNoLess};
+ghost use Rattle.ltm_demand.specs.Rows.{row_cmp, edited_rows, amount_at, IsNoLess};
 ghost use Rattle.ltm_demand.specs.Places.{IsAt, IsGap};
-ghost use Rattle.ltm_demand.specs.Tables.{no_table, told, IsRoomy, IsReached, IsShifted};
+ghost use Rattle.ltm_demand.specs.Productions.{no_table, told, IsRoomy, IsReached, IsShifted};
 ghost use Rattle.ltm_demand.specs.Origins.{OriginData};
 ghost use Rattle.ltm_demand.specs.Kept.{room_in};
 ghost use Rattle.ltm_units.specs.Bounds.{most_amount};
 
 use crate::DemandRow;
+use crate::production::Production;
 use crate::rows::{find, put_in, put_over};
-use crate::table::Table;
 use ltm_units::NoMemory;
 use std::alloc::Global;
 use std::marker::Model;
@@ -19,7 +19,7 @@ use std::marker::Model;
 #[derive(Drop)]
 pub struct Origin {
     rows: Vec<DemandRow>,
-    table: Table,
+    table: Production,
 }
 
 impl Model for Origin {
@@ -38,7 +38,7 @@ impl Origin {
     {
         Origin {
             rows: Vec::new(alloc),
-            table: Table::new(alloc),
+            table: Production::new(alloc),
         }
     }
 
@@ -105,7 +105,7 @@ impl Origin {
         requires slots { row.now.from < row.now.to }
         requires reached { IsReached self.old.table row.now }
         requires roomy { IsRoomy self.old.table row.now (amount_at self.old.rows row.now) }
-        ensures rows { self.new.rows ≡ edited self.old.rows row.now }
+        ensures rows { self.new.rows ≡ edited_rows self.old.rows row.now }
         ensures was { result ≡ amount_at self.old.rows row.now }
         ensures vacant { row.now.amount.0 ≡ 0 → length self.new.rows < self.new.places }
         ensures shifted { IsShifted self.old.table self.new.table row.now result }
@@ -125,7 +125,7 @@ impl Origin {
         requires vacant { length self.old.rows < self.old.places }
         requires reached { IsReached self.old.table row.now }
         requires roomy { IsRoomy self.old.table row.now 0 }
-        ensures rows { self.new.rows ≡ edited self.old.rows row.now }
+        ensures rows { self.new.rows ≡ edited_rows self.old.rows row.now }
         ensures shifted { IsShifted self.old.table self.new.table row.now 0 }
         ensures places { IsNoLess (room_in self.old) (room_in self.new) }
     {

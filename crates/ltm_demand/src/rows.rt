@@ -1,7 +1,7 @@
 //! Rows in the order of their keys: where one stands, and the edits of the list.
 ghost use Rattle.std.specs.Prelude.{◌≡◌, ℕ, ◌+◌, ◌<◌, ◌≤◌, ◌*◌, IfOk, IfErr, length, vec_len, vec_capacity, List};
 ghost use Rattle.std.specs.List.Sorted.{IsStrictlySortedBy};
-ghost use Rattle.ltm_demand.specs.Rows.{row_cmp, edited, amount_at};
+ghost use Rattle.ltm_demand.specs.Rows.{row_cmp, edited_rows, amount_at};
 ghost use Rattle.ltm_demand.specs.Produced.{by_end, total, has};
 ghost use Rattle.ltm_demand.specs.Places.{IsAt, IsGap};
 
@@ -30,7 +30,7 @@ pub fn find(rows: &[DemandRow], row: &DemandRow) -> Result<usize, usize>
 /// Writes over the row at the place, or takes it out where the amount is 0; the amount that stood there.
 pub fn put_over(rows: &mut Vec<DemandRow>, place: usize, row: &DemandRow) -> u64
     requires { IsAt rows.old.items row.now place }
-    ensures rows { rows.new.items ≡ edited rows.old.items row.now }
+    ensures rows { rows.new.items ≡ edited_rows rows.old.items row.now }
     ensures was { result ≡ amount_at rows.old.items row.now }
     ensures capacity { vec_capacity rows.new ≡ vec_capacity rows.old }
     ensures vacant { row.now.amount.0 ≡ 0 → vec_len rows.new < vec_capacity rows.new }
@@ -49,7 +49,7 @@ pub fn put_in(rows: &mut Vec<DemandRow>, place: usize, row: &DemandRow)
     requires gap { IsGap rows.old.items row.now place }
     requires some { 0 < row.now.amount.0 }
     requires room { vec_len rows.old < vec_capacity rows.old }
-    ensures rows { rows.new.items ≡ edited rows.old.items row.now }
+    ensures rows { rows.new.items ≡ edited_rows rows.old.items row.now }
     ensures len { vec_len rows.new ≡ vec_len rows.old + 1 }
     ensures capacity { vec_capacity rows.old ≤ vec_capacity rows.new }
 {

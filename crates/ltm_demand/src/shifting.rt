@@ -4,7 +4,7 @@
 //! destination. A row changes two, the first and that of its destination, `own` places behind it.
 ghost use Rattle.std.specs.Prelude.{◌≡◌, ◌≢◌, ℕ, ◌+◌, ◌-◌, ◌*◌, ◌<◌, ◌≤◌, ◌^◌, length, slice_index, slice_set};
 ghost use Rattle.ltm_demand.specs.Produced.{produced};
-ghost use Rattle.ltm_demand.specs.Tables.{IsOneOf};
+ghost use Rattle.ltm_demand.specs.Productions.{IsOneOf};
 ghost use Rattle.ltm_units.specs.Bounds.{most_amount};
 
 use crate::DemandRow;

@@ -10,7 +10,7 @@ use Rattle.ltm_diagram.specs.declared.diagram.Limits.{Limits}
 use Rattle.ltm_diagram.specs.declared.diagram.Field.{Field}
 use Rattle.ltm_diagram.specs.declared.diagram.DiagramFault.{DiagramFault}
 use Rattle.ltm_diagram.specs.declared.diagram.DiagramFault.TheVariants.{Zero, Over}
-use Rattle.ltm_diagram.specs.Limits.{limits_of, sized, free_flow_time, wave_time, capacity_of, storage_of}
+use Rattle.ltm_diagram.specs.Limits.{limits_of, field_in_range, free_flow_time, wave_time, capacity_of, storage_of}
 use Rattle.ltm_diagram.specs.InRange.{AreInRange}
 
 two_passed : {A : Type 0} (a b : Bool) (f g : DiagramFault) (next : Result A DiagramFault) (x : A) → ((refuse a f >>> refuse b g) >>> next) ≡ Ok x → (a ≡ false) × (b ≡ false) × (next ≡ Ok x)
@@ -18,7 +18,7 @@ two_passed true b f g next x is = cc
 two_passed false b f g next x is = let more = passed b g next x is in (refl, more.0, more.1)
 
 -- a field that is not refused is 1 to its limit
-has_size : {A : Type 0} (field : Field) (most value : ℕ) (next : Result A DiagramFault) (x : A) → (sized field most value >>> next) ≡ Ok x → (1 ≤ value) × (value ≤ most) × (next ≡ Ok x)
+has_size : {A : Type 0} (field : Field) (most value : ℕ) (next : Result A DiagramFault) (x : A) → (field_in_range field most value >>> next) ≡ Ok x → (1 ≤ value) × (value ≤ most) × (next ≡ Ok x)
 has_size field most value next x is =
     let p = two_passed (value == 0) (nat_lt most value) (Zero field) (Over field) next x is in
     (grind (arith, nat_tests, p.0), grind (arith, nat_tests, p.1), p.2)

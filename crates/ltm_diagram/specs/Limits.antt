@@ -27,16 +27,16 @@ abbrev pub storage_of : Diagram → ℕ
 storage_of d = d.jam_per_km * d.length_m
 
 -- a field is at least 1 and at most its limit
-abbrev pub sized : Field → ℕ → ℕ → Result (Unit {0}) DiagramFault
-sized field most value = refuse (value == 0) (Zero field) >>> refuse (nat_lt most value) (Over field)
+abbrev pub field_in_range : Field → ℕ → ℕ → Result (Unit {0}) DiagramFault
+field_in_range field most value = refuse (value == 0) (Zero field) >>> refuse (nat_lt most value) (Over field)
 
 -- the limits, or the first fault: of a field, of the times, of the capacity
 unfoldable pub limits_of : Diagram → ℕ → Result Limits DiagramFault
 limits_of d step =
-    sized Length 1000000 d.length_m
-    >>> sized Free 1000 d.free_kmh
-    >>> sized Wave 1000 d.wave_kmh
-    >>> sized Jam most_per_km d.jam_per_km
+    field_in_range Length 1000000 d.length_m
+    >>> field_in_range Free 1000 d.free_kmh
+    >>> field_in_range Wave 1000 d.wave_kmh
+    >>> field_in_range Jam most_per_km d.jam_per_km
     >>> refuse (nat_lt (free_flow_time d) step || nat_lt (wave_time d) step) (StepTooLong (free_flow_time d) (wave_time d))
     >>> refuse (capacity_of d step == 0) NoCapacity
     >>> refuse (nat_lt most_in_slot (capacity_of d step)) CapacityOver

@@ -1,7 +1,7 @@
 //! A link's diagram, and the limits that follow from it.
 ghost use Rattle.std.specs.Prelude.{◌≡◌, ◌≤◌, ◌*◌, IfOk};
 ghost use Rattle.std.specs.Int.{div_ceil};
-ghost use Rattle.ltm_diagram.specs.Limits.{limits_of, sized, capacity_of};
+ghost use Rattle.ltm_diagram.specs.Limits.{limits_of, field_in_range, capacity_of};
 ghost use Rattle.ltm_diagram.specs.InRange.{AreInRange};
 ghost use Rattle.ltm_units.specs.Bounds.{longest_step, most_per_km};
 
@@ -119,7 +119,7 @@ impl Diagram {
 
 /// Whether a field is at least 1 and at most its limit.
 fn check_size(field: Field, most: u32, value: u32) -> Result<(), DiagramFault>
-    ensures { result ≡ sized field most value }
+    ensures { result ≡ field_in_range field most value }
 {
     if value == 0 {
         return Err(DiagramFault::Zero(field));

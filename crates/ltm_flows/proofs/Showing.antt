@@ -17,7 +17,7 @@ use Rattle.ltm_loading.specs.Ranges.{TotalsSmall}
 use Rattle.ltm_loading.specs.LoadingLaws.{NeverFall}
 use Rattle.ltm_loading.specs.Totals.{generated, departed, arrived, entered_link, left_link, on_links}
 use Rattle.ltm_flows.specs.declared.loading.Loading.{Loading}
-use Rattle.ltm_flows.specs.declared.in_all.Totals.{Totals}
+use Rattle.ltm_flows.specs.declared.loading_totals.Totals.{Totals}
 use Rattle.ltm_flows.specs.InAll.{AreTotals, AreSums}
 use Rattle.ltm_loading.specs.Shaped.{IsShaped}
 use Rattle.ltm_flows.specs.Shown.{links_of, nodes_of, curves_of, last_of, ShowsCounts}

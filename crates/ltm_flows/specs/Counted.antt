@@ -4,7 +4,7 @@ use Rattle.ltm_units.specs.Sums.{sum_below}
 use Rattle.ltm_curve.specs.TotalCurves.{total_at}
 use Rattle.ltm_loading.specs.Groups.{up_of, down_of}
 use Rattle.ltm_flows.specs.declared.loading.Loading.{Loading}
-use Rattle.ltm_flows.specs.declared.in_all.Totals.{Totals}
+use Rattle.ltm_flows.specs.declared.loading_totals.Totals.{Totals}
 use Rattle.ltm_flows.specs.Shown.{links_of, nodes_of, curves_of, last_of, generated_of}
 
 -- what has arrived by a boundary

@@ -5,7 +5,7 @@ use Rattle.ltm_curve.specs.Counts.{Counts}
 use Rattle.ltm_loading.specs.Setting.{Setting}
 use Rattle.ltm_loading.specs.Groups.{up_of, down_of}
 use Rattle.ltm_loading.specs.Totals.{generated, arrived, on_links, waiting}
-use Rattle.ltm_flows.specs.declared.in_all.Totals.{Totals}
+use Rattle.ltm_flows.specs.declared.loading_totals.Totals.{Totals}
 
 -- the totals of a setting's counts at a boundary
 pub record AreTotals (s : Setting) (c : Counts) (k : ℕ) (t : Totals) : Type 0 where

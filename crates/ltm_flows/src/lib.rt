@@ -9,20 +9,20 @@
 #![tactic(auto)]
 
 mod applying;
-mod at_end;
 mod cold_loading;
-mod in_all;
+mod last_totals;
 mod loading;
+mod loading_totals;
 mod moves;
 mod production;
-mod summing;
+mod shown_totals;
 mod sums;
 mod tables;
 
 pub use applying::apply;
-pub use at_end::totals_at_end;
 pub use cold_loading::{begin_slot, cold, fresh, move_pair};
-pub use in_all::Totals;
+pub use last_totals::totals_at_end;
 pub use loading::Loading;
+pub use loading_totals::Totals;
 pub use ltm_inputs::{inputs_of, shape_of, widest};
-pub use summing::totals;
+pub use shown_totals::totals;

@@ -5,7 +5,7 @@ ghost use Rattle.ltm_loading.specs.Groups.{up_of, down_of};
 ghost use Rattle.ltm_flows.specs.InAll.{AreSums};
 ghost use Rattle.ltm_units.specs.Bounds.{most_links, most_nodes};
 
-use crate::in_all::Totals;
+use crate::loading_totals::Totals;
 use ltm_curve::{Curves, TotalCurves};
 use ltm_loading::{arr_behind, dep_behind, down_of, up_of};
 use ltm_units::{LinkId, NodeId, Units};

@@ -58,8 +58,8 @@ fn after(slot: u32, slots: u32) -> u32
 
 impl Frontier {
     ghost use Rattle.ltm_frontier.specs.Frontier.{
-      nodes_of,
-      slots_of,
+      nodes_in,
+      slots_in,
       slot_room,
       is_active,
       is_claimed,
@@ -80,8 +80,8 @@ impl Frontier {
     pub fn create(alloc: Global, nodes: u32, slots: u32) -> Result<Frontier, NoMemory>
         requires nodes { nodes ≤ most_marked }
         requires slots { slots ≤ most_marked }
-        ensures nodes { IfOk result (λ f. nodes_of f ≡ nodes) }
-        ensures slots { IfOk result (λ f. slots_of f ≡ slots) }
+        ensures nodes { IfOk result (λ f. nodes_in f ≡ nodes) }
+        ensures slots { IfOk result (λ f. slots_in f ≡ slots) }
         ensures idle { IfOk result AllIdle }
         ensures none_claimed { IfOk result (λ f. (u t : ℕ) → is_claimed f u t ≡ false) }
     {
@@ -98,14 +98,14 @@ impl Frontier {
 
     /// How many nodes there are.
     pub fn nodes(&self) -> u32
-        ensures { result ≡ nodes_of self.now }
+        ensures { result ≡ nodes_in self.now }
     {
         self.active.width() as u32
     }
 
     /// How many slots there are.
     pub fn slots(&self) -> u32
-        ensures { result ≡ slots_of self.now }
+        ensures { result ≡ slots_in self.now }
     {
         self.active.rows() as u32
     }
@@ -113,8 +113,8 @@ impl Frontier {
     /// Whether the pair is active.
     #[inline]
     pub fn is_active(&self, pair: Pair) -> bool
-        requires node { pair.node.0 < nodes_of self.now }
-        requires slot { pair.slot < slots_of self.now }
+        requires node { pair.node.0 < nodes_in self.now }
+        requires slot { pair.slot < slots_in self.now }
         ensures { result ≡ is_active self.now pair.node.0 pair.slot }
     {
         self.active
@@ -124,7 +124,7 @@ impl Frontier {
     /// Whether the pair is claimed.
     #[inline]
     pub fn is_claimed(&self, pair: Pair) -> bool
-        requires node { pair.node.0 < nodes_of self.now }
+        requires node { pair.node.0 < nodes_in self.now }
         ensures value { result ≡ is_claimed self.now pair.node.0 pair.slot }
         ensures apart { IsTrue result → is_active self.now pair.node.0 pair.slot ≡ false }
     {
@@ -145,8 +145,8 @@ impl Frontier {
     /// Makes the pair active, unless it is claimed.
     #[inline]
     pub fn mark(&mut self, pair: Pair)
-        requires node { pair.node.0 < nodes_of self.old }
-        requires slot { pair.slot < slots_of self.old }
+        requires node { pair.node.0 < nodes_in self.old }
+        requires slot { pair.slot < slots_in self.old }
         ensures { Activates self.old self.new (is_pair pair.node.0 pair.slot) }
     {
         if self.is_active(pair) {
@@ -162,8 +162,8 @@ impl Frontier {
 
     /// Makes the pairs of a node in some slots active, but for those that are claimed.
     pub fn mark_range(&mut self, reach: Reach)
-        requires node { reach.node.0 < nodes_of self.old }
-        requires slots { reach.to ≤ slots_of self.old }
+        requires node { reach.node.0 < nodes_in self.old }
+        requires slots { reach.to ≤ slots_in self.old }
         ensures { Activates self.old self.new (in_slots reach.node.0 reach.from reach.to) }
     {
         let node = reach.node;
@@ -175,8 +175,8 @@ impl Frontier {
     /// The pair is no longer active.
     #[inline]
     pub fn unmark(&mut self, pair: Pair)
-        requires node { pair.node.0 < nodes_of self.old }
-        requires slot { pair.slot < slots_of self.old }
+        requires node { pair.node.0 < nodes_in self.old }
+        requires slot { pair.slot < slots_in self.old }
         ensures { Deactivates self.old self.new pair.node.0 pair.slot }
     {
         self.active.unmark(pair.node.0 as usize, pair.slot as usize);
@@ -185,8 +185,8 @@ impl Frontier {
     /// Claims an active pair. All claims are of one slot.
     #[inline]
     pub fn claim_mark(&mut self, pair: Pair)
-        requires node { pair.node.0 < nodes_of self.old }
-        requires slot { pair.slot < slots_of self.old }
+        requires node { pair.node.0 < nodes_in self.old }
+        requires slot { pair.slot < slots_in self.old }
         requires active { is_active self.old pair.node.0 pair.slot ≡ true }
         requires one_slot { ClaimsAreOf self.old pair.slot }
         ensures { ClaimsPair self.old self.new pair.node.0 pair.slot }
@@ -198,7 +198,7 @@ impl Frontier {
     /// A claimed pair is no longer claimed, and not active either.
     #[inline]
     pub fn release(&mut self, pair: Pair)
-        requires node { pair.node.0 < nodes_of self.old }
+        requires node { pair.node.0 < nodes_in self.old }
         requires claimed { is_claimed self.old pair.node.0 pair.slot ≡ true }
         ensures { Releases self.old self.new pair.node.0 pair.slot }
     {
@@ -222,7 +222,7 @@ impl Frontier {
     #[inline]
     pub fn room(&self) -> u32
         ensures value { result ≡ slot_room self.now }
-        ensures within { slots_of self.now ≤ result }
+        ensures within { slots_in self.now ≤ result }
     {
         self.active.room() as u32
     }
@@ -231,7 +231,7 @@ impl Frontier {
     pub fn reserve(&mut self, slots: u32) -> Result<(), NoMemory>
         requires { slots ≤ most_marked }
         ensures same { SamePairs self.old self.new }
-        ensures slots { slots_of self.new ≡ slots_of self.old }
+        ensures slots { slots_in self.new ≡ slots_in self.old }
         ensures room { OnOk result (slots ≤ slot_room self.new) }
         ensures stays { OnErr result (slot_room self.new ≡ slot_room self.old) }
         ensures no_less { slot_room self.old ≤ slot_room self.new }
@@ -241,12 +241,12 @@ impl Frontier {
 
     /// Raises the number of slots within the room. No pair of a new slot is active or claimed.
     pub fn lengthen(&mut self, slots: u32)
-        requires slots { slots_of self.old ≤ slots }
+        requires slots { slots_in self.old ≤ slots }
         requires room { slots ≤ slot_room self.old }
         ensures same { SamePairs self.old self.new }
-        ensures slots { slots_of self.new ≡ slots }
+        ensures slots { slots_in self.new ≡ slots }
         ensures room { slot_room self.new ≡ slot_room self.old }
-        ensures new { (u t : ℕ) → u < nodes_of self.old → slots_of self.old ≤ t
+        ensures new { (u t : ℕ) → u < nodes_in self.old → slots_in self.old ≤ t
             → is_active self.new u t ≡ false }
     {
         self.active.lengthen(slots as usize);

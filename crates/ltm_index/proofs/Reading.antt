@@ -1,7 +1,7 @@
 -- Reading a list slot after slot.
 use Rattle.std.proofs.Common.{◌≡◌, ◌≢◌, ℕ, zero, suc, ◌+◌, ◌-◌, ◌<◌, ◌≤◌, List, [], ◌∷◌, length, get_or, Option, Some, None, refl, sym, ap, subst, ◌∙◌, inl, inr, eq-eqb, arith, IfSome, Contains}
 use Rattle.std.proofs.lemmas.Bool.{cases_eq, ne_eqb}
-use Rattle.ltm_index.specs.Chains.{times, behind, left_after, list_from, first_in, named, IsChain}
+use Rattle.ltm_index.specs.Chains.{times, behind, left_after, list_from, first_in, pointed_at, IsChain}
 use Rattle.ltm_index.proofs.Chaining.{times_here, times_past, in_head, in_tail, fewer_left}
 
 -- ---- a slot stands in a list where it stands there at some place
@@ -79,18 +79,18 @@ pub next_stands : (xs : List ℕ) (after : Option ℕ) → IfSome (first_in (lef
 next_stands xs after = met xs (left_after xs after) (fewer_after xs after)
 
 -- ---- where pointers lead
-pub named_some : (n : ℕ) → n ≢ 0 → named n ≡ Some (n - 1)
+pub named_some : (n : ℕ) → n ≢ 0 → pointed_at n ≡ Some (n - 1)
 named_some zero some = absurd (some refl)
 named_some (suc n) some = let e : suc n - 1 ≡ n = omega arith in ap Some (sym e)
 
 -- a pointer that is one more than a number names it, and no other does
-pub named_at : (n k : ℕ) → (n ≡ k + 1 → named n ≡ Some k) × (named n ≡ Some k → n ≡ k + 1)
+pub named_at : (n k : ℕ) → (n ≡ k + 1 → pointed_at n ≡ Some k) × (pointed_at n ≡ Some k → n ≡ k + 1)
 named_at zero k = (λ is. absurd (omega arith), λ is. cc)
 named_at (suc n) k = (λ is. let e : n ≡ k = omega arith in ap Some e, λ is. let e : n ≡ k = cc in omega arith)
 
-pub named_first : (a b : ℕ → ℕ) (p : ℕ) (xs : List ℕ) → IsChain a b p xs → named (a p) ≡ first_in xs
-named_first a b p [] c = ap named c
-named_first a b p (x ∷ xs) c = ap named c.0
+pub named_first : (a b : ℕ → ℕ) (p : ℕ) (xs : List ℕ) → IsChain a b p xs → pointed_at (a p) ≡ first_in xs
+named_first a b p [] c = ap pointed_at c
+named_first a b p (x ∷ xs) c = ap pointed_at c.0
 
 chain_behind : (a b : ℕ → ℕ) (p v : ℕ) (xs : List ℕ) → IsChain a b p xs → 1 ≤ times v xs → IsChain a b (suc v) (behind v xs)
 chain_behind a b p v [] c some = absurd (omega arith)
@@ -102,7 +102,7 @@ chain_behind a b p v (x ∷ xs) c some =
       | inr other ↦ subst (λ zs. IsChain a b (suc v) zs) (sym (behind_past v x xs other)) (chain_behind a b (suc x) v xs c.1.1 (omega (arith, times_past v x xs other)))
     ]
 
-pub named_next : (a b : ℕ → ℕ) (p v : ℕ) (xs : List ℕ) → IsChain a b p xs → 1 ≤ times v xs → named (a (suc v)) ≡ first_in (behind v xs)
+pub named_next : (a b : ℕ → ℕ) (p v : ℕ) (xs : List ℕ) → IsChain a b p xs → 1 ≤ times v xs → pointed_at (a (suc v)) ≡ first_in (behind v xs)
 named_next a b p v xs c some = named_first a b (suc v) (behind v xs) (chain_behind a b p v xs c some)
 
 pub none_is_empty : (xs : List ℕ) → ((v : ℕ) → times v xs ≡ 0) → xs ≡ []

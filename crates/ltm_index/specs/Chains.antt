@@ -35,9 +35,9 @@ first_in [] = None
 first_in (x ∷ xs) = Some x
 
 -- what a pointer names
-abbrev pub named : ℕ → Option ℕ
-named zero = None
-named (suc v) = Some v
+abbrev pub pointed_at : ℕ → Option ℕ
+pointed_at zero = None
+pointed_at (suc v) = Some v
 
 -- the slots that are met from a pointer on, where each slot leads on to another pointer; at most so many
 abbrev pub walk : (ℕ → ℕ) → ℕ → ℕ → List ℕ

@@ -4,7 +4,7 @@ use Rattle.std.proofs.lemmas.List.{get_or_past, get_or-take, get_or-append_right
 use Rattle.std.proofs.lemmas.Bool.{cases_eq, cases_lt}
 use Rattle.std.proofs.lemmas.Nat.{mul-add-lt}
 use Rattle.std.proofs.Math.Nat.{mul-le-mul_right, mul_comm}
-use Rattle.ltm_limits.specs.Limits.{never_set, stretched, lengthened, shortened}
+use Rattle.ltm_limits.specs.Limits.{never_set, row_over, limits_over, limits_within}
 use Rattle.ltm_limits.specs.Tables.{said, limits_in, IsQuiet, AreExchanged}
 use Rattle.ltm_limits.proofs.Rows.{limits_long, link_at, link_long, slot_at, link_is, limits_are, get_or-padded}
 
@@ -43,15 +43,15 @@ row_long table links slots link l = ap length (link_at table links slots link l)
 row_at : (table : List ℕ) (links slots link slot : ℕ) → link < links → slot < slots → get_or (get_or (limits_in table links slots) link []) slot 0 ≡ said table links link slot
 row_at table links slots link slot l h = ap (λ (xs : List ℕ). get_or xs slot 0) (link_at table links slots link l) ∙ slot_at table links slots link slot h
 
-pub limits_lengthened : (table : List ℕ) (links slots more : ℕ) → slots ≤ more → IsQuiet table links slots → limits_in table links more ≡ lengthened (limits_in table links slots) more
+pub limits_lengthened : (table : List ℕ) (links slots more : ℕ) → slots ≤ more → IsQuiet table links slots → limits_in table links more ≡ limits_over (limits_in table links slots) more
 limits_lengthened table links slots more longer quiet =
     let rows : List (List ℕ) = limits_in table links slots in
-    sym (limits_are table links more (lengthened rows more) (length-map rows (stretched more) ∙ limits_long table links slots) (λ link l.
+    sym (limits_are table links more (limits_over rows more) (length-map rows (row_over more) ∙ limits_long table links slots) (λ link l.
     let row : List ℕ = get_or rows link [] in
     let long : length row ≡ slots = row_long table links slots link l in
     let rest : ℕ = more - length row in
-    get_or-map (stretched more) rows link [] [] (omega (arith, limits_long table links slots))
-    ∙ link_is table links more link (stretched more row) (omega (arith, longer, long, length-append row (replicate rest never_set), length-replicate rest never_set)) (λ slot h.
+    get_or-map (row_over more) rows link [] [] (omega (arith, limits_long table links slots))
+    ∙ link_is table links more link (row_over more row) (omega (arith, longer, long, length-append row (replicate rest never_set), length-replicate rest never_set)) (λ slot h.
     elim (cases_lt slot slots) [
       | inl before ↦ get_or_append_left row (replicate rest never_set) 0 slot (omega (arith, long, before)) ∙ row_at table links slots link slot l before
       | inr past ↦
@@ -60,10 +60,10 @@ limits_lengthened table links slots more longer quiet =
           ∙ sym (quiet link slot l past)
     ])))
 
-pub limits_shortened : (old new : List ℕ) (links slots fewer : ℕ) → fewer ≤ slots → ((k : ℕ) → k < fewer * links → get_or new k never_set ≡ get_or old k never_set) → limits_in new links fewer ≡ shortened (limits_in old links slots) fewer
+pub limits_shortened : (old new : List ℕ) (links slots fewer : ℕ) → fewer ≤ slots → ((k : ℕ) → k < fewer * links → get_or new k never_set ≡ get_or old k never_set) → limits_in new links fewer ≡ limits_within (limits_in old links slots) fewer
 limits_shortened old new links slots fewer shorter same =
     let rows : List (List ℕ) = limits_in old links slots in
-    sym (limits_are new links fewer (shortened rows fewer) (length-map rows (take fewer) ∙ limits_long old links slots) (λ link l.
+    sym (limits_are new links fewer (limits_within rows fewer) (length-map rows (take fewer) ∙ limits_long old links slots) (λ link l.
     let row : List ℕ = get_or rows link [] in
     get_or-map (take fewer) rows link [] [] (omega (arith, limits_long old links slots))
     ∙ link_is new links fewer link (take fewer row) (omega (arith, shorter, length-take fewer row, row_long old links slots link l)) (λ slot h.
@@ -71,5 +71,5 @@ limits_shortened old new links slots fewer shorter same =
     ∙ row_at old links slots link slot l (omega (arith, h, shorter))
     ∙ sym (same (slot * links + link) (omega (arith, mul-add-lt slot links link fewer h l, mul_comm links fewer))))))
 
-pub shortened_back : (table : List ℕ) (links slots more : ℕ) → slots ≤ more → shortened (limits_in table links more) slots ≡ limits_in table links slots
+pub shortened_back : (table : List ℕ) (links slots more : ℕ) → slots ≤ more → limits_within (limits_in table links more) slots ≡ limits_in table links slots
 shortened_back table links slots more longer = sym (limits_shortened table table links more slots longer (λ k h. refl))

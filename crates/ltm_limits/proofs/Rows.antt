@@ -7,7 +7,7 @@ use Rattle.std.proofs.lemmas.Bool.{cases_lt, cases_eq, lt-ltb, le-ltb}
 use Rattle.std.proofs.lemmas.Nat.{mul-add-lt, div-mul-add, mod-mul-add}
 use Rattle.std.proofs.Math.Nat.{mul-le-mul_left, mul-le-mul_right, mul_comm}
 use Rattle.std.proofs.Math.ListN.{set, length-set}
-use Rattle.ltm_limits.specs.Limits.{limit_at, written, with_values, values_of, with_link, never_set}
+use Rattle.ltm_limits.specs.Limits.{limit_at, list_with_values, with_values, values_of, with_limits_of_link, never_set}
 use Rattle.ltm_limits.specs.Tables.{said, limits_of_link, limits_in, wide_at, AreExchanged}
 
 pub limits_long : (table : List ℕ) (links slots : ℕ) → length (limits_in table links slots) ≡ links
@@ -77,23 +77,23 @@ limits_reach table new links slots n count short is =
     limits_same new table links slots (λ link slot _ _. ap (λ t. get_or t (slot * links + link) never_set) same ∙ get_or-padded table n (slot * links + link))
 
 -- ---- values written over a part of a list
-pub written_before : (from : ℕ) (values xs : List ℕ) (k : ℕ) → from + length values ≤ length xs → k < from → get_or (written from values xs) k 0 ≡ get_or xs k 0
+pub written_before : (from : ℕ) (values xs : List ℕ) (k : ℕ) → from + length values ≤ length xs → k < from → get_or (list_with_values from values xs) k 0 ≡ get_or xs k 0
 written_before from values xs k fits before =
     get_or_append_left (take from xs) (values ++ drop (from + length values) xs) 0 k (omega (arith, length-take from xs)) ∙ get_or-take from xs k 0 before
 
-pub written_inside : (from : ℕ) (values xs : List ℕ) (k : ℕ) → from + length values ≤ length xs → from ≤ k → k < from + length values → get_or (written from values xs) k 0 ≡ get_or values (k - from) 0
+pub written_inside : (from : ℕ) (values xs : List ℕ) (k : ℕ) → from + length values ≤ length xs → from ≤ k → k < from + length values → get_or (list_with_values from values xs) k 0 ≡ get_or values (k - from) 0
 written_inside from values xs k fits least below =
     get_or-append_right (take from xs) (values ++ drop (from + length values) xs) from k 0 (omega (arith, length-take from xs)) least
     ∙ get_or_append_left values (drop (from + length values) xs) 0 (k - from) (omega arith)
 
-pub written_behind : (from : ℕ) (values xs : List ℕ) (k : ℕ) → from + length values ≤ length xs → from + length values ≤ k → get_or (written from values xs) k 0 ≡ get_or xs k 0
+pub written_behind : (from : ℕ) (values xs : List ℕ) (k : ℕ) → from + length values ≤ length xs → from + length values ≤ k → get_or (list_with_values from values xs) k 0 ≡ get_or xs k 0
 written_behind from values xs k fits least =
     get_or-append_right (take from xs) (values ++ drop (from + length values) xs) from k 0 (omega (arith, length-take from xs)) (omega arith)
     ∙ get_or-append_right values (drop (from + length values) xs) (length values) (k - from) 0 refl (omega arith)
     ∙ get_or-drop (from + length values) xs (k - from - length values) 0
     ∙ ap (λ i. get_or xs i 0) (omega arith)
 
-pub length-written : (from : ℕ) (values xs : List ℕ) → from + length values ≤ length xs → length (written from values xs) ≡ length xs
+pub length-written : (from : ℕ) (values xs : List ℕ) → from + length values ≤ length xs → length (list_with_values from values xs) ≡ length xs
 length-written from values xs fits =
     omega (arith, length-append (take from xs) (values ++ drop (from + length values) xs), length-append values (drop (from + length values) xs), length-take from xs, length-drop (from + length values) xs)
 
@@ -104,12 +104,12 @@ limits_exchanged old new links slots link from values exchanged inside fits =
     let row_is : row ≡ limits_of_link old links slots link = link_at old links slots link inside in
     let long : length row ≡ slots = ap length row_is ∙ link_long old links slots link in
     let row_fits : from + length values ≤ length row = omega arith in
-    sym (limits_are new links slots (slice_set (limits_in old links slots) link (written from values row)) (length-set (limits_in old links slots) link (written from values row) ∙ limits_long old links slots) (λ l hl.
+    sym (limits_are new links slots (slice_set (limits_in old links slots) link (list_with_values from values row)) (length-set (limits_in old links slots) link (list_with_values from values row) ∙ limits_long old links slots) (λ l hl.
     elim (cases_eq l link) [
       | inl same ↦
-          ap (λ i. get_or (slice_set (limits_in old links slots) link (written from values row)) i []) same
-          ∙ get_or-set_same (limits_in old links slots) link (written from values row) [] (omega (arith, limits_long old links slots))
-          ∙ link_is new links slots link (written from values row) (length-written from values row row_fits ∙ long) (λ slot hs.
+          ap (λ i. get_or (slice_set (limits_in old links slots) link (list_with_values from values row)) i []) same
+          ∙ get_or-set_same (limits_in old links slots) link (list_with_values from values row) [] (omega (arith, limits_long old links slots))
+          ∙ link_is new links slots link (list_with_values from values row) (length-written from values row row_fits ∙ long) (λ slot hs.
           elim (cases_lt slot from) [
             | inl before ↦ written_before from values row slot row_fits before ∙ ap (λ xs. get_or xs slot 0) row_is ∙ slot_at old links slots link slot hs ∙ sym (exchanged.before slot before)
             | inr least ↦ elim (cases_lt slot (from + length values)) [
@@ -119,7 +119,7 @@ limits_exchanged old new links slots link from values exchanged inside fits =
           ])
           ∙ ap (limits_of_link new links slots) (sym same)
       | inr apart ↦
-          get_or-set_other (limits_in old links slots) link l (written from values row) [] apart
+          get_or-set_other (limits_in old links slots) link l (list_with_values from values row) [] apart
           ∙ link_at old links slots l hl
           ∙ link_same old new links slots l (λ slot hs. sym (exchanged.others l slot hl apart))
     ]))
@@ -139,10 +139,10 @@ unfolding limits_in
 limits_none table slots = refl
 
 -- the limits once there is a link more
-pub limits_more : (table wide : List ℕ) (links slots : ℕ) → ((link slot : ℕ) → link < links + 1 → slot < slots → said wide (links + 1) link slot ≡ wide_at table links slot link) → limits_in wide (links + 1) slots ≡ with_link (limits_in table links slots) slots
+pub limits_more : (table wide : List ℕ) (links slots : ℕ) → ((link slot : ℕ) → link < links + 1 → slot < slots → said wide (links + 1) link slot ≡ wide_at table links slot link) → limits_in wide (links + 1) slots ≡ with_limits_of_link (limits_in table links slots) slots
 limits_more table wide links slots same =
     let old : List (List ℕ) = limits_in table links slots in
-    sym (limits_are wide (links + 1) slots (with_link old slots) (omega (arith, length-append old (replicate slots never_set ∷ []), limits_long table links slots)) (λ link h.
+    sym (limits_are wide (links + 1) slots (with_limits_of_link old slots) (omega (arith, length-append old (replicate slots never_set ∷ []), limits_long table links slots)) (λ link h.
     elim (cases_lt link links) [
       | inl inside ↦
           get_or_append_left old (replicate slots never_set ∷ []) [] link (omega (arith, limits_long table links slots))
@@ -151,14 +151,14 @@ limits_more table wide links slots same =
           slot_at table links slots link slot hs ∙ sym (same link slot h hs ∙ ap (λ b. cond b (said table links link slot) never_set) (lt-ltb link links inside)))
       | inr past ↦
           let last : link ≡ links = omega arith in
-          ap (λ i. get_or (with_link old slots) i []) last
+          ap (λ i. get_or (with_limits_of_link old slots) i []) last
           ∙ get_or_push old (replicate slots never_set) [] links (limits_long table links slots)
           ∙ link_is wide (links + 1) slots links (replicate slots never_set) (length-replicate slots never_set) (λ slot hs.
           get_or-replicate slots slot never_set 0 hs ∙ sym (same links slot (omega arith) hs ∙ ap (λ b. cond b (said table links links slot) never_set) (le-ltb links links (omega arith))))
           ∙ ap (limits_of_link wide (links + 1) slots) (sym last)
     ]))
 
-pub limits_more_of_none : (table : List ℕ) (links slots : ℕ) → length table ≡ 0 → limits_in [] (links + 1) slots ≡ with_link (limits_in table links slots) slots
+pub limits_more_of_none : (table : List ℕ) (links slots : ℕ) → length table ≡ 0 → limits_in [] (links + 1) slots ≡ with_limits_of_link (limits_in table links slots) slots
 limits_more_of_none table links slots none =
     limits_more table [] links slots (λ link slot h hs.
     sym (elim (ltb link links) as (λ b. cond b (said table links link slot) never_set ≡ never_set) [
@@ -166,7 +166,7 @@ limits_more_of_none table links slots none =
       | false ↦ refl
     ]))
 
-pub limits_widened : (table wide : List ℕ) (links slots : ℕ) → length wide ≡ slots * (links + 1) → ((k : ℕ) → k < slots * (links + 1) → get_or wide k 0 ≡ wide_at table links (k / (links + 1)) (k % (links + 1))) → limits_in wide (links + 1) slots ≡ with_link (limits_in table links slots) slots
+pub limits_widened : (table wide : List ℕ) (links slots : ℕ) → length wide ≡ slots * (links + 1) → ((k : ℕ) → k < slots * (links + 1) → get_or wide k 0 ≡ wide_at table links (k / (links + 1)) (k % (links + 1))) → limits_in wide (links + 1) slots ≡ with_limits_of_link (limits_in table links slots) slots
 limits_widened table wide links slots long same =
     limits_more table wide links slots (λ link slot h hs.
     let k : ℕ = slot * (links + 1) + link in
@@ -197,13 +197,13 @@ said-set_link t links link s v l slot hl hk apart =
     get_or-set_other t (s * links + link) (slot * links + l) v never_set other
 
 -- ---- what stood there, written back
-written_back : (from : ℕ) (values xs : List ℕ) → from + length values ≤ length xs → written from (take (length values) (drop from xs)) (written from values xs) ≡ xs
+written_back : (from : ℕ) (values xs : List ℕ) → from + length values ≤ length xs → list_with_values from (take (length values) (drop from xs)) (list_with_values from values xs) ≡ xs
 written_back from values xs fits =
     let were : List ℕ = take (length values) (drop from xs) in
     let count : length were ≡ length values = omega (arith, length-take (length values) (drop from xs), length-drop from xs) in
-    let there : List ℕ = written from values xs in
+    let there : List ℕ = list_with_values from values xs in
     let long : length there ≡ length xs = length-written from values xs fits in
-    same_number_lists (written from were there) xs (length-written from were there (omega arith) ∙ long) (λ k hk.
+    same_number_lists (list_with_values from were there) xs (length-written from were there (omega arith) ∙ long) (λ k hk.
     elim (cases_lt k from) [
       | inl before ↦ written_before from were there k (omega arith) before ∙ written_before from values xs k fits before
       | inr least ↦ elim (cases_lt k (from + length values)) [
@@ -222,8 +222,8 @@ exchanged_back table links slots link from values inside fits =
     let row : List ℕ = get_or limits link [] in
     let long : length row ≡ slots = ap length (link_at table links slots link inside) ∙ link_long table links slots link in
     let were : List ℕ = values_of limits link from (length values) in
-    set-set limits link (written from values row) (written from were (get_or (set limits link (written from values row)) link []))
-    ∙ ap (λ r. set limits link (written from were r)) (get_or-set_same limits link (written from values row) [] (omega (arith, limits_long table links slots)))
+    set-set limits link (list_with_values from values row) (list_with_values from were (get_or (set limits link (list_with_values from values row)) link []))
+    ∙ ap (λ r. set limits link (list_with_values from were r)) (get_or-set_same limits link (list_with_values from values row) [] (omega (arith, limits_long table links slots)))
     ∙ ap (set limits link) (written_back from values row (omega arith))
     ∙ set-get_or limits link []
 

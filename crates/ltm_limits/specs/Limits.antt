@@ -11,12 +11,12 @@ abbrev pub limit_at : List (List ℕ) → ℕ → ℕ → ℕ
 limit_at limits link slot = slice_index (slice_index_or limits link []) slot
 
 -- the list with these values from a place on
-abbrev pub written : ℕ → List ℕ → List ℕ → List ℕ
-written from values xs = take from xs ++ (values ++ drop (from + length values) xs)
+abbrev pub list_with_values : ℕ → List ℕ → List ℕ → List ℕ
+list_with_values from values xs = take from xs ++ (values ++ drop (from + length values) xs)
 
 -- the limits with these for one link, from a slot on
 abbrev pub with_values : List (List ℕ) → ℕ → ℕ → List ℕ → List (List ℕ)
-with_values limits link from values = slice_set limits link (written from values (slice_index_or limits link []))
+with_values limits link from values = slice_set limits link (list_with_values from values (slice_index_or limits link []))
 
 -- the limits with one limit for a link in the slots from .. to - 1
 abbrev pub with_limit : List (List ℕ) → ℕ → ℕ → ℕ → ℕ → List (List ℕ)
@@ -27,20 +27,20 @@ abbrev pub values_of : List (List ℕ) → ℕ → ℕ → ℕ → List ℕ
 values_of limits link from count = take count (drop from (slice_index_or limits link []))
 
 -- one link more, whose limits were never set
-abbrev pub with_link : List (List ℕ) → ℕ → List (List ℕ)
-with_link limits slots = limits ++ replicate slots never_set ∷ []
+abbrev pub with_limits_of_link : List (List ℕ) → ℕ → List (List ℕ)
+with_limits_of_link limits slots = limits ++ replicate slots never_set ∷ []
 
 -- a link's limits over that many slots: those past its last slot were never set
-abbrev pub stretched : ℕ → List ℕ → List ℕ
-stretched slots row = row ++ replicate (slots - length row) never_set
+abbrev pub row_over : ℕ → List ℕ → List ℕ
+row_over slots row = row ++ replicate (slots - length row) never_set
 
 -- the limits over a longer horizon
-abbrev pub lengthened : List (List ℕ) → ℕ → List (List ℕ)
-lengthened limits slots = map (stretched slots) limits
+abbrev pub limits_over : List (List ℕ) → ℕ → List (List ℕ)
+limits_over limits slots = map (row_over slots) limits
 
 -- the limits of the first slots alone
-abbrev pub shortened : List (List ℕ) → ℕ → List (List ℕ)
-shortened limits slots = map (take slots) limits
+abbrev pub limits_within : List (List ℕ) → ℕ → List (List ℕ)
+limits_within limits slots = map (take slots) limits
 
 -- a row for each link, and in each row a limit for each slot
 pub record AreWhole (limits : List (List ℕ)) (links slots : ℕ) : Type 0 where

@@ -36,7 +36,7 @@ impl Model for SlotLimits {
 }
 
 impl SlotLimits {
-    ghost use Rattle.ltm_limits.specs.Limits.{limit_at, with_values, with_limit, values_of, with_link, lengthened, shortened};
+    ghost use Rattle.ltm_limits.specs.Limits.{limit_at, with_values, with_limit, values_of, with_limits_of_link, limits_over, limits_within};
 
     /// No link, and that many slots.
     #[tactic(auto, using(crate::proofs::Rows::limits_none, crate::proofs::Horizons::quiet_without_links))]
@@ -140,7 +140,7 @@ impl SlotLimits {
     #[tactic(auto, using(crate::proofs::Rows::limits_widened, crate::proofs::Rows::limits_more_of_none, crate::proofs::Rows::limits_long, crate::proofs::Horizons::quiet_past, crate::proofs::Horizons::quiet_empty))]
     pub fn with_link(&self) -> Result<SlotLimits, NoMemory>
         requires { length self.now.limits < most_links }
-        ensures limits { IfOk result (λ t. t.limits ≡ with_link self.now.limits self.now.slots) }
+        ensures limits { IfOk result (λ t. t.limits ≡ with_limits_of_link self.now.limits self.now.slots) }
         ensures slots { IfOk result (λ t. t.slots ≡ self.now.slots) }
     {
         let alloc = *self.table.allocator();
@@ -165,8 +165,8 @@ impl SlotLimits {
     pub fn lengthen(&mut self, slots: u32)
         requires longer { self.old.slots ≤ slots }
         requires most { slots ≤ most_slots }
-        ensures limits { self.new.limits ≡ lengthened self.old.limits slots }
-        ensures back { shortened self.new.limits self.old.slots ≡ self.old.limits }
+        ensures limits { self.new.limits ≡ limits_over self.old.limits slots }
+        ensures back { limits_within self.new.limits self.old.slots ≡ self.old.limits }
         ensures slots { self.new.slots ≡ slots }
         ensures places { self.new.places ≡ self.old.places }
     {
@@ -177,7 +177,7 @@ impl SlotLimits {
     #[tactic(auto, using(crate::proofs::Horizons::limits_shortened, crate::proofs::Horizons::quiet_shorter))]
     pub fn shorten(&mut self, slots: u32)
         requires { slots ≤ self.old.slots }
-        ensures limits { self.new.limits ≡ shortened self.old.limits slots }
+        ensures limits { self.new.limits ≡ limits_within self.old.limits slots }
         ensures slots { self.new.slots ≡ slots }
         ensures places { self.new.places ≡ self.old.places }
     {

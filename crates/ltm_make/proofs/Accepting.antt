@@ -5,7 +5,7 @@ use Rattle.ltm_network.specs.Network.{find_link, link_name, out_links}
 use Rattle.ltm_network.specs.IsNetwork.{IsNetwork}
 use Rattle.ltm_network.proofs.Apart.{names_found}
 use Rattle.ltm_demand.specs.declared.row.DemandRow.{DemandRow}
-use Rattle.ltm_demand.specs.Rows.{edited as edited_rows}
+use Rattle.ltm_demand.specs.Rows.{edited_rows}
 use Rattle.ltm_scenario.specs.declared.edit.EditCause.{EditCause}
 use Rattle.ltm_scenario.specs.declared.edit.EditCause.TheVariants.{UnknownName, BadSlots}
 use Rattle.ltm_scenario.specs.Data.{ScenarioData}
@@ -14,7 +14,7 @@ use Rattle.ltm_scenario.specs.IsScenario.{IsScenario}
 use Rattle.ltm_scenario.specs.Build.{with_demand, with_limit_at, are_slots, ◌>>=◌}
 use Rattle.ltm_units.specs.Results.{refuse, found}
 use Rattle.ltm_scenario.specs.declared.side.Side.TheVariants.{Entry}
-use Rattle.ltm_scenario.specs.Edits.{cause_of_demand, caused, demand_row, demand_edited, limited_link, limit_edited, at_place, edited_all}
+use Rattle.ltm_scenario.specs.Edits.{cause_of_demand, or_edit_cause, demand_row, demand_edited, limited_link, limit_edited, at_place, edited_all}
 use Rattle.ltm_make.specs.Names.{name_of_node, name_of_link}
 use Rattle.ltm_make.specs.Branches.{number}
 use Rattle.ltm_make.specs.Splits.{IsGrid, IsLaid}
@@ -61,8 +61,8 @@ batch_accepted s nodes width j last h net l in_grid pos has few =
     let row = row_found (with_limit_at s Entry j 5 15 1000) nodes width last laid in_grid pos has in
     let set = row_is_set (with_limit_at s Entry j 5 15 1000) (last_row (number s.network last)) (ap (λ (n : ℕ). nat_lt 0 10 && nat_le 10 n) h.slots) few in
     let demand : demand_edited (with_limit_at s Entry j 5 15 1000) (name_of_node last) (name_of_node 0) 0 10 30000 ≡ Ok (record (with_limit_at s Entry j 5 15 1000) { demand = edited_rows s.demand (last_row (number s.network last)) }) =
-    ap (λ (r : Result DemandRow EditCause). r >>= λ x. caused cause_of_demand (with_demand (with_limit_at s Entry j 5 15 1000) x)) row
-    ∙ ap (caused cause_of_demand) set in
+    ap (λ (r : Result DemandRow EditCause). r >>= λ x. or_edit_cause cause_of_demand (with_demand (with_limit_at s Entry j 5 15 1000) x)) row
+    ∙ ap (or_edit_cause cause_of_demand) set in
     let whole : edited_all s (two_edits j last) ≡ Ok (record (with_limit_at s Entry j 5 15 1000) { demand = edited_rows s.demand (last_row (number s.network last)) }) =
     ap (λ (r : Result ScenarioData EditCause). at_place 1 r >>= λ next. at_place 2 (demand_edited next (name_of_node last) (name_of_node 0) 0 10 30000) >>= λ end. Ok end) limit
     ∙ ap (λ (r : Result ScenarioData EditCause). at_place 2 r >>= λ end. Ok end) demand in

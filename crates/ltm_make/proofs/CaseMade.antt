@@ -12,7 +12,7 @@ use Rattle.ltm_scenario.specs.IsScenario.{IsScenario}
 use Rattle.ltm_make.specs.declared.grid.Road.{Road}
 use Rattle.ltm_make.specs.declared.making.Making.{Making}
 use Rattle.ltm_make.specs.Grid.{IsWidth, roads}
-use Rattle.ltm_make.specs.Links.{with_road, with_roads, opened, with_grid}
+use Rattle.ltm_make.specs.Links.{with_road, with_roads, making_from, with_grid}
 use Rattle.ltm_make.specs.Branches.{number}
 use Rattle.ltm_make.specs.Splits.{with_ends, with_splits, IsGrid, IsLaid}
 use Rattle.ltm_make.specs.Demands.{with_demands}
@@ -46,15 +46,15 @@ roads_fresh : (m : Making) (list : List Road) → IsFresh m.scenario → IsFresh
 roads_fresh m [] h = h
 roads_fresh m (r ∷ list) h = roads_fresh (with_road m r) list (record { slots = h.slots; most_cells = h.most_cells; destinations = h.destinations; splits = h.splits; demand = h.demand })
 
-pub grid_fresh : (start nodes width : ℕ) → IsFresh (with_grid nodes width (opened start)).scenario
-grid_fresh start nodes width = roads_fresh (opened start) (roads nodes width nodes) (record { slots = refl; most_cells = refl; destinations = refl; splits = refl; demand = refl })
+pub grid_fresh : (start nodes width : ℕ) → IsFresh (with_grid nodes width (making_from start)).scenario
+grid_fresh start nodes width = roads_fresh (making_from start) (roads nodes width nodes) (record { slots = refl; most_cells = refl; destinations = refl; splits = refl; demand = refl })
 
-pub ends_laid : (start nodes width : ℕ) → IsGrid nodes width → IsLaid nodes width (with_ends width (with_grid nodes width (opened start))).scenario
+pub ends_laid : (start nodes width : ℕ) → IsGrid nodes width → IsLaid nodes width (with_ends width (with_grid nodes width (making_from start))).scenario
 ends_laid start nodes width g = record {
   grid = g;
   slots = (grid_fresh start nodes width).slots;
   most_cells = (grid_fresh start nodes width).most_cells;
-  along = made_along (opened start) (roads nodes width nodes) refl;
+  along = made_along (making_from start) (roads nodes width nodes) refl;
   ends = refl;
 }
 
@@ -83,7 +83,7 @@ demands_network w (suc i) m =
 
 -- ---- the whole
 abbrev ends_of : ℕ → ℕ → ℕ → Making
-ends_of start nodes width = with_ends width (with_grid nodes width (opened start))
+ends_of start nodes width = with_ends width (with_grid nodes width (making_from start))
 
 pub made_laid : (start nodes width : ℕ) → IsGrid nodes width → IsLaid nodes width (made_from start nodes width).scenario
 made_laid start nodes width g =
@@ -102,7 +102,7 @@ made_few start nodes width =
 
 made_named : (start nodes width : ℕ) → IsGrid nodes width → AreNamed nodes (made_from start nodes width).scenario.network.nodes
 made_named start nodes width g =
-    subst (λ (d : NetworkData). AreNamed nodes d.nodes) (sym (made_network start nodes width ∙ network_made (opened start) (roads nodes width nodes)))
+    subst (λ (d : NetworkData). AreNamed nodes d.nodes) (sym (made_network start nodes width ∙ network_made (making_from start) (roads nodes width nodes)))
     (along_named nodes (record { nodes = []; links = [] }) (roads nodes width nodes) (λ u l. absurd (omega arith)) (are_roads nodes width nodes (omega (arith, some_width nodes width g)) (omega arith)))
 
 -- a node but the first has a split row home, and a node but the end of the first row one away

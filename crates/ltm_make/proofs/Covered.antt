@@ -8,7 +8,7 @@ use Rattle.std.specs.List.{list_any}
 use Rattle.std.specs.declared.cmp.Ordering.TheVariants.{Less, Equal, Greater}
 use Rattle.std.specs.Ordering.{match_ordering}
 use Rattle.std.specs.BTreeMap.{insert_entry}
-use Rattle.ltm_network.specs.Names.{place_of, named}
+use Rattle.ltm_network.specs.Names.{place_of, with_name}
 use Rattle.ltm_network.specs.Network.{NetworkData}
 use Rattle.ltm_splits.specs.declared.keys.SplitKey.{SplitKey}
 use Rattle.ltm_splits.specs.Rows.{SplitRow, split_cmp, key_of, put_in}
@@ -18,7 +18,7 @@ use Rattle.ltm_make.specs.declared.branches.Branch.{Branch}
 use Rattle.ltm_make.specs.declared.grid.Road.{Road}
 use Rattle.ltm_make.specs.declared.making.Making.{Making}
 use Rattle.ltm_make.specs.Names.{name_of_node}
-use Rattle.ltm_make.specs.Links.{joined}
+use Rattle.ltm_make.specs.Links.{with_road_link}
 use Rattle.ltm_make.specs.Roads.{network_along}
 use Rattle.ltm_make.specs.Branches.{number, home_first, home_second, away_first, away_second}
 use Rattle.ltm_make.specs.Splits.{weights, with_split_row, with_home, with_away, with_splits}
@@ -44,15 +44,15 @@ named_by nodes names k false l h = λ u x.
           record { number = k; below = l; same = get_or_push names (name_of_node k) [] u at }
     ]
 
-more_named : (nodes : ℕ) (names : List (List ℕ)) (k : ℕ) → k < nodes → AreNamed nodes names → AreNamed nodes (named names (name_of_node k))
+more_named : (nodes : ℕ) (names : List (List ℕ)) (k : ℕ) → k < nodes → AreNamed nodes names → AreNamed nodes (with_name names (name_of_node k))
 more_named nodes names k l h = named_by nodes names k (is_some (place_of names (name_of_node k))) l h
 
 pub along_named : (nodes : ℕ) (d : NetworkData) (list : List Road) → AreNamed nodes d.nodes → AreRoads nodes list → AreNamed nodes (network_along d list).nodes
 along_named nodes d [] h roads = h
 along_named nodes d (r ∷ list) h roads =
     let first = roads 0 (omega arith) in
-    along_named nodes (joined d r) list
-    (more_named nodes (named d.nodes (name_of_node r.from)) r.to first.to (more_named nodes d.nodes r.from first.from h))
+    along_named nodes (with_road_link d r) list
+    (more_named nodes (with_name d.nodes (name_of_node r.from)) r.to first.to (more_named nodes d.nodes r.from first.from h))
     (λ i l. roads (suc i) (omega arith))
 
 -- ---- split rows that are put in

@@ -5,7 +5,7 @@ use Rattle.std.specs.declared.cmp.Ordering.TheVariants.{Less, Equal, Greater}
 use Rattle.std.specs.Ordering.{is_lt, is_gt}
 use Rattle.ltm_demand.specs.declared.row.DemandRow.{DemandRow}
 use Rattle.ltm_demand.specs.declared.row.DemandFault.{DemandFault}
-use Rattle.ltm_demand.specs.Rows.{DemandData, row_cmp, before, behind, shown, edited, has_slots}
+use Rattle.ltm_demand.specs.Rows.{DemandData, row_cmp, before, behind, row_if_any, edited_rows, has_slots}
 use Rattle.ltm_demand.proofs.Restoring.{with_row_done}
 use Rattle.ltm_network.specs.Network.{out_links}
 use Rattle.ltm_scenario.specs.Data.{ScenarioData}
@@ -35,23 +35,23 @@ one_side Less e = refl
 one_side Equal e = refl
 one_side Greater e = cc
 
-few_shown : (row : DemandRow) → length (shown row) ≤ 1
+few_shown : (row : DemandRow) → length (row_if_any row) ≤ 1
 few_shown row = elim (row.amount.0 == 0) as (λ (b : Bool). length (cond b [] (row ∷ [])) ≤ 1) [ true ↦ omega arith | false ↦ omega arith ]
 
 -- a row more
-pub length_edited : (rows : List DemandRow) (row : DemandRow) → length (edited rows row) ≤ length rows + 1
-unfolding edited before behind
+pub length_edited : (rows : List DemandRow) (row : DemandRow) → length (edited_rows rows row) ≤ length rows + 1
+unfolding edited_rows before behind
 length_edited rows row =
     let parts = either_passes (λ (r : DemandRow). is_lt (row_cmp r row)) (λ (r : DemandRow). is_gt (row_cmp r row)) (λ r e. one_side (row_cmp r row) e) rows in
     omega (
       arith,
       few_shown row,
       parts,
-      length-append (filter (λ (r : DemandRow). is_lt (row_cmp r row)) rows) (shown row ++ filter (λ (r : DemandRow). is_gt (row_cmp r row)) rows),
-      length-append (shown row) (filter (λ (r : DemandRow). is_gt (row_cmp r row)) rows),
+      length-append (filter (λ (r : DemandRow). is_lt (row_cmp r row)) rows) (row_if_any row ++ filter (λ (r : DemandRow). is_gt (row_cmp r row)) rows),
+      length-append (row_if_any row) (filter (λ (r : DemandRow). is_gt (row_cmp r row)) rows),
     )
 
-pub row_is_set : (s : ScenarioData) (row : DemandRow) → has_slots s.setup.slots row ≡ true → length s.demand < 10000 → with_demand s row ≡ Ok (record s { demand = edited s.demand row })
+pub row_is_set : (s : ScenarioData) (row : DemandRow) → has_slots s.setup.slots row ≡ true → length s.demand < 10000 → with_demand s row ≡ Ok (record s { demand = edited_rows s.demand row })
 row_is_set s row within few =
     ap (λ (r : Result DemandData DemandFault). r >>= λ next. Ok (record s { demand = next.rows }))
     (with_row_done s.setup.slots s.demand row within (omega (arith, length_edited s.demand row)))

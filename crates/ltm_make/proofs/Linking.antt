@@ -2,9 +2,9 @@
 use Rattle.std.proofs.Common.{◌≡◌, ℕ, zero, suc, ◌<◌, arith, refl, ap, ◌∙◌, List, Ok}
 use Rattle.ltm_diagram.specs.declared.diagram.Limits.{Limits}
 use Rattle.ltm_diagram.specs.Limits.{limits_of}
-use Rattle.ltm_network.specs.Network.{checked, linked as network_linked}
+use Rattle.ltm_network.specs.Network.{checked, network_linked}
 use Rattle.ltm_scenario.specs.Data.{ScenarioData}
-use Rattle.ltm_scenario.specs.Build.{with_link, linked}
+use Rattle.ltm_scenario.specs.Build.{with_link, with_link_on}
 use Rattle.ltm_scenario.proofs.Linked.{is_linked}
 use Rattle.ltm_make.specs.Links.{diagram_of, TakesLinks}
 
@@ -18,7 +18,7 @@ limits_at (suc (suc (suc zero))) h = (_, refl)
 limits_at (suc (suc (suc (suc n)))) h = absurd (omega arith)
 
 pub link_is_taken : (s : ScenarioData) (name tail head : List ℕ) (choice : ℕ) → TakesLinks s → choice < 4 → checked s.network name tail head ≡ Ok tt →
-    with_link s name tail head (diagram_of choice) ≡ Ok (linked s (network_linked s.network name tail head) (diagram_of choice))
+    with_link s name tail head (diagram_of choice) ≡ Ok (with_link_on s (network_linked s.network name tail head) (diagram_of choice))
 link_is_taken s name tail head choice bare few taken =
     let found = limits_at choice few in
     is_linked s name tail head (diagram_of choice) found.0 taken (ap (limits_of (diagram_of choice)) bare.step ∙ found.1)

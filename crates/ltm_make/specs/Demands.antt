@@ -3,7 +3,7 @@ use Rattle.std.specs.Prelude.{ℕ, zero, suc, ◌≡◌, ◌+◌, ◌*◌, ◌%�
 use Rattle.rand_pcg.specs.Lcg.{Lcg}
 use Rattle.ltm_network.specs.Network.{NetworkData, out_links}
 use Rattle.ltm_demand.specs.declared.row.DemandRow.{DemandRow}
-use Rattle.ltm_demand.specs.Rows.{edited}
+use Rattle.ltm_demand.specs.Rows.{edited_rows}
 use Rattle.ltm_scenario.specs.Data.{ScenarioData}
 use Rattle.ltm_scenario.specs.Reads.{destination_node}
 use Rattle.ltm_make.specs.declared.making.Making.{Making}
@@ -25,7 +25,7 @@ row_from d k destination g = record {
 -- with the demand of a node for a destination
 abbrev pub with_demand_row : ℕ → ℕ → Making → Making
 with_demand_row k destination m = record {
-  scenario = record m.scenario { demand = edited m.scenario.demand (row_from m.scenario.network k destination m.words) };
+  scenario = record m.scenario { demand = edited_rows m.scenario.demand (row_from m.scenario.network k destination m.words) };
   words = rest m.words;
 }
 

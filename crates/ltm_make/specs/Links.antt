@@ -1,11 +1,11 @@
 -- The links of a made case, one for each road of its grid.
 use Rattle.std.specs.Prelude.{ℕ, ◌≡◌, ◌+◌, ◌*◌, ◌%◌, List, [], ◌∷◌, length}
 use Rattle.ltm_diagram.specs.declared.diagram.Diagram.{Diagram}
-use Rattle.ltm_network.specs.Network.{NetworkData, linked as network_linked}
+use Rattle.ltm_network.specs.Network.{NetworkData, network_linked}
 use Rattle.ltm_scenario.specs.declared.setup.Setup.{Setup}
 use Rattle.ltm_scenario.specs.Setup.{setup_of}
 use Rattle.ltm_scenario.specs.Data.{ScenarioData, empty_scenario}
-use Rattle.ltm_scenario.specs.Build.{linked}
+use Rattle.ltm_scenario.specs.Build.{with_link_on}
 use Rattle.ltm_make.specs.declared.grid.Road.{Road}
 use Rattle.ltm_make.specs.declared.making.Making.{Making}
 use Rattle.ltm_make.specs.Words.{words_from, word, rest}
@@ -17,13 +17,13 @@ abbrev pub diagram_of : ℕ → Diagram
 diagram_of choice = record { length_m = 200 + 100 * choice; free_kmh = 54; wave_kmh = 18; jam_per_km = 150 }
 
 -- the network with a link along a road, named by its number
-abbrev pub joined : NetworkData → Road → NetworkData
-joined d road = network_linked d (name_of_link (length d.links)) (name_of_node road.from) (name_of_node road.to)
+abbrev pub with_road_link : NetworkData → Road → NetworkData
+with_road_link d road = network_linked d (name_of_link (length d.links)) (name_of_node road.from) (name_of_node road.to)
 
 -- with a link along a road, whose length is drawn as it is added
 abbrev pub with_road : Making → Road → Making
 with_road m road = record {
-  scenario = linked m.scenario (joined m.scenario.network road) (diagram_of (word m.words % 4));
+  scenario = with_link_on m.scenario (with_road_link m.scenario.network road) (diagram_of (word m.words % 4));
   words = rest m.words;
 }
 
@@ -42,8 +42,8 @@ abbrev pub made_setup : Setup
 made_setup = setup_of (record { 0 = 10000 }) 60 (record { 0 = 32000 })
 
 -- nothing yet but the words of a number
-abbrev pub opened : ℕ → Making
-opened start = record { scenario = empty_scenario made_setup; words = words_from start }
+abbrev pub making_from : ℕ → Making
+making_from start = record { scenario = empty_scenario made_setup; words = words_from start }
 
 -- with all links of its grid
 abbrev pub with_grid : ℕ → ℕ → Making → Making

@@ -7,13 +7,13 @@ use Rattle.ltm_make.specs.declared.making.Making.{Making}
 use Rattle.ltm_make.specs.declared.made.Made.{Made}
 use Rattle.ltm_make.specs.Words.{word, rest}
 use Rattle.ltm_make.specs.Names.{name_of_node, name_of_link}
-use Rattle.ltm_make.specs.Links.{opened, with_grid}
+use Rattle.ltm_make.specs.Links.{making_from, with_grid}
 use Rattle.ltm_make.specs.Splits.{with_ends, with_splits}
 use Rattle.ltm_make.specs.Demands.{with_demands}
 
 -- the links of the grid, then the destinations, the split rows and the demand
 abbrev pub made_from : ℕ → ℕ → ℕ → Making
-made_from start nodes width = with_demands width nodes (with_splits nodes width nodes (with_ends width (with_grid nodes width (opened start))))
+made_from start nodes width = with_demands width nodes (with_splits nodes width nodes (with_ends width (with_grid nodes width (making_from start))))
 
 -- one vehicle a slot into a link that is drawn, over the slots 5 to 14; then 30 vehicles from the last node to the first,
 -- over the slots 0 to 9

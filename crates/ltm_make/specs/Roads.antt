@@ -4,7 +4,7 @@ use Rattle.ltm_network.specs.Names.{place_of}
 use Rattle.ltm_network.specs.Network.{NetworkData, link_name, tail_of, head_of}
 use Rattle.ltm_make.specs.declared.grid.Road.{Road}
 use Rattle.ltm_make.specs.Names.{name_of_node, name_of_link}
-use Rattle.ltm_make.specs.Links.{joined}
+use Rattle.ltm_make.specs.Links.{with_road_link}
 
 abbrev pub no_road : Road
 no_road = record { from = 0; to = 0 }
@@ -15,7 +15,7 @@ road_at roads i = slice_index_or roads i no_road
 -- a network with links along some roads more, one after another
 abbrev pub network_along : NetworkData → List Road → NetworkData
 network_along d [] = d
-network_along d (road ∷ roads) = network_along (joined d road) roads
+network_along d (road ∷ roads) = network_along (with_road_link d road) roads
 
 -- the links of a network lead along roads, in order, between nodes of their names
 pub record IsAlong (d : NetworkData) (roads : List Road) : Type 0 where

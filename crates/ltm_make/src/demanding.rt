@@ -1,6 +1,6 @@
 //! The demand of a made case.
 ghost use Rattle.std.specs.Prelude.{◌≡◌, ◌≢◌, ◌<◌, ◌≤◌, true, length, OnOk};
-ghost use Rattle.ltm_demand.specs.Rows.{has_slots, edited};
+ghost use Rattle.ltm_demand.specs.Rows.{has_slots, edited_rows};
 ghost use Rattle.ltm_scenario.specs.IsScenario.{IsDemandOf};
 ghost use Rattle.ltm_units.specs.Bounds.{most_amount, most_demand_rows};
 
@@ -32,7 +32,7 @@ fn put_row(scenario: &mut Scenario, row: DemandRow) -> Result<(), NoMemory>
     requires slots { has_slots scenario.old.setup.slots row ≡ true }
     requires few { length scenario.old.demand < most_demand_rows }
     ensures { OnOk result (scenario.new
-        ≡ record scenario.old { demand = edited scenario.old.demand row }) }
+        ≡ record scenario.old { demand = edited_rows scenario.old.demand row }) }
 {
     match scenario.set_demand(row) {
         Ok(()) => Ok(()),

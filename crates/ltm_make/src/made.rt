@@ -4,7 +4,7 @@ ghost use Rattle.ltm_scenario.specs.Edits.{edited_all, HaveAmounts};
 ghost use Rattle.ltm_scenario.specs.Valid.{IsValid};
 ghost use Rattle.ltm_make.specs.Words.{word, rest};
 ghost use Rattle.ltm_make.specs.Grid.{IsWidth};
-ghost use Rattle.ltm_make.specs.Links.{opened};
+ghost use Rattle.ltm_make.specs.Links.{making_from};
 ghost use Rattle.ltm_make.specs.Splits.{IsGrid};
 ghost use Rattle.ltm_make.specs.MadeCase.{made_from, two_edits, bytes_of, IsMade};
 
@@ -56,7 +56,7 @@ impl From<NoMemory> for MakeFault {
 
 /// Nothing yet but the words of a number.
 fn open(alloc: Global, start: u64) -> Making
-    ensures { result ≡ opened start }
+    ensures { result ≡ making_from start }
 {
     match Scenario::create(alloc, Setup::of(Millis(10_000), 60, Units(32_000))) {
         Ok(scenario) => Making {

@@ -1,7 +1,7 @@
 //! A case that is being made.
 ghost use Rattle.std.specs.Prelude.{◌≡◌, ◌≢◌, ◌<◌, ◌≤◌, length, OnOk, Ok};
-ghost use Rattle.ltm_network.specs.Network.{checked, linked as network_linked};
-ghost use Rattle.ltm_scenario.specs.Build.{linked};
+ghost use Rattle.ltm_network.specs.Network.{checked, network_linked};
+ghost use Rattle.ltm_scenario.specs.Build.{with_link_on};
 ghost use Rattle.ltm_make.specs.Names.{name_of_link, name_of_node};
 ghost use Rattle.ltm_make.specs.Links.{diagram_of, TakesLinks};
 
@@ -45,7 +45,7 @@ fn join(
     requires few { choice < 4 }
     requires taken { checked scenario.old.network name tail head ≡ Ok tt }
     ensures { OnOk result (scenario.new
-        ≡ linked scenario.old (network_linked scenario.old.network name tail head)
+        ≡ with_link_on scenario.old (network_linked scenario.old.network name tail head)
         (diagram_of choice)) }
 {
     let diagram = Diagram {

@@ -6,7 +6,7 @@ use Rattle.std.proofs.Math.ListN.{get_or-append}
 use Rattle.std.proofs.Math.Seq.{get_or-append_seam}
 use Rattle.std.proofs.lemmas.List.{get_or-map, length-map}
 use Rattle.std.proofs.lemmas.Bool.{cases_lt}
-use Rattle.ltm_network.specs.Names.{same, place_of, named, number_of, AreApart}
+use Rattle.ltm_network.specs.Names.{same, place_of, with_name, number_of, AreApart}
 use Rattle.ltm_network.specs.Network.{Link, NetworkData, no_link, link_names, link_name}
 use Rattle.ltm_network.specs.IsNetwork.{NamesAreFound}
 use Rattle.ltm_network.proofs.Finding.{same_exact, same_itself, none_stands}
@@ -81,7 +81,7 @@ apart_by names name None is apart = λ place less.
           (ap (place_of (names ++ name ∷ [])) (get_or-append_seam names name [] []) ∙ position_last (same name) 0 names name is (same_itself name) ∙ ap Some (omega arith))
     ]
 
-pub apart_named : (names : List (List ℕ)) (name : List ℕ) → AreApart names → AreApart (named names name)
+pub apart_named : (names : List (List ℕ)) (name : List ℕ) → AreApart names → AreApart (with_name names name)
 apart_named names name apart = apart_by names name (place_of names name) refl apart
 
 pub apart_pushed : (names : List (List ℕ)) (name : List ℕ) → place_of names name ≡ None → AreApart names → AreApart (names ++ name ∷ [])
@@ -92,7 +92,7 @@ inside_by names name (Some n) is = (named_there names name n is).0
 inside_by names name None is = omega (arith, length-append names (name ∷ []))
 
 -- the number of a name is inside once it is named
-pub number_inside : (names : List (List ℕ)) (name : List ℕ) → number_of names name < length (named names name)
+pub number_inside : (names : List (List ℕ)) (name : List ℕ) → number_of names name < length (with_name names name)
 number_inside names name = inside_by names name (place_of names name) refl
 
 at_by : (names : List (List ℕ)) (name : List ℕ) (o : Option ℕ) → place_of names name ≡ o → get_or (cond (is_some o) names (names ++ name ∷ [])) (unwrap_or o (length names)) [] ≡ name
@@ -100,7 +100,7 @@ at_by names name (Some n) is = (named_there names name n is).1
 at_by names name None is = get_or-append_seam names name [] []
 
 -- the name stands there
-pub named_at : (names : List (List ℕ)) (name : List ℕ) → get_or (named names name) (number_of names name) [] ≡ name
+pub named_at : (names : List (List ℕ)) (name : List ℕ) → get_or (with_name names name) (number_of names name) [] ≡ name
 named_at names name = at_by names name (place_of names name) refl
 
 kept_by : (names : List (List ℕ)) (name : List ℕ) (b : Bool) (i : ℕ) → i < length names → get_or (cond b names (names ++ name ∷ [])) i [] ≡ get_or names i []
@@ -108,14 +108,14 @@ kept_by names name true i less = refl
 kept_by names name false i less = get_or-append names (name ∷ []) [] i less
 
 -- the names before stay where they are
-pub named_kept : (names : List (List ℕ)) (name : List ℕ) (i : ℕ) → i < length names → get_or (named names name) i [] ≡ get_or names i []
+pub named_kept : (names : List (List ℕ)) (name : List ℕ) (i : ℕ) → i < length names → get_or (with_name names name) i [] ≡ get_or names i []
 named_kept names name i less = kept_by names name (is_some (place_of names name)) i less
 
 long_by : (names : List (List ℕ)) (name : List ℕ) (b : Bool) → (length names ≤ length (cond b names (names ++ name ∷ []))) × (length (cond b names (names ++ name ∷ [])) ≤ length names + 1)
 long_by names name true = (omega arith, omega arith)
 long_by names name false = (omega (arith, length-append names (name ∷ [])), omega (arith, length-append names (name ∷ [])))
 
-pub length-named : (names : List (List ℕ)) (name : List ℕ) → (length names ≤ length (named names name)) × (length (named names name) ≤ length names + 1)
+pub length-named : (names : List (List ℕ)) (name : List ℕ) → (length names ≤ length (with_name names name)) × (length (with_name names name) ≤ length names + 1)
 length-named names name = long_by names name (is_some (place_of names name))
 
 found_by : (names : List (List ℕ)) (other name : List ℕ) (b : Bool) (n : ℕ) → place_of names name ≡ Some n → place_of (cond b names (names ++ other ∷ [])) name ≡ Some n
@@ -123,7 +123,7 @@ found_by names other name true n is = is
 found_by names other name false n is = position_kept (same name) 0 names (other ∷ []) n is
 
 -- a name that stood is found where it was
-pub found_still : (names : List (List ℕ)) (other name : List ℕ) (n : ℕ) → place_of names name ≡ Some n → place_of (named names other) name ≡ Some n
+pub found_still : (names : List (List ℕ)) (other name : List ℕ) (n : ℕ) → place_of names name ≡ Some n → place_of (with_name names other) name ≡ Some n
 found_still names other name n is = found_by names other name (is_some (place_of names other)) n is
 
 none_by : (names : List (List ℕ)) (other name : List ℕ) (b : Bool) → place_of names name ≡ None → same name other ≡ false → place_of (cond b names (names ++ other ∷ [])) name ≡ None
@@ -131,7 +131,7 @@ none_by names other name true none apart = none
 none_by names other name false none apart = position_still_none (same name) 0 names other none apart
 
 -- a name that did not stand does not, after another one
-pub none_still : (names : List (List ℕ)) (other name : List ℕ) → place_of names name ≡ None → same name other ≡ false → place_of (named names other) name ≡ None
+pub none_still : (names : List (List ℕ)) (other name : List ℕ) → place_of names name ≡ None → same name other ≡ false → place_of (with_name names other) name ≡ None
 none_still names other name none apart = none_by names other name (is_some (place_of names other)) none apart
 
 pub link_at : (d : NetworkData) (link : ℕ) → link < length d.links → get_or (link_names d) link [] ≡ link_name d link

@@ -9,9 +9,9 @@ use Rattle.std.proofs.lemmas.Bool.Decides.{nat_tests}
 use Rattle.ltm_units.specs.Results.{◌>>>◌}
 use Rattle.ltm_units.proofs.Results.{passed, not_refused}
 use Rattle.ltm_network.specs.declared.network.NetworkFault.{NetworkFault}
-use Rattle.ltm_network.specs.Names.{same, named, number_of, AreApart}
+use Rattle.ltm_network.specs.Names.{same, with_name, number_of, AreApart}
 use Rattle.ltm_network.specs.Numbers.{numbers_of}
-use Rattle.ltm_network.specs.Network.{Link, NetworkData, no_link, link_names, find_link, find_node, out_links, in_links, out_degree, in_degree, checked, linked, with_link}
+use Rattle.ltm_network.specs.Network.{Link, NetworkData, no_link, link_names, find_link, find_node, out_links, in_links, out_degree, in_degree, checked, network_linked, with_link}
 use Rattle.ltm_network.specs.IsNetwork.{IsNetwork, NetworksStay}
 use Rattle.ltm_network.proofs.Finding.{same_exact, same_itself}
 use Rattle.ltm_network.proofs.Apart.{apart_named, apart_pushed, number_inside, named_at, named_kept, length-named, found_still, none_still}
@@ -66,26 +66,26 @@ pub out_room_at : (d : NetworkData) (name : List ℕ) → IsNetwork d → out_de
 out_room_at d name net room = out_room_by d name (find_node d name) net room
 
 in_room_by : (d : NetworkData) (tail head : List ℕ) (o : Option ℕ) → find_node d head ≡ o → IsNetwork d → same tail head ≡ false → option_map_or (λ node. length (in_links d node)) o 0 < 4 →
-    length (in_links d (number_of (named d.nodes tail) head)) < 4
+    length (in_links d (number_of (with_name d.nodes tail) head)) < 4
 in_room_by d tail head (Some u) is net apart room =
-    let at : number_of (named d.nodes tail) head ≡ u = ap (λ o. unwrap_or o (length (named d.nodes tail))) (found_still d.nodes tail head u is) in
+    let at : number_of (with_name d.nodes tail) head ≡ u = ap (λ o. unwrap_or o (length (with_name d.nodes tail))) (found_still d.nodes tail head u is) in
     omega (arith, ap (λ n. length (in_links d n)) at)
 in_room_by d tail head None is net apart room =
     let other : same head tail ≡ false = same_turned tail head apart in
-    let at : number_of (named d.nodes tail) head ≡ length (named d.nodes tail) = ap (λ o. unwrap_or o (length (named d.nodes tail))) (none_still d.nodes tail head is other) in
-    let past : length d.nodes ≤ number_of (named d.nodes tail) head = omega (arith, at, (length-named d.nodes tail).0) in
-    omega (arith, ap length (none_enters d net (number_of (named d.nodes tail) head) past))
+    let at : number_of (with_name d.nodes tail) head ≡ length (with_name d.nodes tail) = ap (λ o. unwrap_or o (length (with_name d.nodes tail))) (none_still d.nodes tail head is other) in
+    let past : length d.nodes ≤ number_of (with_name d.nodes tail) head = omega (arith, at, (length-named d.nodes tail).0) in
+    omega (arith, ap length (none_enters d net (number_of (with_name d.nodes tail) head) past))
 
 -- the head has room
-pub in_room_at : (d : NetworkData) (tail head : List ℕ) → IsNetwork d → same tail head ≡ false → in_degree d head < 4 → length (in_links d (number_of (named d.nodes tail) head)) < 4
+pub in_room_at : (d : NetworkData) (tail head : List ℕ) → IsNetwork d → same tail head ≡ false → in_degree d head < 4 → length (in_links d (number_of (with_name d.nodes tail) head)) < 4
 in_room_at d tail head net apart room = in_room_by d tail head (find_node d head) refl net apart room
 
 -- the ends of a new link are two nodes
-ends_apart : (nodes : List (List ℕ)) (tail head : List ℕ) → same tail head ≡ false → number_of nodes tail ≢ number_of (named nodes tail) head
+ends_apart : (nodes : List (List ℕ)) (tail head : List ℕ) → same tail head ≡ false → number_of nodes tail ≢ number_of (with_name nodes tail) head
 ends_apart nodes tail head apart is =
-    let inside : number_of nodes tail < length (named nodes tail) = number_inside nodes tail in
-    let tail_here : get_or (named (named nodes tail) head) (number_of nodes tail) [] ≡ tail = named_kept (named nodes tail) head (number_of nodes tail) inside ∙ named_at nodes tail in
-    let head_here : get_or (named (named nodes tail) head) (number_of nodes tail) [] ≡ head = ap (λ n. get_or (named (named nodes tail) head) n []) is ∙ named_at (named nodes tail) head in
+    let inside : number_of nodes tail < length (with_name nodes tail) = number_inside nodes tail in
+    let tail_here : get_or (with_name (with_name nodes tail) head) (number_of nodes tail) [] ≡ tail = named_kept (with_name nodes tail) head (number_of nodes tail) inside ∙ named_at nodes tail in
+    let head_here : get_or (with_name (with_name nodes tail) head) (number_of nodes tail) [] ≡ head = ap (λ n. get_or (with_name (with_name nodes tail) head) n []) is ∙ named_at (with_name nodes tail) head in
     let one : tail ≡ head = sym tail_here ∙ head_here in
     let here : same tail head ≡ true = subst (λ x. same tail x ≡ true) one (same_itself tail) in
     let bad : true ≡ false = sym here ∙ apart in
@@ -118,23 +118,23 @@ side_few node_of links e room few node =
 
 -- the link that is added
 abbrev pub new_link : NetworkData → List ℕ → List ℕ → List ℕ → Link
-new_link d name tail head = record { name = name; tail = number_of d.nodes tail; head = number_of (named d.nodes tail) head }
+new_link d name tail head = record { name = name; tail = number_of d.nodes tail; head = number_of (with_name d.nodes tail) head }
 
-pub linked_stays : (d : NetworkData) (name tail head : List ℕ) → IsNetwork d → IsTaken d name tail head → IsNetwork (linked d name tail head)
+pub linked_stays : (d : NetworkData) (name tail head : List ℕ) → IsNetwork d → IsTaken d name tail head → IsNetwork (network_linked d name tail head)
 linked_stays d name tail head net met =
     let one = length-named d.nodes tail in
-    let two = length-named (named d.nodes tail) head in
-    let tail_in : number_of d.nodes tail < length (named d.nodes tail) = number_inside d.nodes tail in
-    let head_in : number_of (named d.nodes tail) head < length (named (named d.nodes tail) head) = number_inside (named d.nodes tail) head in
+    let two = length-named (with_name d.nodes tail) head in
+    let tail_in : number_of d.nodes tail < length (with_name d.nodes tail) = number_inside d.nodes tail in
+    let head_in : number_of (with_name d.nodes tail) head < length (with_name (with_name d.nodes tail) head) = number_inside (with_name d.nodes tail) head in
     record {
-      tail_is_node = each_more (λ l. l.tail < length (named (named d.nodes tail) head)) d.links (new_link d name tail head)
+      tail_is_node = each_more (λ l. l.tail < length (with_name (with_name d.nodes tail) head)) d.links (new_link d name tail head)
           (λ link less. omega (arith, net.tail_is_node link less, one.0, two.0)) (omega (arith, tail_in, two.0));
-      head_is_node = each_more (λ l. l.head < length (named (named d.nodes tail) head)) d.links (new_link d name tail head)
+      head_is_node = each_more (λ l. l.head < length (with_name (with_name d.nodes tail) head)) d.links (new_link d name tail head)
           (λ link less. omega (arith, net.head_is_node link less, one.0, two.0)) head_in;
       no_loop = each_more (λ l. l.tail ≢ l.head) d.links (new_link d name tail head) net.no_loop (ends_apart d.nodes tail head met.apart);
       few_out = side_few (λ l. l.tail) d.links (new_link d name tail head) (out_room_at d tail net met.out_room) net.few_out;
       few_in = side_few (λ l. l.head) d.links (new_link d name tail head) (in_room_at d tail head net met.apart met.in_room) net.few_in;
-      nodes_apart = apart_named (named d.nodes tail) head (apart_named d.nodes tail net.nodes_apart);
+      nodes_apart = apart_named (with_name d.nodes tail) head (apart_named d.nodes tail net.nodes_apart);
       links_apart = subst AreApart (sym (map-append (λ (l : Link). l.name) d.links (new_link d name tail head ∷ []))) (apart_pushed (link_names d) name met.new net.links_apart);
       few_links = omega (arith, met.few, length-append d.links (new_link d name tail head ∷ []));
       few_nodes = omega (arith, net.few_nodes, one.1, two.1, length-append d.links (new_link d name tail head ∷ []));
@@ -159,6 +159,6 @@ stays = record {
     few_nodes = omega arith;
   };
   more = λ d next name tail head net is.
-      let both = then_ok (checked d name tail head) (linked d name tail head) next is in
+      let both = then_ok (checked d name tail head) (network_linked d name tail head) next is in
       subst IsNetwork both.1 (linked_stays d name tail head net (taken d name tail head both.0));
 }

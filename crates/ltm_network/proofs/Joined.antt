@@ -6,10 +6,10 @@ use Rattle.std.proofs.lemmas.List.{get_or-set_same, get_or-set_other}
 use Rattle.std.proofs.lemmas.Bool.{cases_lt, cases_eq}
 use Rattle.std.proofs.lemmas.Bool.Decides.{nat_tests}
 use Rattle.ltm_network.specs.declared.ends.Ends.{Ends}
-use Rattle.ltm_network.specs.Names.{place_of, named, number_of}
+use Rattle.ltm_network.specs.Names.{place_of, with_name, number_of}
 use Rattle.ltm_network.specs.Numbers.{numbers_of}
-use Rattle.ltm_network.specs.Nodes.{NodeTables, grown, with_node, with_ends}
-use Rattle.ltm_network.specs.Network.{Link, NetworkData, no_link, leaves, enters, out_links, in_links, linked}
+use Rattle.ltm_network.specs.Nodes.{NodeTables, with_row_if_new, with_node, with_ends}
+use Rattle.ltm_network.specs.Network.{Link, NetworkData, no_link, leaves, enters, out_links, in_links, network_linked}
 use Rattle.ltm_network.specs.IsNetwork.{IsNetwork}
 use Rattle.ltm_network.specs.Tables.{links_of, network_of, AreTables}
 use Rattle.ltm_network.proofs.Apart.{length-named, number_inside}
@@ -53,7 +53,7 @@ length_by names name table true is = is
 length_by names name table false is = omega (arith, is, length-append table ([] ∷ []), length-append names (name ∷ []))
 
 -- a grown table is as long as the names with the new one
-pub length-grown : (names : List (List ℕ)) (name : List ℕ) (table : List (List ℕ)) → length table ≡ length names → length (grown names name table) ≡ length (named names name)
+pub length-grown : (names : List (List ℕ)) (name : List ℕ) (table : List (List ℕ)) → length table ≡ length names → length (with_row_if_new names name table) ≡ length (with_name names name)
 length-grown names name table is = length_by names name table (is_some (place_of names name)) is
 
 row_by : (names : List (List ℕ)) (name : List ℕ) (table : List (List ℕ)) (f : ℕ → List ℕ) (b : Bool) → length table ≡ length names → ((u : ℕ) → u < length names → get_or table u [] ≡ f u) → ((u : ℕ) → length names ≤ u → f u ≡ []) →
@@ -69,7 +69,7 @@ row_by names name table f false long rows none u less =
 
 -- its rows are as before, where the new one is empty
 pub row-grown : (names : List (List ℕ)) (name : List ℕ) (table : List (List ℕ)) (f : ℕ → List ℕ) → length table ≡ length names → ((u : ℕ) → u < length names → get_or table u [] ≡ f u) → ((u : ℕ) → length names ≤ u → f u ≡ []) →
-    (u : ℕ) → u < length (named names name) → get_or (grown names name table) u [] ≡ f u
+    (u : ℕ) → u < length (with_name names name) → get_or (with_row_if_new names name table) u [] ≡ f u
 row-grown names name table f long rows none u less = row_by names name table f (is_some (place_of names name)) long rows none u less
 
 -- the rows of one side, after a link at a node
@@ -98,36 +98,36 @@ pub record IsJoined (n : NodeTables) (names : List (List ℕ)) (ends : List Ends
   pub met : IsTaken (network_of n.names names ends) name tail head
   pub link_is : link ≡ length ends
   pub tail_is : t ≡ number_of n.names tail
-  pub head_is : h ≡ number_of (named n.names tail) head
+  pub head_is : h ≡ number_of (with_name n.names tail) head
 
 -- the network in the tables is the old one with the link
 pub joined_data : (n : NodeTables) (names : List (List ℕ)) (ends : List Ends) (name tail head : List ℕ) (link t h : ℕ) → IsJoined n names ends name tail head link t h →
-    network_of (with_ends (with_node (with_node n tail) head) link t h).names (names ++ name ∷ []) (ends ++ ends_at t h ∷ []) ≡ linked (network_of n.names names ends) name tail head
+    network_of (with_ends (with_node (with_node n tail) head) link t h).names (names ++ name ∷ []) (ends ++ ends_at t h ∷ []) ≡ network_linked (network_of n.names names ends) name tail head
 joined_data n names ends name tail head link t h j =
     let pushed = links_of-push names ends name (ends_at t h) j.tables.names_long in
-    let net : List Link → NetworkData = λ links. record { nodes = named (named n.names tail) head; links = links } in
+    let net : List Link → NetworkData = λ links. record { nodes = with_name (with_name n.names tail) head; links = links } in
     ap net pushed ∙ ap (λ x. net (links_of names ends ++ record { name = name; tail = x; head = h } ∷ [])) j.tail_is
     ∙ ap (λ x. net (links_of names ends ++ record { name = name; tail = number_of n.names tail; head = x } ∷ [])) j.head_is
 
 joined_outs : (n : NodeTables) (names : List (List ℕ)) (ends : List Ends) (name tail head : List ℕ) (link t h : ℕ) → IsJoined n names ends name tail head link t h →
-    (length (with_node (with_node n tail) head).outs ≡ length (named (named n.names tail) head)) × ((u : ℕ) → u < length (named (named n.names tail) head) → get_or (with_node (with_node n tail) head).outs u [] ≡ out_links (network_of n.names names ends) u)
+    (length (with_node (with_node n tail) head).outs ≡ length (with_name (with_name n.names tail) head)) × ((u : ℕ) → u < length (with_name (with_name n.names tail) head) → get_or (with_node (with_node n tail) head).outs u [] ≡ out_links (network_of n.names names ends) u)
 joined_outs n names ends name tail head link t h j =
     let d = network_of n.names names ends in
     let none = none_leaves d j.tables.network in
     let one = row-grown n.names tail n.outs (out_links d) j.tables.outs_long j.tables.outs_are none in
-    let none2 : (u : ℕ) → length (named n.names tail) ≤ u → out_links d u ≡ [] = λ u past. none u (omega (arith, past, (length-named n.names tail).0)) in
+    let none2 : (u : ℕ) → length (with_name n.names tail) ≤ u → out_links d u ≡ [] = λ u past. none u (omega (arith, past, (length-named n.names tail).0)) in
     let long = length-grown n.names tail n.outs j.tables.outs_long in
-    (length-grown (named n.names tail) head (grown n.names tail n.outs) long, row-grown (named n.names tail) head (grown n.names tail n.outs) (out_links d) long one none2)
+    (length-grown (with_name n.names tail) head (with_row_if_new n.names tail n.outs) long, row-grown (with_name n.names tail) head (with_row_if_new n.names tail n.outs) (out_links d) long one none2)
 
 joined_ins : (n : NodeTables) (names : List (List ℕ)) (ends : List Ends) (name tail head : List ℕ) (link t h : ℕ) → IsJoined n names ends name tail head link t h →
-    (length (with_node (with_node n tail) head).ins ≡ length (named (named n.names tail) head)) × ((u : ℕ) → u < length (named (named n.names tail) head) → get_or (with_node (with_node n tail) head).ins u [] ≡ in_links (network_of n.names names ends) u)
+    (length (with_node (with_node n tail) head).ins ≡ length (with_name (with_name n.names tail) head)) × ((u : ℕ) → u < length (with_name (with_name n.names tail) head) → get_or (with_node (with_node n tail) head).ins u [] ≡ in_links (network_of n.names names ends) u)
 joined_ins n names ends name tail head link t h j =
     let d = network_of n.names names ends in
     let none = none_enters d j.tables.network in
     let one = row-grown n.names tail n.ins (in_links d) j.tables.ins_long j.tables.ins_are none in
-    let none2 : (u : ℕ) → length (named n.names tail) ≤ u → in_links d u ≡ [] = λ u past. none u (omega (arith, past, (length-named n.names tail).0)) in
+    let none2 : (u : ℕ) → length (with_name n.names tail) ≤ u → in_links d u ≡ [] = λ u past. none u (omega (arith, past, (length-named n.names tail).0)) in
     let long = length-grown n.names tail n.ins j.tables.ins_long in
-    (length-grown (named n.names tail) head (grown n.names tail n.ins) long, row-grown (named n.names tail) head (grown n.names tail n.ins) (in_links d) long one none2)
+    (length-grown (with_name n.names tail) head (with_row_if_new n.names tail n.ins) long, row-grown (with_name n.names tail) head (with_row_if_new n.names tail n.ins) (in_links d) long one none2)
 
 -- what connecting the ends asks for
 pub record HasRoom (n : NodeTables) (t h : ℕ) : Type 0 where
@@ -140,9 +140,9 @@ pub joined_room : (n : NodeTables) (names : List (List ℕ)) (ends : List Ends) 
 joined_room n names ends name tail head link t h j =
     let outs = joined_outs n names ends name tail head link t h j in
     let ins = joined_ins n names ends name tail head link t h j in
-    let two = length-named (named n.names tail) head in
-    let tail_in : t < length (named (named n.names tail) head) = omega (arith, j.tail_is, number_inside n.names tail, two.0) in
-    let head_in : h < length (named (named n.names tail) head) = omega (arith, j.head_is, number_inside (named n.names tail) head) in
+    let two = length-named (with_name n.names tail) head in
+    let tail_in : t < length (with_name (with_name n.names tail) head) = omega (arith, j.tail_is, number_inside n.names tail, two.0) in
+    let head_in : h < length (with_name (with_name n.names tail) head) = omega (arith, j.head_is, number_inside (with_name n.names tail) head) in
     let out_row = outs.1 t tail_in ∙ ap (out_links (network_of n.names names ends)) j.tail_is in
     let in_row = ins.1 h head_in ∙ ap (in_links (network_of n.names names ends)) j.head_is in
     record {
@@ -158,7 +158,7 @@ joined_tables n names ends name tail head link t h j =
     let outs = joined_outs n names ends name tail head link t h j in
     let ins = joined_ins n names ends name tail head link t h j in
     let room = joined_room n names ends name tail head link t h j in
-    let nodes : ℕ = length (named (named n.names tail) head) in
+    let nodes : ℕ = length (with_name (with_name n.names tail) head) in
     let e : Link = record { name = name; tail = t; head = h } in
     let at : link ≡ length (links_of names ends) = j.link_is ∙ sym (length-links_of names ends j.tables.names_long) in
     let pushed = links_of-push names ends name (ends_at t h) j.tables.names_long in

@@ -15,8 +15,8 @@ abbrev pub place_of : List (List ℕ) → List ℕ → Option ℕ
 place_of names name = position_from (same name) 0 names
 
 -- the names, with this one behind them where it is new
-abbrev pub named : List (List ℕ) → List ℕ → List (List ℕ)
-named names name = if is_some (place_of names name) then names else names ++ name ∷ []
+abbrev pub with_name : List (List ℕ) → List ℕ → List (List ℕ)
+with_name names name = if is_some (place_of names name) then names else names ++ name ∷ []
 
 -- the place of a name, or the next one where it is new
 abbrev pub number_of : List (List ℕ) → List ℕ → ℕ

@@ -4,7 +4,7 @@ use Rattle.std.specs.Option.{option_map_or}
 use Rattle.ltm_units.specs.Results.{refuse, ◌>>>◌}
 use Rattle.ltm_network.specs.declared.network.NetworkFault.{NetworkFault}
 use Rattle.ltm_network.specs.declared.network.NetworkFault.TheVariants.{TwiceNamed, SelfLoop, TooManyLinks, TooManyOut, TooManyIn}
-use Rattle.ltm_network.specs.Names.{same, place_of, named, number_of}
+use Rattle.ltm_network.specs.Names.{same, place_of, with_name, number_of}
 use Rattle.ltm_network.specs.Numbers.{numbers_of}
 use Rattle.ltm_units.specs.Bounds.{most_links}
 
@@ -90,11 +90,11 @@ checked d name tail head =
     >>> refuse (nat_le 4 (in_degree d head)) TooManyIn
 
 -- the network with that link last, and its tail and then its head where they are new
-abbrev pub linked : NetworkData → List ℕ → List ℕ → List ℕ → NetworkData
-linked d name tail head = record {
-  nodes = named (named d.nodes tail) head;
-  links = d.links ++ record { name = name; tail = number_of d.nodes tail; head = number_of (named d.nodes tail) head } ∷ [];
+abbrev pub network_linked : NetworkData → List ℕ → List ℕ → List ℕ → NetworkData
+network_linked d name tail head = record {
+  nodes = with_name (with_name d.nodes tail) head;
+  links = d.links ++ record { name = name; tail = number_of d.nodes tail; head = number_of (with_name d.nodes tail) head } ∷ [];
 }
 
 unfoldable pub with_link : NetworkData → List ℕ → List ℕ → List ℕ → Result NetworkData NetworkFault
-with_link d name tail head = checked d name tail head >>> Ok (linked d name tail head)
+with_link d name tail head = checked d name tail head >>> Ok (network_linked d name tail head)

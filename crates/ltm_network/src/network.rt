@@ -98,7 +98,7 @@ impl Clone for Network {
 }
 
 impl Network {
-    ghost use Rattle.ltm_network.specs.Network.{tail_of, head_of, link_name, link_names, node_name, out_links, in_links, find_link, find_node, out_degree, in_degree, checked, linked, with_link};
+    ghost use Rattle.ltm_network.specs.Network.{tail_of, head_of, link_name, link_names, node_name, out_links, in_links, find_link, find_node, out_degree, in_degree, checked, network_linked, with_link};
     ghost use Rattle.ltm_network.specs.Names.{same};
     ghost use Rattle.ltm_network.specs.IsNetwork.{IsNetwork};
     ghost use Rattle.std.specs.Option.{option_map};
@@ -263,7 +263,7 @@ impl Network {
     /// Adds a link that was checked. What needs memory comes first, and is undone where a later part finds none.
     fn join(&mut self, name: Name, tail: &Name, head: &Name) -> Result<LinkId, NoMemory>
         requires { checked self.old name tail.now head.now ≡ Ok tt }
-        ensures ok { OnOk result (self.new ≡ linked self.old name tail.now head.now) }
+        ensures ok { OnOk result (self.new ≡ network_linked self.old name tail.now head.now) }
         ensures number { IfOk result (λ link. link.0 ≡ length self.old.links) }
         ensures err { OnErr result (self.new ≡ self.old) }
     {

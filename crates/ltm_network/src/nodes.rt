@@ -1,6 +1,6 @@
 //! The nodes of a network: their names, and which links leave and enter each.
 ghost use Rattle.std.specs.Prelude.{◌≡◌, ℕ, ◌+◌, ◌<◌, ◌≤◌, ◌^◌, List, [], ◌∷◌, ◌++◌, length, map, slice_get, slice_index_or, slice_set, take, Some, OnOk, OnErr, IfOk, vec_len, vec_capacity};
-ghost use Rattle.ltm_network.specs.Names.{place_of, named, number_of};
+ghost use Rattle.ltm_network.specs.Names.{place_of, with_name, number_of};
 
 use crate::adjacent::Adjacent;
 use crate::ends::Ends;
@@ -114,7 +114,7 @@ impl Nodes {
         ensures ok { OnOk result (self.new ≡ with_node (with_node self.old tail.now) head.now) }
         ensures tail { IfOk result (λ ends. ends.tail ≡ number_of self.old.names tail.now) }
         ensures head { IfOk result
-            (λ ends. ends.head ≡ number_of (named self.old.names tail.now) head.now) }
+            (λ ends. ends.head ≡ number_of (with_name self.old.names tail.now) head.now) }
         ensures err { OnErr result (self.new ≡ self.old) }
     {
         let count = self.names.len();

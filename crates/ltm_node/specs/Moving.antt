@@ -7,7 +7,7 @@ use Rattle.ltm_node.specs.Shape.{counts_width}
 use Rattle.ltm_node.specs.declared.loads.Load.{Load}
 use Rattle.ltm_node.specs.declared.loads.Part.{Part}
 use Rattle.ltm_node.specs.declared.moves.Mover.{Mover}
-use Rattle.ltm_node.specs.declared.moves.ways.Pair.{Pair}
+use Rattle.ltm_node.specs.declared.moves.ways.TwoWays.{TwoWays}
 use Rattle.ltm_node.specs.declared.moves.ways.Way.{Way}
 use Rattle.ltm_node.specs.declared.portion.Portion.{Portion}
 use Rattle.ltm_node.specs.Inputs.{Inputs, sending, left, entered, arrived, supply, capacity, weights}
@@ -80,7 +80,7 @@ pub record IsOnlyWay (n : Inputs) (destination : ℕ) (way : Way) : Type 0 where
   pub all : HasOne (weights n destination) way.out
 
 -- all that goes to a destination goes by two out-links
-pub record AreOnlyWays (n : Inputs) (destination : ℕ) (pair : Pair) : Type 0 where
+pub record AreOnlyWays (n : Inputs) (destination : ℕ) (pair : TwoWays) : Type 0 where
   pub first : pair.first.place ≡ entered_after_place n.shape pair.first.out destination
   pub second : pair.second.place ≡ entered_after_place n.shape pair.second.out destination
   pub weight : pair.weight ≡ slice_index (weights n destination) pair.first.out

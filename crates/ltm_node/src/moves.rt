@@ -39,7 +39,7 @@ use crate::shape::NodeShape;
 use crate::split::share_of_rest;
 use ltm_shares::Sent;
 use ltm_units::sum_of;
-use ways::{Pair, next_above};
+use ways::{TwoWays, next_above};
 
 /// The arms of a node, each of which moves a portion of what it sends. The shape and the row of the inputs are at hand, so
 /// that they need not be read anew behind each write.
@@ -259,7 +259,7 @@ impl Mover<'_> {
         let other = next_above(weights, out + 1);
         if weight + weights[other as usize] == whole {
             let second = self.way_by(destination, other);
-            let pair = Pair {
+            let pair = TwoWays {
                 first,
                 second,
                 weight,

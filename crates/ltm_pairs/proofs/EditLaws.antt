@@ -2,7 +2,7 @@
 use Rattle.std.proofs.Common.{◌≡◌, ℕ, List}
 use Rattle.ltm_limits.specs.Laws.{LimitsAreSet, LimitsAreLengthened}
 use Rattle.ltm_demand.specs.declared.row.DemandRow.{DemandRow}
-use Rattle.ltm_demand.specs.Rows.{edited as edited_rows}
+use Rattle.ltm_demand.specs.Rows.{edited_rows}
 use Rattle.ltm_demand.specs.Produced.{by_end, IsSilent as IsNoRowOf}
 use Rattle.ltm_splits.specs.declared.keys.SplitKey.{SplitKey}
 use Rattle.ltm_splits.specs.Rows.{SplitRow, put_in, row_in_force, IsSilent as IsNoKeyOf}

@@ -10,7 +10,7 @@ use Rattle.ltm_network.specs.Network.{find_node, find_link, tail_of, head_of, in
 use Rattle.ltm_network.proofs.Counted.{has_places}
 use Rattle.ltm_diagram.specs.declared.diagram.Diagram.{Diagram}
 use Rattle.ltm_demand.specs.declared.row.DemandRow.{DemandRow}
-use Rattle.ltm_demand.specs.Rows.{edited as edited_rows}
+use Rattle.ltm_demand.specs.Rows.{edited_rows}
 use Rattle.ltm_splits.specs.declared.keys.SplitKey.{SplitKey}
 use Rattle.ltm_splits.specs.Rows.{put_in}
 use Rattle.ltm_limits.specs.Limits.{with_limit, AreWhole}

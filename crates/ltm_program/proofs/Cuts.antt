@@ -9,7 +9,7 @@ use Rattle.ltm_session.specs.declared.ends.SessionEnd.TheVariants as end
 use Rattle.ltm_session.specs.Analysts.{Analysts, opening_state}
 use Rattle.ltm_session.specs.Answers.{AnswersAlone}
 use Rattle.ltm_session.specs.Session.{Answering, IsSession}
-use Rattle.ltm_session_viewers.specs.View.{IsView, Closes as ClosesView}
+use Rattle.ltm_session_viewers.specs.View.{IsView, ClosesView}
 use Rattle.ltm_command.specs.declared.status.Status.TheVariants as ending
 use Rattle.ltm_command.specs.Answers.{Describes}
 use Rattle.ltm_command.specs.Run.{Outside}

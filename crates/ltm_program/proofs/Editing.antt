@@ -14,11 +14,11 @@ use Rattle.ltm_check_command.specs.declared.refusal.Refusal.TheVariants as check
 use Rattle.ltm_session_editors.specs.declared.fault.EditsFault.TheVariants as edits
 use Rattle.ltm_session_editors.specs.declared.fault.LineCause.{LineCause}
 use Rattle.ltm_session_editors.specs.Files.{docs_of}
-use Rattle.ltm_session_editors.specs.declared.refusal.Refusal.{Refusal}
-use Rattle.ltm_session_editors.specs.declared.refusal.Refusal.TheVariants as refusal
+use Rattle.ltm_session_editors.specs.declared.refusal.EditorsRefusal.{EditorsRefusal}
+use Rattle.ltm_session_editors.specs.declared.refusal.EditorsRefusal.TheVariants as refusal
 use Rattle.ltm_session_editors.specs.Lines.{bad_script_line}
 use Rattle.ltm_session_editors.specs.Editing.{IsEditingText}
-use Rattle.ltm_session_editors.specs.Answers.{Answer, EditingAnswer, AnswersEditing, IsTold, IsMissing, MayAsk, Missed}
+use Rattle.ltm_session_editors.specs.Answers.{Editing, EditingAnswer, AnswersEditing, IsTold, IsUngiven, MayAsk, Missed}
 use Rattle.ltm_command.specs.declared.status.Status.{Status}
 use Rattle.ltm_command.specs.declared.status.Status.TheVariants as ending
 use Rattle.ltm_command.specs.Program as texts
@@ -33,30 +33,30 @@ told_case (fault.TooLong x) is = tt
 told_case (fault.Bad x row cause) is = tt
 told_case fault.NoMemory is = absurd is
 
-missing_case : (f : CaseFault) → texts.IsMissing (checked.Case f) → IsMissing (refusal.Case f)
+missing_case : (f : CaseFault) → texts.IsMissing (checked.Case f) → IsUngiven (refusal.Case f)
 missing_case (fault.Folder x) is = tt
 missing_case (fault.TooLong x) is = absurd is
 missing_case (fault.Bad x row cause) is = absurd is
 missing_case fault.NoMemory is = absurd is
 
-module _ (r : Refusal) (f : CaseFault) (is : r ≡ refusal.Case f) where
+module _ (r : EditorsRefusal) (f : CaseFault) (is : r ≡ refusal.Case f) where
   pub case_whole : (old new : Option (List ℕ)) (result : Status) → (IsWhole result → texts.IsTold (checked.Case f) × (result ≡ case_status f) × (new ≡ appended (refusal_of f) old)) → IsWhole result
       → IsTold r × (result ≡ editing_status (Err r)) × (new ≡ appended (editing_words (Err r)) old)
   case_whole old new result wrote whole =
-      let h = wrote whole in subst (λ (x : Refusal). IsTold x × (result ≡ editing_status (Err x)) × (new ≡ appended (editing_words (Err x)) old)) (sym is) (told_case f h.0, h.1, h.2)
+      let h = wrote whole in subst (λ (x : EditorsRefusal). IsTold x × (result ≡ editing_status (Err x)) × (new ≡ appended (editing_words (Err x)) old)) (sym is) (told_case f h.0, h.1, h.2)
 
   front_in : (old new : Option (List ℕ)) → (new ≡ old) ⊎ (texts.IsTold (checked.Case f) × AppendsFront old new (refusal_of f)) → (new ≡ old) ⊎ (IsTold (refusal.Case f) × AppendsFront old new (refusal_of f))
   front_in old new (inl same) = inl same
   front_in old new (inr (told, front)) = inr (told_case f told, front)
 
   pub case_front : (old new : Option (List ℕ)) → (new ≡ old) ⊎ (texts.IsTold (checked.Case f) × AppendsFront old new (refusal_of f)) → (new ≡ old) ⊎ (IsTold r × AppendsFront old new (editing_words (Err r)))
-  case_front old new front = subst (λ (x : Refusal). (new ≡ old) ⊎ (IsTold x × AppendsFront old new (editing_words (Err x)))) (sym is) (front_in old new front)
+  case_front old new front = subst (λ (x : EditorsRefusal). (new ≡ old) ⊎ (IsTold x × AppendsFront old new (editing_words (Err x)))) (sym is) (front_in old new front)
 
-  pub case_fails : (old new : Option (List ℕ)) (result : Status) → (result ≡ ending.FolderFault → texts.IsMissing (checked.Case f) × (new ≡ old)) → result ≡ ending.FolderFault → IsMissing r × (new ≡ old)
-  case_fails old new result gives failed = let h = gives failed in subst (λ (x : Refusal). IsMissing x × (new ≡ old)) (sym is) (missing_case f h.0, h.1)
+  pub case_fails : (old new : Option (List ℕ)) (result : Status) → (result ≡ ending.FolderFault → texts.IsMissing (checked.Case f) × (new ≡ old)) → result ≡ ending.FolderFault → IsUngiven r × (new ≡ old)
+  case_fails old new result gives failed = let h = gives failed in subst (λ (x : EditorsRefusal). IsUngiven x × (new ≡ old)) (sym is) (missing_case f h.0, h.1)
 
   pub case_writes : (Rises : Type 0) (result : Status) → (result ≡ ending.WriteFault → texts.IsTold (checked.Case f) × Rises) → result ≡ ending.WriteFault → IsTold r × Rises
-  case_writes Rises result gives failed = let h = gives failed in (subst (λ (x : Refusal). IsTold x) (sym is) (told_case f h.0), h.1)
+  case_writes Rises result gives failed = let h = gives failed in (subst (λ (x : EditorsRefusal). IsTold x) (sym is) (told_case f h.0), h.1)
 
 -- ---- files that stay
 at_other : (P : Doc → Type 0) (docs : List Doc) (told : Option Files) (second : Files → Doc → Bool) (d : Doc) → (Contains docs d → ⊥)
@@ -71,7 +71,7 @@ stays before now editors told others unasked d out =
     (at_other (λ e. now e ≡ before e) (docs_of editors) told asks_for d (λ has. out (inr has)) unasked)
 
 -- ---- statuses that are never reached
-pub never_usage : (e : Refusal) → editing_status (Err e) ≡ ending.Usage → ⊥
+pub never_usage : (e : EditorsRefusal) → editing_status (Err e) ≡ ending.Usage → ⊥
 never_usage (refusal.Case (fault.Folder x)) is = cc
 never_usage (refusal.Case (fault.TooLong x)) is = cc
 never_usage (refusal.Case (fault.Bad x row cause)) is = cc
@@ -82,7 +82,7 @@ never_usage (refusal.Edits edits.TooMany) is = cc
 never_usage (refusal.Edits (edits.BadLine editor line cause)) is = cc
 never_usage (refusal.Edits edits.NoMemory) is = cc
 
-pub never_read : (e : Refusal) → editing_status (Err e) ≡ ending.ReadFault → ⊥
+pub never_read : (e : EditorsRefusal) → editing_status (Err e) ≡ ending.ReadFault → ⊥
 never_read (refusal.Case (fault.Folder x)) is = cc
 never_read (refusal.Case (fault.TooLong x)) is = cc
 never_read (refusal.Case (fault.Bad x row cause)) is = cc
@@ -93,7 +93,7 @@ never_read (refusal.Edits edits.TooMany) is = cc
 never_read (refusal.Edits (edits.BadLine editor line cause)) is = cc
 never_read (refusal.Edits edits.NoMemory) is = cc
 
-pub never_ok : (e : Refusal) → editing_status (Err e) ≡ ending.Ok → ⊥
+pub never_ok : (e : EditorsRefusal) → editing_status (Err e) ≡ ending.Ok → ⊥
 never_ok (refusal.Case (fault.Folder x)) is = cc
 never_ok (refusal.Case (fault.TooLong x)) is = cc
 never_ok (refusal.Case (fault.Bad x row cause)) is = cc
@@ -105,7 +105,7 @@ never_ok (refusal.Edits (edits.BadLine editor line cause)) is = cc
 never_ok (refusal.Edits edits.NoMemory) is = cc
 
 -- a line tells of no missing file
-pub told_given : (e : Refusal) → IsTold e → editing_status (Err e) ≡ ending.FolderFault → ⊥
+pub told_given : (e : EditorsRefusal) → IsTold e → editing_status (Err e) ≡ ending.FolderFault → ⊥
 told_given (refusal.Case (fault.Folder x)) told is = absurd told
 told_given (refusal.Case (fault.TooLong x)) told is = cc
 told_given (refusal.Case (fault.Bad x row cause)) told is = cc
@@ -117,7 +117,7 @@ told_given (refusal.Edits (edits.BadLine editor line cause)) told is = cc
 told_given (refusal.Edits edits.NoMemory) told is = cc
 
 -- ---- a file that is missing
-only_refused : (files : Files) (editors : ℕ) (e : Refusal) (answer : Answer) → AnswersEditing (Some files) editors (Err e) → AnswersEditing (Some files) editors answer → answer ≡ Err e
+only_refused : (files : Files) (editors : ℕ) (e : EditorsRefusal) (answer : Editing) → AnswersEditing (Some files) editors (Err e) → AnswersEditing (Some files) editors answer → answer ≡ Err e
 only_refused files editors e answer (Ok s, Ok scripts, says, (text, is, same)) other = cc
 only_refused files editors e answer (Ok s, Err f, (described, read), same) (case, said, (also, again), more) =
     let first : case ≡ Ok s = sym also ∙ described in
@@ -127,7 +127,7 @@ only_refused files editors e answer (Err f, scripts, (described, read), same) (c
     let first : case ≡ Err f = sym also ∙ described in
     subst (λ x. EditingAnswer x said answer) first more ∙ sym same
 
-pub missing_is : (e : Refusal) → IsMissing e → ending.FolderFault ≡ editing_status (Err e)
+pub missing_is : (e : EditorsRefusal) → IsUngiven e → ending.FolderFault ≡ editing_status (Err e)
 missing_is (refusal.Case (fault.Folder x)) is = refl
 missing_is (refusal.Case (fault.TooLong x)) is = absurd is
 missing_is (refusal.Case (fault.Bad x row cause)) is = absurd is
@@ -150,7 +150,7 @@ only_lacking editors told files due t u is (Err e, none, ends, at) (answer, says
 pub missed_in_calm : (editors : ℕ) (told : Option Files) (files : Files) (before now : Doc → ℕ) → told ≡ Some files → IsCalmFor editors files before now → Missed told editors before now → ⊥
 missed_in_calm editors told files before now is calm (d, may, rose) = calm d (subst (λ (o : Option Files). MayAsk o editors d) is may) rose
 
-pub told_answer : (editors : ℕ) (told : Option Files) (files : Files) (result : Status) → told ≡ Some files → (text : List ℕ) × IsEditingUnder editors told result text → (answer : Answer) × AnswersEditing (Some files) editors answer × (result ≡ editing_status answer)
+pub told_answer : (editors : ℕ) (told : Option Files) (files : Files) (result : Status) → told ≡ Some files → (text : List ℕ) × IsEditingUnder editors told result text → (answer : Editing) × AnswersEditing (Some files) editors answer × (result ≡ editing_status answer)
 told_answer editors told files result is (text, (answer, says, status, text_is)) = (answer, subst (λ (o : Option Files). AnswersEditing o editors answer) is says, status)
 
 -- ---- what belongs to a status

@@ -20,9 +20,9 @@ use Rattle.ltm_session.specs.Session.{Answering, IsSession, IsOutputAlone, IsSes
 use Rattle.ltm_session.specs.Laws.{AloneIsASession}
 use Rattle.ltm_session.proofs.Ending.{ends_as_told}
 use Rattle.ltm_session.proofs.Progress.{nothing_more}
-use Rattle.ltm_session_viewers.specs.View.{IsView, IsViewOutput, Closes as ClosesView}
+use Rattle.ltm_session_viewers.specs.View.{IsView, IsViewOutput, ClosesView}
 use Rattle.ltm_session_editors.specs.Files.{docs_of}
-use Rattle.ltm_session_editors.specs.Answers.{Answer as Editing, AnswersEditing, MayAsk}
+use Rattle.ltm_session_editors.specs.Answers.{Editing, AnswersEditing, MayAsk}
 use Rattle.ltm_command.specs.declared.status.Status.{Status}
 use Rattle.ltm_command.specs.declared.status.Status.TheVariants as ending
 use Rattle.ltm_command.specs.declared.words.Command.{Command}

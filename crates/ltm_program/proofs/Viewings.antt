@@ -11,7 +11,7 @@ use Rattle.ltm_session.specs.Answers.{AnswersAlone}
 use Rattle.ltm_session.specs.Session.{AnswersLines, IsSession, Wrote}
 use Rattle.ltm_session.proofs.Progress.{nothing_more}
 use Rattle.ltm_session_viewers.specs.Lines.{ViewersTell}
-use Rattle.ltm_session_viewers.specs.View.{IsView, IsViewOutput, Closes as ClosesView}
+use Rattle.ltm_session_viewers.specs.View.{IsView, IsViewOutput, ClosesView}
 use Rattle.ltm_program.specs.Sessions.{closing_of, ServesWhole}
 
 -- ---- a view that ended well

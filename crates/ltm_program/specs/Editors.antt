@@ -10,9 +10,9 @@ use Rattle.ltm_report.specs.Refusals.{too_many_line}
 use Rattle.ltm_session_editors.specs.declared.fault.EditsFault.{EditsFault}
 use Rattle.ltm_session_editors.specs.declared.fault.EditsFault.TheVariants as edits
 use Rattle.ltm_session_editors.specs.Scripts.{scripts_of}
-use Rattle.ltm_session_editors.specs.declared.refusal.Refusal.TheVariants as refusal
+use Rattle.ltm_session_editors.specs.declared.refusal.EditorsRefusal.TheVariants as refusal
 use Rattle.ltm_session_editors.specs.Lines.{long_edits_line, bad_script_line}
-use Rattle.ltm_session_editors.specs.Answers.{Answer, AnswersEditing, MayAsk}
+use Rattle.ltm_session_editors.specs.Answers.{Editing, AnswersEditing, MayAsk}
 use Rattle.ltm_command.specs.declared.status.Status.{Status}
 use Rattle.ltm_command.specs.declared.status.Status.TheVariants as ending
 use Rattle.ltm_command.specs.Program.{case_status, refusal_of}
@@ -34,19 +34,19 @@ edits_status (edits.BadLine editor line cause) = ending.BadScript
 edits_status edits.NoMemory = ending.NoMemory
 
 -- what is written of an answer: its text, or the line that refuses the files; and its status
-abbrev pub editing_words : Answer → List ℕ
+abbrev pub editing_words : Editing → List ℕ
 editing_words (Ok text) = text
 editing_words (Err (refusal.Case fault)) = refusal_of fault
 editing_words (Err (refusal.Edits fault)) = edits_refusal fault
 
-abbrev pub editing_status : Answer → Status
+abbrev pub editing_status : Editing → Status
 editing_status (Ok text) = ending.Ok
 editing_status (Err (refusal.Case fault)) = case_status fault
 editing_status (Err (refusal.Edits fault)) = edits_status fault
 
 -- the whole text that belongs to so many editors and a status
 abbrev pub IsEditingUnder : ℕ → Option Files → Status → List ℕ → Type 0
-IsEditingUnder editors told status text = (answer : Answer) × AnswersEditing told editors answer × (status ≡ editing_status answer) × (text ≡ editing_words answer)
+IsEditingUnder editors told status text = (answer : Editing) × AnswersEditing told editors answer × (status ≡ editing_status answer) × (text ≡ editing_words answer)
 
 -- the files describe this case, and the lines of the files of edits are these batches
 abbrev pub HasScripts : Option Files → ℕ → ScenarioData → List (List (List Edit)) → Type 0

@@ -29,11 +29,11 @@ use Rattle.ltm_session_viewers.specs.View.{IsViewOutput}
 use Rattle.ltm_session_editors.specs.declared.fault.EditsFault.TheVariants as edits
 use Rattle.ltm_session_editors.specs.declared.fault.LineCause.{LineCause}
 use Rattle.ltm_session_editors.specs.Files.{docs_of}
-use Rattle.ltm_session_editors.specs.declared.refusal.Refusal.{Refusal as Unedited}
-use Rattle.ltm_session_editors.specs.declared.refusal.Refusal.TheVariants as unedited
+use Rattle.ltm_session_editors.specs.declared.refusal.EditorsRefusal.{EditorsRefusal}
+use Rattle.ltm_session_editors.specs.declared.refusal.EditorsRefusal.TheVariants as unedited
 use Rattle.ltm_session_editors.specs.Lines.{bad_script_line}
 use Rattle.ltm_session_editors.specs.Editing.{IsEditingText}
-use Rattle.ltm_session_editors.specs.Answers.{Answer as Editing, AnswersEditing, IsMissing as IsUngiven}
+use Rattle.ltm_session_editors.specs.Answers.{Editing, AnswersEditing, IsUngiven}
 use Rattle.ltm_command.specs.declared.status.Status.{Status}
 use Rattle.ltm_command.specs.declared.status.Status.TheVariants as ending
 use Rattle.ltm_command.specs.declared.words.Command.{Command}
@@ -141,7 +141,7 @@ pub record EditorsSay : Type 0 where
       → b.told ≡ Some files → IsCalmFor n files b.faults a.faults → IsQuiet b a
       → ((answer : Editing) × AnswersEditing (Some files) n answer
       × (status ≡ editing_status answer)) ⊎ (status ≡ ending.NoMemory)
-  pub editors_missing : (b a : Outside) (status : Status) (files : Files) (n : ℕ) (e : Unedited)
+  pub editors_missing : (b a : Outside) (status : Status) (files : Files) (n : ℕ) (e : EditorsRefusal)
       → Ran (Some (command.Editors n)) status b a
       → b.told ≡ Some files → IsUngiven e → AnswersEditing (Some files) n (Err e) → TellsMissing status
 

@@ -3,9 +3,9 @@ ghost use Rattle.std.specs.Prelude.{◌≡◌, ◌⊎◌, ◌≤◌, ℕ, List, 
 ghost use Rattle.ltm_io.specs.Faults.{Rose};
 ghost use Rattle.ltm_io.specs.Sink.{appended, AppendsFront};
 ghost use Rattle.ltm_session_editors.specs.declared.fault.EditsFault.{EditsFault};
-ghost use Rattle.ltm_session_editors.specs.declared.refusal.Refusal.{Refusal};
+ghost use Rattle.ltm_session_editors.specs.declared.refusal.EditorsRefusal.{EditorsRefusal};
 ghost use Rattle.ltm_session_editors.specs.Lines.{long_edits_line, bad_script_line};
-ghost use Rattle.ltm_session_editors.specs.Answers.{IsTold, IsMissing};
+ghost use Rattle.ltm_session_editors.specs.Answers.{IsTold, IsUngiven};
 ghost use Rattle.ltm_command.specs.declared.words.Command.{Command};
 ghost use Rattle.ltm_command.specs.Program.{IsWhole};
 ghost use Rattle.ltm_command.specs.Run.{outside};
@@ -16,7 +16,7 @@ use crate::serve::close_many;
 use ltm_command::{Status, refuse_fault, write_text};
 use ltm_io::{Folder, Sink};
 use ltm_session_editors::{
-    EditsFault, LineCause, Refusal, bad_script_text, editing_text, long_edits_text,
+    EditorsRefusal, EditsFault, LineCause, bad_script_text, editing_text, long_edits_text,
 };
 use std::alloc::Global;
 use std::sync::Wait;
@@ -64,15 +64,15 @@ fn refuse_line<W: Sink>(
 
 /// Says what is wrong with the files of edits, where something is.
 fn refuse_edits<W: Sink>(alloc: Global, fault: EditsFault, output: &mut W) -> Status
-    ensures whole { IsWhole result → IsTold (Refusal.Edits fault) × (result ≡ edits_status fault)
+    ensures whole { IsWhole result → IsTold (EditorsRefusal.Edits fault) × (result ≡ edits_status fault)
         × (W.written output.new ≡ appended (edits_refusal fault) (W.written output.old)) }
     ensures front { (W.written output.new ≡ W.written output.old)
-        ⊎ (IsTold (Refusal.Edits fault)
+        ⊎ (IsTold (EditorsRefusal.Edits fault)
         × AppendsFront (W.written output.old) (W.written output.new) (edits_refusal fault)) }
     ensures folder_fault { result ≡ Status.FolderFault
-        → IsMissing (Refusal.Edits fault) × (W.written output.new ≡ W.written output.old) }
+        → IsUngiven (EditorsRefusal.Edits fault) × (W.written output.new ≡ W.written output.old) }
     ensures cause { result ≡ Status.WriteFault
-        → IsTold (Refusal.Edits fault) × Rose (W.faults output.old) (W.faults output.new) }
+        → IsTold (EditorsRefusal.Edits fault) × Rose (W.faults output.old) (W.faults output.new) }
 {
     match fault {
         EditsFault::Missing(_) => Status::FolderFault,
@@ -88,7 +88,7 @@ fn refuse_edits<W: Sink>(alloc: Global, fault: EditsFault, output: &mut W) -> St
 }
 
 /// Says why there is no text, where that lies in the files.
-fn refuse<W: Sink>(alloc: Global, refusal: Refusal, output: &mut W) -> Status
+fn refuse<W: Sink>(alloc: Global, refusal: EditorsRefusal, output: &mut W) -> Status
     ensures whole { IsWhole result → IsTold refusal × (result ≡ editing_status (Err refusal))
         × (W.written output.new ≡ appended (editing_words (Err refusal)) (W.written output.old)) }
     ensures front { (W.written output.new ≡ W.written output.old)
@@ -96,13 +96,13 @@ fn refuse<W: Sink>(alloc: Global, refusal: Refusal, output: &mut W) -> Status
         × AppendsFront (W.written output.old) (W.written output.new)
         (editing_words (Err refusal))) }
     ensures folder_fault { result ≡ Status.FolderFault
-        → IsMissing refusal × (W.written output.new ≡ W.written output.old) }
+        → IsUngiven refusal × (W.written output.new ≡ W.written output.old) }
     ensures cause { result ≡ Status.WriteFault
         → IsTold refusal × Rose (W.faults output.old) (W.faults output.new) }
 {
     match refusal {
-        Refusal::Case(fault) => refuse_fault(alloc, fault, output),
-        Refusal::Edits(fault) => refuse_edits(alloc, fault, output),
+        EditorsRefusal::Case(fault) => refuse_fault(alloc, fault, output),
+        EditorsRefusal::Edits(fault) => refuse_edits(alloc, fault, output),
     }
 }
 

@@ -9,7 +9,7 @@ use Rattle.ltm_repair.specs.Facts.{IsSound, IsClaim}
 use Rattle.ltm_repair.specs.Counting.{left_to_do, strayed, busy, undone}
 use Rattle.ltm_repair.specs.State.{RepairState, now, all_differences}
 use Rattle.ltm_repair.specs.Repair.{AreOfOneNetwork, ShowsALoading, CountsTheWork, IsRepair}
-use Rattle.ltm_repair.specs.Events.{SameBooks, OnlyDesk, Looked, Claimed, GaveBack, Committed, Published, Settled}
+use Rattle.ltm_repair.specs.Events.{SameBooks, OnlyDesk, Looked, Claimed, GaveBack, CommitHappened, PublishHappened, Settled}
 use Rattle.ltm_repair.proofs.Cases.{cases_option}
 use Rattle.ltm_repair.proofs.Keeps.{drop_keeps, take_keeps, give_back_keeps}
 use Rattle.ltm_repair.proofs.KeepsCommit.{commit_keeps}
@@ -109,7 +109,7 @@ give_back_repair s u t e is step =
     (give_back_calm s.desk u t e.desk step.desk)
 
 -- ---- a commit
-commit_shows : (s : RepairState) (u t : ℕ) (row : List ℕ) (wakes : ℕ → ℕ → Bool) (e : RepairState) → IsRepair s → Committed s u t row wakes e → ShowsALoading e
+commit_shows : (s : RepairState) (u t : ℕ) (row : List ℕ) (wakes : ℕ → ℕ → Bool) (e : RepairState) → IsRepair s → CommitHappened s u t row wakes e → ShowsALoading e
 commit_shows s u t row wakes e is step =
     let books : SameBooks s e = step.books in
     let wide : (s.settings s.shown_at).slots ≤ (now s).slots = is.history.horizon s.shown_at is.shows.accepted_last in
@@ -125,7 +125,7 @@ commit_shows s u t row wakes e is step =
           step.changes.same g b k x m high same ∙ is.shows.beyond g b k x m (step.changes.stays g k same) low high);
     }
 
-commit_counts : (s : RepairState) (u t : ℕ) (row : List ℕ) (wakes : ℕ → ℕ → Bool) (e : RepairState) → IsRepair s → Committed s u t row wakes e → CountsTheWork e
+commit_counts : (s : RepairState) (u t : ℕ) (row : List ℕ) (wakes : ℕ → ℕ → Bool) (e : RepairState) → IsRepair s → CommitHappened s u t row wakes e → CountsTheWork e
 unfolding all_differences
 commit_counts s u t row wakes e is step =
     let books : SameBooks s e = step.books in
@@ -147,7 +147,7 @@ commit_counts s u t row wakes e is step =
           commit_undone (now s) s.desk u t row wakes e.desk is.desk step.desk in omega (arith, is.count.fits));
     }
 
-pub commit_repair : (s : RepairState) (u t : ℕ) (row : List ℕ) (wakes : ℕ → ℕ → Bool) (e : RepairState) → IsRepair s → Committed s u t row wakes e → IsRepair e
+pub commit_repair : (s : RepairState) (u t : ℕ) (row : List ℕ) (wakes : ℕ → ℕ → Bool) (e : RepairState) → IsRepair s → CommitHappened s u t row wakes e → IsRepair e
 commit_repair s u t row wakes e is step =
     let books : SameBooks s e = step.books in
     let mine : IsClaim (now s) s.desk u t row = is.desk.claims u t row step.desk.was_claimed in
@@ -163,7 +163,7 @@ commit_repair s u t row wakes e is step =
     }
 
 -- ---- publishing and settle counts
-pub publish_repair : (s e : RepairState) → IsRepair s → Published s e → IsRepair e
+pub publish_repair : (s e : RepairState) → IsRepair s → PublishHappened s e → IsRepair e
 unfolding all_differences
 publish_repair s e is step = record {
   history = history_same s e step.settings step.accepted is.history;

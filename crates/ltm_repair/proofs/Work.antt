@@ -13,7 +13,7 @@ use Rattle.ltm_repair.specs.Desk.{Desk, IsAtRest, IsOther}
 use Rattle.ltm_repair.specs.Counting.{left_to_do, busy, waiting, undone}
 use Rattle.ltm_repair.specs.State.{RepairState, now}
 use Rattle.ltm_repair.specs.Repair.{IsRepair}
-use Rattle.ltm_repair.specs.Events.{CoreEvent, Look, Claim, GiveBack, Commit, Accept, Publish, Settle, Stay, Happens, Committed, Accepted}
+use Rattle.ltm_repair.specs.Events.{CoreEvent, Look, Claim, GiveBack, Commit, Accept, Publish, Settle, Stay, Happens, CommitHappened, Accepted}
 use Rattle.ltm_repair.specs.Runs.{CoreRun, in_all, commit_of, commits_of, commit_in, commits_in, batch_in, AcceptsNothing}
 use Rattle.ltm_repair.specs.Work.{NoneTwice, CommitsDifferences, CommitsAreDiffering, CommitsAreUseful, DrainsAreExact, CommitsAreBounded}
 use Rattle.ltm_repair.proofs.Cases.{cases_pair}
@@ -188,7 +188,7 @@ exact_after : (s : RepairState) (x : CoreEvent) (e : RepairState) (c : Counts) �
     (u t : ℕ) → u < (now s).nodes → t < (now s).slots → commit_of u t x + unlike (e.desk.kept u t) (Some (pair_row (now s) c u t)) ≡ unlike (s.desk.kept u t) (Some (pair_row (now s) c u t))
 exact_after s x e c (no_commit y none) is h plain loading u t node slot = rw (other_event u t x none, kept_after s x e h plain none) (omega arith)
 exact_after s x e c (a_commit w v) is h plain loading u t node slot =
-    let step : Committed s w v h.0 h.1 e = h.2 in
+    let step : CommitHappened s w v h.0 h.1 e = h.2 in
     elim (cases_pair u t w v) [
       | inl at ↦
           let final : CommitsFinal (now s) s.desk w v e.desk c = commit_final (now s) s.desk w v h.0 h.1 e.desk c (now_is_setting s is) is.desk step.desk loading in

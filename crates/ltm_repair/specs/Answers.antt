@@ -4,7 +4,7 @@ use Rattle.ltm_loading.specs.Setting.{Setting}
 use Rattle.ltm_repair.specs.Desk.{Desk, IsSettled, IsAtRest}
 use Rattle.ltm_repair.specs.Moves.{DropsSettled, TakesClaim}
 use Rattle.ltm_repair.specs.State.{RepairState, now}
-use Rattle.ltm_repair.specs.Events.{OnlyDesk, Committed, GaveBack, Accepted, Published, Settled}
+use Rattle.ltm_repair.specs.Events.{OnlyDesk, CommitHappened, GaveBack, Accepted, PublishHappened, Settled}
 
 -- ---- claim: a pair with the number of batches at the claim, its ticket, and its inputs; or that claims are out and their
 -- slot has no other pair to do; or that nothing is left to do
@@ -57,7 +57,7 @@ pub data CommitAnswer : Type 0 where
 -- done exactly where a claim of this pair, ticket and row is kept; else stale, and then nothing changes
 pub record AnswersCommit (old : RepairState) (u t ticket : ℕ) (row : List ℕ) (wakes : ℕ → ℕ → Bool) (answer : CommitAnswer) (new : RepairState) : Type 0 where
   pub exactly : (answer ≡ Done) ↔ IsKept old u t ticket row
-  pub done : answer ≡ Done → Committed old u t row wakes new
+  pub done : answer ≡ Done → CommitHappened old u t row wakes new
   pub stale : (answer ≡ Done → ⊥) → (answer ≡ Stale ticket old.accepted) × (new ≡ old)
 
 -- ---- give back: where the claim is kept its pair is active again; else nothing changes
@@ -78,7 +78,7 @@ pub data PublishAnswer : Type 0 where
 -- all batches are shown exactly where no pair is active or claimed; else the repair is not at rest, and nothing changes
 pub record AnswersPublish (old : RepairState) (answer : PublishAnswer) (new : RepairState) : Type 0 where
   pub exactly : (answer ≡ Shown old.accepted) ↔ IsAtRest (now old) old.desk
-  pub shown : answer ≡ Shown old.accepted → Published old new
+  pub shown : answer ≡ Shown old.accepted → PublishHappened old new
   pub not_at_rest : (answer ≡ Shown old.accepted → ⊥) → (answer ≡ NotAtRest) × (new ≡ old)
 
 -- ---- settle count: the commits exactly where no pair is active or claimed and all batches are shown; else none, and then

@@ -62,7 +62,7 @@ MarksOnlyChanges old new =
     (old.changed g k ≡ true) ⊎ ((e : ℕ) × (e < (now old).destinations) × (new.desk.counts g e k ≢ old.desk.counts g e k))
 
 -- a claimed pair is done, its readers wake, and the count rises by one
-pub record Committed (old : RepairState) (u t : ℕ) (row : List ℕ) (wakes : ℕ → ℕ → Bool) (new : RepairState) : Type 0 where
+pub record CommitHappened (old : RepairState) (u t : ℕ) (row : List ℕ) (wakes : ℕ → ℕ → Bool) (new : RepairState) : Type 0 where
   pub desk : Commits (now old) old.desk u t row wakes new.desk
   pub books : SameBooks old new
   pub commits : new.commits ≡ old.commits + 1
@@ -82,7 +82,7 @@ pub record Accepted (old : RepairState) (touched : ℕ → ℕ → Bool) (new : 
   pub changed : new.changed ≡ old.changed
 
 -- at rest the totals of the working counts are shown, and no cell is changed any more
-pub record Published (old new : RepairState) : Type 0 where
+pub record PublishHappened (old new : RepairState) : Type 0 where
   pub rest : IsAtRest (now old) old.desk
   pub desk : new.desk ≡ old.desk
   pub settings : new.settings ≡ old.settings
@@ -112,8 +112,8 @@ abbrev pub Happens : RepairState → CoreEvent → RepairState → Type 0
 Happens s Look e = Looked s e
 Happens s (Claim u t) e = (row : List ℕ) × Claimed s u t row e
 Happens s (GiveBack u t) e = GaveBack s u t e
-Happens s (Commit u t) e = (row : List ℕ) × (wakes : ℕ → ℕ → Bool) × Committed s u t row wakes e
+Happens s (Commit u t) e = (row : List ℕ) × (wakes : ℕ → ℕ → Bool) × CommitHappened s u t row wakes e
 Happens s Accept e = (touched : ℕ → ℕ → Bool) × Accepted s touched e
-Happens s Publish e = Published s e
+Happens s Publish e = PublishHappened s e
 Happens s (Settle n) e = Settled s n e
 Happens s Stay e = e ≡ s

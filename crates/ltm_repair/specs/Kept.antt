@@ -6,7 +6,7 @@ use Rattle.ltm_loading.specs.LoadingTotals.{AreLoadingTotals}
 use Rattle.ltm_repair.specs.Desk.{IsAtRest}
 use Rattle.ltm_repair.specs.State.{RepairState, now}
 use Rattle.ltm_repair.specs.Repair.{IsRepair, IsOpening}
-use Rattle.ltm_repair.specs.Events.{CoreEvent, Claim, Accepted, Published, Settled, Happens}
+use Rattle.ltm_repair.specs.Events.{CoreEvent, Claim, Accepted, PublishHappened, Settled, Happens}
 use Rattle.ltm_repair.specs.Runs.{CoreRun, commit_in, batch_in}
 
 abbrev pub OpeningIsRepair : Type 0
@@ -31,7 +31,7 @@ ShownIsLoading = (s : RepairState) → IsRepair s → ShowsTheLoading s
 -- after publishing, and after a settle count, what is shown are the totals of the loading of all batches
 abbrev pub PublishingShowsAll : Type 0
 PublishingShowsAll =
-    (s e : RepairState) → IsRepair s → Published s e ⊎ ((n : ℕ) × Settled s n e) → (e.shown_at ≡ e.accepted) × AreLoadingTotals (now e) e.shown
+    (s e : RepairState) → IsRepair s → PublishHappened s e ⊎ ((n : ℕ) × Settled s n e) → (e.shown_at ≡ e.accepted) × AreLoadingTotals (now e) e.shown
 
 -- the shown number never falls, nor does the number of batches, and accepted batches stay as they are
 pub record NothingIsTakenBack (s e : RepairState) : Type 0 where

@@ -7,7 +7,7 @@ use Rattle.ltm_loading.specs.Setting.{Setting}
 use Rattle.ltm_loading.specs.Shaped.{IsShaped}
 use Rattle.ltm_loading.specs.Totals.{entered_link, left_link}
 use Rattle.ltm_flows.specs.declared.loading.Loading.{Loading}
-use Rattle.ltm_flows.specs.declared.in_all.Totals.{Totals}
+use Rattle.ltm_flows.specs.declared.loading_totals.Totals.{Totals}
 use Rattle.ltm_flows.specs.InAll.{AreTotals}
 use Rattle.ltm_flows.specs.Counted.{SumsUp}
 use Rattle.ltm_flows.specs.Shown.{ShowsCounts, version_of}

@@ -9,7 +9,7 @@ use Rattle.ltm_diagram.specs.declared.diagram.DiagramFault.{DiagramFault}
 use Rattle.ltm_diagram.specs.declared.diagram.DiagramFault.TheVariants.{StepTooLong, NoCapacity, CapacityOver}
 use Rattle.ltm_diagram.specs.declared.diagram.Field.TheVariants.{Length, Free, Wave, Jam}
 use Rattle.std.specs.Prelude.{nat_lt, ◌||◌, ◌==◌}
-use Rattle.ltm_diagram.specs.Limits.{limits_of, sized, free_flow_time, wave_time, capacity_of}
+use Rattle.ltm_diagram.specs.Limits.{limits_of, field_in_range, free_flow_time, wave_time, capacity_of}
 use Rattle.ltm_diagram.specs.InRange.{LimitsInRange, AreInRange}
 use Rattle.ltm_scenario.specs.Data.{ScenarioData}
 use Rattle.ltm_scenario.specs.IsScenario.{IsScenario}
@@ -28,7 +28,7 @@ has_free : (d : Diagram) (step : ℕ) → HasFree (free_flow_time d) (limits_of 
 unfolding limits_of
 has_free d step =
     let t : ℕ = free_flow_time d in
-    then_free t (sized Length 1000000 d.length_m) _ (then_free t (sized Free 1000 d.free_kmh) _ (then_free t (sized Wave 1000 d.wave_kmh) _ (then_free t (sized Jam 10000 d.jam_per_km) _
+    then_free t (field_in_range Length 1000000 d.length_m) _ (then_free t (field_in_range Free 1000 d.free_kmh) _ (then_free t (field_in_range Wave 1000 d.wave_kmh) _ (then_free t (field_in_range Jam 10000 d.jam_per_km) _
     (then_free t (refuse (nat_lt (free_flow_time d) step || nat_lt (wave_time d) step) (StepTooLong (free_flow_time d) (wave_time d))) _
     (then_free t (refuse (capacity_of d step == 0) NoCapacity) _ (then_free t (refuse (nat_lt 32000 (capacity_of d step)) CapacityOver) _ refl))))))
 

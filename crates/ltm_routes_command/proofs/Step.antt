@@ -14,7 +14,7 @@ use Rattle.ltm_splits.specs.declared.keys.SplitFault.TheVariants.{BadSlots, Zero
 use Rattle.ltm_splits.specs.Rows.{SplitRow, SplitsData, key_of, is_over, with_row, with_rows, put_in}
 use Rattle.ltm_scenario.specs.Data.{ScenarioData, splits_of}
 use Rattle.ltm_scenario.specs.Reads.{destination_of, destination_node, destination_name}
-use Rattle.ltm_scenario.specs.Build.{with_split, with_destination, added, ◌>>=◌}
+use Rattle.ltm_scenario.specs.Build.{with_split, with_destination, with_destination_at, ◌>>=◌}
 use Rattle.ltm_scenario.specs.Edits.{weight_of, weights_at}
 use Rattle.ltm_scenario.specs.Weights.{NamedWeight, are_weights}
 use Rattle.ltm_records.specs.Fields.{Fields}
@@ -68,7 +68,7 @@ ends_read s row is =
     rw (node, end, differ, slot, leave) refl
 
 destination_stays : (s : ScenarioData) (row : SplitRow) → IsReadable s.network s.destinations s.setup.slots row → with_destination s (destination_node s row.0.destination) ≡ Ok s
-destination_stays s row is = ap (λ o. added s.destinations (destination_node s row.0.destination) o >>= λ destinations. Ok (record s { destinations = destinations })) is.end_placed
+destination_stays s row is = ap (λ o. with_destination_at s.destinations (destination_node s row.0.destination) o >>= λ destinations. Ok (record s { destinations = destinations })) is.end_placed
 
 -- a row that is set has a weight
 some_weight : (d next : SplitsData) (key : SplitKey) (w : List ℕ) → with_row d key w ≡ Ok next → (sum w == 0) ≡ false

@@ -9,7 +9,7 @@ use Rattle.ltm_rows.specs.declared.layout.Layout.{Layout}
 use Rattle.ltm_rows.specs.declared.layout.Part.TheVariants.{Amounts, Weights}
 use Rattle.ltm_rows.specs.declared.rows.KeptRows.{KeptRows}
 use Rattle.ltm_rows.specs.Layouts.{slot_width, nodes_in, LiesAs}
-use Rattle.ltm_rows.specs.Rows.{nodes_of, slots_of, amounts_width, weights_width, amounts_of, weights_of, row_of, has_row, kept_row, HasRows, SamePlaces, SameRows, PutsAmounts, PutsWeights, PutsRow, ForgetsRow}
+use Rattle.ltm_rows.specs.Rows.{nodes_kept, slots_kept, amounts_width, weights_width, amounts_of, weights_of, row_of, has_row, kept_row, HasRows, SamePlaces, SameRows, PutsAmounts, PutsWeights, PutsRow, ForgetsRow}
 use Rattle.ltm_rows.proofs.RowPlaces.{length_in, written, written_here, written_other, resized_rows}
 
 -- ---- a row is put in its place
@@ -19,17 +19,17 @@ same_places k = record { narrow = refl; wide = refl }
 pub is_same_places : (old new : KeptRows) → new ≡ old → SamePlaces old new
 is_same_places old new is = record { narrow = ap (λ (z : KeptRows). z.narrow) is; wide = ap (λ (z : KeptRows). z.wide) is }
 
-pub in_room : (k : KeptRows) (t : ℕ) → t < slots_of k → t < k.room
+pub in_room : (k : KeptRows) (t : ℕ) → t < slots_kept k → t < k.room
 in_room k t l = let within : k.slots ≤ k.room = k.within in omega (arith, l, within)
 
-pub wide_node : (k : KeptRows) (u : ℕ) → u < nodes_of k → u < nodes_in k.wide
+pub wide_node : (k : KeptRows) (u : ℕ) → u < nodes_kept k → u < nodes_in k.wide
 wide_node k u x = omega (arith, x, k.same_nodes)
 
-pub length_row : (k : KeptRows) (u t : ℕ) → u < nodes_of k → t < slots_of k → length (amounts_of k u t) ≡ amounts_width k u
+pub length_row : (k : KeptRows) (u t : ℕ) → u < nodes_kept k → t < slots_kept k → length (amounts_of k u t) ≡ amounts_width k u
 unfolding amounts_of
 length_row k u t x l = length_in k.narrow k.amounts.items k.room u t x (in_room k t l) k.amounts_long
 
-pub puts_amounts : (old new : KeptRows) (u t : ℕ) (row : List ℕ) → u < nodes_of old → t < slots_of old → length row ≡ amounts_width old u → SamePlaces old new → new.slots ≡ old.slots →
+pub puts_amounts : (old new : KeptRows) (u t : ℕ) (row : List ℕ) → u < nodes_kept old → t < slots_kept old → length row ≡ amounts_width old u → SamePlaces old new → new.slots ≡ old.slots →
     new.amounts.items ≡ written old.narrow old.amounts.items u t row → new.weights ≡ old.weights → new.there ≡ old.there → PutsAmounts old new u t row
 unfolding amounts_of
 puts_amounts old new u t row x l same places slots put weights there =
@@ -44,7 +44,7 @@ puts_amounts old new u t row x l same places slots put weights there =
       there = there;
     }
 
-pub puts_weights : (old new : KeptRows) (u t : ℕ) (row : List ℕ) → u < nodes_of old → t < slots_of old → length row ≡ weights_width old u → SamePlaces old new → new.slots ≡ old.slots →
+pub puts_weights : (old new : KeptRows) (u t : ℕ) (row : List ℕ) → u < nodes_kept old → t < slots_kept old → length row ≡ weights_width old u → SamePlaces old new → new.slots ≡ old.slots →
     new.weights.items ≡ written old.wide old.weights.items u t row → new.amounts ≡ old.amounts → new.there ≡ old.there → PutsWeights old new u t row
 unfolding weights_of
 puts_weights old new u t row x l same places slots put amounts there =
@@ -70,11 +70,11 @@ weights_same a b w v places weights = rw (places, weights) refl
 both_same : (a b : KeptRows) (w v : ℕ) → amounts_of b w v ≡ amounts_of a w v → weights_of b w v ≡ weights_of a w v → row_of b w v ≡ row_of a w v
 both_same a b w v amounts weights = rw (amounts, weights) refl
 
-pub puts_row : (a b c d : KeptRows) (u t : ℕ) (xs ys row : List ℕ) → u < nodes_of a → t < slots_of a → PutsAmounts a b u t xs → PutsWeights b c u t ys → row ≡ xs ++ ys → SamePlaces c d → d.slots ≡ c.slots →
+pub puts_row : (a b c d : KeptRows) (u t : ℕ) (xs ys row : List ℕ) → u < nodes_kept a → t < slots_kept a → PutsAmounts a b u t xs → PutsWeights b c u t ys → row ≡ xs ++ ys → SamePlaces c d → d.slots ≡ c.slots →
     d.amounts ≡ c.amounts → d.weights ≡ c.weights → SetsMark c.there d.there u t true → PutsRow a d u t row
 puts_row a b c d u t xs ys row x l first second is places slots amounts weights mark =
-    let in_b : (w : ℕ) → w < nodes_of a → w < nodes_of b = λ w y. rw first.places.narrow y in
-    let slot_b : (v : ℕ) → v < slots_of a → v < slots_of b = λ v m. rw first.slots m in
+    let in_b : (w : ℕ) → w < nodes_kept a → w < nodes_kept b = λ w y. rw first.places.narrow y in
+    let slot_b : (v : ℕ) → v < slots_kept a → v < slots_kept b = λ v m. rw first.slots m in
     let has : c.there ≡ a.there = second.there ∙ first.there in
     let A : (w v : ℕ) → amounts_of d w v ≡ amounts_of b w v = λ w v. amounts_same c d w v places.narrow amounts ∙ amounts_same b c w v second.places.narrow second.amounts in
     let B : (w v : ℕ) → weights_of d w v ≡ weights_of c w v = λ w v. weights_same c d w v places.wide weights in
@@ -95,10 +95,10 @@ put_kept a b u t row puts = ap (λ z. if z then Some (row_of b u t) else None) p
 same_kept : (a b : KeptRows) (w v : ℕ) → has_row b w v ≡ has_row a w v → row_of b w v ≡ row_of a w v → kept_row b w v ≡ kept_row a w v
 same_kept a b w v there row = ap (λ z. if z then Some (row_of b w v) else None) there ∙ ap (λ (z : List ℕ). if has_row a w v then Some z else None) row
 
-pub put_other : (a b : KeptRows) (u t : ℕ) (row : List ℕ) (w v : ℕ) → PutsRow a b u t row → w < nodes_of a → v < slots_of a → (u ≡ w → t ≡ v → ⊥) → kept_row b w v ≡ kept_row a w v
+pub put_other : (a b : KeptRows) (u t : ℕ) (row : List ℕ) (w v : ℕ) → PutsRow a b u t row → w < nodes_kept a → v < slots_kept a → (u ≡ w → t ≡ v → ⊥) → kept_row b w v ≡ kept_row a w v
 put_other a b u t row w v puts x l other = same_kept a b w v (puts.others_there w v x l other) (puts.others w v x l other)
 
-pub stays_kept : (a b : KeptRows) (w v : ℕ) → SameRows a b → w < nodes_of a → v < slots_of a → kept_row b w v ≡ kept_row a w v
+pub stays_kept : (a b : KeptRows) (w v : ℕ) → SameRows a b → w < nodes_kept a → v < slots_kept a → kept_row b w v ≡ kept_row a w v
 stays_kept a b w v same x l = same_kept a b w v (same.there w v) (same.rows w v x l)
 
 pub none_kept : (k : KeptRows) (u t : ℕ) → has_row k u t ≡ false → kept_row k u t ≡ None
@@ -139,11 +139,11 @@ forgets_row old new u t places slots amounts weights mark = record {
       (both_same old new w v (amounts_same old new w v places.narrow amounts) (weights_same old new w v places.wide weights));
 }
 
-pub forgets_past : (k : KeptRows) (u t : ℕ) → slots_of k ≤ t → ForgetsRow k k u t
+pub forgets_past : (k : KeptRows) (u t : ℕ) → slots_kept k ≤ t → ForgetsRow k k u t
 forgets_past k u t past = record { places = same_places k; slots = refl; gone = λ y m. absurd (omega (arith, m, past)); others = λ w v y m other. refl }
 
 -- ---- further slots
-pub same_rows : (a b : KeptRows) → SamePlaces a b → ((w v : ℕ) → w < nodes_of a → v < slots_of a → amounts_of b w v ≡ amounts_of a w v) → ((w v : ℕ) → w < nodes_of a → v < slots_of a → weights_of b w v ≡ weights_of a w v) →
+pub same_rows : (a b : KeptRows) → SamePlaces a b → ((w v : ℕ) → w < nodes_kept a → v < slots_kept a → amounts_of b w v ≡ amounts_of a w v) → ((w v : ℕ) → w < nodes_kept a → v < slots_kept a → weights_of b w v ≡ weights_of a w v) →
     ((p r : ℕ) → is_marked b.there p r ≡ is_marked a.there p r) → SameRows a b
 same_rows a b places amounts weights marks = record { places = places; rows = λ w v x l. both_same a b w v (amounts w v x l) (weights w v x l); there = λ w v. marks w v }
 
@@ -155,11 +155,11 @@ pub weights_kept : (a b : KeptRows) → b.wide ≡ a.wide → b.weights.items �
 unfolding weights_of
 weights_kept a b places items w v = rw (places, items) refl
 
-pub amounts_resized : (a b : KeptRows) (n : ℕ) (more : List ℕ) → b.narrow ≡ a.narrow → a.room * slot_width a.narrow ≤ n → b.amounts.items ≡ take n a.amounts.items ++ more → (w v : ℕ) → w < nodes_of a → v < slots_of a → amounts_of b w v ≡ amounts_of a w v
+pub amounts_resized : (a b : KeptRows) (n : ℕ) (more : List ℕ) → b.narrow ≡ a.narrow → a.room * slot_width a.narrow ≤ n → b.amounts.items ≡ take n a.amounts.items ++ more → (w v : ℕ) → w < nodes_kept a → v < slots_kept a → amounts_of b w v ≡ amounts_of a w v
 unfolding amounts_of
 amounts_resized a b n more places enough items w v x l = rw (places, items) (resized_rows a.narrow a.amounts.items more n a.room w v x (in_room a v l) enough a.amounts_long)
 
-pub weights_resized : (a b : KeptRows) (n : ℕ) (more : List ℕ) → b.wide ≡ a.wide → a.room * slot_width a.wide ≤ n → b.weights.items ≡ take n a.weights.items ++ more → (w v : ℕ) → w < nodes_of a → v < slots_of a → weights_of b w v ≡ weights_of a w v
+pub weights_resized : (a b : KeptRows) (n : ℕ) (more : List ℕ) → b.wide ≡ a.wide → a.room * slot_width a.wide ≤ n → b.weights.items ≡ take n a.weights.items ++ more → (w v : ℕ) → w < nodes_kept a → v < slots_kept a → weights_of b w v ≡ weights_of a w v
 unfolding weights_of
 weights_resized a b n more places enough items w v x l = rw (places, items) (resized_rows a.wide a.weights.items more n a.room w v (wide_node a w x) (in_room a v l) enough a.weights_long)
 

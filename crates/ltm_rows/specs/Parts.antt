@@ -5,8 +5,8 @@ use Rattle.ltm_node.specs.Shape.{counts_begin, supplies_begin}
 use Rattle.ltm_rows.specs.declared.parts.Parts.{Parts}
 
 -- the parts one behind the other
-abbrev pub joined : Parts → List ℕ
-joined p = p.sends.now ++ (p.limits.now ++ p.weights.now)
+abbrev pub row_of_parts : Parts → List ℕ
+row_of_parts p = p.sends.now ++ (p.limits.now ++ p.weights.now)
 
 -- a row of inputs without its counts
 abbrev pub without_counts : NodeShape → List ℕ → List ℕ

@@ -7,12 +7,12 @@ use Rattle.ltm_rows.specs.declared.rows.KeptRows.{KeptRows}
 use Rattle.ltm_rows.specs.Layouts.{nodes_in, width_in, row_in, LiesAs}
 
 -- for how many nodes there are rows
-abbrev pub nodes_of : KeptRows → ℕ
-nodes_of k = nodes_in k.narrow
+abbrev pub nodes_kept : KeptRows → ℕ
+nodes_kept k = nodes_in k.narrow
 
 -- for how many slots there are rows
-abbrev pub slots_of : KeptRows → ℕ
-slots_of k = k.slots
+abbrev pub slots_kept : KeptRows → ℕ
+slots_kept k = k.slots
 
 -- for how many slots there is room
 abbrev pub row_room : KeptRows → ℕ
@@ -50,7 +50,7 @@ kept_row k u t = if has_row k u t then Some (row_of k u t) else None
 pub record HasRows (s : Setting) (slots : ℕ) (k : KeptRows) : Type 0 where
   pub amounts : LiesAs s Amounts k.narrow
   pub weights : LiesAs s Weights k.wide
-  pub same_slots : slots_of k ≡ slots
+  pub same_slots : slots_kept k ≡ slots
 
 -- rows lie where they lay
 pub record SamePlaces (old new : KeptRows) : Type 0 where
@@ -60,7 +60,7 @@ pub record SamePlaces (old new : KeptRows) : Type 0 where
 -- every row stays, and none is put
 pub record SameRows (old new : KeptRows) : Type 0 where
   pub places : SamePlaces old new
-  pub rows : (w v : ℕ) → w < nodes_of old → v < slots_of old → row_of new w v ≡ row_of old w v
+  pub rows : (w v : ℕ) → w < nodes_kept old → v < slots_kept old → row_of new w v ≡ row_of old w v
   pub there : (w v : ℕ) → has_row new w v ≡ has_row old w v
 
 -- the amounts of one pair are written in their place, and nothing else changes
@@ -68,7 +68,7 @@ pub record PutsAmounts (old new : KeptRows) (u t : ℕ) (amounts : List ℕ) : T
   pub places : SamePlaces old new
   pub slots : new.slots ≡ old.slots
   pub here : amounts_of new u t ≡ amounts
-  pub others : (w v : ℕ) → w < nodes_of old → v < slots_of old → (u ≡ w → t ≡ v → ⊥) → amounts_of new w v ≡ amounts_of old w v
+  pub others : (w v : ℕ) → w < nodes_kept old → v < slots_kept old → (u ≡ w → t ≡ v → ⊥) → amounts_of new w v ≡ amounts_of old w v
   pub weights : new.weights ≡ old.weights
   pub there : new.there ≡ old.there
 
@@ -77,7 +77,7 @@ pub record PutsWeights (old new : KeptRows) (u t : ℕ) (weights : List ℕ) : T
   pub places : SamePlaces old new
   pub slots : new.slots ≡ old.slots
   pub here : weights_of new u t ≡ weights
-  pub others : (w v : ℕ) → w < nodes_of old → v < slots_of old → (u ≡ w → t ≡ v → ⊥) → weights_of new w v ≡ weights_of old w v
+  pub others : (w v : ℕ) → w < nodes_kept old → v < slots_kept old → (u ≡ w → t ≡ v → ⊥) → weights_of new w v ≡ weights_of old w v
   pub amounts : new.amounts ≡ old.amounts
   pub there : new.there ≡ old.there
 
@@ -87,12 +87,12 @@ pub record PutsRow (old new : KeptRows) (u t : ℕ) (row : List ℕ) : Type 0 wh
   pub slots : new.slots ≡ old.slots
   pub here : row_of new u t ≡ row
   pub there : has_row new u t ≡ true
-  pub others : (w v : ℕ) → w < nodes_of old → v < slots_of old → (u ≡ w → t ≡ v → ⊥) → row_of new w v ≡ row_of old w v
-  pub others_there : (w v : ℕ) → w < nodes_of old → v < slots_of old → (u ≡ w → t ≡ v → ⊥) → has_row new w v ≡ has_row old w v
+  pub others : (w v : ℕ) → w < nodes_kept old → v < slots_kept old → (u ≡ w → t ≡ v → ⊥) → row_of new w v ≡ row_of old w v
+  pub others_there : (w v : ℕ) → w < nodes_kept old → v < slots_kept old → (u ≡ w → t ≡ v → ⊥) → has_row new w v ≡ has_row old w v
 
 -- the row of one pair is there no more, if there is such a pair, and no other changes
 pub record ForgetsRow (old new : KeptRows) (u t : ℕ) : Type 0 where
   pub places : SamePlaces old new
   pub slots : new.slots ≡ old.slots
-  pub gone : u < nodes_of old → t < slots_of old → kept_row new u t ≡ None
-  pub others : (w v : ℕ) → w < nodes_of old → v < slots_of old → (u ≡ w → t ≡ v → ⊥) → kept_row new w v ≡ kept_row old w v
+  pub gone : u < nodes_kept old → t < slots_kept old → kept_row new u t ≡ None
+  pub others : (w v : ℕ) → w < nodes_kept old → v < slots_kept old → (u ≡ w → t ≡ v → ⊥) → kept_row new w v ≡ kept_row old w v

@@ -3,7 +3,7 @@ ghost use Rattle.std.specs.Prelude.{◌≡◌, ◌+◌, length};
 ghost use Rattle.ltm_node.specs.Solvable.{IsSolvable};
 ghost use Rattle.ltm_rows.specs.declared.layout.Part.TheVariants.{Amounts, Weights};
 ghost use Rattle.ltm_rows.specs.Starts.{part_width};
-ghost use Rattle.ltm_rows.specs.Parts.{joined, without_counts, AreNarrow};
+ghost use Rattle.ltm_rows.specs.Parts.{row_of_parts, without_counts, AreNarrow};
 
 use ltm_node::NodeInputs;
 
@@ -18,7 +18,7 @@ pub struct Parts<'a> {
 /// What of a pair's inputs is kept.
 #[inline]
 pub fn parts_of(inputs: &NodeInputs) -> Parts<'_>
-    ensures row { joined result ≡ without_counts inputs.now.shape inputs.now.row }
+    ensures row { row_of_parts result ≡ without_counts inputs.now.shape inputs.now.row }
     ensures amounts { length result.sends.now + length result.limits.now
         ≡ part_width Amounts inputs.now.shape }
     ensures weights { length result.weights.now ≡ part_width Weights inputs.now.shape }

@@ -57,8 +57,8 @@ fn wide_zeros(alloc: Global, slots: usize, width: usize) -> Result<Vec<u32>, NoM
 
 impl KeptRows {
     ghost use Rattle.ltm_rows.specs.Rows.{
-      nodes_of,
-      slots_of,
+      nodes_kept,
+      slots_kept,
       row_room,
       amounts_width,
       weights_width,
@@ -73,7 +73,7 @@ impl KeptRows {
       PutsAmounts,
       PutsWeights,
     };
-    ghost use Rattle.ltm_rows.specs.Parts.{joined, AreNarrow};
+    ghost use Rattle.ltm_rows.specs.Parts.{row_of_parts, AreNarrow};
 
     /// Room for so many slots; no row is there.
     pub fn create(alloc: Global, scenario: &Scenario, slots: usize) -> Result<KeptRows, NoMemory>
@@ -103,8 +103,8 @@ impl KeptRows {
     #[inline]
     #[tactic(auto, unfolding(crate::specs::Rows::amounts_of, crate::specs::Layouts::row_in), using(crate::proofs::RowPlaces::length_part))]
     fn amounts(&self, node: usize, slot: usize) -> &[u16]
-        requires node { node < nodes_of self.now }
-        requires slot { slot < slots_of self.now }
+        requires node { node < nodes_kept self.now }
+        requires slot { slot < slots_kept self.now }
         ensures row { result.now ≡ amounts_of self.now node slot }
         ensures width { length result.now ≡ amounts_width self.now node }
     {
@@ -116,8 +116,8 @@ impl KeptRows {
     #[inline]
     #[tactic(auto, unfolding(crate::specs::Rows::weights_of, crate::specs::Layouts::row_in), using(crate::proofs::RowPlaces::length_part))]
     fn weights(&self, node: usize, slot: usize) -> &[u32]
-        requires node { node < nodes_of self.now }
-        requires slot { slot < slots_of self.now }
+        requires node { node < nodes_kept self.now }
+        requires slot { slot < slots_kept self.now }
         ensures row { result.now ≡ weights_of self.now node slot }
         ensures width { length result.now ≡ weights_width self.now node }
     {
@@ -128,8 +128,8 @@ impl KeptRows {
     /// Whether a row of a pair is there.
     #[inline]
     pub fn has(&self, node: usize, slot: usize) -> bool
-        requires node { node < nodes_of self.now }
-        requires slot { slot < slots_of self.now }
+        requires node { node < nodes_kept self.now }
+        requires slot { slot < slots_kept self.now }
         ensures { result ≡ has_row self.now node slot }
     {
         self.there.is_marked(node, slot)
@@ -138,11 +138,11 @@ impl KeptRows {
     /// Whether this row of a pair is there. That it is another one is told at the first number that differs, from what the
     /// arms send on.
     pub fn keeps(&self, node: usize, slot: usize, parts: Parts<'_>) -> bool
-        requires node { node < nodes_of self.now }
-        requires slot { slot < slots_of self.now }
+        requires node { node < nodes_kept self.now }
+        requires slot { slot < slots_kept self.now }
         requires amounts { length parts.sends.now + length parts.limits.now
             ≡ amounts_width self.now node }
-        ensures { IsTrue result ↔ kept_row self.now node slot ≡ Some (joined parts.entry) }
+        ensures { IsTrue result ↔ kept_row self.now node slot ≡ Some (row_of_parts parts.entry) }
     {
         if !self.has(node, slot) {
             return false;
@@ -156,8 +156,8 @@ impl KeptRows {
     /// Writes the amounts of a pair.
     #[inline]
     fn put_amounts(&mut self, node: usize, slot: usize, sends: &[u64], limits: &[u64])
-        requires node { node < nodes_of self.old }
-        requires slot { slot < slots_of self.old }
+        requires node { node < nodes_kept self.old }
+        requires slot { slot < slots_kept self.old }
         requires width { length sends.now + length limits.now ≡ amounts_width self.old node }
         requires sends { (i : ℕ) → i < length sends.now → slice_index sends.now i < 2 ^ 16 }
         requires limits { (i : ℕ) → i < length limits.now → slice_index limits.now i < 2 ^ 16 }
@@ -170,8 +170,8 @@ impl KeptRows {
     /// Writes the weights of a pair.
     #[inline]
     fn put_weights(&mut self, node: usize, slot: usize, weights: &[u64])
-        requires node { node < nodes_of self.old }
-        requires slot { slot < slots_of self.old }
+        requires node { node < nodes_kept self.old }
+        requires slot { slot < slots_kept self.old }
         requires width { length weights.now ≡ weights_width self.old node }
         requires small { (i : ℕ) → i < length weights.now → slice_index weights.now i < 2 ^ 32 }
         ensures { PutsWeights self.old self.new node slot weights.now }
@@ -183,13 +183,13 @@ impl KeptRows {
     /// Puts a row in the place of a pair's, and changes no other.
     #[inline(always)]
     pub fn put(&mut self, node: usize, slot: usize, parts: Parts<'_>)
-        requires node { node < nodes_of self.old }
-        requires slot { slot < slots_of self.old }
+        requires node { node < nodes_kept self.old }
+        requires slot { slot < slots_kept self.old }
         requires amounts { length parts.sends.now + length parts.limits.now
             ≡ amounts_width self.old node }
         requires weights { length parts.weights.now ≡ weights_width self.old node }
         requires narrow { AreNarrow parts }
-        ensures { PutsRow self.old self.new node slot (joined parts.entry) }
+        ensures { PutsRow self.old self.new node slot (row_of_parts parts.entry) }
     {
         self.put_amounts(node, slot, parts.sends, parts.limits);
         self.put_weights(node, slot, parts.weights);
@@ -199,8 +199,8 @@ impl KeptRows {
     /// The row of a pair is there no more, and no other changes.
     #[inline]
     pub fn forget(&mut self, node: usize, slot: usize)
-        requires node { node < nodes_of self.old }
-        requires slot { slot < slots_of self.old }
+        requires node { node < nodes_kept self.old }
+        requires slot { slot < slots_kept self.old }
         ensures { ForgetsRow self.old self.new node slot }
     {
         self.there.unmark(node, slot);
@@ -210,7 +210,7 @@ impl KeptRows {
     pub fn reserve(&mut self, slots: usize) -> Result<(), NoMemory>
         requires { slots ≤ most_slots }
         ensures same { SameRows self.old self.new }
-        ensures slots { slots_of self.new ≡ slots_of self.old }
+        ensures slots { slots_kept self.new ≡ slots_kept self.old }
         ensures room { OnOk result (slots ≤ row_room self.new) }
     {
         if slots <= self.room {
@@ -234,11 +234,11 @@ impl KeptRows {
 
     /// Raises the number of slots within the room. No row of a new slot is there.
     pub fn lengthen(&mut self, slots: usize)
-        requires slots { slots_of self.old ≤ slots }
+        requires slots { slots_kept self.old ≤ slots }
         requires room { slots ≤ row_room self.old }
         ensures same { SameRows self.old self.new }
-        ensures slots { slots_of self.new ≡ slots }
-        ensures none { (u t : ℕ) → u < nodes_of self.old → slots_of self.old ≤ t
+        ensures slots { slots_kept self.new ≡ slots }
+        ensures none { (u t : ℕ) → u < nodes_kept self.old → slots_kept self.old ≤ t
             → has_row self.new u t ≡ false }
     {
         self.there.lengthen(slots);

@@ -8,7 +8,7 @@ use Rattle.std.specs.List.{position_from}
 use Rattle.ltm_scenario.specs.declared.faults.DestinationFault.TheVariants.{TooMany}
 use Rattle.ltm_scenario.specs.Data.{ScenarioData}
 use Rattle.ltm_scenario.specs.Reads.{destination_of}
-use Rattle.ltm_scenario.specs.Build.{added}
+use Rattle.ltm_scenario.specs.Build.{with_destination_at}
 use Rattle.ltm_scenario.specs.IsScenario.{IsScenario}
 
 -- one more element is looked at last
@@ -88,9 +88,9 @@ pushed_is_scenario s node is there none few =
           };
     }
 
-pub added_is_scenario : (s : ScenarioData) (node : ℕ) (next : List ℕ) → IsScenario s → node < length s.network.nodes → added s.destinations node (destination_of s.destinations node) ≡ Ok next → IsScenario (record s { destinations = next })
+pub added_is_scenario : (s : ScenarioData) (node : ℕ) (next : List ℕ) → IsScenario s → node < length s.network.nodes → with_destination_at s.destinations node (destination_of s.destinations node) ≡ Ok next → IsScenario (record s { destinations = next })
 added_is_scenario s node next is there done =
-    elim (destination_of s.destinations node) as (λ r. destination_of s.destinations node ≡ r → added s.destinations node r ≡ Ok next → IsScenario (record s { destinations = next })) [
+    elim (destination_of s.destinations node) as (λ r. destination_of s.destinations node ≡ r → with_destination_at s.destinations node r ≡ Ok next → IsScenario (record s { destinations = next })) [
       | Some place ↦ λ _ e. let same : s.destinations ≡ next = cc in subst (λ ds. IsScenario (record s { destinations = ds })) same is
       | None ↦ λ none e.
           elim (nat_le 64 (length s.destinations)) as (λ b. nat_le 64 (length s.destinations) ≡ b → cond b (Err TooMany) (Ok (s.destinations ++ node ∷ [])) ≡ Ok next → IsScenario (record s { destinations = next })) [

@@ -1,9 +1,9 @@
 -- The tables of a scenario once one of them changes.
 use Rattle.std.proofs.Common.{◌≡◌, ℕ, ◌<◌, List, [], ◌∷◌, ◌++◌, Ok, Err, Result, IsOk, refl, sym, ap, subst, ◌∙◌}
-use Rattle.ltm_limits.specs.Limits.{LimitsState, with_link as with_limits_of_link}
+use Rattle.ltm_limits.specs.Limits.{LimitsState, with_limits_of_link}
 use Rattle.ltm_diagram.specs.declared.diagram.Diagram.{Diagram}
 use Rattle.ltm_diagram.specs.Limits.{limits_of}
-use Rattle.ltm_network.specs.Network.{NetworkData, linked as linked_network, checked}
+use Rattle.ltm_network.specs.Network.{NetworkData, network_linked as linked_network, checked}
 use Rattle.ltm_network.specs.Names.{number_of}
 use Rattle.ltm_network.specs.IsNetwork.{NetworksStay}
 use Rattle.ltm_demand.specs.declared.row.DemandRow.{DemandRow}
@@ -16,7 +16,7 @@ use Rattle.ltm_splits.specs.Rows.{SplitsData, HaveWeights}
 use Rattle.ltm_scenario.specs.declared.parts.Parts.{Parts}
 use Rattle.ltm_scenario.specs.Data.{demand_of, splits_of}
 use Rattle.ltm_scenario.specs.Reads.{destination_of}
-use Rattle.ltm_scenario.specs.Build.{added, linked, HasNoSplitAt}
+use Rattle.ltm_scenario.specs.Build.{with_destination_at, with_link_on, HasNoSplitAt}
 use Rattle.ltm_scenario.specs.Diagrams.{DiagramsState}
 use Rattle.ltm_scenario.specs.IsScenario.{IsScenario, IsDemandOf, IsSplitOf}
 use Rattle.ltm_scenario.specs.Parts.{scenario_in, AreParts}
@@ -68,7 +68,7 @@ with_split_row t next key weights are is done have =
 pub with_same_splits : (t : Parts) (next : SplitsData) → AreParts t → next ≡ t.splits → AreParts (record t { splits = next })
 with_same_splits t next are same = subst (λ (s : SplitsData). AreParts (record t { splits = s })) (sym same) are
 
-pub with_added : (t : Parts) (node : ℕ) (next : List ℕ) → AreParts t → node < Rattle.std.proofs.Common.length t.network.nodes → added t.destinations node (destination_of t.destinations node) ≡ Ok next → AreParts (record t { destinations = next })
+pub with_added : (t : Parts) (node : ℕ) (next : List ℕ) → AreParts t → node < Rattle.std.proofs.Common.length t.network.nodes → with_destination_at t.destinations node (destination_of t.destinations node) ≡ Ok next → AreParts (record t { destinations = next })
 with_added t node next are there done = record {
   scenario = added_is_scenario (scenario_in t) node next are.scenario there done;
   step = are.step;
@@ -85,9 +85,9 @@ with_same_destinations t next are same = subst (λ (ds : List ℕ). AreParts (re
 pub with_linked : (t : Parts) (name tail head : List ℕ) (diagram : Diagram) (network : NetworkData) (diagrams : DiagramsState) (entry exit : LimitsState) → NetworksStay → AreParts t → checked t.network name tail head ≡ Ok tt → HasNoSplitAt (scenario_in t) (number_of t.network.nodes tail) → IsOk (limits_of diagram t.setup.step.0) →
     network ≡ linked_network t.network name tail head → diagrams.step ≡ t.diagrams.step → diagrams.diagrams ≡ t.diagrams.diagrams ++ diagram ∷ [] →
     entry.limits ≡ with_limits_of_link t.entry.limits t.entry.slots → entry.slots ≡ t.entry.slots → exit.limits ≡ with_limits_of_link t.exit.limits t.exit.slots → exit.slots ≡ t.exit.slots →
-    (scenario_in (record t { network = network; diagrams = diagrams; entry = entry; exit = exit }) ≡ linked (scenario_in t) (linked_network t.network name tail head) diagram) × AreParts (record t { network = network; diagrams = diagrams; entry = entry; exit = exit })
+    (scenario_in (record t { network = network; diagrams = diagrams; entry = entry; exit = exit }) ≡ with_link_on (scenario_in t) (linked_network t.network name tail head) diagram) × AreParts (record t { network = network; diagrams = diagrams; entry = entry; exit = exit })
 with_linked t name tail head diagram network diagrams entry exit stay are taken free sets network_is step_is diagrams_are entry_is entry_slots exit_is exit_slots =
-    let same : scenario_in (record t { network = network; diagrams = diagrams; entry = entry; exit = exit }) ≡ linked (scenario_in t) (linked_network t.network name tail head) diagram =
+    let same : scenario_in (record t { network = network; diagrams = diagrams; entry = entry; exit = exit }) ≡ with_link_on (scenario_in t) (linked_network t.network name tail head) diagram =
     λ i. record (scenario_in t) {
       network = network_is i;
       diagrams = diagrams_are i;

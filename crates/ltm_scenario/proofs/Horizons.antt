@@ -1,6 +1,6 @@
 -- A longer horizon, and the way back.
 use Rattle.std.proofs.Common.{◌≡◌, ℕ, ◌<◌, ◌≤◌, List, refl, sym, ap, subst, ◌∙◌, arith}
-use Rattle.ltm_limits.specs.Limits.{LimitsState, lengthened, shortened}
+use Rattle.ltm_limits.specs.Limits.{LimitsState, limits_over, limits_within}
 use Rattle.ltm_limits.proofs.Stays.{limits_whole}
 use Rattle.ltm_demand.specs.declared.row.DemandRow.{DemandRow}
 use Rattle.ltm_demand.specs.Rows.{DemandData, DemandState, IsDemandRow, IsNoLess, room_at}
@@ -58,7 +58,7 @@ parts_over t slots demand splits entry exit = record t { setup = setup_over t.se
 
 pub stretched_are_parts : (t : Parts) (slots : ℕ) (demand : DemandState) (rows : SplitsData) (entry exit : LimitsState) → AreParts t → t.setup.slots < slots → slots ≤ 10000 →
     demand ≡ demand_over t.demand slots → rows ≡ splits.with_slots t.splits slots →
-    entry.limits ≡ lengthened t.entry.limits slots → entry.slots ≡ slots → exit.limits ≡ lengthened t.exit.limits slots → exit.slots ≡ slots →
+    entry.limits ≡ limits_over t.entry.limits slots → entry.slots ≡ slots → exit.limits ≡ limits_over t.exit.limits slots → exit.slots ≡ slots →
     (scenario_in (parts_over t slots demand rows entry exit) ≡ with_slots (scenario_in t) slots) × AreParts (parts_over t slots demand rows entry exit)
 stretched_are_parts t slots demand rows entry exit are longer most demand_is rows_are entry_is entry_slots exit_is exit_slots =
     let same : scenario_in (parts_over t slots demand rows entry exit) ≡ with_slots (scenario_in t) slots =
@@ -76,18 +76,18 @@ stretched_are_parts t slots demand rows entry exit are longer most demand_is row
 
 pub stretch_undoes : (t : Parts) (slots : ℕ) (demand : DemandState) (rows : SplitsData) (entry exit : LimitsState) → AreParts t → t.setup.slots < slots →
     demand ≡ demand_over t.demand slots → rows ≡ splits.with_slots t.splits slots →
-    shortened entry.limits t.entry.slots ≡ t.entry.limits → shortened exit.limits t.exit.slots ≡ t.exit.limits →
+    limits_within entry.limits t.entry.slots ≡ t.entry.limits → limits_within exit.limits t.exit.slots ≡ t.exit.limits →
     Undoes (state_in t) (state_in (parts_over t slots demand rows entry exit)) (Horizon t.setup.slots)
 stretch_undoes t slots demand rows entry exit are longer demand_is rows_are entry_back exit_back =
-    let entry_was : shortened entry.limits t.setup.slots ≡ t.entry.limits = ap (shortened entry.limits) (sym are.entry_slots) ∙ entry_back in
-    let exit_was : shortened exit.limits t.setup.slots ≡ t.exit.limits = ap (shortened exit.limits) (sym are.exit_slots) ∙ exit_back in
+    let entry_was : limits_within entry.limits t.setup.slots ≡ t.entry.limits = ap (limits_within entry.limits) (sym are.entry_slots) ∙ entry_back in
+    let exit_was : limits_within exit.limits t.setup.slots ≡ t.exit.limits = ap (limits_within exit.limits) (sym are.exit_slots) ∙ exit_back in
     undoes_by (state_in t) (state_in (parts_over t slots demand rows entry exit)) (Horizon t.setup.slots) are.scenario
     (λ i. record (scenario_in t) { demand = ap (λ (d : DemandState). d.demand.rows) demand_is i; splits = ap (λ (d : SplitsData). d.rows) rows_are i; entry = entry_was i; exit = exit_was i })
     (omega (arith, longer))
 
 pub shortened_are_parts : (t : Parts) (slots : ℕ) (demand : DemandState) (rows : SplitsData) (entry exit : LimitsState) → AreParts t → IsScenario (with_fewer_slots (scenario_in t) slots) →
     demand ≡ demand_over t.demand slots → rows ≡ splits.with_slots t.splits slots →
-    entry.limits ≡ shortened t.entry.limits slots → entry.slots ≡ slots → exit.limits ≡ shortened t.exit.limits slots → exit.slots ≡ slots →
+    entry.limits ≡ limits_within t.entry.limits slots → entry.slots ≡ slots → exit.limits ≡ limits_within t.exit.limits slots → exit.slots ≡ slots →
     (scenario_in (parts_over t slots demand rows entry exit) ≡ with_fewer_slots (scenario_in t) slots) × AreParts (parts_over t slots demand rows entry exit)
 shortened_are_parts t slots demand rows entry exit are is demand_is rows_are entry_is entry_slots exit_is exit_slots =
     let same : scenario_in (parts_over t slots demand rows entry exit) ≡ with_fewer_slots (scenario_in t) slots =

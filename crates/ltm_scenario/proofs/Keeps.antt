@@ -8,7 +8,7 @@ use Rattle.std.specs.Ordering.{match_ordering}
 use Rattle.std.specs.BTreeMap.{insert_entry}
 use Rattle.ltm_network.specs.Network.{head_of, out_links}
 use Rattle.ltm_demand.specs.declared.row.DemandRow.{DemandRow}
-use Rattle.ltm_demand.specs.Rows.{edited as edited_rows}
+use Rattle.ltm_demand.specs.Rows.{edited_rows}
 use Rattle.ltm_splits.specs.declared.keys.SplitKey.{SplitKey}
 use Rattle.ltm_splits.specs.Rows.{SplitRow, split_cmp, is_of, put_in}
 use Rattle.ltm_scenario.specs.declared.setup.Setup.{Setup}

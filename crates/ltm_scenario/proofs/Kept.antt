@@ -12,7 +12,7 @@ use Rattle.ltm_limits.proofs.Stays.{limits_whole}
 use Rattle.ltm_demand.specs.declared.row.DemandRow.{DemandRow}
 use Rattle.ltm_demand.specs.declared.row.DemandFault.TheVariants.{BadSlots, TooManyRows}
 use Rattle.ltm_demand.specs.Rows as demand
-use Rattle.ltm_demand.specs.Rows.{DemandData, row_cmp, before, behind, shown, edited, has_slots}
+use Rattle.ltm_demand.specs.Rows.{DemandData, row_cmp, before, behind, row_if_any, edited_rows, has_slots}
 use Rattle.ltm_demand.specs.Kept.{AreDemandRows}
 use Rattle.ltm_splits.specs.declared.keys.SplitKey.{SplitKey}
 use Rattle.ltm_splits.specs.declared.keys.SplitFault.TheVariants.{BadSlots as SplitSlots, ZeroWeight, TooManyRows as SplitRows}
@@ -22,21 +22,21 @@ use Rattle.ltm_scenario.specs.Data.{ScenarioData, demand_of, splits_of}
 use Rattle.ltm_scenario.specs.IsScenario.{IsScenario, IsDemandOf, IsSplitOf}
 
 -- a row that is set stands among rows that stood before
-pub All-edited : (P : DemandRow → Type 0) (rows : List DemandRow) (row : DemandRow) → All P rows → P row → All P (edited rows row)
-unfolding edited before behind
+pub All-edited : (P : DemandRow → Type 0) (rows : List DemandRow) (row : DemandRow) → All P rows → P row → All P (edited_rows rows row)
+unfolding edited_rows before behind
 All-edited P rows row all here =
-    All-append P (before rows row) (shown row ++ behind rows row) (All-filter (λ r. is_lt (row_cmp r row)) P rows all)
-    (All-append P (shown row) (behind rows row)
+    All-append P (before rows row) (row_if_any row ++ behind rows row) (All-filter (λ r. is_lt (row_cmp r row)) P rows all)
+    (All-append P (row_if_any row) (behind rows row)
     (elim (row.amount.0 == 0) as (λ b. All P (cond b [] (row ∷ []))) [ true ↦ All-nil P | false ↦ All-cons P row [] here (All-nil P) ])
     (All-filter (λ r. is_gt (row_cmp r row)) P rows all))
 
 -- the data once a row is set
-pub with_row_rows : (d next : DemandData) (row : DemandRow) → demand.with_row d row ≡ Ok next → next ≡ record { slots = d.slots; rows = edited d.rows row }
+pub with_row_rows : (d next : DemandData) (row : DemandRow) → demand.with_row d row ≡ Ok next → next ≡ record { slots = d.slots; rows = edited_rows d.rows row }
 unfolding demand.with_row
 with_row_rows d next row is =
-    elim (not (has_slots d.slots row)) as (λ b. cond b (Err BadSlots) (cond (nat_lt 10000 (length (edited d.rows row))) (Err TooManyRows) (Ok (record { slots = d.slots; rows = edited d.rows row }))) ≡ Ok next → next ≡ record { slots = d.slots; rows = edited d.rows row }) [
+    elim (not (has_slots d.slots row)) as (λ b. cond b (Err BadSlots) (cond (nat_lt 10000 (length (edited_rows d.rows row))) (Err TooManyRows) (Ok (record { slots = d.slots; rows = edited_rows d.rows row }))) ≡ Ok next → next ≡ record { slots = d.slots; rows = edited_rows d.rows row }) [
       | true ↦ λ e. cc
-      | false ↦ λ e. elim (nat_lt 10000 (length (edited d.rows row))) as (λ b. cond b (Err TooManyRows) (Ok (record { slots = d.slots; rows = edited d.rows row })) ≡ Ok next → next ≡ record { slots = d.slots; rows = edited d.rows row }) [
+      | false ↦ λ e. elim (nat_lt 10000 (length (edited_rows d.rows row))) as (λ b. cond b (Err TooManyRows) (Ok (record { slots = d.slots; rows = edited_rows d.rows row })) ≡ Ok next → next ≡ record { slots = d.slots; rows = edited_rows d.rows row }) [
         | true ↦ λ e. cc
         | false ↦ λ e. cc
       ] e
@@ -61,8 +61,8 @@ with_demand_rows s rows is all kept = record {
 
 pub demand_is_scenario : (s : ScenarioData) (row : DemandRow) (next : DemandData) → IsScenario s → IsDemandOf s row → demand.with_row (demand_of s) row ≡ Ok next → AreDemandRows next.slots next.rows → IsScenario (record s { demand = next.rows })
 demand_is_scenario s row next is here done kept =
-    let rows : next ≡ record { slots = s.setup.slots; rows = edited s.demand row } = with_row_rows (demand_of s) next row done in
-    subst (λ (rs : List DemandRow). IsScenario (record s { demand = rs })) (sym (ap (λ (d : DemandData). d.rows) rows)) (with_demand_rows s (edited s.demand row) is (All-edited (IsDemandOf s) s.demand row is.demand here) (subst (λ (d : DemandData). AreDemandRows d.slots d.rows) rows kept))
+    let rows : next ≡ record { slots = s.setup.slots; rows = edited_rows s.demand row } = with_row_rows (demand_of s) next row done in
+    subst (λ (rs : List DemandRow). IsScenario (record s { demand = rs })) (sym (ap (λ (d : DemandData). d.rows) rows)) (with_demand_rows s (edited_rows s.demand row) is (All-edited (IsDemandOf s) s.demand row is.demand here) (subst (λ (d : DemandData). AreDemandRows d.slots d.rows) rows kept))
 
 -- ---- splits
 both_equal : (a b : Ordering) → ordering_then a b ≡ Equal → (a ≡ Equal) × (b ≡ Equal)

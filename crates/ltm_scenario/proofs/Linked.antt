@@ -5,7 +5,7 @@ use Rattle.std.proofs.lemmas.List.Elements.{All-push}
 use Rattle.ltm_units.specs.declared.places.LinkId.{LinkId}
 use Rattle.ltm_units.specs.Results.{◌>>>◌}
 use Rattle.ltm_units.proofs.Results.{both_ok, not_refused}
-use Rattle.ltm_limits.specs.Limits.{AreWhole, with_link as with_limits_of_link}
+use Rattle.ltm_limits.specs.Limits.{AreWhole, with_limits_of_link}
 use Rattle.ltm_limits.proofs.Stays.{limits_whole}
 use Rattle.ltm_diagram.specs.declared.diagram.Diagram.{Diagram}
 use Rattle.ltm_diagram.specs.declared.diagram.Limits.{Limits}
@@ -13,7 +13,7 @@ use Rattle.ltm_diagram.specs.declared.diagram.DiagramFault.{DiagramFault}
 use Rattle.ltm_diagram.specs.Limits.{limits_of}
 use Rattle.ltm_network.specs.declared.network.NetworkFault.{NetworkFault}
 use Rattle.ltm_network.specs.declared.network.NetworkFault.TheVariants.{TooManyLinks}
-use Rattle.ltm_network.specs.Names.{place_of, named, number_of}
+use Rattle.ltm_network.specs.Names.{place_of, with_name, number_of}
 use Rattle.ltm_network.specs.Numbers.{numbers_of}
 use Rattle.ltm_network.specs.Network as network
 use Rattle.ltm_network.specs.Network.{NetworkData, Link, out_links, leaves, checked}
@@ -22,37 +22,37 @@ use Rattle.ltm_demand.specs.declared.row.DemandRow.{DemandRow}
 use Rattle.ltm_splits.specs.Rows.{SplitRow}
 use Rattle.ltm_scenario.specs.declared.faults.LinkFault.TheVariants.{Network, Diagram as BadDiagram}
 use Rattle.ltm_scenario.specs.Data.{ScenarioData}
-use Rattle.ltm_scenario.specs.Build.{with_link, linked, of_network, of_diagram, ◌>>=◌, HasNoSplitAt}
+use Rattle.ltm_scenario.specs.Build.{with_link, with_link_on, of_network, of_diagram, ◌>>=◌, HasNoSplitAt}
 use Rattle.ltm_scenario.specs.IsScenario.{IsScenario, IsDemandOf, IsSplitOf}
 
 -- what the network makes of a link that it takes
-pub network_linked : (d : NetworkData) (name tail head : List ℕ) → checked d name tail head ≡ Ok tt → network.with_link d name tail head ≡ Ok (network.linked d name tail head)
+pub network_linked : (d : NetworkData) (name tail head : List ℕ) → checked d name tail head ≡ Ok tt → network.with_link d name tail head ≡ Ok (network.network_linked d name tail head)
 unfolding network.with_link
-network_linked d name tail head is = ap (λ r. r >>> Ok (network.linked d name tail head)) is
+network_linked d name tail head is = ap (λ r. r >>> Ok (network.network_linked d name tail head)) is
 
 network_refused : (d : NetworkData) (name tail head : List ℕ) (fault : NetworkFault) → checked d name tail head ≡ Err fault → network.with_link d name tail head ≡ Err fault
 unfolding network.with_link
-network_refused d name tail head fault is = ap (λ r. r >>> Ok (network.linked d name tail head)) is
+network_refused d name tail head fault is = ap (λ r. r >>> Ok (network.network_linked d name tail head)) is
 
 pub refused_by_network : (s : ScenarioData) (name tail head : List ℕ) (diagram : Diagram) (fault : NetworkFault) → checked s.network name tail head ≡ Err fault → with_link s name tail head diagram ≡ Err (Network fault)
 unfolding with_link
 refused_by_network s name tail head diagram fault is =
-    ap (λ r. of_network r >>= λ next. of_diagram (limits_of diagram s.setup.step.0) >>= λ _. Ok (linked s next diagram)) (network_refused s.network name tail head fault is)
+    ap (λ r. of_network r >>= λ next. of_diagram (limits_of diagram s.setup.step.0) >>= λ _. Ok (with_link_on s next diagram)) (network_refused s.network name tail head fault is)
 
 pub refused_by_diagram : (s : ScenarioData) (name tail head : List ℕ) (diagram : Diagram) (fault : DiagramFault) → checked s.network name tail head ≡ Ok tt → limits_of diagram s.setup.step.0 ≡ Err fault → with_link s name tail head diagram ≡ Err (BadDiagram fault)
 unfolding with_link
 refused_by_diagram s name tail head diagram fault taken is =
-    ap (λ r. of_network r >>= λ next. of_diagram (limits_of diagram s.setup.step.0) >>= λ _. Ok (linked s next diagram)) (network_linked s.network name tail head taken)
-    ∙ ap (λ r. of_diagram r >>= λ _. Ok (linked s (network.linked s.network name tail head) diagram)) is
+    ap (λ r. of_network r >>= λ next. of_diagram (limits_of diagram s.setup.step.0) >>= λ _. Ok (with_link_on s next diagram)) (network_linked s.network name tail head taken)
+    ∙ ap (λ r. of_diagram r >>= λ _. Ok (with_link_on s (network.network_linked s.network name tail head) diagram)) is
 
-pub is_linked : (s : ScenarioData) (name tail head : List ℕ) (diagram : Diagram) (limits : Limits) → checked s.network name tail head ≡ Ok tt → limits_of diagram s.setup.step.0 ≡ Ok limits → with_link s name tail head diagram ≡ Ok (linked s (network.linked s.network name tail head) diagram)
+pub is_linked : (s : ScenarioData) (name tail head : List ℕ) (diagram : Diagram) (limits : Limits) → checked s.network name tail head ≡ Ok tt → limits_of diagram s.setup.step.0 ≡ Ok limits → with_link s name tail head diagram ≡ Ok (with_link_on s (network.network_linked s.network name tail head) diagram)
 unfolding with_link
 is_linked s name tail head diagram limits taken is =
-    ap (λ r. of_network r >>= λ next. of_diagram (limits_of diagram s.setup.step.0) >>= λ _. Ok (linked s next diagram)) (network_linked s.network name tail head taken)
-    ∙ ap (λ r. of_diagram r >>= λ _. Ok (linked s (network.linked s.network name tail head) diagram)) is
+    ap (λ r. of_network r >>= λ next. of_diagram (limits_of diagram s.setup.step.0) >>= λ _. Ok (with_link_on s next diagram)) (network_linked s.network name tail head taken)
+    ∙ ap (λ r. of_diagram r >>= λ _. Ok (with_link_on s (network.network_linked s.network name tail head) diagram)) is
 
 -- ---- nodes and out-links grow
-named_longer : (names : List (List ℕ)) (name : List ℕ) → length names ≤ length (named names name)
+named_longer : (names : List (List ℕ)) (name : List ℕ) → length names ≤ length (with_name names name)
 named_longer names name =
     elim (is_some (place_of names name)) as (λ b. length names ≤ length (if b then names else names ++ name ∷ [])) [
       | true ↦ omega arith
@@ -69,36 +69,36 @@ numbers_of-push test first (y ∷ ys) x =
     ]
 
 -- as many as before, and one more where the new link starts at the node
-out_links_grow : (d : NetworkData) (name tail head : List ℕ) (node : ℕ) → length (out_links (network.linked d name tail head) node) ≡ length (out_links d node) + (if number_of d.nodes tail == node then 1 else 0)
+out_links_grow : (d : NetworkData) (name tail head : List ℕ) (node : ℕ) → length (out_links (network.network_linked d name tail head) node) ≡ length (out_links d node) + (if number_of d.nodes tail == node then 1 else 0)
 out_links_grow d name tail head node = numbers_of-push (leaves node) 0 d.links _
 
-demand_stays : (s : ScenarioData) (name tail head : List ℕ) (diagram : Diagram) (row : DemandRow) → IsDemandOf s row → IsDemandOf (linked s (network.linked s.network name tail head) diagram) row
+demand_stays : (s : ScenarioData) (name tail head : List ℕ) (diagram : Diagram) (row : DemandRow) → IsDemandOf s row → IsDemandOf (with_link_on s (network.network_linked s.network name tail head) diagram) row
 demand_stays s name tail head diagram row is =
     let outs = length (out_links s.network row.origin.0) in
     let some : (outs == 0) ≡ false = is.origin_has_out_link in
-    let more : length (out_links (network.linked s.network name tail head) row.origin.0) ≡ outs + (if number_of s.network.nodes tail == row.origin.0 then 1 else 0) = out_links_grow s.network name tail head row.origin.0 in
-    let some_still : (length (out_links (network.linked s.network name tail head) row.origin.0) == 0) ≡ false = grind (arith, nat_tests) in
+    let more : length (out_links (network.network_linked s.network name tail head) row.origin.0) ≡ outs + (if number_of s.network.nodes tail == row.origin.0 then 1 else 0) = out_links_grow s.network name tail head row.origin.0 in
+    let some_still : (length (out_links (network.network_linked s.network name tail head) row.origin.0) == 0) ≡ false = grind (arith, nat_tests) in
     record {
-      origin_is_node = omega (arith, is.origin_is_node, named_longer s.network.nodes tail, named_longer (named s.network.nodes tail) head);
+      origin_is_node = omega (arith, is.origin_is_node, named_longer s.network.nodes tail, named_longer (with_name s.network.nodes tail) head);
       origin_has_out_link = some_still;
       destination_is_one = is.destination_is_one;
       ends_differ = is.ends_differ;
     }
 
-split_stays : (s : ScenarioData) (name tail head : List ℕ) (diagram : Diagram) (row : SplitRow) → (number_of s.network.nodes tail == row.0.node.0) ≡ false → IsSplitOf s row → IsSplitOf (linked s (network.linked s.network name tail head) diagram) row
+split_stays : (s : ScenarioData) (name tail head : List ℕ) (diagram : Diagram) (row : SplitRow) → (number_of s.network.nodes tail == row.0.node.0) ≡ false → IsSplitOf s row → IsSplitOf (with_link_on s (network.network_linked s.network name tail head) diagram) row
 split_stays s name tail head diagram row apart is =
-    let same : length (out_links (network.linked s.network name tail head) row.0.node.0) ≡ length (out_links s.network row.0.node.0) =
+    let same : length (out_links (network.network_linked s.network name tail head) row.0.node.0) ≡ length (out_links s.network row.0.node.0) =
     out_links_grow s.network name tail head row.0.node.0 ∙ ap (λ b. length (out_links s.network row.0.node.0) + (if b then 1 else 0)) apart ∙ omega arith in
     record {
-      node_is_node = omega (arith, is.node_is_node, named_longer s.network.nodes tail, named_longer (named s.network.nodes tail) head);
+      node_is_node = omega (arith, is.node_is_node, named_longer s.network.nodes tail, named_longer (with_name s.network.nodes tail) head);
       destination_is_one = is.destination_is_one;
       ends_differ = is.ends_differ;
       weight_for_each = is.weight_for_each ∙ sym same;
     }
 
-pub linked_is_scenario : (s : ScenarioData) (name tail head : List ℕ) (diagram : Diagram) → NetworksStay → IsScenario s → checked s.network name tail head ≡ Ok tt → HasNoSplitAt s (number_of s.network.nodes tail) → IsOk (limits_of diagram s.setup.step.0) → IsScenario (linked s (network.linked s.network name tail head) diagram)
+pub linked_is_scenario : (s : ScenarioData) (name tail head : List ℕ) (diagram : Diagram) → NetworksStay → IsScenario s → checked s.network name tail head ≡ Ok tt → HasNoSplitAt s (number_of s.network.nodes tail) → IsOk (limits_of diagram s.setup.step.0) → IsScenario (with_link_on s (network.network_linked s.network name tail head) diagram)
 linked_is_scenario s name tail head diagram stay is taken free sets =
-    let next : NetworkData = network.linked s.network name tail head in
+    let next : NetworkData = network.network_linked s.network name tail head in
     record {
       setup = is.setup;
       network = stay.more s.network next name tail head is.network (network_linked s.network name tail head taken);
@@ -107,7 +107,7 @@ linked_is_scenario s name tail head diagram stay is taken free sets =
       entry = subst (λ n. AreWhole (with_limits_of_link s.entry s.setup.slots) n s.setup.slots) (sym (length-append s.network.links _)) (limits_whole.more s.entry (length s.network.links) s.setup.slots is.entry);
       exit = subst (λ n. AreWhole (with_limits_of_link s.exit s.setup.slots) n s.setup.slots) (sym (length-append s.network.links _)) (limits_whole.more s.exit (length s.network.links) s.setup.slots is.exit);
       few_destinations = is.few_destinations;
-      destinations_are_nodes = λ k d below. omega (arith, is.destinations_are_nodes k d below, named_longer s.network.nodes tail, named_longer (named s.network.nodes tail) head);
+      destinations_are_nodes = λ k d below. omega (arith, is.destinations_are_nodes k d below, named_longer s.network.nodes tail, named_longer (with_name s.network.nodes tail) head);
       destinations_apart = is.destinations_apart;
       demand = λ k d below. demand_stays s name tail head diagram _ (is.demand k d below);
       demand_rows = is.demand_rows;
@@ -125,9 +125,9 @@ room_for_link d name tail head is =
     let few : nat_le 4000 (length d.links) ≡ false = not_refused _ TooManyLinks (both_ok _ _ tt (both_ok _ _ tt (both_ok _ _ tt is).1).1).0 in
     few_links (length d.links) few
 
-pub is_network_linked : (d next : NetworkData) (name tail head : List ℕ) → checked d name tail head ≡ Ok tt → network.with_link d name tail head ≡ Ok next → next ≡ network.linked d name tail head
+pub is_network_linked : (d next : NetworkData) (name tail head : List ℕ) → checked d name tail head ≡ Ok tt → network.with_link d name tail head ≡ Ok next → next ≡ network.network_linked d name tail head
 is_network_linked d next name tail head taken is =
-    let both : ◌≡◌ {A = Result NetworkData NetworkFault} (Ok next) (Ok (network.linked d name tail head)) = sym is ∙ network_linked d name tail head taken in
+    let both : ◌≡◌ {A = Result NetworkData NetworkFault} (Ok next) (Ok (network.network_linked d name tail head)) = sym is ∙ network_linked d name tail head taken in
     cc
 
 -- a function of the numbers of links

@@ -9,7 +9,7 @@ use Rattle.ltm_diagram.specs.Limits.{limits_of}
 use Rattle.ltm_network.specs.Network.{find_node, find_link}
 use Rattle.ltm_demand.specs.declared.row.DemandRow.{DemandRow}
 use Rattle.ltm_demand.specs.Rows as demand_rows
-use Rattle.ltm_demand.specs.Rows.{DemandData, edited as edited_rows}
+use Rattle.ltm_demand.specs.Rows.{DemandData, edited_rows}
 use Rattle.ltm_splits.specs.declared.keys.SplitKey.{SplitKey}
 use Rattle.ltm_splits.specs.Rows as splits
 use Rattle.ltm_splits.specs.Rows.{SplitRow, SplitsData, put_in, key_of}
@@ -21,7 +21,7 @@ use Rattle.ltm_scenario.specs.Weights.{NamedWeight}
 use Rattle.ltm_scenario.specs.Data.{ScenarioData, demand_of, splits_of}
 use Rattle.ltm_scenario.specs.Reads.{destination_of, has_no_out_link, has_split}
 use Rattle.ltm_scenario.specs.Build.{with_demand, with_split, with_limit_at, are_slots, ◌>>=◌}
-use Rattle.ltm_scenario.specs.Edits.{caused, cause_of_demand, cause_of_split, cause_of_horizon, demand_row, limited_link, split_key, split_row, weights_at, is_open, is_out_link, diagram_edited, with_diagram}
+use Rattle.ltm_scenario.specs.Edits.{or_edit_cause, cause_of_demand, cause_of_split, cause_of_horizon, demand_row, limited_link, split_key, split_row, weights_at, is_open, is_out_link, diagram_edited, with_diagram}
 use Rattle.ltm_scenario.specs.declared.faults.HorizonFault.{HorizonFault}
 use Rattle.ltm_scenario.specs.declared.faults.HorizonFault.TheVariants.{BadSlots as HorizonSlots, CellsOver}
 use Rattle.ltm_scenario.specs.Cells.{cells_with, most_cells}
@@ -35,7 +35,7 @@ pub bound : {A B F : Type 0} (r : Result A F) (next : A → Result B F) (y : B) 
 bound (Ok x) next y is = (x, refl, is)
 bound (Err fault) next y is = cc
 
-uncaused : {A F : Type 0} (cause : F → EditCause) (r : Result A F) (x : A) → caused cause r ≡ Ok x → r ≡ Ok x
+uncaused : {A F : Type 0} (cause : F → EditCause) (r : Result A F) (x : A) → or_edit_cause cause r ≡ Ok x → r ≡ Ok x
 uncaused cause (Ok y) x is = cc
 uncaused cause (Err fault) x is = cc
 
@@ -147,7 +147,7 @@ horizon_said s next slots is =
 pub makes : EditsMake
 unfolding diagram_edited
 makes s next (Demand origin destination from to amount) is =
-    let r = bound (demand_row s origin destination from to amount.0) (λ row. caused cause_of_demand (with_demand s row)) next is in
+    let r = bound (demand_row s origin destination from to amount.0) (λ row. or_edit_cause cause_of_demand (with_demand s row)) next is in
     let same : next ≡ record s { demand = edited_rows s.demand r.0 } = with_demand_is s next r.0 (uncaused cause_of_demand (with_demand s r.0) next r.2) in
     subst (λ (z : ScenarioData). Makes s z (Demand origin destination from to amount)) (sym same) (demand origin destination from to amount r.0 (row_said s origin destination from to amount.0 r.0 r.1))
 makes s next (Limit name from to amount) is =
@@ -155,16 +155,16 @@ makes s next (Limit name from to amount) is =
     let same : with_limit_at s AtEntry l.0 from to amount.0 ≡ next = cc (l.2) in
     subst (λ (z : ScenarioData). Makes s z (Limit name from to amount)) same (entry name from to amount l.0 (link_said s name from to l.0 l.1))
 makes s next (Split node destination from weights) is =
-    let k = bound (split_key s node destination from weights) (λ key. split_row s key (weights_at s key.node.0 weights) >>= λ row. caused cause_of_split (with_split s row.0 row.1)) next is in
+    let k = bound (split_key s node destination from weights) (λ key. split_row s key (weights_at s key.node.0 weights) >>= λ row. or_edit_cause cause_of_split (with_split s row.0 row.1)) next is in
     let ws : List ℕ = weights_at s (k.0).node.0 weights in
-    let r = bound (split_row s k.0 ws) (λ row. caused cause_of_split (with_split s row.0 row.1)) next k.2 in
+    let r = bound (split_row s k.0 ws) (λ row. or_edit_cause cause_of_split (with_split s row.0 row.1)) next k.2 in
     let closed = row_is_closed s k.0 ws r.0 r.1 in
     let done : with_split s k.0 ws ≡ Ok next = ap (λ (row : SplitRow). with_split s row.0 row.1) (sym closed.0) ∙ uncaused cause_of_split (with_split s (r.0).0 (r.0).1) next r.2 in
     let same : next ≡ record s { splits = put_in s.splits k.0 ws } = with_split_is s next k.0 ws done in
     subst (λ (z : ScenarioData). Makes s z (Split node destination from weights)) (sym same) (split node destination from weights k.0 (key_said s node destination from weights k.0 k.1 closed.1))
 makes s next (NewDiagram name new) is =
-    let l = bound (found (find_link s.network name) UnknownName) (λ link. caused BadDiagram (limits_of new s.setup.step.0) >>= λ _. Ok (with_diagram s link new)) next is in
-    let d = bound (caused BadDiagram (limits_of new s.setup.step.0)) (λ _. Ok (with_diagram s l.0 new)) next l.2 in
+    let l = bound (found (find_link s.network name) UnknownName) (λ link. or_edit_cause BadDiagram (limits_of new s.setup.step.0) >>= λ _. Ok (with_diagram s link new)) next is in
+    let d = bound (or_edit_cause BadDiagram (limits_of new s.setup.step.0)) (λ _. Ok (with_diagram s l.0 new)) next l.2 in
     let same : with_diagram s l.0 new ≡ next = cc (d.2) in
     subst (λ (z : ScenarioData). Makes s z (NewDiagram name new)) same
     (diagram name new l.0 (was_found (find_link s.network name) UnknownName l.0 l.1) (ap is_ok (uncaused BadDiagram (limits_of new s.setup.step.0) d.0 d.1)))

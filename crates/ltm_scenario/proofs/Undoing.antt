@@ -11,7 +11,7 @@ use Rattle.ltm_diagram.specs.declared.diagram.Limits.{Limits}
 use Rattle.ltm_diagram.specs.Limits.{limits_of}
 use Rattle.ltm_demand.specs.declared.row.DemandRow.{DemandRow}
 use Rattle.ltm_demand.specs.Rows as demand
-use Rattle.ltm_demand.specs.Rows.{DemandData, DemandState, CanRestore, edited as edited_rows}
+use Rattle.ltm_demand.specs.Rows.{DemandData, DemandState, CanRestore, edited_rows}
 use Rattle.ltm_splits.specs.declared.keys.SplitKey.{SplitKey}
 use Rattle.ltm_splits.specs.Rows as splits
 use Rattle.ltm_splits.specs.Rows.{SplitRow, SplitsData, put_back, row_of}

@@ -1,6 +1,6 @@
 -- What the calls that build a scenario make of it.
 use Rattle.std.specs.Prelude.{◌≡◌, ℕ, ◌==◌, ◌&&◌, false, All, Bool, nat_le, nat_lt, if◌then◌else◌, min, List, [], ◌∷◌, ◌++◌, length, Option, Some, None, Result, Ok, Err}
-use Rattle.ltm_limits.specs.Limits.{with_link as with_limits_of_link, with_limit}
+use Rattle.ltm_limits.specs.Limits.{with_limits_of_link, with_limit}
 use Rattle.ltm_network.specs.Network as network
 use Rattle.ltm_network.specs.Network.{NetworkData}
 use Rattle.ltm_network.specs.declared.network.NetworkFault.{NetworkFault}
@@ -40,8 +40,8 @@ of_diagram (Ok x) = Ok x
 of_diagram (Err fault) = Err (BadDiagram fault)
 
 -- the scenario on that network, with its last link's diagram, and limits that were never set
-abbrev pub linked : ScenarioData → NetworkData → Diagram → ScenarioData
-linked s network diagram = record s {
+abbrev pub with_link_on : ScenarioData → NetworkData → Diagram → ScenarioData
+with_link_on s network diagram = record s {
   network = network;
   diagrams = s.diagrams ++ diagram ∷ [];
   entry = with_limits_of_link s.entry s.setup.slots;
@@ -53,18 +53,18 @@ unfoldable pub with_link : ScenarioData → List ℕ → List ℕ → List ℕ �
 with_link s name tail head diagram =
     of_network (network.with_link s.network name tail head) >>= λ next.
     of_diagram (limits_of diagram s.setup.step.0) >>= λ _.
-    Ok (linked s next diagram)
+    Ok (with_link_on s next diagram)
 
 abbrev pub most_destinations : ℕ
 most_destinations = 64
 
 -- the destinations once a node is one
-abbrev pub added : List ℕ → ℕ → Option ℕ → Result (List ℕ) DestinationFault
-added destinations node (Some place) = Ok destinations
-added destinations node None = if nat_le most_destinations (length destinations) then Err TooMany else Ok (destinations ++ node ∷ [])
+abbrev pub with_destination_at : List ℕ → ℕ → Option ℕ → Result (List ℕ) DestinationFault
+with_destination_at destinations node (Some place) = Ok destinations
+with_destination_at destinations node None = if nat_le most_destinations (length destinations) then Err TooMany else Ok (destinations ++ node ∷ [])
 
 abbrev pub with_destination : ScenarioData → ℕ → Result ScenarioData DestinationFault
-with_destination s node = added s.destinations node (destination_of s.destinations node) >>= λ destinations. Ok (record s { destinations = destinations })
+with_destination s node = with_destination_at s.destinations node (destination_of s.destinations node) >>= λ destinations. Ok (record s { destinations = destinations })
 
 abbrev pub with_demand : ScenarioData → DemandRow → Result ScenarioData DemandFault
 with_demand s row = demand.with_row (demand_of s) row >>= λ next. Ok (record s { demand = next.rows })

@@ -48,9 +48,9 @@ cause_of_horizon (HorizonCells cells) = CellsOver cells
 cause_of_horizon HorizonMemory = NoMemory
 
 -- a refusal of a part, as the edit's cause
-abbrev pub caused : {A F : Type 0} → (F → EditCause) → Result A F → Result A EditCause
-caused cause (Ok x) = Ok x
-caused cause (Err fault) = Err (cause fault)
+abbrev pub or_edit_cause : {A F : Type 0} → (F → EditCause) → Result A F → Result A EditCause
+or_edit_cause cause (Ok x) = Ok x
+or_edit_cause cause (Err fault) = Err (cause fault)
 
 -- ---- demand
 -- the row that an edit sets
@@ -67,7 +67,7 @@ demand_row s origin destination from to amount =
 
 abbrev pub demand_edited : ScenarioData → List ℕ → List ℕ → ℕ → ℕ → ℕ → Result ScenarioData EditCause
 demand_edited s origin destination from to amount =
-    demand_row s origin destination from to amount >>= λ row. caused cause_of_demand (with_demand s row)
+    demand_row s origin destination from to amount >>= λ row. or_edit_cause cause_of_demand (with_demand s row)
 
 -- ---- entry and exit limits
 -- the link whose limits an edit sets
@@ -121,7 +121,7 @@ abbrev pub split_edited : ScenarioData → List ℕ → List ℕ → ℕ → Lis
 split_edited s node destination from weights =
     split_key s node destination from weights >>= λ key.
     split_row s key (weights_at s key.node.0 weights) >>= λ row.
-    caused cause_of_split (with_split s row.0 row.1)
+    or_edit_cause cause_of_split (with_split s row.0 row.1)
 
 -- ---- diagrams
 abbrev pub with_diagram : ScenarioData → ℕ → Diagram → ScenarioData
@@ -130,12 +130,12 @@ with_diagram s link diagram = record s { diagrams = slice_set s.diagrams link di
 unfoldable pub diagram_edited : ScenarioData → List ℕ → Diagram → Result ScenarioData EditCause
 diagram_edited s name diagram =
     found (find_link s.network name) UnknownName >>= λ link.
-    caused BadDiagram (limits_of diagram s.setup.step.0) >>= λ _.
+    or_edit_cause BadDiagram (limits_of diagram s.setup.step.0) >>= λ _.
     Ok (with_diagram s link diagram)
 
 -- ---- the horizon
 abbrev pub horizon_edited : ScenarioData → ℕ → Result ScenarioData EditCause
-horizon_edited s slots = caused cause_of_horizon (with_horizon s slots)
+horizon_edited s slots = or_edit_cause cause_of_horizon (with_horizon s slots)
 
 -- ---- one edit, and a batch
 abbrev pub edited : ScenarioData → Edit → Result ScenarioData EditCause

@@ -1,6 +1,6 @@
 -- A longer horizon, and the way back.
 use Rattle.std.specs.Prelude.{ℕ, ◌≤◌, ◌&&◌, Bool, nat_le, nat_lt, Result, Ok, Err, if◌then◌else◌}
-use Rattle.ltm_limits.specs.Limits.{lengthened, shortened}
+use Rattle.ltm_limits.specs.Limits.{limits_over, limits_within}
 use Rattle.ltm_scenario.specs.declared.setup.Setup.{Setup}
 use Rattle.ltm_scenario.specs.declared.faults.HorizonFault.{HorizonFault}
 use Rattle.ltm_scenario.specs.declared.faults.HorizonFault.TheVariants.{BadSlots, CellsOver}
@@ -14,11 +14,11 @@ setup_over setup slots = record setup { slots = slots }
 
 -- the scenario over a longer horizon: entry and exit limits of the new slots were never set, and all rows stay
 abbrev pub with_slots : ScenarioData → ℕ → ScenarioData
-with_slots s slots = record s { setup = setup_over s.setup slots; entry = lengthened s.entry slots; exit = lengthened s.exit slots }
+with_slots s slots = record s { setup = setup_over s.setup slots; entry = limits_over s.entry slots; exit = limits_over s.exit slots }
 
 -- the scenario over a shorter horizon
 abbrev pub with_fewer_slots : ScenarioData → ℕ → ScenarioData
-with_fewer_slots s slots = record s { setup = setup_over s.setup slots; entry = shortened s.entry slots; exit = shortened s.exit slots }
+with_fewer_slots s slots = record s { setup = setup_over s.setup slots; entry = limits_within s.entry slots; exit = limits_within s.exit slots }
 
 -- the horizon is longer than it was, and at most 10,000
 abbrev pub is_longer : ScenarioData → ℕ → Bool

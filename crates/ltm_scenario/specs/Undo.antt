@@ -2,7 +2,7 @@
 use Rattle.std.specs.Prelude.{◌≡◌, ◌+◌, ◌*◌, ◌<◌, ◌≤◌, length, slice_set, vec_len, IsSome, Ok}
 use Rattle.ltm_limits.specs.Limits.{with_values}
 use Rattle.ltm_diagram.specs.Limits.{limits_of}
-use Rattle.ltm_demand.specs.Rows.{CanRestore, edited as edited_rows}
+use Rattle.ltm_demand.specs.Rows.{CanRestore, edited_rows}
 use Rattle.ltm_splits.specs.Rows.{taken_out, put_in, row_of}
 use Rattle.ltm_splits.specs.Weights.{AreWeights}
 use Rattle.ltm_scenario.specs.declared.parts.undo.Undo.{Undo}

@@ -1,7 +1,7 @@
 //! The destinations of a case, in order, and which of them a node is.
 ghost use Rattle.std.specs.Prelude.{◌≡◌, ◌≢◌, ℕ, ◌<◌, ◌≤◌, List, [], ◌∷◌, ◌++◌, length, map, Some, None, IfOk, IfErr, OnOk, OnErr, Ok, Err, IfSome, slice_index, slice_index_or, vec_len};
 ghost use Rattle.ltm_scenario.specs.Reads.{destination_of};
-ghost use Rattle.ltm_scenario.specs.Build.{added};
+ghost use Rattle.ltm_scenario.specs.Build.{with_destination_at};
 
 use crate::faults::DestinationFault;
 use ltm_units::{NoMemory, NodeId};
@@ -87,12 +87,12 @@ impl Destinations {
 
     /// The place of the node, which becomes the last destination where it was none.
     pub fn add(&mut self, node: NodeId) -> Result<u32, DestinationFault>
-        ensures ok { OnOk result (added self.old node.0 (destination_of self.old node.0)
+        ensures ok { OnOk result (with_destination_at self.old node.0 (destination_of self.old node.0)
             ≡ Ok self.new) }
         ensures place { IfOk result (λ place. destination_of self.new node.0 ≡ Some place) }
         ensures err { OnErr result (self.new ≡ self.old) }
         ensures cause { IfErr result (λ e. e ≢ DestinationFault.NoMemory
-            → added self.old node.0 (destination_of self.old node.0) ≡ Err e) }
+            → with_destination_at self.old node.0 (destination_of self.old node.0) ≡ Err e) }
     {
         match self.place(node) {
             Some(place) => return Ok(place),

@@ -20,9 +20,9 @@ use Rattle.ltm_session_editors.specs.Files.{docs_of}
 use Rattle.ltm_session_editors.specs.Scripts.{scripts_of}
 use Rattle.ltm_session_editors.specs.Faults.{IfMissing}
 use Rattle.ltm_session_editors.specs.Faults as of_edits
-use Rattle.ltm_session_editors.specs.declared.refusal.Refusal.TheVariants as refusal
+use Rattle.ltm_session_editors.specs.declared.refusal.EditorsRefusal.TheVariants as refusal
 use Rattle.ltm_session_editors.specs.Editing.{IsEditingText}
-use Rattle.ltm_session_editors.specs.Answers.{AnswersEditing, IsTold, IsMissing, Missed}
+use Rattle.ltm_session_editors.specs.Answers.{AnswersEditing, IsTold, IsUngiven, Missed}
 
 -- ---- a fault of the case
 case_answer : (told : Option Files) (editors : ℕ) (f : CaseFault) → IfSome told (λ files. case_of files ≡ Err f) → AnswersEditing told editors (Err (refusal.Case f))
@@ -69,13 +69,13 @@ not_given told before now file.Signals asked rose = (doc.Signals, refl, asked, r
 not_given told before now file.Limits asked rose = (doc.Limits, refl, asked, rose)
 not_given told before now file.Whole asked rose = absurd rose
 
-pub case_missed : (told : Option Files) (editors : ℕ) (before now : Doc → ℕ) (f : CaseFault) → HasRisen before now f → IfSome told (λ files. WasAsked (asks_for files) f) → IsMissing (refusal.Case f) → Missed told editors before now
+pub case_missed : (told : Option Files) (editors : ℕ) (before now : Doc → ℕ) (f : CaseFault) → HasRisen before now f → IfSome told (λ files. WasAsked (asks_for files) f) → IsUngiven (refusal.Case f) → Missed told editors before now
 case_missed told editors before now (fault.Folder f) risen asked miss = let h = not_given told before now f asked risen in (h.0, inl (h.1, h.2), h.3)
 case_missed told editors before now (fault.TooLong f) risen asked miss = absurd miss
 case_missed told editors before now (fault.Bad f row cause) risen asked miss = absurd miss
 case_missed told editors before now fault.NoMemory risen asked miss = absurd miss
 
-pub edits_missed : (told : Option Files) (editors : ℕ) (before mid now : Doc → ℕ) (e : EditsFault) → ((d : Doc) → before d ≤ mid d) → IfMissing ((d : Doc) × Contains (docs_of editors) d × Rose (mid d) (now d)) e → IsMissing (refusal.Edits e)
+pub edits_missed : (told : Option Files) (editors : ℕ) (before mid now : Doc → ℕ) (e : EditsFault) → ((d : Doc) → before d ≤ mid d) → IfMissing ((d : Doc) × Contains (docs_of editors) d × Rose (mid d) (now d)) e → IsUngiven (refusal.Edits e)
     → Missed told editors before now
 edits_missed told editors before mid now (edits.Missing editor) later (d, is, rose) miss = (d, inr is, (let first = later d in omega (arith, first, rose)))
 edits_missed told editors before mid now (edits.TooLong editor) later missed miss = absurd miss

@@ -4,11 +4,11 @@ ghost use Rattle.std.specs.List.{Contains};
 ghost use Rattle.ltm_io.specs.declared.doc.Doc.{Doc};
 ghost use Rattle.ltm_casefile.specs.Case.{is_case_file, asks_for};
 ghost use Rattle.ltm_session_editors.specs.Files.{docs_of};
-ghost use Rattle.ltm_session_editors.specs.Answers.{AnswersEditing, IsTold, IsMissing, Missed};
+ghost use Rattle.ltm_session_editors.specs.Answers.{AnswersEditing, IsTold, IsUngiven, Missed};
 
 use crate::editing::edit_scenario;
 use crate::edits::read_edits;
-use crate::refusal::Refusal;
+use crate::refusal::EditorsRefusal;
 use ltm_casefile::{CaseFault, read_case};
 use ltm_io::Folder;
 use std::alloc::Global;
@@ -25,7 +25,7 @@ pub fn editing_text<R: Threads + Wait + Sync, F: Folder>(
     alloc: Global,
     editors: u32,
     folder: &mut F,
-) -> Result<Vec<u8>, Refusal>
+) -> Result<Vec<u8>, EditorsRefusal>
     requires { editors ≤ 8 }
     ensures text { IfOk result (λ text. AnswersEditing (F.told folder.old) editors
         (Ok text.items)) }
@@ -33,7 +33,7 @@ pub fn editing_text<R: Threads + Wait + Sync, F: Folder>(
         → AnswersEditing (F.told folder.old) editors (Err e)) }
 
     // A file is not given only where its count of faults rose in this call, and it is one of the case or of the edits.
-    ensures missed { IfErr result (λ e. IsMissing e
+    ensures missed { IfErr result (λ e. IsUngiven e
         → Missed (F.told folder.old) editors (F.faults folder.old) (F.faults folder.new)) }
 
     ensures keeps { F.told folder.new ≡ F.told folder.old }
@@ -46,14 +46,14 @@ pub fn editing_text<R: Threads + Wait + Sync, F: Folder>(
 {
     let scenario = match read_case(alloc, folder) {
         Ok(scenario) => scenario,
-        Err(fault) => return Err(Refusal::Case(fault)),
+        Err(fault) => return Err(EditorsRefusal::Case(fault)),
     };
     let scripts = match read_edits(alloc, editors, folder) {
         Ok(scripts) => scripts,
-        Err(fault) => return Err(Refusal::Edits(fault)),
+        Err(fault) => return Err(EditorsRefusal::Edits(fault)),
     };
     match edit_scenario(rt, alloc, scenario, scripts) {
         Ok(text) => Ok(text),
-        Err(_) => Err(Refusal::Case(CaseFault::NoMemory)),
+        Err(_) => Err(EditorsRefusal::Case(CaseFault::NoMemory)),
     }
 }

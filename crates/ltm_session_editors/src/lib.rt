@@ -29,4 +29,4 @@ mod text;
 pub use answer::editing_text;
 pub use fault::{EditsFault, LineCause};
 pub use lines::{bad_script_text, long_edits_text};
-pub use refusal::Refusal;
+pub use refusal::EditorsRefusal;

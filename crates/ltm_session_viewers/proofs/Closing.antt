@@ -12,11 +12,11 @@ use Rattle.ltm_session.specs.Answers.{AnswersAlone}
 use Rattle.ltm_session.specs.Session.{IsSession, Wrote, EndsBefore, end_of}
 use Rattle.ltm_session.proofs.Progress.{whole_front, appended_more, front_more, no_fault_read, never_begun_at}
 use Rattle.ltm_session.proofs.Ending.{one_end}
-use Rattle.ltm_session_viewers.specs.View.{IsView, Closes}
+use Rattle.ltm_session_viewers.specs.View.{IsView, ClosesView}
 use Rattle.ltm_session_viewers.specs.Serving.{IsScripted, TellsLast, Views}
 
 -- ---- a session that did not end well: nothing is told
-told_nothing : (viewers : ℕ) (t : Analysts) (end : SessionEnd) → (end ≡ Ended → ⊥) → Closes viewers t end end []
+told_nothing : (viewers : ℕ) (t : Analysts) (end : SessionEnd) → (end ≡ Ended → ⊥) → ClosesView viewers t end end []
 told_nothing viewers t Ended other = absurd (other refl)
 told_nothing viewers t ReadFault other = (refl, refl)
 told_nothing viewers t WriteFault other = (refl, refl)
@@ -96,7 +96,7 @@ pub view_ends : (viewers : ℕ) (s : Analysts) (script output : List ℕ) (left 
     → (end ≡ ReadFault → ⊥) → (end ≡ WriteFault → ⊥) → (end ≡ NoMemory → ⊥) → end ≡ end_of script
 view_ends viewers s script output left end t so a b c = go so.session_end so.session so.closes
   where
-    go : (e : SessionEnd) → IsSession AnswersAlone s (Some script) left e so.answers t → Closes viewers t e end so.lines → end ≡ end_of script
+    go : (e : SessionEnd) → IsSession AnswersAlone s (Some script) left e so.answers t → ClosesView viewers t e end so.lines → end ≡ end_of script
     go Ended session (tell, inl is) = is ∙ sym (one_end AnswersAlone s script so.answers left Ended t session (λ x. cc) (λ x. cc) (λ x. cc))
     go Ended session (tell, inr (inl is)) = absurd (b is)
     go Ended session (tell, inr (inr is)) = absurd (c is)

@@ -14,7 +14,7 @@ use Rattle.ltm_core.specs.Cores.{CoreData, IsShownOf}
 use Rattle.ltm_core.specs.Runs.{HoldsOfCore}
 use Rattle.ltm_core.proofs.Logs.{length_batches, first_scenario}
 use Rattle.ltm_session.specs.Analysts.{state_of}
-use Rattle.ltm_board.specs.Lists.{PostData, list_of, opening_posts, entries_of_batches, joined, LeadsTo, IsLoadingOf}
+use Rattle.ltm_board.specs.Lists.{PostData, list_of, opening_posts, entries_of_batches, entries_of_posts, LeadsTo, IsLoadingOf}
 use Rattle.ltm_board.specs.Leads.{ListsLead}
 use Rattle.ltm_board.specs.Boards.{BoardData, board_list}
 use Rattle.ltm_session_viewers.specs.declared.boards.Boards.{Boards}
@@ -76,28 +76,28 @@ first_leads k log holds = record {
 }
 
 -- ---- posts one behind another
-joined_both : {E : Type 0} (a b : List (List E)) → joined (a ++ b) ≡ joined a ++ joined b
+joined_both : {E : Type 0} (a b : List (List E)) → entries_of_posts (a ++ b) ≡ entries_of_posts a ++ entries_of_posts b
 joined_both [] b = refl
-joined_both (post ∷ posts) b = ap (λ l. post ++ l) (joined_both posts b) ∙ sym (append_assoc post (joined posts) (joined b))
+joined_both (post ∷ posts) b = ap (λ l. post ++ l) (joined_both posts b) ∙ sym (append_assoc post (entries_of_posts posts) (entries_of_posts b))
 
-pub joined_more : {E : Type 0} (posts : List (List E)) (post : List E) → joined (posts ++ post ∷ []) ≡ joined posts ++ post
-joined_more posts post = joined_both posts (post ∷ []) ∙ ap (λ l. joined posts ++ l) (append-nil post)
+pub joined_more : {E : Type 0} (posts : List (List E)) (post : List E) → entries_of_posts (posts ++ post ∷ []) ≡ entries_of_posts posts ++ post
+joined_more posts post = joined_both posts (post ∷ []) ∙ ap (λ l. entries_of_posts posts ++ l) (append-nil post)
 
 none_left : {E : Type 0} (xs : List E) → length xs ≡ 0 → xs ≡ []
 none_left [] none = refl
 none_left (x ∷ xs) none = absurd (omega (arith, none))
 
 -- posts that begin with others, and put as many entries, put the same
-pub same_joined : {E : Type 0} (a b : List (List E)) → IsPrefix a b → length (joined b) ≡ length (joined a) → joined b ≡ joined a
+pub same_joined : {E : Type 0} (a b : List (List E)) → IsPrefix a b → length (entries_of_posts b) ≡ length (entries_of_posts a) → entries_of_posts b ≡ entries_of_posts a
 same_joined a b (rest, e) long =
-    let whole : joined b ≡ joined a ++ joined rest = sym (ap joined e) ∙ joined_both a rest in
+    let whole : entries_of_posts b ≡ entries_of_posts a ++ entries_of_posts rest = sym (ap entries_of_posts e) ∙ joined_both a rest in
     let both = ap length whole in
-    let cut = length-append (joined a) (joined rest) in
-    let none : joined rest ≡ [] = none_left (joined rest) (omega (arith, long, both, cut)) in
-    whole ∙ (ap (λ l. joined a ++ l) none ∙ append-nil (joined a))
+    let cut = length-append (entries_of_posts a) (entries_of_posts rest) in
+    let none : entries_of_posts rest ≡ [] = none_left (entries_of_posts rest) (omega (arith, long, both, cut)) in
+    whole ∙ (ap (λ l. entries_of_posts a ++ l) none ∙ append-nil (entries_of_posts a))
 
 -- a core that has accepted nothing shows the opening list
-pub opens_list : (d : CoreData) → version_of d.shown ≡ 0 → joined (opening_posts d.log.opening) ≡ shown_list d
+pub opens_list : (d : CoreData) → version_of d.shown ≡ 0 → entries_of_posts (opening_posts d.log.opening) ≡ shown_list d
 opens_list d none = ap (λ k. first_of d.log k) (sym none)
 
 -- ---- a line that was answered
@@ -119,10 +119,10 @@ pub shown_newer : (d e : CoreData) (k : ℕ) → Grows (state_of d) (state_of e)
 shown_newer d e k grown is = ⊎_elim (λ p. inl (p ∙ sym is)) (λ p. inr p) grown.shown
 
 -- ---- a post
-pub grown : (b b' : BoardData) (list : List LogEntry) (more : List LogEntry) → board_list b' ≡ board_list b ++ more ∷ [] → joined (board_list b) ≡ list → joined (board_list b') ≡ list ++ more
-grown b b' list more posted same = ap joined posted ∙ (joined_more (board_list b) more ∙ ap (λ l. l ++ more) same)
+pub grown : (b b' : BoardData) (list : List LogEntry) (more : List LogEntry) → board_list b' ≡ board_list b ++ more ∷ [] → entries_of_posts (board_list b) ≡ list → entries_of_posts (board_list b') ≡ list ++ more
+grown b b' list more posted same = ap entries_of_posts posted ∙ (joined_more (board_list b) more ∙ ap (λ l. l ++ more) same)
 
-pub alike : (boards : Boards) (list : List LogEntry) → AllHave boards list → AllHave boards (joined (board_list boards.first))
+pub alike : (boards : Boards) (list : List LogEntry) → AllHave boards list → AllHave boards (entries_of_posts (board_list boards.first))
 alike boards list have = subst (λ l. AllHave boards l) (sym have.0) have
 
 pub up_to_date : (v w k now : ℕ) → (w ≡ k) ⊎ (w ≡ now) → v ≡ w → (v ≡ k → ⊥) → w ≡ now
@@ -153,7 +153,7 @@ shows_now logs d l s is shown up same =
     )
 
 pub opens_board : (logs : LogLaws) (d : CoreData) (s : ScenarioData) (posts : List PostData) → posts ≡ opening_posts s → s ≡ scenario_now d.log → version_now d.log ≡ 0 → version_of d.shown ≡ 0
-    → joined posts ≡ shown_list d
+    → entries_of_posts posts ≡ shown_list d
 opens_board logs d s posts is same fresh none =
     let first : s ≡ d.log.opening = same ∙ (sym (logs.last d.log) ∙ (ap (λ k. scenario_at d.log k) fresh ∙ first_scenario d.log)) in
-    ap joined is ∙ (ap (λ (r : ScenarioData). joined (opening_posts r)) first ∙ opens_list d none)
+    ap entries_of_posts is ∙ (ap (λ (r : ScenarioData). entries_of_posts (opening_posts r)) first ∙ opens_list d none)

@@ -4,7 +4,7 @@ use Rattle.ltm_flows.specs.Shown.{version_of}
 use Rattle.ltm_core.specs.declared.entry.LogEntry.{LogEntry}
 use Rattle.ltm_core.specs.Log.{Log, batches_of}
 use Rattle.ltm_core.specs.Cores.{CoreData}
-use Rattle.ltm_board.specs.Lists.{PostData, list_of, joined}
+use Rattle.ltm_board.specs.Lists.{PostData, list_of, entries_of_posts}
 use Rattle.ltm_board.specs.Boards.{BoardData, board_opening, board_list, board_links, viewer_opening, viewer_links}
 use Rattle.ltm_session_viewers.specs.declared.boards.Boards.{Boards}
 use Rattle.ltm_session_viewers.specs.declared.watch.Watch.{Watch}
@@ -45,4 +45,4 @@ shown_list d = first_of d.log (version_of d.shown)
 
 -- the posts of each board put this list
 abbrev pub AllHave : Boards → List LogEntry → Type 0
-AllHave boards list = (joined (board_list boards.first) ≡ list) × IfSome boards.second (λ b. joined (board_list b) ≡ list)
+AllHave boards list = (entries_of_posts (board_list boards.first) ≡ list) × IfSome boards.second (λ b. entries_of_posts (board_list b) ≡ list)

@@ -16,13 +16,13 @@ IsViewOutput viewers s script output = (t : Analysts) × (answers lines : List �
     × ViewersTell viewers t lines × (output ≡ answers ++ lines)
 
 -- how it ends with viewers after the session ended so, and what they tell: they tell it where the script was read to its end
-abbrev pub Closes : ℕ → Analysts → SessionEnd → SessionEnd → List ℕ → Type 0
-Closes viewers t Ended end lines = ViewersTell viewers t lines × ((end ≡ Ended) ⊎ ((end ≡ WriteFault) ⊎ (end ≡ NoMemory)))
-Closes viewers t ReadFault end lines = (end ≡ ReadFault) × (lines ≡ [])
-Closes viewers t WriteFault end lines = (end ≡ WriteFault) × (lines ≡ [])
-Closes viewers t (LineTooLong number) end lines = (end ≡ LineTooLong number) × (lines ≡ [])
-Closes viewers t TooManyCommands end lines = (end ≡ TooManyCommands) × (lines ≡ [])
-Closes viewers t NoMemory end lines = (end ≡ NoMemory) × (lines ≡ [])
+abbrev pub ClosesView : ℕ → Analysts → SessionEnd → SessionEnd → List ℕ → Type 0
+ClosesView viewers t Ended end lines = ViewersTell viewers t lines × ((end ≡ Ended) ⊎ ((end ≡ WriteFault) ⊎ (end ≡ NoMemory)))
+ClosesView viewers t ReadFault end lines = (end ≡ ReadFault) × (lines ≡ [])
+ClosesView viewers t WriteFault end lines = (end ≡ WriteFault) × (lines ≡ [])
+ClosesView viewers t (LineTooLong number) end lines = (end ≡ LineTooLong number) × (lines ≡ [])
+ClosesView viewers t TooManyCommands end lines = (end ≡ TooManyCommands) × (lines ≡ [])
+ClosesView viewers t NoMemory end lines = (end ≡ NoMemory) × (lines ≡ [])
 
 -- a session with viewers that began with this machine answered the first lines of a script and ended so; where a read failed,
 -- those that had come whole
@@ -31,5 +31,5 @@ pub record IsView (viewers : ℕ) (s : Analysts) (told left : Option (List ℕ))
   pub answers : List ℕ
   pub lines : List ℕ
   pub session : IsSession AnswersAlone s told left session_end answers t
-  pub closes : Closes viewers t session_end end lines
+  pub closes : ClosesView viewers t session_end end lines
   pub output_is : output ≡ answers ++ lines

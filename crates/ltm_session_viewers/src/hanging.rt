@@ -2,7 +2,7 @@
 ghost use Rattle.std.specs.Prelude.{◌≡◌, ◌≤◌, ◌<◌, IfOk};
 ghost use Rattle.ltm_core.specs.Log.{version_now};
 ghost use Rattle.ltm_board.specs.Boards.{board_list};
-ghost use Rattle.ltm_board.specs.Lists.{joined};
+ghost use Rattle.ltm_board.specs.Lists.{entries_of_posts};
 ghost use Rattle.ltm_session.specs.Answerers.{IsUnread};
 ghost use Rattle.ltm_session_viewers.specs.Hung.{AllHave, board_hook, board_hooks, watch_hook, watch_hooks, how_many, shown_list};
 
@@ -22,7 +22,7 @@ use std::sync::Wait;
 /// A board with the loading that a core shows, which has accepted nothing, and its viewer.
 fn hang_one<R: Wait>(rt: &R, alloc: Global, core: &Core) -> Result<(Board, Watch), NoMemory>
     requires { version_now core.now.log ≡ 0 }
-    ensures list { IfOk result (λ r. joined (board_list r.0) ≡ shown_list core.now) }
+    ensures list { IfOk result (λ r. entries_of_posts (board_list r.0) ≡ shown_list core.now) }
     ensures hook { IfOk result (λ r. watch_hook r.1 ≡ board_hook r.0) }
 {
     logs_tell_all();

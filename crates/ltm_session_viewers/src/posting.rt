@@ -2,7 +2,7 @@
 ghost use Rattle.std.specs.Prelude.{◌≡◌, ◌⊎◌, ◌++◌, ◌≤◌, length, drop, OnOk, IfErr};
 ghost use Rattle.ltm_flows.specs.Shown.{version_of};
 ghost use Rattle.ltm_core.specs.Log.{version_now};
-ghost use Rattle.ltm_board.specs.Lists.{joined, entries_of_batches, LeadsTo, IsLoadingOf};
+ghost use Rattle.ltm_board.specs.Lists.{entries_of_posts, entries_of_batches, LeadsTo, IsLoadingOf};
 ghost use Rattle.ltm_board.specs.Boards.{board_list};
 ghost use Rattle.ltm_session_viewers.specs.Hung.{AllHave, board_hooks, first_of, shown_list};
 
@@ -24,11 +24,11 @@ fn post_all<R: Wait>(
     scenario: &Scenario,
     loading: &Loading,
 ) -> Result<(), NoMemory>
-    requires alike { AllHave boards.old (joined (board_list boards.old.first)) }
-    requires leads { LeadsTo (joined (board_list boards.old.first)
+    requires alike { AllHave boards.old (entries_of_posts (board_list boards.old.first)) }
+    requires leads { LeadsTo (entries_of_posts (board_list boards.old.first)
         ++ entries_of_batches batches.now) scenario.now }
     requires loading { IsLoadingOf scenario.now loading.now }
-    ensures ok { OnOk result (AllHave boards.new (joined (board_list boards.old.first)
+    ensures ok { OnOk result (AllHave boards.new (entries_of_posts (board_list boards.old.first)
         ++ entries_of_batches batches.now)) }
     ensures hooks { board_hooks boards.new ≡ board_hooks boards.old }
 {

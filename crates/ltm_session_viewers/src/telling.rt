@@ -2,7 +2,7 @@
 ghost use Rattle.std.specs.Prelude.{◌≡◌, ◌⊎◌, ◌++◌, ◌≤◌, ℕ, List, OnOk, Err};
 ghost use Rattle.ltm_io.specs.Faults.{Rose};
 ghost use Rattle.ltm_board.specs.Boards.{board_list};
-ghost use Rattle.ltm_board.specs.Lists.{joined};
+ghost use Rattle.ltm_board.specs.Lists.{entries_of_posts};
 ghost use Rattle.ltm_session.specs.Analysts.{state_of};
 ghost use Rattle.ltm_session.specs.Answers.{ReportsShown};
 ghost use Rattle.ltm_session_viewers.specs.Hung.{AllHave, board_hook, board_hooks, watch_hook, watch_hooks, how_many, shown_list};
@@ -33,7 +33,7 @@ fn push_one<R: Wait>(
     into: &mut Vec<u8>,
 ) -> Result<(), NoMemory>
     requires hook { watch_hook watch.old ≡ board_hook board.now }
-    requires posted { joined (board_list board.now) ≡ shown_list core.now }
+    requires posted { entries_of_posts (board_list board.now) ≡ shown_list core.now }
     ensures { OnOk result ((line : List ℕ)
         × ReportsShown (state_of core.now) (viewer_report number) line
         × (into.new.items ≡ into.old.items ++ line)) }

@@ -1,7 +1,7 @@
 //! What viewers do while the script goes on, and what each knows at its end.
 ghost use Rattle.std.specs.Prelude.{◌≡◌, ◌+◌, length};
 ghost use Rattle.std.specs.Thread.{IsSync};
-ghost use Rattle.ltm_board.specs.Lists.{joined, IsSheetAfter};
+ghost use Rattle.ltm_board.specs.Lists.{entries_of_posts, IsSheetAfter};
 ghost use Rattle.ltm_board.specs.Boards.{board_list};
 ghost use Rattle.ltm_session_viewers.specs.Hung.{board_hook, watch_hook, watch_hooks};
 
@@ -72,8 +72,8 @@ pub(crate) fn look_all<R: Threads + Wait + Sync>(rt: &R, news: &News, watches: &
 /// as long as the board's own, else it is the one that the board itself gives. Answers how many batches the list has.
 pub(crate) fn look_last<R: Wait>(rt: &R, board: &Board, watch: &mut Watch) -> u64
     requires { watch_hook watch.old ≡ board_hook board.now }
-    ensures sheet { IsSheetAfter (joined (board_list board.now)) watch.new.sheet }
-    ensures count { result + 1 ≡ length (joined (board_list board.now)) }
+    ensures sheet { IsSheetAfter (entries_of_posts (board_list board.now)) watch.new.sheet }
+    ensures count { result + 1 ≡ length (entries_of_posts (board_list board.now)) }
     ensures watch { watch_hook watch.new ≡ watch_hook watch.old }
 {
     let Watch {

@@ -7,7 +7,7 @@ use Rattle.std.proofs.lemmas.List.Elements.{recursion_from_All}
 use Rattle.std.proofs.Common.{arith}
 use Rattle.std.proofs.lemmas.Bool.Decides.{nat_tests}
 use Rattle.ltm_network.specs.Network.{out_links}
-use Rattle.ltm_splits.specs.Rows.{SplitRow, is_of, begun, row_in_force}
+use Rattle.ltm_splits.specs.Rows.{SplitRow, is_of, rows_begun, row_in_force}
 use Rattle.ltm_scenario.specs.Data.{ScenarioData}
 use Rattle.ltm_scenario.specs.IsScenario.{IsSplitOf}
 
@@ -30,8 +30,8 @@ kept W (Some row) h = h
 -- what the weights of each row of the pair are, the weights in force are
 pub in_force : (P : SplitRow → Type 0) (W : List ℕ → Type 0) (rows : List SplitRow) (n d t : ℕ) → ((row : SplitRow) → P row → (is_of n d row && nat_le row.0.from t) ≡ true → W row.1) → All P rows → IfSome (row_in_force rows n d t) W
 in_force P W rows n d t f all =
-    kept W (last_or None (begun rows n d t))
-    (last_holds (λ row. W row.1) None (begun rows n d t) tt
+    kept W (last_or None (rows_begun rows n d t))
+    (last_holds (λ row. W row.1) None (rows_begun rows n d t) tt
     (filter_holds P (λ row. W row.1) (λ row. is_of n d row && nat_le row.0.from t) f rows (recursion_from_All P rows all)))
 
 of_pair : (s : ScenarioData) (n d t : ℕ) (row : SplitRow) → IsSplitOf s row → (is_of n d row && nat_le row.0.from t) ≡ true → length row.1 ≡ length (out_links s.network n)

@@ -8,7 +8,7 @@ use Rattle.std.specs.Option.{option_map}
 use Rattle.std.specs.Map.{keys_of}
 use Rattle.std.specs.List.{AllByRecursion, filter, last_or, slice_get}
 use Rattle.std.proofs.lemmas.Map.Keys.{sorted_head, sorted_tail}
-use Rattle.ltm_splits.specs.Rows.{SplitRow, IsOrdered, key_of, split_cmp, row_of, is_of, begun, row_in_force, begins}
+use Rattle.ltm_splits.specs.Rows.{SplitRow, IsOrdered, key_of, split_cmp, row_of, is_of, rows_begun, row_in_force, begins}
 use Rattle.ltm_splits.specs.Latest.{IsLatest}
 use Rattle.ltm_splits.proofs.Order.{filter_none}
 use Rattle.std.proofs.Common.{inl, inr}
@@ -108,11 +108,11 @@ module _ (n d : ℕ) where
     begun_apart : (e : SplitRow) → is_of n d e ≡ false → has_begun t e ≡ false
     begun_apart e of = ap (λ b. b && nat_le e.0.from t) of
 
-    force_head : (e : SplitRow) (es : List SplitRow) → has_begun t e ≡ true → row_in_force (e ∷ es) n d t ≡ weights (last_or (Some e) (begun es n d t))
-    force_head e es is = ap (λ b. weights (last_or None (cond b (e ∷ begun es n d t) (begun es n d t)))) is
+    force_head : (e : SplitRow) (es : List SplitRow) → has_begun t e ≡ true → row_in_force (e ∷ es) n d t ≡ weights (last_or (Some e) (rows_begun es n d t))
+    force_head e es is = ap (λ b. weights (last_or None (cond b (e ∷ rows_begun es n d t) (rows_begun es n d t)))) is
 
     force_tail : (e : SplitRow) (es : List SplitRow) → has_begun t e ≡ false → row_in_force (e ∷ es) n d t ≡ row_in_force es n d t
-    force_tail e es is = ap (λ b. weights (last_or None (cond b (e ∷ begun es n d t) (begun es n d t)))) is
+    force_tail e es is = ap (λ b. weights (last_or None (cond b (e ∷ rows_begun es n d t) (rows_begun es n d t)))) is
 
     abbrev IsLater : Option ℕ → Type 0
     IsLater o = MatchOption o ⊤ (λ from. t < from)
@@ -122,7 +122,7 @@ module _ (n d : ℕ) where
     none_forth (e ∷ es) h = elim (is_of n d e) as (λ b. is_of n d e ≡ b → IsLater (begins (e ∷ es) n d)) [
       | true ↦ λ of. subst IsLater (sym (begins_head e es of)) (elim (cases_lt t e.0.from) [
         | inl above ↦ above
-        | inr now ↦ absurd (let some : is_some (row_in_force (e ∷ es) n d t) ≡ true = ap is_some (force_head e es (begun_now e of now)) ∙ some_last e (begun es n d t) in let both : true ≡ false = sym some ∙ h in cc)
+        | inr now ↦ absurd (let some : is_some (row_in_force (e ∷ es) n d t) ≡ true = ap is_some (force_head e es (begun_now e of now)) ∙ some_last e (rows_begun es n d t) in let both : true ≡ false = sym some ∙ h in cc)
       ])
       | false ↦ λ of. subst IsLater (sym (begins_tail e es of)) (none_forth es (sym (ap is_some (force_tail e es (begun_apart e of))) ∙ h))
     ] refl
@@ -162,9 +162,9 @@ module _ (n d : ℕ) where
     not_begun_at : (g : ℕ) (y : SplitRow) → g ≤ t → has_begun t y ≡ false → is_eq (split_cmp (key_of n d g) y.0) ≡ false
     not_begun_at g y l h = grind (arith, nat_tests)
 
-    none_there : (g : ℕ) (es : List SplitRow) → g ≤ t → begun es n d t ≡ [] → row_of es (key_of n d g) ≡ None
+    none_there : (g : ℕ) (es : List SplitRow) → g ≤ t → rows_begun es n d t ≡ [] → row_of es (key_of n d g) ≡ None
     none_there g [] l h = refl
-    none_there g (y ∷ ys) l h = elim (has_begun t y) as (λ b. has_begun t y ≡ b → cond b (y ∷ begun ys n d t) (begun ys n d t) ≡ [] → row_of (y ∷ ys) (key_of n d g) ≡ None) [
+    none_there g (y ∷ ys) l h = elim (has_begun t y) as (λ b. has_begun t y ≡ b → cond b (y ∷ rows_begun ys n d t) (rows_begun ys n d t) ≡ [] → row_of (y ∷ ys) (key_of n d g) ≡ None) [
       | true ↦ λ is some. cc
       | false ↦ λ is rest. row_tail g y ys (not_begun_at g y l is) ∙ none_there g ys l rest
     ] refl h
@@ -178,9 +178,9 @@ module _ (n d : ℕ) where
     pub latest : (rows : List SplitRow) → IsOrdered rows → (w : List ℕ) → row_in_force rows n d t ≡ Some w → IsLatest rows n d t w
     latest [] s w h = cc
     latest (e ∷ es) s w h = elim (has_begun t e) as (λ b. has_begun t e ≡ b → IsLatest (e ∷ es) n d t w) [
-      | true ↦ λ is. elim (last_or None (begun es n d t)) as (λ o. last_or None (begun es n d t) ≡ o → IsLatest (e ∷ es) n d t w) [
+      | true ↦ λ is. elim (last_or None (rows_begun es n d t)) as (λ o. last_or None (rows_begun es n d t) ≡ o → IsLatest (e ∷ es) n d t w) [
         | None ↦ λ none.
-            let empty = last_none (begun es n d t) none in
+            let empty = last_none (rows_begun es n d t) none in
             let same : Some e.1 ≡ Some w = sym (force_head e es is ∙ ap (λ l. weights (last_or (Some e) l)) empty) ∙ h in (
               e.0.from,
               within_begun e is,
@@ -188,7 +188,7 @@ module _ (n d : ℕ) where
               λ g above within. row_tail g e es (not_at_late g e above) ∙ none_there g es within empty,
             )
         | Some r ↦ λ some.
-            let rest : row_in_force es n d t ≡ Some w = ap weights (some ∙ sym (last_whatever (Some e) r (begun es n d t) some)) ∙ sym (force_head e es is) ∙ h in
+            let rest : row_in_force es n d t ≡ Some w = ap weights (some ∙ sym (last_whatever (Some e) r (rows_begun es n d t) some)) ∙ sym (force_head e es is) ∙ h in
             lift w e es s (latest es (sorted_tail split_cmp e.0 (keys_of es) s) w rest)
       ] refl
       | false ↦ λ is. lift w e es s (latest es (sorted_tail split_cmp e.0 (keys_of es) s) w (sym (force_tail e es is) ∙ h))

@@ -7,7 +7,7 @@ use Rattle.std.specs.BTreeMap.{insert_entry, is_at}
 use Rattle.std.specs.Map.{lookup, remove_entry}
 use Rattle.std.specs.Option.{option_map}
 use Rattle.std.specs.List.{AllByRecursion, filter, last_or, slice_get}
-use Rattle.ltm_splits.specs.Rows.{SplitRow, key_of, split_cmp, row_of, put_in, taken_out, is_of, begun, row_in_force, begins}
+use Rattle.ltm_splits.specs.Rows.{SplitRow, key_of, split_cmp, row_of, put_in, taken_out, is_of, rows_begun, row_in_force, begins}
 use Rattle.ltm_splits.specs.Table.{Entry, rows_of_pair, rows_of_node, rows_of_all, entries_at, with_entries}
 use Rattle.ltm_splits.proofs.Ends.{all_ends, read_ends, edit_ends}
 use Rattle.ltm_splits.proofs.Order.{Before, Behind, apart_before, apart_behind, put_skip, put_stop, take_skip, take_stop, row_skip, row_stop, filter_skip, filter_stop, all_weaker}
@@ -80,11 +80,11 @@ module _ (n d : ℕ) where
   row_pair f [] = refl
   row_pair f (e ∷ es) = ap (λ r. cond (is_eq r) (Some e.1) (row_of (rows_of_pair n d es) (key_of n d f))) (cmp_same f e.0) ∙ ap (λ o. cond (is_eq (nat_cmp f e.0)) (Some e.1) o) (row_pair f es)
 
-  begun_pair : (t : ℕ) (es : List Entry) → begun (rows_of_pair n d es) n d t ≡ rows_of_pair n d (filter (λ e. nat_le e.0 t) es)
+  begun_pair : (t : ℕ) (es : List Entry) → rows_begun (rows_of_pair n d es) n d t ≡ rows_of_pair n d (filter (λ e. nat_le e.0 t) es)
   begun_pair t [] = refl
   begun_pair t (e ∷ es) =
-      ap (λ b. cond (b && nat_le e.0 t) ((key_of n d e.0, e.1) ∷ begun (rows_of_pair n d es) n d t) (begun (rows_of_pair n d es) n d t)) (of_same e)
-      ∙ elim (nat_le e.0 t) as (λ b. cond b ((key_of n d e.0, e.1) ∷ begun (rows_of_pair n d es) n d t) (begun (rows_of_pair n d es) n d t) ≡ rows_of_pair n d (cond b (e ∷ filter (λ e. nat_le e.0 t) es) (filter (λ e. nat_le e.0 t) es))) [
+      ap (λ b. cond (b && nat_le e.0 t) ((key_of n d e.0, e.1) ∷ rows_begun (rows_of_pair n d es) n d t) (rows_begun (rows_of_pair n d es) n d t)) (of_same e)
+      ∙ elim (nat_le e.0 t) as (λ b. cond b ((key_of n d e.0, e.1) ∷ rows_begun (rows_of_pair n d es) n d t) (rows_begun (rows_of_pair n d es) n d t) ≡ rows_of_pair n d (cond b (e ∷ filter (λ e. nat_le e.0 t) es) (filter (λ e. nat_le e.0 t) es))) [
         | true ↦ ap (λ l. (key_of n d e.0, e.1) ∷ l) (begun_pair t es)
         | false ↦ begun_pair t es
       ]

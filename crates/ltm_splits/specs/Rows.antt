@@ -77,12 +77,12 @@ abbrev pub is_of : ℕ → ℕ → SplitRow → Bool
 is_of node destination row = (row.0.node.0 == node) && (row.0.destination == destination)
 
 -- the rows of a pair that begin at or before a slot
-abbrev pub begun : List SplitRow → ℕ → ℕ → ℕ → List SplitRow
-begun rows node destination slot = filter (λ row. is_of node destination row && nat_le row.0.from slot) rows
+abbrev pub rows_begun : List SplitRow → ℕ → ℕ → ℕ → List SplitRow
+rows_begun rows node destination slot = filter (λ row. is_of node destination row && nat_le row.0.from slot) rows
 
 -- the weights in force at a slot: those of the last row of the pair that begins at or before it
 abbrev pub row_in_force : List SplitRow → ℕ → ℕ → ℕ → Option (List ℕ)
-row_in_force rows node destination slot = option_map (λ row. row.1) (last_or None (begun rows node destination slot))
+row_in_force rows node destination slot = option_map (λ row. row.1) (last_or None (rows_begun rows node destination slot))
 
 -- the key says nothing of the node at the slot: it is one of another node, or begins later
 abbrev pub IsSilent : ℕ → ℕ → SplitKey → Type 0

@@ -4,7 +4,7 @@ use Rattle.std.specs.Prelude.{Option}
 use Rattle.std.proofs.lemmas.List.{length-append}
 use Rattle.ltm_loading.specs.Setting.{Setting}
 use Rattle.ltm_repair.specs.State.{RepairState, now}
-use Rattle.ltm_repair.specs.Events.{CoreEvent, Commit, SameBooks, Committed}
+use Rattle.ltm_repair.specs.Events.{CoreEvent, Commit, SameBooks, CommitHappened}
 use Rattle.ltm_repair.specs.Desk.{IsAtRest}
 use Rattle.ltm_repair.specs.Answers.{Got, NotYet, Rest, AnswersClaim, IsNoneClaimed}
 use Rattle.ltm_repair.specs.Runs.{in_all, work_in, batch_in, commit_in, commits_in}
@@ -68,7 +68,7 @@ works_more d m e before between after p q =
 pub same_now : (s e : RepairState) → SameBooks s e → now e ≡ now s
 same_now s e same = ap (λ (n : ℕ). e.settings n) same.accepted ∙ ap (λ (f : ℕ → Setting). f s.accepted) same.settings
 
-none_after : (s m e : RepairState) (u t ticket : ℕ) (row other : List ℕ) (wakes : ℕ → ℕ → Bool) → AnswersClaim s (Got u t ticket row) m → Committed m u t other wakes e → IsNoneClaimed (now s) s.desk → IsNoneClaimed (now e) e.desk
+none_after : (s m e : RepairState) (u t ticket : ℕ) (row other : List ℕ) (wakes : ℕ → ℕ → Bool) → AnswersClaim s (Got u t ticket row) m → CommitHappened m u t other wakes e → IsNoneClaimed (now s) s.desk → IsNoneClaimed (now e) e.desk
 none_after s m e u t ticket row other wakes claim commit none =
     let P : Setting → Type 0 = λ z. IsNoneClaimed z e.desk in
     subst P (sym (same_now m e commit.books ∙ same_now s m claim.only.books)) (λ w v x l. elim (cases_pair u t w v) [

@@ -2,7 +2,7 @@
 use Rattle.std.proofs.Common.{◌≡◌, ℕ, ◌+◌, ◌<◌, ◌≤◌, ◌==◌, ◌&&◌, ◌||◌, not, nat_le, nat_lt, Bool, true, false, refl, ap, sym, ◌∙◌, arith, inl, inr}
 use Rattle.std.proofs.lemmas.Bool.{cases_lt, cases_eq, lt-ltb, le-ltb, eq-eqb, ne_eqb}
 use Rattle.ltm_frontier.specs.declared.frontier.Frontier.{Frontier}
-use Rattle.ltm_frontier.specs.Frontier.{nodes_of, slots_of, is_active, is_claimed, in_slots, Activates}
+use Rattle.ltm_frontier.specs.Frontier.{nodes_in, slots_in, is_active, is_claimed, in_slots, Activates}
 use Rattle.ltm_pairs.specs.Changes.{some_below}
 use Rattle.ltm_working.proofs.Bools.{or_false, and_on, twice, one_more}
 
@@ -29,7 +29,7 @@ act_both a b c f g first next = record {
 }
 
 -- the same test in other words
-pub act_as : (a b : Frontier) (f g : ℕ → ℕ → Bool) → Activates a b f → ((w v : ℕ) → w < nodes_of a → v < slots_of a → f w v ≡ g w v) → Activates a b g
+pub act_as : (a b : Frontier) (f g : ℕ → ℕ → Bool) → Activates a b f → ((w v : ℕ) → w < nodes_in a → v < slots_in a → f w v ≡ g w v) → Activates a b g
 act_as a b f g acts same = record {
   size = acts.size;
   claims = acts.claims;
@@ -37,7 +37,7 @@ act_as a b f g acts same = record {
 }
 
 -- none where the test passes for no pair
-pub act_no : (f : Frontier) (g : ℕ → ℕ → Bool) → ((w v : ℕ) → w < nodes_of f → v < slots_of f → g w v ≡ false) → Activates f f g
+pub act_no : (f : Frontier) (g : ℕ → ℕ → Bool) → ((w v : ℕ) → w < nodes_in f → v < slots_in f → g w v ≡ false) → Activates f f g
 act_no f g none = act_as f f (λ w v. false) g (act_none f) (λ w v x y. sym (none w v x y))
 
 -- one place more
@@ -60,13 +60,13 @@ node_more u t n from slots l =
       ]
     ]
 
-pub slots_more : (a b c : Frontier) (n from slots : ℕ) → slots_of a ≡ slots → Activates a b (λ u t. nat_lt u n && nat_le from t) → Activates b c (in_slots n from slots) → Activates a c (λ u t. nat_lt u (n + 1) && nat_le from t)
+pub slots_more : (a b c : Frontier) (n from slots : ℕ) → slots_in a ≡ slots → Activates a b (λ u t. nat_lt u n && nat_le from t) → Activates b c (in_slots n from slots) → Activates a c (λ u t. nat_lt u (n + 1) && nat_le from t)
 slots_more a b c n from slots same first next =
     act_as a c (λ u t. (nat_lt u n && nat_le from t) || in_slots n from slots u t) (λ u t. nat_lt u (n + 1) && nat_le from t)
     (act_both a b c (λ u t. nat_lt u n && nat_le from t) (in_slots n from slots) first next)
     (λ u t x y. node_more u t n from slots (omega (arith, y, same)))
 
-pub slots_all : (a b : Frontier) (n from : ℕ) → nodes_of a ≤ n → Activates a b (λ u t. nat_lt u n && nat_le from t) → Activates a b (λ u t. nat_le from t)
+pub slots_all : (a b : Frontier) (n from : ℕ) → nodes_in a ≤ n → Activates a b (λ u t. nat_lt u n && nat_le from t) → Activates a b (λ u t. nat_le from t)
 slots_all a b n from all acts = act_as a b (λ u t. nat_lt u n && nat_le from t) (λ u t. nat_le from t) acts (λ u t x y. ap (λ z. z && nat_le from t) (lt-ltb u n (omega (arith, x, all))))
 
 pub slots_none : (f : Frontier) (from : ℕ) → Activates f f (λ u t. nat_lt u 0 && nat_le from t)

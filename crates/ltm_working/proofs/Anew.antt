@@ -9,7 +9,7 @@ use Rattle.ltm_node.specs.Outputs.{Outputs}
 use Rattle.ltm_loading.specs.Setting.{Setting}
 use Rattle.ltm_loading.specs.Pairs.{pair_row, pair_inputs}
 use Rattle.ltm_frontier.specs.declared.frontier.Frontier.{Frontier}
-use Rattle.ltm_frontier.specs.Frontier.{nodes_of as nodes_in, is_claimed, is_pair, ClaimsPair, Activates, Releases}
+use Rattle.ltm_frontier.specs.Frontier.{nodes_in, is_claimed, is_pair, ClaimsPair, Activates, Releases}
 use Rattle.ltm_repair.specs.Answers.{DropsAtFront}
 use Rattle.ltm_repair.specs.Desk.{Desk}
 use Rattle.ltm_repair.specs.Facts.{IsSound}
@@ -23,7 +23,7 @@ use Rattle.ltm_working.specs.Desks.{desk_at, place_of, changed_at}
 use Rattle.ltm_working.specs.Ready.{ClaimsArePlaced, IsReady}
 use Rattle.ltm_working.specs.Searching.{IsFound}
 use Rattle.ltm_working.specs.Committing.{readers, rewritten}
-use Rattle.ltm_working.specs.Recomputing.{RecomputesPair}
+use Rattle.ltm_working.specs.Recomputing.{RecomputesInTable}
 use Rattle.ltm_working.proofs.Bools.{or_false, and_false}
 use Rattle.ltm_working.proofs.Desks.{claim_same, claim_off, same_desk, changed_same}
 use Rattle.ltm_working.proofs.Dropping.{pair_test, other_test}
@@ -101,7 +101,7 @@ recomputed_ready s t u v n o h b m f c k r is =
     ready_without s (committed (between t b r) t.index h f c k) t.claims (commits_ready s (between t b r) u v (pair_inputs s (counts_of t.curves) u v) o t.index h m f c k is.commits) is.ready.fits.claims (same_after s t u v n o h b m f c k r is)
 
 pub recomputes_pair : (s : Setting) (t : Table) (u v : ℕ) (n : Inputs) (o : Outputs) (h : Changed) (b m f : Frontier) (c : Curves) (k : KeptRows) (r : ClaimRows) → SetsFound s t u v n o h b m f c k r → (before : Table) →
-    DropsAtFront s (desk_at s before) (desk_at s t) → changed_at s t ≡ changed_at s before → RecomputesPair s before u v (pair_row s (counts_of t.curves) u v) (recomputed t h f c k)
+    DropsAtFront s (desk_at s before) (desk_at s t) → changed_at s t ≡ changed_at s before → RecomputesInTable s before u v (pair_row s (counts_of t.curves) u v) (recomputed t h f c k)
 recomputes_pair s t u v n o h b m f c k r is before drops cells =
     let mid : Table = between t b r in
     let end : Table = committed mid t.index h f c k in

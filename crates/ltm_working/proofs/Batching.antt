@@ -19,7 +19,7 @@ use Rattle.ltm_loading.specs.Pairs.{shape_at, count_row}
 use Rattle.ltm_loading.proofs.Setters.{counts_set_only_holds, of_group}
 use Rattle.ltm_setting.specs.Setting.{setting_of}
 use Rattle.ltm_frontier.specs.declared.frontier.Frontier.{Frontier}
-use Rattle.ltm_frontier.specs.Frontier.{nodes_of as nodes_in, slots_of as slots_in, is_active, is_claimed, Voids, Activates}
+use Rattle.ltm_frontier.specs.Frontier.{nodes_in, slots_in, is_active, is_claimed, Voids, Activates}
 use Rattle.ltm_repair.specs.Moves.{Accepts}
 use Rattle.ltm_pairs.specs.Touched.{touched_in, touched_by, is_touched}
 use Rattle.ltm_pairs.proofs.LongerReaches.{longer_reaches}
@@ -37,9 +37,9 @@ use Rattle.ltm_rows.specs.Starts.{part_width}
 use Rattle.ltm_rows.specs.Claims.{claim_row, HasClaims}
 use Rattle.ltm_rows.specs.Rows.{kept_row, HasRows}
 use Rattle.ltm_working.specs.Pairs.{of_cells}
-use Rattle.ltm_working.specs.Desks.{filled, kept_of, desk_at, place_of, changed_at}
+use Rattle.ltm_working.specs.Desks.{with_node_counts, kept_of, desk_at, place_of, changed_at}
 use Rattle.ltm_working.specs.Ready.{FitsTable, IsReady}
-use Rattle.ltm_working.specs.Growing.{horizon_of, at_horizon, HasRoom, Lengthens}
+use Rattle.ltm_working.specs.Growing.{horizon_of, at_horizon, TableHasRoom, Lengthens}
 use Rattle.ltm_working.specs.Batches.{LeadsTo, touches, TakesIn, TablesFit}
 use Rattle.ltm_working.proofs.Bools.{or_false, or_right}
 use Rattle.ltm_rows.proofs.KeptPlaces.{rows_at, stays_kept, none_kept}
@@ -80,7 +80,7 @@ lies_same r s part p same lies = record {
 rows_same : (r s : Setting) (before slots : ℕ) (k : KeptRows) → SameNetwork r s → before ≡ slots → HasRows r before k → HasRows s slots k
 rows_same r s before slots k same at has = record { amounts = lies_same r s Amounts _ same has.amounts; weights = lies_same r s Weights _ same has.weights; same_slots = has.same_slots ∙ at }
 
-filled_same : (r s : Setting) (c : Counts) (u v : ℕ) (row : List ℕ) → SameNetwork r s → filled r c u v row ≡ filled s c u v row
+filled_same : (r s : Setting) (c : Counts) (u v : ℕ) (row : List ℕ) → SameNetwork r s → with_node_counts r c u v row ≡ with_node_counts s c u v row
 filled_same r s c u v row same = rw (same.ins, same.in_link, same.outs, same.out_link, same.destinations, same.own, same.nodes, same.links) refl
 
 all_groups : (r s : Setting) → SameNetwork r s → groups r ≡ groups s
@@ -111,7 +111,7 @@ fits_same r s t same fits =
       changed = record { same_groups = fits.changed.same_groups ∙ all; same_slots = fits.changed.same_slots ∙ slots };
     }
 
-room_there : (r : Setting) (t : Table) → FitsTable r t → HasRoom t (horizon_of t)
+room_there : (r : Setting) (t : Table) → FitsTable r t → TableHasRoom t (horizon_of t)
 room_there r t fits = record {
   curves = t.curves.within;
   kept = omega (arith, t.kept.within, fits.kept.same_slots, fits.curves.same_slots);
@@ -197,7 +197,7 @@ kept_then before after edits t g m f e u v is x l =
       is_destination = omega (arith, k, network.destinations, is.ready.fits.curves.same_destinations);
       is_boundary = omega (arith, l, horizon);
     })) in
-    ap (option_map (filled s (counts_of g.curves) u v)) row
+    ap (option_map (with_node_counts s (counts_of g.curves) u v)) row
     ∙ (ap (λ (z : List ℕ). option_map (λ (y : List ℕ). take (counts_begin (shape_at s u)) y ++ (z ++ drop (counts_begin (shape_at s u)) y)) (kept_row t.kept u v)) counts
     ∙ sym (ap (λ (f : List ℕ → List ℕ). option_map f (kept_row t.kept u v)) (fun_ext (λ y. filled_same r s (counts_of t.curves) u v y network))))
 
@@ -236,7 +236,7 @@ accepts_desk before after edits t g m f e is =
         new_kept = λ u v late most. elim (cases_lt u s.nodes) [
           | inl x ↦
               of_pair s None (kept_of s new) u v x most
-              ∙ ap (option_map (filled s (counts_of g.curves) u v)) (none_kept g.kept u v (is.grows.none_kept u v (omega (arith, x, nodes, is.ready.fits.kept.amounts.nodes)) (omega (arith, late, is.ready.fits.kept.same_slots))))
+              ∙ ap (option_map (with_node_counts s (counts_of g.curves) u v)) (none_kept g.kept u v (is.grows.none_kept u v (omega (arith, x, nodes, is.ready.fits.kept.amounts.nodes)) (omega (arith, late, is.ready.fits.kept.same_slots))))
           | inr past ↦ past_pair s None (kept_of s new) u v (inl past)
         ];
       };

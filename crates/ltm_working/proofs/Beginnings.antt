@@ -11,7 +11,7 @@ use Rattle.ltm_loading.specs.Flows.{position}
 use Rattle.ltm_loading.specs.Pairs.{pair_row}
 use Rattle.ltm_loading.specs.Loading.{IsLoading}
 use Rattle.ltm_loading.specs.Shaped.{IsShaped}
-use Rattle.ltm_frontier.specs.Frontier.{nodes_of as nodes_in, slots_of as slots_in, AllIdle}
+use Rattle.ltm_frontier.specs.Frontier.{nodes_in, slots_in, AllIdle}
 use Rattle.ltm_index.specs.declared.read_index.ReadIndex.{ReadIndex}
 use Rattle.ltm_repair.specs.Desk.{IsOther, IsSettled, IsIdle}
 use Rattle.ltm_repair.specs.Facts.{IsSound}
@@ -22,7 +22,7 @@ use Rattle.ltm_working.specs.declared.table.Table.{Table}
 use Rattle.ltm_rows.specs.Claims.{HasClaims}
 use Rattle.ltm_rows.specs.Rows.{PutsRow, HasRows}
 use Rattle.ltm_working.specs.Pairs.{of_cells}
-use Rattle.ltm_working.specs.Desks.{uncounted, desk_at, changed_at}
+use Rattle.ltm_working.specs.Desks.{row_without_counts, desk_at, changed_at}
 use Rattle.ltm_working.specs.Ready.{IsReady, IsOpened, HasLists}
 use Rattle.ltm_working.specs.Placing.{StandsAt, PlacesPair, KeepsPair, KeepsSlots}
 use Rattle.ltm_working.proofs.Bools.{and_false}
@@ -38,11 +38,11 @@ stands_still s c x y u t w v is node here other places stands = λ i l.
     other (sym (is.network.in_link_ends u j node m) ∙ (ap s.head same ∙ is.network.in_link_ends w i here l)) (sym slot))
     ∙ stands i l
 
-pub keeps_next : (s : Setting) (c : Counts) (a b : KeptRows) (x y : ReadIndex) (slot u : ℕ) → IsSetting s → u < s.nodes → slot < s.slots → KeepsSlots s c a x slot u → PutsRow a b u slot (uncounted s u (pair_row s c u slot)) →
+pub keeps_next : (s : Setting) (c : Counts) (a b : KeptRows) (x y : ReadIndex) (slot u : ℕ) → IsSetting s → u < s.nodes → slot < s.slots → KeepsSlots s c a x slot u → PutsRow a b u slot (row_without_counts s u (pair_row s c u slot)) →
     PlacesPair s c x y u slot (s.ins u) → KeepsSlots s c b y slot (u + 1)
 keeps_next s c a b x y slot u is node low keeps puts places =
     let still : (w v : ℕ) → w < s.nodes → v < s.slots → IsOther u slot w v → KeepsPair s c a x w v → KeepsPair s c b y w v = λ w v p q other pair. record {
-      row = put_other a b u slot (uncounted s u (pair_row s c u slot)) w v puts (omega (arith, p, keeps.rows.amounts.nodes)) (omega (arith, q, keeps.rows.same_slots)) other ∙ pair.row;
+      row = put_other a b u slot (row_without_counts s u (pair_row s c u slot)) w v puts (omega (arith, p, keeps.rows.amounts.nodes)) (omega (arith, q, keeps.rows.same_slots)) other ∙ pair.row;
       placed = stands_still s c x y u slot w v is node p other places pair.placed;
     } in
     record {
@@ -51,7 +51,7 @@ keeps_next s c a b x y slot u is node low keeps puts places =
       earlier = λ w v p q. still w v p (omega arith) (λ same at. omega arith) (keeps.earlier w v p q);
       here = λ w p. elim (cases_eq w u) [
         | inr apart ↦ still w slot (omega arith) low (λ same at. apart (sym same)) (keeps.here w (omega arith))
-        | inl same ↦ subst (λ (z : ℕ). KeepsPair s c b y z slot) (sym same) (record { row = put_kept a b u slot (uncounted s u (pair_row s c u slot)) puts; placed = places.placed })
+        | inl same ↦ subst (λ (z : ℕ). KeepsPair s c b y z slot) (sym same) (record { row = put_kept a b u slot (row_without_counts s u (pair_row s c u slot)) puts; placed = places.placed })
       ];
     }
 

@@ -28,8 +28,8 @@ use Rattle.ltm_repair.proofs.Making.{changed_are_forgotten}
 use Rattle.ltm_pairs.specs.Waking.{ReadersWake, ReadersKeepPositions}
 use Rattle.ltm_rows.specs.declared.rows.KeptRows.{KeptRows}
 use Rattle.ltm_working.specs.declared.table.Table.{Table}
-use Rattle.ltm_rows.specs.Rows.{nodes_of, slots_of, row_of, has_row, kept_row, PutsRow}
-use Rattle.ltm_working.specs.Desks.{uncounted, filled, kept_of, desk_at, place_of}
+use Rattle.ltm_rows.specs.Rows.{nodes_kept, slots_kept, row_of, has_row, kept_row, PutsRow}
+use Rattle.ltm_working.specs.Desks.{row_without_counts, with_node_counts, kept_of, desk_at, place_of}
 use Rattle.ltm_working.specs.Ready.{HasLists, IsReady}
 use Rattle.ltm_working.specs.Waking.{any_differs, changes, PutsCells, wakes, ForgetsIf}
 use Rattle.ltm_rows.proofs.KeptPlaces.{put_kept, put_other, none_kept, some_kept}
@@ -77,7 +77,7 @@ pub record CommitsTable (s : Setting) (t : Table) (u v : ℕ) (n : Inputs) (o : 
   pub applies : Applies s u (v + 1) o.row (counts_of t.curves) (counts_of c)
   pub between : KeptRows
   pub forgets : ForgetsIf (any_differs s (counts_of t.curves) u (v + 1) o) t.kept between u (v + 1)
-  pub puts : PutsRow between k u v (uncounted s u n.row)
+  pub puts : PutsRow between k u v (row_without_counts s u n.row)
   pub frees : Releases m f u v
   pub by_place : CountsByPlace
   pub wake : ReadersWake
@@ -100,10 +100,10 @@ counts_set s t u v n o x h m f c k is =
 rows_same : (s : Setting) (t : Table) (u v : ℕ) (n : Inputs) (o : Outputs) (x : ReadIndex) (h : Changed) (m f : Frontier) (c : Curves) (k : KeptRows) (w y : ℕ) → CommitsTable s t u v n o x h m f c k →
     w < s.nodes → y < s.slots → IsOther u v w y → IsOther u (v + 1) w y → kept_row k w y ≡ kept_row t.kept w y
 rows_same s t u v n o x h m f c k w y is p q other apart =
-    let in_nodes : w < nodes_of t.kept = omega (arith, p, is.ready.fits.kept.amounts.nodes) in
-    let in_slots : y < slots_of t.kept = omega (arith, q, is.ready.fits.kept.same_slots) in
+    let in_nodes : w < nodes_kept t.kept = omega (arith, p, is.ready.fits.kept.amounts.nodes) in
+    let in_slots : y < slots_kept t.kept = omega (arith, q, is.ready.fits.kept.same_slots) in
     let size = forgets_rows (any_differs s (counts_of t.curves) u (v + 1) o) t.kept is.between u (v + 1) is.forgets in
-    put_other is.between k u v (uncounted s u n.row) w y is.puts (rw size.0.narrow in_nodes) (rw size.1 in_slots) other
+    put_other is.between k u v (row_without_counts s u n.row) w y is.puts (rw size.0.narrow in_nodes) (rw size.1 in_slots) other
     ∙ forgets_others (any_differs s (counts_of t.curves) u (v + 1) o) t.kept is.between u (v + 1) w y is.forgets in_nodes in_slots apart
 
 -- and so do the counts of their nodes
@@ -127,7 +127,7 @@ kept_this s t u v n o x h m f c k is =
     slot_same s (counts_of t.curves) (counts_of c) u v o u (counts_set s t u v n o x h m f c k is) claim.is_node in
     let row : n.row ≡ pair_row s (counts_of c) u v = claim.now ∙ sym same in
     of_pair s None (kept_of s e) u v claim.is_node claim.is_slot
-    ∙ (kept_whole s e u v (put_kept is.between k u v (uncounted s u n.row) is.puts ∙ ap (λ (z : List ℕ). Some (uncounted s u z)) row) ∙ ap (λ (z : List ℕ). Some z) (sym row))
+    ∙ (kept_whole s e u v (put_kept is.between k u v (row_without_counts s u n.row) is.puts ∙ ap (λ (z : List ℕ). Some (row_without_counts s u z)) row) ∙ ap (λ (z : List ℕ). Some z) (sym row))
 
 -- of the node's next slot what was kept stays where its counts do
 next_same : (s : Setting) (t : Table) (u v : ℕ) (n : Inputs) (o : Outputs) (x : ReadIndex) (h : Changed) (m f : Frontier) (c : Curves) (k : KeptRows) → CommitsTable s t u v n o x h m f c k →
@@ -139,7 +139,7 @@ next_same s t u v n o x h m f c k is off =
     let size = forgets_rows any t.kept is.between u (v + 1) is.forgets in
     same_of_pairs s None (kept_of s e) (kept_of s t) u (v + 1)
     (λ p q. same_kept_of s t e u (v + 1)
-    (put_other is.between k u v (uncounted s u n.row) u (v + 1) is.puts (rw size.0.narrow (omega (arith, p, is.ready.fits.kept.amounts.nodes))) (rw size.1 (omega (arith, q, is.ready.fits.kept.same_slots))) (λ a b. omega arith)
+    (put_other is.between k u v (row_without_counts s u n.row) u (v + 1) is.puts (rw size.0.narrow (omega (arith, p, is.ready.fits.kept.amounts.nodes))) (rw size.1 (omega (arith, q, is.ready.fits.kept.same_slots))) (λ a b. omega arith)
     ∙ forgets_none any t.kept is.between u (v + 1) off is.forgets)
     (counts_same s (counts_of t.curves) (counts_of c) u (v + 1) o (counts_set s t u v n o x h m f c k is) off))
 
@@ -151,11 +151,11 @@ next_gone s t u v n o x h m f c k is on p q =
     let e : Table = committed t x h f c k in
     let any : Bool = any_differs s (counts_of t.curves) u (v + 1) o in
     let size = forgets_rows any t.kept is.between u (v + 1) is.forgets in
-    let in_nodes : u < nodes_of t.kept = omega (arith, p, is.ready.fits.kept.amounts.nodes) in
-    let in_slots : v + 1 < slots_of t.kept = omega (arith, q, is.ready.fits.kept.same_slots) in
+    let in_nodes : u < nodes_kept t.kept = omega (arith, p, is.ready.fits.kept.amounts.nodes) in
+    let in_slots : v + 1 < slots_kept t.kept = omega (arith, q, is.ready.fits.kept.same_slots) in
     of_pair s None (kept_of s e) u (v + 1) p q
-    ∙ ap (option_map (filled s (counts_of c) u (v + 1)))
-    (put_other is.between k u v (uncounted s u n.row) u (v + 1) is.puts (rw size.0.narrow in_nodes) (rw size.1 in_slots) (λ a b. omega arith)
+    ∙ ap (option_map (with_node_counts s (counts_of c) u (v + 1)))
+    (put_other is.between k u v (row_without_counts s u n.row) u (v + 1) is.puts (rw size.0.narrow in_nodes) (rw size.1 in_slots) (λ a b. omega arith)
     ∙ forgets_one any t.kept is.between u (v + 1) on is.forgets in_nodes in_slots)
 
 pub kept_next : (s : Setting) (t : Table) (u v : ℕ) (n : Inputs) (o : Outputs) (x : ReadIndex) (h : Changed) (m f : Frontier) (c : Curves) (k : KeptRows) → CommitsTable s t u v n o x h m f c k → u < s.nodes →
@@ -171,13 +171,13 @@ kept_next s t u v n o x h m f c k is p =
         | inl q ↦
             let gone : (desk_at s e).kept u (v + 1) ≡ None = next_gone s t u v n o x h m f c k is on p q in
             elim (cases_Bool (has_row t.kept u (v + 1))) [
-              | inr none ↦ inl (gone ∙ sym (of_pair s None (kept_of s t) u (v + 1) p q ∙ ap (option_map (filled s old u (v + 1))) (none_kept t.kept u (v + 1) none)))
+              | inr none ↦ inl (gone ∙ sym (of_pair s None (kept_of s t) u (v + 1) p q ∙ ap (option_map (with_node_counts s old u (v + 1))) (none_kept t.kept u (v + 1) none)))
               | inl there ↦
                   let row : List ℕ = row_of t.kept u (v + 1) in
                   let first : ℕ = counts_begin (shape_at s u) in
                   inr (changed_are_forgotten s (desk_at s t) (desk_at s e) u (v + 1) (take first row) (drop first row)
                   (length-take-le first row (long_row s s.slots t.kept u (v + 1) is.ready.fits.kept p q))
-                  (of_pair s None (kept_of s t) u (v + 1) p q ∙ ap (option_map (filled s old u (v + 1))) (some_kept t.kept u (v + 1) there))
+                  (of_pair s None (kept_of s t) u (v + 1) p q ∙ ap (option_map (with_node_counts s old u (v + 1))) (some_kept t.kept u (v + 1) there))
                   (counts_differ s old (counts_of c) u (v + 1) o is.by_place (counts_set s t u v n o x h m f c k is) on)
                   gone)
             ]

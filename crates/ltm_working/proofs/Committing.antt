@@ -14,7 +14,7 @@ use Rattle.ltm_loading.specs.Groups.{groups}
 use Rattle.ltm_loading.specs.Pairs.{shape_at}
 use Rattle.ltm_loading.specs.NextPair.{IsPairInputs}
 use Rattle.ltm_frontier.specs.declared.frontier.Frontier.{Frontier}
-use Rattle.ltm_frontier.specs.Frontier.{nodes_of as nodes_in, slots_of as slots_in, is_active, is_claimed}
+use Rattle.ltm_frontier.specs.Frontier.{nodes_in, slots_in, is_active, is_claimed}
 use Rattle.ltm_index.specs.declared.read_index.ReadIndex.{ReadIndex}
 use Rattle.ltm_repair.specs.Desk.{Desk, IsOther, IsIdle}
 use Rattle.ltm_repair.specs.Facts.{IsClaim}

@@ -17,7 +17,7 @@ use Rattle.ltm_flows.proofs.Writing.{arm_there, out_there}
 use Rattle.ltm_flows.proofs.Adding.{arm_number, out_number, sink_number}
 use Rattle.ltm_working.specs.declared.step_form.StepForm.{StepForm}
 use Rattle.ltm_working.specs.declared.step_form.StepForm.TheVariants.{Counted, Moved}
-use Rattle.ltm_working.specs.Counted.{counted_number, counted_row, counted}
+use Rattle.ltm_working.specs.Counted.{counted_number, counted_row, counts_by_form}
 use Rattle.ltm_working.proofs.Renewals.{arms_set}
 
 -- ---- the row of a group
@@ -83,13 +83,13 @@ four_sums c g t n a b x y before moves long wide stands first second third fourt
     (read_sum c g t n x 2 before moves (omega (arith, long, wide)) stands third) (read_sum c g t n y 3 before moves (omega (arith, long, wide)) stands fourth) d (omega (arith, l, long)))
 
 arm_counted : (given : StepForm) (s : Setting) (old now : Counts) (u t n g d : ℕ) (o : Outputs) (xs : List ℕ) → o.shape ≡ shape_at s u → n < arms_of s u → d < s.destinations → g ≡ arm_group s u n → d < length xs →
-    now g d t ≡ old g d t → slice_index xs d ≡ left_after o n d → slice_index (counted_row given now g t xs) d ≡ left_after (counted given s old u t o) n d
+    now g d t ≡ old g d t → slice_index xs d ≡ left_after o n d → slice_index (counted_row given now g t xs) d ≡ left_after (counts_by_form given s old u t o) n d
 arm_counted Counted s old now u t n g d o xs shape l m at x still is = is
 arm_counted Moved s old now u t n g d o xs shape l m at x still is =
     sum_at now g t d xs x ∙ (omega (arith, still, is, ap (λ (z : ℕ). old z d t) at) ∙ arm_number s old u t o n d shape l m)
 
 out_counted : (given : StepForm) (s : Setting) (old now : Counts) (u t n g d : ℕ) (o : Outputs) (xs : List ℕ) → o.shape ≡ shape_at s u → n < s.outs u → d < s.destinations → g ≡ out_group s u n → d < length xs →
-    now g d t ≡ old g d t → slice_index xs d ≡ entered_after o n d → slice_index (counted_row given now g t xs) d ≡ entered_after (counted given s old u t o) n d
+    now g d t ≡ old g d t → slice_index xs d ≡ entered_after o n d → slice_index (counted_row given now g t xs) d ≡ entered_after (counts_by_form given s old u t o) n d
 out_counted Counted s old now u t n g d o xs shape l m at x still is = is
 out_counted Moved s old now u t n g d o xs shape l m at x still is =
     sum_at now g t d xs x ∙ (omega (arith, still, is, ap (λ (z : ℕ). old z d t) at) ∙ out_number s old u t o n d shape l m)
@@ -100,14 +100,14 @@ Stays s t old now = (g d : ℕ) → g < groups s → d < s.destinations → now 
 
 -- the group of an arm
 pub arm_row : (given : StepForm) (s : Setting) (old now : Counts) (u t n g : ℕ) (o : Outputs) (xs : List ℕ) → IsSetting s → u < s.nodes → n < arms_of s u → g ≡ arm_group s u n → o.shape ≡ shape_at s u → length xs ≡ o.shape.destinations →
-    ((d : ℕ) → d < o.shape.destinations → slice_index xs d ≡ left_after o n d) → Stays s t old now → (d : ℕ) → d < s.destinations → slice_index (counted_row given now g t xs) d ≡ left_after (counted given s old u t o) n d
+    ((d : ℕ) → d < o.shape.destinations → slice_index xs d ≡ left_after o n d) → Stays s t old now → (d : ℕ) → d < s.destinations → slice_index (counted_row given now g t xs) d ≡ left_after (counts_by_form given s old u t o) n d
 arm_row given s old now u t n g o xs is x inside at shape long each still d l =
     let wide : o.shape.destinations ≡ s.destinations = ap (λ (z : NodeShape). z.destinations) shape in
     arm_counted given s old now u t n g d o xs shape inside l at (omega (arith, l, long, wide)) (still g d (omega (arith, at, arm_there s u n is x inside)) l) (each d (omega (arith, l, wide)))
 
 -- and that of an out-link
 pub out_row : (given : StepForm) (s : Setting) (old now : Counts) (u t n g : ℕ) (o : Outputs) (xs : List ℕ) → IsSetting s → u < s.nodes → n < s.outs u → g ≡ out_group s u n → o.shape ≡ shape_at s u → length xs ≡ o.shape.destinations →
-    ((d : ℕ) → d < o.shape.destinations → slice_index xs d ≡ entered_after o n d) → Stays s t old now → (d : ℕ) → d < s.destinations → slice_index (counted_row given now g t xs) d ≡ entered_after (counted given s old u t o) n d
+    ((d : ℕ) → d < o.shape.destinations → slice_index xs d ≡ entered_after o n d) → Stays s t old now → (d : ℕ) → d < s.destinations → slice_index (counted_row given now g t xs) d ≡ entered_after (counts_by_form given s old u t o) n d
 out_row given s old now u t n g o xs is x inside at shape long each still d l =
     let wide : o.shape.destinations ≡ s.destinations = ap (λ (z : NodeShape). z.destinations) shape in
     out_counted given s old now u t n g d o xs shape inside l at (omega (arith, l, long, wide)) (still g d (omega (arith, at, out_there s u n is x inside)) l) (each d (omega (arith, l, wide)))
@@ -120,36 +120,36 @@ pub still_both : (s : Setting) (t : ℕ) (a b c : Counts) → Stays s t a b → 
 still_both s t a b c first next g d there m = next g d there m ∙ first g d there m
 
 -- what has arrived
-pub sink_counted : (given : StepForm) (s : Setting) (c : Counts) (u t : ℕ) (o : Outputs) → o.shape ≡ shape_at s u → counted_number given (arrived_by s c (s.own u) t) (arrived_after o) ≡ arrived_after (counted given s c u t o)
+pub sink_counted : (given : StepForm) (s : Setting) (c : Counts) (u t : ℕ) (o : Outputs) → o.shape ≡ shape_at s u → counted_number given (arrived_by s c (s.own u) t) (arrived_after o) ≡ arrived_after (counts_by_form given s c u t o)
 sink_counted Counted s c u t o shape = refl
 sink_counted Moved s c u t o shape = sink_number s c u t o shape
 
 -- ---- the row of a node
-pub counted_shape : (given : StepForm) (s : Setting) (c : Counts) (u t : ℕ) (o : Outputs) → o.shape ≡ shape_at s u → (counted given s c u t o).shape ≡ shape_at s u
+pub counted_shape : (given : StepForm) (s : Setting) (c : Counts) (u t : ℕ) (o : Outputs) → o.shape ≡ shape_at s u → (counts_by_form given s c u t o).shape ≡ shape_at s u
 counted_shape Counted s c u t o shape = shape
 counted_shape Moved s c u t o shape = refl
 
-pub counted_long : (given : StepForm) (s : Setting) (c : Counts) (u t : ℕ) (o : Outputs) → length o.row ≡ counts_width o.shape → length (counted given s c u t o).row ≡ counts_width (counted given s c u t o).shape
+pub counted_long : (given : StepForm) (s : Setting) (c : Counts) (u t : ℕ) (o : Outputs) → length o.row ≡ counts_width o.shape → length (counts_by_form given s c u t o).row ≡ counts_width (counts_by_form given s c u t o).shape
 counted_long Counted s c u t o long = long
 counted_long Moved s c u t o long = length-list_below (counts_width (shape_at s u)) (λ i. slice_index (count_row s c u t) i + slice_index o.row i)
 
 -- where no count at the slot's beginning changes
-pub counted_still : (given : StepForm) (s : Setting) (old now : Counts) (u t : ℕ) (o : Outputs) → IsSetting s → u < s.nodes → Stays s t old now → counted given s now u t o ≡ counted given s old u t o
+pub counted_still : (given : StepForm) (s : Setting) (old now : Counts) (u t : ℕ) (o : Outputs) → IsSetting s → u < s.nodes → Stays s t old now → counts_by_form given s now u t o ≡ counts_by_form given s old u t o
 counted_still Counted s old now u t o is x still = refl
 counted_still Moved s old now u t o is x still =
     ap (λ (z : List ℕ). outputs_at s u (list_below (counts_width (shape_at s u)) (λ i. slice_index z i + slice_index o.row i)))
     (counts_set_only_holds s now old u t is x (λ g d of m. still g d (of_group s u g d is x of) m))
 
-pub small_still : (given : StepForm) (s : Setting) (old now : Counts) (u t : ℕ) (o : Outputs) → IsSetting s → u < s.nodes → Stays s t old now → ((i : ℕ) → slice_index (counted given s old u t o).row i < 2 ^ 31) →
-    (i : ℕ) → slice_index (counted given s now u t o).row i < 2 ^ 31
+pub small_still : (given : StepForm) (s : Setting) (old now : Counts) (u t : ℕ) (o : Outputs) → IsSetting s → u < s.nodes → Stays s t old now → ((i : ℕ) → slice_index (counts_by_form given s old u t o).row i < 2 ^ 31) →
+    (i : ℕ) → slice_index (counts_by_form given s now u t o).row i < 2 ^ 31
 small_still given s old now u t o is x still small i = subst (λ (z : Outputs). slice_index z.row i < 2 ^ 31) (sym (counted_still given s old now u t o is x still)) (small i)
 
 -- ---- the origin after the in-links
 pub arms_counted : (given : StepForm) (s : Setting) (u t : ℕ) (o : Outputs) (old tails arms : Counts) → IsSetting s → u < s.nodes → t < s.slots →
-    SetsGroups s (t + 1) (s.ins u) (arm_group s u) (left_after (counted given s old u t o)) old tails →
-    (0 < s.outs u → SetsGroups s (t + 1) 1 (λ i. dep_of s u) (λ i. left_after (counted given s tails u t o) (s.ins u)) tails arms) → (s.outs u ≡ 0 → arms ≡ tails) →
-    SetsGroups s (t + 1) (arms_of s u) (arm_group s u) (left_after (counted given s old u t o)) old arms
+    SetsGroups s (t + 1) (s.ins u) (arm_group s u) (left_after (counts_by_form given s old u t o)) old tails →
+    (0 < s.outs u → SetsGroups s (t + 1) 1 (λ i. dep_of s u) (λ i. left_after (counts_by_form given s tails u t o) (s.ins u)) tails arms) → (s.outs u ≡ 0 → arms ≡ tails) →
+    SetsGroups s (t + 1) (arms_of s u) (arm_group s u) (left_after (counts_by_form given s old u t o)) old arms
 arms_counted given s u t o old tails arms is x l first origin none =
-    arms_set s u (t + 1) (counted given s old u t o) old tails arms is x first
+    arms_set s u (t + 1) (counts_by_form given s old u t o) old tails arms is x first
     (λ some. subst (λ (z : Outputs). SetsGroups s (t + 1) 1 (λ i. dep_of s u) (λ i. left_after z (s.ins u)) tails arms)
-    (counted_still given s old tails u t o is x (begins_still s t (s.ins u) (arm_group s u) (left_after (counted given s old u t o)) old tails l first)) (origin some)) none
+    (counted_still given s old tails u t o is x (begins_still s t (s.ins u) (arm_group s u) (left_after (counts_by_form given s old u t o)) old tails l first)) (origin some)) none

@@ -12,7 +12,7 @@ use Rattle.ltm_loading.specs.Pairs.{shape_at}
 use Rattle.ltm_loading.specs.Uncounted.{IsUncountedPair}
 use Rattle.ltm_index.specs.declared.read_index.ReadIndex.{ReadIndex}
 use Rattle.ltm_frontier.specs.declared.frontier.Frontier.{Frontier}
-use Rattle.ltm_frontier.specs.Frontier.{nodes_of as nodes_in, is_active, is_pair, IsNextActive, NoneActive as NoneIn, Deactivates}
+use Rattle.ltm_frontier.specs.Frontier.{nodes_in, is_active, is_pair, IsNextActive, NoneActiveIn as NoneIn, Deactivates}
 use Rattle.ltm_repair.specs.Desk.{Desk, IsOther, IsSettled, IsIdleBefore}
 use Rattle.ltm_repair.specs.Moves.{DropsSettled}
 use Rattle.ltm_repair.specs.Index.{IsPlaced}
@@ -23,7 +23,7 @@ use Rattle.ltm_repair.proofs.Index.{index_stays_current}
 use Rattle.ltm_sending.specs.Front.{IsAtFront}
 use Rattle.ltm_working.specs.declared.table.Table.{Table}
 use Rattle.ltm_rows.specs.Rows.{kept_row, HasRows}
-use Rattle.ltm_working.specs.Desks.{uncounted, desk_at, place_of}
+use Rattle.ltm_working.specs.Desks.{row_without_counts, desk_at, place_of}
 use Rattle.ltm_working.specs.Ready.{IsReady}
 use Rattle.ltm_working.specs.Placing.{PlacesPair}
 use Rattle.ltm_working.specs.Dropping.{DropsOne, DropsAt, IsWork, NoneActive, SameWorkAs}
@@ -222,12 +222,12 @@ most_wide s u is x =
     omega (arith, arms, outs, is.small.few_destinations, is.small.few_ins u x, is.small.few_outs u x)
 
 -- kept inputs that are those that stand ready
-pub settled_here : (s : Setting) (t : Table) (u slot : ℕ) (n : Inputs) → u < s.nodes → slot < s.slots → IsUncountedPair s (counts_of t.curves) u slot n → kept_row t.kept u slot ≡ Some (uncounted s u n.row) → IsSettled s (desk_at s t) u slot
+pub settled_here : (s : Setting) (t : Table) (u slot : ℕ) (n : Inputs) → u < s.nodes → slot < s.slots → IsUncountedPair s (counts_of t.curves) u slot n → kept_row t.kept u slot ≡ Some (row_without_counts s u n.row) → IsSettled s (desk_at s t) u slot
 unfolding desk_at
 settled_here s t u slot n x l inputs same = kept_is s t u slot x l ∙ kept_whole s t u slot (same ∙ ap (λ (z : List ℕ). Some z) (kept_uncounted s (counts_of t.curves) u slot n inputs))
 
 pub work_here : (s : Setting) (t : Table) (u slot : ℕ) (n : Inputs) → HasRows s s.slots t.kept → u < s.nodes → slot < s.slots → is_active t.frontier u slot ≡ true → IsUncountedPair s (counts_of t.curves) u slot n → IsSolvable n →
-    (kept_row t.kept u slot ≡ Some (uncounted s u n.row) → ⊥) → IsWork s (desk_at s t) u slot n
+    (kept_row t.kept u slot ≡ Some (row_without_counts s u n.row) → ⊥) → IsWork s (desk_at s t) u slot n
 unfolding desk_at
 work_here s t u slot n has x l on inputs solvable differs = record {
   is_node = x;

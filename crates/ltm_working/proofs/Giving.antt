@@ -4,7 +4,7 @@ use Rattle.std.specs.Prelude.{Some, None}
 use Rattle.std.proofs.lemmas.Bool.{false≢true}
 use Rattle.ltm_loading.specs.Setting.{Setting}
 use Rattle.ltm_frontier.specs.declared.frontier.Frontier.{Frontier}
-use Rattle.ltm_frontier.specs.Frontier.{nodes_of as nodes_in, slots_of as slots_in, is_active, is_claimed, is_pair, Releases, Activates}
+use Rattle.ltm_frontier.specs.Frontier.{nodes_in, slots_in, is_active, is_claimed, is_pair, Releases, Activates}
 use Rattle.ltm_repair.specs.Desk.{IsOther}
 use Rattle.ltm_repair.specs.Moves.{GivesBack}
 use Rattle.ltm_repair.proofs.Cases.{cases_pair}

@@ -28,9 +28,9 @@ use Rattle.ltm_loading.proofs.OneSetter.{set_by_one_pair_holds}
 use Rattle.ltm_pairs.specs.Changes.{some_below}
 use Rattle.ltm_rows.specs.declared.rows.KeptRows.{KeptRows}
 use Rattle.ltm_working.specs.declared.table.Table.{Table}
-use Rattle.ltm_rows.specs.Rows.{nodes_of, slots_of, amounts_of, weights_of, row_of, has_row, kept_row, SamePlaces, ForgetsRow, HasRows}
+use Rattle.ltm_rows.specs.Rows.{nodes_kept, slots_kept, amounts_of, weights_of, row_of, has_row, kept_row, SamePlaces, ForgetsRow, HasRows}
 use Rattle.ltm_rows.specs.Parts.{without_counts}
-use Rattle.ltm_working.specs.Desks.{uncounted, filled, kept_of}
+use Rattle.ltm_working.specs.Desks.{row_without_counts, with_node_counts, kept_of}
 use Rattle.ltm_working.specs.Waking.{arm_differs, out_differs, sink_differs, any_differs, ForgetsIf}
 use Rattle.ltm_working.proofs.Bools.{none_below, one_below, differ, do_not_differ}
 use Rattle.ltm_rows.proofs.KeptPlaces.{is_same_places, rows_lie, length_row, some_kept, none_kept}
@@ -85,31 +85,31 @@ in_row s c u t left entered arrived =
     joined (sends_of s c u t) (grid (arms_of s u) s.destinations left) (grid (s.outs u) s.destinations entered) (list_below 1 arrived) (limits_of s c u t)
 
 without : (s : Setting) (c : Counts) (u t : ℕ) (left entered : ℕ → ℕ → ℕ) (arrived : ℕ → ℕ) →
-    uncounted s u (sends_of s c u t ++ (grid (arms_of s u) s.destinations left ++ (grid (s.outs u) s.destinations entered ++ (list_below 1 arrived ++ limits_of s c u t))))
+    row_without_counts s u (sends_of s c u t ++ (grid (arms_of s u) s.destinations left ++ (grid (s.outs u) s.destinations entered ++ (list_below 1 arrived ++ limits_of s c u t))))
     ≡ sends_of s c u t ++ limits_of s c u t
 without s c u t left entered arrived =
-    ap (uncounted s u) (in_row s c u t left entered arrived)
+    ap (row_without_counts s u) (in_row s c u t left entered arrived)
     ∙ around (counts_begin (shape_at s u)) (supplies_begin (shape_at s u)) (sends_of s c u t) (blocks s u left entered arrived) (limits_of s c u t)
     (length-grid (arms_of s u) s.destinations (sending s c u t)) (omega (arith, length-blocks s u left entered arrived))
 
-no_counts : (s : Setting) (c : Counts) (u t : ℕ) → uncounted s u (pair_row s c u t) ≡ sends_of s c u t ++ limits_of s c u t
+no_counts : (s : Setting) (c : Counts) (u t : ℕ) → row_without_counts s u (pair_row s c u t) ≡ sends_of s c u t ++ limits_of s c u t
 no_counts s c u t = without s c u t (λ i d. c (arm_group s u i) d t) (λ j d. c (up_of (s.out_link u j)) d t) (λ k. arrived_by s c (s.own u) t)
 
 -- what is kept of inputs with 0 for each count is what is kept of the row
-pub kept_uncounted : (s : Setting) (c : Counts) (u t : ℕ) (n : Inputs) → IsUncountedPair s c u t n → uncounted s u n.row ≡ uncounted s u (pair_row s c u t)
+pub kept_uncounted : (s : Setting) (c : Counts) (u t : ℕ) (n : Inputs) → IsUncountedPair s c u t n → row_without_counts s u n.row ≡ row_without_counts s u (pair_row s c u t)
 kept_uncounted s c u t n is =
-    ap (uncounted s u) is.row ∙ (without s c u t (λ i d. 0) (λ j d. 0) (λ k. 0) ∙ sym (no_counts s c u t))
+    ap (row_without_counts s u) is.row ∙ (without s c u t (λ i d. 0) (λ j d. 0) (λ k. 0) ∙ sym (no_counts s c u t))
 
 -- what is kept of a row gives the row again
-pub fill_uncounted : (s : Setting) (c : Counts) (u t : ℕ) → filled s c u t (uncounted s u (pair_row s c u t)) ≡ pair_row s c u t
+pub fill_uncounted : (s : Setting) (c : Counts) (u t : ℕ) → with_node_counts s c u t (row_without_counts s u (pair_row s c u t)) ≡ pair_row s c u t
 fill_uncounted s c u t =
     let n : ℕ = counts_begin (shape_at s u) in
-    ap (filled s c u t) (no_counts s c u t)
+    ap (with_node_counts s c u t) (no_counts s c u t)
     ∙ (between n (sends_of s c u t) (count_row s c u t) (limits_of s c u t) (length-grid (arms_of s u) s.destinations (sending s c u t))
     ∙ sym (in_row s c u t (λ i d. c (arm_group s u i) d t) (λ j d. c (up_of (s.out_link u j)) d t) (λ k. arrived_by s c (s.own u) t)))
 
 -- and of counts that are filled in nothing is left
-pub uncounted_filled : (s : Setting) (c : Counts) (u t : ℕ) (row : List ℕ) → counts_begin (shape_at s u) ≤ length row → uncounted s u (filled s c u t row) ≡ row
+pub uncounted_filled : (s : Setting) (c : Counts) (u t : ℕ) (row : List ℕ) → counts_begin (shape_at s u) ≤ length row → row_without_counts s u (with_node_counts s c u t row) ≡ row
 uncounted_filled s c u t row long =
     let n : ℕ = counts_begin (shape_at s u) in
     around n (supplies_begin (shape_at s u)) (take n row) (count_row s c u t) (drop n row) (length-take-le n row long) (omega (arith, length-counts s c u t)) ∙ take-append-drop n row
@@ -119,34 +119,34 @@ pub pair_long : (s : Setting) (c : Counts) (u t : ℕ) → length (pair_row s c 
 pair_long s c u t = omega (arith, length-pair_row s c u t, mul_comm s.destinations (s.outs u))
 
 -- the parts of a row around the counts
-pub parts_are : (s : Setting) (u : ℕ) (n : Inputs) (parts : List ℕ) → n.shape ≡ shape_at s u → parts ≡ without_counts n.shape n.row → parts ≡ uncounted s u n.row
+pub parts_are : (s : Setting) (u : ℕ) (n : Inputs) (parts : List ℕ) → n.shape ≡ shape_at s u → parts ≡ without_counts n.shape n.row → parts ≡ row_without_counts s u n.row
 parts_are s u n parts shape is = is ∙ ap (λ (z : NodeShape). without_counts z n.row) shape
 
 -- ---- what is kept of a table
 pub long_row : (s : Setting) (slots : ℕ) (k : KeptRows) (u t : ℕ) → HasRows s slots k → u < s.nodes → t < slots → counts_begin (shape_at s u) ≤ length (row_of k u t)
 long_row s slots k u t has x l =
-    let node : u < nodes_of k = omega (arith, x, has.amounts.nodes) in
+    let node : u < nodes_kept k = omega (arith, x, has.amounts.nodes) in
     omega (arith, length-append (amounts_of k u t) (weights_of k u t), length_row k u t node (omega (arith, l, has.same_slots)), has.amounts.widths u x)
 
 same_some : (x y : List ℕ) → Some x ≡ Some y → x ≡ y
 same_some x y e = cc
 
 -- a row that is kept is that of the pair where its parts are
-pub kept_whole : (s : Setting) (t : Table) (u v : ℕ) → kept_row t.kept u v ≡ Some (uncounted s u (pair_row s (counts_of t.curves) u v)) → kept_of s t u v ≡ Some (pair_row s (counts_of t.curves) u v)
-kept_whole s t u v same = ap (option_map (filled s (counts_of t.curves) u v)) same ∙ ap (λ (z : List ℕ). Some z) (fill_uncounted s (counts_of t.curves) u v)
+pub kept_whole : (s : Setting) (t : Table) (u v : ℕ) → kept_row t.kept u v ≡ Some (row_without_counts s u (pair_row s (counts_of t.curves) u v)) → kept_of s t u v ≡ Some (pair_row s (counts_of t.curves) u v)
+kept_whole s t u v same = ap (option_map (with_node_counts s (counts_of t.curves) u v)) same ∙ ap (λ (z : List ℕ). Some z) (fill_uncounted s (counts_of t.curves) u v)
 
 pub whole_kept : (s : Setting) (t : Table) (u v : ℕ) → HasRows s s.slots t.kept → u < s.nodes → v < s.slots → kept_of s t u v ≡ Some (pair_row s (counts_of t.curves) u v) →
-    kept_row t.kept u v ≡ Some (uncounted s u (pair_row s (counts_of t.curves) u v))
+    kept_row t.kept u v ≡ Some (row_without_counts s u (pair_row s (counts_of t.curves) u v))
 whole_kept s t u v has x l same =
     let c : Counts = counts_of t.curves in
     elim (cases_Bool (has_row t.kept u v)) [
       | inl on ↦
           let there : kept_row t.kept u v ≡ Some (row_of t.kept u v) = some_kept t.kept u v on in
-          let one : Some (filled s c u v (row_of t.kept u v)) ≡ Some (pair_row s c u v) = sym (ap (option_map (filled s c u v)) there) ∙ same in
-          let row : filled s c u v (row_of t.kept u v) ≡ pair_row s c u v = same_some (filled s c u v (row_of t.kept u v)) (pair_row s c u v) one in
-          there ∙ ap (λ (z : List ℕ). Some z) (sym (uncounted_filled s c u v (row_of t.kept u v) (long_row s s.slots t.kept u v has x l)) ∙ ap (uncounted s u) row)
+          let one : Some (with_node_counts s c u v (row_of t.kept u v)) ≡ Some (pair_row s c u v) = sym (ap (option_map (with_node_counts s c u v)) there) ∙ same in
+          let row : with_node_counts s c u v (row_of t.kept u v) ≡ pair_row s c u v = same_some (with_node_counts s c u v (row_of t.kept u v)) (pair_row s c u v) one in
+          there ∙ ap (λ (z : List ℕ). Some z) (sym (uncounted_filled s c u v (row_of t.kept u v) (long_row s s.slots t.kept u v has x l)) ∙ ap (row_without_counts s u) row)
       | inr off ↦
-          let none : kept_of s t u v ≡ None = ap (option_map (filled s c u v)) (none_kept t.kept u v off) in
+          let none : kept_of s t u v ≡ None = ap (option_map (with_node_counts s c u v)) (none_kept t.kept u v off) in
           absurd (cc)
     ]
 
@@ -154,7 +154,7 @@ whole_kept s t u v has x l same =
 pub same_kept_of : (s : Setting) (a b : Table) (u v : ℕ) → kept_row b.kept u v ≡ kept_row a.kept u v → count_row s (counts_of b.curves) u v ≡ count_row s (counts_of a.curves) u v → kept_of s b u v ≡ kept_of s a u v
 same_kept_of s a b u v row counts =
     let n : ℕ = counts_begin (shape_at s u) in
-    ap (option_map (filled s (counts_of b.curves) u v)) row
+    ap (option_map (with_node_counts s (counts_of b.curves) u v)) row
     ∙ ap (λ (z : List ℕ). option_map (λ (r : List ℕ). take n r ++ (z ++ drop n r)) (kept_row a.kept u v)) counts
 
 -- ---- the counts of a node after those of one were set
@@ -259,11 +259,11 @@ pub forgets_off : (b : Bool) (k : KeptRows) (u t : ℕ) → b ≡ false → Forg
 forgets_off true k u t off = absurd (cc)
 forgets_off false k u t off = refl
 
-pub forgets_rows : (b : Bool) (old new : KeptRows) (u t : ℕ) → ForgetsIf b old new u t → SamePlaces old new × (slots_of new ≡ slots_of old)
+pub forgets_rows : (b : Bool) (old new : KeptRows) (u t : ℕ) → ForgetsIf b old new u t → SamePlaces old new × (slots_kept new ≡ slots_kept old)
 forgets_rows true old new u t is = (is.places, is.slots)
-forgets_rows false old new u t is = (is_same_places old new is, ap slots_of is)
+forgets_rows false old new u t is = (is_same_places old new is, ap slots_kept is)
 
-pub forgets_others : (b : Bool) (old new : KeptRows) (u t w v : ℕ) → ForgetsIf b old new u t → w < nodes_of old → v < slots_of old → (u ≡ w → t ≡ v → ⊥) → kept_row new w v ≡ kept_row old w v
+pub forgets_others : (b : Bool) (old new : KeptRows) (u t w v : ℕ) → ForgetsIf b old new u t → w < nodes_kept old → v < slots_kept old → (u ≡ w → t ≡ v → ⊥) → kept_row new w v ≡ kept_row old w v
 forgets_others true old new u t w v is x l other = is.others w v x l other
 forgets_others false old new u t w v is x l other = ap (λ (z : KeptRows). kept_row z w v) is
 
@@ -271,7 +271,7 @@ pub forgets_none : (b : Bool) (old new : KeptRows) (u t : ℕ) → b ≡ false �
 forgets_none true old new u t off is = absurd (cc)
 forgets_none false old new u t off is = ap (λ (z : KeptRows). kept_row z u t) is
 
-pub forgets_one : (b : Bool) (old new : KeptRows) (u t : ℕ) → b ≡ true → ForgetsIf b old new u t → u < nodes_of old → t < slots_of old → kept_row new u t ≡ None
+pub forgets_one : (b : Bool) (old new : KeptRows) (u t : ℕ) → b ≡ true → ForgetsIf b old new u t → u < nodes_kept old → t < slots_kept old → kept_row new u t ≡ None
 forgets_one true old new u t on is x l = is.gone x l
 forgets_one false old new u t on is x l = absurd (cc)
 

@@ -8,7 +8,7 @@ use Rattle.std.proofs.lemmas.List.{append-nil}
 use Rattle.std.proofs.lemmas.List.Folds.{list_any-append}
 use Rattle.std.proofs.lemmas.Map.Views.{list_any-from_Contains, Contains-from_any}
 use Rattle.ltm_index.specs.declared.read_index.ReadIndex.{ReadIndex}
-use Rattle.ltm_index.specs.Lists.{links_of, list_of, entry_of, StandsByEntry}
+use Rattle.ltm_index.specs.Lists.{links_listed, list_of, entry_of, StandsByEntry}
 use Rattle.ltm_index.specs.Chains.{list_from, behind}
 use Rattle.ltm_frontier.specs.declared.frontier.Frontier.{Frontier}
 use Rattle.ltm_frontier.specs.Frontier.{is_pair, Activates}
@@ -82,12 +82,12 @@ entry_is x l v k within e = elim (cases_entry (entry_of x l v)) [
   | inr some ↦ let here : unwrap_or (entry_of x l v) (2 ^ 32) ≡ some.0 = rw some.1 refl in some.1 ∙ ap (λ (z : ℕ). Some z) (sym here ∙ e)
 ]
 
-list_places : (x : ReadIndex) (l k v : ℕ) → StandsByEntry x → l < links_of x → k < 2 ^ 32 → stands (list_of x l k) v ≡ (place_of x l v == k)
+list_places : (x : ReadIndex) (l k v : ℕ) → StandsByEntry x → l < links_listed x → k < 2 ^ 32 → stands (list_of x l k) v ≡ (place_of x l v == k)
 list_places x l k v by_entry there within = same_tests (stands (list_of x l k) v) (place_of x l v == k)
     (λ is. eq-eqb (place_of x l v) k (place_is x l v k ((by_entry l k v there).0 (stands_at (list_of x l k) v is))))
     (λ is. stands_in (list_of x l k) v ((by_entry l k v there).1 (entry_is x l v k within (eqb-true (place_of x l v) k is))))
 
-pub marked_all : (a b : Frontier) (x : ReadIndex) (u from l k : ℕ) → StandsByEntry x → l < links_of x → k < 2 ^ 32 → Marked a b u from (list_of x l k) None →
+pub marked_all : (a b : Frontier) (x : ReadIndex) (u from l k : ℕ) → StandsByEntry x → l < links_listed x → k < 2 ^ 32 → Marked a b u from (list_of x l k) None →
     Activates a b (λ w v. nat_le from v && ((w == u) && (place_of x l v == k)))
 marked_all a b x u from l k by_entry there within all =
     let passed : all.passed ≡ list_of x l k = sym (append-nil all.passed) ∙ all.whole in

@@ -19,7 +19,7 @@ use Rattle.ltm_loading.proofs.Same.{AgreeAt, pair_row_same, position_same}
 use Rattle.ltm_inputs.specs.Idle.{IsIdle}
 use Rattle.ltm_index.specs.declared.read_index.ReadIndex.{ReadIndex}
 use Rattle.ltm_rows.specs.declared.rows.KeptRows.{KeptRows}
-use Rattle.ltm_working.specs.Desks.{uncounted}
+use Rattle.ltm_working.specs.Desks.{row_without_counts}
 use Rattle.ltm_working.specs.Placing.{KeepsPair, KeepsSlots}
 use Rattle.ltm_working.specs.Openings.{StaysTo}
 
@@ -29,7 +29,7 @@ agree_at s a b slot v g stays l x = record { same = λ d k m le. sym (stays g d 
 
 pair_still : (s : Setting) (a b : Counts) (k : KeptRows) (x : ReadIndex) (slot w v : ℕ) → IsSetting s → w < s.nodes → v ≤ slot → StaysTo s slot a b → KeepsPair s a k x w v → KeepsPair s b k x w v
 pair_still s a b k x slot w v is node l stays pair = record {
-  row = pair.row ∙ ap (λ (z : List ℕ). Some (uncounted s w z)) (sym (pair_row_same s b a w v is (record { same = λ g d j y m le. stays g d j y m (omega arith) }) node));
+  row = pair.row ∙ ap (λ (z : List ℕ). Some (row_without_counts s w z)) (sym (pair_row_same s b a w v is (record { same = λ g d j y m le. stays g d j y m (omega arith) }) node));
   placed = λ i p.
       let link : s.in_link w i < s.links = is.network.in_link_is_link w i node p in
       pair.placed i p

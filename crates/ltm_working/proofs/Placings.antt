@@ -6,7 +6,7 @@ use Rattle.ltm_curve.specs.Counts.{Counts}
 use Rattle.ltm_loading.specs.Setting.{Setting, IsSetting}
 use Rattle.ltm_loading.specs.Flows.{position}
 use Rattle.ltm_index.specs.declared.read_index.ReadIndex.{ReadIndex}
-use Rattle.ltm_index.specs.Lists.{links_of as links_in, entry_of, Places}
+use Rattle.ltm_index.specs.Lists.{links_listed as links_in, entry_of, Places}
 use Rattle.ltm_working.specs.Placing.{PlacesAt, PlacesPair}
 
 pub places_next : (s : Setting) (c : Counts) (old mid new : ReadIndex) (u t n l k : ℕ) → IsSetting s → u < s.nodes → n < s.ins u → PlacesPair s c old mid u t n →

@@ -7,19 +7,19 @@ use Rattle.ltm_curve.specs.Table.{counts_of, SameShape}
 use Rattle.ltm_curve.specs.Cells.{SameCells}
 use Rattle.ltm_loading.specs.Setting.{Setting, IsSetting}
 use Rattle.ltm_loading.specs.Pairs.{count_row}
-use Rattle.ltm_frontier.specs.Frontier.{slots_of as slots_in, is_active, SamePairs}
-use Rattle.ltm_index.specs.Lists.{slots_of as slots_listed, SameLists}
+use Rattle.ltm_frontier.specs.Frontier.{slots_in, is_active, SamePairs}
+use Rattle.ltm_index.specs.Lists.{slots_listed, SameLists}
 use Rattle.ltm_repair.specs.Desk.{Desk}
 use Rattle.ltm_repair.specs.Facts.{IsSound}
 use Rattle.ltm_repair.specs.Index.{IndexIsCurrent}
 use Rattle.ltm_rows.specs.declared.claim_rows.ClaimRows.{ClaimRows}
 use Rattle.ltm_working.specs.declared.table.Table.{Table}
 use Rattle.ltm_rows.specs.Claims.{claim_row, HasClaims}
-use Rattle.ltm_rows.specs.Rows.{slots_of as slots_kept, SameRows}
+use Rattle.ltm_rows.specs.Rows.{slots_kept, SameRows}
 use Rattle.ltm_working.specs.Pairs.{of_pairs, of_cells}
 use Rattle.ltm_working.specs.Desks.{kept_of, desk_at, place_of, changed_at, claim_of}
 use Rattle.ltm_working.specs.Ready.{FitsTable, ClaimsArePlaced, IsReady}
-use Rattle.ltm_working.specs.Growing.{SeenAs}
+use Rattle.ltm_working.specs.Growing.{TableSeenAs}
 use Rattle.ltm_rows.proofs.KeptPlaces.{rows_lie, stays_kept}
 use Rattle.ltm_working.proofs.Desks.{same_pairs, claim_same}
 use Rattle.ltm_working.proofs.Keeping.{same_kept_of}
@@ -83,7 +83,7 @@ parts_ready s a b same is ready =
           ∙ ready.claims u v x l some i m);
     }
 
-pub parts_seen : (a b : Table) → SameParts a b → SeenAs a b
+pub parts_seen : (a b : Table) → SameParts a b → TableSeenAs a b
 parts_seen a b same = record {
   horizon = same.shape.slots;
   fits = λ s fits. parts_fit s a b same fits;

@@ -8,7 +8,7 @@ use Rattle.ltm_loading.specs.Setting.{Setting}
 use Rattle.ltm_loading.specs.Pairs.{pair_row}
 use Rattle.ltm_loading.specs.Uncounted.{IsUncountedPair}
 use Rattle.ltm_frontier.specs.declared.frontier.Frontier.{Frontier}
-use Rattle.ltm_frontier.specs.Frontier.{nodes_of as nodes_in, slots_of as slots_in, is_active, is_claimed, is_pair, ClaimsAreOf, ClaimsPair}
+use Rattle.ltm_frontier.specs.Frontier.{nodes_in, slots_in, is_active, is_claimed, is_pair, ClaimsAreOf, ClaimsPair}
 use Rattle.ltm_frontier.specs.Claims.{has_node, slot_in}
 use Rattle.ltm_repair.specs.Desk.{Desk, IsOther, IsIdleBefore}
 use Rattle.ltm_repair.specs.Facts.{IsSound}

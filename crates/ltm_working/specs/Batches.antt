@@ -12,7 +12,7 @@ use Rattle.ltm_working.specs.declared.table.Table.{Table}
 use Rattle.ltm_working.specs.Pairs.{of_pairs}
 use Rattle.ltm_working.specs.Desks.{desk_at, changed_at}
 use Rattle.ltm_working.specs.Ready.{FitsTable, IsReady}
-use Rattle.ltm_working.specs.Growing.{horizon_of, at_horizon, HasRoom}
+use Rattle.ltm_working.specs.Growing.{horizon_of, at_horizon, TableHasRoom}
 
 -- the edits lead from one scenario to another of its shape, whose horizon is no shorter, and a pair outside their reaches
 -- reads the same of both
@@ -39,7 +39,7 @@ in_reaches reaches u t = lies_in_one reaches u t
 pub record FitsUnder (after : ScenarioData) (t : Table) : Type 0 where
   pub fits : FitsTable (at_horizon (setting_of after) (horizon_of t)) t
   pub longer : horizon_of t ≤ (setting_of after).slots
-  pub room : HasRoom t (horizon_of t)
+  pub room : TableHasRoom t (horizon_of t)
 
 -- so it is with a table of a scenario before, of the same shape
 abbrev pub TablesFit : Type 0

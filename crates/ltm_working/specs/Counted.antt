@@ -19,6 +19,6 @@ counted_row Counted c group slot numbers = numbers
 counted_row Moved c group slot numbers = list_below (length numbers) (λ d. c group d slot + slice_index numbers d)
 
 -- the counts of a node
-abbrev pub counted : StepForm → Setting → Counts → ℕ → ℕ → Outputs → Outputs
-counted Counted s c u t o = o
-counted Moved s c u t o = outputs_at s u (moved_on s c u t o.row)
+abbrev pub counts_by_form : StepForm → Setting → Counts → ℕ → ℕ → Outputs → Outputs
+counts_by_form Counted s c u t o = o
+counts_by_form Moved s c u t o = outputs_at s u (moved_on s c u t o.row)

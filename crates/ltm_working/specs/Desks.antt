@@ -19,16 +19,16 @@ use Rattle.ltm_rows.specs.Rows.{kept_row}
 use Rattle.ltm_working.specs.Pairs.{of_pairs, of_cells}
 
 -- what a pair reads but for the counts of its node
-abbrev pub uncounted : Setting → ℕ → List ℕ → List ℕ
-uncounted s u row = without_counts (shape_at s u) row
+abbrev pub row_without_counts : Setting → ℕ → List ℕ → List ℕ
+row_without_counts s u row = without_counts (shape_at s u) row
 
 -- the counts of the node at the slot's beginning put in their place
-abbrev pub filled : Setting → Counts → ℕ → ℕ → List ℕ → List ℕ
-filled s c u t row = take (counts_begin (shape_at s u)) row ++ (count_row s c u t ++ drop (counts_begin (shape_at s u)) row)
+abbrev pub with_node_counts : Setting → Counts → ℕ → ℕ → List ℕ → List ℕ
+with_node_counts s c u t row = take (counts_begin (shape_at s u)) row ++ (count_row s c u t ++ drop (counts_begin (shape_at s u)) row)
 
 -- what is kept of a pair, with the counts of its node at the slot's beginning
 abbrev pub kept_of : Setting → Table → ℕ → ℕ → Option (List ℕ)
-kept_of s t u v = option_map (filled s (counts_of t.curves) u v) (kept_row t.kept u v)
+kept_of s t u v = option_map (with_node_counts s (counts_of t.curves) u v) (kept_row t.kept u v)
 
 -- the inputs with which a pair is claimed, if it is. All claims are of one slot, so there is one row for each node
 abbrev pub claim_of : Table → ℕ → ℕ → Option (List ℕ)

@@ -3,10 +3,10 @@ use Rattle.std.specs.Prelude.{◌≡◌, ℕ, ◌<◌, ◌≤◌, false}
 use Rattle.ltm_curve.specs.Table.{groups_of, destinations_of, slots_of, room_of, counts_of, HasShape, IsIn}
 use Rattle.ltm_curve.specs.Cells.{cell_groups, cell_slots, cell_room, is_changed, HasCells}
 use Rattle.ltm_loading.specs.Setting.{Setting, IsSetting}
-use Rattle.ltm_frontier.specs.Frontier.{slots_of as slots_in, slot_room, SamePairs}
-use Rattle.ltm_index.specs.Lists.{slots_of as slots_listed, room_of as index_room, SameLists}
+use Rattle.ltm_frontier.specs.Frontier.{slots_in, slot_room, SamePairs}
+use Rattle.ltm_index.specs.Lists.{slots_listed, index_room, SameLists}
 use Rattle.ltm_working.specs.declared.table.Table.{Table}
-use Rattle.ltm_rows.specs.Rows.{nodes_of, slots_of as slots_kept, row_room, has_row, SameRows}
+use Rattle.ltm_rows.specs.Rows.{nodes_kept, slots_kept, row_room, has_row, SameRows}
 use Rattle.ltm_working.specs.Desks.{desk_at, changed_at}
 use Rattle.ltm_working.specs.Ready.{FitsTable, IsReady}
 
@@ -15,7 +15,7 @@ abbrev pub horizon_of : Table → ℕ
 horizon_of t = slots_of t.curves
 
 -- its parts have room for so many slots
-pub record HasRoom (t : Table) (slots : ℕ) : Type 0 where
+pub record TableHasRoom (t : Table) (slots : ℕ) : Type 0 where
   pub curves : slots ≤ room_of t.curves
   pub kept : slots ≤ row_room t.kept
   pub frontier : slots ≤ slot_room t.frontier
@@ -27,7 +27,7 @@ abbrev pub at_horizon : Setting → ℕ → Setting
 at_horizon s slots = record s { slots = slots }
 
 -- all but room is as before
-pub record SeenAs (old new : Table) : Type 0 where
+pub record TableSeenAs (old new : Table) : Type 0 where
   pub horizon : horizon_of new ≡ horizon_of old
   pub fits : (s : Setting) → FitsTable s old → FitsTable s new
   pub ready : (s : Setting) → IsSetting s → IsReady s old → IsReady s new
@@ -41,7 +41,7 @@ pub record Lengthens (old new : Table) (slots : ℕ) : Type 0 where
   pub no_counts : (g d k : ℕ) → IsIn new.curves g d k → slots_of old.curves < k → counts_of new.curves g d k ≡ 0
   pub kept : SameRows old.kept new.kept
   pub kept_slots : slots_kept new.kept ≡ slots
-  pub none_kept : (u t : ℕ) → u < nodes_of old.kept → slots_kept old.kept ≤ t → has_row new.kept u t ≡ false
+  pub none_kept : (u t : ℕ) → u < nodes_kept old.kept → slots_kept old.kept ≤ t → has_row new.kept u t ≡ false
   pub claims : new.claims ≡ old.claims
   pub pairs : SamePairs old.frontier new.frontier
   pub pair_slots : slots_in new.frontier ≡ slots

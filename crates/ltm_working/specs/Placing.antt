@@ -5,10 +5,10 @@ use Rattle.ltm_loading.specs.Setting.{Setting}
 use Rattle.ltm_loading.specs.Flows.{position}
 use Rattle.ltm_loading.specs.Pairs.{pair_row}
 use Rattle.ltm_index.specs.declared.read_index.ReadIndex.{ReadIndex}
-use Rattle.ltm_index.specs.Lists.{links_of, entry_of, SameSize}
+use Rattle.ltm_index.specs.Lists.{links_listed, entry_of, SameSize}
 use Rattle.ltm_rows.specs.declared.rows.KeptRows.{KeptRows}
 use Rattle.ltm_rows.specs.Rows.{kept_row, HasRows}
-use Rattle.ltm_working.specs.Desks.{uncounted}
+use Rattle.ltm_working.specs.Desks.{row_without_counts}
 use Rattle.ltm_working.specs.Ready.{HasLists}
 
 -- the slot stands in the list of its position of each of the first in-links of a node
@@ -19,7 +19,7 @@ StandsAt s c x u t places = (i : ℕ) → i < places → entry_of x (s.in_link u
 pub record PlacesAt (old new : ReadIndex) (l v k : ℕ) : Type 0 where
   pub size : SameSize old new
   pub entry : entry_of new l v ≡ Some k
-  pub other_entries : (m w : ℕ) → m < links_of old → (m ≡ l → w ≡ v → ⊥) → entry_of new m w ≡ entry_of old m w
+  pub other_entries : (m w : ℕ) → m < links_listed old → (m ≡ l → w ≡ v → ⊥) → entry_of new m w ≡ entry_of old m w
 
 -- the positions of a pair are placed for the first in-links of its node, and no other entry changes
 pub record PlacesPair (s : Setting) (c : Counts) (old new : ReadIndex) (u t places : ℕ) : Type 0 where
@@ -29,7 +29,7 @@ pub record PlacesPair (s : Setting) (c : Counts) (old new : ReadIndex) (u t plac
 
 -- the inputs of a pair are kept but for its counts, and its positions are placed
 pub record KeepsPair (s : Setting) (c : Counts) (k : KeptRows) (x : ReadIndex) (u t : ℕ) : Type 0 where
-  pub row : kept_row k u t ≡ Some (uncounted s u (pair_row s c u t))
+  pub row : kept_row k u t ≡ Some (row_without_counts s u (pair_row s c u t))
   pub placed : StandsAt s c x u t (s.ins u)
 
 -- so it is with all pairs of earlier slots, and with the first nodes of this one

@@ -6,9 +6,9 @@ use Rattle.ltm_loading.specs.Groups.{groups}
 use Rattle.ltm_loading.specs.Loading.{IsLoading}
 use Rattle.ltm_loading.specs.Shaped.{IsShaped}
 use Rattle.ltm_frontier.specs.declared.frontier.Frontier.{Frontier}
-use Rattle.ltm_frontier.specs.Frontier.{nodes_of as nodes_in, slots_of as slots_in}
+use Rattle.ltm_frontier.specs.Frontier.{nodes_in, slots_in}
 use Rattle.ltm_index.specs.declared.read_index.ReadIndex.{ReadIndex}
-use Rattle.ltm_index.specs.Lists.{links_of, slots_of as slots_listed}
+use Rattle.ltm_index.specs.Lists.{links_listed, slots_listed}
 use Rattle.ltm_repair.specs.Desk.{Desk, IsSettled, IsIdle}
 use Rattle.ltm_repair.specs.Facts.{IsSound}
 use Rattle.ltm_repair.specs.Index.{IsPlaced, IndexIsCurrent}
@@ -24,7 +24,7 @@ pub record HasPairs (s : Setting) (f : Frontier) : Type 0 where
 
 -- lists of the setting's links and slots
 pub record HasLists (s : Setting) (x : ReadIndex) : Type 0 where
-  pub links : links_of x ≡ s.links
+  pub links : links_listed x ≡ s.links
   pub slots : slots_listed x ≡ s.slots
 
 -- the parts have the sizes of the setting

@@ -11,7 +11,7 @@ use Rattle.ltm_working.specs.Searching.{AnswersSearch}
 use Rattle.ltm_working.specs.Committing.{CommitsPair}
 
 -- a claim of the pair leads to a table between, which no call leaves, and its commit from there to the new one
-pub record RecomputesPair (s : Setting) (old : Table) (u t : ℕ) (row : List ℕ) (new : Table) : Type 0 where
+pub record RecomputesInTable (s : Setting) (old : Table) (u t : ℕ) (row : List ℕ) (new : Table) : Type 0 where
   pub between : Table
   pub ready : IsReady s between
   pub claims : (ticket : ℕ) → AnswersSearch s (desk_at s old) (Got u t ticket row) (desk_at s between)
@@ -20,6 +20,6 @@ pub record RecomputesPair (s : Setting) (old : Table) (u t : ℕ) (row : List �
 
 -- or there is no pair yet, or none is left
 abbrev pub Recomputes : Setting → Table → Found → Table → Type 0
-Recomputes s old (Work pair) new = (row : List ℕ) × RecomputesPair s old pair.node.0 pair.slot row new
+Recomputes s old (Work pair) new = (row : List ℕ) × RecomputesInTable s old pair.node.0 pair.slot row new
 Recomputes s old Wait new = AnswersSearch s (desk_at s old) NotYet (desk_at s new) × (changed_at s new ≡ changed_at s old)
 Recomputes s old Rest new = AnswersSearch s (desk_at s old) NoneLeft (desk_at s new) × (changed_at s new ≡ changed_at s old)

@@ -5,11 +5,11 @@ use Rattle.ltm_node.specs.Outputs.{Outputs}
 use Rattle.ltm_setting.specs.Setting.{setting_of}
 use Rattle.ltm_working.specs.declared.renewal.Renewal.{Renewal}
 use Rattle.ltm_working.specs.declared.renewal.LinkRow.{LinkRow}
-use Rattle.ltm_working.specs.Counted.{counted_row, counted}
+use Rattle.ltm_working.specs.Counted.{counted_row, counts_by_form}
 
 -- the counts at the end of a pair's slot, of the counts as they stand
-abbrev pub renewed : Renewal → Counts → Outputs
-renewed r c = counted r.given (setting_of r.scenario.now) c r.pair.node.0 r.pair.slot r.outputs.now
+abbrev pub renewed_counts : Renewal → Counts → Outputs
+renewed_counts r c = counts_by_form r.given (setting_of r.scenario.now) c r.pair.node.0 r.pair.slot r.outputs.now
 
 -- the counts of one end of a link, which is a group of the curves
 abbrev pub renewed_row : LinkRow → Counts → ℕ → List ℕ

@@ -31,7 +31,7 @@ impl Table {
 
     /// Reads the inputs of an active pair at the front but for its counts, and places its positions; whether the inputs are
     /// the kept ones.
-    fn look_at(&mut self, scenario: &Scenario, pair: Pair, inputs: &mut NodeInputs) -> bool
+    fn reread(&mut self, scenario: &Scenario, pair: Pair, inputs: &mut NodeInputs) -> bool
         requires ready { IsReadyFor scenario.now self.old }
         requires node { IsNode scenario.now pair.node.0 }
         requires slot { IsSlot scenario.now pair.slot }
@@ -115,7 +115,7 @@ impl Table {
                 return None;
             };
             let pair = Pair { node, slot };
-            if !self.look_at(scenario, pair, inputs) {
+            if !self.reread(scenario, pair, inputs) {
                 return Some(node);
             }
             self.drop_settled(scenario, pair);

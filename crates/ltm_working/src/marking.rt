@@ -16,8 +16,8 @@
 ghost use Rattle.std.specs.Prelude.{◌≡◌, ◌==◌, ◌&&◌, ◌<◌, ◌≤◌, nat_le};
 ghost use Rattle.ltm_curve.specs.Table.{counts_of};
 ghost use Rattle.ltm_setting.specs.Setting.{setting_of};
-ghost use Rattle.ltm_frontier.specs.Frontier.{nodes_of, slots_of as slots_in, is_pair, Activates};
-ghost use Rattle.ltm_index.specs.Lists.{links_of, slots_of};
+ghost use Rattle.ltm_frontier.specs.Frontier.{nodes_in, slots_in, is_pair, Activates};
+ghost use Rattle.ltm_index.specs.Lists.{links_listed, slots_listed};
 ghost use Rattle.ltm_working.specs.Desks.{place_of};
 ghost use Rattle.ltm_working.specs.Waking.{wakes_tail, wakes_later, wakes_listed, wakes_head};
 ghost use Rattle.ltm_setting.specs.Places.{IsBoundary, IsLink, IsShapedFor};
@@ -33,7 +33,7 @@ use ltm_units::{LinkId, NodeId, Pair};
 
 /// Marks a pair, unless its slot is before one.
 fn mark_not_before(frontier: &mut Frontier, pair: Pair, from: u32)
-    requires node { pair.node.0 < nodes_of frontier.old }
+    requires node { pair.node.0 < nodes_in frontier.old }
     requires slot { pair.slot < slots_in frontier.old }
     ensures { Activates frontier.old frontier.new
         (λ w v. nat_le from v && is_pair pair.node.0 pair.slot w v) }
@@ -52,10 +52,10 @@ fn mark_list(
     node: NodeId,
     from: u32,
 )
-    requires link { link.0 < links_of index.now }
-    requires boundary { boundary ≤ slots_of index.now }
-    requires node { node.0 < nodes_of frontier.old }
-    requires slots { slots_of index.now ≡ slots_in frontier.old }
+    requires link { link.0 < links_listed index.now }
+    requires boundary { boundary ≤ slots_listed index.now }
+    requires node { node.0 < nodes_in frontier.old }
+    requires slots { slots_listed index.now ≡ slots_in frontier.old }
     ensures { Activates frontier.old frontier.new
         (λ w v. nat_le from v && ((w == node.0) && (place_of index.now link.0 v == boundary))) }
 {

@@ -3,7 +3,7 @@ ghost use Rattle.std.specs.Prelude.{◌<◌, ◌≤◌, length};
 ghost use Rattle.ltm_curve.specs.Table.{counts_of};
 ghost use Rattle.ltm_setting.specs.Setting.{setting_of};
 ghost use Rattle.ltm_inputs.specs.Parts.{ArePositions};
-ghost use Rattle.ltm_index.specs.Lists.{links_of, slots_of};
+ghost use Rattle.ltm_index.specs.Lists.{links_listed, slots_listed};
 ghost use Rattle.ltm_working.specs.Placing.{PlacesAt, PlacesPair};
 ghost use Rattle.ltm_setting.specs.Places.{IsNode, IsSlot};
 ghost use Rattle.ltm_working.specs.Scenarios.{HasListsOf};
@@ -17,9 +17,9 @@ use ltm_units::{LinkId, Pair};
 /// Puts a slot into the list of a boundary, unless it stands there.
 #[inline]
 fn place_at(index: &mut ReadIndex, link: LinkId, slot: u32, boundary: u32)
-    requires link { link.0 < links_of index.old }
-    requires slot { slot < slots_of index.old }
-    requires boundary { boundary ≤ slots_of index.old }
+    requires link { link.0 < links_listed index.old }
+    requires slot { slot < slots_listed index.old }
+    requires boundary { boundary ≤ slots_listed index.old }
     ensures { PlacesAt index.old index.new link.0 slot boundary }
 {
     if !index.stands_at(link, slot, boundary) {

@@ -5,7 +5,7 @@ ghost use Rattle.ltm_loading.specs.Pairs.{pair_row};
 ghost use Rattle.ltm_repair.specs.Answers.{DropsAtFront};
 ghost use Rattle.ltm_setting.specs.Setting.{setting_of};
 ghost use Rattle.ltm_working.specs.Searching.{IsFound};
-ghost use Rattle.ltm_working.specs.Recomputing.{RecomputesPair, Recomputes};
+ghost use Rattle.ltm_working.specs.Recomputing.{RecomputesInTable, Recomputes};
 ghost use Rattle.ltm_working.specs.Scenarios.{IsReadyFor, changed_for, desk_for};
 ghost use Rattle.ltm_units.specs.Bounds.{widest_row};
 
@@ -44,7 +44,7 @@ impl Table {
             (desk_for scenario.now self.old)
             → changed_for scenario.now self.old
             ≡ changed_for scenario.now before
-            → RecomputesPair (setting_of scenario.now) before pair.node.0 pair.slot
+            → RecomputesInTable (setting_of scenario.now) before pair.node.0 pair.slot
             (pair_row (setting_of scenario.now)
             (counts_of (curves_of self.old)) pair.node.0 pair.slot) self.new }
         ensures room { moves.new.room ≡ moves.old.room }

@@ -13,7 +13,7 @@ ghost use Rattle.ltm_node.specs.Outputs.{left_after, arrived_after};
 ghost use Rattle.ltm_setting.specs.Setting.{setting_of};
 ghost use Rattle.ltm_flows.specs.Applying.{SetsGroups};
 ghost use Rattle.ltm_frontier.specs.Frontier.{is_pair, Activates};
-ghost use Rattle.ltm_working.specs.Renewed.{renewed};
+ghost use Rattle.ltm_working.specs.Renewed.{renewed_counts};
 ghost use Rattle.ltm_working.specs.Desks.{place_of};
 ghost use Rattle.ltm_rows.specs.Rows.{ForgetsRow, HasRows};
 ghost use Rattle.ltm_working.specs.Waking.{arm_differs, any_differs, PutsCells, changes, wakes_others, wakes, ForgetsIf};
@@ -58,7 +58,7 @@ fn renew_origin(renewal: Renewal, curves: &mut Curves, changed: &mut Changed) ->
     requires outputs { renewal.outputs.now.shape ≡ node_shape renewal.scenario.now
         renewal.pair.node.0 }
     requires small { (i : ℕ) → slice_index
-        (renewed renewal (counts_of curves.old)).row i < 2 ^ 31 }
+        (renewed_counts renewal (counts_of curves.old)).row i < 2 ^ 31 }
     requires shape { IsShapedFor renewal.scenario.now curves.old }
     requires cells { HasCells changed.old (all_groups renewal.scenario.now)
         (setting_of renewal.scenario.now).slots }
@@ -66,7 +66,7 @@ fn renew_origin(renewal: Renewal, curves: &mut Curves, changed: &mut Changed) ->
         → result ≡ arm_differs (setting_of renewal.entry.scenario.now) (counts_of curves.old)
         renewal.entry.pair.node.0
         (renewal.entry.pair.slot + 1)
-        (renewed renewal.entry (counts_of curves.old))
+        (renewed_counts renewal.entry (counts_of curves.old))
         ((setting_of renewal.entry.scenario.now).ins renewal.entry.pair.node.0) }
     ensures none { (setting_of renewal.entry.scenario.now).outs renewal.entry.pair.node.0 ≡ 0
         → result
@@ -76,7 +76,7 @@ fn renew_origin(renewal: Renewal, curves: &mut Curves, changed: &mut Changed) ->
         → SetsGroups (setting_of renewal.entry.scenario.now) (renewal.entry.pair.slot + 1) 1
         (λ i. dep_of (setting_of renewal.entry.scenario.now) renewal.entry.pair.node.0)
         (λ i. left_after
-        (renewed renewal.entry (counts_of curves.old))
+        (renewed_counts renewal.entry (counts_of curves.old))
         ((setting_of renewal.entry.scenario.now).ins renewal.entry.pair.node.0))
         (counts_of curves.old) (counts_of curves.new) }
     ensures stays { (setting_of renewal.entry.scenario.now).outs renewal.entry.pair.node.0 ≡ 0
@@ -122,7 +122,7 @@ fn renew_all(
     requires outputs { renewal.outputs.now.shape ≡ node_shape renewal.scenario.now
         renewal.pair.node.0 }
     requires small { (i : ℕ) → slice_index
-        (renewed renewal (counts_of curves.old)).row i < 2 ^ 31 }
+        (renewed_counts renewal (counts_of curves.old)).row i < 2 ^ 31 }
     requires no_sink { (setting_of renewal.scenario.now).own renewal.pair.node.0 ≡ None
         → arrived_after renewal.outputs.now ≡ 0 }
     requires shape { IsShapedFor renewal.scenario.now curves.old }
@@ -133,21 +133,21 @@ fn renew_all(
     ensures value { result
         ≡ any_differs (setting_of renewal.entry.scenario.now) (counts_of curves.old)
         renewal.entry.pair.node.0 (renewal.entry.pair.slot + 1)
-        (renewed renewal.entry (counts_of curves.old)) }
+        (renewed_counts renewal.entry (counts_of curves.old)) }
     ensures shape { IsShapedFor renewal.entry.scenario.now curves.new }
     ensures applies { Applies (setting_of renewal.entry.scenario.now) renewal.entry.pair.node.0
         (renewal.entry.pair.slot + 1)
-        (renewed renewal.entry (counts_of curves.old)).row
+        (renewed_counts renewal.entry (counts_of curves.old)).row
         (counts_of curves.old) (counts_of curves.new) }
     ensures cells { PutsCells changed.old changed.new
         (changes (setting_of renewal.entry.scenario.now) (counts_of curves.old)
         renewal.entry.pair.node.0
         (renewal.entry.pair.slot + 1)
-        (renewed renewal.entry (counts_of curves.old))) }
+        (renewed_counts renewal.entry (counts_of curves.old))) }
     ensures wakes { Activates frontier.old frontier.new
         (wakes_others (setting_of renewal.entry.scenario.now) (counts_of curves.old)
         (place_of index.now) renewal.entry.pair.node.0 (renewal.entry.pair.slot + 1)
-        (renewed renewal.entry (counts_of curves.old))) }
+        (renewed_counts renewal.entry (counts_of curves.old))) }
 {
     let Renewal {
         scenario,
@@ -180,7 +180,7 @@ pub(crate) fn renew_pair(
     requires outputs { renewal.outputs.now.shape ≡ node_shape renewal.scenario.now
         renewal.pair.node.0 }
     requires small { (i : ℕ) → slice_index
-        (renewed renewal (counts_of curves.old)).row i < 2 ^ 31 }
+        (renewed_counts renewal (counts_of curves.old)).row i < 2 ^ 31 }
     requires no_sink { (setting_of renewal.scenario.now).own renewal.pair.node.0 ≡ None
         → arrived_after renewal.outputs.now ≡ 0 }
     requires shape { IsShapedFor renewal.scenario.now curves.old }
@@ -193,21 +193,21 @@ pub(crate) fn renew_pair(
     ensures shape { IsShapedFor renewal.entry.scenario.now curves.new }
     ensures applies { Applies (setting_of renewal.entry.scenario.now) renewal.entry.pair.node.0
         (renewal.entry.pair.slot + 1)
-        (renewed renewal.entry (counts_of curves.old)).row
+        (renewed_counts renewal.entry (counts_of curves.old)).row
         (counts_of curves.old) (counts_of curves.new) }
     ensures cells { PutsCells changed.old changed.new
         (changes (setting_of renewal.entry.scenario.now) (counts_of curves.old)
         renewal.entry.pair.node.0
         (renewal.entry.pair.slot + 1)
-        (renewed renewal.entry (counts_of curves.old))) }
+        (renewed_counts renewal.entry (counts_of curves.old))) }
     ensures wakes { Activates frontier.old frontier.new
         (wakes (setting_of renewal.entry.scenario.now) (counts_of curves.old) (place_of index.now)
         renewal.entry.pair.node.0
         (renewal.entry.pair.slot + 1)
-        (renewed renewal.entry (counts_of curves.old))) }
+        (renewed_counts renewal.entry (counts_of curves.old))) }
     ensures kept { ForgetsIf (any_differs (setting_of renewal.entry.scenario.now)
         (counts_of curves.old) renewal.entry.pair.node.0 (renewal.entry.pair.slot + 1)
-        (renewed renewal.entry (counts_of curves.old)))
+        (renewed_counts renewal.entry (counts_of curves.old)))
         kept.old kept.new renewal.entry.pair.node.0 (renewal.entry.pair.slot + 1) }
 {
     let any = renew_all(renewal, curves, index, changed, frontier);

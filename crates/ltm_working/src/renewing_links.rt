@@ -11,7 +11,7 @@ ghost use Rattle.ltm_setting.specs.Setting.{setting_of};
 ghost use Rattle.ltm_flows.specs.Applying.{out_group, SetsGroups};
 ghost use Rattle.ltm_frontier.specs.Frontier.{Activates, is_pair};
 ghost use Rattle.ltm_pairs.specs.Changes.{some_below};
-ghost use Rattle.ltm_working.specs.Renewed.{renewed_row, renewed};
+ghost use Rattle.ltm_working.specs.Renewed.{renewed_row, renewed_counts};
 ghost use Rattle.ltm_working.specs.Desks.{place_of};
 ghost use Rattle.ltm_working.specs.Waking.{
   row_differs,
@@ -151,7 +151,7 @@ pub(crate) fn renew_tails(
     requires outputs { renewal.outputs.now.shape ≡ node_shape renewal.scenario.now
         renewal.pair.node.0 }
     requires small { (i : ℕ) → slice_index
-        (renewed renewal (counts_of curves.old)).row i < 2 ^ 31 }
+        (renewed_counts renewal (counts_of curves.old)).row i < 2 ^ 31 }
     requires shape { IsShapedFor renewal.scenario.now curves.old }
     requires cells { HasCells changed.old (all_groups renewal.scenario.now)
         (setting_of renewal.scenario.now).slots }
@@ -160,23 +160,23 @@ pub(crate) fn renew_tails(
         ((setting_of renewal.entry.scenario.now).ins renewal.entry.pair.node.0)
         (arm_differs (setting_of renewal.entry.scenario.now) (counts_of curves.old)
         renewal.entry.pair.node.0 (renewal.entry.pair.slot + 1)
-        (renewed renewal.entry (counts_of curves.old))) }
+        (renewed_counts renewal.entry (counts_of curves.old))) }
     ensures shape { IsShapedFor renewal.entry.scenario.now curves.new }
     ensures sets { SetsGroups (setting_of renewal.entry.scenario.now)
         (renewal.entry.pair.slot + 1)
         ((setting_of renewal.entry.scenario.now).ins renewal.entry.pair.node.0)
         (arm_group (setting_of renewal.entry.scenario.now) renewal.entry.pair.node.0) (left_after
-        (renewed renewal.entry (counts_of curves.old))) (counts_of curves.old)
+        (renewed_counts renewal.entry (counts_of curves.old))) (counts_of curves.old)
         (counts_of curves.new) }
     ensures cells { PutsCells changed.old changed.new
         (changes_arms (setting_of renewal.entry.scenario.now) (counts_of curves.old)
         renewal.entry.pair.node.0 (renewal.entry.pair.slot + 1)
-        (renewed renewal.entry (counts_of curves.old))
+        (renewed_counts renewal.entry (counts_of curves.old))
         ((setting_of renewal.entry.scenario.now).ins renewal.entry.pair.node.0)) }
     ensures wakes { Activates frontier.old frontier.new
         (wakes_tails (setting_of renewal.entry.scenario.now) (counts_of curves.old)
         renewal.entry.pair.node.0 (renewal.entry.pair.slot + 1)
-        (renewed renewal.entry (counts_of curves.old))
+        (renewed_counts renewal.entry (counts_of curves.old))
         ((setting_of renewal.entry.scenario.now).ins renewal.entry.pair.node.0)) }
 {
     let Renewal {
@@ -214,7 +214,7 @@ pub(crate) fn renew_heads(
     requires outputs { renewal.outputs.now.shape ≡ node_shape renewal.scenario.now
         renewal.pair.node.0 }
     requires small { (i : ℕ) → slice_index
-        (renewed renewal (counts_of curves.old)).row i < 2 ^ 31 }
+        (renewed_counts renewal (counts_of curves.old)).row i < 2 ^ 31 }
     requires shape { IsShapedFor renewal.scenario.now curves.old }
     requires lists { HasListsOf renewal.scenario.now index.now }
     requires cells { HasCells changed.old (all_groups renewal.scenario.now)
@@ -224,24 +224,24 @@ pub(crate) fn renew_heads(
         ((setting_of renewal.entry.scenario.now).outs renewal.entry.pair.node.0)
         (out_differs (setting_of renewal.entry.scenario.now) (counts_of curves.old)
         renewal.entry.pair.node.0 (renewal.entry.pair.slot + 1)
-        (renewed renewal.entry (counts_of curves.old))) }
+        (renewed_counts renewal.entry (counts_of curves.old))) }
     ensures shape { IsShapedFor renewal.entry.scenario.now curves.new }
     ensures sets { SetsGroups (setting_of renewal.entry.scenario.now)
         (renewal.entry.pair.slot + 1)
         ((setting_of renewal.entry.scenario.now).outs renewal.entry.pair.node.0)
         (out_group (setting_of renewal.entry.scenario.now) renewal.entry.pair.node.0)
         (entered_after
-        (renewed renewal.entry (counts_of curves.old))) (counts_of curves.old)
+        (renewed_counts renewal.entry (counts_of curves.old))) (counts_of curves.old)
         (counts_of curves.new) }
     ensures cells { PutsCells changed.old changed.new
         (changes_outs (setting_of renewal.entry.scenario.now) (counts_of curves.old)
         renewal.entry.pair.node.0 (renewal.entry.pair.slot + 1)
-        (renewed renewal.entry (counts_of curves.old))
+        (renewed_counts renewal.entry (counts_of curves.old))
         ((setting_of renewal.entry.scenario.now).outs renewal.entry.pair.node.0)) }
     ensures wakes { Activates frontier.old frontier.new
         (wakes_heads (setting_of renewal.entry.scenario.now) (counts_of curves.old)
         (place_of index.now) renewal.entry.pair.node.0 (renewal.entry.pair.slot + 1)
-        (renewed renewal.entry (counts_of curves.old))
+        (renewed_counts renewal.entry (counts_of curves.old))
         ((setting_of renewal.entry.scenario.now).outs renewal.entry.pair.node.0)) }
 {
     let Renewal {

@@ -2,8 +2,8 @@
 ghost use Rattle.std.specs.Prelude.{◌≡◌, ◌≢◌, ◌↔◌, ◌<◌, ◌≤◌, ℕ, IfOk, OnOk, IsTrue, Some, None, false};
 ghost use Rattle.ltm_curve.specs.Table.{counts_of};
 ghost use Rattle.ltm_curve.specs.Cells.{is_changed, cell_slots, HasCells};
-ghost use Rattle.ltm_frontier.specs.Frontier.{slots_of as slots_in};
-ghost use Rattle.ltm_index.specs.Lists.{slots_of as slots_listed};
+ghost use Rattle.ltm_frontier.specs.Frontier.{slots_in};
+ghost use Rattle.ltm_index.specs.Lists.{slots_listed};
 ghost use Rattle.ltm_loading.specs.Setting.{Setting};
 ghost use Rattle.ltm_loading.specs.Groups.{groups};
 ghost use Rattle.ltm_scenario.specs.Data.{ScenarioData};
@@ -60,8 +60,8 @@ impl Drop for Table {
 impl Table {
     ghost use Rattle.ltm_working.specs.Desks.{desk_at, changed_at, curves_of, cells_of};
     ghost use Rattle.ltm_working.specs.Ready.{FitsTable, IsReady, IsOpened};
-    ghost use Rattle.ltm_working.specs.Growing.{horizon_of, at_horizon, HasRoom, SeenAs, Lengthens};
-    ghost use Rattle.ltm_rows.specs.Rows.{slots_of as slots_kept};
+    ghost use Rattle.ltm_working.specs.Growing.{horizon_of, at_horizon, TableHasRoom, TableSeenAs, Lengthens};
+    ghost use Rattle.ltm_rows.specs.Rows.{slots_kept};
     ghost use Rattle.ltm_working.specs.Batches.{LeadsTo, TakesIn};
 
     /// The table of the loading of a scenario, at rest.
@@ -202,8 +202,8 @@ impl Table {
     /// of memory.
     pub fn reserve(&mut self, slots: u32) -> Result<(), NoMemory>
         requires { slots ≤ most_slots }
-        ensures seen { SeenAs self.old self.new }
-        ensures room { OnOk result (HasRoom self.new slots) }
+        ensures seen { TableSeenAs self.old self.new }
+        ensures room { OnOk result (TableHasRoom self.new slots) }
     {
         let room = wide_room(self.curves.room(), slots);
         let curves = self.curves.reserve(room);
@@ -224,7 +224,7 @@ impl Table {
         requires pairs { slots_in self.old.frontier ≤ slots }
         requires lists { slots_listed self.old.index ≤ slots }
         requires cells { cell_slots self.old.changed ≤ slots }
-        requires room { HasRoom self.old slots }
+        requires room { TableHasRoom self.old slots }
         ensures { Lengthens self.old self.new slots }
     {
         self.curves.lengthen(slots);
@@ -240,7 +240,7 @@ impl Table {
         requires fits { FitsTable (at_horizon (setting_of scenario.now)
             (horizon_of self.old)) self.old }
         requires longer { horizon_of self.old ≤ (setting_of scenario.now).slots }
-        requires room { HasRoom self.old (setting_of scenario.now).slots }
+        requires room { TableHasRoom self.old (setting_of scenario.now).slots }
         ensures { (before : ScenarioData) → LeadsTo before scenario.now edits.now
             → IsReadyFor before self.old
             → TakesIn before scenario.now edits.now self.old self.new }

@@ -1,6 +1,6 @@
 //! Which slots read which boundary of a link.
 ghost use Rattle.std.specs.Prelude.{◌≡◌, ◌<◌, ◌≤◌, IfOk};
-ghost use Rattle.ltm_index.specs.Lists.{links_of, slots_of};
+ghost use Rattle.ltm_index.specs.Lists.{links_listed, slots_listed};
 
 use ltm_index::ReadIndex;
 use ltm_units::LinkId;
@@ -8,8 +8,8 @@ use std::alloc::Global;
 
 /// Whether these are the slots in the list of a boundary, in order.
 fn are_readers(index: &ReadIndex, link: LinkId, boundary: u32, slots: &[u32]) -> bool
-    requires link { link.0 < links_of index.now }
-    requires boundary { boundary ≤ slots_of index.now }
+    requires link { link.0 < links_listed index.now }
+    requires boundary { boundary ≤ slots_listed index.now }
 {
     let mut at = index.next_reader(link, boundary, None);
     for want in slots {
@@ -23,10 +23,10 @@ fn are_readers(index: &ReadIndex, link: LinkId, boundary: u32, slots: &[u32]) ->
 
 /// Places a slot of link 1.
 fn move_to(index: &mut ReadIndex, slot: u32, boundary: u32)
-    requires links { links_of index.old ≡ 2 }
-    requires slots { slots_of index.old ≡ 3 }
-    ensures links { links_of index.new ≡ 2 }
-    ensures slots { slots_of index.new ≡ 3 }
+    requires links { links_listed index.old ≡ 2 }
+    requires slots { slots_listed index.old ≡ 3 }
+    ensures links { links_listed index.new ≡ 2 }
+    ensures slots { slots_listed index.new ≡ 3 }
 {
     if slot >= 3 {
         return;
@@ -36,8 +36,8 @@ fn move_to(index: &mut ReadIndex, slot: u32, boundary: u32)
 
 /// Whether the lists of link 1 are these.
 fn are_lists(index: &ReadIndex, lists: &[&[u32]; 4]) -> bool
-    requires links { links_of index.now ≡ 2 }
-    requires slots { slots_of index.now ≡ 3 }
+    requires links { links_listed index.now ≡ 2 }
+    requires slots { slots_listed index.now ≡ 3 }
 {
     let link = LinkId(1);
     are_readers(index, link, 0, lists[0])
@@ -51,10 +51,10 @@ type Row<'a> = (u32, u32, [&'a [u32]; 4]);
 
 /// The place of the first row after which a list is another; none where each is as it should be.
 fn first_otherwise(index: &mut ReadIndex, rows: &[Row<'_>]) -> Option<usize>
-    requires links { links_of index.old ≡ 2 }
-    requires slots { slots_of index.old ≡ 3 }
-    ensures links { links_of index.new ≡ 2 }
-    ensures slots { slots_of index.new ≡ 3 }
+    requires links { links_listed index.old ≡ 2 }
+    requires slots { slots_listed index.old ≡ 3 }
+    ensures links { links_listed index.new ≡ 2 }
+    ensures slots { slots_listed index.new ≡ 3 }
 {
     for (place, (slot, boundary, lists)) in rows.iter().enumerate() {
         move_to(index, *slot, *boundary);

@@ -2,7 +2,7 @@
 ghost use Rattle.std.specs.Prelude.{◌≡◌, ◌++◌, [], ◌∷◌, true, false};
 ghost use Rattle.std.specs.Thread.{IsSync};
 ghost use Rattle.ltm_board.specs.Sheets.{links_on};
-ghost use Rattle.ltm_board.specs.Lists.{IsLoadingOf, LeadsTo, joined, entries_of_batches};
+ghost use Rattle.ltm_board.specs.Lists.{IsLoadingOf, LeadsTo, entries_of_posts, entries_of_batches};
 ghost use Rattle.ltm_board.specs.Boards.{board_opening, board_list, board_links, viewer_opening, viewer_links};
 
 use crate::reads::{Read, read_of};
@@ -52,7 +52,7 @@ fn post_between<R: Wait>(
     scenario: &Scenario,
     loading: &Loading,
 ) -> bool
-    requires leads { LeadsTo (joined (board_list board.old) ++ entries_of_batches (batch.now ∷ [])) scenario.now }
+    requires leads { LeadsTo (entries_of_posts (board_list board.old) ++ entries_of_batches (batch.now ∷ [])) scenario.now }
     requires loading { IsLoadingOf scenario.now loading.now }
     ensures board { (board_opening board.new ≡ board_opening board.old) × (board_links board.new ≡ board_links board.old) }
     ensures refused { result ≡ false → board_list board.new ≡ board_list board.old }
@@ -91,7 +91,7 @@ pub fn play<R: Threads + Wait + Sync>(
 ) -> Played
     requires one { viewer_opening viewer.old ≡ board_opening board.old }
     requires links { (links_on sheet.old ≡ viewer_links viewer.old) × (viewer_links viewer.old ≡ board_links board.old) }
-    requires leads { LeadsTo (joined (board_list board.old) ++ entries_of_batches (batch.now ∷ [])) scenario.now }
+    requires leads { LeadsTo (entries_of_posts (board_list board.old) ++ entries_of_batches (batch.now ∷ [])) scenario.now }
     requires loading { IsLoadingOf scenario.now loading.now }
     ensures { viewer_opening viewer.new ≡ board_opening board.new }
 {
@@ -105,7 +105,7 @@ pub fn play<R: Threads + Wait + Sync>(
             ensures sheet { links_on sheet.exit.now ≡ links_on sheet.entry.now }
         { look_twice(rt, &looked, &posted, viewer, sheet) },
         &mut || -> bool
-            requires { IsSync R.row × LeadsTo (joined (board_list board.now) ++ entries_of_batches (batch.now ∷ [])) scenario.now × IsLoadingOf scenario.now loading.now }
+            requires { IsSync R.row × LeadsTo (entries_of_posts (board_list board.now) ++ entries_of_batches (batch.now ∷ [])) scenario.now × IsLoadingOf scenario.now loading.now }
             ensures board { (board_opening board.exit.now ≡ board_opening board.entry.now) × (board_links board.exit.now ≡ board_links board.entry.now) }
             ensures refused { result ≡ false → board_list board.exit.now ≡ board_list board.entry.now }
         { post_between(rt, &looked, &posted, board, batch, scenario, loading) },

@@ -6,7 +6,7 @@ ghost use Rattle.ltm_setting.specs.Setting.{setting_of};
 ghost use Rattle.ltm_curve.specs.Counts.{Counts};
 ghost use Rattle.ltm_loading.specs.Setting.{Setting};
 ghost use Rattle.ltm_flows.specs.Shown.{ShowsCounts, SameLoading, loading_room};
-ghost use Rattle.ltm_working.specs.Growing.{SeenAs as TableSeenAs, HasRoom as TableHasRoom};
+ghost use Rattle.ltm_working.specs.Growing.{TableSeenAs, TableHasRoom};
 ghost use Rattle.ltm_scenario.specs.Horizon.{MayReach};
 ghost use Rattle.ltm_repair.specs.Events.{Accept};
 ghost use Rattle.ltm_core.specs.Histories.{events_of};

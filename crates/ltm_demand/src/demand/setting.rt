@@ -1,6 +1,6 @@
 //! Setting a row of demand, and undoing it.
 ghost use Rattle.std.specs.Prelude.{◌≡◌, ◌≢◌, true, ℕ, ◌+◌, ◌<◌, ◌≤◌, length, OnErr, OnOk, IfErr, IfOk, Ok, Err, vec_len};
-ghost use Rattle.ltm_demand.specs.Rows.{shown};
+ghost use Rattle.ltm_demand.specs.Rows.{row_if_any};
 ghost use Rattle.ltm_demand.specs.Origins.{rows_of, origin_at, IsAlike};
 ghost use Rattle.ltm_units.specs.Bounds.{most_amount, most_demand_rows};
 
@@ -223,7 +223,7 @@ impl Demand {
 
 /// How many rows are taken out where this one is set over another: one where its amount is 0.
 fn taken_out(row: &DemandRow) -> usize
-    ensures { result + length (shown row.now) ≡ 1 }
+    ensures { result + length (row_if_any row.now) ≡ 1 }
 {
     if row.amount.0 == 0 { 1 } else { 0 }
 }

@@ -7,7 +7,7 @@ ghost use Rattle.ltm_flows.specs.Origins.{produced_in_all, departed_from};
 ghost use Rattle.ltm_units.specs.Bounds.{most_produced};
 
 use super::Loading;
-use crate::in_all::Totals;
+use crate::loading_totals::Totals;
 use crate::sums::sum_up;
 use ltm_loading::{arr_behind, dep_behind, down_of, up_of};
 use ltm_units::{LinkId, NodeId, Units};

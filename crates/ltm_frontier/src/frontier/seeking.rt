@@ -6,14 +6,14 @@ use ltm_units::{NodeId, Pair};
 
 impl Frontier {
     ghost use Rattle.ltm_frontier.specs.Frontier.{
-      nodes_of,
-      slots_of,
+      nodes_in,
+      slots_in,
       is_active,
       AllIdle,
       IsFront,
       IsFrontFrom,
       IsNextActive,
-      NoneActive,
+      NoneActiveIn,
       SamePairs,
       SameSize,
       NoneBefore,
@@ -22,7 +22,7 @@ impl Frontier {
 
     /// The first active pair before an end, slot after slot.
     fn first_active(&self, end: u32) -> Option<Pair>
-        requires { end ≤ slots_of self.now }
+        requires { end ≤ slots_in self.now }
         ensures { MatchOption result (NoneBefore self.now end)
             (λ pair. IsFirst self.now end pair.slot pair.node.0) }
     {
@@ -41,8 +41,8 @@ impl Frontier {
     /// A node below which no pair of a slot is active.
     #[inline]
     fn first_at(&self, slot: u32) -> u32
-        requires { slot < slots_of self.now }
-        ensures { (u : ℕ) → u < nodes_of self.now → u < result → is_active self.now u slot ≡ false }
+        requires { slot < slots_in self.now }
+        ensures { (u : ℕ) → u < nodes_in self.now → u < result → is_active self.now u slot ≡ false }
     {
         if slot == self.low { self.first } else { 0 }
     }
@@ -139,8 +139,8 @@ impl Frontier {
     /// The first active node of a slot that is not below one; none exactly where there is none.
     #[inline]
     pub fn next_active(&self, slot: u32, from: NodeId) -> Option<NodeId>
-        requires { slot < slots_of self.now }
-        ensures { MatchOption result (NoneActive self.now slot from.0)
+        requires { slot < slots_in self.now }
+        ensures { MatchOption result (NoneActiveIn self.now slot from.0)
             (λ node. IsNextActive self.now slot from.0 node.0) }
     {
         let from = from.0.max(self.first_at(slot));

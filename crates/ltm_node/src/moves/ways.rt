@@ -19,7 +19,7 @@ pub struct Way {
 
 /// Two out-links, the weight of the first, and the sum of all weights.
 #[derive(Clone, Copy)]
-pub struct Pair {
+pub struct TwoWays {
     pub first: Way,
     pub second: Way,
     pub weight: u64,
@@ -100,7 +100,7 @@ impl Mover<'_> {
 
     /// Adds what moves of a load that goes by two out-links.
     #[inline]
-    fn send_by_two(&self, load: Load, pair: Pair, row: &mut [u64], sent: &mut Sent)
+    fn send_by_two(&self, load: Load, pair: TwoWays, row: &mut [u64], sent: &mut Sent)
         requires load { IsLoad self.now.inputs.now load }
         requires elsewhere { is_own self.now.inputs.now.shape load.destination ≡ false }
         requires pair { AreOnlyWays self.now.inputs.now load.destination pair }
@@ -126,7 +126,7 @@ impl Mover<'_> {
     pub(super) fn send_all_by_two(
         &self,
         destination: u32,
-        pair: Pair,
+        pair: TwoWays,
         row: &mut [u64],
         sent: &mut Sent,
     )

@@ -1,11 +1,11 @@
 //! What builds a scenario up: links, destinations, rows, entry and exit limits.
 ghost use Rattle.std.specs.Prelude.{◌≡◌, ◌≢◌, ℕ, ◌<◌, ◌≤◌, length, Ok, Err, OnOk, OnErr, IfOk, IfErr};
 ghost use Rattle.ltm_diagram.specs.Limits.{limits_of};
-ghost use Rattle.ltm_network.specs.Network.{checked, linked as linked_network};
+ghost use Rattle.ltm_network.specs.Network.{checked, network_linked as linked_network};
 ghost use Rattle.ltm_network.specs.Names.{number_of};
 ghost use Rattle.ltm_splits.specs.Rows.{key_of};
 ghost use Rattle.ltm_scenario.specs.Reads.{destination_of};
-ghost use Rattle.ltm_scenario.specs.Build.{with_link, linked, with_destination, with_demand, with_split, with_limit_set, with_exit, HasNoSplitAt};
+ghost use Rattle.ltm_scenario.specs.Build.{with_link, with_link_on, with_destination, with_demand, with_split, with_limit_set, with_exit, HasNoSplitAt};
 ghost use Rattle.ltm_scenario.specs.IsScenario.{IsDemandOf, IsSplitOf};
 ghost use Rattle.ltm_units.specs.Bounds.{most_amount};
 
@@ -66,7 +66,7 @@ impl Scenario {
         requires taken { checked self.old.network name tail head ≡ Ok tt }
         requires limits { limits_of diagram self.old.setup.step.0 ≡ Ok limits }
         ensures ok { OnOk result
-            (self.new ≡ linked self.old (linked_network self.old.network name tail head) diagram) }
+            (self.new ≡ with_link_on self.old (linked_network self.old.network name tail head) diagram) }
         ensures number { IfOk result (λ link. link.0 ≡ length self.old.network.links) }
         ensures err { OnErr result (self.new ≡ self.old) }
     {

@@ -1,5 +1,5 @@
 use Rattle.std.proofs.Common.{◌≡◌, ◌≢◌, ℕ, ◌+◌, ◌*◌, ◌<◌, ◌≤◌, length, slice_index}
-use Rattle.ltm_demand.specs.Tables.{IsOneOf}
+use Rattle.ltm_demand.specs.Productions.{IsOneOf}
 use Rattle.ltm_demand.proofs.shifting.shift_after.Given as goal
 
 abbrev pub invariant-loop-slot : goal.invariant-loop-slot

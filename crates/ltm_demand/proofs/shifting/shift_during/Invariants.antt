@@ -1,6 +1,6 @@
 use Rattle.std.proofs.Common.{◌≡◌, ◌≢◌, ℕ, ◌+◌, ◌-◌, ◌*◌, ◌<◌, ◌≤◌, length, slice_index}
 use Rattle.ltm_demand.specs.Produced.{produced}
-use Rattle.ltm_demand.specs.Tables.{IsOneOf}
+use Rattle.ltm_demand.specs.Productions.{IsOneOf}
 use Rattle.ltm_demand.proofs.shifting.shift_during.Given as goal
 
 abbrev pub invariant-loop-slot : goal.invariant-loop-slot

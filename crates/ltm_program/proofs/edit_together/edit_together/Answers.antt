@@ -1,5 +1,5 @@
 use Rattle.std.proofs.Common.{refl, Ok, Err}
-use Rattle.ltm_session_editors.specs.Answers.{IsTold, IsMissing}
+use Rattle.ltm_session_editors.specs.Answers.{IsTold, IsUngiven}
 use Rattle.ltm_command.specs.declared.status.Status.TheVariants as ending
 use Rattle.ltm_command.proofs.Running.{run_written, run_refused}
 use Rattle.ltm_program.specs.Editors.{editing_status, editing_words}
@@ -15,7 +15,7 @@ returns-in-Ok g c = λ left read_faults.
 pub returns-in-Err : goal.returns-in-Err
 returns-in-Err g c = λ left read_faults.
     let e = c.in-Err.refusal in
-    run_refused _ _ _ (IsTold e) (IsMissing e) _ (editing_status (Err e)) (editing_words (Err e)) _ _
+    run_refused _ _ _ (IsTold e) (IsUngiven e) _ (editing_status (Err e)) (editing_words (Err e)) _ _
     (c.editing_text.ensures.keeps, stays _ _ c.args.editors _ c.editing_text.ensures.others c.editing_text.ensures.unasked) (refl, refl)
     (λ told. (Err e, c.in-Err.ensures.fault told, refl, refl)) (told_given e) (never_ok e) (never_read e) c.in-Err.ensures.missed
     c.refuse.ensures.whole c.refuse.ensures.front c.refuse.ensures.folder_fault c.refuse.ensures.cause

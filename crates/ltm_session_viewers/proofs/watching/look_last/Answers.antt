@@ -1,6 +1,6 @@
 use Rattle.std.proofs.Common.{◌≡◌, List, length, arith, subst}
 use mathlib.Core.List.{IsPrefix}
-use Rattle.ltm_board.specs.Lists.{PostData, joined, IsSheetAfter}
+use Rattle.ltm_board.specs.Lists.{PostData, entries_of_posts, IsSheetAfter}
 use Rattle.ltm_board.specs.Begins.{BeginsWith}
 use Rattle.ltm_board.specs.Known.{newest}
 use Rattle.ltm_board.specs.Boards.{board_list, viewer_lists}
@@ -17,5 +17,5 @@ returns-else-read-count-clause-sheet g c =
     let same : c.read-read.result ≡ c.sheet-count.result = omega (arith, c.if-read-count.false) in
     let there = c.read-read.ensures.count in
     let here = c.sheet-count.ensures.count in
-    let long : length (joined list) ≡ length (joined own) = omega (arith, same, there, here) in
+    let long : length (entries_of_posts list) ≡ length (entries_of_posts own) = omega (arith, same, there, here) in
     subst (λ l. IsSheetAfter l c.read-read.new.into) (same_joined own list up long) c.read-read.ensures.sheet

@@ -7,7 +7,7 @@ use Rattle.ltm_setting.specs.Setting.{setting_of}
 use Rattle.ltm_flows.specs.Applying.{out_group, SetsGroups, SetsSink}
 use Rattle.ltm_flows.proofs.Writing.{arm_there, arm_apart, applies_holds}
 use Rattle.ltm_frontier.specs.Frontier.{Activates}
-use Rattle.ltm_working.specs.Counted.{counted_number, counted}
+use Rattle.ltm_working.specs.Counted.{counted_number, counts_by_form}
 use Rattle.ltm_working.specs.Desks.{place_of}
 use Rattle.ltm_working.specs.Waking.{arm_differs, out_differs, sink_differs, PutsCells, changes_outs, wakes_tails, wakes_heads}
 use Rattle.ltm_working.proofs.Activating.{act_as, act_both}
@@ -48,16 +48,16 @@ renew_sink-sink-requires-clause-small c =
     omega (
       arith,
       ap (counted_number given (arrived_by s now (s.own u) t)) c.arrived.ensures ∙ sink_counted given s now u t o c.requires.outputs,
-      small_still given s old now u t o c.is_setting.ensures.setting c.requires.node still c.requires.small (arrived_after_place (counted given s now u t o).shape),
+      small_still given s old now u t o c.is_setting.ensures.setting c.requires.node still c.requires.small (arrived_after_place (counts_by_form given s now u t o).shape),
     )
 
 -- the counts that are set
 abbrev all_of : (c : goal.After-renew_sink-sink) → Outputs
-all_of c = counted c.args.renewal.given (setting_of c.args.renewal.scenario.now) (counts_of c.args.curves.now) c.args.renewal.pair.node.0 c.args.renewal.pair.slot c.args.renewal.outputs.now
+all_of c = counts_by_form c.args.renewal.given (setting_of c.args.renewal.scenario.now) (counts_of c.args.curves.now) c.args.renewal.pair.node.0 c.args.renewal.pair.slot c.args.renewal.outputs.now
 
 -- they are told alike of the counts as they stand after the in-links, after the origin and after the out-links
 after_tails : (c : goal.After-renew_sink-sink) →
-    counted c.args.renewal.given (setting_of c.args.renewal.scenario.now) (counts_of c.renew_tails-tails.new.curves) c.args.renewal.pair.node.0 c.args.renewal.pair.slot c.args.renewal.outputs.now ≡ all_of c
+    counts_by_form c.args.renewal.given (setting_of c.args.renewal.scenario.now) (counts_of c.renew_tails-tails.new.curves) c.args.renewal.pair.node.0 c.args.renewal.pair.slot c.args.renewal.outputs.now ≡ all_of c
 after_tails c =
     let s = setting_of c.args.renewal.scenario.now in
     counted_still c.args.renewal.given s (counts_of c.args.curves.now) (counts_of c.renew_tails-tails.new.curves) c.args.renewal.pair.node.0 c.args.renewal.pair.slot c.args.renewal.outputs.now c.is_setting.ensures.setting c.requires.node
@@ -71,7 +71,7 @@ arms c =
     c.is_setting.ensures.setting c.requires.node c.requires.slot c.renew_tails-tails.ensures.sets c.renew_origin-origin.ensures.sets c.renew_origin-origin.ensures.stays
 
 after_arms : (c : goal.After-renew_sink-sink) →
-    counted c.args.renewal.given (setting_of c.args.renewal.scenario.now) (counts_of c.renew_origin-origin.new.curves) c.args.renewal.pair.node.0 c.args.renewal.pair.slot c.args.renewal.outputs.now ≡ all_of c
+    counts_by_form c.args.renewal.given (setting_of c.args.renewal.scenario.now) (counts_of c.renew_origin-origin.new.curves) c.args.renewal.pair.node.0 c.args.renewal.pair.slot c.args.renewal.outputs.now ≡ all_of c
 after_arms c =
     let s = setting_of c.args.renewal.scenario.now in
     counted_still c.args.renewal.given s (counts_of c.args.curves.now) (counts_of c.renew_origin-origin.new.curves) c.args.renewal.pair.node.0 c.args.renewal.pair.slot c.args.renewal.outputs.now c.is_setting.ensures.setting c.requires.node
@@ -86,7 +86,7 @@ outs c =
     subst (λ (z : Outputs). SetsGroups s (c.args.renewal.pair.slot + 1) (s.outs u) (out_group s u) (entered_after z) (counts_of c.renew_origin-origin.new.curves) (counts_of c.renew_heads-heads.new.curves)) (after_arms c) c.renew_heads-heads.ensures.sets
 
 after_outs : (c : goal.After-renew_sink-sink) →
-    counted c.args.renewal.given (setting_of c.args.renewal.scenario.now) (counts_of c.renew_heads-heads.new.curves) c.args.renewal.pair.node.0 c.args.renewal.pair.slot c.args.renewal.outputs.now ≡ all_of c
+    counts_by_form c.args.renewal.given (setting_of c.args.renewal.scenario.now) (counts_of c.renew_heads-heads.new.curves) c.args.renewal.pair.node.0 c.args.renewal.pair.slot c.args.renewal.outputs.now ≡ all_of c
 after_outs c =
     let s = setting_of c.args.renewal.scenario.now in
     let u : ℕ = c.args.renewal.pair.node.0 in

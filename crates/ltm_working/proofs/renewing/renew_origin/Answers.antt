@@ -7,7 +7,7 @@ use Rattle.ltm_loading.specs.Groups.{dep_of, groups}
 use Rattle.ltm_setting.specs.Setting.{setting_of}
 use Rattle.ltm_setting.proofs.Links.{some_out}
 use Rattle.ltm_flows.proofs.Writing.{sets_none, sets_next}
-use Rattle.ltm_working.specs.Counted.{counted_row, counted}
+use Rattle.ltm_working.specs.Counted.{counted_row, counts_by_form}
 use Rattle.ltm_working.specs.Waking.{row_differs}
 use Rattle.ltm_working.proofs.Wakings.{row_same, arm_origin}
 use Rattle.ltm_working.proofs.Counted.{arm_row}
@@ -26,7 +26,7 @@ renew-requires-clause-small c d l =
       arm_row c.args.renewal.given s counts counts u c.args.renewal.pair.slot (s.ins u) c.dep_of-group.result c.args.renewal.outputs.now c.left_row.result.now c.is_setting.ensures.setting c.requires.node inside (c.dep_of-group.ensures.group ∙ sym (arm_origin s u))
           c.requires.outputs c.left_row.ensures.count (λ e m. c.left_row.ensures.counts e m ∙ ap (λ (n : ℕ). left_after c.args.renewal.outputs.now n e) (omega (arith, c.in_links.ensures.count)))
           (λ g e x m. refl) d (omega (arith, l, shape, c.left_row.ensures.count)),
-      c.requires.small (left_after_place (counted c.args.renewal.given s counts u c.args.renewal.pair.slot c.args.renewal.outputs.now).shape (s.ins u) d),
+      c.requires.small (left_after_place (counts_by_form c.args.renewal.given s counts u c.args.renewal.pair.slot c.args.renewal.outputs.now).shape (s.ins u) d),
     )
 
 pub returns-clause-origin : goal.returns-clause-origin
@@ -39,7 +39,7 @@ returns-clause-origin c = λ some.
     let row = counted_row c.args.renewal.given counts c.dep_of-group.result c.args.renewal.pair.slot c.left_row.result.now in
     c.renew.ensures.value
     ∙ (ap (λ (m : ℕ). row_differs m counts c.dep_of-group.result k (slice_index row)) c.requires.shape.same_destinations
-    ∙ row_same s.destinations counts c.dep_of-group.result (arm_group s u (s.ins u)) k (slice_index row) (left_after (counted c.args.renewal.given s counts u c.args.renewal.pair.slot c.args.renewal.outputs.now) (s.ins u)) group
+    ∙ row_same s.destinations counts c.dep_of-group.result (arm_group s u (s.ins u)) k (slice_index row) (left_after (counts_by_form c.args.renewal.given s counts u c.args.renewal.pair.slot c.args.renewal.outputs.now) (s.ins u)) group
     (arm_row c.args.renewal.given s counts counts u c.args.renewal.pair.slot (s.ins u) c.dep_of-group.result c.args.renewal.outputs.now c.left_row.result.now c.is_setting.ensures.setting c.requires.node (omega (arith, some)) group c.requires.outputs c.left_row.ensures.count
     (λ e m. c.left_row.ensures.counts e m ∙ ap (λ (n : ℕ). left_after c.args.renewal.outputs.now n e) (omega (arith, c.in_links.ensures.count))) (λ g e x m. refl)))
 
@@ -49,7 +49,7 @@ returns-clause-sets c = λ some.
     let old = counts_of c.args.curves.now in
     let u : ℕ = c.args.renewal.pair.node.0 in
     let k : ℕ = c.args.renewal.pair.slot + 1 in
-    let o = counted c.args.renewal.given s old u c.args.renewal.pair.slot c.args.renewal.outputs.now in
+    let o = counts_by_form c.args.renewal.given s old u c.args.renewal.pair.slot c.args.renewal.outputs.now in
     let within : k ≤ s.slots = omega (arith, c.requires.slot) in
     let group = c.dep_of-group.ensures.group in
     let there : c.dep_of-group.result < groups s = omega (arith, group, c.requires.node) in

@@ -2,7 +2,7 @@ use Rattle.std.proofs.Common.{◌≡◌, ◌&&◌, ◌||◌, ℕ, ◌+◌, true,
 use Rattle.ltm_curve.specs.Table.{counts_of}
 use Rattle.ltm_setting.specs.Setting.{setting_of}
 use Rattle.ltm_frontier.specs.Frontier.{is_pair}
-use Rattle.ltm_working.specs.Counted.{counted}
+use Rattle.ltm_working.specs.Counted.{counts_by_form}
 use Rattle.ltm_working.specs.Desks.{place_of}
 use Rattle.ltm_working.specs.Waking.{any_differs, wakes_others, wakes}
 use Rattle.ltm_working.proofs.Bools.{or_false}
@@ -16,7 +16,7 @@ returns-then-not-any-clause-wakes c =
     let old = counts_of c.args.curves.now in
     let places = place_of c.args.index.now in
     let u : ℕ = c.args.renewal.pair.node.0 in
-    let o = counted c.args.renewal.given s old u c.args.renewal.pair.slot c.args.renewal.outputs.now in
+    let o = counts_by_form c.args.renewal.given s old u c.args.renewal.pair.slot c.args.renewal.outputs.now in
     let k : ℕ = c.args.renewal.pair.slot + 1 in
     let off : any_differs s old u k o ≡ false = sym c.renew_all-any.ensures.value ∙ c.if-not-any.true in
     act_as c.args.frontier.now c.renew_all-any.new.frontier (wakes_others s old places u k o) (wakes s old places u k o) c.renew_all-any.ensures.wakes
@@ -28,7 +28,7 @@ returns-clause-wakes c =
     let old = counts_of c.args.curves.now in
     let places = place_of c.args.index.now in
     let u : ℕ = c.args.renewal.pair.node.0 in
-    let o = counted c.args.renewal.given s old u c.args.renewal.pair.slot c.args.renewal.outputs.now in
+    let o = counts_by_form c.args.renewal.given s old u c.args.renewal.pair.slot c.args.renewal.outputs.now in
     let k : ℕ = c.args.renewal.pair.slot + 1 in
     let on : any_differs s old u k o ≡ true = sym c.renew_all-any.ensures.value ∙ c.if-not-any.false in
     act_as c.args.frontier.now c.wake_next.new.frontier (λ w v. wakes_others s old places u k o w v || is_pair u k w v) (wakes s old places u k o)

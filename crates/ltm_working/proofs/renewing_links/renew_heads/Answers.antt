@@ -8,7 +8,7 @@ use Rattle.ltm_setting.specs.Setting.{setting_of}
 use Rattle.ltm_setting.proofs.Links.{link_item}
 use Rattle.ltm_flows.specs.Applying.{out_group}
 use Rattle.ltm_flows.proofs.Writing.{sets_next, still_shaped, out_there, out_apart}
-use Rattle.ltm_working.specs.Counted.{counted_row, counted}
+use Rattle.ltm_working.specs.Counted.{counted_row, counts_by_form}
 use Rattle.ltm_working.specs.Desks.{place_of}
 use Rattle.ltm_working.specs.Waking.{wakes_head}
 use Rattle.ltm_working.proofs.Activating.{act_as}
@@ -32,7 +32,7 @@ renew_head-woken-requires-clause-small c d l =
       arith,
       out_row c.args.renewal.given s old (counts_of c.loop-place.curves) u c.args.renewal.pair.slot n _ c.args.renewal.outputs.now c.entered_row-numbers.result.now is c.requires.node inside group c.requires.outputs c.entered_row-numbers.ensures.count
           c.entered_row-numbers.ensures.counts (begins_still s c.args.renewal.pair.slot n _ _ old (counts_of c.loop-place.curves) c.requires.slot c.loop-place.invariant.sets) d (omega (arith, l, shape, c.entered_row-numbers.ensures.count)),
-      c.requires.small (entered_after_place (counted c.args.renewal.given s old u c.args.renewal.pair.slot c.args.renewal.outputs.now).shape n d),
+      c.requires.small (entered_after_place (counts_by_form c.args.renewal.given s old u c.args.renewal.pair.slot c.args.renewal.outputs.now).shape n d),
     )
 
 pub loop-place-preserved : goal.loop-place-preserved
@@ -47,7 +47,7 @@ loop-place-preserved c =
     let k : ℕ = c.args.renewal.pair.slot + 1 in
     let n : ℕ = c.loop-place.place in
     let l : ℕ = (get_or links n (record { 0 = 0 })).0 in
-    let o = counted c.args.renewal.given s old u c.args.renewal.pair.slot c.args.renewal.outputs.now in
+    let o = counts_by_form c.args.renewal.given s old u c.args.renewal.pair.slot c.args.renewal.outputs.now in
     let row = counted_row c.args.renewal.given now (up_of l) c.args.renewal.pair.slot c.entered_row-numbers.result.now in
     let units : ℕ = sum_below s.destinations (slice_index row) in
     let inside : n < s.outs u = omega (arith, c.loop-place-test.true, c.out_links-link-items.ensures.count) in

@@ -8,7 +8,7 @@ use Rattle.ltm_setting.specs.Setting.{setting_of}
 use Rattle.ltm_setting.proofs.Links.{link_item}
 use Rattle.ltm_flows.proofs.Writing.{sets_next, still_shaped, arm_there, arm_apart, pick_first}
 use Rattle.ltm_working.proofs.Wakings.{IsArm, arms_value, arms_cells, arms_wake}
-use Rattle.ltm_working.specs.Counted.{counted_row, counted}
+use Rattle.ltm_working.specs.Counted.{counted_row, counts_by_form}
 use Rattle.ltm_working.proofs.Renewals.{row_unset}
 use Rattle.ltm_working.proofs.Counted.{arm_row, begins_still}
 use Rattle.ltm_working.proofs.renewing_links.renew_tails.Goals as goal
@@ -29,7 +29,7 @@ renew_tail-woken-requires-clause-small c d l =
       arith,
       arm_row c.args.renewal.given s old (counts_of c.loop-place.curves) u c.args.renewal.pair.slot n _ c.args.renewal.outputs.now c.left_row-numbers.result.now is c.requires.node (omega (arith, link)) group c.requires.outputs c.left_row-numbers.ensures.count
           c.left_row-numbers.ensures.counts (begins_still s c.args.renewal.pair.slot n _ _ old (counts_of c.loop-place.curves) c.requires.slot c.loop-place.invariant.sets) d (omega (arith, l, shape, c.left_row-numbers.ensures.count)),
-      c.requires.small (left_after_place (counted c.args.renewal.given s old u c.args.renewal.pair.slot c.args.renewal.outputs.now).shape n d),
+      c.requires.small (left_after_place (counts_by_form c.args.renewal.given s old u c.args.renewal.pair.slot c.args.renewal.outputs.now).shape n d),
     )
 
 pub loop-place-preserved : goal.loop-place-preserved
@@ -43,7 +43,7 @@ loop-place-preserved c =
     let k : ℕ = c.args.renewal.pair.slot + 1 in
     let n : ℕ = c.loop-place.place in
     let l : ℕ = (get_or links n (record { 0 = 0 })).0 in
-    let o = counted c.args.renewal.given s old u c.args.renewal.pair.slot c.args.renewal.outputs.now in
+    let o = counts_by_form c.args.renewal.given s old u c.args.renewal.pair.slot c.args.renewal.outputs.now in
     let row = counted_row c.args.renewal.given now (down_of l) c.args.renewal.pair.slot c.left_row-numbers.result.now in
     let link : n < s.ins u = omega (arith, c.loop-place-test.true, c.in_links-link-items.ensures.count) in
     let inside : n < arms_of s u = omega (arith, link) in

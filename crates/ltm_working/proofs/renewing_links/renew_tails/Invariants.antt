@@ -7,15 +7,15 @@ use Rattle.ltm_flows.specs.Applying.{SetsGroups}
 use Rattle.ltm_loading.specs.Shaped.{IsShaped}
 use Rattle.ltm_frontier.specs.Frontier.{Activates}
 use Rattle.ltm_pairs.specs.Changes.{some_below}
-use Rattle.ltm_working.specs.Counted.{counted}
+use Rattle.ltm_working.specs.Counted.{counts_by_form}
 use Rattle.ltm_working.specs.Waking.{arm_differs, PutsCells, changes_arms, wakes_tails}
 use Rattle.ltm_working.proofs.renewing_links.renew_tails.Given as goal
 
 abbrev pub invariant-loop-place : goal.invariant-loop-place
 invariant-loop-place l = record {
   shape : IsShaped (setting_of l.scenario) l.curves;
-  sets : SetsGroups (setting_of l.scenario) (l.pair.slot + 1) l.place (arm_group (setting_of l.scenario) l.pair.node.0) (left_after (counted l.given (setting_of l.scenario) (counts_of l.fn.curves) l.pair.node.0 l.pair.slot l.outputs)) (counts_of l.fn.curves) (counts_of l.curves);
-  value : l.any ≡ some_below l.place (arm_differs (setting_of l.scenario) (counts_of l.fn.curves) l.pair.node.0 (l.pair.slot + 1) (counted l.given (setting_of l.scenario) (counts_of l.fn.curves) l.pair.node.0 l.pair.slot l.outputs));
-  cells : PutsCells l.fn.changed l.changed (changes_arms (setting_of l.scenario) (counts_of l.fn.curves) l.pair.node.0 (l.pair.slot + 1) (counted l.given (setting_of l.scenario) (counts_of l.fn.curves) l.pair.node.0 l.pair.slot l.outputs) l.place);
-  wakes : Activates l.fn.frontier l.frontier (wakes_tails (setting_of l.scenario) (counts_of l.fn.curves) l.pair.node.0 (l.pair.slot + 1) (counted l.given (setting_of l.scenario) (counts_of l.fn.curves) l.pair.node.0 l.pair.slot l.outputs) l.place);
+  sets : SetsGroups (setting_of l.scenario) (l.pair.slot + 1) l.place (arm_group (setting_of l.scenario) l.pair.node.0) (left_after (counts_by_form l.given (setting_of l.scenario) (counts_of l.fn.curves) l.pair.node.0 l.pair.slot l.outputs)) (counts_of l.fn.curves) (counts_of l.curves);
+  value : l.any ≡ some_below l.place (arm_differs (setting_of l.scenario) (counts_of l.fn.curves) l.pair.node.0 (l.pair.slot + 1) (counts_by_form l.given (setting_of l.scenario) (counts_of l.fn.curves) l.pair.node.0 l.pair.slot l.outputs));
+  cells : PutsCells l.fn.changed l.changed (changes_arms (setting_of l.scenario) (counts_of l.fn.curves) l.pair.node.0 (l.pair.slot + 1) (counts_by_form l.given (setting_of l.scenario) (counts_of l.fn.curves) l.pair.node.0 l.pair.slot l.outputs) l.place);
+  wakes : Activates l.fn.frontier l.frontier (wakes_tails (setting_of l.scenario) (counts_of l.fn.curves) l.pair.node.0 (l.pair.slot + 1) (counts_by_form l.given (setting_of l.scenario) (counts_of l.fn.curves) l.pair.node.0 l.pair.slot l.outputs) l.place);
 }

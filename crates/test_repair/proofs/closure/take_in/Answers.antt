@@ -4,7 +4,7 @@ use Rattle.ltm_scenario.specs.Data.{ScenarioData}
 use Rattle.ltm_setting.specs.Setting.{setting_of}
 use Rattle.ltm_pairs.specs.Touched.{HaveSlots}
 use Rattle.ltm_working.specs.Ready.{IsReady}
-use Rattle.ltm_working.specs.Growing.{horizon_of, HasRoom}
+use Rattle.ltm_working.specs.Growing.{horizon_of, TableHasRoom}
 use Rattle.ltm_working.specs.Batches.{LeadsTo}
 use Rattle.ltm_working.proofs.Batching.{horizon_is}
 use Rattle.test_repair.proofs.closure.take_in.Goals as goal
@@ -19,7 +19,7 @@ pub take_in-requires-clause-room : goal.take_in-requires-clause-room
 take_in-requires-clause-room c =
     let same : horizon_of c.args.table.now ≡ (setting_of c.accept.new.self).slots =
     omega (arith, c.requires.ready.fits.curves.same_slots, horizon_is c.args.scenario.now, horizon_is c.accept.new.self, c.in-Ok.ensures.horizon, c.requires.horizon) in
-    subst (λ (n : ℕ). HasRoom c.args.table.now n) same (c.tables_fit.ensures c.args.scenario.now c.accept.new.self c.args.table.now c.in-Ok.ensures.shape c.requires.ready.fits).room
+    subst (λ (n : ℕ). TableHasRoom c.args.table.now n) same (c.tables_fit.ensures c.args.scenario.now c.accept.new.self c.args.table.now c.in-Ok.ensures.shape c.requires.ready.fits).room
 
 pub returns-in-Ok : goal.returns-in-Ok
 returns-in-Ok c =

@@ -3,7 +3,7 @@ use Rattle.std.proofs.lemmas.Bool.{false≢true}
 use Rattle.ltm_scenario.specs.Edits.{horizon_after}
 use Rattle.ltm_setting.specs.Setting.{setting_of}
 use Rattle.ltm_flows.specs.Shown.{SameLoading, loading_room}
-use Rattle.ltm_working.specs.Growing.{HasRoom}
+use Rattle.ltm_working.specs.Growing.{TableHasRoom}
 use Rattle.ltm_core.specs.Cores.{CoreData}
 use Rattle.ltm_scenario.specs.Horizon.{MayReach}
 use Rattle.ltm_core.proofs.Logs.{put_log, same_log, same_length, few_more}
@@ -99,7 +99,7 @@ returns-then-not-may_reach-clause-beyond c = λ no. core_same _ _ c.refuse.new.s
 pub take_batch-requires-clause-room : goal.take_batch-requires-clause-room
 take_batch-requires-clause-room c =
     let asked : c.horizon-slots.result ≡ horizon_after c.self.inside.scenario.setup.slots c.args.batch = rw c.setup.ensures.setup at c.horizon-slots.ensures in
-    subst (λ (n : ℕ). HasRoom c.reserve_all.new.table n) asked c.in-Ok.ensures.table_room
+    subst (λ (n : ℕ). TableHasRoom c.reserve_all.new.table n) asked c.in-Ok.ensures.table_room
 
 pub returns-in-Ok-clause-shown : goal.returns-in-Ok-clause-shown
 returns-in-Ok-clause-shown c = subst (λ (z : CoreData). SameLoading z.shown c.reserve_all.new.shown) c.self.view_is c.reserve_all.ensures.shown

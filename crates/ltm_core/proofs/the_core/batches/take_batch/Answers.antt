@@ -1,7 +1,7 @@
 use Rattle.std.proofs.Common.{◌≡◌, ℕ, subst, sym, ◌∙◌}
 use Rattle.ltm_scenario.specs.Edits.{horizon_after}
 use Rattle.ltm_setting.specs.Setting.{setting_of}
-use Rattle.ltm_working.specs.Growing.{HasRoom}
+use Rattle.ltm_working.specs.Growing.{TableHasRoom}
 use Rattle.ltm_working.proofs.Batching.{horizon_is}
 use Rattle.ltm_core.proofs.Batches.{takes_batch}
 use Rattle.ltm_core.proofs.the_core.batches.take_batch.Goals as goal
@@ -15,7 +15,7 @@ take_in-requires-clause-longer c = (c.tables_fit.ensures c.args.scenario.now c.a
 pub take_in-requires-clause-room : goal.take_in-requires-clause-room
 take_in-requires-clause-room c =
     let slots : (setting_of c.accept.new.self).slots ≡ horizon_after c.args.scenario.now.setup.slots c.args.batch = horizon_is c.accept.new.self ∙ c.in-Ok.ensures.horizon in
-    subst (λ (n : ℕ). HasRoom c.args.table.now n) (sym slots) c.requires.room
+    subst (λ (n : ℕ). TableHasRoom c.args.table.now n) (sym slots) c.requires.room
 
 pub returns-in-Ok-clause-slots : goal.returns-in-Ok-clause-slots
 returns-in-Ok-clause-slots c = horizon_is c.accept.new.self ∙ c.in-Ok.ensures.horizon

@@ -1,5 +1,5 @@
 use Rattle.std.proofs.Common.{◌≡◌, ◌<◌, length, arith, ap, ◌∙◌}
-use Rattle.ltm_demand.specs.Rows.{DemandState, edited}
+use Rattle.ltm_demand.specs.Rows.{DemandState, edited_rows}
 use Rattle.ltm_demand.proofs.Restoring.{with_row_over, length_filled, none_stands}
 use Rattle.ltm_demand.proofs.demand.Demand.add.Goals as goal
 
@@ -7,7 +7,7 @@ pub returns-then-self-ge-MAX_ROWS-clause-cause : goal.returns-then-self-ge-MAX_R
 returns-then-self-ge-MAX_ROWS-clause-cause c = λ _.
     let rows = c.args.self.now.demand.rows in
     let count : c.self.inside.count ≡ length rows = c.self.invariant.counted ∙ ap (λ (d : DemandState). length d.demand.rows) c.self.view_is in
-    let many : 10000 < length (edited rows c.args.row.now) = omega (arith, length_filled rows c.args.row.now c.args.place c.requires.gap c.requires.some, count, c.if-self-ge-MAX_ROWS.true) in
+    let many : 10000 < length (edited_rows rows c.args.row.now) = omega (arith, length_filled rows c.args.row.now c.args.place c.requires.gap c.requires.some, count, c.if-self-ge-MAX_ROWS.true) in
     with_row_over c.args.self.now.demand c.args.row.now c.requires.slots many
 
 pub returns-then-self-ge-MAX_ROWS-clause-was : goal.returns-then-self-ge-MAX_ROWS-clause-was

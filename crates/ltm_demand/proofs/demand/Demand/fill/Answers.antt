@@ -1,7 +1,7 @@
 use Rattle.std.proofs.Common.{◌≡◌, ℕ, ◌+◌, ◌<◌, true, length, set, arith, ap, sym, subst, ◌∙◌}
 use Rattle.std.proofs.lemmas.List.{get_or_read}
-use Rattle.ltm_demand.specs.Rows.{DemandState, IsNoLess, room_at, own_rows, edited, has_slots, has_place}
-use Rattle.ltm_demand.specs.Tables.{IsShifted, IsReached, IsRoomy}
+use Rattle.ltm_demand.specs.Rows.{DemandState, IsNoLess, room_at, own_rows, edited_rows, has_slots, has_place}
+use Rattle.ltm_demand.specs.Productions.{IsShifted, IsReached, IsRoomy}
 use Rattle.ltm_demand.specs.Origins.{OriginData, no_origin, origin_at, rows_of}
 use Rattle.ltm_demand.specs.Kept.{room_in, room_of}
 use Rattle.ltm_demand.specs.Places.{IsGap}
@@ -72,8 +72,8 @@ invariant_of-self c =
     let read : c.index_mut-origin.result.now ≡ origin_at xs row.origin.0 = get_or_read xs row.origin.0 c.index_mut-origin.result.now inside c.index_mut-origin.ensures.value no_origin in
     let within : has_slots c.self.inside.slots row ≡ true = subst (λ (d : DemandState). has_slots d.demand.slots row ≡ true) (sym c.self.view_is) c.requires.slots in
     let few : length (rows_of xs) < 10000 = subst (λ (d : DemandState). length d.demand.rows < 10000) (sym c.self.view_is) c.requires.few in
-    let one : length (edited (rows_of xs) row) ≡ length (rows_of xs) + 1 = subst (λ (d : DemandState). length (edited d.demand.rows row) ≡ length d.demand.rows + 1) (sym c.self.view_is) (length_filled c.args.self.now.demand.rows row c.args.place c.requires.gap c.requires.some) in
-    let rows : c.fill.new.self.rows ≡ edited (origin_at xs row.origin.0).rows row = c.fill.ensures.rows ∙ ap (λ (o : OriginData). edited o.rows row) read in
+    let one : length (edited_rows (rows_of xs) row) ≡ length (rows_of xs) + 1 = subst (λ (d : DemandState). length (edited_rows d.demand.rows row) ≡ length d.demand.rows + 1) (sym c.self.view_is) (length_filled c.args.self.now.demand.rows row c.args.place c.requires.gap c.requires.some) in
+    let rows : c.fill.new.self.rows ≡ edited_rows (origin_at xs row.origin.0).rows row = c.fill.ensures.rows ∙ ap (λ (o : OriginData). edited_rows o.rows row) read in
     let shifted : IsShifted (origin_at xs row.origin.0).table c.fill.new.self.table row 0 = subst (λ (o : OriginData). IsShifted o.table c.fill.new.self.table row 0) read c.fill.ensures.shifted in
     filled_kept c.self.inside.slots c.self.inside.count xs row c.args.place kept gap c.fill.new.self inside within c.requires.small one few rows shifted vacant.reached
 
@@ -88,8 +88,8 @@ returns c =
     let read : c.index_mut-origin.result.now ≡ origin_at xs row.origin.0 = get_or_read xs row.origin.0 c.index_mut-origin.result.now inside c.index_mut-origin.ensures.value no_origin in
     let within : has_slots c.self.inside.slots row ≡ true = subst (λ (d : DemandState). has_slots d.demand.slots row ≡ true) (sym c.self.view_is) c.requires.slots in
     let few : length (rows_of xs) < 10000 = subst (λ (d : DemandState). length d.demand.rows < 10000) (sym c.self.view_is) c.requires.few in
-    let one : length (edited (rows_of xs) row) ≡ length (rows_of xs) + 1 = subst (λ (d : DemandState). length (edited d.demand.rows row) ≡ length d.demand.rows + 1) (sym c.self.view_is) (length_filled c.args.self.now.demand.rows row c.args.place c.requires.gap c.requires.some) in
-    let rows : c.fill.new.self.rows ≡ edited (origin_at xs row.origin.0).rows row = c.fill.ensures.rows ∙ ap (λ (o : OriginData). edited o.rows row) read in
+    let one : length (edited_rows (rows_of xs) row) ≡ length (rows_of xs) + 1 = subst (λ (d : DemandState). length (edited_rows d.demand.rows row) ≡ length d.demand.rows + 1) (sym c.self.view_is) (length_filled c.args.self.now.demand.rows row c.args.place c.requires.gap c.requires.some) in
+    let rows : c.fill.new.self.rows ≡ edited_rows (origin_at xs row.origin.0).rows row = c.fill.ensures.rows ∙ ap (λ (o : OriginData). edited_rows o.rows row) read in
     let shifted : IsShifted (origin_at xs row.origin.0).table c.fill.new.self.table row 0 = subst (λ (o : OriginData). IsShifted o.table c.fill.new.self.table row 0) read c.fill.ensures.shifted in
     let all = subst (λ (d : DemandState). IsDone d (state_of c.self.inside.slots (rows_of (set xs row.origin.0 c.fill.new.self)) (room_of (set xs row.origin.0 c.fill.new.self))) row 0) c.self.view_is
     (filled_done c.self.inside.slots c.self.inside.count xs row c.args.place kept gap c.fill.new.self inside within c.requires.small one few rows shifted vacant.reached) in

@@ -3,7 +3,7 @@ use Rattle.std.specs.Prelude.{OnOk}
 use Rattle.std.proofs.lemmas.List.{get_or_read, get_or-set_same}
 use Rattle.ltm_demand.specs.declared.row.DemandRow.{DemandRow}
 use Rattle.ltm_demand.specs.Rows.{DemandData, DemandState, IsNoLess, room_at}
-use Rattle.ltm_demand.specs.Tables.{told, IsReached}
+use Rattle.ltm_demand.specs.Productions.{told, IsReached}
 use Rattle.ltm_demand.specs.Origins.{OriginData, no_origin, origin_at, IsAlike}
 use Rattle.ltm_demand.specs.Kept.{IsKept, room_in, room_of}
 use Rattle.ltm_demand.proofs.KeptOrigins.{kept_alike, alike_set, rows_set, room_alike, room_set, no_less_through}

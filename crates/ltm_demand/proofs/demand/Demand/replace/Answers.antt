@@ -1,7 +1,7 @@
 use Rattle.std.proofs.Common.{◌≡◌, ℕ, ◌<◌, true, length, set, arith, ap, sym, subst, ◌∙◌}
 use Rattle.std.proofs.lemmas.List.{get_or_read}
-use Rattle.ltm_demand.specs.Rows.{DemandState, IsNoLess, room_at, own_rows, edited, amount_at, has_slots}
-use Rattle.ltm_demand.specs.Tables.{IsShifted, IsReached, IsRoomy}
+use Rattle.ltm_demand.specs.Rows.{DemandState, IsNoLess, room_at, own_rows, edited_rows, amount_at, has_slots}
+use Rattle.ltm_demand.specs.Productions.{IsShifted, IsReached, IsRoomy}
 use Rattle.ltm_demand.specs.Origins.{OriginData, no_origin, origin_at, rows_of}
 use Rattle.ltm_demand.specs.Kept.{room_in, room_of}
 use Rattle.ltm_demand.specs.Places.{IsAt}
@@ -71,7 +71,7 @@ invariant_of-self c =
     let read : c.index_mut-origin.result.now ≡ origin_at xs row.origin.0 = get_or_read xs row.origin.0 c.index_mut-origin.result.now inside c.index_mut-origin.ensures.value no_origin in
     let within : has_slots c.self.inside.slots row ≡ true = subst (λ (d : DemandState). has_slots d.demand.slots row ≡ true) (sym c.self.view_is) c.requires.slots in
     let was : c.replace-was.result ≡ amount_at (origin_at xs row.origin.0).rows row = c.replace-was.ensures.was ∙ ap (λ (o : OriginData). amount_at o.rows row) read in
-    let rows : c.replace-was.new.self.rows ≡ edited (origin_at xs row.origin.0).rows row = c.replace-was.ensures.rows ∙ ap (λ (o : OriginData). edited o.rows row) read in
+    let rows : c.replace-was.new.self.rows ≡ edited_rows (origin_at xs row.origin.0).rows row = c.replace-was.ensures.rows ∙ ap (λ (o : OriginData). edited_rows o.rows row) read in
     let shifted : IsShifted (origin_at xs row.origin.0).table c.replace-was.new.self.table row c.replace-was.result = subst (λ (o : OriginData). IsShifted o.table c.replace-was.new.self.table row c.replace-was.result) read c.replace-was.ensures.shifted in
     replaced_kept c.self.inside.slots c.self.inside.count xs row c.args.place kept at c.replace-was.result c.taken_out.result c.replace-was.new.self inside within c.requires.small was rows shifted c.taken_out.ensures
 
@@ -85,7 +85,7 @@ returns c =
     let read : c.index_mut-origin.result.now ≡ origin_at xs row.origin.0 = get_or_read xs row.origin.0 c.index_mut-origin.result.now inside c.index_mut-origin.ensures.value no_origin in
     let within : has_slots c.self.inside.slots row ≡ true = subst (λ (d : DemandState). has_slots d.demand.slots row ≡ true) (sym c.self.view_is) c.requires.slots in
     let was : c.replace-was.result ≡ amount_at (origin_at xs row.origin.0).rows row = c.replace-was.ensures.was ∙ ap (λ (o : OriginData). amount_at o.rows row) read in
-    let rows : c.replace-was.new.self.rows ≡ edited (origin_at xs row.origin.0).rows row = c.replace-was.ensures.rows ∙ ap (λ (o : OriginData). edited o.rows row) read in
+    let rows : c.replace-was.new.self.rows ≡ edited_rows (origin_at xs row.origin.0).rows row = c.replace-was.ensures.rows ∙ ap (λ (o : OriginData). edited_rows o.rows row) read in
     let shifted : IsShifted (origin_at xs row.origin.0).table c.replace-was.new.self.table row c.replace-was.result = subst (λ (o : OriginData). IsShifted o.table c.replace-was.new.self.table row c.replace-was.result) read c.replace-was.ensures.shifted in
     let all = subst (λ (d : DemandState). IsDone d (state_of c.self.inside.slots (rows_of (set xs row.origin.0 c.replace-was.new.self)) (room_of (set xs row.origin.0 c.replace-was.new.self))) row c.replace-was.result) c.self.view_is
     (replaced_done c.self.inside.slots c.self.inside.count xs row c.args.place kept at c.replace-was.result c.taken_out.result c.replace-was.new.self inside within c.requires.small was rows shifted c.taken_out.ensures c.replace-was.ensures.vacant) in

@@ -3,14 +3,14 @@ use Rattle.std.proofs.lemmas.Bool.{cases_eq, true≢false, false_from_ne_true}
 use Rattle.ltm_marks.specs.Marks.{is_marked, width_of, rows_of}
 use Rattle.ltm_frontier.specs.Claims.{width, slot_in, has_node}
 use Rattle.ltm_frontier.specs.declared.frontier.Frontier.{Frontier}
-use Rattle.ltm_frontier.specs.Frontier.{nodes_of, is_active, ClaimsAreOf}
+use Rattle.ltm_frontier.specs.Frontier.{nodes_in, is_active, ClaimsAreOf}
 use Rattle.ltm_frontier.proofs.Claimed.{at_slot, stays_off, all_but, one_more}
 use Rattle.ltm_frontier.proofs.frontier.Frontier.claim_mark.Goals as goal
 
 one_slot : (f : Frontier) (t u : ℕ) → ClaimsAreOf f t → u < width f.claims → has_node f.claims u ≡ true → slot_in f.claims ≡ t
 one_slot f t u all x is = all u (slot_in f.claims) (omega (arith, x, f.nodes)) (at_slot f.claims u is)
 
-is_free : (f : Frontier) (u t : ℕ) → ClaimsAreOf f t → u < nodes_of f → is_active f u t ≡ true → has_node f.claims u ≡ false
+is_free : (f : Frontier) (u t : ℕ) → ClaimsAreOf f t → u < nodes_in f → is_active f u t ≡ true → has_node f.claims u ≡ false
 is_free f u t all x active = false_from_ne_true (has_node f.claims u) (λ is.
     let at : slot_in f.claims ≡ t = one_slot f t u all (omega (arith, x, f.nodes)) is in
     true≢false (sym active ∙ subst (λ z. is_marked f.active u z ≡ false) at (f.apart u x is)))

@@ -3,7 +3,7 @@ use Rattle.std.proofs.lemmas.Bool.{cases_lt}
 use Rattle.ltm_marks.specs.Marks.{IsNext}
 use Rattle.ltm_frontier.specs.Claims.{width, has_node}
 use Rattle.ltm_frontier.specs.declared.frontier.Frontier.{Frontier}
-use Rattle.ltm_frontier.specs.Frontier.{slots_of, IsFront}
+use Rattle.ltm_frontier.specs.Frontier.{slots_in, IsFront}
 use Rattle.ltm_frontier.proofs.Counting.{none_counted}
 use Rattle.ltm_frontier.proofs.frontier.Frontier.near.Goals as goal
 
@@ -16,7 +16,7 @@ returns-in-Some c =
     let f : Frontier = c.args.self.now in
     let u : ℕ = c.in-Some.node in
     let next : IsNext f.active f.low f.first u = c.in-Some.ensures in
-    let low : f.low < slots_of f = omega (arith, c.if-slot-rows.false, c.rows.ensures.value) in
+    let low : f.low < slots_in f = omega (arith, c.if-slot-rows.false, c.rows.ensures.value) in
     let free : (w : ℕ) → w < width f.claims → has_node f.claims w ≡ false = none_counted f.claims.nodes (omega (arith, c.count.ensures, c.if-count-gt0.false)) in
     let front : IsFront f f.low = record {
       is_slot = low;

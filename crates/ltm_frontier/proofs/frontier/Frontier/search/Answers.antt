@@ -2,11 +2,11 @@ use Rattle.std.proofs.Common.{◌≡◌, ◌<◌, ◌≤◌, ◌==◌, ◌&&◌,
 use Rattle.std.proofs.lemmas.Bool.{ne_eqb}
 use Rattle.ltm_frontier.specs.Claims.{width, slot_in, has_node}
 use Rattle.ltm_frontier.specs.declared.frontier.Frontier.{Frontier}
-use Rattle.ltm_frontier.specs.Frontier.{nodes_of, slots_of, is_claimed, IsFirst, IsFront, IsFrontFrom}
+use Rattle.ltm_frontier.specs.Frontier.{nodes_in, slots_in, is_claimed, IsFirst, IsFront, IsFrontFrom}
 use Rattle.ltm_frontier.proofs.frontier.Frontier.search.Goals as goal
 
 -- the first active pair is the front where no earlier pair is claimed
-from_first : (f : Frontier) (end t u : ℕ) → IsFirst f end t u → end ≤ slots_of f → ((w v : ℕ) → w < nodes_of f → v < t → is_claimed f w v ≡ false) → IsFrontFrom f t u
+from_first : (f : Frontier) (end t u : ℕ) → IsFirst f end t u → end ≤ slots_in f → ((w v : ℕ) → w < nodes_in f → v < t → is_claimed f w v ≡ false) → IsFrontFrom f t u
 from_first f end t u first inside free =
     let front : IsFront f t = record {
       is_slot = omega (arith, first.inside, inside);
@@ -34,7 +34,7 @@ returns-in-Some-first_active c =
     let f : Frontier = c.args.self.now in
     let first : IsFirst f c.slot-slot.result c.in-Some-first_active.pair.slot c.in-Some-first_active.pair.node.0 = c.in-Some-first_active.ensures in
     let claim : (c.in-Some.field-0 < width f.claims) × (has_node f.claims c.in-Some.field-0 ≡ true) = c.in-Some.ensures in
-    let there : slot_in f.claims < slots_of f = f.there c.in-Some.field-0 (omega (arith, claim.0, f.nodes)) claim.1 in
+    let there : slot_in f.claims < slots_in f = f.there c.in-Some.field-0 (omega (arith, claim.0, f.nodes)) claim.1 in
     from_first f c.slot-slot.result c.in-Some-first_active.pair.slot c.in-Some-first_active.pair.node.0 first (omega (arith, c.slot-slot.ensures, there))
     (λ w v x y. earlier f w v (omega (arith, y, first.inside, c.slot-slot.ensures)))
 

@@ -1,7 +1,7 @@
 use Rattle.std.proofs.Common.{◌≡◌, [], ◌∷◌, ◌++◌, length, take, ap, sym, ◌∙◌, arith}
 use Rattle.std.proofs.Math.Seq.{take-append_seam}
 use Rattle.ltm_network.specs.Names.{place_of}
-use Rattle.ltm_network.specs.Network.{checked, linked}
+use Rattle.ltm_network.specs.Network.{checked, network_linked}
 use Rattle.ltm_network.specs.Tables.{network_of}
 use Rattle.ltm_network.proofs.Growing.{IsTaken, taken}
 use Rattle.ltm_network.proofs.Joined.{IsJoined, joined_data, joined_room, joined_tables}
@@ -57,7 +57,7 @@ returns-in-Ok-clause-ok c =
     let link_is : c.links.result ≡ length c.self.inside.ends.items = c.links.ensures.count ∙ sym (count_is c.self.inside.nodes c.self.inside.link_names c.self.inside.ends.items c.args.self.now (record { tables = c.self.invariant; network = c.self.view_is })) in
     let joined : IsJoined c.self.inside.nodes c.self.inside.link_names c.self.inside.ends.items c.args.name c.args.tail.now c.args.head.now c.links.result c.in-Ok.ends.tail c.in-Ok.ends.head = record { tables = c.self.invariant; met = met; link_is = link_is; tail_is = c.in-Ok.ensures.tail; head_is = c.in-Ok.ensures.head } in
     rw (c.connect.ensures, c.in-Ok.ensures.ok, c.in_ok-push.ensures.ok, c.push_ends.ensures, c.in_ok-reserve.ensures.items)
-    (joined_data c.self.inside.nodes c.self.inside.link_names c.self.inside.ends.items c.args.name c.args.tail.now c.args.head.now c.links.result c.in-Ok.ends.tail c.in-Ok.ends.head joined ∙ ap (λ d. linked d c.args.name c.args.tail.now c.args.head.now) c.self.view_is)
+    (joined_data c.self.inside.nodes c.self.inside.link_names c.self.inside.ends.items c.args.name c.args.tail.now c.args.head.now c.links.result c.in-Ok.ends.tail c.in-Ok.ends.head joined ∙ ap (λ d. network_linked d c.args.name c.args.tail.now c.args.head.now) c.self.view_is)
 
 pub invariant_of-self-in-Err : goal.invariant_of-self-in-Err
 invariant_of-self-in-Err c =

@@ -1,9 +1,9 @@
 use Rattle.std.proofs.Common.{◌≡◌, ◌<◌, ap, sym, subst, ◌∙◌, length, Ok, IsOk, arith}
 use Rattle.std.specs.Result.{is_ok}
 use Rattle.ltm_diagram.specs.Limits.{limits_of}
-use Rattle.ltm_network.specs.Network.{checked, linked as linked_network}
+use Rattle.ltm_network.specs.Network.{checked, network_linked as linked_network}
 use Rattle.ltm_network.specs.Names.{number_of}
-use Rattle.ltm_scenario.specs.Build.{linked, HasNoSplitAt}
+use Rattle.ltm_scenario.specs.Build.{with_link_on, HasNoSplitAt}
 use Rattle.ltm_scenario.specs.Data.{ScenarioData}
 use Rattle.ltm_scenario.proofs.Linked.{room_for_link, is_network_linked}
 use Rattle.ltm_scenario.proofs.Changed.{with_linked}
@@ -29,7 +29,7 @@ returns-clause-ok c =
     (is_network_linked c.self.inside.parts.network c.add_link.new.self c.args.name c.args.tail c.args.head taken c.in-Ok.ensures.ok)
     (c.push.ensures.step ∙ c.in_ok-reserve.ensures.step) (c.push.ensures.diagrams ∙ ap (λ ds. Rattle.std.proofs.Common.◌++◌ ds (Rattle.std.proofs.Common.◌∷◌ c.args.diagram Rattle.std.proofs.Common.[])) c.in_ok-reserve.ensures.diagrams)
     c.in_ok-entry.ensures.limits c.in_ok-entry.ensures.slots c.in_ok-exit.ensures.limits c.in_ok-exit.ensures.slots).0
-    ∙ ap (λ (v : ScenarioData). linked v (linked_network v.network c.args.name c.args.tail c.args.head) c.args.diagram) c.self.view_is
+    ∙ ap (λ (v : ScenarioData). with_link_on v (linked_network v.network c.args.name c.args.tail c.args.head) c.args.diagram) c.self.view_is
 
 pub invariant_of-self-2 : goal.invariant_of-self-2
 invariant_of-self-2 c =

@@ -13,7 +13,7 @@ use Rattle.ltm_repair.specs.Facts.{IsClaim}
 use Rattle.ltm_rows.specs.declared.layout.Part.TheVariants.{Amounts, Weights}
 use Rattle.ltm_rows.specs.Starts.{part_width}
 use Rattle.ltm_rows.specs.Rows.{PutsRow, HasRows}
-use Rattle.ltm_working.specs.Desks.{uncounted, desk_at}
+use Rattle.ltm_working.specs.Desks.{row_without_counts, desk_at}
 use Rattle.ltm_working.proofs.Keeping.{parts_are, rows_left}
 use Rattle.ltm_working.proofs.Desks.{claimed_on}
 use Rattle.ltm_working.proofs.Dropping.{at_front}
@@ -119,7 +119,7 @@ all_set c =
       between = c.renew_pair.new.kept;
       forgets = c.renew_pair.ensures.kept;
       puts = subst (λ (z : List ℕ). PutsRow c.renew_pair.new.kept c.put.new.self c.args.pair.node.0 c.args.pair.slot z)
-          (parts_are s c.args.pair.node.0 c.inputs.result.now _ (ap (λ (n : Inputs). n.shape) c.inputs.ensures.inputs ∙ c.requires.shape) c.parts_of-parts.ensures.row ∙ ap (λ (n : Inputs). uncounted s c.args.pair.node.0 n.row) c.inputs.ensures.inputs) c.put.ensures;
+          (parts_are s c.args.pair.node.0 c.inputs.result.now _ (ap (λ (n : Inputs). n.shape) c.inputs.ensures.inputs ∙ c.requires.shape) c.parts_of-parts.ensures.row ∙ ap (λ (n : Inputs). row_without_counts s c.args.pair.node.0 n.row) c.inputs.ensures.inputs) c.put.ensures;
       frees = c.release.ensures;
       by_place = c.counts_by_place.ensures;
       wake = c.readers_wake.ensures.wake;

@@ -15,8 +15,8 @@ returns-in_default-clause-found c =
     none_left (setting_of c.args.scenario.now) c.loop-from.self c.args.slot c.loop-from.from.0 (setting_of c.args.scenario.now).nodes c.requires.slot (sym c.node_count-nodes.ensures.value ∙ c.node_count-nodes.ensures.value)
     c.loop-from.invariant.none c.in_default.ensures (sym c.loop-from.invariant.ready.fits.frontier.nodes)
 
-pub look_at-requires-clause-idle : goal.look_at-requires-clause-idle
-look_at-requires-clause-idle c =
+pub reread-requires-clause-idle : goal.reread-requires-clause-idle
+reread-requires-clause-idle c =
     let s = setting_of c.args.scenario.now in
     drop_idle_before s (desk_at s c.args.self.now) (desk_at s c.loop-from.self) c.args.slot c.loop-from.invariant.drops.drops c.requires.idle
 
@@ -24,27 +24,27 @@ look_at-requires-clause-idle c =
 seen : (s : Setting) (d m e : Desk) (slot : ℕ) → e ≡ m → DropsAt s d slot m → DropsAt s d slot e
 seen s d m e slot same drops = subst (λ (z : Desk). DropsAt s d slot z) (sym same) drops
 
-pub returns-then-not-look_at-clause-drops : goal.returns-then-not-look_at-clause-drops
-returns-then-not-look_at-clause-drops c =
-    seen (setting_of c.args.scenario.now) (desk_at (setting_of c.args.scenario.now) c.args.self.now) (desk_at (setting_of c.args.scenario.now) c.loop-from.self) (desk_at (setting_of c.args.scenario.now) c.look_at.new.self) c.args.slot c.look_at.ensures.desk c.loop-from.invariant.drops
+pub returns-then-not-reread-clause-drops : goal.returns-then-not-reread-clause-drops
+returns-then-not-reread-clause-drops c =
+    seen (setting_of c.args.scenario.now) (desk_at (setting_of c.args.scenario.now) c.args.self.now) (desk_at (setting_of c.args.scenario.now) c.loop-from.self) (desk_at (setting_of c.args.scenario.now) c.reread.new.self) c.args.slot c.reread.ensures.desk c.loop-from.invariant.drops
 
-pub returns-then-not-look_at-clause-found : goal.returns-then-not-look_at-clause-found
-returns-then-not-look_at-clause-found c = c.look_at.ensures.work c.if-not-look_at.true
+pub returns-then-not-reread-clause-found : goal.returns-then-not-reread-clause-found
+returns-then-not-reread-clause-found c = c.reread.ensures.work c.if-not-reread.true
 
-pub returns-then-not-look_at-clause-same : goal.returns-then-not-look_at-clause-same
-returns-then-not-look_at-clause-same c = seen_trans c.args.self.now c.loop-from.self c.look_at.new.self c.loop-from.invariant.same c.look_at.ensures.same
+pub returns-then-not-reread-clause-same : goal.returns-then-not-reread-clause-same
+returns-then-not-reread-clause-same c = seen_trans c.args.self.now c.loop-from.self c.reread.new.self c.loop-from.invariant.same c.reread.ensures.same
 
 pub drop_settled-requires-clause-idle : goal.drop_settled-requires-clause-idle
 drop_settled-requires-clause-idle c =
     let s = setting_of c.args.scenario.now in
-    drop_idle_before s (desk_at s c.args.self.now) (desk_at s c.look_at.new.self) c.args.slot (seen s (desk_at s c.args.self.now) (desk_at s c.loop-from.self) (desk_at s c.look_at.new.self) c.args.slot c.look_at.ensures.desk c.loop-from.invariant.drops).drops c.requires.idle
+    drop_idle_before s (desk_at s c.args.self.now) (desk_at s c.reread.new.self) c.args.slot (seen s (desk_at s c.args.self.now) (desk_at s c.loop-from.self) (desk_at s c.reread.new.self) c.args.slot c.reread.ensures.desk c.loop-from.invariant.drops).drops c.requires.idle
 
 pub drop_settled-requires-clause-active : goal.drop_settled-requires-clause-active
 drop_settled-requires-clause-active c =
-    ap (λ (z : Table). is_active z.frontier c.in-Some.node.0 c.args.slot) c.look_at.ensures.same ∙ c.in-Some.ensures.active
+    ap (λ (z : Table). is_active z.frontier c.in-Some.node.0 c.args.slot) c.reread.ensures.same ∙ c.in-Some.ensures.active
 
 pub drop_settled-requires-clause-settled : goal.drop_settled-requires-clause-settled
-drop_settled-requires-clause-settled c = c.look_at.ensures.settled c.if-not-look_at.false
+drop_settled-requires-clause-settled c = c.reread.ensures.settled c.if-not-reread.false
 
 pub loop-from-preserved : goal.loop-from-preserved
 loop-from-preserved c =
@@ -53,9 +53,9 @@ loop-from-preserved c =
     let x : u < s.nodes = omega (arith, c.in-Some.ensures.is_node, c.loop-from.invariant.ready.fits.frontier.nodes) in
     record {
       ready = c.drop_settled.ensures.ready;
-      drops = drops_more s (desk_at s c.args.self.now) (desk_at s c.look_at.new.self) (desk_at s c.drop_settled.new.self) c.args.slot u (seen s (desk_at s c.args.self.now) (desk_at s c.loop-from.self) (desk_at s c.look_at.new.self) c.args.slot c.look_at.ensures.desk c.loop-from.invariant.drops) c.drop_settled.ensures.drops;
-      same = same_trans c.args.self.now c.look_at.new.self c.drop_settled.new.self (seen_trans c.args.self.now c.loop-from.self c.look_at.new.self c.loop-from.invariant.same c.look_at.ensures.same) c.drop_settled.ensures.same;
+      drops = drops_more s (desk_at s c.args.self.now) (desk_at s c.reread.new.self) (desk_at s c.drop_settled.new.self) c.args.slot u (seen s (desk_at s c.args.self.now) (desk_at s c.loop-from.self) (desk_at s c.reread.new.self) c.args.slot c.reread.ensures.desk c.loop-from.invariant.drops) c.drop_settled.ensures.drops;
+      same = same_trans c.args.self.now c.reread.new.self c.drop_settled.new.self (seen_trans c.args.self.now c.loop-from.self c.reread.new.self c.loop-from.invariant.same c.reread.ensures.same) c.drop_settled.ensures.same;
       none = none_more s c.loop-from.self (desk_at s c.drop_settled.new.self) c.args.slot c.loop-from.from.0 u c.loop-from.invariant.ready c.requires.slot x c.loop-from.invariant.none c.in-Some.ensures
-          (subst (λ (d : Desk). DropsOne s d u c.args.slot (desk_at s c.drop_settled.new.self)) c.look_at.ensures.desk c.drop_settled.ensures.drops);
-      room = c.look_at.ensures.room ∙ c.loop-from.invariant.room;
+          (subst (λ (d : Desk). DropsOne s d u c.args.slot (desk_at s c.drop_settled.new.self)) c.reread.ensures.desk c.drop_settled.ensures.drops);
+      room = c.reread.ensures.room ∙ c.loop-from.invariant.room;
     }
