@@ -1,11 +1,11 @@
 -- The sheet of a list, and how many links it has.
 use Rattle.std.proofs.Common.{◌≡◌, ℕ, true, List, [], ◌∷◌, ◌++◌, length, refl, sym, ap, ◌∙◌}
 use mathlib.Core.List.{IsPrefix}
-use Rattle.ltm_curve.specs.Counts.{Counts}
-use Rattle.ltm_loading.specs.Setting.{Setting}
+use Rattle.ltm_flows.specs.Counts.{Counts}
+use Rattle.ltm_flows.specs.Setting.{Setting}
 use Rattle.ltm_scenario.specs.Data.{ScenarioData}
 use Rattle.ltm_scenario.specs.Makes.{EditsMake}
-use Rattle.ltm_setting.specs.Setting.{setting_of}
+use Rattle.ltm_core.specs.Setting.{setting_of}
 use Rattle.ltm_flows.specs.declared.loading.Loading.{Loading}
 use Rattle.ltm_flows.specs.Shown.{ShowsCounts}
 use Rattle.ltm_core.specs.declared.entry.LogEntry.{LogEntry}

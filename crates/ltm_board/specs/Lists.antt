@@ -1,10 +1,10 @@
 -- The list of a board, the posts that made it, and the sheet that belongs to it.
 use Rattle.std.specs.Prelude.{◌≡◌, ℕ, List, [], ◌∷◌, ◌++◌, length, map, take, Bool, true, false}
-use Rattle.ltm_curve.specs.Counts.{Counts}
-use Rattle.ltm_loading.specs.Loading.{IsLoading}
+use Rattle.ltm_flows.specs.Counts.{Counts}
+use Rattle.ltm_core.specs.Loading.{IsLoading}
 use Rattle.ltm_scenario.specs.declared.edit.Edit.{Edit}
 use Rattle.ltm_scenario.specs.Data.{ScenarioData}
-use Rattle.ltm_setting.specs.Setting.{setting_of}
+use Rattle.ltm_core.specs.Setting.{setting_of}
 use Rattle.ltm_flows.specs.declared.loading.Loading.{Loading}
 use Rattle.ltm_flows.specs.Shown.{Shows}
 use Rattle.ltm_core.specs.declared.entry.LogEntry.{LogEntry}

@@ -1,8 +1,8 @@
 -- The sheet of a loading.
 use Rattle.std.specs.Prelude.{◌≡◌, ℕ, ◌<◌, List, length, map, slice_index}
-use Rattle.ltm_curve.specs.Counts.{Counts}
-use Rattle.ltm_loading.specs.Setting.{Setting}
-use Rattle.ltm_loading.specs.Totals.{entered_link, left_link}
+use Rattle.ltm_flows.specs.Counts.{Counts}
+use Rattle.ltm_flows.specs.Setting.{Setting}
+use Rattle.ltm_flows.specs.Totals.{entered_link, left_link}
 use Rattle.ltm_flows.specs.declared.loading_totals.Totals.{Totals}
 use Rattle.ltm_flows.specs.InAll.{AreTotals}
 use Rattle.ltm_board.specs.declared.through.Through.{Through}

@@ -1,6 +1,6 @@
 //! The end that posts: how a board is made, posts, is read by its owner, tells its viewer, and ends.
 ghost use Rattle.std.specs.Prelude.{◌≡◌, ◌+◌, ◌++◌, [], ◌∷◌, length, OnOk, OnErr, IfOk};
-ghost use Rattle.ltm_setting.specs.Setting.{setting_of};
+ghost use Rattle.ltm_core.specs.Setting.{setting_of};
 ghost use Rattle.ltm_board.specs.Sheets.{links_on};
 ghost use Rattle.ltm_board.specs.Lists.{opening_posts, entries_of_posts, entries_of_batches, LeadsTo, IsLoadingOf, IsSheetAfter};
 ghost use Rattle.ltm_board.specs.Panels.{posts_of, IsRight};

@@ -1,7 +1,7 @@
 //! The sheet of a loading.
 ghost use Rattle.std.specs.Prelude.{◌≡◌, ◌<◌, ℕ, length, IfOk};
-ghost use Rattle.ltm_curve.specs.Counts.{Counts};
-ghost use Rattle.ltm_loading.specs.Setting.{Setting};
+ghost use Rattle.ltm_flows.specs.Counts.{Counts};
+ghost use Rattle.ltm_flows.specs.Setting.{Setting};
 ghost use Rattle.ltm_flows.specs.Shown.{ShowsCounts, links_of};
 ghost use Rattle.ltm_board.specs.Making.{AreThrough};
 

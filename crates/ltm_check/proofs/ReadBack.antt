@@ -17,7 +17,7 @@ use Rattle.ltm_units.specs.Numbers.{is_digit}
 use Rattle.ltm_curve.specs.Counts.{Counts}
 use Rattle.ltm_curve.specs.First.{list_below}
 use Rattle.ltm_curve.proofs.Lists.{index-list_below}
-use Rattle.ltm_network.specs.Network.{link_name, node_name}
+use Rattle.ltm_scenario.specs.Network.{link_name, node_name}
 use Rattle.ltm_scenario.specs.Data.{ScenarioData}
 use Rattle.ltm_scenario.specs.Reads.{destination_node, destination_name}
 use Rattle.ltm_records.specs.Fields.{Fields, same}

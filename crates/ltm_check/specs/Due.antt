@@ -1,7 +1,7 @@
 -- Which record stands where below the header of a curve file: for each group of counts in order, and for each destination
 -- in order, one.
 use Rattle.std.specs.Prelude.{ℕ, ◌+◌, ◌-◌, ◌*◌, ◌/◌, ◌%◌, ◌==◌, nat_lt, List, length, codes, if◌then◌else◌}
-use Rattle.ltm_network.specs.Network.{link_name, node_name}
+use Rattle.ltm_scenario.specs.Network.{link_name, node_name}
 use Rattle.ltm_scenario.specs.Data.{ScenarioData}
 use Rattle.ltm_scenario.specs.Reads.{destination_name}
 use Rattle.ltm_loading.specs.Groups.{up_of, groups}

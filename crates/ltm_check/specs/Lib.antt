@@ -11,3 +11,6 @@ pub mod Window
 pub mod Seen
 pub mod Passing
 pub mod ReadBack
+pub use Rattle.ltm_loading.specs.Loading
+pub use Rattle.ltm_records.specs.Fields
+pub use Rattle.ltm_records.specs.Left

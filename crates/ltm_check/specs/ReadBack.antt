@@ -2,7 +2,7 @@
 use Rattle.std.specs.Prelude.{ℕ, ◌≡◌, ◌<◌, ◌≤◌, ◌^◌, true, List, length}
 use Rattle.ltm_units.specs.Words.{is_name}
 use Rattle.ltm_curve.specs.Counts.{Counts}
-use Rattle.ltm_network.specs.Network.{link_name, node_name}
+use Rattle.ltm_scenario.specs.Network.{link_name, node_name}
 use Rattle.ltm_scenario.specs.Data.{ScenarioData}
 use Rattle.ltm_records.specs.Fields.{Fields}
 use Rattle.ltm_records.specs.Left.{records_of}

@@ -7,7 +7,7 @@ ghost use Rattle.ltm_loading.specs.Pairs.{MeetsStep};
 ghost use Rattle.ltm_setting.specs.Setting.{setting_of};
 ghost use Rattle.ltm_check.specs.Verdict.{IsVerdict, IsFirstWrongNode};
 ghost use Rattle.ltm_flows.specs.WorkingOn.{HasNodeRoom};
-ghost use Rattle.ltm_sending.specs.Fronts.{FrontAt};
+ghost use Rattle.ltm_inputs.specs.Fronts.{FrontAt};
 ghost use Rattle.ltm_setting.specs.Places.{IsShapedFor};
 
 use crate::faults::Checked;

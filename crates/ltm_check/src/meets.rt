@@ -7,7 +7,7 @@ ghost use Rattle.ltm_loading.specs.Uncounted.{IsUncountedPair};
 ghost use Rattle.ltm_setting.specs.Setting.{setting_of};
 ghost use Rattle.ltm_inputs.specs.Idle.{IsIdle};
 ghost use Rattle.ltm_flows.specs.WorkingOn.{HasNodeRoom};
-ghost use Rattle.ltm_sending.specs.Fronts.{FrontAt};
+ghost use Rattle.ltm_inputs.specs.Fronts.{FrontAt};
 ghost use Rattle.ltm_setting.specs.Places.{IsNode};
 
 use crate::rows::node_grows;

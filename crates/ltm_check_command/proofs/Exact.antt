@@ -7,8 +7,8 @@ use Rattle.std.proofs.lemmas.Option.{slice_get_past, slice_get-get_or}
 use Rattle.ltm_io.specs.declared.doc.Doc.TheVariants as doc
 use Rattle.ltm_io.specs.Folder.{Files}
 use Rattle.ltm_scenario.specs.Data.{ScenarioData}
-use Rattle.ltm_records.specs.Fields.{Fields}
-use Rattle.ltm_records.specs.Left.{records_of}
+use Rattle.ltm_check.specs.Fields.{Fields}
+use Rattle.ltm_check.specs.Left.{records_of}
 use Rattle.ltm_casefile.specs.declared.faults.CaseFault.{CaseFault}
 use Rattle.ltm_casefile.specs.Case.{case_of}
 use Rattle.ltm_check.specs.declared.faults.CurvesCause.{CurvesCause}

@@ -4,10 +4,10 @@ use Rattle.std.specs.Prelude.{nat_lt, IfSome, IfOk, IfErr, Result}
 use Rattle.ltm_io.specs.declared.doc.Doc.{Doc}
 use Rattle.ltm_io.specs.declared.doc.Doc.TheVariants as doc
 use Rattle.ltm_io.specs.Folder.{Files}
-use Rattle.ltm_network.specs.Network.{node_name}
+use Rattle.ltm_scenario.specs.Network.{node_name}
 use Rattle.ltm_scenario.specs.Data.{ScenarioData}
-use Rattle.ltm_records.specs.Fields.{Fields}
-use Rattle.ltm_records.specs.Left.{records_of}
+use Rattle.ltm_check.specs.Fields.{Fields}
+use Rattle.ltm_check.specs.Left.{records_of}
 use Rattle.ltm_casefile.specs.declared.faults.CaseFault.{CaseFault}
 use Rattle.ltm_casefile.specs.declared.faults.CaseFault.TheVariants as fault
 use Rattle.ltm_casefile.specs.Case.{case_of}

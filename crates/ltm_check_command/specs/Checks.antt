@@ -5,10 +5,10 @@ use Rattle.ltm_io.specs.declared.doc.Doc.TheVariants as doc
 use Rattle.ltm_io.specs.Folder.{Files}
 use Rattle.ltm_io.specs.Faults.{Rose}
 use Rattle.ltm_units.specs.declared.places.Pair.{Pair}
-use Rattle.ltm_network.specs.Network.{node_name}
+use Rattle.ltm_scenario.specs.Network.{node_name}
 use Rattle.ltm_scenario.specs.Data.{ScenarioData}
-use Rattle.ltm_records.specs.Fields.{Fields}
-use Rattle.ltm_records.specs.Left.{records_of}
+use Rattle.ltm_check.specs.Fields.{Fields}
+use Rattle.ltm_check.specs.Left.{records_of}
 use Rattle.ltm_casefile.specs.declared.faults.CaseFault.{CaseFault}
 use Rattle.ltm_casefile.specs.declared.faults.CaseFault.TheVariants as fault
 use Rattle.ltm_casefile.specs.Case.{case_of, is_case_file, asks_for}

@@ -4,8 +4,8 @@ use Rattle.ltm_io.specs.declared.doc.Doc.TheVariants as doc
 use Rattle.ltm_io.specs.Folder.{Files}
 use Rattle.ltm_curve.specs.declared.curves.Curves.{Curves}
 use Rattle.ltm_scenario.specs.Data.{ScenarioData}
-use Rattle.ltm_records.specs.Fields.{Fields}
-use Rattle.ltm_records.specs.Left.{records_of}
+use Rattle.ltm_check.specs.Fields.{Fields}
+use Rattle.ltm_check.specs.Left.{records_of}
 use Rattle.ltm_casefile.specs.declared.faults.CaseFault.TheVariants as fault
 use Rattle.ltm_setting.specs.Setting.{setting_of}
 use Rattle.ltm_check.specs.File.{IsCurveFile, told}

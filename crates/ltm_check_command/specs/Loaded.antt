@@ -6,8 +6,8 @@ use Rattle.ltm_scenario.specs.Data.{ScenarioData}
 use Rattle.ltm_scenario.specs.IsScenario.{IsScenario}
 use Rattle.ltm_casefile.specs.declared.faults.CaseFault.{CaseFault}
 use Rattle.ltm_casefile.specs.Case.{case_of}
-use Rattle.ltm_records.specs.Left.{records_of}
-use Rattle.ltm_loading.specs.Loading.{IsLoading}
+use Rattle.ltm_check.specs.Left.{records_of}
+use Rattle.ltm_check.specs.Loading.{IsLoading}
 use Rattle.ltm_setting.specs.Setting.{setting_of}
 use Rattle.ltm_check.specs.Text.{curves_file}
 use Rattle.ltm_check.specs.ReadBack.{TellsLoading}

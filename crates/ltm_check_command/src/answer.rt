@@ -3,8 +3,8 @@ ghost use Rattle.std.specs.Prelude.{◌≡◌, ◌≤◌, ◌⊎◌, List, true,
 ghost use Rattle.ltm_io.specs.declared.doc.Doc.{Doc};
 ghost use Rattle.ltm_curve.specs.Counts.{Counts};
 ghost use Rattle.ltm_curve.specs.Table.{counts_of};
-ghost use Rattle.ltm_network.specs.Network.{node_name};
-ghost use Rattle.ltm_records.specs.Fields.{Fields};
+ghost use Rattle.ltm_scenario.specs.Network.{node_name};
+ghost use Rattle.ltm_check.specs.Fields.{Fields};
 ghost use Rattle.ltm_setting.specs.Setting.{setting_of};
 ghost use Rattle.ltm_check.specs.Kept.{Keeps};
 ghost use Rattle.ltm_check.specs.Verdict.{IsVerdict};

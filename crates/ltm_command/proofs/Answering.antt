@@ -2,7 +2,7 @@
 use Rattle.std.proofs.Common.{ℕ, ◌≡◌, refl, List, Option, Ok, Err}
 use Rattle.std.specs.Prelude.{IfSome, IfOk, Result}
 use Rattle.ltm_io.specs.Folder.{Files}
-use Rattle.ltm_scenario.specs.Data.{ScenarioData}
+use Rattle.ltm_routes_command.specs.Data.{ScenarioData}
 use Rattle.ltm_casefile.specs.declared.faults.CaseFault.{CaseFault}
 use Rattle.ltm_casefile.specs.declared.faults.CaseFault.TheVariants as fault
 use Rattle.ltm_casefile.specs.Faults.{Agrees}

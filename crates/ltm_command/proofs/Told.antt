@@ -4,7 +4,7 @@ use Rattle.std.specs.Prelude.{IfSome}
 use Rattle.ltm_io.specs.declared.doc.Doc.{Doc}
 use Rattle.ltm_io.specs.Folder.{Files}
 use Rattle.ltm_io.specs.Faults.{Rose}
-use Rattle.ltm_scenario.specs.Data.{ScenarioData}
+use Rattle.ltm_routes_command.specs.Data.{ScenarioData}
 use Rattle.ltm_casefile.specs.declared.faults.File.{File}
 use Rattle.ltm_casefile.specs.declared.faults.CaseCause.{CaseCause}
 use Rattle.ltm_casefile.specs.declared.faults.CaseFault.{CaseFault}
@@ -22,7 +22,7 @@ use Rattle.ltm_command.specs.declared.words.Command.TheVariants as ask
 use Rattle.ltm_try_command.specs.Trial.{IsTrial}
 use Rattle.ltm_report.specs.Reports.{IsReport}
 use Rattle.ltm_report.specs.DelayReports.{IsDelayReport}
-use Rattle.ltm_records.specs.Left.{records_of}
+use Rattle.ltm_check.specs.Left.{records_of}
 use Rattle.ltm_check.specs.ReadBack.{TellsLoading}
 use Rattle.ltm_check_command.specs.declared.refusal.Refusal.{Refusal}
 use Rattle.ltm_check_command.specs.declared.refusal.Refusal.TheVariants as refusal

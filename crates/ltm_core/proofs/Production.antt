@@ -5,7 +5,7 @@ use Rattle.std.proofs.lemmas.Bool.{cases_lt, eq-eqb}
 use Rattle.std.proofs.lemmas.List.{take-append-drop}
 use Rattle.ltm_units.proofs.Sums.{sum_below-same}
 use Rattle.ltm_curve.specs.Counts.{total}
-use Rattle.ltm_network.specs.Network.{NetworkData}
+use Rattle.ltm_scenario.specs.Network.{NetworkData}
 use Rattle.ltm_demand.specs.declared.row.DemandRow.{DemandRow}
 use Rattle.ltm_demand.specs.Produced.{by_end, IsSilent}
 use Rattle.ltm_demand.specs.Rows.{edited_rows}

@@ -10,3 +10,12 @@ pub mod Taking
 pub mod Laws
 pub mod Runs
 pub mod Producing
+pub use Rattle.ltm_flows.specs.Shown
+pub use Rattle.ltm_loading.specs.Differing
+pub use Rattle.ltm_loading.specs.Loading
+pub use Rattle.ltm_repair.specs.Answers
+pub use Rattle.ltm_repair.specs.Events
+pub use Rattle.ltm_repair.specs.Repair
+pub use Rattle.ltm_repair.specs.State
+pub use Rattle.ltm_scenario.specs.Data
+pub use Rattle.ltm_setting.specs.Setting

@@ -6,8 +6,8 @@ use Rattle.std.proofs.Math.Seq.{take-append_seam}
 use Rattle.ltm_scenario.specs.declared.edit.Edit.{Edit}
 use Rattle.ltm_scenario.specs.Data.{ScenarioData}
 use Rattle.ltm_scenario.specs.Edits.{edited_all}
-use Rattle.ltm_repair.specs.State.{now}
-use Rattle.ltm_repair.specs.Answers.{IsNoneClaimed}
+use Rattle.ltm_core.specs.State.{now}
+use Rattle.ltm_core.specs.Answers.{IsNoneClaimed}
 use Rattle.ltm_flows.specs.declared.loading.Loading.{Loading}
 use Rattle.ltm_flows.specs.Shown.{SameLoading}
 use Rattle.ltm_core.specs.Log.{Log, after_batches, batches_of, scenario_now, with_batch}

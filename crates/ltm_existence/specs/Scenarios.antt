@@ -1,6 +1,6 @@
 -- That every scenario has a loading.
-use Rattle.ltm_scenario.specs.Data.{ScenarioData}
-use Rattle.ltm_scenario.specs.IsScenario.{IsScenario}
+use Rattle.ltm_setting.specs.Data.{ScenarioData}
+use Rattle.ltm_setting.specs.IsScenario.{IsScenario}
 use Rattle.ltm_setting.specs.Setting.{setting_of}
 use Rattle.ltm_existence.specs.Existence.{HasLoading}
 

@@ -7,3 +7,8 @@ pub mod Shown
 pub mod InAll
 pub mod Counted
 pub mod WorkingOn
+pub use Rattle.ltm_curve.specs.Counts
+pub use Rattle.ltm_loading.specs.Loading
+pub use Rattle.ltm_loading.specs.Pairs
+pub use Rattle.ltm_loading.specs.Setting
+pub use Rattle.ltm_loading.specs.Totals

@@ -1,3 +1,6 @@
 pub mod Idle
 pub mod Parts
 pub mod Widest
+pub use Rattle.ltm_loading.specs.Pairs
+pub use Rattle.ltm_loading.specs.Setting
+pub use Rattle.ltm_sending.specs.Fronts

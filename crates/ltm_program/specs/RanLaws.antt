@@ -14,9 +14,9 @@ use Rattle.ltm_casefile.specs.Case.{case_of, is_case_file, asks_for}
 use Rattle.ltm_report.specs.CaseFaults.{bad_case_line}
 use Rattle.ltm_report.specs.Reports.{IsReport}
 use Rattle.ltm_report.specs.DelayReports.{IsDelayReport}
-use Rattle.ltm_routes_command.specs.File.{IsSplitsFile, IsTimesFile}
-use Rattle.ltm_try_command.specs.Trial.{IsTrial}
-use Rattle.ltm_records.specs.Left.{records_of}
+use Rattle.ltm_command.specs.File.{IsSplitsFile, IsTimesFile}
+use Rattle.ltm_command.specs.Trial.{IsTrial}
+use Rattle.ltm_check.specs.Left.{records_of}
 use Rattle.ltm_check.specs.ReadBack.{TellsLoading}
 use Rattle.ltm_check_command.specs.declared.refusal.Refusal.{Refusal}
 use Rattle.ltm_check_command.specs.declared.refusal.Refusal.TheVariants as refusal

@@ -2,7 +2,7 @@
 use Rattle.std.proofs.Common.{◌≡◌, ℕ, ◌*◌, ◌<◌, ◌≤◌, List, length, arith, refl, ap, sym, ◌∙◌, subst}
 use Rattle.std.specs.Vec.{with_items}
 use Rattle.std.proofs.lemmas.List.{with_items_is}
-use Rattle.ltm_loading.specs.Setting.{Setting}
+use Rattle.ltm_inputs.specs.Setting.{Setting}
 use Rattle.ltm_rows.specs.declared.layout.Layout.{Layout}
 use Rattle.ltm_rows.specs.declared.layout.Part.TheVariants.{All}
 use Rattle.ltm_rows.specs.declared.claim_rows.ClaimRows.{ClaimRows}

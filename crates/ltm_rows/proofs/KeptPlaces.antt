@@ -3,7 +3,7 @@ use Rattle.std.proofs.Common.{◌≡◌, ℕ, ◌*◌, ◌<◌, ◌≤◌, List,
 use Rattle.std.specs.Prelude.{take, drop, Bool, Some, None, IsTrue, ◌↔◌, if◌then◌else◌}
 use Rattle.std.proofs.Math.Nat.{mul-le-mul_right}
 use Rattle.std.proofs.Math.Seq.{take-append_seam, drop-append_seam}
-use Rattle.ltm_loading.specs.Setting.{Setting}
+use Rattle.ltm_inputs.specs.Setting.{Setting}
 use Rattle.ltm_marks.specs.Marks.{is_marked, SetsMark}
 use Rattle.ltm_rows.specs.declared.layout.Layout.{Layout}
 use Rattle.ltm_rows.specs.declared.layout.Part.TheVariants.{Amounts, Weights}

@@ -1,6 +1,6 @@
 -- Where the rows of each node begin.
 use Rattle.std.proofs.Common.{◌≡◌, ℕ, zero, suc, ◌+◌, ◌-◌, ◌<◌, ◌≤◌, List, length, slice_index, arith, subst}
-use Rattle.ltm_loading.specs.Setting.{Setting}
+use Rattle.ltm_inputs.specs.Setting.{Setting}
 use Rattle.ltm_rows.specs.declared.layout.Part.{Part}
 use Rattle.ltm_rows.specs.Starts.{row_width, AreStarts}
 

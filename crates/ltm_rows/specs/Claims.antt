@@ -1,6 +1,6 @@
 -- The inputs of claims, a row for each node.
 use Rattle.std.specs.Prelude.{◌≡◌, ◌≢◌, ℕ, ◌<◌, List}
-use Rattle.ltm_loading.specs.Setting.{Setting}
+use Rattle.ltm_inputs.specs.Setting.{Setting}
 use Rattle.ltm_rows.specs.declared.layout.Part.TheVariants.{All}
 use Rattle.ltm_rows.specs.declared.claim_rows.ClaimRows.{ClaimRows}
 use Rattle.ltm_rows.specs.Layouts.{nodes_in, width_in, row_in, LiesAs}

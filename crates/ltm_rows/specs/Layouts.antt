@@ -1,6 +1,6 @@
 -- Where the rows of pairs of node and slot lie among the numbers of a table: those of one slot side by side, node after node.
 use Rattle.std.specs.Prelude.{◌≡◌, ℕ, ◌+◌, ◌-◌, ◌*◌, ◌<◌, List, length, slice_index, slice_range}
-use Rattle.ltm_loading.specs.Setting.{Setting}
+use Rattle.ltm_inputs.specs.Setting.{Setting}
 use Rattle.ltm_rows.specs.declared.layout.Part.{Part}
 use Rattle.ltm_rows.specs.declared.layout.Layout.{Layout}
 use Rattle.ltm_rows.specs.Starts.{row_width}

@@ -1,6 +1,6 @@
 -- The rows that are kept of pairs of node and slot.
 use Rattle.std.specs.Prelude.{◌≡◌, ℕ, ◌<◌, List, ◌++◌, Bool, true, Option, Some, None, if◌then◌else◌}
-use Rattle.ltm_loading.specs.Setting.{Setting}
+use Rattle.ltm_inputs.specs.Setting.{Setting}
 use Rattle.ltm_marks.specs.Marks.{is_marked}
 use Rattle.ltm_rows.specs.declared.layout.Part.TheVariants.{Amounts, Weights}
 use Rattle.ltm_rows.specs.declared.rows.KeptRows.{KeptRows}

@@ -2,8 +2,8 @@
 use Rattle.std.specs.Prelude.{◌≡◌, ℕ, ◌+◌, ◌*◌, ◌<◌, ◌≤◌, List, length, slice_index}
 use Rattle.ltm_node.specs.declared.shape.NodeShape.{NodeShape}
 use Rattle.ltm_node.specs.Shape.{width, counts_begin}
-use Rattle.ltm_loading.specs.Setting.{Setting}
-use Rattle.ltm_loading.specs.Pairs.{shape_at}
+use Rattle.ltm_inputs.specs.Setting.{Setting}
+use Rattle.ltm_inputs.specs.Pairs.{shape_at}
 use Rattle.ltm_rows.specs.declared.layout.Part.{Part}
 use Rattle.ltm_rows.specs.declared.layout.Part.TheVariants.{All, Amounts, Weights}
 use Rattle.ltm_units.specs.Bounds.{widest_row}

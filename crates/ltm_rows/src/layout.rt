@@ -1,6 +1,6 @@
 //! Where rows lie in a flat table.
 ghost use Rattle.std.specs.Prelude.{◌≡◌, ℕ, ◌+◌, ◌-◌, ◌*◌, ◌<◌, ◌≤◌, length, slice_index, IfOk};
-ghost use Rattle.ltm_loading.specs.Setting.{IsSetting};
+ghost use Rattle.ltm_inputs.specs.Setting.{IsSetting};
 ghost use Rattle.ltm_setting.specs.Setting.{setting_of};
 ghost use Rattle.ltm_rows.specs.Starts.{row_width, AreStarts};
 ghost use Rattle.ltm_setting.specs.Places.{IsNode};

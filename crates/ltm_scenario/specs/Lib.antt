@@ -18,3 +18,6 @@ pub mod Undo
 pub mod Valid
 pub mod Weights
 pub mod Timed
+pub use Rattle.ltm_limits.specs.Limits
+pub use Rattle.ltm_network.specs.Names
+pub use Rattle.ltm_network.specs.Network

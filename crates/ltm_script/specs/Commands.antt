@@ -2,7 +2,7 @@
 use Rattle.std.specs.Prelude.{ℕ, ◌+◌, List, codes, Option, Some, None, Result, Ok, Err, option_and_then, if◌then◌else◌}
 use Rattle.serde_json.specs.Data.{Data, Items, no_items, item}
 use Rattle.serde_json.specs.Find.{get, as_array}
-use Rattle.ltm_network.specs.Names.{same}
+use Rattle.ltm_scenario.specs.Names.{same}
 use Rattle.ltm_scenario.specs.declared.edit.Edit.{Edit}
 use Rattle.ltm_scenario.specs.Batch.{is_count}
 use Rattle.ltm_scenario.specs.Edits.{HaveAmounts}

@@ -1,7 +1,7 @@
 -- The edits that JSON values are.
 use Rattle.std.specs.Prelude.{ℕ, ◌+◌, List, [], ◌∷◌, codes, Option, Some, None, Result, Ok, Err, if◌then◌else◌}
 use Rattle.serde_json.specs.Data.{Data, Items, no_items, item}
-use Rattle.ltm_network.specs.Names.{same}
+use Rattle.ltm_scenario.specs.Names.{same}
 use Rattle.ltm_scenario.specs.declared.edit.Edit.{Edit}
 use Rattle.ltm_scenario.specs.declared.edit.Edit.TheVariants.{Demand, Limit, Split, Diagram as NewDiagram, Exit, Horizon}
 use Rattle.ltm_script.specs.declared.command.CommandFault.{CommandFault}

@@ -1,7 +1,7 @@
 -- Each answer is one line.
 use Rattle.std.proofs.Common.{ℕ, ◌≡◌, inl, inr, List, sym, subst, length, ◌+◌, Option, None, Some, Result, Ok, Err}
 use Rattle.std.specs.Prelude.{MatchResult, MatchOption}
-use Rattle.ltm_curve.specs.Counts.{Counts}
+use Rattle.ltm_flows.specs.Counts.{Counts}
 use Rattle.ltm_network.specs.Network.{find_link, find_node}
 use Rattle.ltm_scenario.specs.declared.edit.Edit.{Edit}
 use Rattle.ltm_scenario.specs.declared.edit.EditFault.{EditFault}

@@ -1,8 +1,8 @@
 -- How many settles stand in a history.
 use Rattle.std.proofs.Common.{ℕ, ◌≡◌, ◌+◌, ◌≤◌, List, [], ◌∷◌, length, refl, ap, ◌∙◌, arith}
 use Rattle.ltm_scenario.specs.declared.edit.Edit.{Edit}
-use Rattle.ltm_repair.specs.Events.{CoreEvent, Look, Claim, GiveBack, Commit, Accept, Publish, Settle, Stay}
-use Rattle.ltm_repair.specs.Runs.{in_all, work_in}
+use Rattle.ltm_core.specs.Events.{CoreEvent, Look, Claim, GiveBack, Commit, Accept, Publish, Settle, Stay}
+use Rattle.ltm_workers.specs.Runs.{in_all, work_in}
 use Rattle.ltm_core.specs.Cores.{CoreData}
 use Rattle.ltm_core.specs.CoreAnswers.{AcceptsBatch, LooksAs, with_event}
 use Rattle.ltm_core.specs.Runs.{HoldsOfRuns, with_events}

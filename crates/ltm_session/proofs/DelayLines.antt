@@ -4,7 +4,7 @@ use Rattle.std.proofs.lemmas.List.Elements.{All-nil, All-cons}
 use Rattle.std.specs.Fmt.{decimal}
 use Rattle.ltm_units.specs.Texts.{amount_piece}
 use Rattle.ltm_units.specs.Words.{is_name}
-use Rattle.ltm_curve.specs.Counts.{Counts}
+use Rattle.ltm_flows.specs.Counts.{Counts}
 use Rattle.ltm_loading.specs.Setting.{Setting}
 use Rattle.ltm_loading.specs.Totals.{entered_link, left_link}
 use Rattle.ltm_times.specs.Times.{time_spent}

@@ -3,11 +3,11 @@ use mathlib.Core.List.{IsPrefix}
 use Rattle.std.proofs.Common.{◌≡◌, List, [], ◌∷◌, refl, ap, sym, subst, ◌∙◌}
 use Rattle.std.proofs.lemmas.List.{append-nil}
 use Rattle.ltm_flows.specs.Shown.{version_of, SameLoading}
-use Rattle.ltm_repair.specs.Events.{Stay}
+use Rattle.ltm_core.specs.Events.{Stay}
 use Rattle.ltm_flows.specs.declared.loading.Loading.{Loading}
 use Rattle.ltm_scenario.specs.declared.edit.Edit.{Edit}
-use Rattle.ltm_repair.specs.Answers.{IsNoneClaimed}
-use Rattle.ltm_repair.specs.State.{RepairState, now}
+use Rattle.ltm_core.specs.Answers.{IsNoneClaimed}
+use Rattle.ltm_core.specs.State.{RepairState, now}
 use Rattle.ltm_core.specs.Log.{Log, LogLaws, with_batch, settled_of}
 use Rattle.ltm_core.specs.Cores.{CoreData, repair_of, IsNoneOut}
 use Rattle.ltm_core.specs.CoreAnswers.{AcceptsBatch, LooksAs}

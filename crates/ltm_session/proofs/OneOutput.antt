@@ -2,7 +2,7 @@
 use Rattle.std.proofs.Common.{ℕ, ◌≡◌, ◌++◌, ◌<◌, ◌≤◌, ◌+◌, List, [], ◌∷◌, inl, inr, length, refl, ap, sym, subst, ◌∙◌, arith}
 use Rattle.std.proofs.lemmas.List.{length-map}
 use Rattle.std.specs.Prelude.{Option, Some, None, Result, Ok, Err, MatchResult, MatchOption}
-use Rattle.ltm_curve.specs.Counts.{Counts}
+use Rattle.ltm_flows.specs.Counts.{Counts}
 use Rattle.ltm_network.specs.Network.{NetworkData, find_link, find_node, link_names}
 use Rattle.ltm_network.proofs.Apart.{named_there}
 use Rattle.ltm_scenario.specs.declared.edit.Edit.{Edit}

@@ -1,8 +1,8 @@
 -- A core that has accepted nothing awaits a line.
 use Rattle.std.proofs.Common.{◌≡◌, ◌-◌, List, [], ◌∷◌, length, refl, ap, sym, ◌∙◌, arith}
 use Rattle.ltm_flows.specs.Shown.{version_of}
-use Rattle.ltm_repair.specs.State.{RepairState}
-use Rattle.ltm_repair.specs.Repair.{IsRepair}
+use Rattle.ltm_core.specs.State.{RepairState}
+use Rattle.ltm_core.specs.Repair.{IsRepair}
 use Rattle.ltm_core.specs.Log.{Log, MarkedBatch, version_now, settled_of}
 use Rattle.ltm_core.specs.Cores.{CoreData, repair_of}
 use Rattle.ltm_core.specs.Runs.{HoldsOfCore}

@@ -2,7 +2,7 @@
 use Rattle.std.proofs.Common.{ℕ, ◌≡◌, true, List, ◌++◌, refl, codes, Option, None, Some}
 use Rattle.ltm_units.specs.Texts.{number_piece, amount_piece}
 use Rattle.ltm_units.specs.Words.{is_name}
-use Rattle.ltm_curve.specs.Counts.{Counts}
+use Rattle.ltm_flows.specs.Counts.{Counts}
 use Rattle.ltm_diagram.specs.declared.diagram.Field.{Field}
 use Rattle.ltm_diagram.specs.declared.diagram.Field.TheVariants.{Length, Free, Wave, Jam}
 use Rattle.ltm_diagram.specs.declared.diagram.DiagramFault.{DiagramFault}

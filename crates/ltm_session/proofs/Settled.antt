@@ -1,6 +1,6 @@
 -- The steps of a settle make the settle of the machine, with its exact count.
 use Rattle.std.proofs.Common.{ℕ, ◌≡◌, ◌+◌, ◌≤◌, ap, sym, subst, ◌∙◌, arith}
-use Rattle.ltm_curve.specs.Counts.{Counts}
+use Rattle.ltm_flows.specs.Counts.{Counts}
 use Rattle.ltm_loading.specs.Loading.{IsLoading}
 use Rattle.ltm_flows.specs.Shown.{version_of}
 use Rattle.ltm_core.specs.Log.{Log, LogLaws, with_mark, version_now, settled_of}

@@ -1,6 +1,6 @@
 -- What is answered to a line, and how the machine stands then.
 use Rattle.std.specs.Prelude.{◌≡◌, ◌⊎◌, ℕ, ◌+◌, ◌<◌, ◌≤◌, List, Option, Result, Ok, Err, MatchResult, MatchOption}
-use Rattle.ltm_curve.specs.Counts.{Counts}
+use Rattle.ltm_flows.specs.Counts.{Counts}
 use Rattle.ltm_network.specs.Network.{find_link, find_node}
 use Rattle.ltm_scenario.specs.declared.edit.Edit.{Edit}
 use Rattle.ltm_scenario.specs.Edits.{edited_all}

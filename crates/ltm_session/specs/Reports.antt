@@ -1,6 +1,6 @@
 -- What a session reports of a travel time.
 use Rattle.std.specs.Prelude.{ℕ, List}
-use Rattle.ltm_curve.specs.Counts.{Counts}
+use Rattle.ltm_flows.specs.Counts.{Counts}
 use Rattle.ltm_loading.specs.Setting.{Setting}
 use Rattle.ltm_times.specs.Times.{travel_time}
 use Rattle.ltm_report.specs.Times.{time_line}

@@ -1,6 +1,6 @@
 //! What is reported of a travel time.
 ghost use Rattle.std.specs.Prelude.{◌≡◌, ◌++◌, ℕ, ◌<◌, OnOk, OnErr};
-ghost use Rattle.ltm_curve.specs.Counts.{Counts};
+ghost use Rattle.ltm_flows.specs.Counts.{Counts};
 ghost use Rattle.ltm_loading.specs.Setting.{Setting};
 ghost use Rattle.ltm_flows.specs.Shown.{ShowsCounts, last_of, links_of};
 ghost use Rattle.ltm_session.specs.Reports.{time_report};

@@ -2,13 +2,13 @@
 use Rattle.std.proofs.Common.{◌≡◌, ℕ, List, ◌++◌, length, refl, sym, ap, subst, ◌∙◌, Ok, Err}
 use Rattle.std.specs.Prelude.{Result, OnOk, IfOk}
 use Rattle.std.proofs.lemmas.List.{length-map}
-use Rattle.ltm_curve.specs.Counts.{Counts}
+use Rattle.ltm_flows.specs.Counts.{Counts}
 use Rattle.ltm_scenario.specs.declared.edit.Edit.{Edit}
 use Rattle.ltm_scenario.specs.Data.{ScenarioData}
 use Rattle.ltm_scenario.specs.IsScenario.{IsScenario}
-use Rattle.ltm_loading.specs.Setting.{Setting}
-use Rattle.ltm_loading.specs.Loading.{IsLoading}
-use Rattle.ltm_setting.specs.Setting.{setting_of}
+use Rattle.ltm_flows.specs.Setting.{Setting}
+use Rattle.ltm_core.specs.Loading.{IsLoading}
+use Rattle.ltm_core.specs.Setting.{setting_of}
 use Rattle.ltm_flows.specs.Shown.{Shows, ShowsCounts, version_of}
 use Rattle.ltm_report.specs.Reports.{totals_report}
 use Rattle.ltm_core.specs.Log.{Log, LogLaws, batches_of, version_now, scenario_at, scenario_now, after_batches}

@@ -19,7 +19,7 @@ use Rattle.ltm_session_editors.specs.Editing.{IsEditingText}
 
 -- a text, or the refusal in place of it
 abbrev pub Editing : Type 0
-Answer = Result (List ℕ) EditorsRefusal
+Editing = Result (List ℕ) EditorsRefusal
 
 -- the scripts of the editors, or what is wrong first with their files
 abbrev pub Scripts : Type 0

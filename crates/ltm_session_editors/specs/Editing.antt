@@ -1,11 +1,11 @@
 -- What is told of several editors.
 use Rattle.std.specs.Prelude.{ℕ, ◌≡◌, List, ◌++◌, length}
-use Rattle.ltm_curve.specs.Counts.{Counts}
+use Rattle.ltm_flows.specs.Counts.{Counts}
 use Rattle.ltm_scenario.specs.declared.edit.Edit.{Edit}
 use Rattle.ltm_scenario.specs.Data.{ScenarioData}
 use Rattle.ltm_scenario.specs.IsScenario.{IsScenario}
-use Rattle.ltm_loading.specs.Loading.{IsLoading}
-use Rattle.ltm_setting.specs.Setting.{setting_of}
+use Rattle.ltm_core.specs.Loading.{IsLoading}
+use Rattle.ltm_core.specs.Setting.{setting_of}
 use Rattle.ltm_report.specs.Reports.{totals_report}
 use Rattle.ltm_core.specs.Log.{Log, version_now, scenario_now, after_batches}
 use Rattle.ltm_editors.specs.declared.call.Call.{Call}

@@ -1,8 +1,8 @@
 -- What a viewer tells is the report of the loading that is shown.
 use Rattle.std.proofs.Common.{◌≡◌, ◌+◌, ◌++◌, [], ℕ, List, length, refl, sym, ap, subst, ◌∙◌, append_assoc, arith}
 use Rattle.std.specs.Prelude.{Result, Ok, Err, OnOk}
-use Rattle.ltm_curve.specs.Counts.{Counts}
-use Rattle.ltm_loading.specs.Loading.{IsLoading}
+use Rattle.ltm_flows.specs.Counts.{Counts}
+use Rattle.ltm_core.specs.Loading.{IsLoading}
 use Rattle.ltm_setting.specs.Setting.{setting_of}
 use Rattle.ltm_scenario.specs.Data.{ScenarioData}
 use Rattle.ltm_flows.specs.Shown.{version_of}

@@ -1,7 +1,7 @@
 -- What viewers tell of the loading that is shown.
 use Rattle.std.specs.Prelude.{ℕ, zero, suc, ◌≡◌, List, [], ◌++◌, codes}
-use Rattle.ltm_curve.specs.Counts.{Counts}
-use Rattle.ltm_loading.specs.Setting.{Setting}
+use Rattle.ltm_flows.specs.Counts.{Counts}
+use Rattle.ltm_flows.specs.Setting.{Setting}
 use Rattle.ltm_units.specs.Texts.{number_piece}
 use Rattle.ltm_report.specs.Totals.{totals_line}
 use Rattle.ltm_report.specs.Reports.{totals_report}

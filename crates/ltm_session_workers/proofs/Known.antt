@@ -6,7 +6,7 @@ use Rattle.ltm_scenario.specs.declared.edit.Edit.{Edit}
 use Rattle.ltm_scenario.specs.declared.edit.EditFault.{EditFault}
 use Rattle.ltm_scenario.specs.Edits.{edited_all}
 use Rattle.ltm_scenario.specs.Data.{ScenarioData}
-use Rattle.ltm_flows.specs.Shown.{version_of}
+use Rattle.ltm_core.specs.Shown.{version_of}
 use Rattle.ltm_io.specs.Sink.{appended, AppendsFront}
 use Rattle.ltm_script.specs.Line.{reading}
 use Rattle.ltm_script.specs.declared.command.Command.{Command}

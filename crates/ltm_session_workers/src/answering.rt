@@ -3,7 +3,7 @@ ghost use Rattle.std.specs.Prelude.{◌≡◌, ◌≢◌, ◌⊎◌, ◌++◌, �
 ghost use mathlib.Core.List.{IsPrefix};
 ghost use Rattle.ltm_io.specs.Faults.{Rose};
 ghost use Rattle.ltm_io.specs.Sink.{appended};
-ghost use Rattle.ltm_flows.specs.Shown.{version_of};
+ghost use Rattle.ltm_core.specs.Shown.{version_of};
 ghost use Rattle.ltm_script.specs.Commands.{HasAmounts};
 ghost use Rattle.ltm_report.specs.Answers.{settled_line, answer_room};
 ghost use Rattle.ltm_core.specs.Log.{version_now};

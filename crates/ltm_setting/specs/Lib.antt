@@ -1,3 +1,5 @@
 pub mod Setting
 pub mod ScenarioLaw
 pub mod Places
+pub use Rattle.ltm_scenario.specs.Data
+pub use Rattle.ltm_scenario.specs.IsScenario

@@ -5,7 +5,7 @@ use Rattle.ltm_curve.specs.Counts.{Counts}
 use Rattle.ltm_curve.specs.First.{first_units}
 use Rattle.ltm_network.specs.Network.{out_links}
 use Rattle.ltm_demand.specs.Produced.{by_end}
-use Rattle.ltm_limits.specs.Limits.{limit_at}
+use Rattle.ltm_scenario.specs.Limits.{limit_at}
 use Rattle.ltm_scenario.specs.Data.{ScenarioData}
 use Rattle.ltm_scenario.specs.IsScenario.{IsScenario}
 use Rattle.ltm_loading.specs.Setting.{IsSetting}

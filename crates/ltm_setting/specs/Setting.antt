@@ -9,7 +9,7 @@ use Rattle.ltm_diagram.specs.Limits.{limits_of}
 use Rattle.ltm_demand.specs.declared.row.DemandRow.{DemandRow}
 use Rattle.ltm_demand.specs.Produced.{by_end}
 use Rattle.ltm_splits.specs.Rows.{SplitRow, row_in_force}
-use Rattle.ltm_limits.specs.Limits.{limit_at}
+use Rattle.ltm_scenario.specs.Limits.{limit_at}
 use Rattle.ltm_scenario.specs.Data.{ScenarioData}
 use Rattle.ltm_scenario.specs.Reads.{destination_node, destination_of}
 use Rattle.ltm_loading.specs.Setting.{Setting}

@@ -1,8 +1,8 @@
 -- Two numbers have one report.
 use Rattle.std.proofs.Common.{ℕ, ◌≡◌, ◌++◌, List, inl, inr, length, ap, sym, subst, ◌∙◌, refl, arith}
 use Rattle.std.proofs.lemmas.Bool.{cases_lt}
-use Rattle.ltm_curve.specs.Counts.{Counts}
-use Rattle.ltm_network.specs.Network.{NetworkData}
+use Rattle.ltm_flows.specs.Counts.{Counts}
+use Rattle.ltm_scenario.specs.Network.{NetworkData}
 use Rattle.ltm_scenario.specs.declared.edit.Edit.{Edit}
 use Rattle.ltm_scenario.specs.Data.{ScenarioData}
 use Rattle.ltm_loading.specs.Setting.{Setting, IsSetting}

@@ -1,7 +1,7 @@
 -- What a trial's text is.
 use Rattle.std.proofs.Common.{◌≡◌, ℕ, ◌+◌, ◌*◌, ◌<◌, ◌≤◌, zero, suc, List, [], ◌++◌, refl, subst, inl, inr, add-zero, arith}
 use Rattle.std.proofs.lemmas.Bool.{cases_eq, cases_lt}
-use Rattle.ltm_curve.specs.Counts.{Counts}
+use Rattle.ltm_flows.specs.Counts.{Counts}
 use Rattle.ltm_scenario.specs.declared.edit.Edit.{Edit}
 use Rattle.ltm_scenario.specs.Data.{ScenarioData}
 use Rattle.ltm_loading.specs.Setting.{Setting}

@@ -1,6 +1,6 @@
 //! The lines of a trial.
 ghost use Rattle.std.specs.Prelude.{◌≡◌, ◌++◌, ◌*◌, ℕ, OnOk};
-ghost use Rattle.ltm_curve.specs.Counts.{Counts};
+ghost use Rattle.ltm_flows.specs.Counts.{Counts};
 ghost use Rattle.ltm_loading.specs.Setting.{Setting};
 ghost use Rattle.ltm_setting.specs.Setting.{setting_of};
 ghost use Rattle.ltm_flows.specs.Shown.{ShowsCounts};

@@ -1,6 +1,6 @@
 //! A trial, from two numbers to its report.
 ghost use Rattle.std.specs.Prelude.{◌≡◌, ◌↔◌, ◌++◌, ◌<◌, ◌⊎◌, ℕ, Ok, Err, OnOk, IfOk, IsOk};
-ghost use Rattle.ltm_curve.specs.Counts.{Counts};
+ghost use Rattle.ltm_flows.specs.Counts.{Counts};
 ghost use Rattle.ltm_scenario.specs.Data.{ScenarioData};
 ghost use Rattle.ltm_scenario.specs.Edits.{edited_all, HaveAmounts};
 ghost use Rattle.ltm_scenario.specs.Valid.{IsValid};

@@ -2,7 +2,7 @@
 use Rattle.std.proofs.Common.{◌≡◌, ℕ, ◌+◌, ◌<◌, ◌≤◌, List, length, refl, ap, sym, subst, ◌∙◌, slice_index_or, slice_set, true, false, Bool, arith}
 use Rattle.std.specs.Prelude.{Option, Some, None, if◌then◌else◌}
 use Rattle.std.proofs.lemmas.List.{set-get_or}
-use Rattle.ltm_loading.specs.Setting.{Setting}
+use Rattle.ltm_flows.specs.Setting.{Setting}
 use Rattle.ltm_repair.specs.Answers.{Got, NotYet, AnswersClaim}
 use Rattle.ltm_repair.specs.Events.{CoreEvent, Look, Claim, GiveBack, Commit, Accept, Publish, Settle, Stay, SameBooks}
 use Rattle.ltm_repair.specs.State.{RepairState, now}

@@ -1,8 +1,8 @@
 -- What a drive has come to when it ends.
 use Rattle.std.proofs.Common.{◌≡◌, ℕ, ◌+◌, ◌*◌, ◌≤◌, List, [], ◌∷◌, ◌++◌, length, refl, ap, sym, subst, ◌∙◌, inl, inr, arith}
 use Rattle.std.proofs.lemmas.List.{length-append}
-use Rattle.ltm_loading.specs.Setting.{Setting}
-use Rattle.ltm_setting.specs.Setting.{setting_of}
+use Rattle.ltm_flows.specs.Setting.{Setting}
+use Rattle.ltm_core.specs.Setting.{setting_of}
 use Rattle.ltm_repair.specs.Events.{CoreEvent, Look}
 use Rattle.ltm_repair.specs.Answers.{Rest as NothingLeft, AnswersClaim}
 use Rattle.ltm_repair.specs.Runs.{in_all, batch_in, commit_in, commits_in, work_in, give_back_in, look_in}

@@ -3,9 +3,9 @@ use Rattle.std.proofs.Common.{◌≡◌, ◌≢◌, ℕ, ◌+◌, ◌<◌, List,
 use Rattle.std.specs.Prelude.{Option, Some, None}
 use Rattle.std.proofs.lemmas.Bool.{cases_eq, false≢true}
 use Rattle.std.proofs.lemmas.List.{map-set, length-map}
-use Rattle.ltm_setting.specs.Setting.{setting_of}
-use Rattle.ltm_scenario.specs.Data.{ScenarioData}
-use Rattle.ltm_loading.specs.Pairs.{shape_at}
+use Rattle.ltm_core.specs.Setting.{setting_of}
+use Rattle.ltm_core.specs.Data.{ScenarioData}
+use Rattle.ltm_flows.specs.Pairs.{shape_at}
 use Rattle.ltm_repair.specs.Desk.{Desk, IsOther}
 use Rattle.ltm_repair.specs.Events.{CoreEvent, Commit}
 use Rattle.ltm_repair.specs.Facts.{IsSound}

@@ -2,7 +2,7 @@
 use Rattle.std.proofs.Common.{◌≡◌, ◌≢◌, ℕ, zero, suc, ◌<◌, List, [], ◌∷◌, length, inl, inr, refl, ap, sym, ◌∙◌, slice_index_or, slice_set, get_or-set_same, get_or-set_other}
 use Rattle.std.specs.Prelude.{Some, None}
 use Rattle.std.proofs.lemmas.Bool.{cases_eq}
-use Rattle.ltm_loading.specs.Setting.{Setting}
+use Rattle.ltm_flows.specs.Setting.{Setting}
 use Rattle.ltm_repair.specs.Desk.{Desk, IsOther}
 use Rattle.ltm_repair.proofs.Cases.{cases_pair, cases_option}
 use Rattle.ltm_workers.specs.Driving.{Held}

@@ -2,7 +2,7 @@
 use Rattle.std.proofs.Common.{◌≡◌, ℕ, ◌+◌, ◌-◌, ◌<◌, ◌^◌, min, Bool, List, [], ◌∷◌, ◌++◌, length, inl, inr, refl, ap, sym, subst, ◌∙◌, arith}
 use Rattle.std.specs.Prelude.{Option}
 use Rattle.std.proofs.lemmas.List.{length-append}
-use Rattle.ltm_loading.specs.Setting.{Setting}
+use Rattle.ltm_flows.specs.Setting.{Setting}
 use Rattle.ltm_repair.specs.State.{RepairState, now}
 use Rattle.ltm_repair.specs.Events.{CoreEvent, Commit, SameBooks, CommitHappened}
 use Rattle.ltm_repair.specs.Desk.{IsAtRest}

@@ -1,8 +1,8 @@
 -- What work without other workers does to a core.
 use Rattle.std.specs.Prelude.{◌≡◌, ℕ, ◌+◌, ◌-◌, ◌<◌, ◌^◌, min, Bool, true, false, List, length}
-use Rattle.ltm_curve.specs.Counts.{Counts}
-use Rattle.ltm_loading.specs.Loading.{IsLoading}
-use Rattle.ltm_loading.specs.Differing.{differing}
+use Rattle.ltm_flows.specs.Counts.{Counts}
+use Rattle.ltm_core.specs.Loading.{IsLoading}
+use Rattle.ltm_core.specs.Differing.{differing}
 use Rattle.ltm_repair.specs.Events.{CoreEvent}
 use Rattle.ltm_repair.specs.Runs.{in_all, work_in, commits_in}
 use Rattle.ltm_core.specs.Log.{settled_of}

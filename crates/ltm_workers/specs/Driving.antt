@@ -1,8 +1,8 @@
 -- Drives: four virtual workers, and a schedule whose bytes say who acts.
 use Rattle.std.specs.Prelude.{◌≡◌, ℕ, ◌+◌, ◌*◌, ◌/◌, ◌%◌, ◌≤◌, ◌==◌, ◌⊎◌, Bool, if◌then◌else◌, List, [], ◌∷◌, ◌++◌, length, All, slice_index_or, slice_set, Option, Some, None}
 use Rattle.std.specs.List.{count_by}
-use Rattle.ltm_loading.specs.Setting.{Setting}
-use Rattle.ltm_setting.specs.Setting.{setting_of}
+use Rattle.ltm_flows.specs.Setting.{Setting}
+use Rattle.ltm_core.specs.Setting.{setting_of}
 use Rattle.ltm_repair.specs.Answers.{Got, NotYet, Rest as NothingLeft, AnswersClaim}
 use Rattle.ltm_repair.specs.Events.{CoreEvent, Look, Claim, GiveBack, Commit}
 use Rattle.ltm_repair.specs.Runs.{in_all, look_in, give_back_in}

@@ -8,7 +8,7 @@ use Rattle.ltm_curve.specs.Table.{counts_of}
 use Rattle.ltm_curve.specs.Cells.{is_changed}
 use Rattle.ltm_node.specs.Shape.{counts_begin}
 use Rattle.ltm_scenario.specs.declared.edit.Edit.{Edit}
-use Rattle.ltm_network.specs.Network.{NetworkData}
+use Rattle.ltm_scenario.specs.Network.{NetworkData}
 use Rattle.ltm_scenario.specs.Data.{ScenarioData}
 use Rattle.ltm_scenario.specs.Shape.{SameShape}
 use Rattle.ltm_loading.specs.Setting.{Setting, IsSetting}

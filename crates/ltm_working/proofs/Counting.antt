@@ -9,7 +9,7 @@ use Rattle.ltm_curve.specs.declared.changed.Changed.{Changed}
 use Rattle.ltm_curve.proofs.Cells.{in_cells}
 use Rattle.ltm_loading.specs.Setting.{Setting}
 use Rattle.ltm_loading.specs.Groups.{groups}
-use Rattle.ltm_marks.specs.Marks.{width_of, rows_of, is_marked}
+use Rattle.ltm_frontier.specs.Marks.{width_of, rows_of, is_marked}
 use Rattle.ltm_frontier.specs.Ones.{one_if}
 use Rattle.ltm_frontier.specs.Claims.{width, slot_in, has_node}
 use Rattle.ltm_frontier.specs.declared.frontier.Frontier.{Frontier}

@@ -1,6 +1,6 @@
 //! What a link sends below its exit limit.
 ghost use Rattle.ltm_curve.specs.Table.{counts_of};
-ghost use Rattle.ltm_loading.specs.Loading.{IsLoading};
+ghost use Rattle.ltm_flows.specs.Loading.{IsLoading};
 ghost use Rattle.ltm_setting.specs.Setting.{setting_of};
 ghost use Rattle.ltm_setting.specs.Places.{IsShapedFor};
 

@@ -1,6 +1,6 @@
 use Rattle.std.proofs.Common.{rules, ◌≡◌, ◌+◌, ◌++◌, ◌∷◌, [], List, arith, sym, ap, subst, ◌∙◌}
 use Rattle.std.proofs.lemmas.List.{length_push}
-use Rattle.ltm_loading.specs.Totals.{entered_link, left_link}
+use Rattle.ltm_flows.specs.Totals.{entered_link, left_link}
 use Rattle.ltm_flows.specs.Shown.{links_of}
 use Rattle.ltm_board.specs.declared.through.Through.{Through}
 use Rattle.ltm_board.specs.Making.{AreThrough}

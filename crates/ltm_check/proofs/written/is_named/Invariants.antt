@@ -1,6 +1,6 @@
 use Rattle.std.proofs.Common.{◌≡◌, ◌<◌, ℕ, true}
 use Rattle.ltm_units.specs.Words.{is_name}
-use Rattle.ltm_network.specs.Network.{link_name, node_name}
+use Rattle.ltm_scenario.specs.Network.{link_name, node_name}
 use Rattle.ltm_check.proofs.written.is_named.Given as goal
 
 abbrev pub invariant-loop-link : goal.invariant-loop-link

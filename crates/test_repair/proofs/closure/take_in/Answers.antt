@@ -1,7 +1,7 @@
 use Rattle.std.proofs.Common.{◌≡◌, ℕ, List, sym, subst, arith}
 use Rattle.ltm_scenario.specs.declared.edit.Edit.{Edit}
 use Rattle.ltm_scenario.specs.Data.{ScenarioData}
-use Rattle.ltm_setting.specs.Setting.{setting_of}
+use Rattle.ltm_core.specs.Setting.{setting_of}
 use Rattle.ltm_pairs.specs.Touched.{HaveSlots}
 use Rattle.ltm_working.specs.Ready.{IsReady}
 use Rattle.ltm_working.specs.Growing.{horizon_of, TableHasRoom}
