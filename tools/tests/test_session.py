@@ -1,8 +1,10 @@
 """A session over a pipe, with a program that is made for the test and with the proved one."""
 import json
+import os
 import unittest
 from decimal import Decimal
 from pathlib import Path
+from unittest import mock
 
 from support import BUILT, EXAMPLES, FolderTest, needs_program
 from ltm_tools import edits
@@ -27,7 +29,11 @@ sys.exit({status})
 class Pages(FolderTest):
     def test_the_program_asks_for_large_pages(self) -> None:
         shows = self.program("import os\nprint(os.environ['GLIBC_TUNABLES'])")
-        self.assertEqual(output(self.case(), "load", program=shows), b"glibc.malloc.hugetlb=1\n")
+        with mock.patch.dict(os.environ):
+            os.environ.pop("GLIBC_TUNABLES", None)
+            self.assertEqual(output(self.case(), "load", program=shows), b"glibc.malloc.hugetlb=1\n")
+            os.environ["GLIBC_TUNABLES"] = "my own"
+            self.assertEqual(output(self.case(), "load", program=shows), b"my own\n")
 
 
 class Made(FolderTest):
