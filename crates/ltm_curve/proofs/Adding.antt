@@ -1,19 +1,17 @@
 -- Amounts are added to a row of counts.
 use Rattle.std.proofs.Common.{◌≡◌, ℕ, ◌+◌, ◌-◌, ◌<◌, List, length, sum, take, drop, slice_index, arith, ap, sym, ◌∙◌}
-use Rattle.std.proofs.lemmas.List.{get_or-take, get_or-drop}
 use Rattle.ltm_units.specs.Sums.{sum_below}
 use Rattle.ltm_units.proofs.Sums.{sum_below-same, sum_below-plus}
 use Rattle.ltm_curve.specs.declared.curves.Curves.{Curves}
 use Rattle.ltm_curve.specs.Table.{place, counts_of, total_of, SetsRow, AddsRow}
-use Rattle.ltm_curve.proofs.Lists.{sum_below-list}
+use Rattle.ltm_curve.proofs.Lists.{sum_below-list, part_at}
 
 -- a part of the table is a row of counts
 pub count_in : (c : Curves) (g k from d : ℕ) (items : List ℕ) → items ≡ c.counts.items → from ≡ place c g 0 k → d < c.destinations → slice_index (take (from + c.destinations - from) (drop from items)) d ≡ counts_of c g d k
 unfolding counts_of
 count_in c g k from d items e at l =
     let here : from + d ≡ place c g d k = omega arith in
-    get_or-take (from + c.destinations - from) (drop from items) d 0 (omega arith)
-    ∙ (get_or-drop from items d 0 ∙ (ap (λ (z : List ℕ). slice_index z (from + d)) e ∙ ap (slice_index c.counts.items) here))
+    part_at items from c.destinations d l ∙ (ap (λ (z : List ℕ). slice_index z (from + d)) e ∙ ap (slice_index c.counts.items) here)
 
 -- the sum grows by that of the amounts
 pub sum_added : (c : Curves) (g k : ℕ) (row amounts : List ℕ) → length amounts ≡ c.destinations → length row ≡ c.destinations → ((d : ℕ) → d < c.destinations → slice_index row d ≡ counts_of c g d k + slice_index amounts d) →

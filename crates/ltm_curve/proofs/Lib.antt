@@ -11,4 +11,5 @@ pub mod Cells
 pub mod Copying
 pub mod Adding
 pub mod Longer
+pub mod Kept
 pub mod TotalPlaces

@@ -1,7 +1,7 @@
 -- Lists of the first numbers of a function, and their sums.
-use Rattle.std.proofs.Common.{◌≡◌, ℕ, zero, suc, ◌+◌, ◌-◌, ◌<◌, ◌≤◌, List, [], ◌∷◌, length, sum, take, replicate, slice_index, slice_set, get_or-set_same, get_or-set_other, arith, inl, inr, refl, ap, sym, ◌∙◌}
+use Rattle.std.proofs.Common.{◌≡◌, ℕ, zero, suc, ◌+◌, ◌-◌, ◌<◌, ◌≤◌, List, [], ◌∷◌, length, sum, take, drop, replicate, slice_index, slice_set, get_or-set_same, get_or-set_other, arith, inl, inr, refl, ap, sym, ◌∙◌}
 use Rattle.std.proofs.lemmas.Bool.{cases_lt, cases_eq}
-use Rattle.std.proofs.lemmas.List.{ext_get_or, get_or-replicate, get_or_past, get_or-take, length-replicate, length-set}
+use Rattle.std.proofs.lemmas.List.{ext_get_or, get_or-replicate, get_or_past, get_or-take, get_or-drop, length-replicate, length-set}
 use Rattle.std.proofs.lemmas.List.Sums.{sum_by-cons}
 use Rattle.ltm_units.specs.Sums.{sum_below}
 use Rattle.ltm_units.specs.Nested.{nested_split}
@@ -54,6 +54,10 @@ zero_index n i = elim (cases_lt i n) [ inl low ↦ get_or-replicate n i 0 0 low 
 -- a part of a list of zeros
 pub none_at : (n many d : ℕ) → d < n → slice_index (take n (replicate many 0)) d ≡ 0
 none_at n many d l = get_or-take n (replicate many 0) d 0 l ∙ zero_index many d
+
+-- a part of a list from a place on
+pub part_at : (xs : List ℕ) (a n i : ℕ) → i < n → slice_index (take (a + n - a) (drop a xs)) i ≡ slice_index xs (a + i)
+part_at xs a n i l = get_or-take (a + n - a) (drop a xs) i 0 (omega arith) ∙ get_or-drop a xs i 0
 
 -- a list whose first places hold the values of a function, and the next value
 pub written : (xs : List ℕ) (f : ℕ → ℕ) (k v : ℕ) → ((i : ℕ) → i < k → slice_index xs i ≡ f i) → k < length xs → v ≡ f k → (i : ℕ) → i < k + 1 → slice_index (slice_set xs k v) i ≡ f i

@@ -4,7 +4,7 @@ use Rattle.std.proofs.Math.Nat.{mul-le-mul_right}
 use Rattle.std.proofs.lemmas.Bool.{cases_lt}
 use Rattle.std.proofs.lemmas.List.{get_or_append_left, get_or-append_right, length-replicate, replicate-append-replicate}
 use Rattle.ltm_units.proofs.Sums.{sum_below-same, sum_below-zero}
-use Rattle.ltm_curve.specs.Totals.{AreTotals}
+use Rattle.ltm_curve.specs.Totals.{capped, AreCappedTotals}
 use Rattle.ltm_curve.proofs.Lists.{zero_index}
 
 -- one number more
@@ -25,16 +25,16 @@ pub small_longer : (xs : List ℕ) (n most : ℕ) → 0 < most → ((i : ℕ) �
 small_longer xs n most some all i = elim (cases_lt i (length xs)) [ inl low ↦ omega (arith, at_old xs n i low, all i) | inr past ↦ omega (arith, at_new xs n i past) ]
 
 -- totals of a table stay so where zeros come behind both
-pub totals_longer : (totals table : List ℕ) (width rows n m more : ℕ) → AreTotals totals table width rows → length totals ≡ rows → length table ≡ rows * width → AreTotals (totals ++ replicate n 0) (table ++ replicate m 0) width more
+pub totals_longer : (totals table : List ℕ) (width rows n m more : ℕ) → AreCappedTotals totals table width rows → length totals ≡ rows → length table ≡ rows * width → AreCappedTotals (totals ++ replicate n 0) (table ++ replicate m 0) width more
 totals_longer totals table width rows n m more all few many = λ row l.
     elim (cases_lt row rows) [
       | inl low ↦
           let up : (row + 1) * width ≤ rows * width = mul-le-mul_right width (let x : row + 1 ≤ rows = omega arith in x) in
           at_old totals n row (omega arith)
           ∙ (all row low
-          ∙ sym (sum_below-same width (λ d. slice_index (table ++ replicate m 0) (row * width + d)) (λ d. slice_index table (row * width + d)) (λ d x. at_old table m (row * width + d) (omega arith))))
+          ∙ ap capped (sym (sum_below-same width (λ d. slice_index (table ++ replicate m 0) (row * width + d)) (λ d. slice_index table (row * width + d)) (λ d x. at_old table m (row * width + d) (omega arith)))))
       | inr past ↦
           let up : rows * width ≤ row * width = mul-le-mul_right width past in
           at_new totals n row (omega arith)
-          ∙ sym (sum_below-zero width (λ d. slice_index (table ++ replicate m 0) (row * width + d)) (λ d x. at_new table m (row * width + d) (omega arith)))
+          ∙ ap capped (sym (sum_below-zero width (λ d. slice_index (table ++ replicate m 0) (row * width + d)) (λ d x. at_new table m (row * width + d) (omega arith))))
     ]

@@ -1,17 +1,18 @@
 -- Where totals lie in their tables.
-use Rattle.std.proofs.Common.{◌≡◌, ◌≢◌, ℕ, ◌+◌, ◌*◌, ◌-◌, ◌<◌, ◌≤◌, ◌⊎◌, ◌++◌, Bool, true, false, nat_le, nat_lt, take, drop, if◌then◌else◌, List, length, replicate, slice_index, slice_set, arith, inl, inr, ap, sym, ◌∙◌, get_or-set_same, get_or-set_other}
+use Rattle.std.proofs.Common.{◌≡◌, ◌≢◌, ℕ, ◌+◌, ◌*◌, ◌-◌, ◌<◌, ◌≤◌, ◌⊎◌, ◌++◌, Bool, true, false, nat_le, take, drop, if◌then◌else◌, List, length, replicate, slice_index, slice_set, arith, inl, inr, ap, sym, ◌∙◌, get_or-set_same, get_or-set_other}
 use Rattle.std.proofs.Math.Nat.{mul-le-mul_right}
 use Rattle.std.proofs.lemmas.Bool.{cases_eq, cases_lt}
 use Rattle.std.proofs.lemmas.Bool.Decides.{nat_tests}
 use Rattle.std.proofs.lemmas.Nat.{same_from_place}
-use Rattle.std.proofs.lemmas.List.{get_or-take, get_or-drop, get_or_past, length-take-le, length-drop}
-use Rattle.ltm_units.specs.Sums.{sum_below}
+use Rattle.std.proofs.lemmas.List.{length-take-le, length-drop}
 use Rattle.ltm_curve.specs.declared.curves.Curves.{Curves}
 use Rattle.ltm_curve.specs.declared.total_curves.TotalCurves.{TotalCurves}
-use Rattle.ltm_curve.specs.Table.{groups_of, destinations_of, counts_of, total_of}
-use Rattle.ltm_curve.specs.RowTotals.{total_in}
-use Rattle.ltm_curve.specs.TotalCurves.{total_slots, total_at, IsTotal, SetsTotal}
+use Rattle.ltm_curve.specs.Table.{groups_of, slots_of, total_of}
+use Rattle.ltm_curve.specs.Totals.{row_sum, capped}
+use Rattle.ltm_curve.specs.TotalCurves.{total_slots, total_at, IsTotal, SetsTotal, AreNarrow}
 use Rattle.ltm_curve.proofs.Longer.{at_old, at_new}
+use Rattle.ltm_curve.proofs.Kept.{capped_small}
+use Rattle.ltm_curve.proofs.Lists.{part_at}
 use Rattle.ltm_curve.proofs.PutOver.{put_over, before_over, in_over, after_over, outside}
 
 is_last : (n g : ℕ) → n ≤ g → nat_le n g ≡ true
@@ -118,34 +119,11 @@ row_long xs a n l = omega (arith, length-take-le (a + n - a) (drop a xs) (omega 
 
 pub row_at : (t : TotalCurves) (k g : ℕ) (xs : List ℕ) → xs ≡ t.totals.items → g < t.narrow → slice_index (take (k * t.narrow + t.narrow - k * t.narrow) (drop (k * t.narrow) xs)) g ≡ total_at t g k
 row_at t k g xs same l =
-    get_or-take (k * t.narrow + t.narrow - k * t.narrow) (drop (k * t.narrow) xs) g 0 (omega (arith, l))
-    ∙ (get_or-drop (k * t.narrow) xs g 0 ∙ (ap (λ (ys : List ℕ). slice_index ys (k * t.narrow + g)) same ∙ sym (at_narrow t g k l)))
+    part_at xs (k * t.narrow) t.narrow g l ∙ (ap (λ (ys : List ℕ). slice_index ys (k * t.narrow + g)) same ∙ sym (at_narrow t g k l))
 
--- what a row of curves tells is the total
-less_true : (a b : ℕ) → a < b → nat_lt a b ≡ true
-less_true a b l = grind (arith, nat_tests)
-
-less_false : (a b : ℕ) → b ≤ a → nat_lt a b ≡ false
-less_false a b l = grind (arith, nat_tests)
-
-pub total_is : (c : Curves) (k : ℕ) (totals counts : List ℕ) (g : ℕ) → (2 ≤ destinations_of c → length totals ≡ groups_of c) → (destinations_of c < 2 → length totals ≡ 0) →
-    ((h : ℕ) → h < length totals → slice_index totals h ≡ total_of c h k) → (destinations_of c ≡ 1 → length counts ≡ groups_of c) → (destinations_of c ≢ 1 → length counts ≡ 0) →
-    ((h : ℕ) → h < length counts → slice_index counts h ≡ total_of c h k) → g < groups_of c → total_in totals counts g ≡ total_of c g k
-unfolding counts_of
-total_is c k totals counts g several few kept one others only l =
-    elim (cases_lt 1 (destinations_of c)) [
-      | inl many ↦
-          let x : g < length totals = omega (arith, l, several (omega (arith, many))) in
-          ap (λ (b : Bool). if b then slice_index totals g else slice_index counts g) (less_true g (length totals) x) ∙ kept g x
-      | inr less ↦
-          ap (λ (b : Bool). if b then slice_index totals g else slice_index counts g) (less_false g (length totals) (omega (arith, few (omega (arith, less)))))
-          ∙ elim (cases_eq (destinations_of c) 1) [
-            | inl alone ↦ only g (omega (arith, l, one alone))
-            | inr none ↦
-                let zero : destinations_of c ≡ 0 = omega (arith, less, none) in
-                get_or_past counts g 0 (omega (arith, others none)) ∙ sym (ap (λ (n : ℕ). sum_below n (λ d. counts_of c g d k)) zero)
-          ]
-    ]
+-- what is kept of a total that fits in 32 bits is the total
+pub total_is : (c : Curves) (k g : ℕ) (numbers : List ℕ) (each : ℕ) → AreNarrow c → k ≤ slots_of c → ((h : ℕ) → h < groups_of c → row_sum numbers each h ≡ capped (total_of c h k)) → g + 1 < groups_of c → row_sum numbers each g ≡ total_of c g k
+total_is c k g numbers each narrow slot kept l = kept g (omega (arith, l)) ∙ capped_small (total_of c g k) (narrow g k l slot)
 
 -- where zeros come behind both tables, the totals that were there stay, and further ones are 0
 pub kept_in : (old new : TotalCurves) (n m g k : ℕ) → new.narrow ≡ old.narrow → new.totals.items ≡ old.totals.items ++ replicate n 0 → new.last.items ≡ old.last.items ++ replicate m 0 → IsTotal old g k →

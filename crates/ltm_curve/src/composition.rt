@@ -234,7 +234,7 @@ impl Curves {
             curves: self,
             group,
         };
-        let part = count - self.kept_total(group, end);
+        let part = count - self.both_total(group, end);
         let gone = self.row(less, boundary);
         rows.write_first_two(count, last, end, part, gone, into);
     }

@@ -2,13 +2,14 @@
 //!
 //! All counts of one boundary lie side by side, group after group, so that a loading walks through memory in order and
 //! further boundaries can be added at the end. The words `counts_of` and `place` of `specs/Table.antt` say so, and here
-//! `place`, `row_number`, `start` and what takes a whole boundary at once (`carry`, `reserve`, `lengthen`, `totals_at`,
-//! `only_counts_at`) rest on it; no contract does. A count is kept in 32 bits, since twice as many then lie in a cache. With
-//! two destinations or more the totals of the groups lie in a dense table of their own, in the same order, so that looking
-//! back at totals reads few numbers; with one the count is the total.
+//! `place`, `row_number`, `start` and what takes a whole boundary at once (`carry`, `reserve`, `lengthen`, `totals_at`) rest
+//! on it; no contract does. A count is kept in 32 bits, since twice as many then lie in a cache. With three destinations
+//! or more the totals of the groups lie in a dense table of their own, in the same order, so that looking back at totals reads
+//! few numbers; with one the count is the total, and with two it is their sum. Totals are kept in 32 bits, capped at the greatest such number; who reads that
+//! one sums the row instead, so each total is exact. In a loading only what has arrived can come to so much.
 ghost use Rattle.std.specs.Prelude.{◌≡◌, ℕ, ◌+◌, ◌*◌, ◌^◌, ◌<◌, ◌≤◌, length, sum, replicate, slice_index, IfOk};
 ghost use Rattle.std.specs.Vec.{vec_capacity};
-ghost use Rattle.ltm_curve.specs.Totals.{AreTotals};
+ghost use Rattle.ltm_curve.specs.Totals.{capped, AreCappedTotals};
 
 use ltm_units::{NoMemory, sum_of};
 use std::alloc::Global;
@@ -20,6 +21,7 @@ mod row_totals;
 mod totals;
 
 pub(crate) use room::{fill_to, reserve_to};
+pub(crate) use row_totals::TotalRow;
 
 /// Groups of rows of counts: a count, in thousandths of a vehicle, for each group, destination and boundary.
 #[derive(Drop)]
@@ -29,34 +31,31 @@ pub struct Curves {
     slots: u32,
     room: u32,
     counts: Vec<u32>,
-    totals: Vec<u64>,
+    totals: Vec<u32>,
     ghost long: { length counts.items ≡ (slots + 1) * groups * destinations },
     ghost few: { destinations ≤ 64 },
     ghost small: { (i : ℕ) → slice_index counts.items i < 2 ^ 31 },
-    ghost no_totals: { destinations < 2 → length totals.items ≡ 0 },
-    ghost all_totals: { 2 ≤ destinations → length totals.items ≡ (slots + 1) * groups },
-    ghost sums: { 2 ≤ destinations → AreTotals totals.items counts.items destinations ((slots + 1) * groups) },
+    ghost no_totals: { destinations < 3 → length totals.items ≡ 0 },
+    ghost all_totals: { 3 ≤ destinations → length totals.items ≡ (slots + 1) * groups },
+    ghost sums: { 3 ≤ destinations → AreCappedTotals totals.items counts.items destinations ((slots + 1) * groups) },
     ghost within: { slots ≤ room },
     ghost counts_room: { (room + 1) * groups * destinations ≤ vec_capacity counts },
-    ghost totals_room: { 2 ≤ destinations → (room + 1) * groups ≤ vec_capacity totals },
+    ghost totals_room: { 3 ≤ destinations → (room + 1) * groups ≤ vec_capacity totals },
 }
 
-/// Writes a row of counts in 32 bits: of two counts, as with two destinations, without a loop.
+/// Writes two counts in 32 bits.
 #[inline]
-fn write_row(into: &mut [u32], counts: &[u64])
-    requires count { length into.old ≡ length counts.now }
+fn write_both(into: &mut [u32], counts: &[u64])
+    requires counts { length into.old ≡ 2 }
+    requires count { length counts.now ≡ 2 }
     requires small { (d : ℕ) → d < length counts.now → slice_index counts.now d < 2 ^ 31 }
     ensures { into.new ≡ counts.now }
 {
-    if into.len() == 2 {
-        into[0] = counts[0] as u32;
-        into[1] = counts[1] as u32;
-    } else {
-        write_many(into, counts);
-    }
+    into[0] = counts[0] as u32;
+    into[1] = counts[1] as u32;
 }
 
-/// The same for any count of counts.
+/// Writes a row of counts in 32 bits.
 fn write_many(into: &mut [u32], counts: &[u64])
     requires count { length into.old ≡ length counts.now }
     requires small { (d : ℕ) → d < length counts.now → slice_index counts.now d < 2 ^ 31 }
@@ -74,19 +73,20 @@ pub(crate) fn zero_counts(alloc: Global, many: usize) -> Result<Vec<u32>, NoMemo
     vec![in alloc; 0u32; many].map_err(|_| NoMemory)
 }
 
-/// So many totals, all 0.
-pub(crate) fn zero_totals(alloc: Global, many: usize) -> Result<Vec<u64>, NoMemory>
-    ensures { IfOk result (λ totals. totals.items ≡ replicate many 0) }
+/// How many totals are kept of so many rows: none where there are one or two destinations, whose counts tell the total.
+fn total_count(destinations: u32, rows: usize) -> usize
+    ensures several { 3 ≤ destinations → result ≡ rows }
+    ensures few { destinations < 3 → result ≡ 0 }
 {
-    vec![in alloc; 0u64; many].map_err(|_| NoMemory)
+    if destinations < 3 { 0 } else { rows }
 }
 
-/// How many totals are kept of so many rows: none where there is one destination, whose count is the total.
-fn total_count(destinations: u32, rows: usize) -> usize
-    ensures several { 2 ≤ destinations → result ≡ rows }
-    ensures alone { destinations < 2 → result ≡ 0 }
+/// A total as it is kept: the greatest number of 32 bits where it is greater.
+#[inline]
+fn capped(total: u64) -> u32
+    ensures { result ≡ capped total }
 {
-    if destinations < 2 { 0 } else { rows }
+    total.min(u64::from(u32::MAX)) as u32
 }
 
 impl Curves {
@@ -112,7 +112,7 @@ impl Curves {
             return Err(NoMemory);
         };
         let counts = zero_counts(alloc, size)?;
-        let totals = zero_totals(alloc, total_count(destinations, rows))?;
+        let totals = zero_counts(alloc, total_count(destinations, rows))?;
         Ok(Curves {
             groups,
             destinations,
@@ -183,11 +183,22 @@ impl Curves {
         requires small { count < 2 ^ 31 }
         ensures { Sets self.old self.new group destination boundary count }
     {
-        if self.destinations == 1 {
-            self.set_only(group, boundary, count);
-        } else {
+        if self.destinations > 2 {
             self.set_one(group, destination, boundary, count);
+        } else {
+            self.set_count(group, destination, boundary, count);
         }
+    }
+
+    /// The same where there are one or two destinations: no total is kept.
+    fn set_count(&mut self, group: u32, destination: u32, boundary: u32, count: u64)
+        requires place { IsIn self.old group destination boundary }
+        requires few { destinations_of self.old < 3 }
+        requires small { count < 2 ^ 31 }
+        ensures { Sets self.old self.new group destination boundary count }
+    {
+        let place = self.place(group, destination, boundary);
+        self.counts[place] = count as u32;
     }
 
     /// The same where there is one destination, whose count is the total.
@@ -204,14 +215,14 @@ impl Curves {
     /// The same where there are several destinations: the total changes by as much.
     fn set_one(&mut self, group: u32, destination: u32, boundary: u32, count: u64)
         requires place { IsIn self.old group destination boundary }
-        requires several { 2 ≤ destinations_of self.old }
+        requires several { 3 ≤ destinations_of self.old }
         requires small { count < 2 ^ 31 }
         ensures { Sets self.old self.new group destination boundary count }
     {
         let others = self.others(group, destination, boundary);
         let row = self.row_number(group, boundary);
         let place = self.place(group, destination, boundary);
-        self.totals[row] = others + count;
+        self.totals[row] = capped(others + count);
         self.counts[place] = count as u32;
     }
 
@@ -219,7 +230,7 @@ impl Curves {
     #[tactic(auto, using(crate::proofs::Places::count_within, crate::proofs::Places::total_small))]
     fn others(&self, group: u32, destination: u32, boundary: u32) -> u64
         requires place { IsIn self.now group destination boundary }
-        requires several { 2 ≤ destinations_of self.now }
+        requires several { 3 ≤ destinations_of self.now }
         ensures total { result + counts_of self.now group destination boundary
             ≡ total_of self.now group boundary }
         ensures small { result ≤ 2 ^ 37 }
@@ -261,11 +272,28 @@ impl Curves {
         requires small { (d : ℕ) → d < length counts.now → slice_index counts.now d < 2 ^ 31 }
         ensures { SetsRow self.old self.new group boundary counts.now }
     {
-        if counts.len() == 1 {
+        if counts.len() == 2 {
+            self.set_two(group, boundary, counts);
+        } else if counts.len() == 1 {
             self.set_only(group, boundary, counts[0]);
-        } else if counts.len() > 1 {
+        } else if counts.len() > 2 {
             self.set_several(group, boundary, counts);
         }
+    }
+
+    /// The same where there are two destinations, without a loop.
+    #[inline]
+    fn set_two(&mut self, group: u32, boundary: u32, counts: &[u64])
+        requires group { group < groups_of self.old }
+        requires boundary { boundary ≤ slots_of self.old }
+        requires count { length counts.now ≡ destinations_of self.old }
+        requires two { destinations_of self.old ≡ 2 }
+        requires small { (d : ℕ) → d < length counts.now → slice_index counts.now d < 2 ^ 31 }
+        ensures { SetsRow self.old self.new group boundary counts.now }
+    {
+        let from = self.start(group, boundary);
+        let to = from + self.destinations as usize;
+        write_both(&mut self.counts[from..to], counts);
     }
 
     /// The same where there are several destinations, in one copy and one sum.
@@ -273,14 +301,14 @@ impl Curves {
         requires group { group < groups_of self.old }
         requires boundary { boundary ≤ slots_of self.old }
         requires count { length counts.now ≡ destinations_of self.old }
-        requires several { 2 ≤ destinations_of self.old }
+        requires several { 3 ≤ destinations_of self.old }
         requires small { (d : ℕ) → d < length counts.now → slice_index counts.now d < 2 ^ 31 }
         ensures { SetsRow self.old self.new group boundary counts.now }
     {
         let row = self.row_number(group, boundary);
         let from = self.start(group, boundary);
         let to = from + self.destinations as usize;
-        self.totals[row] = sum_of(counts);
-        write_row(&mut self.counts[from..to], counts);
+        self.totals[row] = capped(sum_of(counts));
+        write_many(&mut self.counts[from..to], counts);
     }
 }

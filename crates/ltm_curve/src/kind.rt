@@ -41,7 +41,7 @@ pub struct Alone;
 #[derive(Drop)]
 pub struct Two;
 
-/// Two destinations or more.
+/// Three destinations or more.
 #[derive(Drop)]
 pub struct Several;
 
@@ -99,14 +99,14 @@ impl Kind for Two {
     #[inline]
     #[tactic(auto, using(crate::proofs::Places::total_small))]
     fn total(curves: &Curves, group: u32, boundary: u32) -> u64 {
-        curves.kept_total(group, boundary)
+        curves.both_total(group, boundary)
     }
 }
 
 impl Kind for Several {
     ghost use Rattle.std.specs.Prelude.{ℕ, ◌≤◌};
 
-    ghost fits = { λ n. 2 ≤ n };
+    ghost fits = { λ n. 3 ≤ n };
 
     #[inline]
     fn destinations(curves: &Curves) -> u32 {

@@ -4,11 +4,11 @@
 //! boundary by boundary; but those of the last group, which in a loading gathers what has arrived from everywhere, may need
 //! more, and lie in a table of their own. The word `total_at` of `specs/TotalCurves.antt` says so, and here `place`
 //! and what takes a whole boundary at once (`reserve`, `lengthen`, `copy_narrow`, `copy_changed_narrow`) rest on it.
-ghost use Rattle.std.specs.Prelude.{◌≡◌, ℕ, ◌+◌, ◌*◌, ◌^◌, ◌<◌, ◌≤◌, length, slice_index, IfOk};
+ghost use Rattle.std.specs.Prelude.{◌≡◌, ℕ, ◌+◌, ◌*◌, ◌^◌, ◌<◌, ◌≤◌, length, replicate, slice_index, IfOk};
 ghost use Rattle.std.specs.Vec.{vec_capacity};
 ghost use Rattle.ltm_curve.specs.Table.{groups_of, slots_of, total_of};
 
-use crate::curves::{Curves, zero_counts, zero_totals};
+use crate::curves::{Curves, zero_counts};
 use ltm_units::NoMemory;
 use std::alloc::Global;
 
@@ -37,6 +37,13 @@ fn table_size(groups: u32, slots: u32) -> usize
     ensures { result ≡ (slots + 1) * groups }
 {
     (slots as usize + 1) * groups as usize
+}
+
+/// So many totals, all 0.
+fn zero_totals(alloc: Global, many: usize) -> Result<Vec<u64>, NoMemory>
+    ensures { IfOk result (λ totals. totals.items ≡ replicate many 0) }
+{
+    vec![in alloc; 0u64; many].map_err(|_| NoMemory)
 }
 
 /// A table of totals, all 0, in which so many groups are kept in 32 bits, and one more.

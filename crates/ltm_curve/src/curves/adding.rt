@@ -1,8 +1,7 @@
 //! Amounts that are added to counts in place.
 ghost use Rattle.std.specs.Prelude.{◌≡◌, ℕ, ◌+◌, ◌*◌, ◌^◌, ◌<◌, ◌≤◌, length, sum, slice_index};
 
-use super::Curves;
-use ltm_units::sum_of;
+use super::{Curves, capped};
 
 /// Adds amounts to a row of counts in 32 bits, and gives their sum.
 fn add_many(row: &mut [u32], amounts: &[u64]) -> u64
@@ -62,7 +61,7 @@ impl Curves {
 
     /// The same where there are two destinations, without a loop.
     #[inline]
-    #[tactic(auto, using(crate::proofs::Places::total_small), unfolding(crate::specs::Table::counts_of))]
+    #[tactic(auto, unfolding(crate::specs::Table::counts_of))]
     fn add_two(&mut self, group: u32, boundary: u32, amounts: &[u64])
         requires group { group < groups_of self.old }
         requires boundary { boundary ≤ slots_of self.old }
@@ -72,11 +71,8 @@ impl Curves {
             → counts_of self.old group d boundary + slice_index amounts.now d < 2 ^ 31 }
         ensures { AddsRow self.old self.new group boundary amounts.now }
     {
-        let total = self.kept_total(group, boundary);
-        let row = self.row_number(group, boundary);
         let from = self.start(group, boundary);
         let to = from + self.destinations as usize;
-        self.totals[row] = total + sum_of(amounts);
         add_both(&mut self.counts[from..to], amounts);
     }
 
@@ -87,7 +83,7 @@ impl Curves {
         requires group { group < groups_of self.old }
         requires boundary { boundary ≤ slots_of self.old }
         requires count { length amounts.now ≡ destinations_of self.old }
-        requires several { 2 ≤ destinations_of self.old }
+        requires several { 3 ≤ destinations_of self.old }
         requires small { (d : ℕ) → d < length amounts.now
             → counts_of self.old group d boundary + slice_index amounts.now d < 2 ^ 31 }
         ensures { AddsRow self.old self.new group boundary amounts.now }
@@ -97,6 +93,6 @@ impl Curves {
         let from = self.start(group, boundary);
         let to = from + self.destinations as usize;
         let whole = add_many(&mut self.counts[from..to], amounts);
-        self.totals[row] = total + whole;
+        self.totals[row] = capped(total + whole);
     }
 }

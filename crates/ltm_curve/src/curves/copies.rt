@@ -4,7 +4,7 @@ ghost use Rattle.std.specs.Vec.{vec_capacity};
 ghost use Rattle.ltm_curve.specs.Blocks.{IsCarried};
 ghost use Rattle.ltm_curve.specs.Cells.{is_changed, HasCells};
 
-use super::Curves;
+use super::{Curves, capped};
 use crate::changed::Changed;
 
 /// Takes over all numbers of another table of the same length.
@@ -43,7 +43,7 @@ impl Curves {
             self.groups as usize * self.destinations as usize,
             boundary as usize,
         );
-        if self.destinations > 1 {
+        if self.destinations > 2 {
             carry_block(&mut self.totals, self.groups as usize, boundary as usize);
         }
     }
@@ -63,7 +63,7 @@ impl Curves {
         requires group { group < groups_of self.old }
         requires boundary { boundary ≤ slots_of self.old }
         requires count { length counts.now ≡ destinations_of self.old }
-        requires several { 2 ≤ destinations_of self.old }
+        requires several { 3 ≤ destinations_of self.old }
         requires small { (d : ℕ) → d < length counts.now → slice_index counts.now d < 2 ^ 31 }
         requires total { total ≡ sum counts.now }
         ensures { SetsRow self.old self.new group boundary counts.now }
@@ -71,7 +71,21 @@ impl Curves {
         let row = self.row_number(group, boundary);
         let from = self.start(group, boundary);
         let to = from + self.destinations as usize;
-        self.totals[row] = total;
+        self.totals[row] = capped(total);
+        self.counts[from..to].copy_from_slice(counts);
+    }
+
+    /// Changes the counts of a group at a boundary where there are two destinations.
+    fn put_both(&mut self, group: u32, boundary: u32, counts: &[u32])
+        requires group { group < groups_of self.old }
+        requires boundary { boundary ≤ slots_of self.old }
+        requires count { length counts.now ≡ destinations_of self.old }
+        requires two { destinations_of self.old ≡ 2 }
+        requires small { (d : ℕ) → d < length counts.now → slice_index counts.now d < 2 ^ 31 }
+        ensures { SetsRow self.old self.new group boundary counts.now }
+    {
+        let from = self.start(group, boundary);
+        let to = from + self.destinations as usize;
         self.counts[from..to].copy_from_slice(counts);
     }
 
@@ -82,9 +96,11 @@ impl Curves {
         requires boundary { boundary ≤ slots_of self.old }
         ensures { CopiesCell self.old self.new other.now group boundary }
     {
-        if self.destinations == 1 {
+        if self.destinations == 2 {
+            self.put_both(group, boundary, other.row(group, boundary));
+        } else if self.destinations == 1 {
             self.set_only(group, boundary, other.get(group, 0, boundary));
-        } else if self.destinations > 1 {
+        } else if self.destinations > 2 {
             let total = other.total(group, boundary);
             self.put_row(group, boundary, other.row(group, boundary), total);
         }

@@ -75,7 +75,7 @@ impl Curves {
     {
         let rows = (slots as usize + 1) * self.groups as usize;
         fill_to(&mut self.counts, 0u32, rows * self.destinations as usize);
-        fill_to(&mut self.totals, 0u64, total_count(self.destinations, rows));
+        fill_to(&mut self.totals, 0u32, total_count(self.destinations, rows));
         self.slots = slots;
     }
 }

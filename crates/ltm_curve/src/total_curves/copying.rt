@@ -36,10 +36,9 @@ impl TotalCurves {
             ⊎ (total_at self.new g k ≡ total_at self.old g k) }
     {
         let totals = curves.totals_at(boundary);
-        let counts = curves.only_counts_at(boundary);
         let from = boundary as usize * self.narrow as usize;
         let to = from + self.narrow as usize;
-        copy_row(&mut self.totals[from..to], totals, counts);
+        copy_row(&mut self.totals[from..to], &totals);
     }
 
     /// Copies the totals of all groups at a boundary.
@@ -80,16 +79,9 @@ impl TotalCurves {
             ⊎ (total_at self.new g k ≡ total_at self.old g k) }
     {
         let totals = curves.totals_at(boundary);
-        let counts = curves.only_counts_at(boundary);
         let from = boundary as usize * self.narrow as usize;
         let to = from + self.narrow as usize;
-        copy_words(
-            &mut self.totals[from..to],
-            totals,
-            counts,
-            changed,
-            boundary,
-        );
+        copy_words(&mut self.totals[from..to], &totals, changed, boundary);
     }
 
     /// Copies the totals of the changed groups at a boundary, and of the last one.

@@ -1,6 +1,7 @@
 use Rattle.std.proofs.Common.{◌≡◌, ℕ, ◌+◌, ◌*◌, ◌^◌, ◌<◌, List, ◌∙◌, arith, refl, ap, sym, length, sum, slice_index}
 use Rattle.std.proofs.lemmas.List.{with_items_is, length-set}
 use Rattle.ltm_curve.specs.Table.{counts_of}
+use Rattle.ltm_curve.specs.Totals.{capped}
 use Rattle.ltm_curve.proofs.Adding.{count_in, sum_added, adds_row_holds}
 use Rattle.ltm_curve.proofs.Places.{total_small}
 use Rattle.ltm_curve.proofs.PutOver.{put_over, length_over, small_over, sets_row_holds}
@@ -47,9 +48,9 @@ invariant_of-self c =
       no_totals = λ few. length-set c.args.self.now.totals.items c.row_number-row.result _ ∙ c.args.self.now.no_totals few;
       all_totals = λ several. length-set c.args.self.now.totals.items c.row_number-row.result _ ∙ c.args.self.now.all_totals several;
       sums = λ several.
-          totals_over c.args.self.now.totals.items items _ c.add_many-whole.new.row c.args.self.now.destinations _ c.row_number-row.result from (c.kept_total-total.result + c.add_many-whole.result) (c.args.self.now.sums several) all many
+          totals_over c.args.self.now.totals.items items _ c.add_many-whole.new.row c.args.self.now.destinations _ c.row_number-row.result from c.capped.result (c.args.self.now.sums several) all many
           (c.start-from.ensures.place ∙ ap (λ (z : ℕ). z * c.args.self.now.destinations + 0) (sym c.row_number-row.ensures.number) ∙ omega arith)
-          (omega (arith, c.start-from.ensures.within)) (omega (arith, c.args.self.now.all_totals several)) whole;
+          (omega (arith, c.start-from.ensures.within)) (omega (arith, c.args.self.now.all_totals several)) (c.capped.ensures ∙ ap capped whole);
     }
 
 pub returns : goal.returns

@@ -1,25 +1,9 @@
-use Rattle.std.proofs.Common.{◌≡◌, ℕ, ◌+◌, ◌*◌, ◌^◌, ◌<◌, List, ◌∙◌, arith, refl, ap, sym, length, sum, slice_index}
-use Rattle.std.proofs.lemmas.List.{with_items_is, length-set}
+use Rattle.std.proofs.Common.{◌≡◌, ℕ, ◌+◌, ◌^◌, ◌<◌, List, ◌∙◌, arith, refl, ap, sym, length, slice_index}
+use Rattle.std.proofs.lemmas.List.{with_items_is}
 use Rattle.ltm_curve.specs.Table.{counts_of}
-use Rattle.ltm_curve.proofs.Adding.{count_in, sum_added, adds_row_holds}
-use Rattle.ltm_curve.proofs.Places.{total_small}
+use Rattle.ltm_curve.proofs.Adding.{count_in, adds_row_holds}
 use Rattle.ltm_curve.proofs.PutOver.{put_over, length_over, small_over, sets_row_holds}
-use Rattle.ltm_curve.proofs.Totals.{list_small, totals_over}
 use Rattle.ltm_curve.proofs.curves.Curves.add_two.Goals as goal
-
-pub sum_of-requires : goal.sum_of-requires
-sum_of-requires c =
-    record { fits = omega (arith, list_small c.args.amounts.now (omega (arith, c.args.self.now.few, c.requires.count)) (λ d l. omega (arith, c.requires.small d l))) }
-
-pub overflow_add-total : goal.overflow_add-total
-overflow_add-total c =
-    omega (
-      arith,
-      c.kept_total-total.ensures,
-      c.sum_of.ensures,
-      total_small c.args.self.now c.args.group c.args.boundary,
-      list_small c.args.amounts.now (omega (arith, c.args.self.now.few, c.requires.count)) (λ d l. omega (arith, c.requires.small d l)),
-    )
 
 pub invariant_of-self : goal.invariant_of-self
 invariant_of-self c =
@@ -34,8 +18,6 @@ invariant_of-self c =
     let written : put_over from to c.deref_mut.result.now c.add_both.new.row ≡ put_over from to items c.add_both.new.row = ap (λ (xs : List ℕ). put_over from to xs c.add_both.new.row) c.deref_mut.ensures.value in
     let long : length (put_over from to items c.add_both.new.row) ≡ length items = length_over from to items c.add_both.new.row (omega arith) (omega (arith, c.start-from.ensures.within)) (omega arith) in
     let all = with_items_is c.args.self.now.counts (put_over from to c.deref_mut.result.now c.add_both.new.row) (ap length written ∙ (long ∙ (ap length (sym c.deref_mut.ensures.value) ∙ c.deref_mut.ensures.len))) ∙ written in
-    let whole : c.kept_total-total.result + c.sum_of.result ≡ sum c.add_both.new.row =
-    omega (arith, c.kept_total-total.ensures, c.sum_of.ensures, sum_added c.args.self.now g k c.add_both.new.row c.args.amounts.now c.requires.count many each) in
     record {
       long = ap length all ∙ (long ∙ c.args.self.now.long);
       few = c.args.self.now.few;
@@ -48,12 +30,9 @@ invariant_of-self c =
         small_over from to items c.add_both.new.row (2 ^ 31) (omega arith) (omega (arith, c.start-from.ensures.within)) (omega arith) c.args.self.now.small
             (λ d l. omega (arith, each d (omega arith), c.requires.small d (omega (arith, c.requires.count)))) i,
       );
-      no_totals = λ few. length-set c.args.self.now.totals.items c.row_number-row.result _ ∙ c.args.self.now.no_totals few;
-      all_totals = λ several. length-set c.args.self.now.totals.items c.row_number-row.result _ ∙ c.args.self.now.all_totals several;
-      sums = λ several.
-          totals_over c.args.self.now.totals.items items _ c.add_both.new.row c.args.self.now.destinations _ c.row_number-row.result from (c.kept_total-total.result + c.sum_of.result) (c.args.self.now.sums several) all many
-          (c.start-from.ensures.place ∙ ap (λ (z : ℕ). z * c.args.self.now.destinations + 0) (sym c.row_number-row.ensures.number) ∙ omega arith)
-          (omega (arith, c.start-from.ensures.within)) (omega (arith, c.args.self.now.all_totals several)) whole;
+      no_totals = c.args.self.now.no_totals;
+      all_totals = c.args.self.now.all_totals;
+      sums = λ several. absurd (omega (arith, several, c.requires.two));
     }
 
 pub returns : goal.returns

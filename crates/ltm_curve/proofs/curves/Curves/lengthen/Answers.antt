@@ -15,7 +15,7 @@ fill_to-requires-clause-longer c =
 
 pub fill_to-requires-2-clause-longer : goal.fill_to-requires-2-clause-longer
 fill_to-requires-2-clause-longer c =
-    elim (cases_lt c.args.self.now.destinations 2) [
+    elim (cases_lt c.args.self.now.destinations 3) [
       | inl few ↦ omega (arith, c.args.self.now.no_totals few)
       | inr several ↦ omega (arith, c.args.self.now.all_totals several, c.total_count.ensures.several several, rows_within c.args.self.now.slots c.args.slots c.args.self.now.groups c.requires.slots)
     ]
