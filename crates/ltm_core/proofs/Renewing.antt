@@ -1,12 +1,11 @@
 -- What is renewed edit by edit.
-use Rattle.std.proofs.Common.{◌≡◌, ◌≢◌, ℕ, ◌<◌, ◌≤◌, ◌⊎◌, ◌&&◌, ◌||◌, ◌==◌, nat_lt, Bool, true, false, List, Option, Some, None, arith, inl, inr, refl, ap, subst, sym, ◌∙◌}
+use Rattle.std.proofs.Common.{◌≡◌, ◌≢◌, ℕ, ◌<◌, ◌≤◌, ◌⊎◌, ◌&&◌, ◌||◌, ◌==◌, nat_lt, Bool, true, false, List, Option, Some, arith, inl, inr, refl, ap, sym, ◌∙◌}
 use Rattle.std.specs.Option.{option_map_or}
-use Rattle.std.proofs.lemmas.Bool.{cases_lt, eqb-true, eq-eqb, ltb-true, lt-ltb}
+use Rattle.std.proofs.lemmas.Bool.{cases_lt, eq-eqb, lt-ltb}
 use Rattle.ltm_scenario.specs.Network.{NetworkData, find_node}
 use Rattle.ltm_loading.specs.Setting.{Setting}
 use Rattle.ltm_flows.specs.declared.loading.Loading.{Loading}
-use Rattle.ltm_flows.specs.Origins.{produced_in_all}
-use Rattle.ltm_flows.specs.Shown.{nodes_of, last_of, produced_of, SameButProduction, RenewsProduction, Fits, AgreesOutside}
+use Rattle.ltm_flows.specs.Shown.{nodes_of, last_of, SameButProduction, Fits, AgreesOutside}
 use Rattle.ltm_curve.specs.TotalCurves.{total_groups, total_slots, total_at}
 use Rattle.ltm_curve.specs.declared.curves.Curves.{Curves}
 use Rattle.ltm_curve.specs.declared.changed.Changed.{Changed}
@@ -27,13 +26,6 @@ same_but a b c one two = record {
 
 pub last_same : (a b : Loading) → SameButProduction a b → last_of b ≡ last_of a
 last_same a b same = ap (λ (c : TotalCurves). total_slots c) same.curves
-
-pub renews_none : (s : Setting) (changed : ℕ → ℕ → Bool) (l : Loading) → ((n k : ℕ) → changed n k ≡ false) → Renews s changed l l
-renews_none s changed l none = record {
-  same = record { version = refl; step = refl; links = refl; nodes = refl; curves = refl; free = refl; room = refl };
-  renewed = λ n k x y is. let off : changed n k ≡ false = none n k in cc;
-  others = λ n k x y off. refl;
-}
 
 either : (a b : Bool) → (a || b) ≡ true → b ≡ false → a ≡ true
 either true b is off = refl
@@ -74,9 +66,6 @@ both_false : (a b : Bool) → (a && b) ≡ false → (a ≡ false) ⊎ (b ≡ fa
 both_false true b off = inr off
 both_false false b off = inl refl
 
-is_of : (node n behind k : ℕ) → ((node == n) && nat_lt behind k) ≡ true → (n ≡ node) × (behind < k)
-is_of node n behind k is = let parts = both_true (node == n) (nat_lt behind k) is in (sym (eqb-true node n parts.0), ltb-true behind k parts.1)
-
 pub is_not_of : (node n behind k : ℕ) → ((node == n) && nat_lt behind k) ≡ false → (n ≢ node) ⊎ (k ≤ behind)
 is_not_of node n behind k off =
     elim (both_false (node == n) (nat_lt behind k) off) [
@@ -86,23 +75,6 @@ is_not_of node n behind k off =
 
 pub demand_told : (network : NetworkData) (origin : List ℕ) (node behind n k : ℕ) → find_node network origin ≡ Some node → demand_changes network origin behind n k ≡ ((node == n) && nat_lt behind k)
 demand_told network origin node behind n k found = ap (λ (f : Option ℕ). option_map_or (λ u. (u == n) && nat_lt behind k) f false) found
-
-pub renews_origin : (s : Setting) (network : NetworkData) (origin : List ℕ) (node behind : ℕ) (old new : Loading) → find_node network origin ≡ Some node → SameButProduction old new → RenewsProduction s node behind old new →
-    Renews s (demand_changes network origin behind) old new
-renews_origin s network origin node behind old new found same renews =
-    let told : (n k : ℕ) → demand_changes network origin behind n k ≡ ((node == n) && nat_lt behind k) =
-    λ n k. demand_told network origin node behind n k found in
-    record {
-      same = same;
-      renewed = λ n k x y is.
-          let of = is_of node n behind k (sym (told n k) ∙ is) in
-          subst (λ (i : ℕ). produced_of new i k ≡ produced_in_all s i k) (sym of.0) (renews.renewed k of.1 y);
-      others = λ n k x y off. renews.others n k x y (is_not_of node n behind k (sym (told n k) ∙ off));
-    }
-
-pub renews_no_origin : (s : Setting) (network : NetworkData) (origin : List ℕ) (behind : ℕ) (l : Loading) → find_node network origin ≡ None → Renews s (demand_changes network origin behind) l l
-renews_no_origin s network origin behind l found =
-    renews_none s (demand_changes network origin behind) l (λ n k. ap (λ (f : Option ℕ). option_map_or (λ u. (u == n) && nat_lt behind k) f false) found)
 
 -- ---- what stays but for production
 pub fits_same : (s : Setting) (old new : Loading) → SameButProduction old new → Fits s old → Fits s new

@@ -1,14 +1,11 @@
 -- Rows and limits keep a scenario one.
-use Rattle.std.proofs.Common.{◌≡◌, ℕ, ◌-◌, ◌<◌, ◌≤◌, ◌==◌, arith, replicate, List, [], ◌∷◌, ◌++◌, length, true, false, cond, not, Ok, Err, All, nat_le, nat_lt, sum, refl, sym, ap, subst}
+use Rattle.std.proofs.Common.{◌≡◌, ℕ, ◌<◌, ◌≤◌, ◌==◌, List, [], ◌∷◌, ◌++◌, length, true, false, cond, not, Ok, Err, All, nat_le, nat_lt, sum, refl, sym, ap, subst}
 use Rattle.std.proofs.lemmas.List.Elements.{All-nil, All-cons, All-head, All-tail, All-append, All-filter}
-use Rattle.std.proofs.lemmas.List.{length-replicate}
 use Rattle.std.specs.declared.cmp.Ordering.{Ordering}
 use Rattle.std.specs.declared.cmp.Ordering.TheVariants.{Less, Equal, Greater}
 use Rattle.std.specs.Ordering.{match_ordering, ordering_then, is_lt, is_gt}
 use Rattle.std.specs.BTreeMap.{insert_entry}
 use Rattle.std.proofs.lemmas.Map.Lookups.{exact_unsigned}
-use Rattle.ltm_limits.specs.Limits.{with_limit}
-use Rattle.ltm_limits.proofs.Stays.{limits_whole}
 use Rattle.ltm_demand.specs.declared.row.DemandRow.{DemandRow}
 use Rattle.ltm_demand.specs.declared.row.DemandFault.TheVariants.{BadSlots, TooManyRows}
 use Rattle.ltm_demand.specs.Rows as demand
@@ -123,22 +120,3 @@ pub split_is_scenario : (s : ScenarioData) (key : SplitKey) (weights : List ℕ)
 split_is_scenario s key weights next is here done have =
     let rows : next ≡ splits.with_rows (splits_of s) (put_in s.splits key weights) = with_split_row_rows (splits_of s) next key weights done in
     subst (λ (rs : List SplitRow). IsScenario (record s { splits = rs })) (sym (ap (λ (d : SplitsData). d.rows) rows)) (with_split_rows s (put_in s.splits key weights) is (All-put_in (IsSplitOf s) s.splits key weights is.splits here) (subst (λ (d : SplitsData). HaveWeights d.rows) rows have))
-
--- ---- limits
-
-pub exit_is_scenario : (s : ScenarioData) (link from to limit : ℕ) → IsScenario s → link < length s.network.links → from ≤ to → to ≤ s.setup.slots → IsScenario (record s { exit = with_limit s.exit link from to limit })
-exit_is_scenario s link from to limit is there order within = record {
-  setup = is.setup;
-  network = is.network;
-  diagram_for_each = is.diagram_for_each;
-  limits = is.limits;
-  entry = is.entry;
-  exit = limits_whole.written s.exit (length s.network.links) s.setup.slots link from (replicate (to - from) limit) there (omega (arith, length-replicate (to - from) limit)) is.exit;
-  few_destinations = is.few_destinations;
-  destinations_are_nodes = is.destinations_are_nodes;
-  destinations_apart = is.destinations_apart;
-  demand = λ k d below. let r = is.demand k d below in record { origin_is_node = r.origin_is_node; origin_has_out_link = r.origin_has_out_link; destination_is_one = r.destination_is_one; ends_differ = r.ends_differ };
-  demand_rows = is.demand_rows;
-  splits = λ k d below. let r = is.splits k d below in record { node_is_node = r.node_is_node; destination_is_one = r.destination_is_one; ends_differ = r.ends_differ; weight_for_each = r.weight_for_each };
-  weights = is.weights;
-}

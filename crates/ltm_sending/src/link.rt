@@ -11,7 +11,7 @@ ghost use Rattle.ltm_units.specs.Bounds.{most_in_slot};
 use crate::ago::total_ago;
 use crate::leaving::{Waiting, WaitingAt, position_from, waiting_on};
 use crate::parts::{limit_all, send_none, send_nothing};
-use ltm_curve::{Any, Curves, FirstUnits, Kind};
+use ltm_curve::{Curves, FirstUnits, Kind};
 use ltm_loading::{down_of, links_are_ready, up_of};
 use ltm_scenario::Scenario;
 use ltm_setting::{delays, entry_limit, exit_limit, is_setting, limits, link_count, step};
@@ -192,20 +192,9 @@ fn send_waiting_at<K: Kind>(
     send_parts_at(scenario, curves, link, slot, waiting, into);
 }
 
-/// Writes what a link sends of each destination in a slot: of the units that entered it at least its free-flow time ago,
-/// in their order, those that have not left yet, as many as its capacity and its exit limit let pass. The exit limit cuts
-/// each destination in proportion, rounded down.
-pub fn send_link(scenario: &Scenario, curves: &Curves, link: LinkId, slot: u32, into: &mut [u64])
-    requires link { IsLink scenario.now link.0 }
-    requires ready { FrontAt scenario.now curves.now slot }
-    requires room { length into.old ≡ (setting_of scenario.now).destinations }
-    ensures { (d : ℕ) → IsDestination scenario.now d → slice_index into.new d
-        ≡ link_sending (setting_of scenario.now) (counts_of curves.now) link.0 slot d }
-{
-    link_sends_only::<Any>(scenario, curves, link, slot, into);
-}
-
-/// The same for curves of a kind. Where the units end that may leave is sought only if some wait.
+/// Writes what a link sends of each destination in a slot, for curves of a kind: of the units that entered it at least its
+/// free-flow time ago, in their order, those that have not left yet, as many as its capacity and its exit limit let pass. The
+/// exit limit cuts each destination in proportion, rounded down. Where the units end that may leave is sought only if some wait.
 #[inline]
 pub fn link_sends_only<K: Kind>(
     scenario: &Scenario,
@@ -255,19 +244,8 @@ pub fn link_sends<K: Kind>(
     at
 }
 
-/// What a link can take in a slot, at most 32,000 units: its capacity, its entry limit, and the room that it has had since
-/// its wave time ago.
-pub fn receive(scenario: &Scenario, curves: &Curves, link: LinkId, slot: u32) -> u64
-    requires link { IsLink scenario.now link.0 }
-    requires ready { FrontAt scenario.now curves.now slot }
-    ensures value { result
-        ≡ receiving (setting_of scenario.now) (counts_of curves.now) link.0 slot }
-    ensures small { result ≤ most_in_slot }
-{
-    link_takes::<Any>(scenario, curves, link, slot)
-}
-
-/// The same for curves of a kind.
+/// What a link can take in a slot, at most 32,000 units, for curves of a kind: its capacity, its entry limit, and the room that
+/// it has had since its wave time ago.
 #[inline]
 pub fn link_takes<K: Kind>(scenario: &Scenario, curves: &Curves, link: LinkId, slot: u32) -> u64
     requires kind { K.fits (destinations_of curves.now) }

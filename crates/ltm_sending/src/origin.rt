@@ -13,7 +13,7 @@ ghost use Rattle.ltm_setting.specs.Places.{HasOut, IsBoundary, IsDestination, Is
 
 use crate::parts::send_none;
 use crate::produced::Produced;
-use ltm_curve::{Any, Curves, Kind, Rows, first_less_of};
+use ltm_curve::{Curves, Kind, Rows, first_less_of};
 use ltm_loading::origins_are_ready;
 use ltm_scenario::Scenario;
 use ltm_setting::{dep_of, is_setting, origin_capacity};
@@ -74,20 +74,8 @@ fn send_queue(rows: &Produced<'_>, queue: Queue, boundary: u32, gone: &[u32], in
     }
 }
 
-/// Writes what the origin of a node sends of each destination in a slot: of the units that the node has produced by the
-/// end of the slot, in their order, those that have not left yet, as many as the capacity of origins lets pass.
-pub fn send_origin(scenario: &Scenario, curves: &Curves, node: NodeId, slot: u32, into: &mut [u64])
-    requires node { IsNode scenario.now node.0 }
-    requires some_out { HasOut scenario.now node.0 0 }
-    requires ready { FrontAt scenario.now curves.now slot }
-    requires room { length into.old ≡ (setting_of scenario.now).destinations }
-    ensures { (d : ℕ) → IsDestination scenario.now d → slice_index into.new d
-        ≡ origin_sending (setting_of scenario.now) (counts_of curves.now) node.0 slot d }
-{
-    origin_sends::<Any>(scenario, curves, node, slot, into);
-}
-
-/// The same for curves of a kind.
+/// Writes what the origin of a node sends of each destination in a slot, for curves of a kind: of the units that the node has
+/// produced by the end of the slot, in their order, those that have not left yet, as many as the capacity of origins lets pass.
 #[inline]
 pub fn origin_sends<K: Kind>(
     scenario: &Scenario,

@@ -48,7 +48,7 @@ fn take_gear(alloc: Global, core: &Core, workers: u32) -> Result<Gear, NoMemory>
 ///
 /// The core has accepted nothing and is not stopped, as `Core::create` gives it. A worker for which no thread can be made is
 /// left out. The core that is handed back has the log of the lines that were answered, and has counted one settle for each of
-/// them that settles; with workers it is stopped.
+/// them that settles.
 pub fn serve<R: Threads + Wait + Sync, S: Source, W: Sink, G: Gate>(
     rt: &R,
     alloc: Global,
