@@ -2,11 +2,12 @@
 //!
 //! All counts of one boundary lie side by side, group after group, so that a loading walks through memory in order and
 //! further boundaries can be added at the end. The words `counts_of` and `place` of `specs/Table.antt` say so, and here
-//! `place`, `row_number`, `start` and what takes a whole boundary at once (`carry`, `reserve`, `lengthen`, `totals_at`) rest
-//! on it; no contract does. A count is kept in 32 bits, since twice as many then lie in a cache. With three destinations
-//! or more the totals of the groups lie in a dense table of their own, in the same order, so that looking back at totals reads
-//! few numbers; with one the count is the total, and with two it is their sum. Totals are kept in 32 bits, capped at the greatest such number; who reads that
-//! one sums the row instead, so each total is exact. In a loading only what has arrived can come to so much.
+//! `place`, `row_number`, `start` and what takes a whole boundary at once (`carry`, `reserve`, `lengthen`, `totals_at`)
+//! rest on it; no contract does. A count is kept in 32 bits, since twice as many then lie in a cache. With three
+//! destinations or more the totals of the groups lie in a dense table of their own, in the same order, so that looking back
+//! at totals reads few numbers; with one the count is the total, and with two it is their sum. Totals are kept in 32 bits,
+//! capped at the greatest such number; who reads that one sums the row instead, so each total is exact. In a loading only
+//! what has arrived can come to so much.
 ghost use Rattle.std.specs.Prelude.{◌≡◌, ℕ, ◌+◌, ◌*◌, ◌^◌, ◌<◌, ◌≤◌, length, sum, replicate, slice_index, IfOk};
 ghost use Rattle.std.specs.Vec.{vec_capacity};
 ghost use Rattle.ltm_curve.specs.Totals.{capped, AreCappedTotals};
