@@ -22,14 +22,14 @@ sys.path.insert(0, str(Path(__file__).resolve().parents[2] / "tools"))
 
 from ltm_tools import program  # noqa: E402
 from ltm_tools.case import Case  # noqa: E402
-from ltm_tools.delay import MILLIONTHS, Report  # noqa: E402
-from ltm_tools.demand_files import quarter_before  # noqa: E402
 from ltm_tools.errors import Fault  # noqa: E402
 from ltm_tools.formats import UNITS, clock_text  # noqa: E402
-from ltm_tools.loaded import loaded, told_delay  # noqa: E402
-from ltm_tools.passages import Roads  # noqa: E402
-from ltm_tools.source import Source  # noqa: E402
-from ltm_tools.sumo_net import Net, elements, number, read_net  # noqa: E402
+from ltm_tools.loading.delay import MILLIONTHS, Report  # noqa: E402
+from ltm_tools.loading.loaded import loaded, told_delay  # noqa: E402
+from ltm_tools.network.demand_files import quarter_before  # noqa: E402
+from ltm_tools.network.passages import Roads  # noqa: E402
+from ltm_tools.network.source import Source  # noqa: E402
+from ltm_tools.sumo.net import Net, elements, number, read_net  # noqa: E402
 
 EVEN = ["--default.speeddev", "0"]
 NO_DROP = ["--meso-taujf", "1.13", "--meso-taujj", "1.13"]

@@ -11,16 +11,20 @@ from importlib import import_module
 from typing import TYPE_CHECKING
 
 if TYPE_CHECKING:
-    from .case import Case as Case
-    from .curves import Curves as Curves
+    from .case import Case as Case, edits as edits
     from .errors import Fault as Fault
-    from .session import Refused as Refused, Session as Session
+    from .loading import delay as delay
+    from .loading.curves import Curves as Curves
+    from .loading.session import Refused as Refused, Session as Session
 
-HOMES = {"Case": "case", "Curves": "curves", "Fault": "errors", "Refused": "session", "Session": "session"}
+CLASSES = {"Case": "case", "Curves": "loading.curves", "Fault": "errors", "Refused": "loading.session", "Session": "loading.session"}
+MODULES = {"delay": "loading.delay", "edits": "case.edits"}
 
 
 def __getattr__(name: str) -> object:
-    """A class from its module when it is first asked for: so that a command loads no more than it needs."""
-    if name not in HOMES:
+    """A class, or a module, from its place when it is first asked for: so that a command loads no more than it needs."""
+    if name in MODULES:
+        return import_module(f".{MODULES[name]}", __name__)
+    if name not in CLASSES:
         raise AttributeError(f"module {__name__!r} has no attribute {name!r}")
-    return getattr(import_module(f".{HOMES[name]}", __name__), name)
+    return getattr(import_module(f".{CLASSES[name]}", __name__), name)

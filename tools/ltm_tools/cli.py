@@ -1,6 +1,6 @@
 """The command line: `ltm-tools COMMAND ..`.
 
-Each command is a module of this package with NAME, SUMMARY (a line), EXAMPLES (text), `add_arguments(parser)` and
+Each command is a module of `commands`, called as it is typed, with NAME, SUMMARY (a line), EXAMPLES (text), `add_arguments(parser)` and
 `run(args) -> int`, which gives the status. It may have NEEDS, the names of libraries beside Python's own without which it cannot run.
 """
 import argparse
@@ -17,8 +17,8 @@ from .errors import Fault
 
 # modules, in the order in which they are told
 COMMANDS = (
-    "inspect_case", "explain", "gmns", "sumo", "demand", "splits", "signals",
-    "queues", "times", "compare", "page", "geojson", "pictures", "draw", "sweep", "apply", "prove",
+    "inspect", "explain", "from_gmns", "from_sumo", "demand", "splits", "signals",
+    "queues", "times", "compare", "page", "geojson", "plot", "draw", "sweep", "apply", "prove",
 )
 
 PROGRAM = "ltm-tools"
@@ -36,7 +36,7 @@ class Parser(argparse.ArgumentParser):
 
 def commands() -> list[ModuleType]:
     """The modules of all commands."""
-    return [importlib.import_module(f".{name}", __package__) for name in COMMANDS]
+    return [importlib.import_module(f".commands.{name}", __package__) for name in COMMANDS]
 
 
 def parser_of(modules: Sequence[ModuleType]) -> Parser:

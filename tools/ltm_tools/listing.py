@@ -5,7 +5,6 @@ all its digits.
 """
 from __future__ import annotations
 
-import argparse
 import csv
 import io
 import json
@@ -13,17 +12,10 @@ from collections.abc import Sequence
 from decimal import Decimal
 from typing import NamedTuple
 
-from .files import write_text
 from .formats import HOUR_MS, UNITS
 
 Cell = str | int | Decimal | None
 FORMATS = ("text", "csv", "json")
-
-
-def add_format_arguments(parser: argparse.ArgumentParser) -> None:
-    """The options `--format` and `--output`, for commands that write a table."""
-    parser.add_argument("--format", choices=FORMATS, default="text", help="text for people (the default), csv or json for programs")
-    parser.add_argument("-o", "--output", metavar="FILE", default="-", help="the file to write (else the standard output)")
 
 
 def vehicles(units: int) -> Decimal:
@@ -64,16 +56,6 @@ def rounded(top: int, bottom: int, decimals: int) -> Decimal:
     """A fraction to the nearest number with so many decimals, halves away from 0."""
     scaled = (2 * abs(top) * 10**decimals + bottom) // (2 * bottom)
     return Decimal(-scaled if top < 0 else scaled).scaleb(-decimals)
-
-
-def write_table(args: argparse.Namespace, header: Sequence[str], rows: Sequence[Sequence[Cell]], text: str) -> None:
-    """Writes a table in the form that `args.format` asks for, to the file `args.output`: `text` for people, else header and rows."""
-    if args.format == "csv":
-        write_text(args.output, csv_text(header, rows))
-    elif args.format == "json":
-        write_text(args.output, json_text(header, rows))
-    else:
-        write_text(args.output, text)
 
 
 def csv_text(header: Sequence[str], rows: Sequence[Sequence[Cell]]) -> str:

@@ -1,5 +1,4 @@
 """The proved program `ltm`: where it is, and running it in the folder of a case."""
-import argparse
 import functools
 import os
 import re
@@ -16,11 +15,6 @@ CLONE = Path(__file__).resolve().parents[2]
 BUILT = CLONE / "crates" / "ltm" / "out" / "ltm"
 LARGE_PAGES = {"GLIBC_TUNABLES": "glibc.malloc.hugetlb=1"}  # for large tables, where the system gives them to whoever asks: less time
 HOW = "./ltm --prove in a clone of the repository makes it, and --program FILE or the variable LTM names one"
-
-
-def add_program_argument(parser: argparse.ArgumentParser) -> None:
-    """The option `--program`, for commands that run the program."""
-    parser.add_argument("--program", metavar="FILE", help="the program ltm (else $LTM, the one built in the clone, or ltm on the path)")
 
 
 def find_program(program: str | os.PathLike[str] | None = None) -> Path:

@@ -8,7 +8,7 @@ from pathlib import Path
 from support import FolderTest
 
 from ltm_tools import edits
-from ltm_tools.edits import Edit
+from ltm_tools.case.edits import Edit
 from ltm_tools.formats import vehicles_text
 
 SESSION = """

@@ -11,14 +11,14 @@ from typing import Any
 import commands
 from support import BUILT, EXAMPLES, TOOLS, FolderTest, needs_columns, needs_program
 from ltm_tools import edits
-from ltm_tools.bad_case import BadCase
 from ltm_tools.case import Case, Demand, Limit, Link, Setup, Split
-from ltm_tools.case_files import check_diagram, read_case
+from ltm_tools.case.bad_case import BadCase
+from ltm_tools.case.keeping import Keeper, laid_over
+from ltm_tools.case.places import read_places
+from ltm_tools.case.reading import check_diagram
 from ltm_tools.formats import units_of
-from ltm_tools.keeping import Keeper, laid_over
-from ltm_tools.node_places import read_places
+from ltm_tools.loading.session import Refused, Session
 from ltm_tools.program import output
-from ltm_tools.session import Refused, Session
 from test_sweep import random_edit
 
 SCRIPTS = int(os.environ.get("LTM_SCRIPTS", "100"))  # how many random scripts a program is asked about
@@ -150,7 +150,7 @@ class Files(FolderTest):
                     state.make(edit)
                     kinds[str(edit["kind"])] += 1
             keeper.kept().write(self.folder / str(number))
-            kept = read_case(self.folder / str(number), splits=True)
+            kept = Case.read(self.folder / str(number), splits=True)
             self.assertEqual((vars(State(kept)), kept.setup.cells), (vars(state), case.setup.cells), number)
         self.assertGreaterEqual(min(kinds.values()), 4 * SCRIPTS, kinds)
 

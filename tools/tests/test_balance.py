@@ -6,8 +6,8 @@ from support import FolderTest  # noqa: F401  (puts the package on the path)
 
 from test_fit import network, road
 
-from ltm_tools.balance import MOST_SHARE, Used, balance
-from ltm_tools.fit import Fit
+from ltm_tools.network.balance import MOST_SHARE, Used, balance
+from ltm_tools.network.fit import Fit
 
 
 def fitted(*metres: int, step: int = 5000) -> Fit:

@@ -11,9 +11,9 @@ from typing import Any
 from support import BUILT, EXAMPLES, FolderTest, needs_program
 
 from ltm_tools.case import Case, Demand, Link, Setup
-from ltm_tools.delay import MILLIONTHS, Delay, Report, Wait
-from ltm_tools.source import Source, SourceLink
-from ltm_tools.sumo_net import read_net
+from ltm_tools.loading.delay import MILLIONTHS, Delay, Report, Wait
+from ltm_tools.network.source import Source, SourceLink
+from ltm_tools.sumo.net import read_net
 
 
 def example_script() -> Any:

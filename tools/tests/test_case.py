@@ -3,8 +3,8 @@ import unittest
 
 from support import EXAMPLES, FolderTest, ROAD
 import ltm_tools
-from ltm_tools.bad_case import BadCase, NoFile
 from ltm_tools.case import Case, Demand, Limit, Link, Setup, Split
+from ltm_tools.case.bad_case import BadCase, NoFile
 
 
 class Numbers(unittest.TestCase):
@@ -34,7 +34,8 @@ class Numbers(unittest.TestCase):
 
 class Names(unittest.TestCase):
     def test_what_the_package_names(self) -> None:
-        from ltm_tools import Curves, Fault, Refused, Session, curves, errors, session
+        from ltm_tools import Curves, Fault, Refused, Session, errors
+        from ltm_tools.loading import curves, session
 
         self.assertEqual((ltm_tools.Case, Curves, Fault, Refused, Session), (Case, curves.Curves, errors.Fault, session.Refused, session.Session))
         self.assertFalse(hasattr(ltm_tools, "Nothing"))

@@ -17,7 +17,7 @@ from support import BUILT, EXAMPLES, TOOLS, needs_program
 from test_sweep import random_scenarios
 from ltm_tools import edits, libraries
 from ltm_tools.case import Case
-from ltm_tools.scenarios import header
+from ltm_tools.sweep.scenarios import header
 
 needs_dask = unittest.skipIf(libraries.missing(("distributed",)), "the package distributed is not there: python3-distributed")
 START = "import sys; from distributed.cli import dask_scheduler, dask_worker; sys.exit({'scheduler': dask_scheduler, 'worker': dask_worker}[sys.argv.pop(1)].main())"

@@ -9,11 +9,10 @@ import unittest
 from pathlib import Path
 
 from support import BUILT, FolderTest, needs_columns
-from ltm_tools.bad_case import BadCase, NoFile, TooLong
 from ltm_tools.case import Case
-from ltm_tools.case_files import read_case
+from ltm_tools.case.bad_case import BadCase, NoFile, TooLong
+from ltm_tools.case.explain import explain
 from ltm_tools.errors import Fault
-from ltm_tools.explain import explain
 from ltm_tools.formats import MOST_FILE_BYTES, SETUP, SETUP_MORE, headers_of
 
 DATA = Path(__file__).resolve().parent / "data"
@@ -35,7 +34,7 @@ class ColumnsTest(FolderTest):
 
     def fault(self, word: str) -> Fault | None:
         try:
-            read_case(self.folder, splits=word != "routes")
+            Case.read(self.folder, splits=word != "routes")
         except Fault as fault:
             return fault
         return None

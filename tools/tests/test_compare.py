@@ -12,13 +12,12 @@ from support import BUILT, EXAMPLES, FolderTest, needs_program
 from test_delay import DATA, read
 from ltm_tools import cli, edits
 from ltm_tools.case import Case
-from ltm_tools.case_files import read_case
-from ltm_tools.compare import Comparison, change, most_changed
-from ltm_tools.listing import rounded
 from ltm_tools.errors import Fault
-from ltm_tools.loaded import Loaded
+from ltm_tools.listing import rounded
+from ltm_tools.loading.compare import Comparison, change, most_changed
+from ltm_tools.loading.loaded import Loaded
+from ltm_tools.loading.session import Session
 from ltm_tools.program import output
-from ltm_tools.session import Session
 
 TOLD = {"spent_seconds": "spent", "queued_seconds": "queued", "waited_seconds": "waited"}
 
@@ -148,7 +147,7 @@ class Versions(FolderTest):
                 session.save(self.folder / str(version), version)
             self.assertRaisesRegex(Fault, "there is no version 3: 2 batches are accepted", session.compare, 0, 3)
             self.assertRaisesRegex(Fault, "there is no version -1", session.save, self.folder / "none", -1)
-        self.assertEqual(read_case(self.folder / "0"), read_case(EXAMPLES / "closures"))
+        self.assertEqual(Case.read(self.folder / "0"), Case.read(EXAMPLES / "closures"))
 
     def test_versions_of_a_script(self) -> None:
         """A batch that is refused makes no version; a line that is no edit neither."""

@@ -4,9 +4,9 @@ from unittest import mock
 
 from support import FolderTest
 from test_curves import LOADING
-from ltm_tools import curves as module
-from ltm_tools.curves import Curves
 from ltm_tools.errors import Fault
+from ltm_tools.loading import counts as module
+from ltm_tools.loading.curves import Curves
 
 MORE = LOADING.replace("down,a,n2", "up,a,n3,0 1 2 3 4\ndown,a,n2")
 

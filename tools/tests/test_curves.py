@@ -2,8 +2,8 @@
 import unittest
 
 from support import FolderTest
-from ltm_tools.curves import Curves, Summed
 from ltm_tools.errors import Fault
+from ltm_tools.loading.curves import Curves, Summed
 
 # the loading of the smallest case, as docs/FORMATS.md has it
 LOADING = """kind,name,destination,counts

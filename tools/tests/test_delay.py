@@ -5,12 +5,12 @@ from unittest import mock
 
 import commands
 from support import BUILT, EXAMPLES, FolderTest, needs_program
-from ltm_tools import curves as curve_files
-from ltm_tools import delay
 from ltm_tools.case import Case, Demand, Link, Setup
-from ltm_tools.curves import Curves, less, total
 from ltm_tools.errors import Fault
-from ltm_tools.loaded import loaded
+from ltm_tools.loading import counts as module, delay
+from ltm_tools.loading.counts import less, total
+from ltm_tools.loading.curves import Curves
+from ltm_tools.loading.loaded import loaded
 from ltm_tools.program import has_command
 
 DATA = Path(__file__).resolve().parent / "data" / "delay"
@@ -71,7 +71,7 @@ class ByHand(unittest.TestCase):
 
     def test_what_is_no_loading(self) -> None:
         for counts in ([0, 2, 1], [1, 1], [0, 32_001]):
-            for form in (counts, curve_files.total([counts])):
+            for form in (counts, total([counts])):
                 self.assertRaises(Fault, delay.check, form, "x")
         delay.check([0, 0, 32_000, 32_000], "x")
 
@@ -91,7 +91,7 @@ class Exact(unittest.TestCase):
         self.reports()
 
     def test_reports_without_numpy(self) -> None:
-        with mock.patch.object(curve_files, "numpy", None), mock.patch.object(delay, "numpy", None):
+        with mock.patch.object(module, "numpy", None), mock.patch.object(delay, "numpy", None):
             self.reports()
 
     def test_moments(self) -> None:

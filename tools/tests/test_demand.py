@@ -7,7 +7,7 @@ from support import FolderTest
 
 from ltm_tools.case import Case, Demand, Link, Setup
 from ltm_tools.errors import Fault
-from ltm_tools.profiles import Part, Trip, by_profile, by_trips, spread
+from ltm_tools.network.profiles import Part, Trip, by_profile, by_trips, spread
 
 
 class Spread(unittest.TestCase):

@@ -6,9 +6,9 @@ import unittest
 from support import FolderTest, TOOLS
 from test_delay import DATA, read
 from ltm_tools import libraries
-from ltm_tools.figures import beside, shares
 from ltm_tools.libraries import DEBIAN_PYTHON
-from ltm_tools.loaded import Loaded
+from ltm_tools.loading.loaded import Loaded
+from ltm_tools.show.draw import beside, shares
 
 CURVES = str(DATA / "spillback" / "curves.csv")
 

@@ -8,8 +8,8 @@ import unittest
 from pathlib import Path
 
 from support import BUILT, FolderTest, ROAD, needs_program
-from ltm_tools.explain import explain
-from ltm_tools.script import read_line
+from ltm_tools.case.explain import explain
+from ltm_tools.case.script import read_line
 
 DATA = Path(__file__).resolve().parent / "data" / "delay"
 LINKS = "link,from,to,length_m,free_kmh,wave_kmh,jam_per_km\n"

@@ -4,11 +4,11 @@ from fractions import Fraction
 
 from support import FolderTest  # noqa: F401  (puts the package on the path)
 
-from ltm_tools.fit import Fit
-from ltm_tools.network import Network, Road, diagram, least_times, road_of, totals
-from ltm_tools.passages import Roads
-from ltm_tools.importing import source_of
-from ltm_tools.names import names_for
+from ltm_tools.network.fit import Fit
+from ltm_tools.network.importing import source_of
+from ltm_tools.network.names import names_for
+from ltm_tools.network.network import Network, Road, diagram, least_times, road_of, totals
+from ltm_tools.network.passages import Roads
 
 
 def road(name: str, tail: str, head: str, metres: int, capacity: int = 1800, jam: int = 150) -> Road:

@@ -6,9 +6,9 @@ import commands
 from support import EXAMPLES, FolderTest
 
 from ltm_tools.case import Case
-from ltm_tools.ends import Joined, joined, most_used
-from ltm_tools.names import names_for
-from ltm_tools.network import Network, road_of
+from ltm_tools.network.ends import Joined, joined, most_used
+from ltm_tools.network.names import names_for
+from ltm_tools.network.network import Network, road_of
 
 
 class GmnsTest(FolderTest):

@@ -7,9 +7,8 @@ from unittest import mock
 import commands
 from support import FolderTest
 
-from ltm_tools import cells
-from ltm_tools.case import Case
-from ltm_tools.sumo_signals import filled
+from ltm_tools.case import Case, cells
+from ltm_tools.sumo.signals import filled
 
 
 def edge(name: str, tail: str, head: str, lanes: int = 1, metres: str = "200.00", speed: str = "10.00", more: str = "", lane: str = "") -> str:

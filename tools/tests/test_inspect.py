@@ -4,8 +4,8 @@ import unittest
 
 from support import BUILT, EXAMPLES, FolderTest, ROAD, needs_program
 from ltm_tools.case import Case, Demand, Link, Setup, Split
-from ltm_tools.circles import find_circles
-from ltm_tools.inspect_case import inspect, link_lines
+from ltm_tools.case.circles import find_circles
+from ltm_tools.case.inspect import inspect, link_lines
 
 
 def ring(*links: tuple[str, str, str], round_from: int = 0) -> Case:

@@ -8,12 +8,15 @@ from pathlib import Path
 from browser import Browser, needs_browser
 from support import FolderTest
 from test_delay import DATA, read
-from ltm_tools import cli, delay, layout
+from ltm_tools import cli
 from ltm_tools.case import Case, Demand, Limit, Link, Setup, Split
-from ltm_tools.curves import Curves
+from ltm_tools.case.geojson import geojson
+from ltm_tools.case.places import read_places
 from ltm_tools.errors import Fault
-from ltm_tools.node_places import geojson, read_places
-from ltm_tools.page import find_d3
+from ltm_tools.loading import delay
+from ltm_tools.loading.curves import Curves
+from ltm_tools.show import layout
+from ltm_tools.show.page import find_d3
 
 try:
     find_d3()

@@ -7,9 +7,9 @@ from contextlib import redirect_stdout
 from unittest import mock
 
 from test_delay import DATA, read
-from ltm_tools import cli, curves, delay
-from ltm_tools import queues as module
-from ltm_tools.queues import Queue, queues, spans
+from ltm_tools import cli
+from ltm_tools.loading import counts as numbers, delay, queues as module
+from ltm_tools.loading.queues import Queue, queues, spans
 
 
 def run(*words: str) -> str:
@@ -21,7 +21,7 @@ def run(*words: str) -> str:
 
 class Spans(unittest.TestCase):
     def test_spans(self) -> None:
-        for counts in ([0, 2, 5, 1, 3, 3], curves.zeros(6) + [0, 2, 5, 1, 3, 3] if curves.numpy else [0, 2, 5, 1, 3, 3]):
+        for counts in ([0, 2, 5, 1, 3, 3], numbers.zeros(6) + [0, 2, 5, 1, 3, 3] if numbers.numpy else [0, 2, 5, 1, 3, 3]):
             self.assertEqual(list(spans(counts, 2)), [(1, 2), (4, 5)])
             self.assertEqual(list(spans(counts, 6)), [])
             self.assertEqual(list(spans(counts, 0)), [(0, 5)])
@@ -33,7 +33,7 @@ class Spillback(unittest.TestCase):
     def test_all_queues(self) -> None:
         found = self.of_all()
         self.assertEqual(found, [Queue("link", "a", 3, 16, True, 1800, 8, 3000, 20_700_000), Queue("origin", "n1", 1, 16, True, 3200, 10, None, 29_000_000)])
-        with mock.patch.object(curves, "numpy", None), mock.patch.object(delay, "numpy", None), mock.patch.object(module, "numpy", None):
+        with mock.patch.object(numbers, "numpy", None), mock.patch.object(delay, "numpy", None), mock.patch.object(module, "numpy", None):
             self.assertEqual(self.of_all(), found)
 
     def of_all(self) -> list[Queue]:

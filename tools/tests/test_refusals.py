@@ -5,9 +5,9 @@ import unittest
 
 from support import BUILT, FolderTest, needs_program
 from ltm_tools.case import Case
-from ltm_tools.edits import Edit, demand, diagram, horizon, limit, split
-from ltm_tools.explain import explain
-from ltm_tools.refusals import why_refused
+from ltm_tools.case.edits import Edit, demand, diagram, horizon, limit, split
+from ltm_tools.case.explain import explain
+from ltm_tools.case.refusals import why_refused
 
 LINKS = "link,from,to,length_m,free_kmh,wave_kmh,jam_per_km\na,n1,n2,20,36,18,150\nb,n2,n3,20,36,18,150\nc,n2,n4,20,36,18,150\n"
 SPLITS = "node,destination,from_slot,weights\nn1,n3,0,a=1\nn2,n3,0,b=1\n"

@@ -9,8 +9,8 @@ from unittest import mock
 from support import BUILT, EXAMPLES, FolderTest, needs_program
 from ltm_tools import edits
 from ltm_tools.errors import Fault
+from ltm_tools.loading.session import Refused, Session
 from ltm_tools.program import output
-from ltm_tools.session import Refused, Session
 
 DATA = Path(__file__).resolve().parent / "data" / "delay"
 

@@ -6,7 +6,7 @@ import commands
 from support import FolderTest
 
 from ltm_tools.case import Case, Demand, Limit, Link, Setup, Split
-from ltm_tools.cycles import Green, Plan, by_turn, even_limits, exit_limits
+from ltm_tools.network.cycles import Green, Plan, by_turn, even_limits, exit_limits
 
 
 def limits(plan: Plan, capacity: int, slots: int, step_ms: int = 10_000) -> list[tuple[int, int, int]]:

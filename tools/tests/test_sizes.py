@@ -8,8 +8,9 @@ from pathlib import Path
 from support import BUILT, ROAD, FolderTest, needs_columns, needs_program
 from ltm_tools import edits
 from ltm_tools.case import Case, Demand, Link, Setup, Split
-from ltm_tools.formats import MOST_CURVES_BYTES, MOST_EDITS, MOST_FILE_BYTES, MOST_LINE_BYTES, MOST_SPLIT_ROWS, vehicles_text
-from ltm_tools.keeping import Keeper
+from ltm_tools.case.keeping import Keeper
+from ltm_tools.formats import (MOST_CURVES_BYTES, MOST_EDITS, MOST_FILE_BYTES, MOST_LINE_BYTES, MOST_SPLIT_ROWS,
+                               vehicles_text)
 
 ROADS = 4  # of the long case, one behind the other
 SLOTS = 10_000  # of the long case

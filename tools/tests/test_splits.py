@@ -6,9 +6,9 @@ import commands
 from support import FolderTest
 
 from ltm_tools.case import Case, Demand, Link, Setup, Split
-from ltm_tools.passages import Passages, Roads, strong_parts
-from ltm_tools.route_splits import Route, circles, from_routes, whole_weights
-from ltm_tools.turns import Turn, from_turns
+from ltm_tools.network.passages import Passages, Roads, strong_parts
+from ltm_tools.network.route_splits import Route, circles, from_routes, whole_weights
+from ltm_tools.network.turns import Turn, from_turns
 
 STEP = 1000
 

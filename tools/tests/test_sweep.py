@@ -11,9 +11,9 @@ from support import BUILT, EXAMPLES, FolderTest, needs_program
 from ltm_tools import edits
 from ltm_tools.case import Case, Demand, Limit, Link, Setup, Split
 from ltm_tools.errors import Fault
-from ltm_tools.scenarios import Runner, Scenario, batches, read_scenarios, scenario_of
-from ltm_tools.session import Refused, Session
-from ltm_tools.taking_back import Taking
+from ltm_tools.loading.session import Refused, Session
+from ltm_tools.sweep.scenarios import Runner, Scenario, batches, read_scenarios, scenario_of
+from ltm_tools.sweep.taking_back import Taking
 
 
 MANY = "closures"

@@ -9,7 +9,7 @@ from typing import Any
 import commands
 from made_session import SweepTest, row_of
 from ltm_tools import edits
-from ltm_tools.scenarios import header
+from ltm_tools.sweep.scenarios import header
 
 
 class Rows(SweepTest):

@@ -8,10 +8,11 @@ from contextlib import redirect_stdout
 from support import BUILT, EXAMPLES, FolderTest, needs_program
 from test_delay import DATA, read
 from ltm_tools import cli
+from ltm_tools.commands.times import span
 from ltm_tools.errors import Fault
-from ltm_tools.loaded import loaded
-from ltm_tools.session import Session
-from ltm_tools.times import Path, Trip, at, first_moment, span
+from ltm_tools.loading.loaded import loaded
+from ltm_tools.loading.session import Session
+from ltm_tools.loading.times import Path, Trip, at, first_moment
 
 
 class ByHand(unittest.TestCase):

@@ -11,7 +11,7 @@ from unittest import mock
 
 from support import CLONE, FolderTest, TOOLS
 from ltm_tools.errors import Fault
-from ltm_tools.proof_plan import Plan, read_costs, read_crates, stands_on
+from ltm_tools.proving.plan import Plan, read_costs, read_crates, stands_on
 
 SYSTEM = "/usr/bin:/bin"
 

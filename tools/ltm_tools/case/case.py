@@ -1,0 +1,53 @@
+"""A case: its rows, read from the files of a folder and written into one."""
+import os
+from collections.abc import Mapping
+from dataclasses import fields
+from typing import Protocol
+
+from ..errors import Fault
+from .geojson import geojson
+from .places import FILE, read_places
+from .reading import read_case, read_network
+from .rows import Rows
+from .writing import write_rows
+
+
+class TellsLinks(Protocol):
+    """What a case asks of the curves of its loading."""
+
+    def told_of_links(self, case: "Case", boundary: int | None) -> Mapping[str, Mapping[str, object]]:
+        """What they tell of each link, and of what stands on it at a boundary."""
+
+
+class Case(Rows):
+    """A case, its rows as they stand in its files and in their order. `splits` is None where there is no `splits.csv`."""
+
+    __slots__ = ()
+
+    @classmethod
+    def read(cls, folder: str | os.PathLike[str], *, splits: bool | None = None) -> "Case":
+        """The valid case of a folder, or a Fault with what the program would refuse first. With `splits` True a `splits.csv` is wanted, as by
+        `load`; with False it is not looked at, and routes are asked for, as by `routes`; with None it may be missing."""
+        return cls.of(read_case(folder, splits=splits))
+
+    @classmethod
+    def read_network(cls, folder: str | os.PathLike[str]) -> "Case":
+        """The setup and the links of a folder, whatever its other files say."""
+        return cls.of(read_network(folder))
+
+    @classmethod
+    def of(cls, rows: Rows) -> "Case":
+        """The case of these rows."""
+        return cls(*(getattr(rows, field.name) for field in fields(rows)))
+
+    def write(self, folder: str | os.PathLike[str]) -> None:
+        """Writes the files of the case into a folder, which is made where it is not there. Without splits no `splits.csv` is written."""
+        write_rows(self, folder)
+
+    def to_geojson(self, folder: str | os.PathLike[str], curves: TellsLinks | None = None, boundary: int | None = None) -> str:
+        """The links as GeoJSON, with the places that the `nodes.csv` of a folder has; with the curves of the case's loading also what these
+        tell of each link, and what stands on it at a boundary."""
+        places = read_places(folder, self)
+        if places is None:
+            raise Fault(f"{os.fspath(folder)} has no {FILE}, which says where its nodes lie")
+        return geojson(self, places, {} if curves is None else curves.told_of_links(self, boundary))

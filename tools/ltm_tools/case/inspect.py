@@ -1,0 +1,229 @@
+"""What a case has, and what is to be known before it is run."""
+from dataclasses import dataclass
+from fractions import Fraction
+
+from ..errors import Fault
+from ..files import records
+from ..formats import (HOUR_MS, MOST_CELLS_ASKED, MOST_SLOTS, clock_text, count_text, counted, short_vehicles,
+                       vehicles_text)
+from .bad_case import BadCase
+from .case import Case
+from .cells import SESSION_BYTES, asked_for, memory_text
+from .circles import find_circles
+from .fields import fetch, read_header
+from .reading import Reader, read_setup
+from .rows import Link
+
+MOST_TOLD = 8  # of a list
+MOST_LINKS = 12  # of a circle
+TABLE = "{:32} {:>9} {:>9} {:>9} {:>9} {:>10}"
+
+
+class LooseReader(Reader):
+    """Takes links whatever the step of the setup, so that the longest step of each can be told."""
+
+    def check_limits(self, row: int, link: Link) -> None:
+        try:
+            super().check_limits(row, link)
+        except BadCase as fault:
+            if fault.cause.split()[0] not in ("StepTooLong", "NoCapacity", "CapacityOver"):
+                raise
+
+
+def read_loosely(folder: str) -> Case:
+    """What can be read of a case: records that are wrong are left out, and files that are missing."""
+    reader = LooseReader(read_setup(fetch(folder, "setup")))
+    for file, add in reader.tables.items():
+        if getattr(reader.case.setup, file, True) is False:
+            continue
+        try:
+            found = list(records(fetch(folder, file)))
+            width = read_header(file, found)
+        except Fault:
+            if file == "splits":
+                reader.case.splits = None
+            continue
+        for row, record in enumerate(found[1:], 2):
+            try:
+                if len(record.fields) == width:
+                    add(row, record.fields)
+            except BadCase:
+                pass
+    return Case.of(reader.case)
+
+
+def first_refusal(folder: str) -> Fault | None:
+    """What `load` would refuse first."""
+    try:
+        Case.read(folder, splits=True)
+    except Fault as fault:
+        return fault
+    return None
+
+
+def inspect(folder: str) -> list[str]:
+    """The lines that tell of a case."""
+    refusal = first_refusal(folder)
+    told: list[str] = []
+    try:
+        case = read_loosely(folder)
+    except Fault:
+        pass
+    else:
+        told = [*size_lines(case), *step_lines(case), *circle_lines(case), *origin_lines(case)]
+    return told + refusal_lines(folder, refusal)
+
+
+def refusal_lines(folder: str, refusal: Fault | None) -> list[str]:
+    if refusal is None:
+        return ["load        takes the case"]
+    line = f"{refusal.line()}: " if isinstance(refusal, BadCase) else ""
+    return [f"load        would refuse it first for: {line}{refusal}"]
+
+
+def size_lines(case: Case) -> list[str]:
+    """What the case has, and its cells."""
+    setup, demand = case.setup, case.standing_demand()
+    span = ""
+    if demand:
+        first, last = min(row.from_slot for row in demand), max(row.to_slot for row in demand)
+        span = f", setting out from {clock_text(first * setup.step_ms)} to {clock_text(last * setup.step_ms)}"
+    cells, fits = case.cells(), case.slots_that_fit()
+    in_memory = min(fits, case.slots_that_fit(int(free_memory() // SESSION_BYTES[1])))
+    asking = f"; the column cells of setup.csv may ask for {asked_for(cells)}" if setup.most_cells < cells <= MOST_CELLS_ASKED else ""
+    return [
+        f"network     {counted(len(case.links), 'link')}, {counted(len(case.nodes), 'node')}, {counted(len(case.destinations), 'destination')}",
+        f"demand      {vehicles_text(sum(row.units for row in demand))} vehicles in {counted(len(demand), 'row')}{span}",
+        f"splits      {'none: ltm routes writes them' if case.splits is None else counted(len(case.standing_splits()), 'row')}",
+        f"horizon     {clock_text(setup.horizon_ms)}, {counted(setup.slots, 'slot')} of {setup.step_ms} ms",
+        f"cells       {count_text(cells)} of at most {count_text(setup.most_cells)}; up to {count_text(fits)} slots fit"
+        + (", the most there may be" if fits == MOST_SLOTS else "") + asking,
+        f"memory      {memory_text(cells)}; up to {count_text(in_memory)} slots fit in what is free",
+    ]
+
+
+def free_memory() -> int:
+    """The bytes of memory that are free on this machine; all that there might be where it does not tell."""
+    try:
+        with open("/proc/meminfo", encoding="ascii") as file:
+            for line in file:
+                if line.startswith("MemAvailable:"):
+                    return int(line.split()[1]) * 1024
+    except (OSError, ValueError, IndexError):
+        pass
+    return 1 << 62
+
+
+def step_lines(case: Case) -> list[str]:
+    """The longest step that all links allow, and the links that allow no longer one."""
+    if not case.links:
+        return ["step        there is no link"]
+    links = sorted(case.links, key=lambda link: link.longest_step_ms)
+    least = links[0].longest_step_ms
+    told = [f"step        {case.setup.step_ms} ms; the links allow {least} ms at most"]
+    told += [f"            {link.name} allows {link.longest_step_ms} ms: {why(link)}" for link in links[:3]]
+    over = sum(link.longest_step_ms < case.setup.step_ms for link in links)
+    return told + ([f"            {counted(over, 'link')} may not have the step of {case.setup.step_ms} ms"] if over else [])
+
+
+def why(link: Link) -> str:
+    """What bounds the step of a link."""
+    bounds = {
+        link.passing_step_ms: "32 vehicles pass it in that time",
+        link.wave_ms: f"its wave time, {link.length_m} m at {link.wave_kmh} km/h",
+        link.free_ms: f"its free-flow time, {link.length_m} m at {link.free_kmh} km/h",
+    }
+    return bounds.get(link.longest_step_ms, "a step is at most a minute")
+
+
+def circle_lines(case: Case) -> list[str]:
+    """Which destinations have circles in their splits."""
+    if case.splits is None:
+        return []
+    circles = find_circles(case)
+    if not circles:
+        return ["circles     none in the splits"]
+    told = [f"circles     in the splits of {len(circles)} of {counted(len(case.destinations), 'destination')}: traffic that is sent round"]
+    for circle in circles[:MOST_TOLD]:
+        since = f" from {clock_text(circle.from_slot * case.setup.step_ms)} on" if circle.from_slot else ""
+        more = f" and {counted(len(circle.links) - MOST_LINKS, 'more link')}" if len(circle.links) > MOST_LINKS else ""
+        told.append(f"            for {circle.destination}{since}: {' '.join(circle.links[:MOST_LINKS])}{more}")
+    return told + more_line(len(circles))
+
+
+def more_line(count: int) -> list[str]:
+    return [f"            and {count_text(count - MOST_TOLD)} more"] if count > MOST_TOLD else []
+
+
+@dataclass(slots=True)
+class Origin:
+    """The most that the demand of an origin asks for in a slot, the slot where that begins, and what the origin can send in one."""
+
+    name: str
+    asked: Fraction
+    slot: int
+    sends: int
+    by: str
+
+
+def origin_lines(case: Case) -> list[str]:
+    """The origins whose demand is above what they can send."""
+    over = sorted(overloaded(case), key=lambda origin: origin.sends / origin.asked)
+    if not over:
+        return ["origins     none with more demand in a slot than can be sent"]
+    told = [f"origins     {counted(len(over), 'origin')} with more demand in a slot than can be sent, so that vehicles wait there"]
+    for origin in over[:MOST_TOLD]:
+        step_ms = case.setup.step_ms
+        asked, sends = hourly(origin.asked, step_ms), hourly(Fraction(origin.sends), step_ms)
+        told.append(f"            {origin.name}: {asked} vehicles an hour from {clock_text(origin.slot * step_ms)} on, and {origin.by} {sends} at most")
+    return told + more_line(len(over))
+
+
+def hourly(units: Fraction, step_ms: int) -> str:
+    """Thousandths in a slot as vehicles an hour, rounded to a whole number."""
+    return count_text(round(units * HOUR_MS / step_ms / 1000))
+
+
+def links_used(case: Case) -> set[str] | None:
+    """The links over which splits send what sets out at their tails, whenever that is; None where there are no splits."""
+    if case.splits is None:
+        return None
+    pairs = {(row.origin, row.destination) for row in case.standing_demand()}
+    rows = (row for row in case.standing_splits() if (row.node, row.destination) in pairs)
+    return {name for row in rows for name, weight in row.weights.items() if weight}
+
+
+def overloaded(case: Case) -> list[Origin]:
+    """The origins whose demand asks, in some slot, for more than the origin capacity, or than the links over which it is sent take."""
+    changes: dict[str, dict[int, Fraction]] = {}
+    for row in case.standing_demand():
+        pace = Fraction(row.units, row.to_slot - row.from_slot)
+        of_origin = changes.setdefault(row.origin, {})
+        of_origin[row.from_slot] = of_origin.get(row.from_slot, Fraction(0)) + pace
+        of_origin[row.to_slot] = of_origin.get(row.to_slot, Fraction(0)) - pace
+    taken: dict[str, int] = {}
+    used = links_used(case)
+    for link in case.links:
+        if used is None or link.name in used:
+            taken[link.tail] = taken.get(link.tail, 0) + link.capacity(case.setup.step_ms)
+    found = []
+    for name, at in changes.items():
+        pace, most, slot = Fraction(0), Fraction(0), 0
+        for when in sorted(at):
+            pace += at[when]
+            if pace > most:
+                most, slot = pace, when
+        capacity, by_links = case.setup.origin_capacity, taken.get(name, 0)
+        sends, by = (capacity, "an origin sends") if capacity <= by_links else (by_links, "its links take")
+        if most > sends:
+            found.append(Origin(name, most, slot, sends, by))
+    return found
+
+
+def link_lines(folder: str) -> list[str]:
+    """A table of all links."""
+    case = read_loosely(folder)
+    told = [TABLE.format("link", "length_m", "free_ms", "wave_ms", "most_step", "storage")]
+    for link in case.links:
+        told.append(TABLE.format(link.name, link.length_m, link.free_ms, link.wave_ms, link.longest_step_ms, short_vehicles(link.storage_units)))
+    return told

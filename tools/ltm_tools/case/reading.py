@@ -1,0 +1,225 @@
+"""The files of a case, read as strictly and in the same order as the program reads them.
+
+The first fault is raised as NoFile, TooLong or BadCase, which the program would tell by its status or its line.
+"""
+import difflib
+import os
+from collections.abc import Callable, Iterable
+
+from ..files import records
+from ..formats import (HEADERS, MOST_CELLS_ASKED, MOST_DEMAND_ROWS, MOST_DESTINATIONS, MOST_IN, MOST_JAM_PER_KM,
+                       MOST_KMH, MOST_LENGTH_M, MOST_LINKS, MOST_OUT, MOST_SLOTS, MOST_SLOT_UNITS, MOST_SPLIT_ROWS,
+                       MOST_STEP_MS, weights_or_none)
+from . import bad_case
+from .bad_case import NoFile
+from .fields import check_width, fetch, name_in, read_header, units_in, whole_in
+from .rows import Demand, Limit, Link, Rows, Setup, Split
+from .valid import check_cells, check_routes, check_splits
+
+MOST_DIAGRAM = (MOST_LENGTH_M, MOST_KMH, MOST_KMH, MOST_JAM_PER_KM)
+
+
+def read_case(folder: str | os.PathLike[str], *, splits: bool | None = None) -> Rows:
+    """The valid case of a folder, or the first fault. With `splits` True a `splits.csv` is wanted, as by `load`; with False it is not
+    looked at, and routes are asked for, as by `routes`; with None it may be missing."""
+    texts = {file: fetch(folder, file) for file in ("setup", "links", "demand")}
+    if splits is not False:
+        try:
+            texts["splits"] = fetch(folder, "splits")
+        except NoFile as fault:
+            if splits or not fault.missing:
+                raise
+    reader = Reader(read_setup(texts["setup"]))
+    for file in ("signals", "limits"):
+        if splits is not False and getattr(reader.case.setup, file):
+            texts[file] = fetch(folder, file)
+    for file, add in reader.tables.items():
+        if file in texts:
+            add_rows(file, texts[file], add)
+    case = reader.case
+    case.splits = case.splits if "splits" in texts else None
+    if splits is False:
+        check_routes(case)
+    elif case.splits is not None:
+        check_splits(case)
+    check_cells(case)
+    return case
+
+
+def read_network(folder: str | os.PathLike[str]) -> Rows:
+    """The setup and the links of a folder, whatever its other files say."""
+    reader = Reader(read_setup(fetch(folder, "setup")))
+    add_rows("links", fetch(folder, "links"), reader.add_link)
+    return reader.case
+
+
+def add_rows(file: str, data: bytes, add: Callable[[int, list[str]], None]) -> None:
+    """Reads the header of a file, and adds each record behind it."""
+    found = list(records(data))
+    width = read_header(file, found)
+    for row, record in enumerate(found[1:], 2):
+        check_width(file, row, record.fields, width)
+        add(row, record.fields)
+
+
+def read_setup(data: bytes) -> Setup:
+    """The setup that the bytes of a `setup.csv` say."""
+    found = list(records(data))
+    width = read_header("setup", found)
+    if len(found) < 2:
+        raise bad_case.no_setup_record()
+    fields = found[1].fields
+    check_width("setup", 2, fields, width)
+    step_ms, slots = whole_in("setup", 2, fields, 1), whole_in("setup", 2, fields, 2)
+    values = [step_ms, slots, units_in("setup", 2, fields, 3)]
+    values += [whole_in("setup", 2, fields, place) for place in range(4, width + 1)]
+    least_and_most = {"step_ms": (1, MOST_STEP_MS), "slots": (1, MOST_SLOTS), "origin_capacity": (1, MOST_SLOT_UNITS),
+                      "signals": (0, 1), "limits": (0, 1), "cells": (1, MOST_CELLS_ASKED)}
+    named = dict(zip(found[0].fields, values))
+    for place, (name, value) in enumerate(named.items(), 1):
+        least, most = least_and_most[name]
+        if not least <= value <= most:
+            raise bad_case.setup_range(place, name, fields[place - 1])
+    if len(found) > 2:
+        raise bad_case.second_setup_record()
+    return Setup(step_ms, slots, values[2], named.get("signals") == 1, named.get("limits") == 1, named.get("cells"))
+
+
+class Reader:
+    """A case that grows record by record, with what the checks of a record look up."""
+
+    def __init__(self, setup: Setup) -> None:
+        self.case = Rows(setup, splits=[])
+        self.rows: dict[str, int] = {}  # the row of each link
+        self.links: dict[str, Link] = {}
+        self.out: dict[str, list[str]] = {}  # the links out of each node
+        self.into: dict[str, list[str]] = {}
+        self.destinations: set[str] = set()
+        self.demand: set[tuple[str, str, int, int]] = set()
+        self.splits: set[tuple[str, str, int]] = set()
+        self.tables: dict[str, Callable[[int, list[str]], None]] = {
+            "links": self.add_link,
+            "demand": self.add_demand,
+            "splits": self.add_split,
+            "signals": lambda row, fields: self.add_limit("signals", row, fields),
+            "limits": lambda row, fields: self.add_limit("limits", row, fields),
+        }
+
+    def add_link(self, row: int, fields: list[str]) -> None:
+        name, tail, head = (name_in("links", row, fields, place) for place in (1, 2, 3))
+        link = Link(name, tail, head, *(whole_in("links", row, fields, place) for place in (4, 5, 6, 7)))
+        self.check_place(row, link)
+        self.check_limits(row, link)
+        self.case.links.append(link)
+        self.links[name], self.rows[name] = link, row
+        for node in (tail, head):
+            self.out.setdefault(node, [])
+            self.into.setdefault(node, [])
+        self.out[tail].append(name)
+        self.into[head].append(name)
+
+    def check_place(self, row: int, link: Link) -> None:
+        """Whether the network takes a link of this name between these nodes."""
+        if link.name in self.links:
+            raise bad_case.twice_named(row, link.name, self.rows[link.name])
+        if link.tail == link.head:
+            raise bad_case.self_loop(row, link.tail)
+        if len(self.links) >= MOST_LINKS:
+            raise bad_case.too_many_links(row)
+        if len(self.out.get(link.tail, ())) >= MOST_OUT:
+            raise bad_case.too_many_out(row, link.tail, self.out[link.tail])
+        if len(self.into.get(link.head, ())) >= MOST_IN:
+            raise bad_case.too_many_in(row, link.head, self.into[link.head])
+
+    def check_limits(self, row: int, link: Link) -> None:
+        """Whether the link's diagram sets limits at the step of the setup."""
+        check_diagram(row, link, self.case.setup.step_ms)
+
+    def check_node(self, file: str, row: int, place: int, name: str) -> None:
+        if name not in self.out:
+            raise bad_case.unknown(file, row, place, "node", name, nearest(name, self.out))
+
+    def add_destination(self, file: str, row: int, node: str) -> None:
+        if node not in self.destinations and len(self.destinations) >= MOST_DESTINATIONS:
+            raise bad_case.too_many_destinations(file, row, node)
+        self.destinations.add(node)
+
+    def add_demand(self, row: int, fields: list[str]) -> None:
+        origin, destination = name_in("demand", row, fields, 1), name_in("demand", row, fields, 2)
+        first, end = whole_in("demand", row, fields, 3), whole_in("demand", row, fields, 4)
+        units = units_in("demand", row, fields, 5)
+        self.check_node("demand", row, 1, origin)
+        self.check_node("demand", row, 2, destination)
+        if not self.out[origin]:
+            raise bad_case.no_origin(row, origin)
+        if origin == destination:
+            raise bad_case.same_ends("demand", row, origin)
+        self.check_slots("demand", row, first, end)
+        self.add_destination("demand", row, destination)
+        key = (origin, destination, first, end)
+        if units and key not in self.demand and len(self.demand) >= MOST_DEMAND_ROWS:
+            raise bad_case.too_many_rows("demand", row)
+        (self.demand.add if units else self.demand.discard)(key)
+        self.case.demand.append(Demand(*key, units))
+
+    def check_slots(self, file: str, row: int, first: int, end: int) -> None:
+        if not first < end <= self.case.setup.slots:
+            raise bad_case.bad_slots(file, row, first, end, self.case.setup.slots)
+
+    def add_split(self, row: int, fields: list[str]) -> None:
+        node, destination = name_in("splits", row, fields, 1), name_in("splits", row, fields, 2)
+        first, weights = whole_in("splits", row, fields, 3), weights_or_none(fields[3])
+        if weights is None:
+            raise bad_case.field("splits", row, 4, "weights", fields[3])
+        self.check_node("splits", row, 1, node)
+        self.check_node("splits", row, 2, destination)
+        if node == destination:
+            raise bad_case.same_ends("splits", row, node)
+        if first >= self.case.setup.slots:
+            raise bad_case.bad_slots("splits", row, first, None, self.case.setup.slots)
+        for name in weights:
+            if name not in self.out[node]:
+                tail = self.links[name].tail if name in self.links else None
+                raise bad_case.no_out_link(row, node, self.out[node], name, tail)
+        if not any(weights.values()):
+            raise bad_case.zero_weight(row)
+        self.add_destination("splits", row, destination)
+        key = (node, destination, first)
+        if key not in self.splits and len(self.splits) >= MOST_SPLIT_ROWS:
+            raise bad_case.too_many_rows("splits", row)
+        self.splits.add(key)
+        assert self.case.splits is not None
+        self.case.splits.append(Split(*key, weights))
+
+    def add_limit(self, file: str, row: int, fields: list[str]) -> None:
+        name = name_in(file, row, fields, 1)
+        first, end = whole_in(file, row, fields, 2), whole_in(file, row, fields, 3)
+        units = units_in(file, row, fields, 4)
+        if name not in self.links:
+            raise bad_case.unknown(file, row, 1, "link", name, nearest(name, self.links))
+        self.check_slots(file, row, first, end)
+        (self.case.signals if file == "signals" else self.case.limits).append(Limit(name, first, end, units))
+
+
+def nearest(name: str, names: Iterable[str]) -> str:
+    """Which of the names that there are is spelled nearly so."""
+    found = difflib.get_close_matches(name, list(names), 1, 0.7)
+    return f"there is {found[0]}" if found else ""
+
+
+def check_diagram(row: int, link: Link, step_ms: int) -> None:
+    """Whether the link's diagram sets limits at this step."""
+    sizes = (link.length_m, link.free_kmh, link.wave_kmh, link.jam_per_km)
+    for place, (name, size, most) in enumerate(zip(HEADERS["links"][3:], sizes, MOST_DIAGRAM), 4):
+        if size == 0:
+            raise bad_case.zero(row, place, name)
+        if size > most:
+            raise bad_case.over(row, place, name, most)
+    if step_ms > min(link.free_ms, link.wave_ms):
+        speeds = (link.free_kmh, link.wave_kmh)
+        raise bad_case.step_too_long(row, (link.free_ms, link.wave_ms), step_ms, (step_ms - 1) * max(speeds) // 3600 + 1, speeds)
+    capacity = link.capacity(step_ms)
+    if capacity == 0:
+        raise bad_case.no_capacity(row, step_ms, link.least_step_ms)
+    if capacity > MOST_SLOT_UNITS:
+        raise bad_case.capacity_over(row, capacity, step_ms, link.passing_step_ms)

@@ -1,0 +1,92 @@
+"""What the whole of a case has to meet: a split row wherever traffic may come, or a route, and no more cells than may be."""
+from ..formats import MOST_SPLIT_ROWS
+from . import bad_case
+from .bad_case import BadCase
+from .rows import Rows, Split
+
+
+def check_splits(case: Rows) -> None:
+    """Whether everybody who sets out has a way to go on at each node that he may come to, from slot 0 on."""
+    nodes = {node: number for number, node in enumerate(case.nodes)}
+    ends = {node: number for number, node in enumerate(case.destinations)}
+    splits = case.standing_splits()
+    begins: dict[tuple[str, str], int] = {}
+    for split in splits:
+        pair = split.node, split.destination
+        begins[pair] = min(split.from_slot, begins.get(pair, split.from_slot))
+    for pair in sorted({(row.origin, row.destination) for row in case.standing_demand()}, key=lambda pair: (nodes[pair[0]], ends[pair[1]])):
+        if pair not in begins:
+            raise no_row(case, pair[0], pair[1], f"vehicles set out from {pair[0]} for {pair[1]}")
+    by_node = _out_links(case)
+    for split in sorted(splits, key=lambda row: (nodes[row.node], ends[row.destination], row.from_slot)):
+        first = begins[split.node, split.destination]
+        if first > 0:
+            raise late_row(split.node, split.destination, first)
+        for name, head in by_node[split.node]:
+            if split.weights.get(name, 0) and head != split.destination and (head, split.destination) not in begins:
+                raise no_row(case, head, split.destination, f"{told(split)} over {name} to {head}")
+
+
+def _out_links(case: Rows) -> dict[str, list[tuple[str, str]]]:
+    """The links out of each node with their heads, in order."""
+    found: dict[str, list[tuple[str, str]]] = {node: [] for node in case.nodes}
+    for link in case.links:
+        found[link.tail].append((link.name, link.head))
+    return found
+
+
+def told(split: Split) -> str:
+    since = f" from slot {split.from_slot} on" if split.from_slot else ""
+    return f"traffic for {split.destination} is sent from {split.node}{since}"
+
+
+def no_row(case: Rows, node: str, destination: str, reason: str) -> BadCase:
+    """The fault of a node where traffic for a destination comes, and no row says how it goes on."""
+    links = [name for name, _ in _out_links(case)[node]]
+    if not links:
+        return bad_case.no_split(node, destination, f"{reason}, and no link leaves {node}", "send it another way")
+    row = f"{node},{destination},0,{links[0]}=1" if len(links) == 1 else f"{node},{destination},0,LINK=1, with LINK one of {', '.join(links)},"
+    return bad_case.no_split(node, destination, f"{reason}, and no row of splits.csv says how it goes on from {node}",
+                             f"add {row} to splits.csv; ltm routes writes a whole one, of the fastest ways")
+
+
+def late_row(node: str, destination: str, first: int) -> BadCase:
+    """The fault of a pair whose first row begins after slot 0."""
+    return bad_case.no_split(node, destination,
+                             f"the first row of splits.csv for node {node} and destination {destination} begins at slot {first}",
+                             "let it begin at slot 0, or add one that does")
+
+
+def reaching(case: Rows, destination: str) -> set[str]:
+    """The nodes from which links lead to a destination, it among them."""
+    tails: dict[str, list[str]] = {}
+    for link in case.links:
+        tails.setdefault(link.head, []).append(link.tail)
+    found, left = {destination}, [destination]
+    while left:
+        for tail in tails.get(left.pop(), ()):
+            if tail not in found:
+                found.add(tail)
+                left.append(tail)
+    return found
+
+
+def check_routes(case: Rows) -> None:
+    """Whether there is a route for all demand, and routes make no more rows than may be."""
+    nodes = {node: number for number, node in enumerate(case.nodes)}
+    reach = {destination: reaching(case, destination) for destination in case.destinations}
+    rows = sum(len(found) - 1 for found in reach.values())
+    if rows > MOST_SPLIT_ROWS:
+        raise bad_case.too_many_routes(rows)
+    pairs = {(row.origin, row.destination) for row in case.standing_demand()}
+    for origin, destination in sorted(pairs, key=lambda pair: (nodes[pair[0]], list(reach).index(pair[1]))):
+        if origin not in reach[destination]:
+            reason = f"vehicles set out from {origin} for {destination}, and no links lead there from {origin}"
+            raise bad_case.no_split(origin, destination, reason, "add a link, or take the demand out")
+
+
+def check_cells(case: Rows) -> None:
+    """Whether the cells are within the limit of the setup."""
+    cells = case.cells()
+    if cells > case.setup.most_cells:
+        raise bad_case.cells_over(cells, case.setup.most_cells, case.slots_that_fit(), case.setup.slots)

@@ -1,0 +1,81 @@
+"""Arguments that several commands have, and what their texts mean."""
+from __future__ import annotations
+
+import argparse
+from collections.abc import Mapping, Sequence
+from fractions import Fraction
+
+from ..errors import Fault
+from ..files import write_text
+from ..formats import MINUTE_MS, clock_ms
+from ..listing import FORMATS, Cell, csv_text, json_text
+
+
+def add_program_argument(parser: argparse.ArgumentParser) -> None:
+    """The option `--program`, for commands that run the program."""
+    parser.add_argument("--program", metavar="FILE", help="the program ltm (else $LTM, the one built in the clone, or ltm on the path)")
+
+
+def add_case_arguments(parser: argparse.ArgumentParser) -> None:
+    """The folder of a case, and where its curves come from."""
+    parser.add_argument("case", metavar="CASE", help="the folder of a case")
+    add_curves_arguments(parser)
+
+
+def add_curves_arguments(parser: argparse.ArgumentParser) -> None:
+    """The options `--curves` and `--program`."""
+    parser.add_argument("--curves", metavar="FILE", help="a curve file of the case, or - for the standard input (else the program makes it)")
+    add_program_argument(parser)
+
+
+def add_start_argument(parser: argparse.ArgumentParser) -> None:
+    """The option `--start`."""
+    parser.add_argument("--start", metavar="CLOCK", type=clock, default=0, help="the clock time at which slot 0 begins, as 6:30 (else 0:00)")
+
+
+def add_format_arguments(parser: argparse.ArgumentParser) -> None:
+    """The options `--format` and `--output`, for commands that write a table."""
+    parser.add_argument("--format", choices=FORMATS, default="text", help="text for people (the default), csv or json for programs")
+    parser.add_argument("-o", "--output", metavar="FILE", default="-", help="the file to write (else the standard output)")
+
+
+def add_reading_arguments(parser: argparse.ArgumentParser, files: Mapping[str, str], start: str, counted: str) -> "argparse._MutuallyExclusiveGroup":
+    """The case, and options: one of these with a file, as they are told here; `--start`, with what slot 0 is where nothing is said; `--slice`,
+    with what its minutes are; and `--encoding`. The options of which one is given can be added to."""
+    parser.add_argument("case", help="the folder of the case")
+    kind = parser.add_mutually_exclusive_group(required=True)
+    for name, told in files.items():
+        kind.add_argument(name, metavar="FILE", help=told)
+    parser.add_argument("--start", metavar="CLOCK", help=f"the clock time of slot 0 ({start})")
+    parser.add_argument("--slice", type=int, default=15, metavar="MINUTES", help=f"the minutes {counted} (15)")
+    parser.add_argument("--encoding", help="the encoding of the files (UTF-8, else by what they hold)")
+    return kind
+
+
+def clock(text: str) -> int:
+    """A clock time of the command line, in ms since midnight."""
+    try:
+        return clock_ms(text)
+    except Fault as fault:
+        raise argparse.ArgumentTypeError(str(fault)) from None
+
+
+def minutes(text: str) -> int:
+    """Minutes of the command line, as 5 or 0.5, in ms."""
+    try:
+        ms = Fraction(text) * MINUTE_MS
+    except (ValueError, ZeroDivisionError):
+        raise argparse.ArgumentTypeError(f"{text!r} is no number of minutes") from None
+    if ms < 1 or ms.denominator != 1:
+        raise argparse.ArgumentTypeError(f"{text!r} minutes are no whole number of milliseconds above 0")
+    return ms.numerator
+
+
+def write_table(args: argparse.Namespace, header: Sequence[str], rows: Sequence[Sequence[Cell]], text: str) -> None:
+    """Writes a table in the form that `args.format` asks for, to the file `args.output`: `text` for people, else header and rows."""
+    if args.format == "csv":
+        write_text(args.output, csv_text(header, rows))
+    elif args.format == "json":
+        write_text(args.output, json_text(header, rows))
+    else:
+        write_text(args.output, text)

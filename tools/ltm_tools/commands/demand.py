@@ -1,0 +1,124 @@
+"""Gives a case its demand: a table of origins and destinations with a profile, or trips with times."""
+from __future__ import annotations
+
+import argparse
+from collections.abc import Iterable
+from fractions import Fraction
+from pathlib import Path
+
+from ..case import Case, Demand
+from ..errors import Fault
+from ..files import write_records
+from ..formats import DEMAND, MINUTE_MS, MOST_DESTINATIONS, clock_ms, clock_text, short_vehicles
+from ..network.demand_files import exists, quarter_before, read_amounts, read_profile, read_trips, whole_units
+from ..network.passages import Roads
+from ..network.profiles import Part, Trip, by_profile, by_trips
+from ..network.source import Source
+from .arguments import add_reading_arguments
+
+NAME = "demand"
+SUMMARY = "give a case its demand, of a table with a profile or of trips"
+EXAMPLES = """\
+  ltm-tools demand CASE --table od.csv --profile morning.csv --start 7:00
+  ltm-tools demand CASE --table od.csv --period 60
+  ltm-tools demand CASE --trips trips.csv --slice 15 --start 7:00
+
+  od.csv        origin,destination,vehicles; or a matrix, with origins down and destinations across
+  morning.csv   from,to,share as 7:00,7:15,0.2; shares or counts, in any unit, of which the sum is all
+  trips.csv     origin,destination,depart as A,B,7:04:30, and vehicles where it is not 1
+Nodes are those of the case, or of the source that it was made of. demand.csv is written anew; the old splits.csv may then lack rows."""
+
+
+def add_arguments(parser: argparse.ArgumentParser) -> None:
+    """The arguments of the command."""
+    add_reading_arguments(parser, {"--table": "vehicles by origin and destination", "--trips": "trips, each with its time"},
+                          "the first time of the profile, or the quarter of an hour before the first trip", "over which trips are counted together")
+    parser.add_argument("--profile", metavar="FILE", help="when the vehicles of the table set out")
+    parser.add_argument("--period", type=int, metavar="MINUTES", help="set out evenly over so many minutes, in place of a profile (all slots)")
+    parser.add_argument("--leave-out-unreached", action="store_true", help="leave out demand to which no way leads, and tell how much")
+
+
+def run(args: argparse.Namespace) -> int:
+    """Writes the demand, and tells what it is."""
+    case = Case.read_network(args.case)
+    roads = Roads.of(case.links)
+    source = Source.read(args.case, roads)
+    if args.table is not None:
+        rows, notes = rows_of_table(case, source, args)
+    else:
+        rows, notes = rows_of_trips(case, source, args)
+    rows = checked(rows, roads, args.leave_out_unreached, notes)
+    write_records(Path(args.case) / "demand.csv", DEMAND, ([row.origin, row.destination, row.from_slot, row.to_slot, short_vehicles(row.units)] for row in rows))
+    ends = {row.destination for row in rows}
+    total = sum(row.units for row in rows)
+    print(f"{short_vehicles(total)} vehicles to {len(ends)} destinations in {len(rows)} rows")
+    print(*notes, sep="\n", end="\n" if notes else "")
+    return 0
+
+
+def rows_of_table(case: Case, source: Source, args: argparse.Namespace) -> tuple[list[Demand], list[str]]:
+    """The rows of a table, spread over a profile or a period."""
+    amounts = read_amounts(exists(args.table), args.encoding)
+    notes = list(amounts.notes)
+    parts = parts_of(case, args, notes)
+    last = max(part.to_slot for part in parts)
+    if last > case.setup.slots:
+        raise Fault(f"the demand ends {last * case.setup.step_ms // MINUTE_MS} minutes after the start, and the case"
+                    f" {case.setup.horizon_ms // MINUTE_MS} minutes after it; make the case with a longer --horizon")
+    units: dict[tuple[str, str], Fraction] = {}
+    for (origin, destination), volume in amounts.volumes.items():
+        ends = source.node(origin), source.node(destination)
+        if ends[0] == ends[1]:
+            amounts.inner += volume
+        else:
+            units[ends] = units.get(ends, Fraction(0)) + volume
+    if amounts.inner:
+        notes.append(f"{float(amounts.inner):g} vehicles stay within a node and are left out")
+    return by_profile({ends: whole_units(volume, f"demand from {ends[0]} to {ends[1]}") for ends, volume in units.items()}, parts), notes
+
+
+def parts_of(case: Case, args: argparse.Namespace, notes: list[str]) -> list[Part]:
+    """The parts of a profile, or one for a period."""
+    if args.profile is not None:
+        start = clock_ms(args.start) if args.start is not None else None
+        parts, begun, told = read_profile(exists(args.profile), start_ms=start, step_ms=case.setup.step_ms, encoding=args.encoding)
+        notes += [*told, f"slot 0 begins at {clock_text(begun)}"]
+        return parts
+    slots = case.setup.slots if args.period is None else args.period * MINUTE_MS // case.setup.step_ms
+    if slots < 1:
+        raise Fault("--period is shorter than a step; give a longer one")
+    return [Part(0, slots, Fraction(1))]
+
+
+def rows_of_trips(case: Case, source: Source, args: argparse.Namespace) -> tuple[list[Demand], list[str]]:
+    """The rows of trips, counted by slices."""
+    trips = read_trips(exists(args.trips), args.encoding)
+    if not trips:
+        raise Fault(f"{args.trips}: no trips")
+    if args.slice < 1:
+        raise Fault("--slice is at least 1")
+    start = clock_ms(args.start) if args.start is not None else quarter_before(min(trip.time_ms for trip in trips))
+    early = sum(trip.units for trip in trips if trip.time_ms < start)
+    inner = sum(trip.units for trip in trips if trip.time_ms >= start and source.node(trip.origin) == source.node(trip.destination))
+    counted = [Trip(source.node(trip.origin), source.node(trip.destination), trip.time_ms - start, trip.units)
+               for trip in trips if trip.time_ms >= start and source.node(trip.origin) != source.node(trip.destination)]
+    rows, late = by_trips(counted, step_ms=case.setup.step_ms, slots=case.setup.slots, slice_slots=max(1, args.slice * MINUTE_MS // case.setup.step_ms))
+    notes = [f"slot 0 begins at {clock_text(start)}"]
+    notes += [f"{short_vehicles(units)} vehicles {why} and are left out" for units, why in
+              ((early, "set out before it"), (late, "set out after the last slot"), (inner, "stay within a node")) if units]
+    return rows, notes
+
+
+def checked(rows: Iterable[Demand], roads: Roads, leave_out: bool, notes: list[str]) -> list[Demand]:
+    """The rows to whose destination a way leads; a Fault, or a note, where there is none."""
+    listed = list(rows)
+    reached = {destination: roads.least_times(destination) for destination in {row.destination for row in listed}}
+    lost = [row for row in listed if row.origin not in reached[row.destination]]
+    if lost and not leave_out:
+        raise Fault(f"no route leads from node {lost[0].origin} to node {lost[0].destination}, and so for {short_vehicles(sum(row.units for row in lost))} vehicles;"
+                    " --leave-out-unreached leaves them out")
+    if lost:
+        notes.append(f"{short_vehicles(sum(row.units for row in lost))} vehicles have no route and are left out")
+    if len(reached) > MOST_DESTINATIONS:
+        raise Fault(f"there are {len(reached)} destinations, and at most {MOST_DESTINATIONS} may be; join zones in the table")
+    return [row for row in listed if row.origin in reached[row.destination]]

@@ -1,0 +1,62 @@
+"""`ltm-tools draw`: pictures for a report, in clock time: how full a path was, a map at a moment, the cumulative curves of a path."""
+from __future__ import annotations
+
+import argparse
+import os
+
+from ..errors import Fault
+from ..loading.loaded import loaded
+from ..show.draw import draw_map, draw_newell, draw_shares
+from .arguments import add_curves_arguments, add_start_argument, clock
+
+NAME = "draw"
+SUMMARY = "draw how full a path was, a map at a moment, or the cumulative curves of a path, in clock time; two cases side by side"
+EXAMPLES = """\
+    ltm-tools draw full examples/corridor r1 r2 r3 r4 r5 r6 r7 r8 works r9 -o full.png --start 7:00 --other WIDER
+    ltm-tools draw map examples/closures -o map.png --start 7:00 --at 7:15
+    ltm-tools draw curves examples/spillback a b -o curves.svg
+"""
+NEEDS = ("matplotlib",)
+
+
+def add_arguments(parser: argparse.ArgumentParser) -> None:
+    what = parser.add_subparsers(dest="what", metavar="full|map|curves", required=True)
+    full = what.add_parser("full", help="vehicles on each link of a path, over time and along the way, in percent of what the link stores")
+    over = what.add_parser("map", help="the network at a moment, coloured by queues")
+    curves = what.add_parser("curves", help="how many vehicles have passed each point of a path")
+    for one in (full, over, curves):
+        one.add_argument("case", metavar="CASE", help="the folder of a case")
+        if one is not over:
+            one.add_argument("names", metavar="LINK", nargs="+", help="the links of the path, in order")
+        one.add_argument("-o", "--output", metavar="PICTURE", required=True, help="the file to draw into; its ending says its kind, as queue.png or queue.svg")
+        add_curves_arguments(one)
+        add_start_argument(one)
+    for one in (full, over):
+        one.add_argument("--other", metavar="OTHER", help="the folder of a second case, drawn beside the first")
+        one.add_argument("--other-curves", metavar="FILE", help="a curve file of OTHER")
+        one.add_argument("--names", metavar="NAME", nargs=2, dest="titles", help="what stands above the two")
+    over.add_argument("--at", metavar="CLOCK", type=clock, required=True, help="the moment, as 7:45")
+
+
+def run(args: argparse.Namespace) -> int:
+    import matplotlib
+
+    matplotlib.use("Agg")
+    import matplotlib.pyplot as plot
+
+    both, folders = [loaded(args.case, args.curves, args.program)], [args.case]
+    if getattr(args, "other", None) is not None:
+        both.append(loaded(args.other, args.other_curves, args.program))
+        folders.append(args.other)
+    titles = getattr(args, "titles", None) or [os.path.basename(os.path.abspath(folder)) for folder in folders]
+    if args.what == "full":
+        figure = draw_shares(plot, both, titles, args.names, args.start)
+    elif args.what == "curves":
+        figure = draw_newell(plot, both[0], args.names, args.start)
+    else:
+        figure = draw_map(plot, both, folders, titles, both[0].boundary_at(args.at, args.start), args.start)
+    try:
+        figure.savefig(args.output, dpi=110)
+    except (OSError, ValueError) as error:
+        raise Fault(f"{args.output}: {error}") from None
+    return 0

@@ -1,0 +1,52 @@
+"""`ltm-tools plot`: pictures of a curve file."""
+from __future__ import annotations
+
+import argparse
+
+from ..case import Case
+from ..errors import Fault
+from ..loading.curves import Curves
+from ..show.plot import draw_arrivals, draw_link, draw_path
+
+NAME = "plot"
+SUMMARY = "draw a link, a path or the arrivals from a curve file"
+EXAMPLES = """example:
+  ./ltm examples/corridor curves >/tmp/corridor.csv
+  ltm-tools plot path examples/corridor r1 r2 r3 r4 r5 r6 r7 r8 works r9 /tmp/queue.png --curves /tmp/corridor.csv
+  ltm-tools plot link examples/corridor works /tmp/works.svg --curves /tmp/corridor.csv"""
+NEEDS = ("matplotlib",)
+
+
+def add_arguments(parser: argparse.ArgumentParser) -> None:
+    what = parser.add_subparsers(dest="what", metavar="link|path|arrivals", required=True)
+    link = what.add_parser("link", help="what has entered a link and has left it, and what stands between")
+    path = what.add_parser("path", help="the vehicles per kilometre on each link of a path, over time and along the way")
+    arrivals = what.add_parser("arrivals", help="how many vehicles have arrived at each destination")
+    for one in (link, path, arrivals):
+        one.add_argument("case", help="the folder of the case, for the length of a slot and the links")
+    link.add_argument("name", help="the link")
+    path.add_argument("names", nargs="+", metavar="name", help="the links of the path, in order")
+    for one in (link, path, arrivals):
+        one.add_argument("picture", help="the file to draw into; its ending says its kind, as queue.png or queue.svg")
+        one.add_argument("--curves", metavar="FILE", help="the curve file (curves.csv in the folder; - is the input)")
+
+
+def run(args: argparse.Namespace) -> int:
+    import matplotlib
+
+    matplotlib.use("Agg")
+    import matplotlib.pyplot as plot
+
+    links = {link.name: link for link in Case.read_network(args.case).links}
+    curves = Curves.of_case(args.case, args.curves)
+    if args.what == "link":
+        figure = draw_link(plot, curves, links, args.name)
+    elif args.what == "path":
+        figure = draw_path(plot, curves, links, args.names)
+    else:
+        figure = draw_arrivals(plot, curves)
+    try:
+        figure.savefig(args.picture, dpi=110)
+    except (OSError, ValueError) as error:
+        raise Fault(f"{args.picture}: {error}") from None
+    return 0

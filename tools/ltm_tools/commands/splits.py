@@ -1,0 +1,172 @@
+"""Gives a case its splits: of counted routes, of turning counts, or of least routes; no destination has a circle."""
+from __future__ import annotations
+
+import argparse
+import os
+from pathlib import Path
+
+from ..case import Case, Demand, Split
+from ..errors import Fault
+from ..files import Row, write_records
+from ..formats import DEMAND, MINUTE_MS, MOST_SPLIT_ROWS, SPLITS, clock_ms, clock_text, short_vehicles, weights_text
+from ..network.demand_files import exists, moment_ms, quarter_before, whole_units
+from ..network.passages import Roads
+from ..network.profiles import Trip, by_trips
+from ..network.route_splits import Route, circles, from_routes
+from ..network.source import Source
+from ..network.turns import Turn, from_turns
+from ..program import output
+from ..tables import read
+from .arguments import add_program_argument, add_reading_arguments
+
+NAME = "splits"
+SUMMARY = "give a case its splits, of counted routes, turning counts or least routes"
+EXAMPLES = """\
+  ltm-tools splits CASE --routes counted.csv --start 7:00 --slice 15 --demand
+  ltm-tools splits CASE --turns counts.csv
+  ltm-tools splits CASE --least
+
+  counted.csv   depart,vehicles,links as 7:03,2,a b c: the links of the case, or of the source that it was made of, in order, with blanks or
+                semicolons between; or nodes in place of links
+  counts.csv    from_link,to_link,vehicles; or node,to_link,vehicles where it is not known by which link they came
+With --routes, vehicles count in the slice in which they come to a node if nothing holds them up. Passages on a circle that lead away from
+their destination are cut, and told in per cent. Where nothing is known vehicles go by the least time. splits.csv is written anew, and with
+--demand demand.csv, which else stays."""
+ROUTE_NAMES = {"links": ("link_sequence", "edges", "link_ids", "path", "route", "links_sequence"), "nodes": ("node_sequence", "node_ids", "path_nodes"),
+               "depart": ("departure", "departure_time", "depart_time", "time", "start", "begin"), "vehicles": ("volume", "count", "number", "flow", "trips")}
+TURN_NAMES = {"from_link": ("link", "in_link", "from", "ib_link_id", "from_edge"), "to_link": ("out_link", "to", "ob_link_id", "to_edge"),
+              "vehicles": ("volume", "count", "number", "flow", "turns"), "node": ("node_id",)}
+
+
+def add_arguments(parser: argparse.ArgumentParser) -> None:
+    """The arguments of the command."""
+    kind = add_reading_arguments(parser, {"--routes": "counted routes", "--turns": "turning counts; the case needs its demand"},
+                                 "the quarter of an hour before the first route", "of a row of splits")
+    kind.add_argument("--least", action="store_true", help="the least routes by free-flow time, by `ltm routes`")
+    parser.add_argument("--demand", action="store_true", help="write the demand of the routes as well")
+    add_program_argument(parser)
+
+
+def run(args: argparse.Namespace) -> int:
+    """Writes the splits, and tells what was cut."""
+    if args.slice < 1:
+        raise Fault("--slice is at least 1")
+    if args.least:
+        return least(args)
+    case = Case.read(args.case, splits=False)
+    roads = Roads.of(case.links)
+    source = Source.read(args.case, roads)
+    rows, notes = (of_routes if args.routes is not None else of_turns)(case, roads, source, args)
+    if len(rows) > MOST_SPLIT_ROWS:
+        raise Fault(f"{len(rows)} rows of splits, and at most {MOST_SPLIT_ROWS} may be; give a longer --slice than {args.slice}")
+    if circles(case.links, rows):
+        raise Fault("a destination has a circle, which is a fault of this tool")
+    write_records(Path(args.case) / "splits.csv", SPLITS, ([row.node, row.destination, row.from_slot, weights_text(row.weights)] for row in rows))
+    print(f"{len(rows)} rows of splits for {len({row.destination for row in rows})} destinations; none has a circle")
+    print(*notes, sep="\n")
+    return 0
+
+
+def least(args: argparse.Namespace) -> int:
+    """Writes what `ltm routes` says."""
+    text = output(args.case, "routes", program=args.program)
+    with open(os.path.join(args.case, "splits.csv"), "wb") as file:
+        file.write(text)
+    print(f"{text.count(10) - 1} rows of splits, of least routes by free-flow time")
+    return 0
+
+
+def of_routes(case: Case, roads: Roads, source: Source, args: argparse.Namespace) -> tuple[list[Split], list[str]]:
+    """The rows of counted routes."""
+    table = read(exists(args.routes), (), ROUTE_NAMES, args.encoding)
+    if not {"links", "nodes"} & set(table.fields):
+        raise Fault(f"{args.routes}: no field links or nodes in the header; it has {', '.join(table.fields)}")
+    times = [moment_ms(row, "depart") if row.text("depart", "") else 0 for row in table.rows]
+    start = clock_ms(args.start) if args.start is not None else quarter_before(min(times, default=0))
+    by_nodes = links_by_nodes(source)
+    routes, early, inner = [], 0, 0
+    for row, time in zip(table.rows, times):
+        units = whole_units(row.number("vehicles", 1), row.place)
+        links = route_of(row, roads, source, by_nodes)
+        if time < start or time - start >= case.setup.horizon_ms:
+            early += units
+        elif not links or roads.links[links[0]].tail == roads.links[links[-1]].head:
+            inner += units
+        else:
+            routes.append(Route(links, time - start, units))
+    notes = [*table.notes, f"slot 0 begins at {clock_text(start)}"]
+    notes += [f"{short_vehicles(units)} vehicles {why} and are left out" for units, why in
+              ((early, "set out before it, or after the last slot,"), (inner, "end where they begin")) if units]
+    if not routes:
+        raise Fault(f"{args.routes}: no route that sets out within the slots of the case; look at --start")
+    if args.demand:
+        case.demand = demand_of(case, roads, routes, args, notes)
+    slice_slots = max(1, args.slice * MINUTE_MS // case.setup.step_ms)
+    rows, cuts = from_routes(case.links, routes, case.demand, step_ms=case.setup.step_ms, slots=case.setup.slots, slice_slots=slice_slots)
+    return rows, [*notes, *cuts.lines()]
+
+
+def demand_of(case: Case, roads: Roads, routes: list[Route], args: argparse.Namespace, notes: list[str]) -> list[Demand]:
+    """The demand of routes by slices, which is written."""
+    trips = [Trip(roads.links[route.links[0]].tail, roads.links[route.links[-1]].head, route.depart_ms, route.units) for route in routes]
+    rows, _ = by_trips(trips, step_ms=case.setup.step_ms, slots=case.setup.slots, slice_slots=max(1, args.slice * MINUTE_MS // case.setup.step_ms))
+    write_records(Path(args.case) / "demand.csv", DEMAND,
+                  ([row.origin, row.destination, row.from_slot, row.to_slot, short_vehicles(row.units)] for row in rows))
+    notes.append(f"{short_vehicles(sum(row.units for row in rows))} vehicles of demand in {len(rows)} rows")
+    return rows
+
+
+def links_by_nodes(source: Source) -> dict[tuple[str, str], str]:
+    """The link of the source from a node to another, the first of several."""
+    made: dict[tuple[str, str], str] = {}
+    for name, link in source.links.items():
+        made.setdefault((link.tail, link.head), name)
+    return made
+
+
+def route_of(row: Row, roads: Roads, source: Source, by_nodes: dict[tuple[str, str], str]) -> tuple[str, ...]:
+    """The links of the case on a counted route."""
+    names = words_of(row.text("links", ""))
+    nodes = words_of(row.text("nodes", ""))
+    if not names:
+        for pair in zip(nodes, nodes[1:]):
+            if pair not in by_nodes:
+                raise row.fault("nodes", f"no link leads from {pair[0]} to {pair[1]}")
+            names.append(by_nodes[pair])
+    try:
+        return source.route(names, roads)
+    except Fault as fault:
+        raise Fault(f"{row.place}: {fault}") from None
+
+
+def words_of(text: str) -> list[str]:
+    """Names with blanks, semicolons or commas between."""
+    return text.replace(";", " ").replace(",", " ").split()
+
+
+def of_turns(case: Case, roads: Roads, source: Source, args: argparse.Namespace) -> tuple[list[Split], list[str]]:
+    """The rows that fit turning counts."""
+    table = read(exists(args.turns), ("to_link", "vehicles"), TURN_NAMES, args.encoding)
+    turns, gone = [], 0
+    for row in table.rows:
+        after = link_in(row, "to_link", source)
+        came = [link_in(row, "from_link", source)] if row.text("from_link", "") else list(roads.ins.get(roads.links[after].tail, ())) if after else []
+        count = float(row.number("vehicles"))
+        if count < 0:
+            raise row.fault("vehicles", "a count is 0 or more")
+        if after is None or None in came:
+            gone += 1
+        else:
+            turns += [Turn(name, after, count) for name in came if name is not None]
+    fitted = from_turns(case.links, case.demand, turns)
+    notes = [*table.notes, f"{fitted.rounds} rounds of fitting; counted shares are met within {100 * fitted.off:.2f} % in the mean"]
+    notes += [f"{gone} counts are of links that were contracted, and are left out"] if gone else []
+    return fitted.splits, notes
+
+
+def link_in(row: Row, field: str, source: Source) -> str | None:
+    """The link of the case for a name of the source; none where it was contracted."""
+    name = row.text(field)
+    if name not in source.links:
+        raise row.fault(field, "it is no link of the case, nor of its source")
+    return source.links[name].link

@@ -1,0 +1,1 @@
+"""Networks in the General Modeling Network Specification."""

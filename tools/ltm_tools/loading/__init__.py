@@ -1,0 +1,1 @@
+"""Loadings: curve files, queues and delay, times of paths, comparisons, and sessions."""

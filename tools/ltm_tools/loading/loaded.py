@@ -1,0 +1,84 @@
+"""A case with the curves of its loading, for the commands that look at one."""
+from __future__ import annotations
+
+import os
+from typing import NamedTuple
+
+from .. import program
+from ..case import Case
+from ..errors import Fault
+from ..formats import clock_text
+from . import delay
+from .curves import Curves
+
+
+class Loaded(NamedTuple):
+    """A case, and its loading."""
+
+    case: Case
+    curves: Curves
+
+    def boundary_at(self, moment: int, start: int) -> int:
+        """The last boundary that is not after a clock time, slot 0 beginning at `start`; a Fault where that is not within the horizon."""
+        boundary = (moment - start) // self.curves.step_ms
+        if not 0 <= boundary < self.curves.boundaries:
+            end = start + (self.curves.boundaries - 1) * self.curves.step_ms
+            raise Fault(f"{clock_text(moment)} is not within the horizon, from {clock_text(start)} to {clock_text(end)}")
+        return boundary
+
+
+def loaded(folder: str, curves: str | None, named: str | None) -> Loaded:
+    """The case of a folder, and its curves: of this file, else made by the program, else of `curves.csv` in the folder where the
+    program is nowhere found."""
+    case = Case.read(folder)
+    step, boundaries = case.setup.step_ms, case.setup.slots + 1
+    if curves is not None:
+        found = Curves.read(curves, step, boundaries)
+    else:
+        try:
+            program.find_program(named)
+        except Fault:
+            kept = os.path.join(folder, "curves.csv")
+            if named is not None or not os.path.isfile(kept):
+                raise
+            found = Curves.read(kept, step, boundaries)
+        else:
+            found = made(folder, named, step, boundaries)
+    return Loaded(case, of_case(case, found))
+
+
+def made(folder: str, named: str | None, step: int, boundaries: int) -> Curves:
+    """The curves that `ltm curves` writes."""
+    process = program.start(folder, ["curves"], named)
+    assert process.stdout is not None
+    with process:
+        lines = process.stdout.readlines()
+        status = process.wait()
+    if status:
+        raise Fault(program.refusal(folder, ["curves"], status, b"".join(lines)))
+    return Curves.of_lines(lines, f"{folder}: ltm curves", step, boundaries)
+
+
+def told_delay(loading: Loaded, folder: str, curves: str | None, named: str | None) -> delay.Report:
+    """The delay of what `loaded` gave for a folder: as the program tells it where it made the loading and has a command for it, and else
+    worked out from the curves."""
+    if curves is None and program.has_command("delay", named):
+        return program_delay(folder, named)
+    return delay.report(loading.curves, loading.case)
+
+
+def program_delay(folder: str, named: str | None) -> delay.Report:
+    """The delay of the loading of a case, as `ltm delay` tells it."""
+    return delay.read_report(program.output(folder, "delay", program=named).decode("utf-8", "backslashreplace"))
+
+
+def of_case(case: Case, curves: Curves) -> Curves:
+    """The curves, where they have exactly the links, nodes and destinations of the case."""
+    if case.destinations:
+        for kind, wanted, found in (("link", [link.name for link in case.links], curves.links), ("node", case.nodes, curves.nodes),
+                                    ("destination", case.destinations, curves.destinations)):
+            if wanted != found:
+                odd = next((name for name in (*wanted, *found) if (name in wanted) != (name in found)), None)
+                told = f"{kind}s in another order" if odd is None else f"the {kind} {odd} in one and not in the other"
+                raise Fault(f"the curve file is not of this case: there are {told}")
+    return curves

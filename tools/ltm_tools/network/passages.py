@@ -1,0 +1,176 @@
+"""Passages toward a destination, without circles.
+
+The passages of a destination are counts by link: how many vehicles that want there go on by the link. Where they make a circle,
+vehicles may go round in it for ever, since a split knows a node and a destination and not where a vehicle came from. `without`
+cuts passages of links that are part of a circle and lead no nearer to the destination, the lightest ones, and no others.
+"""
+from __future__ import annotations
+
+import heapq
+from collections.abc import Iterable, Mapping
+from dataclasses import dataclass, field
+
+from ..case import Link
+from ..errors import Fault
+
+
+@dataclass
+class Roads:
+    """The links of a case by name and by node, with free-flow times in ms."""
+
+    links: dict[str, Link]
+    outs: dict[str, list[str]] = field(default_factory=dict)
+    ins: dict[str, list[str]] = field(default_factory=dict)
+
+    @classmethod
+    def of(cls, links: Iterable[Link]) -> Roads:
+        """The roads of some links."""
+        made = cls({link.name: link for link in links})
+        for link in made.links.values():
+            made.outs.setdefault(link.tail, []).append(link.name)
+            made.ins.setdefault(link.head, []).append(link.name)
+        return made
+
+    def least_times(self, destination: str) -> dict[str, int]:
+        """The least free-flow time in ms to a destination, from each node that has a route to it."""
+        times: dict[str, int] = {}
+        queue = [(0, destination)]
+        while queue:
+            time, node = heapq.heappop(queue)
+            if node in times:
+                continue
+            times[node] = time
+            for name in self.ins.get(node, ()):
+                link = self.links[name]
+                if link.tail not in times:
+                    heapq.heappush(queue, (time + link.free_ms, link.tail))
+        return times
+
+
+def strong_parts(nodes: Iterable[str], after: Mapping[str, Iterable[str]]) -> list[set[str]]:
+    """The sets of two nodes and more in which each leads to each other (Tarjan 1972, without recursion)."""
+    number: dict[str, int] = {}
+    low: dict[str, int] = {}
+    stack: list[str] = []
+    on_stack: set[str] = set()
+    found = []
+    for root in nodes:
+        if root in number:
+            continue
+        number[root] = low[root] = len(number)
+        stack.append(root)
+        on_stack.add(root)
+        work = [(root, iter(after.get(root, ())))]
+        while work:
+            node, rest = work[-1]
+            following = next(rest, None)
+            if following is None:
+                work.pop()
+                if work:
+                    low[work[-1][0]] = min(low[work[-1][0]], low[node])
+                if low[node] == number[node]:
+                    part = set(stack[stack.index(node):])
+                    del stack[stack.index(node):]
+                    on_stack -= part
+                    if len(part) > 1:
+                        found.append(part)
+            elif following not in number:
+                number[following] = low[following] = len(number)
+                stack.append(following)
+                on_stack.add(following)
+                work.append((following, iter(after.get(following, ()))))
+            elif following in on_stack:
+                low[node] = min(low[node], number[following])
+    return found
+
+
+class Passages:
+    """The passages toward one destination, by link, while circles are cut and gaps are filled."""
+
+    def __init__(self, roads: Roads, destination: str, counts: Mapping[str, int], origins: Iterable[str]) -> None:
+        self.roads, self.destination = roads, destination
+        self.times = roads.least_times(destination)
+        self.counts = {name: count for name, count in counts.items() if count > 0 and roads.links[name].tail != destination}
+        self.origins = [origin for origin in origins if origin != destination]
+        self.cut: dict[str, int] = {}
+        self.filled: set[str] = set()
+
+    def without_circles(self) -> dict[str, int]:
+        """The counts by link that are left, with a count of 1 on a link of a least route where a node had none."""
+        self.fill()
+        while parts := self.parts():
+            for part in parts:
+                self.cut_in(part)
+            self.fill()
+        return self.counts
+
+    def by_tail(self) -> dict[str, list[str]]:
+        """The links with passages that leave each node."""
+        leaving: dict[str, list[str]] = {}
+        for name in self.counts:
+            leaving.setdefault(self.roads.links[name].tail, []).append(name)
+        return leaving
+
+    def after(self) -> dict[str, list[str]]:
+        """The nodes to which each node has passages."""
+        return {tail: [self.roads.links[name].head for name in names] for tail, names in self.by_tail().items()}
+
+    def parts(self) -> list[set[str]]:
+        """The sets of nodes that are in circles with one another."""
+        after = self.after()
+        return strong_parts(after, after)
+
+    def fill(self) -> None:
+        """Gives each node to which vehicles come, and that has no passage on, the first link of a least route."""
+        leaving = set(self.by_tail())
+        due = [*self.origins, *(self.roads.links[name].head for name in self.counts)]
+        while due:
+            node = due.pop()
+            if node == self.destination or node in leaving:
+                continue
+            name = self.least_link(node)
+            self.counts[name] = 1
+            self.filled.add(name)
+            leaving.add(node)
+            due.append(self.roads.links[name].head)
+
+    def least_link(self, node: str) -> str:
+        """The first link of a least route from a node."""
+        if node not in self.times:
+            raise Fault(f"no route leads from node {node} to node {self.destination}; leave that demand out, or add a link")
+        leading = [name for name in self.roads.outs[node] if self.roads.links[name].head in self.times]
+        return min(leading, key=lambda name: self.roads.links[name].free_ms + self.times[self.roads.links[name].head])
+
+    def leads_away(self, name: str) -> bool:
+        """Whether a link leads no nearer to the destination, by least time."""
+        link = self.roads.links[name]
+        return link.head not in self.times or self.times[link.head] >= self.times[link.tail]
+
+    def cut_in(self, part: set[str]) -> None:
+        """Cuts links that lead away within a set, and takes back the heaviest ones that close no circle."""
+        inner = [name for name in self.counts if self.roads.links[name].tail in part and self.roads.links[name].head in part]
+        away = sorted((name for name in inner if self.leads_away(name)), key=lambda name: (-self.counts[name], name))
+        taken = {name: self.counts.pop(name) for name in away}
+        after = self.after()
+        for name in away:
+            link = self.roads.links[name]
+            if leads(after, link.head, link.tail):
+                if name not in self.filled:
+                    self.cut[name] = taken[name]
+            else:
+                self.counts[name] = taken[name]
+                after.setdefault(link.tail, []).append(link.head)
+
+
+def leads(after: Mapping[str, Iterable[str]], start: str, end: str) -> bool:
+    """Whether a node leads to another."""
+    seen, due = {start}, [start]
+    while due:
+        node = due.pop()
+        if node == end:
+            return True
+        for following in after.get(node, ()):
+            if following not in seen:
+                seen.add(following)
+                due.append(following)
+    return False

@@ -1,0 +1,131 @@
+"""Splits from counted routes by slices of time, and no destination has a circle."""
+from __future__ import annotations
+
+from collections.abc import Iterable, Sequence
+from dataclasses import dataclass, field
+from math import gcd
+
+from ..case import Demand, Link, Split
+from ..formats import WHOLE_BELOW
+from .passages import Passages, Roads, strong_parts
+
+MOST_WEIGHT = WHOLE_BELOW - 1
+
+
+@dataclass(frozen=True, slots=True)
+class Route:
+    """Vehicles that set out together: the links they drive, when they begin (ms after slot 0), and how many (thousandths)."""
+
+    links: tuple[str, ...]
+    depart_ms: int
+    units: int
+
+
+@dataclass
+class Cuts:
+    """What was cut from the passages of routes, in thousandths of a vehicle."""
+
+    passages: int = 0
+    cut: int = 0
+    by_destination: dict[str, tuple[int, int]] = field(default_factory=dict)
+    """Of each destination what was cut, and all its passages."""
+    filled: int = 0
+    """How many nodes had no passage left, and go by a least route."""
+
+    def lines(self) -> list[str]:
+        """What was cut, in per cent."""
+        told = [f"{per_cent(self.cut, self.passages)} of all passages are cut, as they close a circle and lead away from their destination"]
+        worst = sorted(self.by_destination.items(), key=lambda item: -item[1][0] / max(1, item[1][1]))[:3]
+        if self.cut:
+            told.append("most by destination: " + ", ".join(f"{name} {per_cent(*counts)}" for name, counts in worst if counts[0]))
+        if self.filled:
+            told.append(f"at {self.filled} nodes, by destination, nothing was counted; there vehicles go by the least time")
+        return told
+
+
+def per_cent(part: int, whole: int) -> str:
+    """A part of a whole in per cent, with two decimals."""
+    return f"{100 * part / whole:.2f} %" if whole else "0.00 %"
+
+
+def from_routes(links: Sequence[Link], routes: Iterable[Route], demand: Iterable[Demand], *, step_ms: int, slots: int,
+                slice_slots: int) -> tuple[list[Split], Cuts]:
+    """The splits of counted routes by slices of time; a vehicle counts in the slice in which it comes to the node if nothing
+    holds it up."""
+    roads = Roads.of(links)
+    counted = count(roads, routes, step_ms, slots, slice_slots)
+    origins: dict[str, list[str]] = {}
+    for row in demand:
+        if row.units:
+            origins.setdefault(row.destination, []).append(row.origin)
+    cuts, rows = Cuts(), []
+    for destination in sorted({*counted, *origins}):
+        made, some = of_destination(roads, destination, counted.get(destination, {}), origins.get(destination, []), slice_slots)
+        rows += made
+        passages = sum(sum(by_slice.values()) for by_slice in counted.get(destination, {}).values())
+        cut = sum(some.cut.values())
+        cuts.passages += passages
+        cuts.cut += cut
+        cuts.by_destination[destination] = cut, passages
+        cuts.filled += len(some.filled)
+    return rows, cuts
+
+
+def count(roads: Roads, routes: Iterable[Route], step_ms: int, slots: int, slice_slots: int) -> dict[str, dict[str, dict[int, int]]]:
+    """Of each destination and link the thousandths of vehicles that go on by the link, by slice."""
+    counted: dict[str, dict[str, dict[int, int]]] = {}
+    for route in routes:
+        if not route.links:
+            continue
+        destination = roads.links[route.links[-1]].head
+        of_links = counted.setdefault(destination, {})
+        time = route.depart_ms
+        for name in route.links:
+            slot = min(time // step_ms, slots - 1)
+            by_slice = of_links.setdefault(name, {})
+            by_slice[slot // slice_slots] = by_slice.get(slot // slice_slots, 0) + route.units
+            time += roads.links[name].free_ms
+            if roads.links[name].head == destination:
+                break
+    return counted
+
+
+def of_destination(roads: Roads, destination: str, counted: dict[str, dict[int, int]], origins: Iterable[str],
+                   slice_slots: int) -> tuple[list[Split], Passages]:
+    """The rows of a destination, and what became of its passages."""
+    whole = {name: sum(by_slice.values()) for name, by_slice in counted.items()}
+    passages = Passages(roads, destination, whole, origins)
+    left = passages.without_circles()
+    rows = []
+    for node, names in sorted(passages.by_tail().items()):
+        slices = sorted({part for name in names for part in counted.get(name, {})})
+        before: dict[str, int] | None = None
+        for part in slices or [0]:
+            weights = {name: counted.get(name, {}).get(part, 0) for name in names if name in left} if slices else {name: 1 for name in names}
+            weights = whole_weights({name: units for name, units in weights.items() if units})
+            if weights and weights != before:
+                rows.append(Split(node, destination, 0 if before is None else part * slice_slots, weights))
+                before = weights
+    return rows, passages
+
+
+def whole_weights(units: dict[str, int]) -> dict[str, int]:
+    """Weights in the same shares, without what all have in common, and small enough for the program."""
+    if not units:
+        return {}
+    divisor = gcd(*units.values())
+    greatest = max(units.values()) // divisor
+    if greatest > MOST_WEIGHT:
+        return {name: max(1, value * MOST_WEIGHT // max(units.values())) for name, value in units.items()}
+    return {name: value // divisor for name, value in units.items()}
+
+
+def circles(links: Sequence[Link], splits: Iterable[Split]) -> dict[str, list[set[str]]]:
+    """Of each destination with a circle the sets of nodes that are in one, over all times."""
+    heads = {link.name: link.head for link in links}
+    after: dict[str, dict[str, set[str]]] = {}
+    for row in splits:
+        following = after.setdefault(row.destination, {}).setdefault(row.node, set())
+        following |= {heads[name] for name, weight in row.weights.items() if weight}
+    found = {destination: strong_parts(nodes, nodes) for destination, nodes in after.items()}
+    return {destination: parts for destination, parts in found.items() if parts}

@@ -1,0 +1,1 @@
+"""The proof of the program: its order and its work."""

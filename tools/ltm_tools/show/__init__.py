@@ -1,0 +1,1 @@
+"""Loadings to look at: the page with its folder `web`, and pictures."""

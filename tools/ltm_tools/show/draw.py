@@ -1,0 +1,144 @@
+"""Pictures of a network, and of two cases side by side, by matplotlib: a path by share of storage, a map at a time, the cumulative
+curves of a path. Times are clock times."""
+from __future__ import annotations
+
+from collections.abc import Sequence
+from typing import TYPE_CHECKING, Any
+
+from ..case.places import Place, read_places
+from ..formats import MINUTE_MS, clock_text
+from ..loading import delay
+from ..loading.counts import Counts, vehicles
+from ..loading.loaded import Loaded
+from ..loading.times import joined
+from . import layout
+
+if TYPE_CHECKING:
+    from matplotlib.axes import Axes
+    from matplotlib.figure import Figure
+
+NICE_MINUTES = (1, 2, 5, 10, 15, 30, 60, 120, 180, 360, 720, 1440)
+MOST_NAMED = 40  # nodes, whose names are drawn
+COLOURS = "YlOrRd"
+LEAST_PERCENT = 1  # of a queue that is coloured on a map
+
+
+def clock_axis(axes: "Axes", start: int, last: int) -> None:
+    """Clock times below an axis in ms since midnight, from the start to the last moment."""
+    from matplotlib.ticker import FuncFormatter, MultipleLocator
+
+    axes.set_xlim(start, last)
+    every = next((each for each in NICE_MINUTES if (last - start) / (each * MINUTE_MS) <= 8), NICE_MINUTES[-1]) * MINUTE_MS
+    if last - start < 2 * MINUTE_MS:
+        every = max(1, (last - start) // 4)
+    axes.xaxis.set_major_locator(MultipleLocator(every))
+    axes.xaxis.set_major_formatter(FuncFormatter(lambda ms, _: clock_text(round(ms))))
+    axes.set_xlabel("time")
+
+
+def moments(one: Loaded, start: int) -> list[int]:
+    """The boundaries in ms since midnight."""
+    return [start + k * one.curves.step_ms for k in range(one.curves.boundaries)]
+
+
+def shares(one: Loaded, names: Sequence[str]) -> list[list[float]]:
+    """For each link and slot the mean of what stands there at the slot's beginning and at its end, in percent of what the link stores."""
+    rows = []
+    for link in joined(one.case, names):
+        on = [int(count) for count in one.curves.on_link(link.name)]
+        rows.append([50 * (a + b) / link.storage_units for a, b in zip(on, on[1:])])
+    return rows
+
+
+def draw_shares(plot: Any, both: Sequence[Loaded], titles: Sequence[str], names: Sequence[str], start: int) -> "Figure":
+    """Time to the right, the way upwards, and as colour how full each link is; two cases side by side with one scale."""
+    figure, found = plot.subplots(1, len(both), figsize=(2 + 6.5 * len(both), 5.5), layout="constrained", squeeze=False, sharey=True)
+    for axes, one, title in zip(found[0], both, titles):
+        path, times = joined(one.case, names), moments(one, start)
+        ends = [0.0]
+        for link in path:
+            ends.append(ends[-1] + link.length_m / 1000)
+        mesh = axes.pcolormesh(times, ends, shares(one, names), cmap=COLOURS, vmin=0, vmax=100, rasterized=True)
+        axes.hlines(ends[1:-1], times[0], times[-1], color="white", linewidth=0.8)
+        axes.set_title(title)
+        clock_axis(axes, times[0], times[-1])
+        by_name = axes.secondary_yaxis("right")
+        by_name.set_yticks([(a + b) / 2 for a, b in zip(ends, ends[1:])], [link.name for link in path])
+        by_name.tick_params(length=0)
+    found[0][0].set_ylabel(f"km from {joined(both[0].case, names)[0].tail}")
+    figure.colorbar(mesh, ax=list(found[0]), label="vehicles on the link, in percent of what it stores", pad=0.02)
+    return figure
+
+
+def draw_newell(plot: Any, one: Loaded, names: Sequence[str], start: int) -> "Figure":
+    """How many vehicles have passed each point of a path: sideways between two curves is the time between the points, upwards what is
+    between them. What was produced at the path's origin stands above."""
+    path, times = joined(one.case, names), moments(one, start)
+    figure, axes = plot.subplots(figsize=(9, 6), layout="constrained")
+    rows = delay.demand_of(one.case).get(path[0].tail)
+    if rows:
+        axes.plot(times, vehicles(delay.produced(rows, one.curves.boundaries)), color="#7a1fa2", linestyle="--", label=f"produced at {path[0].tail}")
+    points: list[tuple[str, Counts]] = [(f"entered {path[0].name}", one.curves.up(path[0].name))]
+    points += [(f"left {link.name}", one.curves.down(link.name)) for link in path]
+    colours = plot.get_cmap("viridis")
+    for place, (label, counts) in enumerate(points):
+        axes.plot(times, vehicles(counts), color=colours(0.92 * place / max(1, len(points) - 1)), label=label)
+    axes.set_title(f"Vehicles past each point, from {path[0].tail} to {path[-1].head}")
+    axes.set_ylabel("vehicles since the start")
+    axes.set_ylim(bottom=0)
+    axes.grid(alpha=0.25)
+    axes.legend(loc="upper left", frameon=False, fontsize="small", ncols=1 + len(points) // 12)
+    clock_axis(axes, times[0], times[-1])
+    return figure
+
+
+def draw_map(plot: Any, both: Sequence[Loaded], folders: Sequence[str], titles: Sequence[str], boundary: int, start: int) -> "Figure":
+    """The network at a boundary, each link coloured by its queue in percent of what it stores; two cases side by side."""
+    from matplotlib.collections import LineCollection
+
+    figure, found = plot.subplots(1, len(both), figsize=(2 + 6 * len(both), 6), layout="constrained", squeeze=False)
+    for axes, one, folder, title in zip(found[0], both, folders, titles):
+        at, bends = places(one, folder)
+        queues = [int(delay.queue(one.curves, link)[min(boundary, one.curves.boundaries - 1)]) for link in one.case.links]
+        parts = [100 * queue / link.storage_units for queue, link in zip(queues, one.case.links)]
+        size = max(max(x for x, _ in at.values()) - min(x for x, _ in at.values()), max(y for _, y in at.values()) - min(y for _, y in at.values())) or 1.0
+        lines = [beside(at[link.tail], at[link.head], 0.004 * size, bend) for link, bend in zip(one.case.links, bends)]
+        axes.add_collection(LineCollection(lines, colors="#c3ccd5", linewidths=1.6, zorder=1))
+        order = sorted(range(len(lines)), key=parts.__getitem__)
+        shown = LineCollection([lines[k] for k in order], cmap=COLOURS, linewidths=[1.6 + 3 * parts[k] / 100 if parts[k] >= LEAST_PERCENT else 0 for k in order], zorder=2)
+        shown.set_array([parts[k] for k in order])
+        shown.set_clim(0, 100)
+        axes.add_collection(shown)
+        if len(at) <= MOST_NAMED:
+            for node, place in at.items():
+                axes.annotate(node, place, xytext=(4, 4), textcoords="offset points", fontsize="small")
+        axes.autoscale()
+        axes.margins(0.08)
+        axes.set_aspect("equal", adjustable="datalim")
+        axes.set_axis_off()
+        axes.set_title(f"{title} at {clock_text(start + boundary * one.curves.step_ms)}")
+    figure.colorbar(shown, ax=list(found[0]), label="queue, in percent of what the link stores", shrink=0.7, pad=0.02)
+    return figure
+
+
+def places(one: Loaded, folder: str) -> tuple[dict[str, Place], list[float]]:
+    """Where the nodes are drawn, and how far each link is bent."""
+    known = read_places(folder, one.case)
+    if known is not None:
+        return known.plane(), [0.0] * len(one.case.links)
+    at = layout.places(one.case.nodes, [(link.tail, link.head, float(link.length_m)) for link in one.case.links])
+    return at, layout.bends(at, [(link.tail, link.head) for link in one.case.links])
+
+
+def beside(one: Place, other: Place, off: float, bend: float) -> list[Place]:
+    """A line to the right of that between two places, so that both directions are seen; bent to the left by so many parts of its length."""
+    east, north = other[0] - one[0], other[1] - one[1]
+    length = (east * east + north * north) ** 0.5 or 1.0
+    right = (north / length, -east / length)
+    steps = 20 if bend else 1
+    points = []
+    for step in range(steps + 1):
+        part = step / steps
+        aside = off - 4 * bend * length * part * (1 - part)
+        points.append((one[0] + part * east + aside * right[0], one[1] + part * north + aside * right[1]))
+    return points

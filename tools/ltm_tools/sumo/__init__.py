@@ -1,0 +1,1 @@
+"""Networks of SUMO, with their vehicles and signals."""

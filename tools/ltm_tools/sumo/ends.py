@@ -1,0 +1,70 @@
+"""Trips that end before a signal: a vehicle of SUMO ends at the end of its last edge, and does not wait for the signal there.
+
+An exit limit holds all that leave a link, those included that are where they want to be. So an edge with a signal, at whose end trips
+end, is cut a step before its end: one part leads on to the signal, and one as long to a node of its own, where the trips end.
+"""
+from __future__ import annotations
+
+from collections.abc import Sequence
+from dataclasses import dataclass, field
+from fractions import Fraction
+
+from ..network.fit import free_name, stretched
+from ..network.network import Network, Node, Road, diagram
+from ..network.route_splits import Route
+
+
+@dataclass
+class Cut:
+    """The parts of edges that were cut: that to the signal, and that to where trips end; and the edges that were too short."""
+
+    exits: dict[str, str] = field(default_factory=dict)
+    stops: dict[str, str] = field(default_factory=dict)
+    too_short: int = 0
+
+
+def cut_ends(network: Network, routes: Sequence[Route], held: set[str], step: int) -> Cut:
+    """Cuts the last edges of routes that end at nodes where an edge with a signal is a last edge."""
+    last = dict.fromkeys(route.links[-1] for route in routes)
+    nodes = dict.fromkeys(network.roads[name].head for name in last if name in held)
+    made = Cut()
+    for node in nodes:
+        edges = [name for name in last if network.roads[name].head == node]
+        if any(network.roads[name].time < 2 * part_time(network.roads[name], step) for name in edges):
+            made.too_short += len(edges)
+            continue
+        end = free_name(f"{node}_end", network.nodes)
+        network.add_node(Node(end, network.nodes[node].x, network.nodes[node].y))
+        for name in edges:
+            cut_one(network, name, end, step, made)
+    return made
+
+
+def part_time(road: Road, step: int) -> Fraction:
+    """The free-flow time in ms of a part of a road that is long enough for a step, rounded up to metres."""
+    link = diagram(road)
+    return Fraction(-(-step * max(link.free_kmh, link.wave_kmh) // 3600) + 1) * 3600 / road.kmh
+
+
+def cut_one(network: Network, name: str, end: str, step: int, made: Cut) -> None:
+    """Cuts an edge before its end."""
+    road = network.roads[name]
+    node, part = road.head, part_time(road, step)
+    middle = free_name(f"{name}_before", network.nodes)
+    network.add_node(Node(middle, network.nodes[node].x, network.nodes[node].y))
+    network.move_head(name, middle)
+    network.roads[name] = stretched(road, -part)
+    rest = stretched(road, part - road.time)
+    for kind, goal, names in (("exit", node, made.exits), ("stop", end, made.stops)):
+        names[name] = free_name(f"{name}_{kind}", network.roads)
+        network.add(Road(names[name], middle, goal, rest.length, rest.time, rest.storage, rest.capacity, rest.kind, (names[name],)))
+
+
+def over_parts(route: Route, cut: Cut) -> Route:
+    """A route over edges as one over their parts."""
+    links: list[str] = []
+    for place, name in enumerate(route.links):
+        links.append(name)
+        if name in cut.exits:
+            links.append((cut.stops if place == len(route.links) - 1 else cut.exits)[name])
+    return Route(tuple(links), route.depart_ms, route.units)

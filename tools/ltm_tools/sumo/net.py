@@ -1,0 +1,228 @@
+"""Reads a network of SUMO (`.net.xml`) and its fixed-time programs.
+
+An edge that cars may use becomes a road: its length and speed are those of its lanes. Inner edges of junctions are passed over,
+as SUMO's mesoscopic run passes over them.
+"""
+from __future__ import annotations
+
+import gzip
+import xml.etree.ElementTree as ElementTree
+from collections.abc import Iterator
+from dataclasses import dataclass, field
+from fractions import Fraction
+from pathlib import Path
+from typing import IO
+
+from ..errors import Fault
+from ..network.network import LEAST_M, Network, Node, road_of
+
+INNER = {"internal", "crossing", "walkingarea"}
+
+
+@dataclass(frozen=True, slots=True)
+class Connection:
+    """A way from a lane of an edge onto another edge, with its signal where it has one."""
+
+    edge: str
+    after: str
+    lane: int
+    signal: str | None
+    index: int
+
+
+@dataclass(frozen=True, slots=True)
+class Program:
+    """A program of a signal: phases of a length in ms, each with a letter for each way."""
+
+    signal: str
+    name: str
+    kind: str
+    offset_ms: int
+    phases: tuple[tuple[int, str], ...]
+
+
+@dataclass
+class Net:
+    """What is read of a net file."""
+
+    network: Network = field(default_factory=Network)
+    lanes: dict[str, list[int]] = field(default_factory=dict)
+    """Of each edge the lanes that cars may use."""
+    connections: list[Connection] = field(default_factory=list)
+    programs: dict[str, Program] = field(default_factory=dict)
+    left_out: dict[str, int] = field(default_factory=dict)
+    """Why edges were left out, and how many."""
+    shorter: int = 0
+    """How many edges are shorter than the least length of a road, and get that."""
+    not_fixed: dict[str, str] = field(default_factory=dict)
+    """The kind of each program that is not of fixed times."""
+
+
+def opened(path: Path) -> IO[bytes]:
+    """A file to read from, unpacked where it is packed by gzip."""
+    try:
+        file = open(path, "rb")
+        packed = file.read(2) == b"\x1f\x8b"
+        file.seek(0)
+    except OSError as error:
+        raise Fault(f"{path}: {(error.strerror or str(error)).lower()}") from None
+    return gzip.open(file) if packed else file  # type: ignore[return-value]
+
+
+def elements(path: Path, depth: int = 1) -> Iterator[ElementTree.Element]:
+    """The elements at a depth below the root, each whole, with the memory of those before given back; the root's start comes first,
+    without what is in it."""
+    level = 0
+    root: ElementTree.Element | None = None
+    try:
+        with opened(path) as file:
+            for event, element in ElementTree.iterparse(file, ("start", "end")):
+                if event == "start":
+                    level += 1
+                    if root is None:
+                        root = element
+                        yield ElementTree.Element(element.tag, element.attrib)
+                    continue
+                level -= 1
+                if level == depth:
+                    yield element
+                    root.clear() if root is not None and depth == 1 else element.clear()
+    except ElementTree.ParseError as error:
+        raise Fault(f"{path}: this is no XML file, or it is cut off: {error}") from None
+    except (EOFError, gzip.BadGzipFile, OSError) as error:
+        raise Fault(f"{path}: it cannot be read: {error}") from None
+
+
+def root_of(path: Path) -> str:
+    """The name of a file's root element."""
+    return next(elements(path)).tag
+
+
+def number(element: ElementTree.Element, name: str, what: str) -> Fraction:
+    """A number that an attribute has."""
+    text = element.get(name, "")
+    try:
+        return Fraction(text)
+    except (ValueError, ZeroDivisionError):
+        raise Fault(f"{what}: {name} is {text!r}, and a number is wanted") from None
+
+
+def whole(element: ElementTree.Element, name: str, default: int) -> int:
+    """A whole number that an attribute has; the default where it is not there."""
+    text = element.get(name)
+    if text is None:
+        return default
+    try:
+        return int(text)
+    except ValueError:
+        raise Fault(f"{element.tag} {element.get('id') or element.get('from', '')}: {name} is {text!r}, and a whole number is wanted") from None
+
+
+def may_use(lane: ElementTree.Element, vehicle_class: str) -> bool:
+    """Whether vehicles of a class may use a lane."""
+    allowed, forbidden = lane.get("allow"), lane.get("disallow")
+    if allowed:
+        return vehicle_class in allowed.split() or allowed == "all"
+    if forbidden:
+        return not (vehicle_class in forbidden.split() or forbidden == "all")
+    return True
+
+
+def read_net(path: Path, *, vehicle_class: str, headway: Fraction, spacing: Fraction) -> Net:
+    """The network in a net file. A lane takes a vehicle every `headway` seconds and the time to drive `spacing` metres, and
+    stores one every `spacing` metres."""
+    net = Net()
+    for element in elements(path):
+        if element.tag == "edge":
+            read_edge(net, element, vehicle_class, headway, spacing)
+        elif element.tag == "junction" and element.get("type") != "internal":
+            x, y = (float(number(element, axis, f"junction {element.get('id')}")) if element.get(axis) else None for axis in "xy")
+            net.network.add_node(Node(element.get("id", ""), x, y))
+        elif element.tag == "connection":
+            read_connection(net, element)
+        elif element.tag == "tlLogic":
+            read_program(net, element)
+        elif element.tag not in ("net", "location", "type", "request", "roundabout", "param", "prohibition", "junction"):
+            if element.tag in ("routes", "nodes", "edges", "additional"):
+                raise Fault(f"{path}: this is no net; its root is {element.tag}. Make one by: netconvert -n NODES -e EDGES -o NET")
+    if not net.network.roads and not net.left_out:
+        raise Fault(f"{path}: no edges; a net of SUMO is wanted, as netconvert writes it")
+    if not net.network.roads:
+        raise Fault(f"{path}: no edge that a {vehicle_class} may use; --vehicle-class names another")
+    net.connections = [way for way in net.connections if way.edge in net.network.roads and way.after in net.network.roads
+                       and way.lane in net.lanes[way.edge]]
+    for node in [node for node in net.network.nodes if not net.network.ins[node] and not net.network.outs[node]]:
+        net.network.drop_node(node)
+    return net
+
+
+def leave_out(net: Net, why: str) -> None:
+    """Counts an edge that is left out."""
+    net.left_out[why] = net.left_out.get(why, 0) + 1
+
+
+def read_edge(net: Net, element: ElementTree.Element, vehicle_class: str, headway: Fraction, spacing: Fraction) -> None:
+    """The road of an edge, where cars may use it."""
+    if element.get("function", "normal") in INNER or element.get("id", "").startswith(":"):
+        return
+    name, tail, head = (element.get(key, "") for key in ("id", "from", "to"))
+    lanes = [lane for lane in element.findall("lane") if may_use(lane, vehicle_class)]
+    if not tail or not head:
+        return leave_out(net, "without ends")
+    if not lanes:
+        return leave_out(net, f"not for a {vehicle_class}")
+    if tail == head:
+        return leave_out(net, "ending where they begin")
+    what = f"edge {name}"
+    metres = sum((number(lane, "length", what) for lane in lanes), Fraction(0)) / len(lanes)
+    speed = sum((number(lane, "speed", what) for lane in lanes), Fraction(0)) / len(lanes)
+    if metres <= 0 or speed <= 0:
+        return leave_out(net, "without length or speed")
+    net.shorter += metres < LEAST_M
+    capacity = len(lanes) * 3600 / (headway + spacing / speed)
+    net.network.add(road_of(name, tail, head, metres=metres, kmh=speed * Fraction(18, 5), jam=1000 / spacing * len(lanes),
+                            capacity=capacity, kind=element.get("type") or element.get("function") or ""))
+    net.lanes[name] = [whole(lane, "index", place) for place, lane in enumerate(lanes)]
+
+
+def read_connection(net: Net, element: ElementTree.Element) -> None:
+    """A way from an edge onto another; those within junctions are passed over."""
+    edge, after = element.get("from", ""), element.get("to", "")
+    if edge.startswith(":") or after.startswith(":"):
+        return
+    lane, index = whole(element, "fromLane", 0), whole(element, "linkIndex", -1)
+    net.connections.append(Connection(edge, after, lane, element.get("tl"), index))
+
+
+def read_program(net: Net, element: ElementTree.Element) -> None:
+    """A program of a signal; the last one of a signal counts, as for SUMO."""
+    signal, kind = element.get("id", ""), element.get("type", "static")
+    if element.get("programID") == "off" or not element.findall("phase"):
+        return
+    what = f"signal {signal}"
+    phases = tuple((nearest_ms(number(phase, "duration", what)), phase.get("state", "")) for phase in element.findall("phase"))
+    if any(length < 0 for length, _ in phases):
+        raise Fault(f"{what}: a phase of {min(length for length, _ in phases) / 1000:g} s; a duration is 0 or more")
+    offset = nearest_ms(number(element, "offset", what)) if element.get("offset") else 0
+    net.programs[signal] = Program(signal, element.get("programID", ""), kind, offset, phases)
+    net.not_fixed.pop(signal, None)
+    if kind not in ("static", ""):
+        net.not_fixed[signal] = kind
+
+
+def read_programs(net: Net, path: Path) -> int:
+    """The programs of an additional file, over those of the net; how many there are."""
+    known = {way.signal for way in net.connections}
+    count = 0
+    for element in elements(path):
+        if element.tag == "tlLogic":
+            read_program(net, element)
+            count += 1
+            if element.get("id") not in known:
+                raise Fault(f"{path}: signal {element.get('id')} holds no way of the net; the file belongs to another net")
+    return count
+
+
+def nearest_ms(time: Fraction) -> int:
+    """Seconds in whole milliseconds."""
+    return int(time * 1000 + Fraction(1, 2))

@@ -1,0 +1,248 @@
+"""Reads vehicles of SUMO (`.rou.xml`, `.trips.xml`, `.flows.xml`): their edges or their ends, when they set out, and how many.
+
+A flow with a rate is spread over its time in thousandths of a vehicle; one with a number sets out as its single vehicles do.
+"""
+from __future__ import annotations
+
+import xml.etree.ElementTree as ElementTree
+from collections.abc import Iterator
+from dataclasses import dataclass, field
+from fractions import Fraction
+from pathlib import Path
+
+from ..errors import Fault
+from ..formats import UNITS
+from .net import elements
+
+NOT_ON_ROADS = {"pedestrian", "bicycle", "rail", "rail_urban", "rail_electric", "rail_fast", "tram", "subway", "ship", "aircraft", "scooter", "cable_car"}
+RATE_PART_S = 60
+"""A flow with a rate is cut into parts of so many seconds."""
+
+
+@dataclass(frozen=True, slots=True)
+class Vehicles:
+    """Vehicles (thousandths) that set out at a time in ms over edges; where these are not known, by way of these alone."""
+
+    edges: tuple[str, ...]
+    whole: bool
+    depart_ms: int
+    units: int
+
+
+@dataclass
+class Found:
+    """What is read of files of vehicles."""
+
+    vehicles: list[Vehicles] = field(default_factory=list)
+    left_out: dict[str, int] = field(default_factory=dict)
+    """Why vehicles were left out, and how many thousandths."""
+    routes: dict[str, list[tuple[tuple[str, ...], Fraction]]] = field(default_factory=dict)
+    """Of each named route, or distribution of routes, the edges with shares."""
+    classes: dict[str, str] = field(default_factory=dict)
+    """The class of vehicles of each type."""
+
+    def leave_out(self, why: str, units: int) -> None:
+        """Counts vehicles that are left out."""
+        self.left_out[why] = self.left_out.get(why, 0) + units
+
+
+def read_vehicles(paths: list[Path]) -> Found:
+    """The vehicles of some files, in their order; types and routes may stand in another file."""
+    found = Found()
+    for path in paths:
+        for element in elements(path):
+            read_element(found, element, str(path))
+    return found
+
+
+def read_element(found: Found, element: ElementTree.Element, place: str) -> None:
+    """One element of a file: a type, a route, vehicles, a trip or a flow."""
+    tag = element.tag
+    if tag == "vType":
+        found.classes[element.get("id", "")] = element.get("vClass", "passenger")
+    elif tag == "vTypeDistribution":
+        for one in element.findall("vType"):
+            read_element(found, one, place)
+        classes = {one.get("vClass", "passenger") for one in element.findall("vType")}
+        if len(classes) == 1:
+            found.classes[element.get("id", "")] = classes.pop()
+    elif tag == "route":
+        found.routes[element.get("id", "")] = [(edges_of(element), Fraction(1))]
+    elif tag == "routeDistribution":
+        found.routes[element.get("id", "")] = distribution(found, element, place)
+    elif tag in ("vehicle", "trip", "flow"):
+        read_one(found, element, place)
+    elif tag in ("person", "personFlow", "container", "containerFlow"):
+        found.leave_out("persons and containers", UNITS)
+
+
+def edges_of(element: ElementTree.Element) -> tuple[str, ...]:
+    """The edges of a route."""
+    return tuple(element.get("edges", "").replace(",", " ").split())
+
+
+def distribution(found: Found, element: ElementTree.Element, place: str) -> list[tuple[tuple[str, ...], Fraction]]:
+    """The routes of a distribution with shares that sum to 1; that of the one that was chosen last, where that is said."""
+    routes: list[tuple[tuple[str, ...], Fraction]] = []
+    names, chances = element.get("routes", "").split(), element.get("probabilities", "").split()
+    for position, name in enumerate(names):
+        if name not in found.routes:
+            raise Fault(f"{place}: route {name} is used before it is known; give the file with it first")
+        chance = exact(chances[position], place) if position < len(chances) else Fraction(1)
+        routes += [(edges, share * chance) for edges, share in found.routes[name]]
+    inner = element.findall("route")
+    last = element.get("last")
+    if last is not None and last.isdigit() and int(last) < len(inner):
+        return [(edges_of(inner[int(last)]), Fraction(1))]
+    for route in inner:
+        share = exact(route.get("probability", "1"), place)
+        if route.get("refId"):
+            routes += [(edges, part * share) for edges, part in found.routes.get(route.get("refId", ""), [])]
+        else:
+            routes.append((edges_of(route), share))
+            if route.get("id"):
+                found.routes[route.get("id", "")] = [(edges_of(route), Fraction(1))]
+    whole = sum((share for _, share in routes), Fraction(0))
+    if whole <= 0:
+        raise Fault(f"{place}: distribution {element.get('id', '')} has no route of a probability above 0")
+    return [(edges, share / whole) for edges, share in routes if share]
+
+
+def read_one(found: Found, element: ElementTree.Element, place: str) -> None:
+    """The vehicles of a vehicle, a trip or a flow."""
+    what = f"{place}: {element.tag} {element.get('id', '')}"
+    kind = found.classes.get(element.get("type", ""), "passenger")
+    departures = list(departures_of(element, what))
+    units = sum(amount for _, amount in departures)
+    if kind in NOT_ON_ROADS:
+        return found.leave_out(f"of class {kind}", units)
+    if not departures:
+        return found.leave_out("that wait for a person, a container or another vehicle", UNITS)
+    ways, whole = ways_of(found, element, what)
+    if not ways:
+        return found.leave_out("between zones or junctions (duarouter gives them edges)", units)
+    for depart, amount in departures:
+        given = 0
+        for number, (edges, share) in enumerate(ways):
+            part = amount - given if number == len(ways) - 1 else int(amount * share)
+            given += part
+            if part:
+                found.vehicles.append(Vehicles(edges, whole, depart, part))
+
+
+def ways_of(found: Found, element: ElementTree.Element, what: str) -> tuple[list[tuple[tuple[str, ...], Fraction]], bool]:
+    """The edges with shares, and whether they are whole routes; none where its ends are no edges."""
+    inner, several = element.find("route"), element.find("routeDistribution")
+    if inner is not None:
+        return [(edges_of(inner), Fraction(1))], True
+    if several is not None:
+        return distribution(found, several, what), True
+    name = element.get("route")
+    if name is not None:
+        if name not in found.routes:
+            raise Fault(f"{what}: route {name} is not known; give the file with it before this one")
+        return found.routes[name], True
+    start, end = element.get("from"), element.get("to")
+    if not start or not end:
+        return [], False
+    return [((start, *element.get("via", "").split(), end), Fraction(1))], False
+
+
+def departures_of(element: ElementTree.Element, what: str) -> Iterator[tuple[int, int]]:
+    """When how many thousandths of vehicles set out; none where that is not told by a time."""
+    if element.tag != "flow":
+        text = element.get("depart", "")
+        if text == "begin":
+            text = "0"
+        if text in ("triggered", "containerTriggered", "split", "now"):
+            return
+        yield int(seconds_of(text, what) * 1000), UNITS
+        return
+    begin = seconds_of(element.get("begin", "0"), what)
+    period, count = element.get("period", ""), element.get("number")
+    rate = rate_of(element, period, what)
+    end = end_of(element, begin, rate, count, what)
+    if count is not None and not (rate is not None and period.startswith("exp")):
+        yield from single(begin, end, whole_number(count, what))
+    elif rate is not None and period and not period.startswith("exp"):
+        yield from single(begin, end, -(-(end - begin) * rate.numerator // rate.denominator))
+    elif rate is not None:
+        yield from by_rate(begin, end, rate)
+    else:
+        raise Fault(f"{what}: it has no number, period, vehsPerHour or probability; give one")
+
+
+def rate_of(element: ElementTree.Element, period: str, what: str) -> Fraction | None:
+    """The vehicles a second of a flow, where it has a rate."""
+    if period:
+        if period.startswith("exp"):
+            return exact(period.removeprefix("exp").strip("()"), what)
+        seconds = exact(period, what)
+        if seconds <= 0:
+            raise Fault(f"{what}: a period of {period}; it is above 0")
+        return 1 / seconds
+    for name in ("vehsPerHour", "perHour"):
+        if element.get(name):
+            return exact(element.get(name, ""), what) / 3600
+    return exact(element.get("probability", ""), what) if element.get("probability") else None
+
+
+def end_of(element: ElementTree.Element, begin: Fraction, rate: Fraction | None, count: str | None, what: str) -> Fraction:
+    """The end of a flow in seconds."""
+    if element.get("end"):
+        end = seconds_of(element.get("end", ""), what)
+    elif count is not None and rate:
+        end = begin + whole_number(count, what) / rate
+    else:
+        raise Fault(f"{what}: it has no end; give one, as end=\"3600\"")
+    if end < begin:
+        raise Fault(f"{what}: it ends at {float(end):g} s, before it begins")
+    return end
+
+
+def single(begin: Fraction, end: Fraction, count: int) -> Iterator[tuple[int, int]]:
+    """Single vehicles at even distances from the beginning on."""
+    for number in range(count):
+        yield int((begin + (end - begin) * number / count) * 1000), UNITS
+
+
+def by_rate(begin: Fraction, end: Fraction, rate: Fraction) -> Iterator[tuple[int, int]]:
+    """The thousandths of a flow by parts of a minute, each in the middle of its part; they sum to the whole."""
+    given, start = 0, begin
+    while start < end:
+        stop = min(start + RATE_PART_S, end)
+        due = int((stop - begin) * rate * UNITS)
+        if due > given:
+            yield int((start + stop) / 2 * 1000), due - given
+        given, start = due, stop
+
+
+def exact(text: str, what: str) -> Fraction:
+    """A number that is 0 or more."""
+    try:
+        value = Fraction(text)
+    except (ValueError, ZeroDivisionError):
+        raise Fault(f"{what}: {text!r} is no number") from None
+    if value < 0:
+        raise Fault(f"{what}: {text} is below 0")
+    return value
+
+
+def whole_number(text: str, what: str) -> int:
+    """A whole number that is 0 or more."""
+    value = exact(text, what)
+    if value.denominator != 1:
+        raise Fault(f"{what}: {text!r} is no whole number")
+    return int(value)
+
+
+def seconds_of(text: str, what: str) -> Fraction:
+    """A time of SUMO in seconds: a number, or hours, minutes and seconds, or days before these."""
+    parts = text.split(":")
+    try:
+        values = [Fraction(part) for part in parts]
+        if len(values) == 1 or len(values) in (3, 4):
+            return sum((value * scale for value, scale in zip(reversed(values), (1, 60, 3600, 86_400))), Fraction(0))
+    except (ValueError, ZeroDivisionError):
+        pass
+    raise Fault(f"{what}: {text!r} is no time; seconds, or H:M:S, are wanted")

@@ -1,0 +1,1 @@
+"""Many scenarios of a case, here and on a cluster."""
