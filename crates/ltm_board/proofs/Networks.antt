@@ -5,7 +5,7 @@ use Rattle.ltm_scenario.specs.declared.edit.EditCause.{EditCause}
 use Rattle.ltm_scenario.specs.Data.{ScenarioData}
 use Rattle.ltm_scenario.specs.Build.{◌>>=◌}
 use Rattle.ltm_scenario.specs.Edits.{edited, edited_from, at_place}
-use Rattle.ltm_scenario.specs.Makes.{Makes, EditsMake, demand, entry, exit, split, diagram, horizon}
+use Rattle.ltm_scenario.specs.Makes.{Makes, EditsMake, demand, entry, exit, split, splits, diagram, horizon}
 use Rattle.ltm_core.specs.Log.{AreAccepted, after_batch, after_batches}
 
 made : (s next : ScenarioData) (edit : Edit) → Makes s next edit → next.network ≡ s.network
@@ -13,6 +13,7 @@ made s next edit (demand origin destination from to amount row said) = refl
 made s next edit (entry name from to amount link said) = refl
 made s next edit (exit name from to amount link said) = refl
 made s next edit (split node destination from weights key said) = refl
+made s next edit (splits node destination rows n d said) = refl
 made s next edit (diagram name new link named sets) = refl
 made s next edit (horizon slots said) = refl
 

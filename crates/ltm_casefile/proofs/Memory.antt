@@ -18,6 +18,7 @@ use Rattle.ltm_scenario.specs.Reads.{has_no_out_link}
 use Rattle.ltm_scenario.specs.Edits.{is_out_link, weights_at}
 use Rattle.ltm_splits.specs.Rows.{key_of}
 use Rattle.ltm_scenario.specs.Check.{Checked, checked}
+use Rattle.ltm_units.specs.Bounds.{default_demand_rows, default_split_rows, default_links, default_destinations}
 use Rattle.ltm_scenario.specs.Setup.{setup_checked, default_cells}
 use Rattle.ltm_scenario.specs.declared.side.Side.{Side}
 use Rattle.ltm_scenario.specs.declared.side.Side.TheVariants as side
@@ -44,7 +45,7 @@ use Rattle.ltm_casefile.specs.Causes.{taken}
 use Rattle.ltm_casefile.specs.Rows.{at_row, rows_from, below_header}
 use Rattle.ltm_casefile.specs.Fields.{has_width, name_in, number_in, amount_in, weights_in}
 use Rattle.ltm_casefile.specs.Setup.{number_if, setup_record, flags_checked, in_range, opened, setup_read, only_row, setup_of}
-use Rattle.ltm_casefile.specs.Columns.{limits_field, cells_field, width_of, columns_of, is_setup_header}
+use Rattle.ltm_casefile.specs.Columns.{limits_field, cells_field, rows_field, links_field, destinations_field, moves_field, width_of, columns_of, is_setup_header}
 use Rattle.ltm_casefile.specs.Links.{link_record, cause_of_link, link_added}
 use Rattle.ltm_casefile.specs.Links as links
 use Rattle.ltm_casefile.specs.Demand.{demand_record, demand_ends, demand_row, place_of, with_demand_record, demand_added}
@@ -121,7 +122,7 @@ unfolding network.checked
 checked_told d name tail head =
     tested_told (stop (is_some (network.find_link d name)) refusal.TwiceNamed) _ (stop_told (is_some (network.find_link d name)) refusal.TwiceNamed tt)
     (tested_told (stop (same tail head) refusal.SelfLoop) _ (stop_told (same tail head) refusal.SelfLoop tt)
-    (tested_told (stop (nat_le 4000 (length d.links)) refusal.TooManyLinks) _ (stop_told (nat_le 4000 (length d.links)) refusal.TooManyLinks tt)
+    (tested_told (stop (nat_le d.most_links (length d.links)) refusal.TooManyLinks) _ (stop_told (nat_le d.most_links (length d.links)) refusal.TooManyLinks tt)
     (tested_told (stop (nat_le 4 (network.out_degree d tail)) refusal.TooManyOut) _ (stop_told (nat_le 4 (network.out_degree d tail)) refusal.TooManyOut tt)
     (stop_told (nat_le 4 (network.in_degree d head)) refusal.TooManyIn tt))))
 
@@ -246,7 +247,12 @@ setup_record_clean columns fields =
     then_clean (amount_in fields 3) _ (looked _ (cause.Field 3) tt) (λ capacity.
     then_clean (number_if columns.signals 0 fields 4) _ (number_clean columns.signals 0 fields 4) (λ signals.
     then_clean (number_if columns.limits 0 fields (limits_field columns)) _ (number_clean columns.limits 0 fields (limits_field columns)) (λ limits.
-    then_clean (number_if columns.cells default_cells fields (cells_field columns)) _ (number_clean columns.cells default_cells fields (cells_field columns)) (λ cells. fine _ _)))))))
+    then_clean (number_if columns.cells default_cells fields (cells_field columns)) _ (number_clean columns.cells default_cells fields (cells_field columns)) (λ cells.
+    then_clean (number_if columns.rows default_demand_rows fields (rows_field columns)) _ (number_clean columns.rows default_demand_rows fields (rows_field columns)) (λ demand_rows.
+    then_clean (number_if columns.rows default_split_rows fields (rows_field columns)) _ (number_clean columns.rows default_split_rows fields (rows_field columns)) (λ split_rows.
+    then_clean (number_if columns.links default_links fields (links_field columns)) _ (number_clean columns.links default_links fields (links_field columns)) (λ links.
+    then_clean (number_if columns.destinations default_destinations fields (destinations_field columns)) _ (number_clean columns.destinations default_destinations fields (destinations_field columns)) (λ destinations.
+    then_clean (number_if columns.moves 0 fields (moves_field columns)) _ (number_clean columns.moves 0 fields (moves_field columns)) (λ moves. fine _ _))))))))))))
 
 flags_clean : (columns : Columns) (r : SetupRecord) → Clean (flags_checked columns r)
 flags_clean columns r =
@@ -254,9 +260,12 @@ flags_clean columns r =
     refused (nat_lt 1 r.limits) (cause.Range (limits_field columns)) tt)
 
 in_range_clean : (columns : Columns) (r : SetupRecord) (checked : Result (Unit {0}) SetupFault) → Clean (in_range columns r checked)
-in_range_clean columns r (Ok x) = flags_clean columns r
+in_range_clean columns r (Ok x) = then_clean (flags_checked columns r) _ (flags_clean columns r) (λ _. refused (nat_lt 1 r.moves) (cause.Range (moves_field columns)) tt)
 in_range_clean columns r (Err (setup_fault.Range field)) = wrong IsNoWant _ tt
 in_range_clean columns r (Err setup_fault.MostCells) = then_clean (flags_checked columns r) _ (flags_clean columns r) (λ _. wrong IsNoWant _ tt)
+in_range_clean columns r (Err setup_fault.MostRows) = then_clean (flags_checked columns r) _ (flags_clean columns r) (λ _. wrong IsNoWant _ tt)
+in_range_clean columns r (Err setup_fault.MostLinks) = then_clean (flags_checked columns r) _ (flags_clean columns r) (λ _. wrong IsNoWant _ tt)
+in_range_clean columns r (Err setup_fault.MostDestinations) = then_clean (flags_checked columns r) _ (flags_clean columns r) (λ _. wrong IsNoWant _ tt)
 
 opened_clean : (columns : Columns) (r : SetupRecord) → Clean (opened columns r)
 opened_clean columns r = then_clean (in_range columns r (setup_checked r.setup)) _ (in_range_clean columns r (setup_checked r.setup)) (λ _. fine _ _)

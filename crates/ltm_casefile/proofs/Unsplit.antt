@@ -60,7 +60,7 @@ taken_keeps s (Ok next) cause keeps = keeps
 taken_keeps s (Err fault) cause keeps = tt
 
 destination_keeps : (s : ScenarioData) (node : ℕ) → Keeps s (with_destination s node)
-destination_keeps s node = then_keeps s (with_destination_at s.destinations node (destination_of s.destinations node)) _ (λ destinations. refl)
+destination_keeps s node = then_keeps s (with_destination_at s.setup.most_destinations s.destinations node (destination_of s.destinations node)) _ (λ destinations. refl)
 
 demand_set_keeps : (s : ScenarioData) (row : DemandRow) → Keeps s (with_demand s row)
 demand_set_keeps s row = then_keeps s (demand.with_row (demand_of s) row) _ (λ next. refl)

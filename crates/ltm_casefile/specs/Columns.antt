@@ -1,4 +1,4 @@
--- The header of a setup: three columns, and then any of signals, limits and cells, in this order.
+-- The header of a setup: three columns, and then any of signals, limits, cells, rows, links, destinations and moves, in this order.
 use Rattle.std.specs.Prelude.{ℕ, ◌+◌, ◌==◌, ◌&&◌, codes, Bool, if◌then◌else◌, length}
 use Rattle.ltm_records.specs.Fields.{Fields, has}
 use Rattle.ltm_casefile.specs.declared.columns.Columns.{Columns}
@@ -7,24 +7,45 @@ use Rattle.ltm_casefile.specs.declared.columns.Columns.{Columns}
 abbrev pub one_if : Bool → ℕ
 one_if there = if there then 1 else 0
 
--- where the field of the limits stands in a record, and that of the cells, counted from 1; that of the signals is the fourth
+-- where a field stands in a record, counted from 1; that of the signals is the fourth
 abbrev pub limits_field : Columns → ℕ
 limits_field c = 4 + one_if c.signals
 
 abbrev pub cells_field : Columns → ℕ
-cells_field c = 4 + one_if c.signals + one_if c.limits
+cells_field c = limits_field c + one_if c.limits
+
+abbrev pub rows_field : Columns → ℕ
+rows_field c = cells_field c + one_if c.cells
+
+abbrev pub links_field : Columns → ℕ
+links_field c = rows_field c + one_if c.rows
+
+abbrev pub destinations_field : Columns → ℕ
+destinations_field c = links_field c + one_if c.links
+
+abbrev pub moves_field : Columns → ℕ
+moves_field c = destinations_field c + one_if c.destinations
 
 -- how many fields a record has
 abbrev pub width_of : Columns → ℕ
-width_of c = 3 + one_if c.signals + one_if c.limits + one_if c.cells
+width_of c = 3 + one_if c.signals + one_if c.limits + one_if c.cells + one_if c.rows + one_if c.links + one_if c.destinations + one_if c.moves
 
--- which of the three a header has
-abbrev pub columns_of : Fields → Columns
+-- which of the seven a header has
+unfoldable pub columns_of : Fields → Columns
 columns_of fields =
     let signals = has fields 3 (codes "signals") in
-    let limits = has fields (3 + one_if signals) (codes "limits") in
-    let cells = has fields (3 + one_if signals + one_if limits) (codes "cells") in
-    record { signals = signals; limits = limits; cells = cells }
+    let limits_at = 3 + one_if signals in
+    let limits = has fields limits_at (codes "limits") in
+    let cells_at = limits_at + one_if limits in
+    let cells = has fields cells_at (codes "cells") in
+    let rows_at = cells_at + one_if cells in
+    let rows = has fields rows_at (codes "rows") in
+    let links_at = rows_at + one_if rows in
+    let links = has fields links_at (codes "links") in
+    let destinations_at = links_at + one_if links in
+    let destinations = has fields destinations_at (codes "destinations") in
+    let moves = has fields (destinations_at + one_if destinations) (codes "moves") in
+    record { signals = signals; limits = limits; cells = cells; rows = rows; links = links; destinations = destinations; moves = moves }
 
 -- a header has no other column
 abbrev pub is_setup_header : Fields → Bool

@@ -1,8 +1,9 @@
 -- What the setup says.
 use Rattle.std.specs.Prelude.{ℕ, ◌==◌, not, nat_lt, Bool, if◌then◌else◌, List, [], ◌∷◌, length, Result, Ok, Err}
+use Rattle.ltm_units.specs.Bounds.{default_demand_rows, default_split_rows, default_links, default_destinations}
 use Rattle.ltm_units.specs.Results.{refuse}
 use Rattle.ltm_scenario.specs.declared.setup.SetupFault.{SetupFault}
-use Rattle.ltm_scenario.specs.declared.setup.SetupFault.TheVariants.{Range as OutOfRange, MostCells}
+use Rattle.ltm_scenario.specs.declared.setup.SetupFault.TheVariants.{Range as OutOfRange, MostCells, MostRows, MostLinks, MostDestinations}
 use Rattle.ltm_scenario.specs.Setup.{setup_checked, default_cells}
 use Rattle.ltm_scenario.specs.Data.{empty_scenario}
 use Rattle.ltm_scenario.specs.Build.{◌>>=◌}
@@ -15,7 +16,7 @@ use Rattle.ltm_casefile.specs.declared.faults.File.TheVariants as file
 use Rattle.ltm_casefile.specs.declared.columns.Columns.{Columns}
 use Rattle.ltm_casefile.specs.declared.setup.SetupRecord.{SetupRecord}
 use Rattle.ltm_casefile.specs.declared.setup.Opened.{Opened}
-use Rattle.ltm_casefile.specs.Columns.{limits_field, cells_field, width_of, columns_of, is_setup_header}
+use Rattle.ltm_casefile.specs.Columns.{limits_field, cells_field, rows_field, links_field, destinations_field, moves_field, width_of, columns_of, is_setup_header}
 use Rattle.ltm_casefile.specs.Fields.{has_width, number_in, amount_in}
 use Rattle.ltm_casefile.specs.Rows.{at_row, below_header}
 
@@ -23,7 +24,8 @@ use Rattle.ltm_casefile.specs.Rows.{at_row, below_header}
 abbrev pub number_if : Bool → ℕ → Fields → ℕ → Result ℕ CaseCause
 number_if there absent fields field = if there then number_in fields field else Ok absent
 
--- step in milliseconds, slots, origin capacity, and then signals, limits and cells, below a header with these columns
+-- step in milliseconds, slots, origin capacity, and then signals, limits and what bounds the case, below a header with these
+-- columns; one column says how many rows of demand there may be, and how many of splits
 unfoldable pub setup_record : Columns → Fields → Result SetupRecord CaseCause
 setup_record columns fields =
     has_width fields (width_of columns) >>= λ _.
@@ -33,7 +35,27 @@ setup_record columns fields =
     number_if columns.signals 0 fields 4 >>= λ signals.
     number_if columns.limits 0 fields (limits_field columns) >>= λ limits.
     number_if columns.cells default_cells fields (cells_field columns) >>= λ cells.
-    Ok (record { setup = record { step = record { 0 = step }; slots = slots; origin_capacity = capacity; most_cells = cells }; signals = signals; limits = limits })
+    number_if columns.rows default_demand_rows fields (rows_field columns) >>= λ demand_rows.
+    number_if columns.rows default_split_rows fields (rows_field columns) >>= λ split_rows.
+    number_if columns.links default_links fields (links_field columns) >>= λ links.
+    number_if columns.destinations default_destinations fields (destinations_field columns) >>= λ destinations.
+    number_if columns.moves 0 fields (moves_field columns) >>= λ moves.
+    Ok (record {
+      setup = record {
+        step = record { 0 = step };
+        slots = slots;
+        origin_capacity = capacity;
+        most_cells = cells;
+        most_demand_rows = demand_rows;
+        most_split_rows = split_rows;
+        most_links = links;
+        most_destinations = destinations;
+        by_turn = moves == 1;
+      };
+      signals = signals;
+      limits = limits;
+      moves = moves;
+    })
 
 -- signals and limits are 0 or 1
 abbrev pub flags_checked : Columns → SetupRecord → Result (Unit {0}) CaseCause
@@ -41,11 +63,19 @@ flags_checked columns r =
     refuse (nat_lt 1 r.signals) (Range 4) >>= λ _.
     refuse (nat_lt 1 r.limits) (Range (limits_field columns))
 
--- the first field that is out of its limits, in the order of the header: signals and limits stand before the cells
+-- a field is out of its limits, and is the first unless signals or limits are
+abbrev pub after_flags : Columns → SetupRecord → ℕ → Result (Unit {0}) CaseCause
+after_flags columns r field = flags_checked columns r >>= λ _. Err (Range field)
+
+-- the first field that is out of its limits, in the order of the header: signals and limits stand before what bounds the
+-- case, and moves, which is 0 or 1, behind that
 abbrev pub in_range : Columns → SetupRecord → Result (Unit {0}) SetupFault → Result (Unit {0}) CaseCause
-in_range columns r (Ok x) = flags_checked columns r
+in_range columns r (Ok x) = flags_checked columns r >>= λ _. refuse (nat_lt 1 r.moves) (Range (moves_field columns))
 in_range columns r (Err (OutOfRange field)) = Err (Range field)
-in_range columns r (Err MostCells) = flags_checked columns r >>= λ _. Err (Range (cells_field columns))
+in_range columns r (Err MostCells) = after_flags columns r (cells_field columns)
+in_range columns r (Err MostRows) = after_flags columns r (rows_field columns)
+in_range columns r (Err MostLinks) = after_flags columns r (links_field columns)
+in_range columns r (Err MostDestinations) = after_flags columns r (destinations_field columns)
 
 -- a scenario without links, and which files of limits come with it
 abbrev pub opened : Columns → SetupRecord → Result Opened CaseCause

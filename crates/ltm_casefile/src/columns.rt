@@ -1,7 +1,7 @@
 //! The header of a setup.
 ghost use Rattle.std.specs.Prelude.{◌≡◌, ◌≤◌};
 ghost use Rattle.csv.specs.Records.{fields_of};
-ghost use Rattle.ltm_casefile.specs.Columns.{one_if, limits_field, cells_field, width_of, columns_of, is_setup_header};
+ghost use Rattle.ltm_casefile.specs.Columns.{one_if, limits_field, cells_field, rows_field, links_field, destinations_field, moves_field, width_of, columns_of, is_setup_header};
 
 use csv::ByteRecord;
 use ltm_records::{has, width};
@@ -15,6 +15,14 @@ pub struct Columns {
     pub limits: bool,
     /// The most cells that the case may have.
     pub cells: bool,
+    /// The most rows of demand, and the most split rows.
+    pub rows: bool,
+    /// The most links.
+    pub links: bool,
+    /// The most destinations.
+    pub destinations: bool,
+    /// Whether turns are floored whole.
+    pub moves: bool,
 }
 
 fn one_if(there: bool) -> u32
@@ -26,17 +34,31 @@ fn one_if(there: bool) -> u32
 
 impl Columns {
     /// Those of a header.
+    #[tactic(auto, unfolding(crate::specs::Columns::columns_of))]
     pub fn of(header: &ByteRecord) -> Columns
         ensures { result ≡ columns_of (fields_of header.now) }
     {
         let signals = has(header, 3, b"signals");
-        let limits = has(header, 3 + one_if(signals) as usize, b"limits");
-        let place = 3 + one_if(signals) + one_if(limits);
-        let cells = has(header, place as usize, b"cells");
+        let limits_at = 3 + one_if(signals) as usize;
+        let limits = has(header, limits_at, b"limits");
+        let cells_at = limits_at + one_if(limits) as usize;
+        let cells = has(header, cells_at, b"cells");
+        let rows_at = cells_at + one_if(cells) as usize;
+        let rows = has(header, rows_at, b"rows");
+        let links_at = rows_at + one_if(rows) as usize;
+        let links = has(header, links_at, b"links");
+        let destinations_at = links_at + one_if(links) as usize;
+        let destinations = has(header, destinations_at, b"destinations");
+        let moves_at = destinations_at + one_if(destinations) as usize;
+        let moves = has(header, moves_at, b"moves");
         Columns {
             signals,
             limits,
             cells,
+            rows,
+            links,
+            destinations,
+            moves,
         }
     }
 
@@ -44,25 +66,61 @@ impl Columns {
     pub fn width(self) -> usize
         ensures { result ≡ width_of self }
     {
-        (3 + one_if(self.signals) + one_if(self.limits) + one_if(self.cells)) as usize
+        let sizes = one_if(self.cells) + one_if(self.rows) + one_if(self.links);
+        let others = one_if(self.destinations) + one_if(self.moves);
+        (3 + one_if(self.signals) + one_if(self.limits) + sizes + others) as usize
     }
 
     /// Where the field of the limits stands, counted from 1.
     pub fn limits_field(self) -> u32
-        ensures { result ≡ limits_field self }
+        ensures field { result ≡ limits_field self }
+        ensures small { result ≤ 5 }
     {
         4 + one_if(self.signals)
     }
 
-    /// Where the field of the cells stands, counted from 1.
+    /// Where the field of the cells stands.
     pub fn cells_field(self) -> u32
-        ensures { result ≡ cells_field self }
+        ensures field { result ≡ cells_field self }
+        ensures small { result ≤ 6 }
     {
-        4 + one_if(self.signals) + one_if(self.limits)
+        self.limits_field() + one_if(self.limits)
+    }
+
+    /// Where the field of the rows stands.
+    pub fn rows_field(self) -> u32
+        ensures field { result ≡ rows_field self }
+        ensures small { result ≤ 7 }
+    {
+        self.cells_field() + one_if(self.cells)
+    }
+
+    /// Where the field of the links stands.
+    pub fn links_field(self) -> u32
+        ensures field { result ≡ links_field self }
+        ensures small { result ≤ 8 }
+    {
+        self.rows_field() + one_if(self.rows)
+    }
+
+    /// Where the field of the destinations stands.
+    pub fn destinations_field(self) -> u32
+        ensures field { result ≡ destinations_field self }
+        ensures small { result ≤ 9 }
+    {
+        self.links_field() + one_if(self.links)
+    }
+
+    /// Where the field of the moves stands.
+    pub fn moves_field(self) -> u32
+        ensures { result ≡ moves_field self }
+    {
+        self.destinations_field() + one_if(self.destinations)
     }
 }
 
-/// Whether the record is `step_ms,slots,origin_capacity`, then any of `signals`, `limits` and `cells` in this order.
+/// Whether the record is `step_ms,slots,origin_capacity`, then any of `signals`, `limits`, `cells`, `rows`, `links`,
+/// `destinations` and `moves` in this order.
 pub fn is_setup_header(row: &ByteRecord) -> bool
     ensures { result ≡ is_setup_header (fields_of row.now) }
 {

@@ -15,7 +15,7 @@ use std::alloc::Global;
 use std::marker::Model;
 
 /// The most bytes that a file of a case may have.
-const MOST: u64 = 16_777_216;
+pub const LONGEST_FILE: u64 = 16_777_216;
 
 impl File {
     /// The file of the folder; None for the whole case.
@@ -169,7 +169,7 @@ fn fetch<F: Folder>(alloc: Global, folder: &mut F, file: File) -> Result<FileTex
         unreachable!();
     };
     let mut bytes = Vec::new(alloc);
-    match folder.fetch(doc, &mut bytes, MOST) {
+    match folder.fetch(doc, &mut bytes, LONGEST_FILE) {
         Fetched::Found => Ok(FileText { bytes }),
         Fetched::TooLong => Err(CaseFault::TooLong(file)),
         Fetched::Failed => Err(CaseFault::Folder(file)),

@@ -23,5 +23,6 @@ mod tables;
 
 pub use case::{check_case, read_case};
 pub use faults::{CaseCause, CaseFault, File};
+pub use fetch::LONGEST_FILE;
 pub use laws::memory_is_never_a_bad_case;
 pub use roads::read_roads;

@@ -4,14 +4,17 @@ ghost use Rattle.csv.specs.Records.{fields_of};
 ghost use Rattle.ltm_records.specs.Left.{records_of};
 ghost use Rattle.ltm_casefile.specs.Faults.{Says};
 ghost use Rattle.ltm_casefile.specs.Columns.{columns_of};
-ghost use Rattle.ltm_casefile.specs.Setup.{number_if, setup_record, flags_checked, in_range, opened, setup_read, only_row, setup_of};
+ghost use Rattle.ltm_casefile.specs.Setup.{number_if, setup_record, flags_checked, after_flags, in_range, opened, setup_read, only_row, setup_of};
 
 use crate::columns::{Columns, is_setup_header};
 use crate::faults::{CaseCause, CaseFault, File};
 use crate::fields::{check_width, read_amount, read_number};
 use csv::ByteRecord;
+use ltm_demand::DEFAULT_DEMAND_ROWS;
+use ltm_network::DEFAULT_LINKS;
 use ltm_records::Records;
-use ltm_scenario::{MOST_CELLS, Scenario, Setup, SetupFault};
+use ltm_scenario::{DEFAULT_CELLS, DEFAULT_DESTINATIONS, Scenario, Setup, SetupFault};
+use ltm_splits::DEFAULT_SPLIT_ROWS;
 use ltm_units::Millis;
 use std::alloc::Global;
 
@@ -23,6 +26,8 @@ pub struct SetupRecord {
     pub signals: u32,
     /// 1 where a file of entry limits comes with the case.
     pub limits: u32,
+    /// 1 where turns are floored whole.
+    pub moves: u32,
 }
 
 /// Which files of limits the setup asks for.
@@ -62,17 +67,35 @@ fn read_record(columns: Columns, row: &ByteRecord) -> Result<SetupRecord, CaseCa
     let origin_capacity = read_amount(row, 3)?;
     let signals = read_if(columns.signals, 0, row, 4)?;
     let limits = read_if(columns.limits, 0, row, columns.limits_field())?;
-    let most_cells = read_if(columns.cells, MOST_CELLS, row, columns.cells_field())?;
+    let most_cells = read_if(columns.cells, DEFAULT_CELLS, row, columns.cells_field())?;
+    let rows = columns.rows_field();
+    let most_demand_rows = read_if(columns.rows, DEFAULT_DEMAND_ROWS, row, rows)?;
+    let most_split_rows = read_if(columns.rows, DEFAULT_SPLIT_ROWS, row, rows)?;
+    let most_links = read_if(columns.links, DEFAULT_LINKS, row, columns.links_field())?;
+    let destinations = columns.destinations_field();
+    let most_destinations = read_if(
+        columns.destinations,
+        DEFAULT_DESTINATIONS,
+        row,
+        destinations,
+    )?;
+    let moves = read_if(columns.moves, 0, row, columns.moves_field())?;
     let setup = Setup {
         step: Millis(u64::from(step)),
         slots,
         origin_capacity,
         most_cells,
+        most_demand_rows,
+        most_split_rows,
+        most_links,
+        most_destinations,
+        by_turn: moves == 1,
     };
     Ok(SetupRecord {
         setup,
         signals,
         limits,
+        moves,
     })
 }
 
@@ -88,16 +111,26 @@ fn check_flags(columns: Columns, said: &SetupRecord) -> Result<(), CaseCause>
     Ok(())
 }
 
+/// The first field that is out of its limits where a field behind signals and limits is.
+fn after_flags(columns: Columns, said: &SetupRecord, field: u32) -> CaseCause
+    ensures { after_flags columns said.now field ≡ Err result }
+{
+    match check_flags(columns, said) {
+        Ok(()) => CaseCause::Range(field),
+        Err(cause) => cause,
+    }
+}
+
 /// The field that is out of its limits where the setup has this fault.
 fn cause_of(columns: Columns, said: &SetupRecord, fault: SetupFault) -> CaseCause
     ensures { in_range columns said.now (Err fault) ≡ Err result }
 {
     match fault {
         SetupFault::Range(field) => CaseCause::Range(field),
-        SetupFault::MostCells => match check_flags(columns, said) {
-            Ok(()) => CaseCause::Range(columns.cells_field()),
-            Err(cause) => cause,
-        },
+        SetupFault::MostCells => after_flags(columns, said, columns.cells_field()),
+        SetupFault::MostRows => after_flags(columns, said, columns.rows_field()),
+        SetupFault::MostLinks => after_flags(columns, said, columns.links_field()),
+        SetupFault::MostDestinations => after_flags(columns, said, columns.destinations_field()),
     }
 }
 
@@ -113,6 +146,9 @@ fn open(alloc: Global, columns: Columns, said: &SetupRecord) -> Result<Opened, C
     match check_flags(columns, said) {
         Ok(()) => {}
         Err(cause) => return Err(cause),
+    }
+    if said.moves > 1 {
+        return Err(CaseCause::Range(columns.moves_field()));
     }
     let asked = Asked {
         signals: said.signals == 1,

@@ -1,5 +1,6 @@
 -- What a pair that is computed anew makes of a core.
 use Rattle.std.proofs.Common.{◌≡◌, ℕ, ◌+◌, ◌<◌, ◌≤◌, ◌^◌, List, ◌∷◌, refl, ap, subst, ◌∙◌}
+use Rattle.ltm_units.specs.Bounds.{most_nodes}
 use Rattle.ltm_units.specs.declared.places.Pair.{Pair}
 use Rattle.ltm_setting.specs.Setting.{setting_of}
 use Rattle.ltm_repair.specs.Events.{CoreEvent, Look, Claim, Commit}
@@ -26,7 +27,7 @@ pub anew_is_core : RepairLaws → (d : CoreData) (u t : ℕ) (row : List ℕ) (n
     IsCore (after_commit d new)
 anew_is_core laws d u t row new is ready step = core_after_commit laws (record d { table = step.between }) new u t row (between_is laws d u t row new is step) ready step.commits
 
-pub anew_fits : RepairLaws → (d : CoreData) (u t : ℕ) (row : List ℕ) (new : Table) → IsCore d → RecomputesInTable (setting_of d.scenario) d.table u t row new → (setting_of d.scenario).nodes ≤ 8000 → d.commits + 1 < 2 ^ 128
+pub anew_fits : RepairLaws → (d : CoreData) (u t : ℕ) (row : List ℕ) (new : Table) → IsCore d → RecomputesInTable (setting_of d.scenario) d.table u t row new → (setting_of d.scenario).nodes ≤ most_nodes → d.commits + 1 < 2 ^ 128
 anew_fits laws d u t row new is step few = commits_few laws (record d { table = step.between }) u t row (between_is laws d u t row new is step) (step.claims (version_now d.log)).desk.2.holds few
 
 -- the core between, with the claim in its history

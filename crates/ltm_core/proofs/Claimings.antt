@@ -1,5 +1,5 @@
 -- What a claim, and a claim given back, make of a core.
-use Rattle.std.proofs.Common.{◌≡◌, ℕ, ◌<◌, List, ◌∷◌, Bool, false, IsTrue, ◌↔◌, inl, inr, refl, ap, sym, subst, ◌∙◌}
+use Rattle.std.proofs.Common.{◌≡◌, ℕ, ◌<◌, List, ◌∷◌, Bool, true, false, IsTrue, ◌↔◌, inl, inr, refl, ap, sym, subst, ◌∙◌}
 use Rattle.std.specs.Prelude.{Option, Some, None}
 use Rattle.std.specs.Prelude.{◌⊎◌}
 use Rattle.std.proofs.lemmas.Bool.{false≢true, cases_eq}
@@ -161,6 +161,12 @@ cases_own None (Some y) = inr (λ h. cc)
 cases_own (Some x) None = inr (λ h. cc)
 cases_own (Some x) (Some y) = elim (cases_eq x y) [ inl same ↦ inl (ap (λ z. Some z) same) | inr other ↦ inr (λ h. other (cc)) ]
 
+cases_rule : (a b : Bool) → (a ≡ b) ⊎ (a ≡ b → ⊥)
+cases_rule true true = inl refl
+cases_rule true false = inr (λ h. cc)
+cases_rule false true = inr (λ h. cc)
+cases_rule false false = inl refl
+
 cases_shape : (a b : NodeShape) → (a ≡ b) ⊎ (a ≡ b → ⊥)
 cases_shape a b = elim (cases_eq a.arms b.arms) [
   | inr other ↦ inr (λ h. other (ap (λ (z : NodeShape). z.arms) h))
@@ -170,7 +176,10 @@ cases_shape a b = elim (cases_eq a.arms b.arms) [
       | inr other ↦ inr (λ h. other (ap (λ (z : NodeShape). z.destinations) h))
       | inl destinations ↦ elim (cases_own a.own b.own) [
         | inr other ↦ inr (λ h. other (ap (λ (z : NodeShape). z.own) h))
-        | inl own ↦ inl (λ i. record { arms = arms i; outs = outs i; destinations = destinations i; own = own i })
+        | inl own ↦ elim (cases_rule a.by_turn b.by_turn) [
+          | inr other ↦ inr (λ h. other (ap (λ (z : NodeShape). z.by_turn) h))
+          | inl rule ↦ inl (λ i. record { arms = arms i; outs = outs i; destinations = destinations i; own = own i; by_turn = rule i })
+        ]
       ]
     ]
   ]

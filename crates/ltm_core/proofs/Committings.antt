@@ -2,6 +2,7 @@
 use Rattle.std.proofs.Common.{◌≡◌, ℕ, ◌+◌, ◌-◌, ◌*◌, ◌<◌, ◌≤◌, ◌^◌, List, ◌∷◌, Bool, false, cond, refl, ap, sym, subst, ◌∙◌, arith, lit<}
 use Rattle.std.specs.Prelude.{◌||◌, Some, is_some}
 use Rattle.std.proofs.lemmas.Bool.{lt-ltb, le-leb}
+use Rattle.ltm_units.specs.Bounds.{most_nodes, most_slots}
 use Rattle.ltm_units.specs.declared.places.Pair.{Pair}
 use Rattle.ltm_node.specs.Inputs.{Inputs}
 use Rattle.ltm_loading.specs.Setting.{Setting, IsSetting}
@@ -124,18 +125,18 @@ fits_of d at is =
     let P : Setting → Type 0 = λ z. d.commits + undone z.nodes z.slots (desk_in d) ≤ (version_now d.log - settled_of d.log) * (z.nodes * z.slots) in
     subst P at is.count.fits
 
-pub commits_few : RepairLaws → (d : CoreData) (u t : ℕ) (row : List ℕ) → IsCore d → (desk_in d).claimed u t ≡ Some row → (setting_of d.scenario).nodes ≤ 8000 → d.commits + 1 < 2 ^ 128
+pub commits_few : RepairLaws → (d : CoreData) (u t : ℕ) (row : List ℕ) → IsCore d → (desk_in d).claimed u t ≡ Some row → (setting_of d.scenario).nodes ≤ most_nodes → d.commits + 1 < 2 ^ 128
 commits_few laws d u t row is claimed few =
     let s : Setting = setting_of d.scenario in
     let claim : IsClaim s (desk_in d) u t row = is.ready.sound.claims u t row claimed in
     let some : 1 ≤ undone s.nodes s.slots (desk_in d) = claim_undone laws.undone s (desk_in d) u t row claim.is_node claim.is_slot claimed in
     let fits : d.commits + undone s.nodes s.slots (desk_in d) ≤ (version_now d.log - settled_of d.log) * (s.nodes * s.slots) = fits_of d (core_now d is) is.repair in
     let setting : IsSetting s = core_setting d is in
-    let pairs : s.nodes * s.slots ≤ 8000 * 10000 = grown s.nodes 8000 s.slots 10000 few setting.small.few_slots in
-    let all : (version_now d.log - settled_of d.log) * (s.nodes * s.slots) ≤ 2 ^ 63 * (8000 * 10000) =
-    grown (version_now d.log - settled_of d.log) (2 ^ 63) (s.nodes * s.slots) (8000 * 10000) (omega (is.log.few, arith)) pairs in
-    let most : 2 ^ 63 * (8000 * 10000) < 2 ^ 128 = lit< tt in
+    let pairs : s.nodes * s.slots ≤ most_nodes * most_slots = grown s.nodes most_nodes s.slots most_slots few setting.small.few_slots in
+    let all : (version_now d.log - settled_of d.log) * (s.nodes * s.slots) ≤ 2 ^ 63 * (most_nodes * most_slots) =
+    grown (version_now d.log - settled_of d.log) (2 ^ 63) (s.nodes * s.slots) (most_nodes * most_slots) (omega (is.log.few, arith)) pairs in
+    let most : 2 ^ 63 * (most_nodes * most_slots) < 2 ^ 128 = lit< tt in
     omega arith
 
-pub commits_fit : RepairLaws → (d v : CoreData) (pair : Pair) (ticket : ℕ) (n : Inputs) → d ≡ v → IsCore d → IsKeptClaim v pair ticket n → (setting_of d.scenario).nodes ≤ 8000 → d.commits + 1 < 2 ^ 128
+pub commits_fit : RepairLaws → (d v : CoreData) (pair : Pair) (ticket : ℕ) (n : Inputs) → d ≡ v → IsCore d → IsKeptClaim v pair ticket n → (setting_of d.scenario).nodes ≤ most_nodes → d.commits + 1 < 2 ^ 128
 commits_fit laws d v pair ticket n same is kept few = commits_few laws d pair.node.0 pair.slot n.row is (kept_in d v pair ticket n same kept).claimed few

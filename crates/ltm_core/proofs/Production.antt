@@ -12,7 +12,7 @@ use Rattle.ltm_demand.specs.Rows.{edited_rows}
 use Rattle.ltm_scenario.specs.declared.edit.Edit.{Edit}
 use Rattle.ltm_scenario.specs.Data.{ScenarioData}
 use Rattle.ltm_scenario.specs.Edits.{edited, edited_from, at_place}
-use Rattle.ltm_scenario.specs.Makes.{Makes, EditsMake, demand, entry, exit, split, diagram, horizon}
+use Rattle.ltm_scenario.specs.Makes.{Makes, EditsMake, demand, entry, exit, split, splits, diagram, horizon}
 use Rattle.ltm_setting.specs.Setting.{setting_of, produced_by}
 use Rattle.ltm_flows.specs.declared.loading.Loading.{Loading}
 use Rattle.ltm_flows.specs.Origins.{produced_in_all}
@@ -62,6 +62,7 @@ of_edit leave n k s next edit (demand origin destination from to amount row said
 of_edit leave n k s next edit (entry name from to amount link said) off = record { network = refl; each = λ d. refl }
 of_edit leave n k s next edit (exit name from to amount link said) off = record { network = refl; each = λ d. refl }
 of_edit leave n k s next edit (split node destination from weights key said) off = record { network = refl; each = λ d. refl }
+of_edit leave n k s next edit (splits node destination rows m d said) off = record { network = refl; each = λ e. refl }
 of_edit leave n k s next edit (diagram name new link named sets) off = record { network = refl; each = λ d. refl }
 of_edit leave n k s next edit (horizon slots said) off = record { network = refl; each = λ d. refl }
 

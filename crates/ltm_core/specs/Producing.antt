@@ -4,7 +4,7 @@ use Rattle.std.specs.List.{list_any}
 use Rattle.std.specs.Option.{option_map_or}
 use Rattle.ltm_scenario.specs.Network.{NetworkData, find_node}
 use Rattle.ltm_scenario.specs.declared.edit.Edit.{Edit}
-use Rattle.ltm_scenario.specs.declared.edit.Edit.TheVariants.{Demand, Limit, Split, Diagram, Exit, Horizon}
+use Rattle.ltm_scenario.specs.declared.edit.Edit.TheVariants.{Demand, Limit, Split, Splits, Diagram, Exit, Horizon}
 use Rattle.ltm_loading.specs.Setting.{Setting}
 use Rattle.ltm_flows.specs.declared.loading.Loading.{Loading}
 use Rattle.ltm_flows.specs.Origins.{produced_in_all}
@@ -21,6 +21,7 @@ abbrev pub changes : NetworkData → ℕ → ℕ → Edit → Bool
 changes network node boundary (Demand origin destination from to amount) = demand_changes network origin from node boundary
 changes network node boundary (Limit link from to amount) = false
 changes network node boundary (Split node-of destination from weights) = false
+changes network node boundary (Splits node-of destination rows) = false
 changes network node boundary (Diagram link diagram) = false
 changes network node boundary (Exit link from to amount) = false
 changes network node boundary (Horizon slots) = false

@@ -25,10 +25,11 @@ fn renew_after(scenario: &Scenario, edit: &Edit, shown: &mut Loading)
     ensures { Renews (setting_of scenario.now)
         (λ n k. changes scenario.now.network n k edit.now) shown.old shown.new }
 {
-    match *edit {
-        Edit::Demand { origin, from, .. } => renew_origin(scenario, &origin, from, shown),
+    match edit {
+        Edit::Demand { origin, from, .. } => renew_origin(scenario, origin, *from, shown),
         Edit::Limit { .. }
         | Edit::Split { .. }
+        | Edit::Splits { .. }
         | Edit::Diagram { .. }
         | Edit::Exit { .. }
         | Edit::Horizon { .. } => {}

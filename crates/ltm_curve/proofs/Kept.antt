@@ -12,6 +12,10 @@ use Rattle.ltm_curve.proofs.Places.{rows_within}
 pub capped_small : (total : ℕ) → total < 2 ^ 32 → capped total ≡ total
 capped_small total l = omega (arith, l)
 
+-- what is kept of a total grows with it
+pub capped_grows : (total more : ℕ) → capped (capped total + more) ≡ capped (total + more)
+capped_grows total more = omega arith
+
 -- where there are three destinations or more
 pub kept_is : (c : Curves) (g k row : ℕ) → 3 ≤ destinations_of c → row ≡ k * c.groups + g → row < (c.slots + 1) * c.groups → slice_index c.totals.items row ≡ capped (total_of c g k)
 unfolding counts_of

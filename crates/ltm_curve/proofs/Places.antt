@@ -10,6 +10,7 @@ use Rattle.ltm_curve.specs.declared.curves.Curves.{Curves}
 use Rattle.ltm_curve.specs.Table.{groups_of, destinations_of, slots_of, place, counts_of, total_of, IsIn, SameShape, Sets, Carries}
 use Rattle.ltm_curve.specs.Blocks.{IsCarried}
 use Rattle.ltm_curve.specs.CurveLaws.{SameCounts, CountsTellAll}
+use Rattle.ltm_curve.specs.Totals.{most_total}
 use Rattle.ltm_units.proofs.Sums.{sum_below-same, sum_below-most, le-sum_below}
 use Rattle.ltm_curve.proofs.Interpolation.{interpolated_same}
 use Rattle.ltm_curve.proofs.Longer.{at_old, at_new}
@@ -46,7 +47,7 @@ pub counts_tell_all_holds : CountsTellAll
 counts_tell_all_holds a b s g x = (λ k y. same_totals a b s g k x y, λ step time some l. same_times a b s g x step time some l)
 
 -- totals are small
-pub total_small : (c : Curves) (g k : ℕ) → total_of c g k ≤ 2 ^ 37
+pub total_small : (c : Curves) (g k : ℕ) → total_of c g k ≤ most_total
 unfolding counts_of
 total_small c g k = omega (arith, sum_below-most c.destinations (λ d. counts_of c g d k) (2 ^ 31) (λ d l. omega (arith, c.small (place c g d k))), mul-le-mul_right (2 ^ 31) c.few)
 

@@ -1,9 +1,10 @@
 -- A part of a list is written over, and a row of the table.
-use Rattle.std.proofs.Common.{◌≡◌, ◌≢◌, ℕ, ◌+◌, ◌-◌, ◌*◌, ◌<◌, ◌≤◌, ◌⊎◌, ◌++◌, List, take, drop, get_or, length, slice_index, arith, inl, inr, ap, ◌∙◌}
+use Rattle.std.proofs.Common.{◌≡◌, ◌≢◌, ℕ, ◌+◌, ◌-◌, ◌*◌, ◌^◌, ◌<◌, ◌≤◌, ◌⊎◌, ◌++◌, List, take, drop, get_or, length, slice_index, arith, inl, inr, ap, sym, ◌∙◌}
 use Rattle.std.proofs.Math.Nat.{mul-le-mul_right}
 use Rattle.std.proofs.lemmas.Bool.{cases_lt}
 use Rattle.std.proofs.lemmas.Nat.{same_from_place}
-use Rattle.std.proofs.lemmas.List.{get_or_append_left, get_or-append_right, get_or-take, get_or-drop, length-take-le, length-append, length-drop}
+use Rattle.std.proofs.lemmas.List.{with_items_is, get_or_append_left, get_or-append_right, get_or-take, get_or-drop, length-take-le, length-append, length-drop}
+use Rattle.std.specs.Vec.{with_items}
 use Rattle.ltm_curve.specs.declared.curves.Curves.{Curves}
 use Rattle.ltm_curve.specs.Table.{place, counts_of, SameShape, SetsRow}
 use Rattle.ltm_curve.proofs.Places.{same_place}
@@ -76,4 +77,25 @@ sets_row_holds old new g k from counts group long s start within put =
             | inr after ↦ after_over from e old.counts.items counts (place old g2 d2 k2) (omega arith) within same (omega arith)
           ] in
           ap (λ (z : ℕ). slice_index new.counts.items z) (same_place new old g2 d2 k2 s) ∙ (ap (λ (xs : List ℕ). slice_index xs (place old g2 d2 k2)) put ∙ kept);
+    }
+
+-- what a table of counts is once a row of it is written over
+pub record IsRowWritten (c : Curves) (from : ℕ) (row items : List ℕ) : Type 0 where
+  pub put : items ≡ put_over from (from + c.destinations) c.counts.items row
+  pub long : length items ≡ (c.slots + 1) * c.groups * c.destinations
+  pub small : (i : ℕ) → slice_index items i < 2 ^ 31
+
+-- it is written in a part of the table that is lent
+pub row_written : (c : Curves) (from : ℕ) (lent written row : List ℕ) → lent ≡ c.counts.items → length lent ≡ c.counts.len → written ≡ row → from + c.destinations ≤ length c.counts.items → length row ≡ c.destinations →
+    ((d : ℕ) → d < length row → slice_index row d < 2 ^ 31) → IsRowWritten c from row (with_items c.counts (put_over from (from + c.destinations) lent written)).items
+row_written c from lent written row whole len same within many small =
+    let to : ℕ = from + c.destinations in
+    let items : List ℕ = c.counts.items in
+    let put : put_over from to lent written ≡ put_over from to items row = ap (λ (xs : List ℕ). put_over from to xs written) whole ∙ ap (put_over from to items) same in
+    let long : length (put_over from to items row) ≡ length items = length_over from to items row (omega arith) within (omega arith) in
+    let all = with_items_is c.counts (put_over from to lent written) (ap length put ∙ (long ∙ (ap length (sym whole) ∙ len))) ∙ put in
+    record {
+      put = all;
+      long = ap length all ∙ (long ∙ c.long);
+      small = λ i. omega (arith, ap (λ (xs : List ℕ). slice_index xs i) all, small_over from to items row (2 ^ 31) (omega arith) within (omega arith) c.small small i);
     }

@@ -3,14 +3,15 @@ use Rattle.std.proofs.Common.{◌≡◌, ◌≢◌, ℕ, ◌+◌, ◌*◌, ◌^�
 use Rattle.std.proofs.Math.Nat.{mul-le-mul_right}
 use Rattle.std.proofs.lemmas.Bool.{cases_eq}
 use Rattle.std.proofs.lemmas.Nat.{same_from_place}
+use Rattle.ltm_units.specs.Bounds.{most_destinations}
 use Rattle.ltm_units.specs.Sums.{sum_below}
 use Rattle.ltm_units.proofs.Sums.{sum_below-same, sum_below-change, sum_below-most, sum_below-zero}
-use Rattle.ltm_curve.specs.Totals.{row_sum, capped, AreCappedTotals}
+use Rattle.ltm_curve.specs.Totals.{row_sum, capped, most_total, AreCappedTotals}
 use Rattle.ltm_curve.proofs.Lists.{sum_below-list, zero_index}
 use Rattle.ltm_curve.proofs.PutOver.{put_over, before_over, in_over, after_over, outside}
 
 -- the sum of a list of few small counts is small
-pub list_small : (counts : List ℕ) → length counts ≤ 64 → ((d : ℕ) → d < length counts → slice_index counts d < 2 ^ 31) → sum counts ≤ 2 ^ 37
+pub list_small : (counts : List ℕ) → length counts ≤ most_destinations → ((d : ℕ) → d < length counts → slice_index counts d < 2 ^ 31) → sum counts ≤ most_total
 list_small counts few small =
     omega (arith, sum_below-list counts, sum_below-most (length counts) (slice_index counts) (2 ^ 31) (λ d l. omega (arith, small d l)), mul-le-mul_right (2 ^ 31) few)
 

@@ -41,7 +41,7 @@ impl Changed {
     ghost use Rattle.ltm_curve.specs.Cells.{cell_groups, cell_slots, cell_room, is_changed, changed_count, IsCell, HasCells, NoneChanged, SameCells, PutsCell, IsNextCell, NoNextCell};
 
     /// The cells of so many groups and of `slots + 1` boundaries, none of them changed. There is want of memory also where
-    /// either is more than 65,536.
+    /// either is more than a table of marks has.
     pub fn create(alloc: Global, groups: u32, slots: u32) -> Result<Changed, NoMemory>
         ensures shape { IfOk result (λ c. HasCells c groups slots) }
         ensures none { IfOk result NoneChanged }
@@ -153,7 +153,7 @@ impl Changed {
     }
 
     /// Makes room for so many slots. Nothing else that is seen changes; with want of memory nothing at all. There is want
-    /// of memory also past 65,535 slots.
+    /// of memory also past the rows that a table of marks has.
     pub fn reserve(&mut self, slots: u32) -> Result<(), NoMemory>
         ensures same { SameCells self.old self.new }
         ensures room { OnOk result (slots ≤ cell_room self.new) }

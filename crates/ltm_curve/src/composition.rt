@@ -138,7 +138,7 @@ impl Curves {
         ensures { (d : ℕ) → d < destinations_of self.now → slice_index into.new d
             ≡ first_units (destinations_of self.now) (counts_of self.now group) n last d }
     {
-        let none = [0u32; 64];
+        let none = [0u32; 256];
         let rows = Group {
             curves: self,
             group,
@@ -178,9 +178,8 @@ impl Curves {
         first_less_of(&rows, n, last, self.row(less, boundary), into);
     }
 
-    /// The same where there are several destinations and the boundary at which the units end is known.
+    /// The same where the boundary at which the units end is known.
     pub fn first_less_from(&self, units: FirstUnits, less: u32, boundary: u32, into: &mut [u64])
-        requires several { 2 ≤ destinations_of self.now }
         requires units { AreFirst self.now units }
         requires less { less < groups_of self.now }
         requires boundary { boundary ≤ slots_of self.now }

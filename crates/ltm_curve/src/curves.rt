@@ -10,7 +10,8 @@
 //! what has arrived can come to so much.
 ghost use Rattle.std.specs.Prelude.{◌≡◌, ℕ, ◌+◌, ◌*◌, ◌^◌, ◌<◌, ◌≤◌, length, sum, replicate, slice_index, IfOk};
 ghost use Rattle.std.specs.Vec.{vec_capacity};
-ghost use Rattle.ltm_curve.specs.Totals.{capped, AreCappedTotals};
+ghost use Rattle.ltm_units.specs.Bounds.{most_destinations};
+ghost use Rattle.ltm_curve.specs.Totals.{capped, most_total, AreCappedTotals};
 
 use ltm_units::{NoMemory, sum_of};
 use std::alloc::Global;
@@ -34,7 +35,7 @@ pub struct Curves {
     counts: Vec<u32>,
     totals: Vec<u32>,
     ghost long: { length counts.items ≡ (slots + 1) * groups * destinations },
-    ghost few: { destinations ≤ 64 },
+    ghost few: { destinations ≤ most_destinations },
     ghost small: { (i : ℕ) → slice_index counts.items i < 2 ^ 31 },
     ghost no_totals: { destinations < 3 → length totals.items ≡ 0 },
     ghost all_totals: { 3 ≤ destinations → length totals.items ≡ (slots + 1) * groups },
@@ -101,7 +102,7 @@ impl Curves {
         destinations: u32,
         slots: u32,
     ) -> Result<Curves, NoMemory>
-        requires { destinations ≤ 64 }
+        requires { destinations ≤ most_destinations }
         ensures shape { IfOk result (λ c. HasShape c groups destinations slots) }
         ensures empty { IfOk result IsEmpty }
     {
@@ -134,7 +135,7 @@ impl Curves {
     /// How many destinations each group has.
     pub fn destinations(&self) -> u32
         ensures value { result ≡ destinations_of self.now }
-        ensures few { result ≤ 64 }
+        ensures few { result ≤ most_destinations }
     {
         self.destinations
     }
@@ -202,17 +203,6 @@ impl Curves {
         self.counts[place] = count as u32;
     }
 
-    /// The same where there is one destination, whose count is the total.
-    fn set_only(&mut self, group: u32, boundary: u32, count: u64)
-        requires place { IsIn self.old group 0 boundary }
-        requires only { destinations_of self.old ≡ 1 }
-        requires small { count < 2 ^ 31 }
-        ensures { Sets self.old self.new group 0 boundary count }
-    {
-        let at = self.row_number(group, boundary);
-        self.counts[at] = count as u32;
-    }
-
     /// The same where there are several destinations: the total changes by as much.
     fn set_one(&mut self, group: u32, destination: u32, boundary: u32, count: u64)
         requires place { IsIn self.old group destination boundary }
@@ -234,7 +224,7 @@ impl Curves {
         requires several { 3 ≤ destinations_of self.now }
         ensures total { result + counts_of self.now group destination boundary
             ≡ total_of self.now group boundary }
-        ensures small { result ≤ 2 ^ 37 }
+        ensures small { result ≤ most_total }
     {
         self.kept_total(group, boundary) - self.get(group, destination, boundary)
     }
@@ -276,7 +266,7 @@ impl Curves {
         if counts.len() == 2 {
             self.set_two(group, boundary, counts);
         } else if counts.len() == 1 {
-            self.set_only(group, boundary, counts[0]);
+            self.set_count(group, 0, boundary, counts[0]);
         } else if counts.len() > 2 {
             self.set_several(group, boundary, counts);
         }

@@ -1,6 +1,7 @@
 //! Curves with one destination, with two and with several, told apart once for many totals.
 ghost use Rattle.std.specs.Prelude.{◌≡◌, ◌==◌, ℕ, ◌^◌, ◌<◌, ◌≤◌, IsTrue};
 ghost use Rattle.ltm_curve.specs.Table.{groups_of, slots_of, destinations_of, total_of};
+ghost use Rattle.ltm_curve.specs.Totals.{most_total};
 
 use crate::curves::Curves;
 
@@ -30,7 +31,7 @@ pub trait Kind {
         requires group { group < groups_of curves.now }
         requires boundary { boundary ≤ slots_of curves.now }
         ensures total { result ≡ total_of curves.now group boundary }
-        ensures small { result ≤ 2 ^ 37 };
+        ensures small { result ≤ most_total };
 }
 
 /// One destination.

@@ -8,8 +8,8 @@
 //!
 //! It stands on `ltm_units` and, for the set of changed cells, on `ltm_marks`. `create`, `of` and `reserve` take memory; no
 //! other call does. A read costs one access to one flat table, and so does a total, but one of 2^32 - 1 or more sums its
-//! row; a write keeps the total of its row, and a time costs one division more. Change it here where counts are to be kept
-//! in another way: contracts above speak of `counts_of`, `total_at` and `is_changed` alone.
+//! row; a write of three destinations or more keeps the total of its row, and a time costs one division more. Change it here
+//! where counts are to be kept in another way: contracts above speak of `counts_of`, `total_at` and `is_changed` alone.
 #![tactic(auto)]
 
 mod changed;

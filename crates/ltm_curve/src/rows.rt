@@ -1,5 +1,6 @@
 //! Where cumulative counts by destination come from.
 ghost use Rattle.std.specs.Prelude.{◌≡◌, ℕ, ◌+◌, ◌-◌, ◌^◌, ◌<◌, ◌≤◌, length, sum, slice_index};
+ghost use Rattle.ltm_units.specs.Bounds.{most_destinations};
 ghost use Rattle.ltm_curve.specs.Counts.{total};
 ghost use Rattle.ltm_curve.specs.First.{entries, mixed, RowsRise};
 
@@ -16,7 +17,7 @@ pub trait Rows {
     /// How many destinations there are.
     fn destinations(&self) -> u32
         ensures value { result ≡ width self.now }
-        ensures few { result ≤ 64 };
+        ensures few { result ≤ most_destinations };
 
     /// The count of a destination at a boundary.
     fn count(&self, destination: u32, boundary: u32) -> u64

@@ -7,6 +7,7 @@
 ghost use Rattle.std.specs.Prelude.{◌≡◌, ℕ, ◌+◌, ◌*◌, ◌^◌, ◌<◌, ◌≤◌, length, replicate, slice_index, IfOk};
 ghost use Rattle.std.specs.Vec.{vec_capacity};
 ghost use Rattle.ltm_curve.specs.Table.{groups_of, slots_of, total_of};
+ghost use Rattle.ltm_curve.specs.Totals.{most_total};
 
 use crate::curves::{Curves, zero_counts};
 use ltm_units::NoMemory;
@@ -26,7 +27,7 @@ pub struct TotalCurves {
     last: Vec<u64>,
     ghost long: { length totals.items ≡ (slots + 1) * narrow },
     ghost last_long: { length last.items ≡ slots + 1 },
-    ghost last_small: { (k : ℕ) → slice_index last.items k ≤ 2 ^ 37 },
+    ghost last_small: { (k : ℕ) → slice_index last.items k ≤ most_total },
     ghost within: { slots ≤ room },
     ghost totals_room: { (room + 1) * narrow ≤ vec_capacity totals },
     ghost last_room: { room + 1 ≤ vec_capacity last },
@@ -100,7 +101,7 @@ impl TotalCurves {
         requires group { group < total_groups self.now }
         requires boundary { boundary ≤ total_slots self.now }
         ensures total { result ≡ total_at self.now group boundary }
-        ensures small { result ≤ 2 ^ 37 }
+        ensures small { result ≤ most_total }
     {
         if group < self.narrow {
             let at = self.place(group, boundary);
@@ -113,7 +114,7 @@ impl TotalCurves {
     /// Changes a total, and no other.
     fn set(&mut self, group: u32, boundary: u32, total: u64)
         requires place { IsTotal self.old group boundary }
-        requires small { total ≤ 2 ^ 37 }
+        requires small { total ≤ most_total }
         requires narrow { group < self.old.narrow → total < 2 ^ 32 }
         ensures { SetsTotal self.old self.new group boundary total }
     {

@@ -9,6 +9,7 @@ use Rattle.ltm_demand.specs.Productions.{IsShifted, IsReached}
 use Rattle.ltm_demand.specs.Origins.{OriginData, no_origin, origin_at, rows_of}
 use Rattle.ltm_demand.specs.Kept.{IsKept, room_in, room_of}
 use Rattle.ltm_demand.specs.Places.{IsAt, IsGap}
+use Rattle.ltm_units.specs.Bounds.{most_amount}
 use Rattle.ltm_demand.proofs.Ordered.{same_key_is}
 use Rattle.ltm_demand.proofs.Edits.{amount_found, edited_nothing}
 use Rattle.ltm_demand.proofs.State.{IsWas, was_at, was_gap, length_edited}
@@ -19,9 +20,9 @@ use Rattle.ltm_demand.proofs.KeptOrigins.{kept_set, each_own, room_is}
 place_true : (a b c d e f : ℕ) → a < b → c < d → e ≤ f → (nat_lt a b && (nat_lt c d && nat_le e f)) ≡ true
 place_true a b c d e f p q r = grind (arith, nat_tests)
 
-pub has_place_in : (slots : ℕ) (ys : List OriginData) (row : DemandRow) → ((o : ℕ) → All (λ r. r.origin.0 ≡ o) (origin_at ys o).rows) → length (origin_at ys row.origin.0).rows < (origin_at ys row.origin.0).places → IsReached (origin_at ys row.origin.0).table row →
-    has_place (state_of slots (rows_of ys) (room_of ys)) row ≡ true
-has_place_in slots ys row own vacant reached =
+pub has_place_in : (slots most : ℕ) (ys : List OriginData) (row : DemandRow) → ((o : ℕ) → All (λ r. r.origin.0 ≡ o) (origin_at ys o).rows) → length (origin_at ys row.origin.0).rows < (origin_at ys row.origin.0).places → IsReached (origin_at ys row.origin.0).table row →
+    has_place (state_of slots most (rows_of ys) (room_of ys)) row ≡ true
+has_place_in slots most ys row own vacant reached =
     let o = row.origin.0 in
     let room : room_at (room_of ys) o ≡ room_in (origin_at ys o) = room_is ys o in
     place_true (length (own_rows (rows_of ys) o)) (room_at (room_of ys) o).rows row.destination (room_at (room_of ys) o).destinations row.to (room_at (room_of ys) o).slots
@@ -35,8 +36,8 @@ pub record IsVacant (xs : List OriginData) (row : DemandRow) : Type 0 where
   pub rows : length (origin_at xs row.origin.0).rows < (origin_at xs row.origin.0).places
   pub reached : IsReached (origin_at xs row.origin.0).table row
 
-pub vacant_in : (slots count : ℕ) (xs : List OriginData) (row : DemandRow) → IsKept slots count xs → has_place (state_of slots (rows_of xs) (room_of xs)) row ≡ true → IsVacant xs row
-vacant_in slots count xs row kept has =
+pub vacant_in : (slots most count : ℕ) (xs : List OriginData) (row : DemandRow) → IsKept slots most count xs → has_place (state_of slots most (rows_of xs) (room_of xs)) row ≡ true → IsVacant xs row
+vacant_in slots most count xs row kept has =
     let o = row.origin.0 in
     let room : room_at (room_of xs) o ≡ room_in (origin_at xs o) = room_is xs o in
     let p = places_of (length (own_rows (rows_of xs) o)) (room_at (room_of xs) o).rows row.destination (room_at (room_of xs) o).destinations row.to (room_at (room_of xs) o).slots has in
@@ -51,7 +52,7 @@ vacant_inside xs row vacant = elim (cases_lt row.origin.0 (length xs)) [
   | inr past ↦ absurd (let none : (origin_at xs row.origin.0).places ≡ 0 = ap (λ (x : OriginData). x.places) (get_or_past xs row.origin.0 no_origin past) in omega (arith, none, vacant.rows))
 ]
 
-module _ (slots count : ℕ) (xs : List OriginData) (row : DemandRow) (i : ℕ) (kept : IsKept slots count xs) where
+module _ (slots most count : ℕ) (xs : List OriginData) (row : DemandRow) (i : ℕ) (kept : IsKept slots most count xs) where
   pub at_own : IsAt (own_rows (rows_of xs) row.origin.0) row i → IsAt (origin_at xs row.origin.0).rows row i
   at_own at = subst (λ rows. IsAt rows row i) (own_joined xs kept.own row.origin.0) at
 
@@ -64,17 +65,17 @@ module _ (slots count : ℕ) (xs : List OriginData) (row : DemandRow) (i : ℕ) 
     x_is = same_key_is (get_or (origin_at xs row.origin.0).rows i row) row at.same
 
     pub stood : IsWas (origin_at xs row.origin.0).rows row (amount_at (origin_at xs row.origin.0).rows row)
-    stood = was_at slots (origin_at xs row.origin.0).rows row i (amount_at (origin_at xs row.origin.0).rows row) (each_own slots count xs row.origin.0 kept) at refl
+    stood = was_at slots (origin_at xs row.origin.0).rows row i (amount_at (origin_at xs row.origin.0).rows row) (each_own slots most count xs row.origin.0 kept) at refl
 
     pub stood_some : 0 < amount_at (origin_at xs row.origin.0).rows row
-    stood_some = omega (arith, amount_found (origin_at xs row.origin.0).rows row i at, (each_own slots count xs row.origin.0 kept i row at.within).some_units)
+    stood_some = omega (arith, amount_found (origin_at xs row.origin.0).rows row i at, (each_own slots most count xs row.origin.0 kept i row at.within).some_units)
 
     pub stood_reached : IsReached (origin_at xs row.origin.0).table row
     stood_reached =
         let r = kept.reached row.origin.0 i row at.within in
         record { destination = omega (arith, r.destination, ap (λ (x : DemandRow). x.destination) x_is); end = omega (arith, r.end, ap (λ (x : DemandRow). x.to) x_is) }
 
-    module _ (was out : ℕ) (x : OriginData) (inside : row.origin.0 < length xs) (within : has_slots slots row ≡ true) (small : row.amount.0 ≤ 1000000000) (is : was ≡ amount_at (origin_at xs row.origin.0).rows row)
+    module _ (was out : ℕ) (x : OriginData) (inside : row.origin.0 < length xs) (within : has_slots slots row ≡ true) (small : row.amount.0 ≤ most_amount) (is : was ≡ amount_at (origin_at xs row.origin.0).rows row)
         (rows : x.rows ≡ edited_rows (origin_at xs row.origin.0).rows row) (shifted : IsShifted (origin_at xs row.origin.0).table x.table row was) (outs : out + length (row_if_any row) ≡ 1) where
       joined_was : IsWas (rows_of xs) row was
       joined_was = was_joined xs kept.own row was (subst (λ w. IsWas (origin_at xs row.origin.0).rows row w) (sym is) stood)
@@ -82,20 +83,20 @@ module _ (slots count : ℕ) (xs : List OriginData) (row : DemandRow) (i : ℕ) 
       some : 0 < was
       some = omega (arith, is, stood_some)
 
-      fewer : length (edited_rows (rows_of xs) row) ≤ 10000
+      fewer : length (edited_rows (rows_of xs) row) ≤ most
       fewer = omega (arith, length_replaced (rows_of xs) row was joined_was some, kept.are_rows.few)
 
-      pub replaced_kept : IsKept slots (count - out) (set xs row.origin.0 x)
+      pub replaced_kept : IsKept slots most (count - out) (set xs row.origin.0 x)
       replaced_kept =
           let one : length (row_if_any (with_amount row was)) ≡ 1 = length_shown (with_amount row was) (let e : (was == 0) ≡ false = (let s = some in grind (arith, nat_tests)) in e) in
-          kept_set slots count (count - out) xs row was x kept inside joined_was within small fewer rows shifted stood_reached (omega (arith, length_edited (rows_of xs) row was joined_was, one, kept.counted, outs))
+          kept_set slots most count (count - out) xs row was x kept inside joined_was within small fewer rows shifted stood_reached (omega (arith, length_edited (rows_of xs) row was joined_was, one, kept.counted, outs))
 
-      pub replaced_done : (row.amount.0 ≡ 0 → length x.rows < x.places) → IsDone (state_of slots (rows_of xs) (room_of xs)) (state_of slots (rows_of (set xs row.origin.0 x)) (room_of (set xs row.origin.0 x))) row was
+      pub replaced_done : (row.amount.0 ≡ 0 → length x.rows < x.places) → IsDone (state_of slots most (rows_of xs) (room_of xs)) (state_of slots most (rows_of (set xs row.origin.0 x)) (room_of (set xs row.origin.0 x))) row was
       replaced_done vacant =
           let joined = set_joined xs kept.own row x inside rows in
           let here : origin_at (set xs row.origin.0 x) row.origin.0 ≡ x = get_or-set_same xs row.origin.0 x no_origin inside in
-          is_done slots (rows_of xs) (rows_of (set xs row.origin.0 x)) row was (room_of xs) (room_of (set xs row.origin.0 x)) kept.are_rows joined_was within joined (omega (arith, fewer, ap length joined))
-          (λ _ none. has_place_in slots (set xs row.origin.0 x) row replaced_kept.own (subst (λ (y : OriginData). length y.rows < y.places) (sym here) (vacant none))
+          is_done slots most (rows_of xs) (rows_of (set xs row.origin.0 x)) row was (room_of xs) (room_of (set xs row.origin.0 x)) kept.are_rows joined_was within joined (omega (arith, fewer, ap length joined))
+          (λ _ none. has_place_in slots most (set xs row.origin.0 x) row replaced_kept.own (subst (λ (y : OriginData). length y.rows < y.places) (sym here) (vacant none))
           (subst (λ (y : OriginData). IsReached y.table row) (sym here) (record { destination = omega (arith, stood_reached.destination, shifted.destinations); end = omega (arith, stood_reached.end, shifted.slots) })))
 
   -- of a row that none stands for
@@ -103,18 +104,18 @@ module _ (slots count : ℕ) (xs : List OriginData) (row : DemandRow) (i : ℕ) 
     pub none_joined : IsWas (rows_of xs) row 0
     none_joined = was_joined xs kept.own row 0 (was_gap (origin_at xs row.origin.0).rows row i gap)
 
-    module _ (x : OriginData) (inside : row.origin.0 < length xs) (within : has_slots slots row ≡ true) (small : row.amount.0 ≤ 1000000000) (one : length (edited_rows (rows_of xs) row) ≡ length (rows_of xs) + 1) (few : length (rows_of xs) < 10000)
+    module _ (x : OriginData) (inside : row.origin.0 < length xs) (within : has_slots slots row ≡ true) (small : row.amount.0 ≤ most_amount) (one : length (edited_rows (rows_of xs) row) ≡ length (rows_of xs) + 1) (few : length (rows_of xs) < most)
         (rows : x.rows ≡ edited_rows (origin_at xs row.origin.0).rows row) (shifted : IsShifted (origin_at xs row.origin.0).table x.table row 0) (reached : IsReached (origin_at xs row.origin.0).table row) where
-      pub filled_kept : IsKept slots (count + 1) (set xs row.origin.0 x)
-      filled_kept = kept_set slots count (count + 1) xs row 0 x kept inside none_joined within small (omega (arith, one, few)) rows shifted reached (omega (arith, one, kept.counted))
+      pub filled_kept : IsKept slots most (count + 1) (set xs row.origin.0 x)
+      filled_kept = kept_set slots most count (count + 1) xs row 0 x kept inside none_joined within small (omega (arith, one, few)) rows shifted reached (omega (arith, one, kept.counted))
 
-      pub filled_done : IsDone (state_of slots (rows_of xs) (room_of xs)) (state_of slots (rows_of (set xs row.origin.0 x)) (room_of (set xs row.origin.0 x))) row 0
+      pub filled_done : IsDone (state_of slots most (rows_of xs) (room_of xs)) (state_of slots most (rows_of (set xs row.origin.0 x)) (room_of (set xs row.origin.0 x))) row 0
       filled_done =
           let joined = set_joined xs kept.own row x inside rows in
-          is_done slots (rows_of xs) (rows_of (set xs row.origin.0 x)) row 0 (room_of xs) (room_of (set xs row.origin.0 x)) kept.are_rows none_joined within joined (omega (arith, one, few, ap length joined)) (λ some _. absurd (omega (arith, some)))
+          is_done slots most (rows_of xs) (rows_of (set xs row.origin.0 x)) row 0 (room_of xs) (room_of (set xs row.origin.0 x)) kept.are_rows none_joined within joined (omega (arith, one, few, ap length joined)) (λ some _. absurd (omega (arith, some)))
 
-    pub left_done : has_slots slots row ≡ true → row.amount.0 ≡ 0 → IsDone (state_of slots (rows_of xs) (room_of xs)) (state_of slots (rows_of xs) (room_of xs)) row 0
+    pub left_done : has_slots slots row ≡ true → row.amount.0 ≡ 0 → IsDone (state_of slots most (rows_of xs) (room_of xs)) (state_of slots most (rows_of xs) (room_of xs)) row 0
     left_done within none =
         let same : edited_rows (rows_of xs) row ≡ rows_of xs =
         edited_joined xs kept.own row ∙ ap (λ t. front xs row.origin.0 ++ (t ++ back xs row.origin.0)) (edited_nothing (origin_at xs row.origin.0).rows row i gap none) ∙ sym (parted_at xs row.origin.0) in
-        is_done slots (rows_of xs) (rows_of xs) row 0 (room_of xs) (room_of xs) kept.are_rows none_joined within (sym same) kept.are_rows.few (λ some _. absurd (omega (arith, some)))
+        is_done slots most (rows_of xs) (rows_of xs) row 0 (room_of xs) (room_of xs) kept.are_rows none_joined within (sym same) kept.are_rows.few (λ some _. absurd (omega (arith, some)))

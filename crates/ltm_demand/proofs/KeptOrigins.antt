@@ -15,15 +15,16 @@ use Rattle.ltm_demand.specs.Productions.{ProductionData, told, no_table, IsShift
 use Rattle.ltm_demand.specs.Origins.{OriginData, no_origin, origin_at, rows_of, IsAlike}
 use Rattle.ltm_demand.specs.Kept.{AreDemandRows, IsKept, room_in, room_of}
 use Rattle.ltm_demand.specs.Places.{IsAt, IsGap}
+use Rattle.ltm_units.specs.Bounds.{most_amount, most_rows}
 use Rattle.ltm_demand.proofs.Told.{told_empty}
 use Rattle.ltm_demand.proofs.State.{IsWas, rows_edited, all_edited, all_shown, by_end_edited, part_was, origin_edited, origin_part_was, by_end_le, total_le}
 use Rattle.ltm_demand.proofs.Destinations.{origin_by_end_le}
 use Rattle.ltm_demand.proofs.Joined.{own_joined, set_joined, set_parted, parted_at, front, back}
 
-pub kept_nothing : (slots : ℕ) → IsKept slots 0 []
+pub kept_nothing : (slots most : ℕ) → most ≤ most_rows → IsKept slots most 0 []
 unfolding IsStrictlySortedBy
-kept_nothing slots = record {
-  are_rows = record { ordered = tt; each = All-nil (IsDemandRow slots); few = omega arith };
+kept_nothing slots most few = record {
+  are_rows = record { ordered = tt; each = All-nil (IsDemandRow slots); few = omega arith; bounded = few };
   counted = refl;
   own = λ o. All-nil (λ r. r.origin.0 ≡ o);
   reached = λ o. All-nil (IsReached no_table);
@@ -32,9 +33,9 @@ kept_nothing slots = record {
 }
 
 -- origins with the same rows and tables that say the same
-pub kept_alike : (slots count : ℕ) (old new : List OriginData) → ((o : ℕ) → IsAlike (origin_at old o) (origin_at new o)) → rows_of new ≡ rows_of old → IsKept slots count old → IsKept slots count new
-kept_alike slots count old new alike same kept = record {
-  are_rows = subst (AreDemandRows slots) (sym same) kept.are_rows;
+pub kept_alike : (slots most count : ℕ) (old new : List OriginData) → ((o : ℕ) → IsAlike (origin_at old o) (origin_at new o)) → rows_of new ≡ rows_of old → IsKept slots most count old → IsKept slots most count new
+kept_alike slots most count old new alike same kept = record {
+  are_rows = subst (AreDemandRows slots most) (sym same) kept.are_rows;
   counted = kept.counted ∙ ap length (sym same);
   own = λ o. subst (All (λ r. r.origin.0 ≡ o)) (sym (alike o).rows) (kept.own o);
   reached = λ o. subst (All (IsReached (origin_at new o).table)) (sym (alike o).rows) (λ k d below. record { destination = omega (arith, (kept.reached o k d below).destination, (alike o).destinations); end = omega (arith, (kept.reached o k d below).end, (alike o).slots) });
@@ -87,14 +88,14 @@ unfolding origin_part
 origin_elsewhere o t row other = let e : (row.origin.0 == o) ≡ false = grind (arith, nat_tests) in ap (λ b. cond b (produced row.from row.to row.amount.0 t) 0) e
 
 -- once a row is set in the rows of its origin, and told to its table
-pub kept_set : (slots count count' : ℕ) (xs : List OriginData) (row : DemandRow) (was : ℕ) (x : OriginData) → IsKept slots count xs → row.origin.0 < length xs → IsWas (rows_of xs) row was → has_slots slots row ≡ true → row.amount.0 ≤ 1000000000 →
-    length (edited_rows (rows_of xs) row) ≤ 10000 → x.rows ≡ edited_rows (origin_at xs row.origin.0).rows row → IsShifted (origin_at xs row.origin.0).table x.table row was → IsReached (origin_at xs row.origin.0).table row → count' ≡ length (edited_rows (rows_of xs) row) →
-    IsKept slots count' (set xs row.origin.0 x)
-kept_set slots count count' xs row was x kept inside is in' small few rows shifted reached counts =
+pub kept_set : (slots most count count' : ℕ) (xs : List OriginData) (row : DemandRow) (was : ℕ) (x : OriginData) → IsKept slots most count xs → row.origin.0 < length xs → IsWas (rows_of xs) row was → has_slots slots row ≡ true → row.amount.0 ≤ most_amount →
+    length (edited_rows (rows_of xs) row) ≤ most → x.rows ≡ edited_rows (origin_at xs row.origin.0).rows row → IsShifted (origin_at xs row.origin.0).table x.table row was → IsReached (origin_at xs row.origin.0).table row → count' ≡ length (edited_rows (rows_of xs) row) →
+    IsKept slots most count' (set xs row.origin.0 x)
+kept_set slots most count count' xs row was x kept inside is in' small few rows shifted reached counts =
     let i = row.origin.0 in
     let joined : rows_of (set xs i x) ≡ edited_rows (rows_of xs) row = set_joined xs kept.own row x inside rows in
     record {
-      are_rows = subst (AreDemandRows slots) (sym joined) (rows_edited slots (rows_of xs) row kept.are_rows in' small few);
+      are_rows = subst (AreDemandRows slots most) (sym joined) (rows_edited slots most (rows_of xs) row kept.are_rows in' small few);
       counted = counts ∙ ap length (sym joined);
       own = λ o. at_set xs i x inside o (λ y. All (λ r. r.origin.0 ≡ o) y.rows)
           (λ here. subst (All (λ r. r.origin.0 ≡ o)) (sym rows) (subst (λ n. All (λ r. r.origin.0 ≡ n) (edited_rows (origin_at xs i).rows row)) (sym here) (all_edited (λ r. r.origin.0 ≡ i) (origin_at xs i).rows row (kept.own i) (all_shown (λ r. r.origin.0 ≡ i) row refl))))
@@ -121,8 +122,8 @@ unfolding origin_part
 origin_own row was t = let e : (row.origin.0 == row.origin.0) ≡ true = grind (arith, nat_tests) in ap (λ b. cond b (produced row.from row.to was t) 0) e
 
 -- the table of a row's origin has what stood, and room for more
-pub roomy_was : (slots count : ℕ) (xs : List OriginData) (row : DemandRow) (was : ℕ) → IsKept slots count xs → IsWas (rows_of xs) row was → IsRoomy (origin_at xs row.origin.0).table row was
-roomy_was slots count xs row was kept is =
+pub roomy_was : (slots most count : ℕ) (xs : List OriginData) (row : DemandRow) (was : ℕ) → IsKept slots most count xs → IsWas (rows_of xs) row was → IsRoomy (origin_at xs row.origin.0).table row was
+roomy_was slots most count xs row was kept is =
     let o = row.origin.0 in
     let rows = rows_of xs in
     record {
@@ -131,14 +132,14 @@ roomy_was slots count xs row was kept is =
         | inr own ↦ subst (λ n. produced row.from row.to was t ≤ told (origin_at xs o).table n t) (sym own) (omega (arith, kept.each o row.destination t, part_was rows row was o row.destination t is, part_own row was t))
       ];
       room = λ k t which. elim which [
-        | inl all ↦ subst (λ n. told (origin_at xs o).table n t < 2 ^ 63) (sym all) (omega (arith, kept.all o t, origin_by_end_le rows o t, total_le slots rows kept.are_rows))
-        | inr own ↦ subst (λ n. told (origin_at xs o).table n t < 2 ^ 63) (sym own) (omega (arith, kept.each o row.destination t, by_end_le rows o row.destination t, total_le slots rows kept.are_rows))
+        | inl all ↦ subst (λ n. told (origin_at xs o).table n t < 2 ^ 63) (sym all) (omega (arith, kept.all o t, origin_by_end_le rows o t, total_le slots most rows kept.are_rows))
+        | inr own ↦ subst (λ n. told (origin_at xs o).table n t < 2 ^ 63) (sym own) (omega (arith, kept.each o row.destination t, by_end_le rows o row.destination t, total_le slots most rows kept.are_rows))
       ];
     }
 
 -- the rows of an origin are rows within the horizon
-pub each_own : (slots count : ℕ) (xs : List OriginData) (o : ℕ) → IsKept slots count xs → All (IsDemandRow slots) (origin_at xs o).rows
-each_own slots count xs o kept = subst (All (IsDemandRow slots)) (own_joined xs kept.own o) (All-filter (λ r. r.origin.0 == o) (IsDemandRow slots) (rows_of xs) kept.are_rows.each)
+pub each_own : (slots most count : ℕ) (xs : List OriginData) (o : ℕ) → IsKept slots most count xs → All (IsDemandRow slots) (origin_at xs o).rows
+each_own slots most count xs o kept = subst (All (IsDemandRow slots)) (own_joined xs kept.own o) (All-filter (λ r. r.origin.0 == o) (IsDemandRow slots) (rows_of xs) kept.are_rows.each)
 
 -- a place that has a row belongs to an origin
 pub at_inside : (xs : List OriginData) (row : DemandRow) (i : ℕ) → IsAt (origin_at xs row.origin.0).rows row i → row.origin.0 < length xs
@@ -203,5 +204,5 @@ copy_alike xs ys long copy o = elim (cases_lt o (length xs)) [
       (subst (λ (y : OriginData). IsAlike no_origin y) (sym (get_or_past ys o no_origin (omega (arith, long)))) (alike no_origin))
 ]
 
-pub kept_copied : (slots count : ℕ) (xs ys : List OriginData) → length ys ≡ length xs → ((i : ℕ) → i < length xs → IsCopy (origin_at xs i) (origin_at ys i)) → IsKept slots count xs → IsKept slots count ys
-kept_copied slots count xs ys long copy kept = kept_alike slots count xs ys (copy_alike xs ys long copy) (copied_rows xs ys long copy) kept
+pub kept_copied : (slots most count : ℕ) (xs ys : List OriginData) → length ys ≡ length xs → ((i : ℕ) → i < length xs → IsCopy (origin_at xs i) (origin_at ys i)) → IsKept slots most count xs → IsKept slots most count ys
+kept_copied slots most count xs ys long copy kept = kept_alike slots most count xs ys (copy_alike xs ys long copy) (copied_rows xs ys long copy) kept

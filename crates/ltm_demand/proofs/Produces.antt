@@ -4,6 +4,7 @@ use Rattle.std.proofs.lemmas.List.Sums.{sum_by-le-sum_by}
 use Rattle.ltm_demand.specs.declared.row.DemandRow.{DemandRow}
 use Rattle.ltm_demand.specs.Produced.{by_end, part, total}
 use Rattle.ltm_demand.specs.Kept.{AreDemandRows}
+use Rattle.ltm_units.specs.Bounds.{most_produced}
 use Rattle.ltm_demand.proofs.Parts.{part_rises}
 use Rattle.ltm_demand.proofs.State.{by_end_le, total_le}
 
@@ -13,5 +14,5 @@ rises rows o d s t later = sum_by-le-sum_by (part o d s) (part o d t) rows (part
 pub within : (rows : List DemandRow) (o d t : ℕ) → by_end rows o d t ≤ total rows
 within = by_end_le
 
-pub small : (slots : ℕ) (rows : List DemandRow) → AreDemandRows slots rows → total rows ≤ 10000000000000
+pub small : (slots most : ℕ) (rows : List DemandRow) → AreDemandRows slots most rows → total rows ≤ most_produced
 small = total_le

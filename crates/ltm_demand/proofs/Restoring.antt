@@ -13,29 +13,29 @@ use Rattle.ltm_demand.proofs.Edits.{amount_absent}
 use Rattle.ltm_demand.proofs.State.{IsWas, edited_back, length_edited, standing_edited}
 use Rattle.ltm_demand.proofs.Joined.{filter_within}
 
-abbrev pub data_of : ℕ → List DemandRow → DemandData
-data_of slots rows = record { slots = slots; rows = rows }
+abbrev pub data_of : ℕ → ℕ → List DemandRow → DemandData
+data_of slots most rows = record { slots = slots; most_rows = most; rows = rows }
 
-abbrev pub state_of : ℕ → List DemandRow → List OriginRoom → DemandState
-state_of slots rows room = record { demand = data_of slots rows; room = room }
+abbrev pub state_of : ℕ → ℕ → List DemandRow → List OriginRoom → DemandState
+state_of slots most rows room = record { demand = data_of slots most rows; room = room }
 
-pub with_row_done : (slots : ℕ) (rows : List DemandRow) (row : DemandRow) → has_slots slots row ≡ true → length (edited_rows rows row) ≤ 10000 → with_row (data_of slots rows) row ≡ Ok (data_of slots (edited_rows rows row))
+pub with_row_done : (slots most : ℕ) (rows : List DemandRow) (row : DemandRow) → has_slots slots row ≡ true → length (edited_rows rows row) ≤ most → with_row (data_of slots most rows) row ≡ Ok (data_of slots most (edited_rows rows row))
 unfolding with_row
-with_row_done slots rows row in' few =
-    let f : nat_lt 10000 (length (edited_rows rows row)) ≡ false = grind (arith, nat_tests) in
-    ap (λ b. cond (not b) (Err BadSlots) (cond (nat_lt 10000 (length (edited_rows rows row))) (Err TooManyRows) (Ok (data_of slots (edited_rows rows row))))) in'
-    ∙ ap (λ b. cond b (Err TooManyRows) (Ok (data_of slots (edited_rows rows row)))) f
+with_row_done slots most rows row in' few =
+    let f : nat_lt most (length (edited_rows rows row)) ≡ false = grind (arith, nat_tests) in
+    ap (λ b. cond (not b) (Err BadSlots) (cond (nat_lt most (length (edited_rows rows row))) (Err TooManyRows) (Ok (data_of slots most (edited_rows rows row))))) in'
+    ∙ ap (λ b. cond b (Err TooManyRows) (Ok (data_of slots most (edited_rows rows row)))) f
 
 pub with_row_bad : (d : DemandData) (row : DemandRow) → has_slots d.slots row ≡ false → with_row d row ≡ Err BadSlots
 unfolding with_row
-with_row_bad d row out = ap (λ b. cond (not b) (Err BadSlots) (cond (nat_lt 10000 (length (edited_rows d.rows row))) (Err TooManyRows) (Ok (data_of d.slots (edited_rows d.rows row))))) out
+with_row_bad d row out = ap (λ b. cond (not b) (Err BadSlots) (cond (nat_lt d.most_rows (length (edited_rows d.rows row))) (Err TooManyRows) (Ok (data_of d.slots d.most_rows (edited_rows d.rows row))))) out
 
-pub with_row_over : (d : DemandData) (row : DemandRow) → has_slots d.slots row ≡ true → 10000 < length (edited_rows d.rows row) → with_row d row ≡ Err TooManyRows
+pub with_row_over : (d : DemandData) (row : DemandRow) → has_slots d.slots row ≡ true → d.most_rows < length (edited_rows d.rows row) → with_row d row ≡ Err TooManyRows
 unfolding with_row
 with_row_over d row in' many =
-    let f : nat_lt 10000 (length (edited_rows d.rows row)) ≡ true = grind (arith, nat_tests) in
-    ap (λ b. cond (not b) (Err BadSlots) (cond (nat_lt 10000 (length (edited_rows d.rows row))) (Err TooManyRows) (Ok (data_of d.slots (edited_rows d.rows row))))) in'
-    ∙ ap (λ b. cond b (Err TooManyRows) (Ok (data_of d.slots (edited_rows d.rows row)))) f
+    let f : nat_lt d.most_rows (length (edited_rows d.rows row)) ≡ true = grind (arith, nat_tests) in
+    ap (λ b. cond (not b) (Err BadSlots) (cond (nat_lt d.most_rows (length (edited_rows d.rows row))) (Err TooManyRows) (Ok (data_of d.slots d.most_rows (edited_rows d.rows row))))) in'
+    ∙ ap (λ b. cond b (Err TooManyRows) (Ok (data_of d.slots d.most_rows (edited_rows d.rows row)))) f
 
 pub length_shown : (row : DemandRow) → (row.amount.0 == 0) ≡ false → length (row_if_any row) ≡ 1
 length_shown row some = ap (λ b. length (cond b [] (row ∷ []))) some
@@ -108,11 +108,11 @@ or_left : (a b : Bool) → a ≡ true → (a || b) ≡ true
 or_left true b e = refl
 or_left false b e = cc
 
-free_was : (slots : ℕ) (rows : List DemandRow) (row : DemandRow) (was : ℕ) (room' : List OriginRoom) → (0 < was → row.amount.0 ≡ 0 → has_place (state_of slots (edited_rows rows row) room') row ≡ true) →
-    takes_no_memory (state_of slots (edited_rows rows row) room') (with_amount row was) ≡ true
-free_was slots rows row was room' place =
+free_was : (slots most : ℕ) (rows : List DemandRow) (row : DemandRow) (was : ℕ) (room' : List OriginRoom) → (0 < was → row.amount.0 ≡ 0 → has_place (state_of slots most (edited_rows rows row) room') row ≡ true) →
+    takes_no_memory (state_of slots most (edited_rows rows row) room') (with_amount row was) ≡ true
+free_was slots most rows row was room' place =
     let now = amount_edited rows row was in
-    let P : Bool = has_place (state_of slots (edited_rows rows row) room') row in
+    let P : Bool = has_place (state_of slots most (edited_rows rows row) room') row in
     elim (was == 0) as (λ b. (was == 0) ≡ b → (b || (not (amount_at (edited_rows rows row) (with_amount row was) == 0) || P)) ≡ true) [
       | true ↦ λ _. refl
       | false ↦ λ stood. elim (row.amount.0 == 0) as (λ b. (row.amount.0 == 0) ≡ b → (not (amount_at (edited_rows rows row) (with_amount row was) == 0) || P) ≡ true) [
@@ -127,16 +127,16 @@ pub record IsDone (old new : DemandState) (row : DemandRow) (was : ℕ) : Type 0
   pub back : with_row new.demand (with_amount row was) ≡ Ok old.demand
   pub undo : CanRestore new (with_amount row was)
 
-pub is_done : (slots : ℕ) (rows rows' : List DemandRow) (row : DemandRow) (was : ℕ) (room room' : List OriginRoom) → AreDemandRows slots rows → IsWas rows row was → has_slots slots row ≡ true → rows' ≡ edited_rows rows row → length rows' ≤ 10000 →
-    (0 < was → row.amount.0 ≡ 0 → has_place (state_of slots rows' room') row ≡ true) → IsDone (state_of slots rows room) (state_of slots rows' room') row was
-is_done slots rows rows' row was room room' are is in' set few place =
-    let few' : length (edited_rows rows row) ≤ 10000 = omega (arith, ap length set) in
-    let back : with_row (data_of slots (edited_rows rows row)) (with_amount row was) ≡ Ok (data_of slots rows) =
-    with_row_done slots (edited_rows rows row) (with_amount row was) in' (omega (arith, ap length (edited_back rows row was is), are.few)) ∙ ap (λ r. Ok (data_of slots r)) (edited_back rows row was is) in
-    subst (λ r. IsDone (state_of slots rows room) (state_of slots r room') row was) (sym set) (record {
-      done = with_row_done slots rows row in' few';
+pub is_done : (slots most : ℕ) (rows rows' : List DemandRow) (row : DemandRow) (was : ℕ) (room room' : List OriginRoom) → AreDemandRows slots most rows → IsWas rows row was → has_slots slots row ≡ true → rows' ≡ edited_rows rows row → length rows' ≤ most →
+    (0 < was → row.amount.0 ≡ 0 → has_place (state_of slots most rows' room') row ≡ true) → IsDone (state_of slots most rows room) (state_of slots most rows' room') row was
+is_done slots most rows rows' row was room room' are is in' set few place =
+    let few' : length (edited_rows rows row) ≤ most = omega (arith, ap length set) in
+    let back : with_row (data_of slots most (edited_rows rows row)) (with_amount row was) ≡ Ok (data_of slots most rows) =
+    with_row_done slots most (edited_rows rows row) (with_amount row was) in' (omega (arith, ap length (edited_back rows row was is), are.few)) ∙ ap (λ r. Ok (data_of slots most r)) (edited_back rows row was is) in
+    subst (λ r. IsDone (state_of slots most rows room) (state_of slots most r room') row was) (sym set) (record {
+      done = with_row_done slots most rows row in' few';
       back = back;
-      undo = record { small = is.small; accepted = subst IsOk (sym back) refl; free = free_was slots rows row was room' (subst (λ r. 0 < was → row.amount.0 ≡ 0 → has_place (state_of slots r room') row ≡ true) set place) };
+      undo = record { small = is.small; accepted = subst IsOk (sym back) refl; free = free_was slots most rows row was room' (subst (λ r. 0 < was → row.amount.0 ≡ 0 → has_place (state_of slots most r room') row ≡ true) set place) };
     })
 
 -- what can be restored has slots within the horizon
@@ -144,16 +144,16 @@ pub restore_within : (d : DemandState) (row : DemandRow) → CanRestore d row �
 unfolding with_row
 restore_within d row can = within (has_slots d.demand.slots row) can.accepted
   where
-    within : (b : Bool) → IsOk (cond (not b) (Err BadSlots) (cond (nat_lt 10000 (length (edited_rows d.demand.rows row))) (Err TooManyRows) (Ok (data_of d.demand.slots (edited_rows d.demand.rows row))))) → b ≡ true
+    within : (b : Bool) → IsOk (cond (not b) (Err BadSlots) (cond (nat_lt d.demand.most_rows (length (edited_rows d.demand.rows row))) (Err TooManyRows) (Ok (data_of d.demand.slots d.demand.most_rows (edited_rows d.demand.rows row))))) → b ≡ true
     within true h = refl
     within false h = h
 
 -- what can be restored where no row has the key finds room
-pub restore_few : (d : DemandState) (row : DemandRow) (i : ℕ) → CanRestore d row → IsGap (own_rows d.demand.rows row.origin.0) row i → 0 < row.amount.0 → length d.demand.rows < 10000
+pub restore_few : (d : DemandState) (row : DemandRow) (i : ℕ) → CanRestore d row → IsGap (own_rows d.demand.rows row.origin.0) row i → 0 < row.amount.0 → length d.demand.rows < d.demand.most_rows
 unfolding with_row
-restore_few d row i can gap some = fewer (has_slots d.demand.slots row) (nat_lt 10000 (length (edited_rows d.demand.rows row))) refl can.accepted
+restore_few d row i can gap some = fewer (has_slots d.demand.slots row) (nat_lt d.demand.most_rows (length (edited_rows d.demand.rows row))) refl can.accepted
   where
-    fewer : (b many : Bool) → nat_lt 10000 (length (edited_rows d.demand.rows row)) ≡ many → IsOk (cond (not b) (Err BadSlots) (cond many (Err TooManyRows) (Ok (data_of d.demand.slots (edited_rows d.demand.rows row))))) → length d.demand.rows < 10000
+    fewer : (b many : Bool) → nat_lt d.demand.most_rows (length (edited_rows d.demand.rows row)) ≡ many → IsOk (cond (not b) (Err BadSlots) (cond many (Err TooManyRows) (Ok (data_of d.demand.slots d.demand.most_rows (edited_rows d.demand.rows row))))) → length d.demand.rows < d.demand.most_rows
     fewer false many is h = absurd (let e : false ≡ true = h in cc)
     fewer true true is h = absurd (let e : false ≡ true = h in cc)
     fewer true false is h = let filled = length_filled d.demand.rows row i gap some in grind (arith, nat_tests)

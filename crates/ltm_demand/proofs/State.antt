@@ -15,6 +15,7 @@ use Rattle.ltm_demand.specs.Rows.{row_cmp, before, standing, behind, row_if_any,
 use Rattle.ltm_demand.specs.Produced.{part, by_end, origin_part, origin_by_end}
 use Rattle.ltm_demand.specs.Kept.{AreDemandRows}
 use Rattle.ltm_demand.specs.Places.{IsAt, IsGap}
+use Rattle.ltm_units.specs.Bounds.{most_amount, most_produced}
 use Rattle.ltm_demand.proofs.Parts.{part_le}
 use Rattle.ltm_demand.proofs.Destinations.{origin_part_le}
 use Rattle.ltm_demand.proofs.Filters.{filter_twice, filter_apart, all_passed}
@@ -26,7 +27,7 @@ pub record IsWas (rows : List DemandRow) (row : DemandRow) (was : ℕ) : Type 0 
   pub standing_is : standing rows row ≡ row_if_any (with_amount row was)
   pub parted : rows ≡ before rows row ++ (row_if_any (with_amount row was) ++ behind rows row)
   pub amount : was ≡ amount_at rows row
-  pub small : was ≤ 1000000000
+  pub small : was ≤ most_amount
 
 some_shown : (row : DemandRow) → 0 < row.amount.0 → row_if_any row ≡ row ∷ []
 some_shown row some = let e : (row.amount.0 == 0) ≡ false = grind (arith, nat_tests) in ap (λ b. cond b [] (row ∷ [])) e
@@ -146,8 +147,8 @@ origin_edited rows row was o t is = sum_edited (origin_part o t) (origin_part_le
 pub origin_part_was : (rows : List DemandRow) (row : DemandRow) (was o t : ℕ) → IsWas rows row was → origin_part o t (with_amount row was) ≤ origin_by_end rows o t
 origin_part_was rows row was o t is = sum_was (origin_part o t) (origin_part_le o t) rows row was is
 
-pub total_le : (slots : ℕ) (rows : List DemandRow) → AreDemandRows slots rows → sum_by (λ r. r.amount.0) rows ≤ 10000000000000
-total_le slots rows are = omega (arith, sum_by-le (λ (r : DemandRow). r.amount.0) 1000000000 rows (λ k d less. (are.each k d less).small), are.few)
+pub total_le : (slots most : ℕ) (rows : List DemandRow) → AreDemandRows slots most rows → sum_by (λ r. r.amount.0) rows ≤ most_produced
+total_le slots most rows are = omega (arith, sum_by-le (λ (r : DemandRow). r.amount.0) most_amount rows (λ k d less. (are.each k d less).small), are.few, are.bounded)
 
 pub by_end_le : (rows : List DemandRow) (o d t : ℕ) → by_end rows o d t ≤ sum_by (λ r. r.amount.0) rows
 by_end_le rows o d t = sum_by-le-sum_by (part o d t) (λ r. r.amount.0) rows (part_le o d t)
@@ -168,7 +169,7 @@ ordered_edited rows row sorted =
           (all_passed p (λ x. AllByRecursion (λ y. row_cmp x y ≡ Less) (row ∷ filter q rows)) (λ x is. (lt_less (row_cmp x row) is, far x is)) rows)
     ]
 
-each_shown : (slots : ℕ) (row : DemandRow) → has_slots slots row ≡ true → row.amount.0 ≤ 1000000000 → All (IsDemandRow slots) (row_if_any row)
+each_shown : (slots : ℕ) (row : DemandRow) → has_slots slots row ≡ true → row.amount.0 ≤ most_amount → All (IsDemandRow slots) (row_if_any row)
 each_shown slots row in' small = elim (row.amount.0 == 0) as (λ b. (row.amount.0 == 0) ≡ b → All (IsDemandRow slots) (cond b [] (row ∷ []))) [
   | true ↦ λ _. All-nil (IsDemandRow slots)
   | false ↦ λ some. All-cons (IsDemandRow slots) row [] (record { some_slots = grind (arith, nat_tests); within = grind (arith, nat_tests); some_units = grind (arith, nat_tests); small = small }) (All-nil (IsDemandRow slots))
@@ -183,9 +184,10 @@ all_edited P rows row all own = All-append P (before rows row) (row_if_any row +
 pub all_shown : (P : DemandRow → Type 0) (row : DemandRow) → P row → All P (row_if_any row)
 all_shown P row is = elim (row.amount.0 == 0) as (λ b. All P (cond b [] (row ∷ []))) [ true ↦ All-nil P | false ↦ All-cons P row [] is (All-nil P) ]
 
-pub rows_edited : (slots : ℕ) (rows : List DemandRow) (row : DemandRow) → AreDemandRows slots rows → has_slots slots row ≡ true → row.amount.0 ≤ 1000000000 → length (edited_rows rows row) ≤ 10000 → AreDemandRows slots (edited_rows rows row)
-rows_edited slots rows row are in' small few = record {
+pub rows_edited : (slots most : ℕ) (rows : List DemandRow) (row : DemandRow) → AreDemandRows slots most rows → has_slots slots row ≡ true → row.amount.0 ≤ most_amount → length (edited_rows rows row) ≤ most → AreDemandRows slots most (edited_rows rows row)
+rows_edited slots most rows row are in' small few = record {
   ordered = ordered_edited rows row are.ordered;
   each = all_edited (IsDemandRow slots) rows row are.each (each_shown slots row in' small);
   few = few;
+  bounded = are.bounded;
 }

@@ -6,13 +6,14 @@ use Rattle.ltm_demand.specs.Rows.{OriginRoom, row_cmp, IsDemandRow}
 use Rattle.ltm_demand.specs.Produced.{by_end, origin_by_end}
 use Rattle.ltm_demand.specs.Productions.{told, IsReached}
 use Rattle.ltm_demand.specs.Origins.{OriginData, origin_at, rows_of}
-use Rattle.ltm_units.specs.Bounds.{most_demand_rows}
+use Rattle.ltm_units.specs.Bounds.{most_rows}
 
--- the rows are in the order of their keys, each a row within the horizon, and at most 10,000
-pub record AreDemandRows (slots : ℕ) (rows : List DemandRow) : Type 0 where
+-- the rows are in the order of their keys, each a row within the horizon, and at most so many, as a case may have
+pub record AreDemandRows (slots most : ℕ) (rows : List DemandRow) : Type 0 where
   pub ordered : IsStrictlySortedBy row_cmp rows
   pub each : All (IsDemandRow slots) rows
-  pub few : length rows ≤ most_demand_rows
+  pub few : length rows ≤ most
+  pub bounded : most ≤ most_rows
 
 -- the room that the origins have
 abbrev pub room_in : OriginData → OriginRoom
@@ -22,8 +23,8 @@ abbrev pub room_of : List OriginData → List OriginRoom
 room_of origins = map room_in origins
 
 -- each origin has its own rows, its table reaches to their ends and says what all rows have produced from it
-pub record IsKept (slots count : ℕ) (origins : List OriginData) : Type 0 where
-  pub are_rows : AreDemandRows slots (rows_of origins)
+pub record IsKept (slots most count : ℕ) (origins : List OriginData) : Type 0 where
+  pub are_rows : AreDemandRows slots most (rows_of origins)
   pub counted : count ≡ length (rows_of origins)
   pub own : (o : ℕ) → All (λ r. r.origin.0 ≡ o) (origin_at origins o).rows
   pub reached : (o : ℕ) → All (IsReached (origin_at origins o).table) (origin_at origins o).rows

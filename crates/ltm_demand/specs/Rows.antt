@@ -5,11 +5,12 @@ use Rattle.std.specs.Ordering.{nat_cmp, ordering_then, is_lt, is_eq, is_gt}
 use Rattle.ltm_demand.specs.declared.row.DemandRow.{DemandRow}
 use Rattle.ltm_demand.specs.declared.row.DemandFault.{DemandFault}
 use Rattle.ltm_demand.specs.declared.row.DemandFault.TheVariants.{BadSlots, TooManyRows}
-use Rattle.ltm_units.specs.Bounds.{most_amount, most_demand_rows}
+use Rattle.ltm_units.specs.Bounds.{most_amount}
 
--- the horizon, and the rows in the order of their keys
+-- the horizon, how many rows there may be, and the rows in the order of their keys
 pub record DemandData : Type 0 where
   pub slots : ℕ
+  pub most_rows : ℕ
   pub rows : List DemandRow
 
 -- what can be set of an origin without memory: how many rows find a place, and the destinations and slots below which
@@ -63,8 +64,8 @@ has_slots slots row = nat_lt row.from row.to && nat_le row.to slots
 unfoldable pub with_row : DemandData → DemandRow → Result DemandData DemandFault
 with_row d row =
     if not (has_slots d.slots row) then Err BadSlots
-    else if nat_lt most_demand_rows (length (edited_rows d.rows row)) then Err TooManyRows
-    else Ok (record { slots = d.slots; rows = edited_rows d.rows row })
+    else if nat_lt d.most_rows (length (edited_rows d.rows row)) then Err TooManyRows
+    else Ok (record d { rows = edited_rows d.rows row })
 
 -- the row with another amount
 abbrev pub with_amount : DemandRow → ℕ → DemandRow

@@ -2,6 +2,7 @@
 ghost use Rattle.std.specs.Prelude.{◌≡◌, ℕ, ◌+◌, ◌-◌, ◌<◌, ◌≤◌, [], ◌==◌, length, slice_index, IfOk, IfSome, None, Ok};
 ghost use Rattle.std.specs.List.{list_any};
 ghost use Rattle.ltm_demand.specs.Origins.{rows_of, origin_at, no_origin};
+ghost use Rattle.ltm_units.specs.Bounds as bounds;
 
 mod setting;
 
@@ -12,12 +13,16 @@ use ltm_units::{NoMemory, NodeId, Units};
 use std::alloc::Global;
 use std::marker::Model;
 
-/// The demand of a case: at most 10,000 rows, one for each key, and what each origin has produced.
+/// The most rows of a demand that is not told how many it takes.
+pub const DEFAULT_DEMAND_ROWS: u32 = 10_000;
+
+/// The demand of a case: rows, one for each key and at most as many as it was made for, and what each origin has produced.
 ///
-/// The rows lie in a list for each origin, beside its table, and origins by node number. Contracts see the horizon and
-/// all rows in the order of their keys, and beside them what can be set without memory. They do not see the tables.
+/// The rows lie in a list for each origin, beside its table, and origins by node number. Contracts see the horizon, the most
+/// rows and all rows in the order of their keys, and beside them what can be set without memory. They do not see the tables.
 pub struct Demand {
     slots: u32,
+    most_rows: u32,
     count: usize,
     // By node number, up to the last that has had a row.
     origins: Vec<Origin>,
@@ -28,6 +33,7 @@ impl Drop for Demand {
     fn drop(self) {
         let Demand {
             slots: _slots,
+            most_rows: _most_rows,
             count: _count,
             origins: _origins,
         } = self;
@@ -41,9 +47,9 @@ impl Model for Demand {
 
     ghost Value = { DemandState };
 
-    ghost view = { λ d. record { demand = record { slots = d.slots; rows = rows_of d.origins.items }; room = room_of d.origins.items } };
+    ghost view = { λ d. record { demand = record { slots = d.slots; most_rows = d.most_rows; rows = rows_of d.origins.items }; room = room_of d.origins.items } };
 
-    ghost invariant = { λ d. IsKept d.slots d.count d.origins.items };
+    ghost invariant = { λ d. IsKept d.slots d.most_rows d.count d.origins.items };
 }
 
 /// The origin at a place, where one has been made.
@@ -60,12 +66,21 @@ impl Demand {
     ghost use Rattle.ltm_demand.specs.Produced.{by_end, origin_by_end, total, has};
     ghost use Rattle.ltm_demand.specs.Kept.{AreDemandRows};
 
-    /// No row, over this many slots.
+    /// No row, over this many slots, and at most 10,000 rows from then on.
     pub fn new(alloc: Global, slots: u32) -> Demand
-        ensures { result.demand ≡ record { slots = slots; rows = [] } }
+        ensures { result.demand ≡ record { slots = slots; most_rows = bounds.default_demand_rows; rows = [] } }
+    {
+        Demand::of_most(alloc, slots, DEFAULT_DEMAND_ROWS)
+    }
+
+    /// No row, over this many slots, and at most so many rows from then on.
+    pub fn of_most(alloc: Global, slots: u32, most_rows: u32) -> Demand
+        requires { most_rows ≤ bounds.most_rows }
+        ensures { result.demand ≡ record { slots = slots; most_rows = most_rows; rows = [] } }
     {
         Demand {
             slots,
+            most_rows,
             count: 0,
             origins: Vec::new(alloc),
         }
@@ -74,7 +89,8 @@ impl Demand {
     /// How many rows there are.
     pub fn row_count(&self) -> usize
         ensures count { result ≡ length self.now.demand.rows }
-        ensures kept { AreDemandRows self.now.demand.slots self.now.demand.rows }
+        ensures kept { AreDemandRows self.now.demand.slots self.now.demand.most_rows
+            self.now.demand.rows }
     {
         self.count
     }
@@ -142,16 +158,16 @@ impl Demand {
     pub fn lengthen(&mut self, slots: u32)
         requires { self.old.demand.slots ≤ slots }
         ensures { self.new
-            ≡ record self.old { demand = record { slots = slots; rows = self.old.demand.rows } } }
+            ≡ record self.old { demand = record self.old.demand { slots = slots } } }
     {
         self.slots = slots;
     }
 
     /// Lowers the horizon, as to undo a `lengthen`, to no less than any row's end. No row changes.
     pub fn shorten(&mut self, fewer: u32)
-        requires { AreDemandRows fewer self.old.demand.rows }
+        requires { AreDemandRows fewer self.old.demand.most_rows self.old.demand.rows }
         ensures { self.new
-            ≡ record self.old { demand = record { slots = fewer; rows = self.old.demand.rows } } }
+            ≡ record self.old { demand = record self.old.demand { slots = fewer } } }
     {
         self.slots = fewer;
     }
@@ -166,12 +182,13 @@ impl Demand {
     /// The rows in the order of their keys: by origin, then destination, then first slot, then end.
     pub fn rows(&self) -> DemandRows<'_>
         ensures all { result ≡ self.now.demand.rows }
-        ensures kept { AreDemandRows self.now.demand.slots self.now.demand.rows }
+        ensures kept { AreDemandRows self.now.demand.slots self.now.demand.most_rows
+            self.now.demand.rows }
     {
         DemandRows::of(&self.origins)
     }
 
-    /// A demand with the same horizon and rows.
+    /// A demand with the same horizon, rows, and most rows.
     pub fn try_copy(&self) -> Result<Demand, NoMemory>
         ensures { IfOk result (λ copy. copy.demand ≡ self.now.demand) }
     {
@@ -181,6 +198,7 @@ impl Demand {
         }
         Ok(Demand {
             slots: self.slots,
+            most_rows: self.most_rows,
             count: self.count,
             origins,
         })

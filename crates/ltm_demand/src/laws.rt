@@ -12,7 +12,7 @@ pub fn production_never_falls()
     ensures rises { (rows : List DemandRow) (o d s t : ℕ) → s ≤ t
         → by_end rows o d s ≤ by_end rows o d t }
     ensures within { (rows : List DemandRow) (o d t : ℕ) → by_end rows o d t ≤ total rows }
-    ensures small { (slots : ℕ) (rows : List DemandRow) → AreDemandRows slots rows
+    ensures small { (slots most : ℕ) (rows : List DemandRow) → AreDemandRows slots most rows
         → total rows ≤ most_produced }
 {}
 

@@ -18,6 +18,6 @@ mod rows;
 mod shifting;
 
 pub use all_rows::DemandRows;
-pub use demand::Demand;
+pub use demand::{DEFAULT_DEMAND_ROWS, Demand};
 pub use laws::{destinations_add_up, production_never_falls, production_stays};
 pub use row::{DemandFault, DemandRow};

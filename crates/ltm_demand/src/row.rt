@@ -25,7 +25,7 @@ pub struct DemandRow {
 pub enum DemandFault {
     /// The row has no slot, or one past the horizon.
     BadSlots,
-    /// The row would be the 10,001st.
+    /// The demand has as many rows as it may have, and none with this key.
     TooManyRows,
     /// Memory was not found.
     NoMemory,

@@ -16,7 +16,7 @@ first_none s p room none = record {
 }
 
 -- what has produced nothing by the last boundary has produced nothing before
-idle_before : (s : Setting) (n k : ℕ) → IsSetting s → n < s.nodes → k ≤ s.slots → produced_in_all s n s.slots ≡ 0 → produced_in_all s n k ≡ 0
+pub idle_before : (s : Setting) (n k : ℕ) → IsSetting s → n < s.nodes → k ≤ s.slots → produced_in_all s n s.slots ≡ 0 → produced_in_all s n k ≡ 0
 idle_before s n k v x y none = sum_below-zero s.destinations (λ d. s.produced n d k) (λ d z.
     let last : s.produced n d s.slots ≤ produced_in_all s n s.slots = le-sum_below s.destinations (λ e. s.produced n e s.slots) d z in
     let rises : s.produced n d k ≤ s.produced n d s.slots = row_le s.destinations (s.produced n) s.slots (v.produced_rises n x) d k s.slots z y (omega arith) in

@@ -5,6 +5,7 @@ use Rattle.std.proofs.lemmas.Bool.{cases_eq, cases_lt}
 use Rattle.std.proofs.lemmas.Nat.{same_from_place}
 use Rattle.std.proofs.lemmas.Grind.{get_or_default_zero}
 use Rattle.std.proofs.lemmas.List.{get_or-replicate, length-replicate, length-set}
+use Rattle.ltm_units.specs.Bounds.{most_produced}
 use Rattle.ltm_units.specs.Sums.{sum_below}
 use Rattle.ltm_units.proofs.Sums.{sum_below-same, sum_below-zero, sum_below-change, sum_below-most, le-sum_below}
 use Rattle.ltm_curve.proofs.Longer.{at_old, at_new}
@@ -99,8 +100,8 @@ both_other nodes last n k one all amount whole xs at b j c x y =
 pub one_in_all : (nodes last n k : ℕ) (xs : List ℕ) → AreAmounts nodes last xs → n < nodes → k ≤ last → amount_at xs nodes n k ≤ amount_at xs nodes nodes k
 one_in_all nodes last n k xs are l b = omega (arith, are.adds_up k b, le-sum_below nodes (λ i. amount_at xs nodes i k) n l)
 
-pub all_small : (nodes last k : ℕ) (xs : List ℕ) → AreAmounts nodes last xs → k ≤ last → amount_at xs nodes nodes k ≤ nodes * 10000000000000
-all_small nodes last k xs are b = omega (arith, are.adds_up k b, sum_below-most nodes (λ i. amount_at xs nodes i k) 10000000000000 (λ i l. are.small i k l b))
+pub all_small : (nodes last k : ℕ) (xs : List ℕ) → AreAmounts nodes last xs → k ≤ last → amount_at xs nodes nodes k ≤ nodes * most_produced
+all_small nodes last k xs are b = omega (arith, are.adds_up k b, sum_below-most nodes (λ i. amount_at xs nodes i k) most_produced (λ i l. are.small i k l b))
 
 -- the sum of the amounts of a boundary, of which one is another
 row_sum : (nodes last n k one all amount whole : ℕ) (xs : List ℕ) → AreAmounts nodes last xs → AtPlaces nodes last n k one all →
@@ -112,7 +113,7 @@ row_sum nodes last n k one all amount whole xs are at =
     (λ i l other. both_other nodes last n k one all amount whole xs at i k (omega (arith, l)) (inl other) (inl (λ e. absurd (omega (arith, e, l))))) in
     omega (arith, change, are.adds_up k at.is_boundary, both_here nodes last n k one all amount whole xs are at)
 
-pub both_are : (nodes last n k one all amount whole : ℕ) (xs : List ℕ) → AreAmounts nodes last xs → AtPlaces nodes last n k one all → amount ≤ 10000000000000 →
+pub both_are : (nodes last n k one all amount whole : ℕ) (xs : List ℕ) → AreAmounts nodes last xs → AtPlaces nodes last n k one all → amount ≤ most_produced →
     whole + amount_at xs nodes n k ≡ amount_at xs nodes nodes k + amount → AreAmounts nodes last (set_both xs one amount all whole)
 both_are nodes last n k one all amount whole xs are at few is =
     let ys : List ℕ = set_both xs one amount all whole in
@@ -166,7 +167,7 @@ pub record AreRead (p : Production) (node boundary one all was whole : ℕ) : Ty
   pub was_is : was ≡ amount_at p.amounts.items p.nodes node boundary
   pub whole_is : whole ≡ amount_at p.amounts.items p.nodes p.nodes boundary
   pub within : was ≤ whole
-  pub small : whole ≤ p.nodes * 10000000000000
+  pub small : whole ≤ p.nodes * most_produced
 
 pub are_read : (p : Production) (node boundary one all was whole : ℕ) → node < p.nodes → boundary ≤ p.room → one ≡ boundary * (p.nodes + 1) + node → all ≡ boundary * (p.nodes + 1) + p.nodes →
     was ≡ slice_index_or p.amounts.items one was → whole ≡ slice_index_or p.amounts.items all whole → AreRead p node boundary one all was whole

@@ -9,7 +9,7 @@ ghost use Rattle.ltm_loading.specs.Groups.{groups};
 ghost use Rattle.ltm_loading.specs.Loading.{IsLoading};
 ghost use Rattle.ltm_setting.specs.Setting.{setting_of};
 ghost use Rattle.ltm_setting.specs.Places.{IsShapedFor, all_groups};
-ghost use Rattle.ltm_units.specs.Bounds.{longest_step, most_links};
+ghost use Rattle.ltm_units.specs.Bounds.{longest_step, most_links, most_nodes, most_slots};
 
 mod reading;
 
@@ -36,12 +36,12 @@ pub struct Loading {
     production: Production,
     curves: TotalCurves,
     ghost some_step: { 1 ≤ step.0 },
-    ghost short_step: { step.0 ≤ 60000 },
-    ghost few_links: { links ≤ 4000 },
-    ghost few_nodes: { nodes ≤ 8000 },
+    ghost short_step: { step.0 ≤ longest_step },
+    ghost few_links: { links ≤ most_links },
+    ghost few_nodes: { nodes ≤ most_nodes },
     ghost groups: { total_groups curves ≡ 2 * links + nodes + 1 },
     ghost times: { length free.items ≡ links },
-    ghost few_slots: { total_slots curves ≤ 10000 },
+    ghost few_slots: { total_slots curves ≤ most_slots },
     ghost origins: { production.nodes ≡ nodes },
     ghost amounts: { total_slots curves ≤ production.room },
     ghost rises: { (g k : ℕ) → g < total_groups curves → k < total_slots curves → total_at curves g k ≤ total_at curves g (k + 1) },

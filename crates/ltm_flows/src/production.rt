@@ -21,7 +21,7 @@ pub struct Production {
     nodes: u32,
     room: u32,
     amounts: Vec<u64>,
-    ghost few: { nodes ≤ 8000 },
+    ghost few: { nodes ≤ most_nodes },
     ghost are: { AreAmounts nodes room amounts.items },
 }
 

@@ -1,6 +1,7 @@
 //! What the totals of groups at a boundary come to in all, wherever they are kept.
 ghost use Rattle.std.specs.Prelude.{◌≡◌, ◌+◌, ◌-◌, ◌*◌, ◌^◌, ◌<◌, ◌≤◌, ℕ};
 ghost use Rattle.ltm_units.specs.Sums.{sum_below};
+ghost use Rattle.ltm_curve.specs.Totals.{most_total};
 ghost use Rattle.ltm_loading.specs.Groups.{up_of, down_of};
 ghost use Rattle.ltm_flows.specs.InAll.{AreSums};
 ghost use Rattle.ltm_units.specs.Bounds.{most_links, most_nodes};
@@ -23,7 +24,7 @@ pub(crate) trait GroupTotals {
         requires group { group < groups self.now }
         requires boundary { boundary ≤ last self.now }
         ensures total { result ≡ totals self.now group boundary }
-        ensures small { result ≤ 2 ^ 37 };
+        ensures small { result ≤ most_total };
 }
 
 impl GroupTotals for Curves {

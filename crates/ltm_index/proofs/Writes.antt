@@ -4,9 +4,11 @@ use Rattle.std.proofs.lemmas.Bool.{cases_eq, cases_lt}
 use Rattle.std.proofs.lemmas.List.{take_all, get_or_past, get_or-replicate, length-replicate, get_or_append_left, get_or-append_right}
 use Rattle.std.proofs.Math.Nat.{mul-le-mul_right, mul_comm}
 use Rattle.std.proofs.lemmas.Nat.{same_from_place, mod_below, mul-add-lt}
+use Rattle.ltm_units.specs.Bounds.{most_links}
 use Rattle.ltm_index.specs.declared.cells.Cell.{Cell}
 use Rattle.ltm_index.specs.declared.cells.Cells.{Cells}
 use Rattle.ltm_index.specs.Cells.{place_of, cell_at, empty_cell, SameShape, SameCells, PutsCell}
+use Rattle.ltm_index.specs.Sizes.{most_room}
 
 same_place : (links m j l k : ℕ) → m < links → l < links → place_of links m j ≡ place_of links l k → (j ≡ k) × (m ≡ l)
 same_place links m j l k in_m in_l same =
@@ -40,7 +42,7 @@ field_same old new l k cell f puts same m j lt =
     ]
 
 -- ---- empty cells
-pub size_fits : (blocks links : ℕ) → blocks ≤ 626 → links ≤ 4000 → blocks * links ≤ 2504000
+pub size_fits : (blocks links : ℕ) → blocks ≤ (most_room + 1) / 16 → links ≤ most_links → blocks * links ≤ (most_room + 1) / 16 * most_links
 size_fits blocks links few narrow = omega (arith, mul-le-mul_right links few)
 
 pub place_within : (room links l k : ℕ) → k ≤ room → l < links → (room + 1) % 16 ≡ 0 → place_of links l k < (room + 1) / 16 * links * 16

@@ -35,8 +35,8 @@ pub struct Cells {
     links: u32,
     room: u32,
     cells: Vec<Cell>,
-    ghost few: { links ≤ 4000 },
-    ghost short: { room ≤ 10015 },
+    ghost few: { links ≤ most_links },
+    ghost short: { room ≤ most_room },
     ghost whole: { (room + 1) % 16 ≡ 0 },
     ghost long: { length cells.items ≡ (room + 1) / 16 * links * 16 },
 }

@@ -37,8 +37,7 @@ fn slot_named(pointer: u16) -> Option<u32>
 impl ReadIndex {
     ghost use Rattle.ltm_index.specs.Lists.{links_listed, slots_listed, index_room, list_of, entry_of, Places, SameLists, IsEmpty, IsEmptyFrom};
 
-    /// An index of so many links and slots, at most 4,000 and 10,000, in which every list is empty. There is one boundary
-    /// more than slots.
+    /// An index of so many links and slots, in which every list is empty. There is one boundary more than slots.
     pub fn create(alloc: Global, links: u32, slots: u32) -> Result<ReadIndex, NoMemory>
         requires links { links ≤ most_links }
         requires slots { slots ≤ most_slots }
@@ -103,8 +102,7 @@ impl ReadIndex {
         slot_named(self.pointer_after(link, boundary, after))
     }
 
-    /// Makes room for a horizon of so many slots, at most 10,000, and changes nothing else. With want of memory nothing
-    /// changes.
+    /// Makes room for a horizon of so many slots, and changes nothing else. With want of memory nothing changes.
     pub fn reserve(&mut self, slots: u32) -> Result<(), NoMemory>
         requires { slots ≤ most_slots }
         ensures same { SameLists self.old self.new }

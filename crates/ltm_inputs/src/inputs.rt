@@ -10,6 +10,7 @@ ghost use Rattle.ltm_setting.specs.Setting.{setting_of};
 ghost use Rattle.ltm_inputs.specs.Parts.{ArePositions};
 ghost use Rattle.ltm_sending.specs.Fronts.{FrontAt};
 ghost use Rattle.ltm_setting.specs.Places.{IsNode, node_shape};
+ghost use Rattle.ltm_units.specs.Bounds.{most_destinations};
 
 use crate::row::put_counts;
 use crate::shapes::shape_of;
@@ -60,7 +61,7 @@ fn put_counts_in(
     requires ready { FrontAt scenario.now curves.now pair.slot }
     requires shape { shape ≡ node_shape scenario.now pair.node.0 }
     requires few_arms { shape.arms ≤ 5 }
-    requires few_destinations { shape.destinations ≤ 64 }
+    requires few_destinations { shape.destinations ≤ most_destinations }
     requires room { length row.old ≡ width shape }
     requires row { row.old
         ≡ uncounted_row (setting_of scenario.now) (counts_of curves.now) pair.node.0 pair.slot }
@@ -85,7 +86,7 @@ fn put_counts_in_front(
     requires ready { FrontAt scenario.now curves.now pair.slot }
     requires shape { shape ≡ node_shape scenario.now pair.node.0 }
     requires few_arms { shape.arms ≤ 5 }
-    requires few_destinations { shape.destinations ≤ 64 }
+    requires few_destinations { shape.destinations ≤ most_destinations }
     requires room { width shape ≤ length room.old }
     requires row { take (width shape) room.old
         ≡ uncounted_row (setting_of scenario.now) (counts_of curves.now) pair.node.0 pair.slot }

@@ -7,6 +7,7 @@ ghost use Rattle.ltm_setting.specs.Setting.{setting_of};
 ghost use Rattle.ltm_inputs.specs.Parts.{limit_parts, uncounted_parts};
 ghost use Rattle.ltm_sending.specs.Fronts.{FrontAt};
 ghost use Rattle.ltm_setting.specs.Places.{IsNode, node_shape};
+ghost use Rattle.ltm_units.specs.Bounds.{most_destinations};
 
 use crate::capacities::put_capacity;
 use crate::counts::{arrived, put_flows_counted};
@@ -57,7 +58,7 @@ pub(crate) fn put_counts(
     requires ready { FrontAt scenario.now curves.now pair.slot }
     requires shape { shape ≡ node_shape scenario.now pair.node.0 }
     requires few_arms { shape.arms ≤ 5 }
-    requires few_destinations { shape.destinations ≤ 64 }
+    requires few_destinations { shape.destinations ≤ most_destinations }
     requires room { length into.old ≡ counts_width shape }
     ensures { into.new ≡ count_row (setting_of scenario.now)
         (counts_of curves.now) pair.node.0 pair.slot }
@@ -83,7 +84,7 @@ pub(crate) fn put_uncounted<K: Kind>(
     requires shape { shape ≡ node_shape scenario.now pair.node.0 }
     requires few_arms { shape.arms ≤ 5 }
     requires few_outs { shape.outs ≤ 4 }
-    requires few_destinations { shape.destinations ≤ 64 }
+    requires few_destinations { shape.destinations ≤ most_destinations }
     requires room { counts_begin shape + length into.old ≡ width shape }
     ensures { into.new ≡ uncounted_parts (setting_of scenario.now)
         (counts_of curves.now) pair.node.0 pair.slot }

@@ -4,20 +4,21 @@ ghost use Rattle.ltm_node.specs.Shape.{width};
 ghost use Rattle.ltm_setting.specs.Setting.{setting_of};
 ghost use Rattle.ltm_inputs.specs.Widest.{IsWidest};
 ghost use Rattle.ltm_setting.specs.Places.{IsNode, node_shape};
+ghost use Rattle.ltm_units.specs.Bounds.{most_destinations};
 
 use ltm_node::NodeShape;
 use ltm_scenario::Scenario;
-use ltm_setting::{destination_at, destination_count, in_links, node_count, out_links};
+use ltm_setting::{by_turn, destination_at, destination_count, in_links, node_count, out_links};
 use ltm_units::NodeId;
 
-/// The shape of a node of a scenario: at most 5 arms, 4 out-links and 64 destinations.
+/// The shape of a node of a scenario: at most 5 arms, 4 out-links and 256 destinations.
 #[inline]
 pub fn shape_of(scenario: &Scenario, node: NodeId) -> NodeShape
     requires { IsNode scenario.now node.0 }
     ensures shape { result ≡ node_shape scenario.now node.0 }
     ensures few_arms { result.arms ≤ 5 }
     ensures few_outs { result.outs ≤ 4 }
-    ensures few_destinations { result.destinations ≤ 64 }
+    ensures few_destinations { result.destinations ≤ most_destinations }
 {
     let ins = in_links(scenario, node).len() as u32;
     let outs = out_links(scenario, node).len() as u32;
@@ -26,6 +27,7 @@ pub fn shape_of(scenario: &Scenario, node: NodeId) -> NodeShape
         outs,
         destinations: destination_count(scenario),
         own: destination_at(scenario, node),
+        by_turn: by_turn(scenario),
     }
 }
 

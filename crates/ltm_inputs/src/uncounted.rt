@@ -9,6 +9,7 @@ ghost use Rattle.ltm_inputs.specs.Idle.{IsIdle};
 ghost use Rattle.ltm_inputs.specs.Parts.{ArePositions};
 ghost use Rattle.ltm_sending.specs.Fronts.{FrontAt};
 ghost use Rattle.ltm_setting.specs.Places.{IsNode, node_shape};
+ghost use Rattle.ltm_units.specs.Bounds.{most_destinations};
 
 use crate::flows::put_flows_and_limits;
 use crate::numbers::{is_any_sent, put_zeros};
@@ -38,7 +39,7 @@ fn put_row_if_sent<K: Kind>(
     requires shape { shape ≡ node_shape scenario.now pair.node.0 }
     requires few_arms { shape.arms ≤ 5 }
     requires few_outs { shape.outs ≤ 4 }
-    requires few_destinations { shape.destinations ≤ 64 }
+    requires few_destinations { shape.destinations ≤ most_destinations }
     requires room { length row.old ≡ width shape }
     ensures row { IsTrue result
         → row.new ≡ uncounted_row (setting_of scenario.now)
@@ -69,7 +70,7 @@ fn put_any_row_if_sent(
     requires shape { shape ≡ node_shape scenario.now pair.node.0 }
     requires few_arms { shape.arms ≤ 5 }
     requires few_outs { shape.outs ≤ 4 }
-    requires few_destinations { shape.destinations ≤ 64 }
+    requires few_destinations { shape.destinations ≤ most_destinations }
     requires room { length row.old ≡ width shape }
     ensures row { IsTrue result
         → row.new ≡ uncounted_row (setting_of scenario.now)
@@ -104,7 +105,7 @@ fn put_front_if_sent(
     requires shape { shape ≡ node_shape scenario.now pair.node.0 }
     requires few_arms { shape.arms ≤ 5 }
     requires few_outs { shape.outs ≤ 4 }
-    requires few_destinations { shape.destinations ≤ 64 }
+    requires few_destinations { shape.destinations ≤ most_destinations }
     requires room { width shape ≤ length room.old }
     ensures row { IsTrue result
         → take (width shape) room.new
@@ -158,7 +159,7 @@ fn put_uncounted_row(
     requires shape { shape ≡ node_shape scenario.now pair.node.0 }
     requires few_arms { shape.arms ≤ 5 }
     requires few_outs { shape.outs ≤ 4 }
-    requires few_destinations { shape.destinations ≤ 64 }
+    requires few_destinations { shape.destinations ≤ most_destinations }
     requires room { length row.old ≡ width shape }
     requires places { (setting_of scenario.now).ins pair.node.0 ≤ length positions.old }
     ensures row { row.new
@@ -188,7 +189,7 @@ fn put_uncounted_front(
     requires shape { shape ≡ node_shape scenario.now pair.node.0 }
     requires few_arms { shape.arms ≤ 5 }
     requires few_outs { shape.outs ≤ 4 }
-    requires few_destinations { shape.destinations ≤ 64 }
+    requires few_destinations { shape.destinations ≤ most_destinations }
     requires room { width shape ≤ length room.old }
     requires places { (setting_of scenario.now).ins pair.node.0 ≤ length positions.old }
     ensures row { take (width shape) room.new

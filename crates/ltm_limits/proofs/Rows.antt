@@ -31,13 +31,6 @@ pub limit_at_place : (table : List ℕ) (links slots link slot : ℕ) → link <
 limit_at_place table links slots link slot hl hs =
     ap (λ xs. get_or xs slot 0) (link_at table links slots link hl) ∙ slot_at table links slots link slot hs
 
-pub place_small : (slot links link slots : ℕ) → slot < slots → link < links → links ≤ 4000 → slots ≤ 10000 → slot * links + link < 40000000
-place_small slot links link slots hs hl links_few slots_few =
-    omega (arith, mul-add-lt slot links link slots hs hl, mul-le-mul_right slots links_few)
-
-pub places_small : (slots links : ℕ) → links ≤ 4000 → slots ≤ 10000 → slots * links ≤ 40000000
-places_small slots links links_few slots_few = omega (arith, mul-le-mul_left slots links_few)
-
 -- a link has the limits in a list where each place has what the table says
 pub link_is : (table : List ℕ) (links slots link : ℕ) (xs : List ℕ) → length xs ≡ slots → ((slot : ℕ) → slot < slots → get_or xs slot 0 ≡ said table links link slot) → xs ≡ limits_of_link table links slots link
 unfolding limits_of_link

@@ -68,7 +68,7 @@ impl SlotLimits {
     }
 
     /// The limit of a link at a slot.
-    #[tactic(auto, using(crate::proofs::Rows::limit_at_place, crate::proofs::Rows::place_small, crate::proofs::Rows::limits_long))]
+    #[tactic(auto, using(crate::proofs::Rows::limit_at_place, crate::proofs::Rows::limits_long))]
     pub fn limit(&self, link: u32, slot: u32) -> u16
         requires link { link < length self.now.limits }
         requires slot { slot < self.now.slots }
@@ -79,7 +79,7 @@ impl SlotLimits {
     }
 
     /// Sees to it that the limits of the slots below `to` can be exchanged. No limit changes.
-    #[tactic(auto, using(crate::proofs::Rows::limits_reach, crate::proofs::Rows::limits_long, crate::proofs::Rows::places_small, crate::proofs::Horizons::quiet_reach))]
+    #[tactic(auto, using(crate::proofs::Rows::limits_reach, crate::proofs::Rows::limits_long, crate::proofs::Horizons::quiet_reach))]
     pub fn reach(&mut self, to: u32) -> Result<(), NoMemory>
         requires { to ≤ self.old.slots }
         ensures limits { self.new.limits ≡ self.old.limits }

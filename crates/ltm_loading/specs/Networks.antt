@@ -2,7 +2,7 @@
 use Rattle.std.specs.Prelude.{◌≡◌, ℕ, ◌+◌, ◌<◌, ◌≤◌}
 use Rattle.ltm_loading.specs.Setting.{Setting}
 
--- two settings of one network: they may differ in times, limits, demand, weights and horizon
+-- two settings of one network, whose nodes move by one rule: they may differ in times, limits, demand, weights and horizon
 pub record SameNetwork (r s : Setting) : Type 0 where
   pub nodes : r.nodes ≡ s.nodes
   pub links : r.links ≡ s.links
@@ -12,6 +12,7 @@ pub record SameNetwork (r s : Setting) : Type 0 where
   pub outs : r.outs ≡ s.outs
   pub out_link : r.out_link ≡ s.out_link
   pub own : r.own ≡ s.own
+  pub by_turn : r.by_turn ≡ s.by_turn
 
 -- two settings of one network and step give a pair the same numbers: those of its in-links and out-links at its slot, of
 -- its origin up to the slot's end, and its weights

@@ -2,7 +2,7 @@
 --
 -- Link a leads from n1 to n2, in 4 slots of 1000 ms. Its free-flow time is 2000 ms, its wave time 4000 ms, its capacity 500
 -- units a slot and its storage 3000 units. n1 produces 500 units for n2 in each of the slots 0 and 1.
-use Rattle.std.specs.Prelude.{◌≡◌, ℕ, ◌==◌, List, [], ◌∷◌, map, slice_index, slice_index_or, if◌then◌else◌, Some, None}
+use Rattle.std.specs.Prelude.{◌≡◌, ℕ, ◌==◌, List, [], ◌∷◌, map, slice_index, slice_index_or, if◌then◌else◌, false, Some, None}
 use Rattle.ltm_curve.specs.Counts.{Counts}
 use Rattle.ltm_loading.specs.Setting.{Setting, IsSetting}
 use Rattle.ltm_loading.specs.Pairs.{pair_row}
@@ -18,6 +18,7 @@ one_road limit = record {
   links = 1;
   destinations = 1;
   origin_capacity = 1000;
+  by_turn = false;
   tail = λ l. 0;
   head = λ l. 1;
   ins = λ u. u;

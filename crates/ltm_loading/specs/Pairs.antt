@@ -15,7 +15,7 @@ abbrev pub arms_of : Setting → ℕ → ℕ
 arms_of s u = s.ins u + min 1 (s.outs u)
 
 abbrev pub shape_at : Setting → ℕ → NodeShape
-shape_at s u = record { arms = arms_of s u; outs = s.outs u; destinations = s.destinations; own = s.own u }
+shape_at s u = record { arms = arms_of s u; outs = s.outs u; destinations = s.destinations; own = s.own u; by_turn = s.by_turn }
 
 -- what an arm sends of a destination
 abbrev pub sending : Setting → Counts → ℕ → ℕ → ℕ → ℕ → ℕ

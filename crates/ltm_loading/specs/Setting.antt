@@ -1,7 +1,7 @@
 -- What a loading reads of a case.
-use Rattle.std.specs.Prelude.{◌≡◌, ℕ, ◌<◌, ◌≤◌, Option, Some}
+use Rattle.std.specs.Prelude.{◌≡◌, ℕ, ◌<◌, ◌≤◌, Bool, Option, Some}
 use Rattle.ltm_curve.specs.First.{RowsRise}
-use Rattle.ltm_units.specs.Bounds.{most_in_slot, most_slots}
+use Rattle.ltm_units.specs.Bounds.{most_in_slot, most_slots, most_destinations}
 
 -- links, nodes and destinations are numbers; a time is in milliseconds, an amount in units
 pub record Setting : Type 0 where
@@ -11,6 +11,8 @@ pub record Setting : Type 0 where
   pub links : ℕ
   pub destinations : ℕ
   pub origin_capacity : ℕ
+  -- whether what an arm of a node moves by an out-link is rounded down once for all destinations
+  pub by_turn : Bool
   -- the nodes at the ends of a link
   pub tail : ℕ → ℕ
   pub head : ℕ → ℕ
@@ -61,7 +63,7 @@ pub record IsSmall (s : Setting) : Type 0 where
   pub few_slots : s.slots ≤ most_slots
   pub few_ins : (u : ℕ) → u < s.nodes → s.ins u ≤ 4
   pub few_outs : (u : ℕ) → u < s.nodes → s.outs u ≤ 4
-  pub few_destinations : s.destinations ≤ 64
+  pub few_destinations : s.destinations ≤ most_destinations
   pub capacities : (l : ℕ) → l < s.links → s.capacity l ≤ most_in_slot
   pub origin_capacity : s.origin_capacity ≤ most_in_slot
   pub weights : (u d t j : ℕ) → u < s.nodes → d < s.destinations → t < s.slots → j < s.outs u → s.weight u d t j ≤ 4294967295

@@ -8,6 +8,8 @@ use Rattle.ltm_demand.specs.declared.row.DemandRow.{DemandRow}
 use Rattle.ltm_demand.specs.Rows.{edited_rows}
 use Rattle.ltm_scenario.specs.declared.edit.EditCause.{EditCause}
 use Rattle.ltm_scenario.specs.declared.edit.EditCause.TheVariants.{UnknownName, BadSlots}
+use Rattle.ltm_units.specs.Bounds.{default_demand_rows}
+use Rattle.ltm_scenario.specs.declared.setup.Setup.{Setup}
 use Rattle.ltm_scenario.specs.Data.{ScenarioData}
 use Rattle.ltm_scenario.specs.Reads.{destination_of, has_no_out_link, has_split}
 use Rattle.ltm_scenario.specs.IsScenario.{IsScenario}
@@ -31,7 +33,7 @@ limited s nodes width j h net l =
     let name : link_name s.network j ≡ name_of_link j = h.along.names j (omega (arith, h.along.long)) in
     let at : find_link s.network (name_of_link j) ≡ Some j = ap (find_link s.network) (sym name) ∙ names_found.link_found s.network j net l in
     ap (λ (o : Option ℕ). found o UnknownName >>= λ link. refuse (not (nat_lt 5 15 && nat_le 15 s.setup.slots)) BadSlots >>= λ _. Ok link) at
-    ∙ ap (λ (n : ℕ). refuse (not (nat_lt 5 15 && nat_le 15 n)) BadSlots >>= λ _. Ok j) h.slots
+    ∙ ap (λ (n : ℕ). refuse (not (nat_lt 5 15 && nat_le 15 n)) BadSlots >>= λ _. Ok j) (ap (λ (z : Setup). z.slots) h.setup)
 
 -- the row of the last node's demand for the first
 abbrev last_row : ℕ → DemandRow
@@ -47,19 +49,19 @@ row_found s nodes width last h l pos has =
     ap (λ (list : List ℕ). destination_of list (number s.network 0)) h.ends ∙ ap (λ (b : Bool). cond {A = Option ℕ} b (Some 0) (position_from (λ d. d == number s.network 0) 1 (number s.network (width - 1) ∷ []))) (is_same (number s.network 0) (number s.network 0) refl) in
     let out : has_no_out_link s (number s.network last) ≡ false = is_other (length (out_links s.network (number s.network last))) 0 (λ e. absurd (omega (arith, e, goes_out s nodes width last h l))) in
     let apart : (number s.network last == number s.network 0) ≡ false = numbers_apart s.network last 0 origin end (omega (arith, h.grid.few)) (omega arith) (omega arith) in
-    let slots : are_slots s 0 10 ≡ true = ap (λ (n : ℕ). nat_lt 0 10 && nat_le 10 n) h.slots in
+    let slots : are_slots s 0 10 ≡ true = ap (λ (n : ℕ). nat_lt 0 10 && nat_le 10 n) (ap (λ (z : Setup). z.slots) h.setup) in
     rw (origin, end, is_end, out, apart, slots, has) refl
 
 -- both edits are made
 pub batch_accepted : (s : ScenarioData) (nodes width j last : ℕ) → IsLaid nodes width s → IsNetwork s.network → j < length s.network.links → last < nodes → 0 < last →
-    has_split s.splits (number s.network last) 0 ≡ true → length s.demand < 10000 → IsOk (edited_all s (two_edits j last))
+    has_split s.splits (number s.network last) 0 ≡ true → length s.demand < default_demand_rows → IsOk (edited_all s (two_edits j last))
 batch_accepted s nodes width j last h net l in_grid pos has few =
     let first : ScenarioData = with_limit_at s Entry j 5 15 1000 in
-    let laid : IsLaid nodes width (with_limit_at s Entry j 5 15 1000) = record { grid = h.grid; slots = h.slots; most_cells = h.most_cells; along = h.along; ends = h.ends } in
+    let laid : IsLaid nodes width (with_limit_at s Entry j 5 15 1000) = record { grid = h.grid; setup = h.setup; along = h.along; ends = h.ends } in
     let limit : limit_edited s Entry (name_of_link j) 5 15 1000 ≡ Ok (with_limit_at s Entry j 5 15 1000) =
     ap (λ (r : Result ℕ EditCause). r >>= λ link. Ok (with_limit_at s Entry link 5 15 1000)) (limited s nodes width j h net l) in
     let row = row_found (with_limit_at s Entry j 5 15 1000) nodes width last laid in_grid pos has in
-    let set = row_is_set (with_limit_at s Entry j 5 15 1000) (last_row (number s.network last)) (ap (λ (n : ℕ). nat_lt 0 10 && nat_le 10 n) h.slots) few in
+    let set = row_is_set (with_limit_at s Entry j 5 15 1000) (last_row (number s.network last)) (ap (λ (n : ℕ). nat_lt 0 10 && nat_le 10 n) (ap (λ (z : Setup). z.slots) h.setup)) (omega (arith, few, ap (λ (z : Setup). z.most_demand_rows) h.setup)) in
     let demand : demand_edited (with_limit_at s Entry j 5 15 1000) (name_of_node last) (name_of_node 0) 0 10 30000 ≡ Ok (record (with_limit_at s Entry j 5 15 1000) { demand = edited_rows s.demand (last_row (number s.network last)) }) =
     ap (λ (r : Result DemandRow EditCause). r >>= λ x. or_edit_cause cause_of_demand (with_demand (with_limit_at s Entry j 5 15 1000) x)) row
     ∙ ap (or_edit_cause cause_of_demand) set in

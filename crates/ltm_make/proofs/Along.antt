@@ -5,9 +5,10 @@ use Rattle.std.proofs.lemmas.List.{get_or_push, append-nil}
 use Rattle.std.proofs.lemmas.Bool.{cases_lt}
 use Rattle.std.proofs.lemmas.Fmt.{decimal_injective}
 use Rattle.ltm_network.specs.Names.{same, place_of, with_name, number_of}
-use Rattle.ltm_network.specs.Network.{Link, NetworkData, no_link, tail_of, head_of}
+use Rattle.ltm_network.specs.Network.{Link, NetworkData, no_link, empty_network, tail_of, head_of}
 use Rattle.ltm_network.proofs.Apart.{position_last, found_still}
 use Rattle.ltm_network.proofs.Finding.{same_itself}
+use Rattle.ltm_units.specs.Bounds.{default_links}
 use Rattle.ltm_make.specs.declared.grid.Road.{Road}
 use Rattle.ltm_make.specs.Names.{numbered, name_of_node, name_of_link}
 use Rattle.ltm_make.specs.Links.{with_road_link}
@@ -29,8 +30,8 @@ pub placed : (names : List (List ℕ)) (name : List ℕ) → place_of (with_name
 placed names name = placed_by names name (place_of names name) refl
 
 -- nothing leads along no road
-pub along_none : IsAlong (record { nodes = []; links = [] }) []
-along_none = record { long = refl; names = λ i l. absurd (omega arith); tails = λ i l. absurd (omega arith); heads = λ i l. absurd (omega arith) }
+pub along_none : IsAlong (empty_network default_links) []
+along_none = record { takes = refl; long = refl; names = λ i l. absurd (omega arith); tails = λ i l. absurd (omega arith); heads = λ i l. absurd (omega arith) }
 
 -- and with one link more it leads along one road more
 pub along_more : (d : NetworkData) (roads : List Road) (r : Road) → IsAlong d roads → IsAlong (with_road_link d r) (roads ++ r ∷ [])
@@ -45,6 +46,7 @@ along_more d roads r h =
     let old_road : (i : ℕ) → i < length roads → road_at (roads ++ r ∷ []) i ≡ road_at roads i = λ i l. get_or-append roads (r ∷ []) no_road i l in
     let new_road : (i : ℕ) → i ≡ length roads → road_at (roads ++ r ∷ []) i ≡ r = λ i at. get_or_push roads r no_road i (sym at) in
     record {
+      takes = h.takes;
       long = omega (arith, length-append d.links (link ∷ []), long, h.long);
       names = λ i l. elim (cases_lt i (length roads)) [
         | inl low ↦ ap (λ (x : Link). x.name) (old i low) ∙ h.names i low

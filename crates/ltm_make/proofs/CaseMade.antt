@@ -2,9 +2,9 @@
 use Rattle.std.proofs.Common.{◌≡◌, ◌≢◌, ℕ, zero, suc, ◌+◌, ◌-◌, ◌*◌, ◌<◌, ◌≤◌, ◌==◌, Bool, true, false, cond, List, [], ◌∷◌, length, unwrap_or, Option, slice_index, refl, sym, ap, subst, ◌∙◌, arith, inl, inr}
 use Rattle.std.proofs.lemmas.Bool.{cases_lt}
 use Rattle.ltm_network.specs.Names.{place_of}
-use Rattle.ltm_network.specs.Network.{NetworkData}
+use Rattle.ltm_units.specs.Bounds.{default_links}
+use Rattle.ltm_network.specs.Network.{NetworkData, empty_network}
 use Rattle.ltm_splits.specs.Rows.{SplitRow}
-use Rattle.ltm_scenario.specs.Setup.{default_cells}
 use Rattle.ltm_scenario.specs.Data.{ScenarioData}
 use Rattle.ltm_scenario.specs.Reads.{destination_node, has_split}
 use Rattle.ltm_scenario.specs.Valid.{IsValid}
@@ -12,7 +12,7 @@ use Rattle.ltm_scenario.specs.IsScenario.{IsScenario}
 use Rattle.ltm_make.specs.declared.grid.Road.{Road}
 use Rattle.ltm_make.specs.declared.making.Making.{Making}
 use Rattle.ltm_make.specs.Grid.{IsWidth, roads}
-use Rattle.ltm_make.specs.Links.{with_road, with_roads, making_from, with_grid}
+use Rattle.ltm_make.specs.Links.{made_setup, with_road, with_roads, making_from, with_grid}
 use Rattle.ltm_make.specs.Branches.{number}
 use Rattle.ltm_make.specs.Splits.{with_ends, with_splits, IsGrid, IsLaid}
 use Rattle.ltm_make.specs.Demands.{with_demands}
@@ -36,24 +36,22 @@ one_width nodes v w a b =
 
 -- ---- links leave all else as it is
 pub record IsFresh (s : ScenarioData) : Type 0 where
-  pub slots : s.setup.slots ≡ 60
-  pub most_cells : s.setup.most_cells ≡ default_cells
+  pub setup : s.setup ≡ made_setup
   pub destinations : s.destinations ≡ []
   pub splits : s.splits ≡ []
   pub demand : s.demand ≡ []
 
 roads_fresh : (m : Making) (list : List Road) → IsFresh m.scenario → IsFresh (with_roads m list).scenario
 roads_fresh m [] h = h
-roads_fresh m (r ∷ list) h = roads_fresh (with_road m r) list (record { slots = h.slots; most_cells = h.most_cells; destinations = h.destinations; splits = h.splits; demand = h.demand })
+roads_fresh m (r ∷ list) h = roads_fresh (with_road m r) list (record { setup = h.setup; destinations = h.destinations; splits = h.splits; demand = h.demand })
 
 pub grid_fresh : (start nodes width : ℕ) → IsFresh (with_grid nodes width (making_from start)).scenario
-grid_fresh start nodes width = roads_fresh (making_from start) (roads nodes width nodes) (record { slots = refl; most_cells = refl; destinations = refl; splits = refl; demand = refl })
+grid_fresh start nodes width = roads_fresh (making_from start) (roads nodes width nodes) (record { setup = refl; destinations = refl; splits = refl; demand = refl })
 
 pub ends_laid : (start nodes width : ℕ) → IsGrid nodes width → IsLaid nodes width (with_ends width (with_grid nodes width (making_from start))).scenario
 ends_laid start nodes width g = record {
   grid = g;
-  slots = (grid_fresh start nodes width).slots;
-  most_cells = (grid_fresh start nodes width).most_cells;
+  setup = (grid_fresh start nodes width).setup;
   along = made_along (making_from start) (roads nodes width nodes) refl;
   ends = refl;
 }
@@ -103,7 +101,7 @@ made_few start nodes width =
 made_named : (start nodes width : ℕ) → IsGrid nodes width → AreNamed nodes (made_from start nodes width).scenario.network.nodes
 made_named start nodes width g =
     subst (λ (d : NetworkData). AreNamed nodes d.nodes) (sym (made_network start nodes width ∙ network_made (making_from start) (roads nodes width nodes)))
-    (along_named nodes (record { nodes = []; links = [] }) (roads nodes width nodes) (λ u l. absurd (omega arith)) (are_roads nodes width nodes (omega (arith, some_width nodes width g)) (omega arith)))
+    (along_named nodes (empty_network default_links) (roads nodes width nodes) (λ u l. absurd (omega arith)) (are_roads nodes width nodes (omega (arith, some_width nodes width g)) (omega arith)))
 
 -- a node but the first has a split row home, and a node but the end of the first row one away
 pub made_home : (start nodes width k : ℕ) → k < nodes → k ≢ 0 → has_split (made_from start nodes width).scenario.splits (number (made_from start nodes width).scenario.network k) 0 ≡ true
@@ -151,8 +149,7 @@ made_valid start nodes width g is =
     let h = made_laid start nodes width g in
     is_valid (made_from start nodes width).scenario is (record {
       two = ap length h.ends;
-      slots = h.slots;
-      most_cells = h.most_cells;
+      setup = h.setup;
       begun = subst Begun (sym (made_splits start nodes width)) (splits_begun nodes width nodes (ends_of start nodes width) (grid_fresh start nodes width).splits);
       covered = covered_at start nodes width g is;
     })

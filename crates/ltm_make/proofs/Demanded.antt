@@ -10,6 +10,7 @@ use Rattle.ltm_demand.proofs.Restoring.{with_row_done}
 use Rattle.ltm_network.specs.Network.{out_links}
 use Rattle.ltm_scenario.specs.Data.{ScenarioData}
 use Rattle.ltm_scenario.specs.Build.{with_demand, ◌>>=◌}
+use Rattle.ltm_units.specs.Bounds.{default_demand_rows}
 use Rattle.ltm_make.specs.declared.making.Making.{Making}
 use Rattle.ltm_make.specs.Grid.{roads}
 use Rattle.ltm_make.specs.Branches.{number}
@@ -51,14 +52,14 @@ length_edited rows row =
       length-append (row_if_any row) (filter (λ (r : DemandRow). is_gt (row_cmp r row)) rows),
     )
 
-pub row_is_set : (s : ScenarioData) (row : DemandRow) → has_slots s.setup.slots row ≡ true → length s.demand < 10000 → with_demand s row ≡ Ok (record s { demand = edited_rows s.demand row })
+pub row_is_set : (s : ScenarioData) (row : DemandRow) → has_slots s.setup.slots row ≡ true → length s.demand < s.setup.most_demand_rows → with_demand s row ≡ Ok (record s { demand = edited_rows s.demand row })
 row_is_set s row within few =
     ap (λ (r : Result DemandData DemandFault). r >>= λ next. Ok (record s { demand = next.rows }))
-    (with_row_done s.setup.slots s.demand row within (omega (arith, length_edited s.demand row)))
+    (with_row_done s.setup.slots s.setup.most_demand_rows s.demand row within (omega (arith, length_edited s.demand row)))
 
 -- ---- what stays
 row_stays_laid : (nodes width k destination : ℕ) (m : Making) → IsLaid nodes width m.scenario → IsLaid nodes width (with_demand_row k destination m).scenario
-row_stays_laid nodes width k destination m h = record { grid = h.grid; slots = h.slots; most_cells = h.most_cells; along = h.along; ends = h.ends }
+row_stays_laid nodes width k destination m h = record { grid = h.grid; setup = h.setup; along = h.along; ends = h.ends }
 
 if_laid : (nodes width : ℕ) (b : Bool) (m next : Making) → IsLaid nodes width m.scenario → IsLaid nodes width next.scenario → IsLaid nodes width (cond b m next).scenario
 if_laid nodes width true m next h g = h
@@ -101,9 +102,9 @@ goes_out s n w k h l =
     let r = road_from n w k h.grid l in
     omega (arith, (road_link s.network (roads n w n) k r.0 h.along r.1).inside)
 
-pub home_origin : (s : ScenarioData) (n w k : ℕ) → IsLaid n w s → 0 < k → k < n → length s.demand < 10000 → IsOrigin s k 0
+pub home_origin : (s : ScenarioData) (n w k : ℕ) → IsLaid n w s → 0 < k → k < n → length s.demand < default_demand_rows → IsOrigin s k 0
 home_origin s n w k h pos l few = record {
-  slots = h.slots;
+  setup = h.setup;
   few = few;
   found = node_found s.network n w k h.grid h.along l;
   goes_out = goes_out s n w k h l;
@@ -112,9 +113,9 @@ home_origin s n w k h pos l few = record {
       ∙ numbers_apart s.network k 0 (node_found s.network n w k h.grid h.along l) (node_found s.network n w 0 h.grid h.along (omega arith)) (omega (arith, h.grid.few)) (omega arith) (omega arith);
 }
 
-pub away_origin : (s : ScenarioData) (n w k : ℕ) → IsLaid n w s → k + 1 ≢ w → k < n → length s.demand < 10000 → IsOrigin s k 1
+pub away_origin : (s : ScenarioData) (n w k : ℕ) → IsLaid n w s → k + 1 ≢ w → k < n → length s.demand < default_demand_rows → IsOrigin s k 1
 away_origin s n w k h other l few = record {
-  slots = h.slots;
+  setup = h.setup;
   few = few;
   found = node_found s.network n w k h.grid h.along l;
   goes_out = goes_out s n w k h l;

@@ -1,7 +1,8 @@
 -- A case with links along roads.
 use Rattle.std.proofs.Common.{◌≡◌, ℕ, ◌<◌, ◌≤◌, List, [], ◌∷◌, ◌++◌, length, take, refl, sym, ap, subst, ◌∙◌, Ok}
-use Rattle.ltm_network.specs.Network.{NetworkData, checked}
+use Rattle.ltm_network.specs.Network.{NetworkData, empty_network, checked}
 use Rattle.ltm_scenario.specs.Data.{ScenarioData, empty_scenario}
+use Rattle.ltm_units.specs.Bounds.{default_links}
 use Rattle.ltm_make.specs.declared.grid.Road.{Road}
 use Rattle.ltm_make.specs.declared.making.Making.{Making}
 use Rattle.ltm_make.specs.Names.{name_of_node, name_of_link}
@@ -30,9 +31,9 @@ bare_at_first s e = subst TakesLinks (sym e) (record { no_splits = refl; step = 
 -- its links lead along them
 pub made_along : (m : Making) (list : List Road) → m.scenario ≡ empty_scenario made_setup → IsAlong (with_roads m list).scenario.network list
 made_along m list e =
-    let start : m.scenario.network ≡ record { nodes = []; links = [] } = ap (λ (s : ScenarioData). s.network) e in
+    let start : m.scenario.network ≡ empty_network default_links = ap (λ (s : ScenarioData). s.network) e in
     subst (λ (d : NetworkData). IsAlong d list) (sym (network_made m list ∙ ap (λ (d : NetworkData). network_along d list) start))
-    (along (record { nodes = []; links = [] }) [] list along_none)
+    (along (empty_network default_links) [] list along_none)
 
 -- and the next one of a grid is taken
 pub grid_taken : (m : Making) (nodes width i : ℕ) → m.scenario ≡ empty_scenario made_setup → nodes ≤ 400 → 1 ≤ width → i < length (roads nodes width nodes) →

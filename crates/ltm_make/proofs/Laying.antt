@@ -5,6 +5,7 @@ use Rattle.std.proofs.lemmas.Bool.Decides.{nat_tests}
 use Rattle.ltm_network.specs.Network.{NetworkData}
 use Rattle.ltm_scenario.specs.Data.{ScenarioData}
 use Rattle.ltm_scenario.specs.Reads.{destination_of}
+use Rattle.ltm_units.specs.Bounds.{default_split_rows}
 use Rattle.ltm_make.specs.declared.branches.Branch.{Branch}
 use Rattle.ltm_make.specs.Grid.{has_right, roads}
 use Rattle.ltm_make.specs.Roads.{IsAlong}
@@ -97,18 +98,18 @@ pub away_branches : (d : NetworkData) (n w k : ℕ) → IsGrid n w → IsAlong d
 away_branches d n w k g h other l = away_with d n w k g h other l (nat_lt k w) (nat_le w k) refl refl
 
 -- a row of a node that is not the destination finds room
-pub home_room : (s : ScenarioData) (n w k : ℕ) → IsLaid n w s → 0 < k → k < n → length s.splits < 50000 → HasRoom s k 0
+pub home_room : (s : ScenarioData) (n w k : ℕ) → IsLaid n w s → 0 < k → k < n → length s.splits < default_split_rows → HasRoom s k 0
 home_room s n w k h pos l few = record {
-  slots = h.slots;
+  setup = h.setup;
   few = few;
   there = omega (arith, ap length h.ends);
   apart = ap (λ (list : List ℕ). number s.network k == slice_index list 0) h.ends
       ∙ numbers_apart s.network k 0 (node_found s.network n w k h.grid h.along l) (node_found s.network n w 0 h.grid h.along (omega arith)) (omega (arith, h.grid.few)) (omega arith) (omega arith);
 }
 
-pub away_room : (s : ScenarioData) (n w k : ℕ) → IsLaid n w s → k + 1 ≢ w → k < n → length s.splits < 50000 → HasRoom s k 1
+pub away_room : (s : ScenarioData) (n w k : ℕ) → IsLaid n w s → k + 1 ≢ w → k < n → length s.splits < default_split_rows → HasRoom s k 1
 away_room s n w k h other l few = record {
-  slots = h.slots;
+  setup = h.setup;
   few = few;
   there = omega (arith, ap length h.ends);
   apart = ap (λ (list : List ℕ). number s.network k == slice_index list 1) h.ends

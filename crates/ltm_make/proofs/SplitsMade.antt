@@ -20,7 +20,7 @@ length_put_in (e ∷ es) k v =
     ]
 
 row_stays_laid : (nodes width k destination : ℕ) (first : Branch) (second : Option Branch) (m : Making) → IsLaid nodes width m.scenario → IsLaid nodes width (with_split_row k destination first second m).scenario
-row_stays_laid nodes width k destination first second m h = record { grid = h.grid; slots = h.slots; most_cells = h.most_cells; along = h.along; ends = h.ends }
+row_stays_laid nodes width k destination first second m h = record { grid = h.grid; setup = h.setup; along = h.along; ends = h.ends }
 
 if_laid : (nodes width : ℕ) (b : Bool) (m next : Making) → IsLaid nodes width m.scenario → IsLaid nodes width next.scenario → IsLaid nodes width (cond b m next).scenario
 if_laid nodes width true m next h g = h

@@ -10,6 +10,7 @@ use Rattle.ltm_network.proofs.Apart.{named_there, link_at, length-link_names}
 use Rattle.ltm_network.proofs.Finding.{same_exact, position_none}
 use Rattle.ltm_make.specs.declared.grid.Road.{Road}
 use Rattle.ltm_make.specs.Names.{name_of_node, name_of_link}
+use Rattle.ltm_units.specs.Bounds.{default_links}
 use Rattle.ltm_make.specs.Roads.{no_road, road_at, IsAlong}
 use Rattle.ltm_make.proofs.Along.{numbered_apart}
 use Rattle.ltm_make.proofs.Counting.{count_by-append, is_same}
@@ -87,7 +88,7 @@ new_name d roads h few =
 
 -- what is asked of a road that comes next
 pub record IsNext (roads : List Road) (r : Road) : Type 0 where
-  pub few : length roads < 4000
+  pub few : length roads < default_links
   pub from_small : r.from < 2 ^ 64
   pub to_small : r.to < 2 ^ 64
   pub apart : r.from ≢ r.to
@@ -109,6 +110,6 @@ next_is_taken d roads r h below next =
     all_pass _ _ _ _ _ _ _ _ _ _
     (ap is_some (new_name d roads h (omega (arith, next.few))))
     (or_false (same (name_of_node r.from) (name_of_node r.to)) (λ is. next.apart (numbered_apart 120 r.from r.to next.from_small next.to_small (same_exact (name_of_node r.from) (name_of_node r.to) is))))
-    (not_over 4000 (length d.links) (omega (arith, h.long, next.few)))
+    (not_over d.most_links (length d.links) (omega (arith, h.takes, h.long, next.few)))
     (not_over 4 (out_degree d (name_of_node r.from)) (omega (arith, out_few d roads r.from h below next.from_small, next.from_few)))
     (not_over 4 (in_degree d (name_of_node r.to)) (omega (arith, in_few d roads r.to h below next.to_small, next.to_few)))

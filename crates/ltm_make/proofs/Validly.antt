@@ -9,20 +9,21 @@ use Rattle.ltm_network.specs.Network.{head_of, out_links, in_links}
 use Rattle.ltm_network.specs.IsNetwork.{IsNetwork}
 use Rattle.ltm_network.proofs.Counted.{has_places}
 use Rattle.ltm_splits.specs.Rows.{SplitRow, is_of}
+use Rattle.ltm_scenario.specs.declared.setup.Setup.{Setup}
 use Rattle.ltm_scenario.specs.Setup.{default_cells}
 use Rattle.ltm_scenario.specs.Data.{ScenarioData}
 use Rattle.ltm_scenario.specs.Reads.{destination_node, has_split}
 use Rattle.ltm_scenario.specs.Cells.{arms_of, width_of, width, widths, cells_of, cells_with, cells}
 use Rattle.ltm_scenario.specs.Valid.{leads_on, is_demand_split, is_split_begun, is_split_led, IsValid}
 use Rattle.ltm_scenario.specs.IsScenario.{IsScenario}
+use Rattle.ltm_make.specs.Links.{made_setup}
 use Rattle.ltm_make.proofs.Counting.{is_same}
 use Rattle.ltm_make.proofs.Covered.{Begun}
 
--- what is asked: two destinations, 60 slots, cells as many as may be where nothing is said, and for each node a split row for each destination that it is not
+-- what is asked: two destinations, the setup of a made case, and for each node a split row for each destination that it is not
 pub record IsCovered (s : ScenarioData) : Type 0 where
   pub two : length s.destinations ≡ 2
-  pub slots : s.setup.slots ≡ 60
-  pub most_cells : s.setup.most_cells ≡ default_cells
+  pub setup : s.setup ≡ made_setup
   pub begun : Begun s.splits
   pub covered : (u d : ℕ) → u < length s.network.nodes → d < 2 → (u == destination_node s d) ≡ false → has_split s.splits u d ≡ true
 
@@ -78,9 +79,9 @@ few_cells : (s : ScenarioData) → IsScenario s → IsCovered s → cells s ≤ 
 unfolding cells cells_with
 few_cells s is h =
     let by : cells_of s.setup.slots (widths s) (length s.network.links) (length s.network.nodes) (length s.destinations) ≡ cells_of 60 (widths s) (length s.network.links) (length s.network.nodes) 2 =
-    ap (λ (n : ℕ). cells_of n (widths s) (length s.network.links) (length s.network.nodes) (length s.destinations)) h.slots
+    ap (λ (n : ℕ). cells_of n (widths s) (length s.network.links) (length s.network.nodes) (length s.destinations)) (ap (λ (z : Setup). z.slots) h.setup)
     ∙ ap (λ (n : ℕ). cells_of 60 (widths s) (length s.network.links) (length s.network.nodes) n) h.two in
-    omega (arith, by, few_widths s is.network h.two, is.network.few_links, is.network.few_nodes)
+    omega (arith, by, few_widths s is.network h.two, is.network.few_links, is.most_links, ap (λ (z : Setup). z.most_links) h.setup, is.network.few_nodes)
 
 true_le : (a b : ℕ) → a ≤ b → nat_le a b ≡ true
 true_le a b l = grind (arith, nat_tests)
@@ -102,5 +103,5 @@ is_valid s is h = record {
       let r = is.splits k d l in
       links_lead s h (get_or s.splits k d).0.destination (omega (arith, r.destination_is_one, h.two)) (out_links s.network (get_or s.splits k d).0.node.0) (get_or s.splits k d).1
       (λ i x. is.network.head_is_node (get_or (out_links s.network (get_or s.splits k d).0.node.0) i 0) ((has_places s.network).out_link_is_link (get_or s.splits k d).0.node.0 i x)));
-  small = ap (nat_le (cells s)) h.most_cells ∙ true_le (cells s) default_cells (few_cells s is h);
+  small = ap (nat_le (cells s)) (ap (λ (z : Setup). z.most_cells) h.setup) ∙ true_le (cells s) default_cells (few_cells s is h);
 }

@@ -8,9 +8,10 @@ use Rattle.ltm_scenario.specs.Data.{ScenarioData}
 use Rattle.ltm_scenario.specs.Reads.{destination_node}
 use Rattle.ltm_make.specs.declared.making.Making.{Making}
 use Rattle.ltm_make.specs.Words.{word, rest}
+use Rattle.ltm_make.specs.Links.{made_setup}
 use Rattle.ltm_make.specs.Branches.{number}
 use Rattle.ltm_make.specs.Splits.{IsFound}
-use Rattle.ltm_units.specs.Bounds.{most_demand_rows}
+use Rattle.ltm_units.specs.Bounds.{default_demand_rows}
 
 -- 1 to 20 vehicles from a node over the slots 0 to 29, as is drawn
 abbrev pub row_from : NetworkData → ℕ → ℕ → Lcg → DemandRow
@@ -43,8 +44,8 @@ with_demands width (suc k) m = with_awayward width k (with_homeward k (with_dema
 
 -- demand of a node for a destination finds room
 pub record IsOrigin (s : ScenarioData) (k destination : ℕ) : Type 0 where
-  pub slots : s.setup.slots ≡ 60
-  pub few : length s.demand < most_demand_rows
+  pub setup : s.setup ≡ made_setup
+  pub few : length s.demand < default_demand_rows
   pub found : IsFound s.network k
   pub goes_out : 0 < length (out_links s.network (number s.network k))
   pub there : destination < length s.destinations

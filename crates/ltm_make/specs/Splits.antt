@@ -5,7 +5,6 @@ use Rattle.rand_pcg.specs.Lcg.{Lcg}
 use Rattle.ltm_network.specs.Names.{place_of}
 use Rattle.ltm_network.specs.Network.{NetworkData, head_of, out_links, out_link}
 use Rattle.ltm_splits.specs.Rows.{key_of, put_in}
-use Rattle.ltm_scenario.specs.Setup.{default_cells}
 use Rattle.ltm_scenario.specs.Data.{ScenarioData}
 use Rattle.ltm_scenario.specs.Reads.{destination_node}
 use Rattle.ltm_make.specs.declared.branches.Branch.{Branch}
@@ -13,9 +12,10 @@ use Rattle.ltm_make.specs.declared.branches.Way.{Way}
 use Rattle.ltm_make.specs.declared.making.Making.{Making}
 use Rattle.ltm_make.specs.Names.{name_of_node}
 use Rattle.ltm_make.specs.Grid.{IsWidth, roads}
+use Rattle.ltm_make.specs.Links.{made_setup}
 use Rattle.ltm_make.specs.Roads.{IsAlong}
 use Rattle.ltm_make.specs.Branches.{number, weight_of, words_after, weight_to, home_first, home_second, away_first, away_second}
-use Rattle.ltm_units.specs.Bounds.{most_split_rows}
+use Rattle.ltm_units.specs.Bounds.{default_split_rows}
 
 -- the two destinations: the first node, and the end of the first row
 abbrev pub with_ends : ℕ → Making → Making
@@ -79,8 +79,8 @@ pub record AreBranches (d : NetworkData) (k : ℕ) (first : Branch) (second : Op
 
 -- a split row of a node for a destination finds room
 pub record HasRoom (s : ScenarioData) (k destination : ℕ) : Type 0 where
-  pub slots : s.setup.slots ≡ 60
-  pub few : length s.splits < most_split_rows
+  pub setup : s.setup ≡ made_setup
+  pub few : length s.splits < default_split_rows
   pub there : destination < length s.destinations
   pub apart : (number s.network k == destination_node s destination) ≡ false
 
@@ -93,7 +93,6 @@ pub record IsGrid (nodes width : ℕ) : Type 0 where
 -- a scenario with the links of a grid, and the two ends as destinations
 pub record IsLaid (nodes width : ℕ) (s : ScenarioData) : Type 0 where
   pub grid : IsGrid nodes width
-  pub slots : s.setup.slots ≡ 60
-  pub most_cells : s.setup.most_cells ≡ default_cells
+  pub setup : s.setup ≡ made_setup
   pub along : IsAlong s.network (roads nodes width nodes)
   pub ends : s.destinations ≡ number s.network 0 ∷ number s.network (width - 1) ∷ []

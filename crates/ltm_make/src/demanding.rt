@@ -2,7 +2,7 @@
 ghost use Rattle.std.specs.Prelude.{◌≡◌, ◌≢◌, ◌<◌, ◌≤◌, true, length, OnOk};
 ghost use Rattle.ltm_demand.specs.Rows.{has_slots, edited_rows};
 ghost use Rattle.ltm_scenario.specs.IsScenario.{IsDemandOf};
-ghost use Rattle.ltm_units.specs.Bounds.{most_amount, most_demand_rows};
+ghost use Rattle.ltm_units.specs.Bounds.{most_amount, default_demand_rows};
 
 use crate::branches::node_at;
 use crate::grid::Grid;
@@ -30,7 +30,7 @@ fn put_row(scenario: &mut Scenario, row: DemandRow) -> Result<(), NoMemory>
     requires amount { row.amount.0 ≤ most_amount }
     requires row { IsDemandOf scenario.old row }
     requires slots { has_slots scenario.old.setup.slots row ≡ true }
-    requires few { length scenario.old.demand < most_demand_rows }
+    requires few { length scenario.old.demand < scenario.old.setup.most_demand_rows }
     ensures { OnOk result (scenario.new
         ≡ record scenario.old { demand = edited_rows scenario.old.demand row }) }
 {
@@ -66,7 +66,7 @@ impl Making {
     fn add_homeward(&mut self, alloc: Global, grid: Grid, node: u32) -> Result<(), NoMemory>
         requires laid { IsLaid grid.nodes grid.width self.old.scenario }
         requires there { node < grid.nodes }
-        requires few { length self.old.scenario.demand < most_demand_rows }
+        requires few { length self.old.scenario.demand < default_demand_rows }
         ensures { OnOk result (self.new ≡ with_homeward node self.old) }
     {
         if node == 0 {
@@ -79,7 +79,7 @@ impl Making {
     fn add_awayward(&mut self, alloc: Global, grid: Grid, node: u32) -> Result<(), NoMemory>
         requires laid { IsLaid grid.nodes grid.width self.old.scenario }
         requires there { node < grid.nodes }
-        requires few { length self.old.scenario.demand < most_demand_rows }
+        requires few { length self.old.scenario.demand < default_demand_rows }
         ensures { OnOk result (self.new ≡ with_awayward grid.width node self.old) }
     {
         if node + 1 == grid.width {

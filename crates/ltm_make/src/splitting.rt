@@ -3,9 +3,10 @@ ghost use Rattle.std.specs.Prelude.{◌≡◌, ◌≢◌, ◌+◌, ◌<◌, ◌�
 ghost use Rattle.ltm_splits.specs.Rows.{key_of, put_in};
 ghost use Rattle.ltm_scenario.specs.Reads.{destination_of};
 ghost use Rattle.ltm_scenario.specs.IsScenario.{IsSplitOf};
+ghost use Rattle.ltm_make.specs.Links.{made_setup};
 ghost use Rattle.ltm_make.specs.Splits.{IsFound, way_of};
 ghost use Rattle.ltm_make.specs.Branches.{words_after};
-ghost use Rattle.ltm_units.specs.Bounds.{most_split_rows};
+ghost use Rattle.ltm_units.specs.Bounds.{default_split_rows};
 
 use crate::branches::{Branch, Way, away_of, draw_weight, home_of, node_at, weights_of};
 use crate::grid::Grid;
@@ -28,7 +29,7 @@ fn only_memory(fault: DestinationFault) -> NoMemory
 /// Makes a node the last destination.
 fn add_end(scenario: &mut Scenario, node: NodeId) -> Result<(), NoMemory>
     requires there { node.0 < length scenario.old.network.nodes }
-    requires few { length scenario.old.destinations < 64 }
+    requires few { length scenario.old.destinations < scenario.old.setup.most_destinations }
     requires new { destination_of scenario.old.destinations node.0 ≡ None }
     ensures { OnOk result (scenario.new
         ≡ record scenario.old { destinations = scenario.old.destinations ++ node.0 ∷ [] }) }
@@ -60,8 +61,8 @@ fn put_row(
 ) -> Result<(), NoMemory>
     requires row { IsSplitOf scenario.old (key_of node.0 destination 0, weights.now) }
     requires some { (sum weights.now == 0) ≡ false }
-    requires few { length scenario.old.splits < most_split_rows }
-    requires slots { scenario.old.setup.slots ≡ 60 }
+    requires few { length scenario.old.splits < default_split_rows }
+    requires setup { scenario.old.setup ≡ made_setup }
     ensures { OnOk result (scenario.new
         ≡ record scenario.old {
           splits = put_in scenario.old.splits
@@ -122,6 +123,7 @@ impl Making {
         requires grid { IsGrid grid.nodes grid.width }
         requires along { IsAlong self.old.scenario.network
             (roads grid.nodes grid.width grid.nodes) }
+        requires setup { self.old.scenario.setup ≡ made_setup }
         requires none { self.old.scenario.destinations ≡ [] }
         ensures { OnOk result (self.new ≡ with_ends grid.width self.old) }
     {
@@ -135,7 +137,7 @@ impl Making {
     fn add_home(&mut self, alloc: Global, grid: Grid, node: u32) -> Result<(), NoMemory>
         requires laid { IsLaid grid.nodes grid.width self.old.scenario }
         requires there { node < grid.nodes }
-        requires few { length self.old.scenario.splits < most_split_rows }
+        requires few { length self.old.scenario.splits < default_split_rows }
         ensures { OnOk result (self.new ≡ with_home grid.width node self.old) }
     {
         if node == 0 {
@@ -148,7 +150,7 @@ impl Making {
     fn add_away(&mut self, alloc: Global, grid: Grid, node: u32) -> Result<(), NoMemory>
         requires laid { IsLaid grid.nodes grid.width self.old.scenario }
         requires there { node < grid.nodes }
-        requires few { length self.old.scenario.splits < most_split_rows }
+        requires few { length self.old.scenario.splits < default_split_rows }
         ensures { OnOk result (self.new ≡ with_away grid.nodes grid.width node self.old) }
     {
         if node + 1 == grid.width {

@@ -6,6 +6,7 @@ use Rattle.std.proofs.lemmas.Nat.{mod_below, pow-add}
 use Rattle.std.proofs.lemmas.Nat.Bits.{bit_at_set_same, bit_at_set_other, bit_at_clear_same, bit_at_clear_other, bit_at-zero, bit_at-trailing_zeros, bit_at_above}
 use Rattle.std.proofs.lemmas.Bool.{cases_eq, cases_lt}
 use Rattle.std.proofs.lemmas.List.{get_or-replicate, get_or_past, length-replicate, get_or_append_left, get_or-append_right}
+use Rattle.ltm_units.specs.Bounds.{most_marked}
 use Rattle.ltm_marks.specs.declared.marks.Marks.{Marks}
 use Rattle.ltm_marks.specs.Bits.{NoBit, IsFirstBit}
 use Rattle.ltm_marks.specs.Marks.{width_of, rows_of, word_of, is_marked, SetsMark, ClearsRows, IsNextInWord, HasNoneInWord}
@@ -122,8 +123,8 @@ pub none_marked : (m : Marks) (n w v : ℕ) → m.bits.items ≡ replicate n 0 �
 unfolding is_marked
 none_marked m n w v zeros = rw (zeros, zero_at n (word_of m w v), bit_at-zero (w % 64)) refl
 
-pub words_fit : (slots words : ℕ) → slots ≤ 65536 → words ≤ 1025 → slots * words ≤ 65536 * 1025
-words_fit slots words l m = let x : slots * words ≤ 65536 * words = mul-le-mul_right words l in omega arith
+pub words_fit : (slots words : ℕ) → slots ≤ most_marked → words ≤ most_marked / 64 + 1 → slots * words ≤ most_marked * (most_marked / 64 + 1)
+words_fit slots words l m = let x : slots * words ≤ most_marked * words = mul-le-mul_right words l in omega arith
 
 -- from a word on there are no bits, so no place is marked there
 pub none_from_word : (m : Marks) (n place row : ℕ) → ((i : ℕ) → n ≤ i → slice_index m.bits.items i ≡ 0) → n ≤ word_of m place row → is_marked m place row ≡ false

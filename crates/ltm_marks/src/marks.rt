@@ -15,10 +15,10 @@ pub struct Marks {
     words: usize,
     room: usize,
     bits: Vec<u64>,
-    ghost narrow: { width ≤ 65536 },
+    ghost narrow: { width ≤ most_marked },
     ghost words_are: { words ≡ width / 64 + 1 },
     ghost within: { rows ≤ room },
-    ghost few: { room ≤ 65536 },
+    ghost few: { room ≤ most_marked },
     ghost long: { length bits.items ≡ room * words },
     ghost rest: { (i : ℕ) → rows * words ≤ i → slice_index bits.items i ≡ 0 },
 }
@@ -39,7 +39,7 @@ pub fn first_from(word: u64, from: u32) -> Option<u32>
 /// So many words without bits for each row.
 #[tactic(auto, using(crate::proofs::Bits::words_fit))]
 fn zeros(alloc: Global, words: usize, rows: usize) -> Result<Vec<u64>, NoMemory>
-    requires words { words ≤ 1025 }
+    requires words { words ≤ most_marked / 64 + 1 }
     requires rows { rows ≤ most_marked }
     ensures { IfOk result (λ bits. bits.items ≡ replicate (rows * words) 0) }
 {
@@ -48,7 +48,7 @@ fn zeros(alloc: Global, words: usize, rows: usize) -> Result<Vec<u64>, NoMemory>
 
 /// Puts words without bits for some rows behind those that are there.
 fn extend(bits: &mut Vec<u64>, words: usize, rows: usize) -> Result<(), NoMemory>
-    requires words { words ≤ 1025 }
+    requires words { words ≤ most_marked / 64 + 1 }
     requires rows { rows ≤ most_marked }
     ensures ok { OnOk result (bits.new.items ≡ bits.old.items ++ replicate (rows * words) 0) }
     ensures err { OnErr result (bits.new.items ≡ bits.old.items) }
@@ -86,7 +86,7 @@ fn clear_bits(bits: &mut Vec<u64>)
 impl Marks {
     ghost use Rattle.ltm_marks.specs.Marks.{width_of, rows_of, room_of, word_of, is_marked, SetsMark, ClearsRows, SameMarks, IsNext, HasNone, IsNextInWord, HasNoneInWord, HasNoneNear};
 
-    /// So many rows of so many places, none of them marked, at most 65,536 of each.
+    /// So many rows of so many places, none of them marked.
     #[tactic(auto, using(crate::proofs::Bits::none_marked))]
     pub fn create(alloc: Global, width: usize, rows: usize) -> Result<Marks, NoMemory>
         requires width { width ≤ most_marked }
@@ -263,7 +263,7 @@ impl Marks {
         clear_bits(&mut self.bits);
     }
 
-    /// Makes room for so many rows, at most 65,536. With want of memory nothing changes.
+    /// Makes room for so many rows. With want of memory nothing changes.
     pub fn reserve(&mut self, rows: usize) -> Result<(), NoMemory>
         requires { rows ≤ most_marked }
         ensures same { SameMarks self.old self.new }

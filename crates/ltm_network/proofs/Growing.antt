@@ -28,7 +28,7 @@ below_from m n is = grind (arith, nat_tests)
 pub record IsTaken (d : NetworkData) (name tail head : List ℕ) : Type 0 where
   pub new : find_link d name ≡ None
   pub apart : same tail head ≡ false
-  pub few : length d.links < 4000
+  pub few : length d.links < d.most_links
   pub out_room : out_degree d tail < 4
   pub in_room : in_degree d head < 4
 
@@ -137,6 +137,7 @@ linked_stays d name tail head net met =
       nodes_apart = apart_named (with_name d.nodes tail) head (apart_named d.nodes tail net.nodes_apart);
       links_apart = subst AreApart (sym (map-append (λ (l : Link). l.name) d.links (new_link d name tail head ∷ []))) (apart_pushed (link_names d) name met.new net.links_apart);
       few_links = omega (arith, met.few, length-append d.links (new_link d name tail head ∷ []));
+      most_is_small = net.most_is_small;
       few_nodes = omega (arith, net.few_nodes, one.1, two.1, length-append d.links (new_link d name tail head ∷ []));
     }
 
@@ -147,7 +148,7 @@ then_ok (Err fault) grown next is = cc
 pub stays : NetworksStay
 unfolding with_link
 stays = record {
-  empty = record {
+  empty = λ most small. record {
     tail_is_node = λ link less. absurd (omega arith);
     head_is_node = λ link less. absurd (omega arith);
     no_loop = λ link less. absurd (omega arith);
@@ -156,6 +157,7 @@ stays = record {
     nodes_apart = λ place less. absurd (omega arith);
     links_apart = λ place less. absurd (omega arith);
     few_links = omega arith;
+    most_is_small = small;
     few_nodes = omega arith;
   };
   more = λ d next name tail head net is.

@@ -93,36 +93,36 @@ abbrev pub ends_at : ℕ → ℕ → Ends
 ends_at tail head = record { tail = tail; head = head }
 
 -- the tables and a link that is taken
-pub record IsJoined (n : NodeTables) (names : List (List ℕ)) (ends : List Ends) (name tail head : List ℕ) (link t h : ℕ) : Type 0 where
-  pub tables : AreTables n names ends
-  pub met : IsTaken (network_of n.names names ends) name tail head
+pub record IsJoined (m : ℕ) (n : NodeTables) (names : List (List ℕ)) (ends : List Ends) (name tail head : List ℕ) (link t h : ℕ) : Type 0 where
+  pub tables : AreTables m n names ends
+  pub met : IsTaken (network_of m n.names names ends) name tail head
   pub link_is : link ≡ length ends
   pub tail_is : t ≡ number_of n.names tail
   pub head_is : h ≡ number_of (with_name n.names tail) head
 
 -- the network in the tables is the old one with the link
-pub joined_data : (n : NodeTables) (names : List (List ℕ)) (ends : List Ends) (name tail head : List ℕ) (link t h : ℕ) → IsJoined n names ends name tail head link t h →
-    network_of (with_ends (with_node (with_node n tail) head) link t h).names (names ++ name ∷ []) (ends ++ ends_at t h ∷ []) ≡ network_linked (network_of n.names names ends) name tail head
-joined_data n names ends name tail head link t h j =
+pub joined_data : (m : ℕ) (n : NodeTables) (names : List (List ℕ)) (ends : List Ends) (name tail head : List ℕ) (link t h : ℕ) → IsJoined m n names ends name tail head link t h →
+    network_of m (with_ends (with_node (with_node n tail) head) link t h).names (names ++ name ∷ []) (ends ++ ends_at t h ∷ []) ≡ network_linked (network_of m n.names names ends) name tail head
+joined_data m n names ends name tail head link t h j =
     let pushed = links_of-push names ends name (ends_at t h) j.tables.names_long in
-    let net : List Link → NetworkData = λ links. record { nodes = with_name (with_name n.names tail) head; links = links } in
+    let net : List Link → NetworkData = λ links. record { most_links = m; nodes = with_name (with_name n.names tail) head; links = links } in
     ap net pushed ∙ ap (λ x. net (links_of names ends ++ record { name = name; tail = x; head = h } ∷ [])) j.tail_is
     ∙ ap (λ x. net (links_of names ends ++ record { name = name; tail = number_of n.names tail; head = x } ∷ [])) j.head_is
 
-joined_outs : (n : NodeTables) (names : List (List ℕ)) (ends : List Ends) (name tail head : List ℕ) (link t h : ℕ) → IsJoined n names ends name tail head link t h →
-    (length (with_node (with_node n tail) head).outs ≡ length (with_name (with_name n.names tail) head)) × ((u : ℕ) → u < length (with_name (with_name n.names tail) head) → get_or (with_node (with_node n tail) head).outs u [] ≡ out_links (network_of n.names names ends) u)
-joined_outs n names ends name tail head link t h j =
-    let d = network_of n.names names ends in
+joined_outs : (m : ℕ) (n : NodeTables) (names : List (List ℕ)) (ends : List Ends) (name tail head : List ℕ) (link t h : ℕ) → IsJoined m n names ends name tail head link t h →
+    (length (with_node (with_node n tail) head).outs ≡ length (with_name (with_name n.names tail) head)) × ((u : ℕ) → u < length (with_name (with_name n.names tail) head) → get_or (with_node (with_node n tail) head).outs u [] ≡ out_links (network_of m n.names names ends) u)
+joined_outs m n names ends name tail head link t h j =
+    let d = network_of m n.names names ends in
     let none = none_leaves d j.tables.network in
     let one = row-grown n.names tail n.outs (out_links d) j.tables.outs_long j.tables.outs_are none in
     let none2 : (u : ℕ) → length (with_name n.names tail) ≤ u → out_links d u ≡ [] = λ u past. none u (omega (arith, past, (length-named n.names tail).0)) in
     let long = length-grown n.names tail n.outs j.tables.outs_long in
     (length-grown (with_name n.names tail) head (with_row_if_new n.names tail n.outs) long, row-grown (with_name n.names tail) head (with_row_if_new n.names tail n.outs) (out_links d) long one none2)
 
-joined_ins : (n : NodeTables) (names : List (List ℕ)) (ends : List Ends) (name tail head : List ℕ) (link t h : ℕ) → IsJoined n names ends name tail head link t h →
-    (length (with_node (with_node n tail) head).ins ≡ length (with_name (with_name n.names tail) head)) × ((u : ℕ) → u < length (with_name (with_name n.names tail) head) → get_or (with_node (with_node n tail) head).ins u [] ≡ in_links (network_of n.names names ends) u)
-joined_ins n names ends name tail head link t h j =
-    let d = network_of n.names names ends in
+joined_ins : (m : ℕ) (n : NodeTables) (names : List (List ℕ)) (ends : List Ends) (name tail head : List ℕ) (link t h : ℕ) → IsJoined m n names ends name tail head link t h →
+    (length (with_node (with_node n tail) head).ins ≡ length (with_name (with_name n.names tail) head)) × ((u : ℕ) → u < length (with_name (with_name n.names tail) head) → get_or (with_node (with_node n tail) head).ins u [] ≡ in_links (network_of m n.names names ends) u)
+joined_ins m n names ends name tail head link t h j =
+    let d = network_of m n.names names ends in
     let none = none_enters d j.tables.network in
     let one = row-grown n.names tail n.ins (in_links d) j.tables.ins_long j.tables.ins_are none in
     let none2 : (u : ℕ) → length (with_name n.names tail) ≤ u → in_links d u ≡ [] = λ u past. none u (omega (arith, past, (length-named n.names tail).0)) in
@@ -136,28 +136,28 @@ pub record HasRoom (n : NodeTables) (t h : ℕ) : Type 0 where
   pub out_room : length (get_or n.outs t []) < 4
   pub in_room : length (get_or n.ins h []) < 4
 
-pub joined_room : (n : NodeTables) (names : List (List ℕ)) (ends : List Ends) (name tail head : List ℕ) (link t h : ℕ) → IsJoined n names ends name tail head link t h → HasRoom (with_node (with_node n tail) head) t h
-joined_room n names ends name tail head link t h j =
-    let outs = joined_outs n names ends name tail head link t h j in
-    let ins = joined_ins n names ends name tail head link t h j in
+pub joined_room : (m : ℕ) (n : NodeTables) (names : List (List ℕ)) (ends : List Ends) (name tail head : List ℕ) (link t h : ℕ) → IsJoined m n names ends name tail head link t h → HasRoom (with_node (with_node n tail) head) t h
+joined_room m n names ends name tail head link t h j =
+    let outs = joined_outs m n names ends name tail head link t h j in
+    let ins = joined_ins m n names ends name tail head link t h j in
     let two = length-named (with_name n.names tail) head in
     let tail_in : t < length (with_name (with_name n.names tail) head) = omega (arith, j.tail_is, number_inside n.names tail, two.0) in
     let head_in : h < length (with_name (with_name n.names tail) head) = omega (arith, j.head_is, number_inside (with_name n.names tail) head) in
-    let out_row = outs.1 t tail_in ∙ ap (out_links (network_of n.names names ends)) j.tail_is in
-    let in_row = ins.1 h head_in ∙ ap (in_links (network_of n.names names ends)) j.head_is in
+    let out_row = outs.1 t tail_in ∙ ap (out_links (network_of m n.names names ends)) j.tail_is in
+    let in_row = ins.1 h head_in ∙ ap (in_links (network_of m n.names names ends)) j.head_is in
     record {
       tail_there = omega (arith, outs.0, tail_in);
       head_there = omega (arith, ins.0, head_in);
-      out_room = omega (arith, ap length out_row, out_room_at (network_of n.names names ends) tail j.tables.network j.met.out_room);
-      in_room = omega (arith, ap length in_row, in_room_at (network_of n.names names ends) tail head j.tables.network j.met.apart j.met.in_room);
+      out_room = omega (arith, ap length out_row, out_room_at (network_of m n.names names ends) tail j.tables.network j.met.out_room);
+      in_room = omega (arith, ap length in_row, in_room_at (network_of m n.names names ends) tail head j.tables.network j.met.apart j.met.in_room);
     }
 
-pub joined_tables : (n : NodeTables) (names : List (List ℕ)) (ends : List Ends) (name tail head : List ℕ) (link t h : ℕ) → IsJoined n names ends name tail head link t h →
-    AreTables (with_ends (with_node (with_node n tail) head) link t h) (names ++ name ∷ []) (ends ++ ends_at t h ∷ [])
-joined_tables n names ends name tail head link t h j =
-    let outs = joined_outs n names ends name tail head link t h j in
-    let ins = joined_ins n names ends name tail head link t h j in
-    let room = joined_room n names ends name tail head link t h j in
+pub joined_tables : (m : ℕ) (n : NodeTables) (names : List (List ℕ)) (ends : List Ends) (name tail head : List ℕ) (link t h : ℕ) → IsJoined m n names ends name tail head link t h →
+    AreTables m (with_ends (with_node (with_node n tail) head) link t h) (names ++ name ∷ []) (ends ++ ends_at t h ∷ [])
+joined_tables m n names ends name tail head link t h j =
+    let outs = joined_outs m n names ends name tail head link t h j in
+    let ins = joined_ins m n names ends name tail head link t h j in
+    let room = joined_room m n names ends name tail head link t h j in
     let nodes : ℕ = length (with_name (with_name n.names tail) head) in
     let e : Link = record { name = name; tail = t; head = h } in
     let at : link ≡ length (links_of names ends) = j.link_is ∙ sym (length-links_of names ends j.tables.names_long) in
@@ -170,5 +170,5 @@ joined_tables n names ends name tail head link t h j =
       names_long = omega (arith, j.tables.names_long, length-append names (name ∷ []), length-append ends (ends_at t h ∷ []));
       outs_are = λ u less. out_rows u less ∙ ap (numbers_of (leaves u) 0) (sym pushed);
       ins_are = λ u less. in_rows u less ∙ ap (numbers_of (enters u) 0) (sym pushed);
-      network = subst IsNetwork (sym (joined_data n names ends name tail head link t h j)) (linked_stays (network_of n.names names ends) name tail head j.tables.network j.met);
+      network = subst IsNetwork (sym (joined_data m n names ends name tail head link t h j)) (linked_stays (network_of m n.names names ends) name tail head j.tables.network j.met);
     }

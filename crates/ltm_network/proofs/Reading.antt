@@ -3,6 +3,7 @@ use Rattle.std.proofs.Common.{◌≡◌, ℕ, ◌<◌, ◌≤◌, List, length, 
 use Rattle.std.specs.Option.{option_map}
 use Rattle.std.proofs.lemmas.List.{get_or-map, length-map}
 use Rattle.ltm_units.specs.declared.places.LinkId.{LinkId}
+use Rattle.ltm_units.specs.Bounds.{most_links}
 use Rattle.ltm_network.specs.declared.ends.Ends.{Ends}
 use Rattle.ltm_network.specs.Names.{place_of}
 use Rattle.ltm_network.specs.Nodes.{NodeTables}
@@ -13,31 +14,31 @@ use Rattle.ltm_network.proofs.Apart.{named_there}
 use Rattle.ltm_network.proofs.Joined.{length-links_of, names-links_of, tail-links_of, head-links_of}
 
 -- tables in which a network lies
-pub record Holds (n : NodeTables) (names : List (List ℕ)) (ends : List Ends) (d : NetworkData) : Type 0 where
-  pub tables : AreTables n names ends
-  pub network : network_of n.names names ends ≡ d
+pub record Holds (m : ℕ) (n : NodeTables) (names : List (List ℕ)) (ends : List Ends) (d : NetworkData) : Type 0 where
+  pub tables : AreTables m n names ends
+  pub network : network_of m n.names names ends ≡ d
 
-pub count_is : (n : NodeTables) (names : List (List ℕ)) (ends : List Ends) (d : NetworkData) → Holds n names ends d → length ends ≡ length d.links
-count_is n names ends d h = sym (length-links_of names ends h.tables.names_long) ∙ ap (λ (x : NetworkData). length x.links) h.network
+pub count_is : (m : ℕ) (n : NodeTables) (names : List (List ℕ)) (ends : List Ends) (d : NetworkData) → Holds m n names ends d → length ends ≡ length d.links
+count_is m n names ends d h = sym (length-links_of names ends h.tables.names_long) ∙ ap (λ (x : NetworkData). length x.links) h.network
 
-pub few_ends : (n : NodeTables) (names : List (List ℕ)) (ends : List Ends) (d : NetworkData) → Holds n names ends d → length ends ≤ 4000
-few_ends n names ends d h = omega (arith, length-links_of names ends h.tables.names_long, h.tables.network.few_links)
+pub few_ends : (m : ℕ) (n : NodeTables) (names : List (List ℕ)) (ends : List Ends) (d : NetworkData) → Holds m n names ends d → length ends ≤ most_links
+few_ends m n names ends d h = omega (arith, length-links_of names ends h.tables.names_long, h.tables.network.few_links, h.tables.network.most_is_small)
 
-pub names_are : (n : NodeTables) (names : List (List ℕ)) (ends : List Ends) (d : NetworkData) → Holds n names ends d → names ≡ link_names d
-names_are n names ends d h = sym (names-links_of names ends h.tables.names_long) ∙ ap link_names h.network
+pub names_are : (m : ℕ) (n : NodeTables) (names : List (List ℕ)) (ends : List Ends) (d : NetworkData) → Holds m n names ends d → names ≡ link_names d
+names_are m n names ends d h = sym (names-links_of names ends h.tables.names_long) ∙ ap link_names h.network
 
-pub tail_is : (n : NodeTables) (names : List (List ℕ)) (ends : List Ends) (d : NetworkData) (link : ℕ) (e : Ends) → Holds n names ends d → link < length d.links → e ≡ get_or ends link e → e.tail ≡ tail_of d link
-tail_is n names ends d link e h less at =
-    let inside : link < length ends = omega (arith, count_is n names ends d h) in
+pub tail_is : (m : ℕ) (n : NodeTables) (names : List (List ℕ)) (ends : List Ends) (d : NetworkData) (link : ℕ) (e : Ends) → Holds m n names ends d → link < length d.links → e ≡ get_or ends link e → e.tail ≡ tail_of d link
+tail_is m n names ends d link e h less at =
+    let inside : link < length ends = omega (arith, count_is m n names ends d h) in
     ap (λ (x : Ends). x.tail) at ∙ sym (tail-links_of names ends link e h.tables.names_long inside) ∙ ap (λ x. tail_of x link) h.network
 
-pub head_is : (n : NodeTables) (names : List (List ℕ)) (ends : List Ends) (d : NetworkData) (link : ℕ) (e : Ends) → Holds n names ends d → link < length d.links → e ≡ get_or ends link e → e.head ≡ head_of d link
-head_is n names ends d link e h less at =
-    let inside : link < length ends = omega (arith, count_is n names ends d h) in
+pub head_is : (m : ℕ) (n : NodeTables) (names : List (List ℕ)) (ends : List Ends) (d : NetworkData) (link : ℕ) (e : Ends) → Holds m n names ends d → link < length d.links → e ≡ get_or ends link e → e.head ≡ head_of d link
+head_is m n names ends d link e h less at =
+    let inside : link < length ends = omega (arith, count_is m n names ends d h) in
     ap (λ (x : Ends). x.head) at ∙ sym (head-links_of names ends link e h.tables.names_long inside) ∙ ap (λ x. head_of x link) h.network
 
-pub is_network : (n : NodeTables) (names : List (List ℕ)) (ends : List Ends) (d : NetworkData) → Holds n names ends d → IsNetwork d
-is_network n names ends d h = subst IsNetwork h.network h.tables.network
+pub is_network : (m : ℕ) (n : NodeTables) (names : List (List ℕ)) (ends : List Ends) (d : NetworkData) → Holds m n names ends d → IsNetwork d
+is_network m n names ends d h = subst IsNetwork h.network h.tables.network
 
 -- a number that is found is inside
 pub found_inside : {A : Type 0} (number : A → ℕ) (o : Option A) (names : List (List ℕ)) (name : List ℕ) (count : ℕ) → option_map number o ≡ place_of names name → length names ≡ count → IfSome o (λ x. number x < count)

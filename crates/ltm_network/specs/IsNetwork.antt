@@ -1,7 +1,7 @@
 -- What holds of the data of every network.
 use Rattle.std.specs.Prelude.{◌≡◌, ◌≢◌, ℕ, ◌*◌, ◌<◌, ◌≤◌, List, [], length, Ok, Some}
 use Rattle.ltm_network.specs.Names.{AreApart}
-use Rattle.ltm_network.specs.Network.{NetworkData, tail_of, head_of, link_names, link_name, node_name, out_links, in_links, find_link, find_node, with_link}
+use Rattle.ltm_network.specs.Network.{NetworkData, tail_of, head_of, empty_network, link_names, link_name, node_name, out_links, in_links, find_link, find_node, with_link}
 use Rattle.ltm_units.specs.Bounds.{most_links}
 
 pub record IsNetwork (d : NetworkData) : Type 0 where
@@ -12,12 +12,13 @@ pub record IsNetwork (d : NetworkData) : Type 0 where
   pub few_in : (node : ℕ) → length (in_links d node) ≤ 4
   pub nodes_apart : AreApart d.nodes
   pub links_apart : AreApart (link_names d)
-  pub few_links : length d.links ≤ most_links
+  pub few_links : length d.links ≤ d.most_links
+  pub most_is_small : d.most_links ≤ most_links
   pub few_nodes : length d.nodes ≤ 2 * length d.links
 
--- nothing is a network, and a network with a link that it takes is one
+-- a network without links is one, and a network with a link that it takes is one
 pub record NetworksStay : Type 0 where
-  pub empty : IsNetwork (record { nodes = []; links = [] })
+  pub empty : (most : ℕ) → most ≤ most_links → IsNetwork (empty_network most)
   pub more : (d next : NetworkData) (name tail head : List ℕ) → IsNetwork d → with_link d name tail head ≡ Ok next → IsNetwork next
 
 -- a link and a node are found by their own names, and what is found has the name

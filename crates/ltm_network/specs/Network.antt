@@ -6,7 +6,6 @@ use Rattle.ltm_network.specs.declared.network.NetworkFault.{NetworkFault}
 use Rattle.ltm_network.specs.declared.network.NetworkFault.TheVariants.{TwiceNamed, SelfLoop, TooManyLinks, TooManyOut, TooManyIn}
 use Rattle.ltm_network.specs.Names.{same, place_of, with_name, number_of}
 use Rattle.ltm_network.specs.Numbers.{numbers_of}
-use Rattle.ltm_units.specs.Bounds.{most_links}
 
 -- a link leads from its tail to its head, two nodes by number
 pub record Link : Type 0 where
@@ -14,10 +13,15 @@ pub record Link : Type 0 where
   pub tail : ℕ
   pub head : ℕ
 
--- names of nodes in order of first being named, and links in order of adding
+-- the most links that it takes, names of nodes in order of first being named, and links in order of adding
 pub record NetworkData : Type 0 where
+  pub most_links : ℕ
   pub nodes : List (List ℕ)
   pub links : List Link
+
+-- a network without links, which takes at most so many
+abbrev pub empty_network : ℕ → NetworkData
+empty_network most = record { most_links = most; nodes = []; links = [] }
 
 abbrev pub no_link : Link
 no_link = record { name = []; tail = 0; head = 0 }
@@ -85,13 +89,14 @@ unfoldable pub checked : NetworkData → List ℕ → List ℕ → List ℕ → 
 checked d name tail head =
     refuse (is_some (find_link d name)) TwiceNamed
     >>> refuse (same tail head) SelfLoop
-    >>> refuse (nat_le most_links (length d.links)) TooManyLinks
+    >>> refuse (nat_le d.most_links (length d.links)) TooManyLinks
     >>> refuse (nat_le 4 (out_degree d tail)) TooManyOut
     >>> refuse (nat_le 4 (in_degree d head)) TooManyIn
 
 -- the network with that link last, and its tail and then its head where they are new
 abbrev pub network_linked : NetworkData → List ℕ → List ℕ → List ℕ → NetworkData
 network_linked d name tail head = record {
+  most_links = d.most_links;
   nodes = with_name (with_name d.nodes tail) head;
   links = d.links ++ record { name = name; tail = number_of d.nodes tail; head = number_of (with_name d.nodes tail) head } ∷ [];
 }

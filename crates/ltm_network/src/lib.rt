@@ -14,4 +14,4 @@ mod network;
 mod nodes;
 
 pub use laws::{links_at_their_places, names_are_found, networks_stay_networks};
-pub use network::{Network, NetworkFault};
+pub use network::{DEFAULT_LINKS, Network, NetworkFault};

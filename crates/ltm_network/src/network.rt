@@ -1,5 +1,6 @@
 //! The network.
 ghost use Rattle.std.specs.Prelude.{◌≡◌, ◌≢◌, ℕ, ◌+◌, ◌<◌, ◌≤◌, ◌^◌, List, [], ◌∷◌, ◌++◌, length, map, All, Contains, IsNone, ◌↔◌, take, OnOk, OnErr, IfOk, IfErr, IfSome, Ok, Err, None, vec_len, vec_capacity};
+ghost use Rattle.ltm_units.specs.Bounds as bounds;
 
 use crate::ends::Ends;
 use crate::names::Names;
@@ -8,8 +9,8 @@ use ltm_units::{LinkId, Name, NoMemory, NodeId};
 use std::alloc::{AllocError, Global};
 use std::marker::Model;
 
-/// The most links of a network.
-const MOST_LINKS: u32 = 4000;
+/// The most links of a network that does not say how many it takes.
+pub const DEFAULT_LINKS: u32 = 4_000;
 
 /// The most links that leave a node, and the most that enter it.
 const MOST_AT_NODE: usize = 4;
@@ -21,7 +22,7 @@ pub enum NetworkFault {
     TwiceNamed,
     /// The link would lead from a node to itself.
     SelfLoop,
-    /// There are 4,000 links.
+    /// There are as many links as the network takes.
     TooManyLinks,
     /// Four links leave the tail.
     TooManyOut,
@@ -52,8 +53,9 @@ impl From<NoMemory> for NetworkFault {
 /// ```
 ///
 /// Links are numbered in order of adding, nodes in order of first being named, the tail before the head. Contracts
-/// see the names of the nodes and, for each link, its name and the numbers of its ends.
+/// see the most links that it takes, the names of the nodes and, for each link, its name and the numbers of its ends.
 pub struct Network {
+    most_links: u32,
     nodes: Nodes,
     link_names: Names,
     ends: Vec<Ends>,
@@ -63,6 +65,7 @@ pub struct Network {
 impl Drop for Network {
     fn drop(self) {
         let Network {
+            most_links: _most_links,
             nodes: _nodes,
             link_names: _link_names,
             ends: _ends,
@@ -77,9 +80,9 @@ impl Model for Network {
 
     ghost use Rattle.ltm_network.specs.Tables.{network_of, AreTables};
 
-    ghost view = { λ n. network_of n.nodes.names n.link_names n.ends.items };
+    ghost view = { λ n. network_of n.most_links n.nodes.names n.link_names n.ends.items };
 
-    ghost invariant = { λ n. AreTables n.nodes n.link_names n.ends.items };
+    ghost invariant = { λ n. AreTables n.most_links n.nodes n.link_names n.ends.items };
 }
 
 /// A clone is equal to its source; only memory can be wanting.
@@ -90,6 +93,7 @@ impl Clone for Network {
 
     fn clone(&self) -> Result<Network, AllocError> {
         Ok(Network {
+            most_links: self.most_links,
             nodes: self.nodes.clone()?,
             link_names: self.link_names.clone()?,
             ends: self.ends.clone()?,
@@ -98,16 +102,25 @@ impl Clone for Network {
 }
 
 impl Network {
-    ghost use Rattle.ltm_network.specs.Network.{tail_of, head_of, link_name, link_names, node_name, out_links, in_links, find_link, find_node, out_degree, in_degree, checked, network_linked, with_link};
+    ghost use Rattle.ltm_network.specs.Network.{empty_network, tail_of, head_of, link_name, link_names, node_name, out_links, in_links, find_link, find_node, out_degree, in_degree, checked, network_linked, with_link};
     ghost use Rattle.ltm_network.specs.Names.{same};
     ghost use Rattle.ltm_network.specs.IsNetwork.{IsNetwork};
     ghost use Rattle.std.specs.Option.{option_map};
 
-    /// A network without links and nodes.
+    /// A network without links and nodes, which takes at most 4,000 links.
     pub fn new(alloc: Global) -> Network
-        ensures { result ≡ record { nodes = []; links = [] } }
+        ensures { result ≡ empty_network bounds.default_links }
+    {
+        Network::of_most(alloc, DEFAULT_LINKS)
+    }
+
+    /// A network without links and nodes, which takes at most so many links.
+    pub fn of_most(alloc: Global, most_links: u32) -> Network
+        requires { most_links ≤ bounds.most_links }
+        ensures { result ≡ empty_network most_links }
     {
         Network {
+            most_links,
             nodes: Nodes::new(alloc),
             link_names: Names::new(alloc),
             ends: Vec::new(alloc),
@@ -228,7 +241,7 @@ impl Network {
         if *tail == *head {
             return Err(NetworkFault::SelfLoop);
         }
-        if self.links() >= MOST_LINKS {
+        if self.links() >= self.most_links {
             return Err(NetworkFault::TooManyLinks);
         }
         if self.out_degree(tail) >= MOST_AT_NODE {

@@ -1,6 +1,7 @@
 //! The nodes of a network: their names, and which links leave and enter each.
 ghost use Rattle.std.specs.Prelude.{◌≡◌, ℕ, ◌+◌, ◌<◌, ◌≤◌, ◌^◌, List, [], ◌∷◌, ◌++◌, length, map, slice_get, slice_index_or, slice_set, take, Some, OnOk, OnErr, IfOk, vec_len, vec_capacity};
 ghost use Rattle.ltm_network.specs.Names.{place_of, with_name, number_of};
+ghost use Rattle.ltm_units.specs.Bounds.{most_nodes};
 
 use crate::adjacent::Adjacent;
 use crate::ends::Ends;
@@ -89,7 +90,7 @@ impl Nodes {
 
     /// The number of the node of that name, which is made where there is none.
     pub fn make(&mut self, name: &Name) -> Result<u32, NoMemory>
-        requires { length self.old.names < 10000 }
+        requires { length self.old.names ≤ most_nodes + 1 }
         ensures ok { OnOk result (self.new ≡ with_node self.old name.now) }
         ensures number { IfOk result (λ node. node ≡ number_of self.old.names name.now) }
         ensures err { OnErr result (self.new ≡ self.old) }
@@ -108,7 +109,7 @@ impl Nodes {
 
     /// The numbers of the two ends of a link, the tail before the head, which are made where there is none.
     pub fn make_ends(&mut self, tail: &Name, head: &Name) -> Result<Ends, NoMemory>
-        requires few { length self.old.names < 9000 }
+        requires few { length self.old.names ≤ most_nodes }
         requires outs { length self.old.outs ≡ length self.old.names }
         requires ins { length self.old.ins ≡ length self.old.names }
         ensures ok { OnOk result (self.new ≡ with_node (with_node self.old tail.now) head.now) }

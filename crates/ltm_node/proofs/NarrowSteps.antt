@@ -16,7 +16,9 @@ use Rattle.ltm_node.specs.Solvable.{IsSolvable}
 use Rattle.ltm_node.specs.Step.{moved, sunk, gone, come, sunk_in_all, MovesAtShares, IsNodeStep}
 use Rattle.ltm_node.specs.Narrow.{IsNarrow, HaveLeft, HaveMoved, HaveShifted, whole, leaves}
 use Rattle.ltm_node.specs.declared.shape.NodeShape.{NodeShape}
-use Rattle.ltm_node.proofs.Ranges.{weight_of, part_is, moved_own, moved_out_small, sunk_small, sunk_elsewhere}
+use Rattle.ltm_node.proofs.Ranges.{weight_of, part_is, sunk_small, sunk_elsewhere}
+use Rattle.ltm_node.proofs.Splitting.{sum_of_one}
+use Rattle.ltm_node.proofs.Moved.{moved_own, moved_whole, moved_alone, moved_out_small}
 
 -- ---- places
 
@@ -28,14 +30,8 @@ arm_place s i one = omega (arith, ap (λ z. i * z) one)
 
 -- ---- sums over one place
 
-sum_of_one : (k : ℕ) (f : ℕ → ℕ) → k ≡ 1 → sum_below k f ≡ f 0
-sum_of_one k f one = let e : sum_below k f ≡ sum_below 1 f = ap (λ z. sum_below z f) one in omega arith
-
 pub sum_of_two : (k : ℕ) (f : ℕ → ℕ) → k ≡ 2 → sum_below k f ≡ f 0 + f 1
 sum_of_two k f two = let e : sum_below k f ≡ sum_below 2 f = ap (λ z. sum_below z f) two in omega arith
-
-at_one : (x : ℕ) → 1 * x / 1 ≡ x
-at_one x = mul-div_right x (omega arith)
 
 -- ---- the split over at most one weight
 
@@ -58,11 +54,11 @@ few_weights n few =
 
 -- ---- what leaves an arm
 
-moved_is_part : (n : Inputs) (i d j : ℕ) → moved n 1 whole i d j ≡ part n i d j
-moved_is_part n i d j = at_one (part n i d j)
+moved_is_part : (n : Inputs) (i j : ℕ) → n.shape.destinations ≡ 1 → moved n 1 whole i 0 j ≡ part n i 0 j
+moved_is_part n i j one = moved_whole n whole i 0 j refl (omega arith)
 
-moved_out : (n : Inputs) (i : ℕ) → is_own n.shape 0 ≡ false → moved n 1 whole i 0 0 ≡ slice_index (nested_split (sending n i 0) (weights n 0)) 0
-moved_out n i elsewhere = moved_is_part n i 0 0 ∙ sym (part_is n (sending n i 0) i 0 0 (slice_index (nested_split (sending n i 0) (weights n 0)) 0) elsewhere refl refl)
+moved_out : (n : Inputs) (i : ℕ) → n.shape.destinations ≡ 1 → is_own n.shape 0 ≡ false → moved n 1 whole i 0 0 ≡ slice_index (nested_split (sending n i 0) (weights n 0)) 0
+moved_out n i one elsewhere = moved_is_part n i 0 one ∙ sym (part_is n (sending n i 0) i 0 0 (slice_index (nested_split (sending n i 0) (weights n 0)) 0) elsewhere refl refl)
 
 pub leaves_to_sink : (n : Inputs) (i : ℕ) → is_own n.shape 0 ≡ true → leaves n i ≡ sunk n 1 whole i 0
 leaves_to_sink n i own =
@@ -71,13 +67,13 @@ leaves_to_sink n i own =
 pub leaves_to_out : (n : Inputs) (i : ℕ) → is_own n.shape 0 ≡ false → n.shape.outs ≡ 1 → leaves n i ≡ moved n 1 whole i 0 0
 leaves_to_out n i elsewhere one = omega (arith, sum_of_one n.shape.outs (λ j. moved n 1 whole i 0 j) one, sunk_elsewhere n 1 whole i 0 elsewhere)
 
-pub all_to_out : (n : Inputs) (i : ℕ) → is_own n.shape 0 ≡ false → n.shape.outs ≡ 1 → 0 < weight n 0 0 → leaves n i ≡ sending n i 0
-all_to_out n i elsewhere one some =
-    leaves_to_out n i elsewhere one ∙ (moved_out n i elsewhere ∙ split_all (weights n 0) (sending n i 0) (few_weights n (omega arith)) (omega (arith, weight_of n 0 0 (omega arith))))
+pub all_to_out : (n : Inputs) (i : ℕ) → IsNarrow n.shape → is_own n.shape 0 ≡ false → n.shape.outs ≡ 1 → 0 < weight n 0 0 → leaves n i ≡ sending n i 0
+all_to_out n i s elsewhere one some =
+    leaves_to_out n i elsewhere one ∙ (moved_out n i s.one_destination elsewhere ∙ split_all (weights n 0) (sending n i 0) (few_weights n s.few_outs) (omega (arith, weight_of n 0 0 (omega arith))))
 
-pub nothing_to_out : (n : Inputs) (i : ℕ) → is_own n.shape 0 ≡ false → n.shape.outs ≡ 1 → weight n 0 0 ≡ 0 → leaves n i ≡ 0
-nothing_to_out n i elsewhere one none =
-    leaves_to_out n i elsewhere one ∙ (moved_out n i elsewhere ∙ split_nothing (weights n 0) (sending n i 0) (few_weights n (omega arith)) (weight_of n 0 0 (omega arith) ∙ none))
+pub nothing_to_out : (n : Inputs) (i : ℕ) → IsNarrow n.shape → is_own n.shape 0 ≡ false → n.shape.outs ≡ 1 → weight n 0 0 ≡ 0 → leaves n i ≡ 0
+nothing_to_out n i s elsewhere one none =
+    leaves_to_out n i elsewhere one ∙ (moved_out n i s.one_destination elsewhere ∙ split_nothing (weights n 0) (sending n i 0) (few_weights n s.few_outs) (weight_of n 0 0 (omega arith) ∙ none))
 
 pub leaves_small : (n : Inputs) (i : ℕ) → IsSolvable n → IsNarrow n.shape → i < n.shape.arms → leaves n i ≤ 64000
 leaves_small n i s narrow il =
@@ -134,7 +130,7 @@ whole_shares_narrow n one fits = record {
   within_supply = λ j l.
       let same : inflow (demands n) whole j ≡ come n 1 whole j 0 =
       sum_below-same n.shape.arms (λ i. whole i * sent_into n i j) (λ i. moved n 1 whole i 0 j)
-      (λ i m. omega (arith, sum_of_one n.shape.destinations (λ d. part n i d j) one, moved_is_part n i 0 j)) in
+      (λ i m. omega (arith, sum_of_one n.shape.destinations (λ d. part n i d j) one, moved_is_part n i j one)) in
       omega (arith, fits j l);
   held_back = λ i l less. absurd (omega arith);
 }
@@ -182,9 +178,9 @@ step_to_out n o total s elsewhere is small h =
 
 -- ---- one arm, and an out-link that is short
 
-part_is_total : (n : Inputs) (total : ℕ) → n.shape.arms ≡ 1 → n.shape.outs ≡ 1 → is_own n.shape 0 ≡ false → total ≡ sum_below n.shape.arms (leaves n) → part n 0 0 0 ≡ total
-part_is_total n total one out elsewhere is =
-    sym (is ∙ (sum_of_one n.shape.arms (leaves n) one ∙ (leaves_to_out n 0 elsewhere out ∙ moved_is_part n 0 0 0)))
+part_is_total : (n : Inputs) (total : ℕ) → IsNarrow n.shape → n.shape.arms ≡ 1 → n.shape.outs ≡ 1 → is_own n.shape 0 ≡ false → total ≡ sum_below n.shape.arms (leaves n) → part n 0 0 0 ≡ total
+part_is_total n total s one out elsewhere is =
+    sym (is ∙ (sum_of_one n.shape.arms (leaves n) one ∙ (leaves_to_out n 0 elsewhere out ∙ moved_is_part n 0 0 s.one_destination)))
 
 shares_short : (n : Inputs) (total : ℕ) → IsNarrow n.shape → n.shape.arms ≡ 1 → n.shape.outs ≡ 1 → part n 0 0 0 ≡ total → supply n 0 < total → AreShares (demands n) total (λ i. supply n 0)
 shares_short n total s one out is short =
@@ -216,9 +212,9 @@ pub step_short : (n : Inputs) (o : Outputs) (total : ℕ) → IsNarrow n.shape �
 step_short n o total s one out elsewhere sum short h =
     let x : ℕ = supply n 0 in
     let p : ℕ → ℕ = λ i. x in
-    let is : part n 0 0 0 ≡ total = part_is_total n total one out elsewhere sum in
+    let is : part n 0 0 0 ≡ total = part_is_total n total s one out elsewhere sum in
     let goes : moved n total p 0 0 0 ≡ x =
-    let some : 0 < total = omega arith in ap (λ z. x * z / total) is ∙ mul-div_cancel x some in
+    let some : 0 < total = omega arith in moved_alone n total p 0 0 s.one_destination ∙ (ap (λ z. x * z / total) is ∙ mul-div_cancel x some) in
     let gone_is : gone n total p 0 0 ≡ x = omega (arith, sum_of_one n.shape.outs (λ j. moved n total p 0 0 j) out, sunk_elsewhere n total p 0 0 elsewhere, goes) in
     let come_is : come n total p 0 0 ≡ x = sum_of_one n.shape.arms (λ i. moved n total p i 0 0) one ∙ goes in
     let dry : sunk_in_all n total p ≡ 0 =

@@ -10,7 +10,7 @@ use Rattle.ltm_node.specs.Shape.{is_own, weights_place}
 use Rattle.ltm_node.specs.Inputs.{Inputs, sending, weight, weights}
 use Rattle.ltm_node.specs.Demands.{part, to_sink, sent, sent_into}
 use Rattle.ltm_node.specs.Solvable.{IsSolvable}
-use Rattle.ltm_node.specs.Step.{moved, sunk}
+use Rattle.ltm_node.specs.Step.{sunk}
 
 -- ---- sizes
 
@@ -44,20 +44,8 @@ sending_small n i d h l m = omega (arith, sent_small n i h l, le-sum_below n.sha
 pub part_small : (n : Inputs) (i d j : ℕ) → IsSolvable n → i < n.shape.arms → d < n.shape.destinations → part n i d j ≤ 32000
 part_small n i d j h l m = omega (arith, part_le n i d j, sending_small n i d h l m)
 
-pub moved_small : (n : Inputs) (e : ℕ) (p : ℕ → ℕ) (i d j : ℕ) → IsSolvable n → p i ≤ e → i < n.shape.arms → d < n.shape.destinations → moved n e p i d j ≤ 32000
-moved_small n e p i d j h f l m = omega (arith, fraction_of_le (p i) e (part n i d j) f, part_small n i d j h l m)
-
 pub sunk_small : (n : Inputs) (e : ℕ) (p : ℕ → ℕ) (i d : ℕ) → IsSolvable n → p i ≤ e → i < n.shape.arms → d < n.shape.destinations → sunk n e p i d ≤ 32000
 sunk_small n e p i d h f l m = omega (arith, fraction_of_le (p i) e (to_sink n i d) f, to_sink_le n i d, sending_small n i d h l m)
-
-pub moved_out_small : (n : Inputs) (e : ℕ) (p : ℕ → ℕ) (i d k : ℕ) → IsSolvable n → p i ≤ e → i < n.shape.arms → d < n.shape.destinations → sum_below k (λ j. moved n e p i d j) ≤ k * 32000
-moved_out_small n e p i d k h f l m = sum_below-most k (λ j. moved n e p i d j) 32000 (λ j b. moved_small n e p i d j h f l m)
-
-pub moved_in_small : (n : Inputs) (e : ℕ) (p : ℕ → ℕ) (j d k : ℕ) → IsSolvable n → ((i : ℕ) → i < n.shape.arms → p i ≤ e) → d < n.shape.destinations → k ≤ n.shape.arms → sum_below k (λ i. moved n e p i d j) ≤ k * 32000
-moved_in_small n e p j d k h f m few = sum_below-most k (λ i. moved n e p i d j) 32000 (λ i b. moved_small n e p i d j h (f i (omega arith)) (omega arith) m)
-
-pub sent_by_small : (n : Inputs) (e : ℕ) (p : ℕ → ℕ) (i j k : ℕ) → IsSolvable n → p i ≤ e → i < n.shape.arms → k ≤ n.shape.destinations → sum_below k (λ d. moved n e p i d j) ≤ k * 32000
-sent_by_small n e p i j k h f l few = sum_below-most k (λ d. moved n e p i d j) 32000 (λ d b. moved_small n e p i d j h f l (omega arith))
 
 pub sunk_at_small : (n : Inputs) (e : ℕ) (p : ℕ → ℕ) (d k : ℕ) → IsSolvable n → ((i : ℕ) → i < n.shape.arms → p i ≤ e) → d < n.shape.destinations → k ≤ n.shape.arms → sum_below k (λ i. sunk n e p i d) ≤ k * 32000
 sunk_at_small n e p d k h f m few = sum_below-most k (λ i. sunk n e p i d) 32000 (λ i b. sunk_small n e p i d h (f i (omega arith)) (omega arith) m)
@@ -101,8 +89,11 @@ pub part_is : (n : Inputs) (amount i d j x : ℕ) → is_own n.shape d ≡ false
 part_is n amount i d j x elsewhere is e =
     e ∙ (ap (λ m. slice_index (nested_split m (weights n d)) j) is ∙ sym (ap (λ (b : Bool). cond b 0 (slice_index (nested_split (sending n i d) (weights n d)) j)) elsewhere))
 
-pub moved_is : (n : Inputs) (e : ℕ) (p : ℕ → ℕ) (i d j x v : ℕ) → x ≡ part n i d j → v ≡ p i * x / e → v ≡ moved n e p i d j
-moved_is n e p i d j x v is share = share ∙ ap (λ z. p i * z / e) is
+pub part_own : (n : Inputs) (i d j : ℕ) → is_own n.shape d ≡ true → part n i d j ≡ 0
+part_own n i d j own = ap (λ (b : Bool). cond b 0 (slice_index (nested_split (sending n i d) (weights n d)) j)) own
+
+pub part_none : (n : Inputs) (i d j : ℕ) → sending n i d ≡ 0 → part n i d j ≡ 0
+part_none n i d j none = omega (arith, part_le n i d j)
 
 pub sunk_elsewhere : (n : Inputs) (e : ℕ) (p : ℕ → ℕ) (i d : ℕ) → is_own n.shape d ≡ false → sunk n e p i d ≡ 0
 sunk_elsewhere n e p i d elsewhere = nothing_of (p i) e (to_sink n i d) (ap (λ (b : Bool). cond b (sending n i d) 0) elsewhere)
@@ -111,18 +102,5 @@ pub sunk_is : (n : Inputs) (e : ℕ) (p : ℕ → ℕ) (i d amount v : ℕ) → 
 sunk_is n e p i d amount v own is share =
     share ∙ ap (λ z. p i * z / e) (is ∙ sym (ap (λ (b : Bool). cond b (sending n i d) 0) own))
 
-pub moved_own : (n : Inputs) (e : ℕ) (p : ℕ → ℕ) (i d j : ℕ) → is_own n.shape d ≡ true → moved n e p i d j ≡ 0
-moved_own n e p i d j own =
-    nothing_of (p i) e (part n i d j) (ap (λ (b : Bool). cond b 0 (slice_index (nested_split (sending n i d) (weights n d)) j)) own)
-
-pub moved_nothing : (n : Inputs) (e : ℕ) (p : ℕ → ℕ) (i d j : ℕ) → sending n i d ≡ 0 → moved n e p i d j ≡ 0
-moved_nothing n e p i d j none = nothing_of (p i) e (part n i d j) (omega (arith, part_le n i d j))
-
 pub sunk_nothing : (n : Inputs) (e : ℕ) (p : ℕ → ℕ) (i d : ℕ) → sending n i d ≡ 0 → sunk n e p i d ≡ 0
 sunk_nothing n e p i d none = nothing_of (p i) e (to_sink n i d) (omega (arith, to_sink_le n i d))
-
--- ---- what goes by an out-link
-
--- a part that is 0 moves nothing
-pub moved_none : (n : Inputs) (e : ℕ) (p : ℕ → ℕ) (i d j : ℕ) → part n i d j ≡ 0 → moved n e p i d j ≡ 0
-moved_none n e p i d j none = nothing_of (p i) e (part n i d j) none

@@ -72,6 +72,10 @@ sum_ended (suc m) k f le none =
       | inr more ↦ omega (arith, sum_ended m k f more (λ j l u. none j l (omega arith)), none m more (omega arith))
     ]
 
+-- a sum of one term
+pub sum_of_one : (k : ℕ) (f : ℕ → ℕ) → k ≡ 1 → sum_below k f ≡ f 0
+sum_of_one k f one = let e : sum_below k f ≡ sum_below 1 f = ap (λ z. sum_below z f) one in omega arith
+
 -- a sum with one term that may be above 0
 pub sum_of_term : (m k : ℕ) (f : ℕ → ℕ) → k < m → ((j : ℕ) → j ≢ k → f j ≡ 0) → sum_below m f ≡ f k
 sum_of_term m k f l none =
@@ -134,7 +138,7 @@ past_none xs x m k none =
     ap (λ z. slice_index (nested_split z xs) k) rest
 
 -- the only weight gets all
-split_alone : (ws : List ℕ) (m k : ℕ) → 0 < sum ws → get_or ws k 0 ≡ sum ws → slice_index (nested_split m ws) k ≡ m
+pub split_alone : (ws : List ℕ) (m k : ℕ) → 0 < sum ws → get_or ws k 0 ≡ sum ws → slice_index (nested_split m ws) k ≡ m
 split_alone [] m k some all = absurd (omega arith)
 split_alone (x ∷ xs) m zero some all =
     let cons : sum (x ∷ xs) ≡ x + sum xs = sum_by-cons (λ y. y) x xs in

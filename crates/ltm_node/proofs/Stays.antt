@@ -14,7 +14,8 @@ use Rattle.ltm_node.specs.Demands.{part, sent_into, demands}
 use Rattle.ltm_node.specs.Step.{moved, sunk, come, sunk_in_all, StepShares, IsNodeStep}
 use Rattle.ltm_node.specs.Narrow.{laid}
 use Rattle.ltm_node.specs.Laws.{SameShape, SameInputs, SameOutputs, SameStep, NoArrivals, NothingIsSent, NothingMoves}
-use Rattle.ltm_node.proofs.Ranges.{moved_nothing, sunk_nothing, sunk_elsewhere, part_le}
+use Rattle.ltm_node.proofs.Moved.{moved_nothing}
+use Rattle.ltm_node.proofs.Ranges.{sunk_nothing, sunk_elsewhere, part_le}
 
 NodeShape-set : IsSet NodeShape
 NodeShape-set = hlevel (ℕ_set, props)

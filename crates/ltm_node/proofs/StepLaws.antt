@@ -1,25 +1,24 @@
-use Rattle.std.proofs.Common.{◌≡◌, ◌≢◌, ℕ, zero, suc, ◌+◌, ◌-◌, ◌*◌, ◌/◌, ◌%◌, ◌<◌, ◌≤◌, ◌⊎◌, Bool, true, false, cond, Option, Some, None, List, [], ◌∷◌, sum, length, slice_index, arith, inl, inr, refl, ap, sym, subst, ◌∙◌}
-use Rattle.std.proofs.Math.Nat.{le_of_mul-le-mul_right, mul-le-mul_right, mul-le-mul_left, div-mul-le_self, ℕ_set}
+use Rattle.std.proofs.Common.{◌≡◌, ◌≢◌, ℕ, ◌+◌, ◌-◌, ◌*◌, ◌/◌, ◌%◌, ◌<◌, ◌≤◌, Bool, true, cond, Option, Some, None, length, slice_index, arith, inl, inr, refl, ap, sym, subst, ◌∙◌}
+use Rattle.std.proofs.Math.Nat.{le_of_mul-le-mul_right, mul-le-mul_left, ℕ_set}
 use Rattle.std.proofs.Math.Logic.{∥∥₁_elim}
 use Rattle.std.proofs.Math.Bridge.{le_prop}
 use Rattle.std.proofs.lemmas.Nat.{le-div, div_below, mod_below, div-add-mod'}
 use Rattle.std.proofs.lemmas.Bool.{cases_lt, eqb-true}
 use Rattle.std.proofs.lemmas.Grind.{same_number_lists}
-use Rattle.std.proofs.lemmas.List.Sums.{sum_by-cons}
 use Rattle.ltm_units.specs.Sums.{sum_below}
 use Rattle.ltm_units.specs.Nested.{nested_split}
 use Rattle.ltm_units.proofs.Sums.{sum_below-le, sum_below-mul, sum_below-same, sum_below-plus, sum_below-swap, sum_below-zero, sum_below-change}
-use Rattle.ltm_units.proofs.Splits.{share_within}
 use Rattle.ltm_shares.specs.Shares.{AreShares, HasPriorities}
 use Rattle.ltm_shares.proofs.Unique.{one_solution_holds}
 use Rattle.ltm_node.specs.Shape.{is_this, is_own, counts_width}
 use Rattle.ltm_node.specs.Inputs.{Inputs, sending, left, entered, arrived, supply, capacity, weights}
 use Rattle.ltm_node.specs.Outputs.{Outputs, left_after, entered_after, arrived_after, left_after_place, entered_after_place, arrived_after_place}
-use Rattle.ltm_node.specs.Demands.{part, to_sink, sent, sent_into, demands}
+use Rattle.ltm_node.specs.Demands.{to_sink, sent, sent_into, demands}
 use Rattle.ltm_node.specs.Solvable.{IsSolvable}
 use Rattle.ltm_node.specs.Step.{moved, sunk, gone, come, sunk_in_all, MovesAtShares, StepShares, IsNodeStep}
 use Rattle.ltm_node.specs.Laws.{OneSolution, OneStep, SupplyKept, SendingKept, arrived_for, arrived_for_after, NothingLost, NothingLostInAll}
-use Rattle.ltm_node.proofs.Ranges.{fraction_of_le, to_sink_le, sent_into_le, moved_own, sunk_elsewhere}
+use Rattle.ltm_node.proofs.Ranges.{fraction_of_le, to_sink_le, sent_into_le, sunk_elsewhere}
+use Rattle.ltm_node.proofs.Moved.{bool_cases, floor_same, sum_below-list, nested_sum_le, moved_own, moved_same, moved_le, moved_into_le}
 
 -- ---- one solution
 
@@ -30,15 +29,6 @@ has_priorities n s i j l m uses =
 
 pub one_solution_of_inputs : OneSolution
 one_solution_of_inputs n s d e p q a b i l = one_solution_holds (demands n) d e p q (has_priorities n s) a b i l
-
-floor_le : (p d q e s : ℕ) → 0 < d → 0 < e → p * e ≡ q * d → p * s / d ≤ q * s / e
-floor_le p d q e s pos pos' h =
-    le-div (p * s / d) (q * s) e pos'
-    (le_of_mul-le-mul_right {k = d} (omega (arith, mul-le-mul_right e (div-mul-le_self (p * s) d), ap (λ z. z * s) h)) pos)
-
--- equal fractions give equal floors
-pub floor_same : (p d q e s : ℕ) → 0 < d → 0 < e → p * e ≡ q * d → p * s / d ≡ q * s / e
-floor_same p d q e s pos pos' h = omega (arith, floor_le p d q e s pos pos' h, floor_le q e p d s pos' pos (sym h))
 
 -- ---- one step
 
@@ -80,12 +70,12 @@ record AreBoth (n : Inputs) (d e : ℕ) (p q : ℕ → ℕ) : Type 0 where
 gone_same : (n : Inputs) (d e : ℕ) (p q : ℕ → ℕ) → AreBoth n d e p q → (i k : ℕ) → i < n.shape.arms → gone n d p i k ≡ gone n e q i k
 gone_same n d e p q b i k l =
     let sums : sum_below n.shape.outs (λ j. moved n d p i k j) ≡ sum_below n.shape.outs (λ j. moved n e q i k j) =
-    sum_below-same n.shape.outs (λ j. moved n d p i k j) (λ j. moved n e q i k j) (λ j m. floor_same (p i) d (q i) e (part n i k j) b.positive b.positive_other (b.fractions i l)) in
+    sum_below-same n.shape.outs (λ j. moved n d p i k j) (λ j. moved n e q i k j) (λ j m. moved_same n d e p q i k j b.positive b.positive_other (b.fractions i l)) in
     let sinks : sunk n d p i k ≡ sunk n e q i k = floor_same (p i) d (q i) e (to_sink n i k) b.positive b.positive_other (b.fractions i l) in omega arith
 
 come_same : (n : Inputs) (d e : ℕ) (p q : ℕ → ℕ) → AreBoth n d e p q → (j k : ℕ) → come n d p j k ≡ come n e q j k
 come_same n d e p q b j k =
-    sum_below-same n.shape.arms (λ i. moved n d p i k j) (λ i. moved n e q i k j) (λ i l. floor_same (p i) d (q i) e (part n i k j) b.positive b.positive_other (b.fractions i l))
+    sum_below-same n.shape.arms (λ i. moved n d p i k j) (λ i. moved n e q i k j) (λ i l. moved_same n d e p q i k j b.positive b.positive_other (b.fractions i l))
 
 sunk_same : (n : Inputs) (d e : ℕ) (p q : ℕ → ℕ) → AreBoth n d e p q → sunk_in_all n d p ≡ sunk_in_all n e q
 sunk_same n d e p q b =
@@ -141,19 +131,12 @@ one_step_holds n s one other a b =
 
 -- ---- supply
 
--- the sum of floors, over the denominator
-floors_le : (n : ℕ) (p d : ℕ) (s : ℕ → ℕ) → sum_below n (λ k. p * s k / d) * d ≤ p * sum_below n s
-floors_le zero p d s = omega arith
-floors_le (suc n) p d s =
-    let below : sum_below n (λ k. p * s k / d) * d ≤ p * sum_below n s = floors_le n p d s in
-    omega (arith, div-mul-le_self (p * s n) d)
-
 -- what enters an out-link in all
 moved_in : (n : Inputs) (d : ℕ) (p : ℕ → ℕ) (j : ℕ) → AreShares (demands n) d p → j < n.shape.outs → sum_below n.shape.arms (λ i. sum_below n.shape.destinations (λ k. moved n d p i k j)) ≤ supply n j
 moved_in n d p j s l =
     let arm : (i : ℕ) → ℕ = λ i. sum_below n.shape.destinations (λ k. moved n d p i k j) in
     let each : sum_below n.shape.arms (λ i. arm i * d) ≤ sum_below n.shape.arms (λ i. p i * sent_into n i j) =
-    sum_below-le n.shape.arms (λ i. arm i * d) (λ i. p i * sent_into n i j) (λ i m. floors_le n.shape.destinations (p i) d (λ k. part n i k j)) in
+    sum_below-le n.shape.arms (λ i. arm i * d) (λ i. p i * sent_into n i j) (λ i m. moved_into_le n d p i j) in
     le_of_mul-le-mul_right {k = d} (omega (arith, each, sum_below-mul n.shape.arms arm d, s.within_supply j l)) s.positive
 
 supply_kept_at : (n : Inputs) (o : Outputs) (j : ℕ) → j < n.shape.outs → StepShares n o →
@@ -176,29 +159,6 @@ supply_kept_holds n o step j l = ∥∥₁_elim step le_prop (supply_kept_at n o
 
 -- ---- what an arm sends
 
-bool_cases : (b : Bool) → (b ≡ true) ⊎ (b ≡ false)
-bool_cases true = inl refl
-bool_cases false = inr refl
-
-sum_below-front : (n : ℕ) (f : ℕ → ℕ) → sum_below (suc n) f ≡ f 0 + sum_below n (λ k. f (suc k))
-sum_below-front zero f = omega arith
-sum_below-front (suc n) f = let below : sum_below (suc n) f ≡ f 0 + sum_below n (λ k. f (suc k)) = sum_below-front n f in omega arith
-
-sum_below-list : (xs : List ℕ) (k : ℕ) → sum_below k (slice_index xs) ≤ sum xs
-sum_below-list [] k = omega (arith, sum_below-zero k (slice_index []) (λ j l. refl))
-sum_below-list (x ∷ xs) zero = omega arith
-sum_below-list (x ∷ xs) (suc k) =
-    let rest : sum_below k (slice_index xs) ≤ sum xs = sum_below-list xs k in
-    let front : sum_below (suc k) (slice_index (x ∷ xs)) ≡ x + sum_below k (slice_index xs) = sum_below-front k (slice_index (x ∷ xs)) in
-    omega (arith, sum_by-cons (λ y. y) x xs)
-
-nested_sum_le : (xs : List ℕ) (m : ℕ) → sum (nested_split m xs) ≤ m
-nested_sum_le [] m = omega arith
-nested_sum_le (x ∷ xs) m =
-    let share : ℕ = m * x / (x + sum xs) in
-    let rest : sum (nested_split (m - share) xs) ≤ m - share = nested_sum_le xs (m - share) in
-    omega (arith, share_within m x (x + sum xs) (omega arith), sum_by-cons (λ y. y) share (nested_split (m - share) xs))
-
 gone_le : (n : Inputs) (e : ℕ) (p : ℕ → ℕ) (i d : ℕ) → p i ≤ e → gone n e p i d ≤ sending n i d
 gone_le n e p i d f =
     elim (bool_cases (is_own n.shape d)) [
@@ -209,7 +169,7 @@ gone_le n e p i d f =
           let parts : ℕ → ℕ = slice_index (nested_split (sending n i d) (weights n d)) in
           let each : sum_below n.shape.outs (λ j. moved n e p i d j) ≤ sum_below n.shape.outs parts =
           sum_below-le n.shape.outs (λ j. moved n e p i d j) parts (λ j l.
-          omega (arith, fraction_of_le (p i) e (part n i d j) f, ap (λ (b : Bool). cond b 0 (parts j)) elsewhere)) in
+          omega (arith, moved_le n e p i d j f, ap (λ (b : Bool). cond b 0 (parts j)) elsewhere)) in
           omega (
             arith,
             each,

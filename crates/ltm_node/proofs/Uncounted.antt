@@ -9,12 +9,13 @@ use Rattle.ltm_node.specs.declared.shape.NodeShape.{NodeShape}
 use Rattle.ltm_node.specs.Shape.{is_own, weights_place}
 use Rattle.ltm_node.specs.Inputs.{Inputs, sending, capacity, weights}
 use Rattle.ltm_node.specs.Demands.{part, to_sink, sent, sent_into, demands}
-use Rattle.ltm_node.specs.Step.{moved, sunk, gone, come, sunk_in_all, StepShares}
+use Rattle.ltm_node.specs.Step.{parts_into, turned, moved, sunk, gone, come, sunk_in_all, StepShares}
 use Rattle.ltm_node.specs.Solvable.{IsSolvable}
 use Rattle.ltm_node.specs.Moving.{Agrees}
 use Rattle.ltm_node.specs.Laws.{IsUncounted, MovesAdd}
 use Rattle.ltm_node.proofs.Demanded.{shares_agree}
 use Rattle.ltm_node.proofs.Ranges.{weight_of}
+use Rattle.ltm_node.proofs.Moved.{parts_long, parts_at}
 
 -- a sum of as many terms
 count_same : (a b : ℕ) (f g : ℕ → ℕ) → a ≡ b → ((k : ℕ) → k < b → f k ≡ g k) → sum_below a f ≡ sum_below b g
@@ -73,8 +74,22 @@ demands_same n m h = record {
 }
 
 -- so is what moves at the same shares
+parts_same : (n m : Inputs) (i j : ℕ) → IsUncounted n m → i < n.shape.arms → parts_into m i j ≡ parts_into n i j
+parts_same n m i j h l =
+    let many : m.shape.destinations ≡ n.shape.destinations = ap (λ (z : NodeShape). z.destinations) h.shape in
+    ext_get_or 0 (parts_into m i j) (parts_into n i j) (parts_long m i j ∙ (many ∙ sym (parts_long n i j))) (λ d x.
+    let few : d < m.shape.destinations = omega (arith, parts_long m i j) in
+    parts_at m i d j few ∙ (part_same n m i d j h l (omega arith) ∙ sym (parts_at n i d j (omega arith))))
+
+turned_same : (n m : Inputs) (e : ℕ) (p : ℕ → ℕ) (i j : ℕ) → IsUncounted n m → i < n.shape.arms → turned m e p i j ≡ turned n e p i j
+turned_same n m e p i j h l = ap (λ (z : ℕ). p i * z / e) (sent_into_same n m i j h l)
+
 moved_same : (n m : Inputs) (e : ℕ) (p : ℕ → ℕ) (i d j : ℕ) → IsUncounted n m → i < n.shape.arms → d < n.shape.destinations → moved m e p i d j ≡ moved n e p i d j
-moved_same n m e p i d j h l x = ap (λ (z : ℕ). p i * z / e) (part_same n m i d j h l x)
+moved_same n m e p i d j h l x =
+    ap (λ (z : NodeShape). cond z.by_turn (slice_index (nested_split (turned m e p i j) (parts_into m i j)) d) (p i * part m i d j / e)) h.shape
+    ∙ (ap (λ (z : ℕ). cond n.shape.by_turn (slice_index (nested_split z (parts_into m i j)) d) (p i * part m i d j / e)) (turned_same n m e p i j h l)
+    ∙ (ap (λ (z : List ℕ). cond n.shape.by_turn (slice_index (nested_split (turned n e p i j) z) d) (p i * part m i d j / e)) (parts_same n m i j h l)
+    ∙ ap (λ (z : ℕ). cond n.shape.by_turn (slice_index (nested_split (turned n e p i j) (parts_into n i j)) d) (p i * z / e)) (part_same n m i d j h l x)))
 
 sunk_same : (n m : Inputs) (e : ℕ) (p : ℕ → ℕ) (i d : ℕ) → IsUncounted n m → i < n.shape.arms → d < n.shape.destinations → sunk m e p i d ≡ sunk n e p i d
 sunk_same n m e p i d h l x = ap (λ (z : ℕ). p i * z / e) (to_sink_same n m i d h l x)

@@ -7,10 +7,9 @@ use Rattle.ltm_node.specs.Inputs.{Inputs, sending, weights}
 use Rattle.ltm_node.specs.Demands.{part}
 use Rattle.ltm_node.specs.Solvable.{IsSolvable}
 use Rattle.ltm_node.specs.Splitting.{HasOne, HasTwo}
-use Rattle.ltm_node.specs.Step.{moved}
-use Rattle.ltm_node.specs.Moving.{IsMoving}
+use Rattle.ltm_node.specs.Moving.{IsMoving, Passes}
 use Rattle.ltm_node.proofs.Amounts.{nothing_on, nothing_by, next_destination}
-use Rattle.ltm_node.proofs.Ranges.{part_is, moved_none, moved_nothing, sunk_nothing, sunk_elsewhere, weight_of, weight_within}
+use Rattle.ltm_node.proofs.Ranges.{part_is, part_none, sunk_nothing, sunk_elsewhere, weight_of, weight_within}
 use Rattle.ltm_node.proofs.Splitting.{split_without, split_one, split_first, split_second, one_alone, two_alone}
 
 -- an out-link with a weight
@@ -43,30 +42,30 @@ part_second n i d amount first second weight whole elsewhere is h w t =
     part_is n amount i d second (amount - amount * weight / whole) elsewhere is
     (ap (λ z. amount - amount * z / whole) w ∙ (ap (λ z. amount - amount * get_or ws first 0 / z) t ∙ sym (split_second ws amount first second h)))
 
--- ---- what moves nothing
+-- ---- what sends nothing
 
-moved_without : (n : Inputs) (e : ℕ) (p : ℕ → ℕ) (i d j : ℕ) → is_own n.shape d ≡ false → get_or (weights n d) j 0 ≡ 0 → moved n e p i d j ≡ 0
-moved_without n e p i d j elsewhere none =
-    moved_none n e p i d j (sym (part_is n (sending n i d) i d j 0 elsewhere refl (sym (split_without (weights n d) (sending n i d) j none))))
+part_without : (n : Inputs) (i d j : ℕ) → is_own n.shape d ≡ false → get_or (weights n d) j 0 ≡ 0 → part n i d j ≡ 0
+part_without n i d j elsewhere none =
+    sym (part_is n (sending n i d) i d j 0 elsewhere refl (sym (split_without (weights n d) (sending n i d) j none)))
 
-pub beside_one : (n : Inputs) (e : ℕ) (p : ℕ → ℕ) (i d out : ℕ) → is_own n.shape d ≡ false → HasOne (weights n d) out →
-    (j : ℕ) → j ≢ out → moved n e p i d j ≡ 0
-beside_one n e p i d out elsewhere h j ne = moved_without n e p i d j elsewhere (one_alone (weights n d) out j h ne)
+pub beside_one : (n : Inputs) (i d out : ℕ) → is_own n.shape d ≡ false → HasOne (weights n d) out →
+    (j : ℕ) → j ≢ out → part n i d j ≡ 0
+beside_one n i d out elsewhere h j ne = part_without n i d j elsewhere (one_alone (weights n d) out j h ne)
 
-pub beside_two : (n : Inputs) (e : ℕ) (p : ℕ → ℕ) (i d first second : ℕ) → is_own n.shape d ≡ false → HasTwo (weights n d) first second →
-    (j : ℕ) → j ≢ first → j ≢ second → moved n e p i d j ≡ 0
-beside_two n e p i d first second elsewhere h j ne ne' = moved_without n e p i d j elsewhere (two_alone (weights n d) first second j h ne ne')
+pub beside_two : (n : Inputs) (i d first second : ℕ) → is_own n.shape d ≡ false → HasTwo (weights n d) first second →
+    (j : ℕ) → j ≢ first → j ≢ second → part n i d j ≡ 0
+beside_two n i d first second elsewhere h j ne ne' = part_without n i d j elsewhere (two_alone (weights n d) first second j h ne ne')
 
 -- an arm that sends nothing
-pub unsent_on : (n : Inputs) (e : ℕ) (p : ℕ → ℕ) (b a : ℕ) (row : List ℕ) (sent : ℕ → ℕ → ℕ) → IsSolvable n → IsMoving n e p b a 0 row sent → a < n.shape.arms → b < n.shape.destinations →
-    sending n a b ≡ 0 → IsMoving n e p b (a + 1) 0 row sent
-unsent_on n e p b a row sent s h al bl none =
-    nothing_on n e p b a row sent s h al bl (sunk_nothing n e p a b none) (λ j. moved_nothing n e p a b j none)
+pub unsent_on : (n : Inputs) (e : ℕ) (p : ℕ → ℕ) (stands : ℕ → ℕ → ℕ → Type 0) (b a : ℕ) (row : List ℕ) → IsSolvable n → Passes n stands → IsMoving n e p stands b a 0 row → a < n.shape.arms → b < n.shape.destinations →
+    sending n a b ≡ 0 → IsMoving n e p stands b (a + 1) 0 row
+unsent_on n e p stands b a row s passes h al bl none =
+    nothing_on n e p stands b a row s passes h al bl (sunk_nothing n e p a b none) (λ j. part_none n a b j none)
 
 -- a destination without a weight
-pub unweighted_on : (n : Inputs) (e : ℕ) (p : ℕ → ℕ) (b : ℕ) (row : List ℕ) (sent : ℕ → ℕ → ℕ) → IsSolvable n → IsMoving n e p b 0 0 row sent → b < n.shape.destinations →
-    is_own n.shape b ≡ false → sum (weights n b) ≡ 0 → IsMoving n e p (b + 1) 0 0 row sent
-unweighted_on n e p b row sent s h bl elsewhere none =
-    next_destination n e p b row sent s
-    (nothing_by n e p b n.shape.arms row sent s h (omega arith) bl (λ i. sunk_elsewhere n e p i b elsewhere)
-    (λ i j. moved_without n e p i b j elsewhere (omega (arith, weight_within (weights n b) j))))
+pub unweighted_on : (n : Inputs) (e : ℕ) (p : ℕ → ℕ) (stands : ℕ → ℕ → ℕ → Type 0) (b : ℕ) (row : List ℕ) → IsSolvable n → Passes n stands → IsMoving n e p stands b 0 0 row → b < n.shape.destinations →
+    is_own n.shape b ≡ false → sum (weights n b) ≡ 0 → IsMoving n e p stands (b + 1) 0 0 row
+unweighted_on n e p stands b row s passes h bl elsewhere none =
+    next_destination n e p stands b row s
+    (nothing_by n e p stands b n.shape.arms row s passes h (omega arith) bl (λ i. sunk_elsewhere n e p i b elsewhere)
+    (λ i j. part_without n i b j elsewhere (omega (arith, weight_within (weights n b) j))))

@@ -11,3 +11,4 @@ pub mod Solution
 pub mod Solvable
 pub mod Splitting
 pub mod Step
+pub mod Tally

@@ -17,10 +17,15 @@ use Rattle.ltm_node.specs.Portion.{denominator, numerator}
 use Rattle.ltm_node.specs.Splitting.{HasOne, HasTwo}
 use Rattle.ltm_node.specs.Step.{moved, sunk, gone, come}
 
+-- what a tally tells of each turn, an arm and an out-link, where the arm has moved by it to so many destinations; of a
+-- destination to which nothing is sent it need not be told
+abbrev pub Passes : Inputs → (ℕ → ℕ → ℕ → Type 0) → Type 0
+Passes n stands = (i j d : ℕ) → d < n.shape.destinations → part n i d j ≡ 0 → stands i j d → stands i j (d + 1)
+
 -- to the destinations before `b` all arms have moved, and to `b` the arms before `a`, and the arm `a`
 -- by the out-links before `k`: the row holds the counts of the inputs and what has been moved, and
--- `sent` the sums for each arm and out-link; what left an arm for a destination is added last
-pub record IsMoving (n : Inputs) (e : ℕ) (p : ℕ → ℕ) (b a k : ℕ) (row : List ℕ) (sent : ℕ → ℕ → ℕ) : Type 0 where
+-- each turn stands there in the tally; what left an arm for a destination is added last
+pub record IsMoving (n : Inputs) (e : ℕ) (p : ℕ → ℕ) (stands : ℕ → ℕ → ℕ → Type 0) (b a k : ℕ) (row : List ℕ) : Type 0 where
   pub width : length row ≡ counts_width n.shape
   pub left_done : (i d : ℕ) → i < n.shape.arms → d < n.shape.destinations → d * 8 + i < b * 8 + a →
       slice_index row (left_after_place n.shape i d) ≡ left n i d + gone n e p i d
@@ -36,26 +41,26 @@ pub record IsMoving (n : Inputs) (e : ℕ) (p : ℕ → ℕ) (b a k : ℕ) (row 
       slice_index row (entered_after_place n.shape j d) ≡ entered n j d
   pub arrived : slice_index row (arrived_after_place n.shape)
       ≡ arrived n + (sum_below b (λ d. sum_below n.shape.arms (λ i. sunk n e p i d)) + sum_below a (λ i. sunk n e p i b))
-  pub sent_done : (i j : ℕ) → i < n.shape.arms → j < n.shape.outs → i * 4 + j < a * 4 + k →
-      sent i j ≡ sum_below b (λ d. moved n e p i d j) + moved n e p i b j
-  pub sent_rest : (i j : ℕ) → i < n.shape.arms → j < n.shape.outs → a * 4 + k ≤ i * 4 + j →
-      sent i j ≡ sum_below b (λ d. moved n e p i d j)
+  pub turns_done : (i j : ℕ) → i < n.shape.arms → j < n.shape.outs → i * 4 + j < a * 4 + k → stands i j (b + 1)
+  pub turns_rest : (i j : ℕ) → i < n.shape.arms → j < n.shape.outs → a * 4 + k ≤ i * 4 + j → stands i j b
 
 -- the same of the arms of a node with their portions
-abbrev pub IsMovingBy : Mover → ℕ → ℕ → ℕ → List ℕ → Sent → Type 0
-IsMovingBy m b a k row sent = IsMoving m.inputs.now (denominator m.portion) (numerator m.portion) b a k row (sent_at sent)
+abbrev pub IsMovingBy : Mover → (Inputs → Portion → ℕ → ℕ → ℕ → Type 0) → ℕ → ℕ → ℕ → List ℕ → Type 0
+IsMovingBy m stands b a k row =
+    IsMoving m.inputs.now (denominator m.portion) (numerator m.portion) (stands m.inputs.now m.portion) b a k row
 
 -- between two arms
-abbrev pub IsMovingAt : Mover → ℕ → ℕ → List ℕ → Sent → Type 0
-IsMovingAt m b a row sent = IsMovingBy m b a 0 row sent
+abbrev pub IsMovingAt : Mover → (Inputs → Portion → ℕ → ℕ → ℕ → Type 0) → ℕ → ℕ → List ℕ → Type 0
+IsMovingAt m stands b a row = IsMovingBy m stands b a 0 row
 
 -- between two destinations
-abbrev pub HaveMovedTo : Mover → ℕ → List ℕ → Sent → Type 0
-HaveMovedTo m b row sent = IsMovingAt m b 0 row sent
+abbrev pub HaveMovedTo : Mover → (Inputs → Portion → ℕ → ℕ → ℕ → Type 0) → ℕ → List ℕ → Type 0
+HaveMovedTo m stands b row = IsMovingAt m stands b 0 row
 
 -- behind all destinations
-abbrev pub HaveMovedAll : Inputs → Portion → List ℕ → Sent → Type 0
-HaveMovedAll n portion row sent = IsMoving n (denominator portion) (numerator portion) n.shape.destinations 0 0 row (sent_at sent)
+abbrev pub HaveMovedAll : Inputs → Portion → (Inputs → Portion → ℕ → ℕ → ℕ → Type 0) → List ℕ → Type 0
+HaveMovedAll n portion stands row =
+    IsMoving n (denominator portion) (numerator portion) (stands n portion) n.shape.destinations 0 0 row
 
 -- what an arm moves to a destination by an out-link
 abbrev pub moved_by : Mover → ℕ → ℕ → ℕ → ℕ

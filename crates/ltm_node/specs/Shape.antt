@@ -11,7 +11,7 @@ counts_width s = s.arms * s.destinations + s.outs * s.destinations + 1
 
 -- a node without arms, out-links and destinations
 abbrev pub no_shape : NodeShape
-no_shape = record { arms = 0; outs = 0; destinations = 0; own = None }
+no_shape = record { arms = 0; outs = 0; destinations = 0; own = None; by_turn = false }
 
 -- whether a destination is this one
 abbrev pub is_this : Option ℕ → ℕ → Bool

@@ -1,14 +1,28 @@
-use Rattle.std.specs.Prelude.{◌≡◌, ℕ, ◌+◌, ◌*◌, ◌/◌, ◌<◌, length}
+use Rattle.std.specs.Prelude.{◌≡◌, ℕ, ◌+◌, ◌*◌, ◌/◌, ◌<◌, if◌then◌else◌, List, map, length, slice_index}
+use Rattle.std.specs.List.{range_with_len}
 use Rattle.ltm_units.specs.Sums.{sum_below}
+use Rattle.ltm_units.specs.Nested.{nested_split}
 use Rattle.ltm_shares.specs.Shares.{AreShares}
 use Rattle.ltm_node.specs.Shape.{counts_width}
 use Rattle.ltm_node.specs.Inputs.{Inputs, left, entered, arrived}
 use Rattle.ltm_node.specs.Outputs.{Outputs, left_after, entered_after, arrived_after}
-use Rattle.ltm_node.specs.Demands.{part, to_sink, demands}
+use Rattle.ltm_node.specs.Demands.{part, to_sink, sent_into, demands}
 
--- what an arm moves to a destination by an out-link: its share of that part, rounded down
+-- what an arm sends by an out-link to each destination, in the order of their numbers
+abbrev pub parts_into : Inputs → ℕ → ℕ → List ℕ
+parts_into n arm out = map (λ destination. part n arm destination out) (range_with_len 0 n.shape.destinations)
+
+-- what an arm moves by an out-link in all where turns are rounded: its share of what it sends by it, rounded down
+abbrev pub turned : Inputs → ℕ → (ℕ → ℕ) → ℕ → ℕ → ℕ
+turned n denominator numerators arm out = numerators arm * sent_into n arm out / denominator
+
+-- what an arm moves to a destination by an out-link: where turns are rounded, what falls to it of the turn by the nested
+-- split; else its share of that part, rounded down
 abbrev pub moved : Inputs → ℕ → (ℕ → ℕ) → ℕ → ℕ → ℕ → ℕ
-moved n denominator numerators arm destination out = numerators arm * part n arm destination out / denominator
+moved n denominator numerators arm destination out =
+    if n.shape.by_turn
+    then slice_index (nested_split (turned n denominator numerators arm out) (parts_into n arm out)) destination
+    else numerators arm * part n arm destination out / denominator
 
 -- what an arm moves to the sink, rounded down
 abbrev pub sunk : Inputs → ℕ → (ℕ → ℕ) → ℕ → ℕ → ℕ

@@ -120,6 +120,14 @@ impl NodeInputs {
         self.shape.destinations
     }
 
+    /// Whether what an arm moves by an out-link is rounded down once for all destinations.
+    #[inline]
+    pub(crate) fn by_turn(&self) -> bool
+        ensures { result ≡ self.now.shape.by_turn }
+    {
+        self.shape.by_turn
+    }
+
     /// Whether a destination is the node itself.
     #[inline]
     pub(crate) fn is_own(&self, destination: u32) -> bool

@@ -18,6 +18,8 @@ mod portion;
 mod shape;
 mod solved;
 mod split;
+mod tally;
+mod turns;
 
 pub use inputs::NodeInputs;
 pub use laws::{

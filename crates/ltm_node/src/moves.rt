@@ -9,20 +9,24 @@
 //! for what is sent by each way. The pass here is its general form, for all shapes and shares; each fast form is proved
 //! against the same rule.
 //!
+//! How much moves of a part is the tally's to say (`tally.rt`): either each part is rounded down by itself, or a whole turn
+//! is, and is split over its parts. The pass is written over the tally, so that no part asks which of the two it is.
+//!
 //! - `Portion::Whole` comes before the shares in `step_wide`: where no out-link is short, one pass is enough, and neither
-//!   shares nor a fraction are worked out. What it notes in `sent` is what the shares are made from where one is short, and
-//!   only those that are short are asked (`ask`).
+//!   shares nor a fraction are worked out. What its tally has is what the shares are made from where one is short, and
+//!   only those that are short are asked (`ask`). A turn of which all moves is its parts, so both rules share this pass.
 //! - The narrow step (`narrow.rt`), for at most one out-link and one destination, writes the counts straight to their places.
-//!   It saves the copy of the counts, the split and `sent`, and where one arm alone sends more than its out-link can take,
+//!   It saves the copy of the counts, the split and the tally, and where one arm alone sends more than its out-link can take,
 //!   the shares too.
 //! - `share_of_rest` divides in 64 bits, and only for a weight that is neither 0 nor all that is left; `sum_of` adds up to four
 //!   weights without a loop; each pass over the arms steps from load to load, and `split` from out-link to out-link, by their
 //!   places in the rows.
 //!
 //! A change of the rule is made in `specs/Step.antt`, here and in `narrow.rt` with `specs/Narrow.antt`. A change of the order
-//! of the loops is one of `IsMoving` in `specs/Moving.antt`, which says how far row and `sent` are. Where a number stands in a
-//! row is told by `shape.rt`, `specs/Shape.antt` and `specs/Outputs.antt`; the passes rely on the loads standing arm by arm.
-ghost use Rattle.std.specs.Prelude.{◌≡◌, ◌<◌, ◌+◌, false, true, sum, length};
+//! of the loops is one of `IsMoving` in `specs/Moving.antt`, which says how far row and tally are: a turn is split over the
+//! destinations in the order of their numbers. Where a number stands in a row is told by `shape.rt`, `specs/Shape.antt` and
+//! `specs/Outputs.antt`; the passes rely on the loads standing arm by arm.
+ghost use Rattle.std.specs.Prelude.{◌≡◌, ◌<◌, ◌+◌, false, sum, length};
 ghost use Rattle.ltm_units.specs.Sums.{sum_below};
 ghost use Rattle.ltm_node.specs.Shape.{is_own, sending_place, width};
 ghost use Rattle.ltm_node.specs.Inputs.{weights};
@@ -30,6 +34,7 @@ ghost use Rattle.ltm_node.specs.Outputs.{entered_after_place};
 ghost use Rattle.ltm_node.specs.Solvable.{IsSolvable};
 ghost use Rattle.ltm_node.specs.Portion.{AreFractions};
 
+mod sinks;
 mod ways;
 
 use crate::inputs::NodeInputs;
@@ -37,7 +42,7 @@ use crate::loads::{Load, Part};
 use crate::portion::Portion;
 use crate::shape::NodeShape;
 use crate::split::share_of_rest;
-use ltm_shares::Sent;
+use crate::tally::Tally;
 use ltm_units::sum_of;
 use ways::{TwoWays, next_above};
 
@@ -126,21 +131,21 @@ impl Mover<'_> {
 
     /// Adds what moves of a part, whose count stands at this place of the row, and returns it.
     #[inline]
-    fn enter(&self, part: Part, place: usize, row: &mut [u64], sent: &mut Sent) -> u64
+    fn enter<T: Tally>(&self, part: Part, place: usize, row: &mut [u64], tally: &mut T) -> u64
         requires part { IsPart self.now.inputs.now part }
         requires place { place
             ≡ entered_after_place self.now.inputs.now.shape part.out part.destination }
-        requires before { IsMovingBy self.now part.destination part.arm part.out row.old sent.old }
+        requires before { IsMovingBy self.now (T.stands tally.old) part.destination part.arm part.out row.old }
         ensures moved { result ≡ moved_by self.now part.arm part.destination part.out }
-        ensures after { IsMovingBy self.now part.destination part.arm (part.out
-            + 1) row.new sent.new }
+        ensures after { IsMovingBy self.now (T.stands tally.new) part.destination part.arm (part.out
+            + 1) row.new }
     {
+        T::passes();
         if part.amount == 0 {
             return 0;
         }
-        let moved = self.portion.of(part.arm, part.amount);
+        let moved = tally.take(self, part);
         row[place] += moved;
-        sent.add(part.arm as usize, part.out as usize, moved);
         moved
     }
 
@@ -155,28 +160,29 @@ impl Mover<'_> {
 
     /// Adds what has left an arm by all out-links.
     #[inline]
-    fn leave(&self, load: Load, total: u64, row: &mut [u64], sent: &Sent)
+    fn leave<T: Tally>(&self, load: Load, total: u64, row: &mut [u64], tally: &T)
         requires load { IsLoad self.now.inputs.now load }
         requires elsewhere { is_own self.now.inputs.now.shape load.destination ≡ false }
         requires total { total
             ≡ sum_below self.now.inputs.now.shape.outs
             (moved_by self.now load.arm load.destination) }
-        requires before { IsMovingBy self.now load.destination load.arm
-            self.now.inputs.now.shape.outs row.old sent.now }
-        ensures after { IsMovingAt self.now load.destination (load.arm + 1) row.new sent.now }
+        requires before { IsMovingBy self.now (T.stands tally.now) load.destination load.arm
+            self.now.inputs.now.shape.outs row.old }
+        ensures after { IsMovingAt self.now (T.stands tally.now) load.destination (load.arm + 1) row.new }
     {
         row[self.shape.left_after_place(load.arm, load.destination)] += total;
     }
 
     /// Adds what moves of a load that is split over weights of this sum.
     #[inline]
-    fn split(&self, load: Load, whole: u64, row: &mut [u64], sent: &mut Sent)
+    fn split<T: Tally>(&self, load: Load, whole: u64, row: &mut [u64], tally: &mut T)
         requires load { IsLoad self.now.inputs.now load }
         requires elsewhere { is_own self.now.inputs.now.shape load.destination ≡ false }
         requires whole { whole ≡ sum (weights self.now.inputs.now load.destination) }
-        requires before { IsMovingAt self.now load.destination load.arm row.old sent.old }
-        ensures after { IsMovingAt self.now load.destination (load.arm + 1) row.new sent.new }
+        requires before { IsMovingAt self.now (T.stands tally.old) load.destination load.arm row.old }
+        ensures after { IsMovingAt self.now (T.stands tally.new) load.destination (load.arm + 1) row.new }
     {
+        T::passes();
         let weights = self.weights(load.destination);
         let mut left = load.amount;
         let mut rest = whole;
@@ -188,62 +194,57 @@ impl Mover<'_> {
             let part = load.by(out, share_of_rest(left, weight, rest));
             left -= part.amount;
             rest -= weight;
-            total += self.enter(part, place, row, sent);
+            total += self.enter(part, place, row, tally);
             place += self.shape.destinations as usize;
             out += 1;
         }
-        self.leave(load, total, row, sent);
+        self.leave(load, total, row, tally);
     }
 
     /// Adds what an arm moves to a destination that is not the node.
     #[inline]
-    fn send(&self, load: Load, whole: u64, row: &mut [u64], sent: &mut Sent)
+    fn send<T: Tally>(&self, load: Load, whole: u64, row: &mut [u64], tally: &mut T)
         requires load { IsLoad self.now.inputs.now load }
         requires elsewhere { is_own self.now.inputs.now.shape load.destination ≡ false }
         requires whole { whole ≡ sum (weights self.now.inputs.now load.destination) }
-        requires before { IsMovingAt self.now load.destination load.arm row.old sent.old }
-        ensures after { IsMovingAt self.now load.destination (load.arm + 1) row.new sent.new }
+        requires before { IsMovingAt self.now (T.stands tally.old) load.destination load.arm row.old }
+        ensures after { IsMovingAt self.now (T.stands tally.new) load.destination (load.arm + 1) row.new }
     {
+        T::passes();
         if load.amount > 0 {
-            self.split(load, whole, row, sent);
+            self.split(load, whole, row, tally);
         }
     }
 
-    /// Adds what an arm moves to the sink.
-    #[inline]
-    fn sink(&self, load: Load, row: &mut [u64], sent: &Sent)
-        requires load { IsLoad self.now.inputs.now load }
-        requires here { is_own self.now.inputs.now.shape load.destination ≡ true }
-        requires before { IsMovingAt self.now load.destination load.arm row.old sent.now }
-        ensures after { IsMovingAt self.now load.destination (load.arm + 1) row.new sent.now }
-    {
-        let sunk = self.portion.of(load.arm, load.amount);
-        row[self.shape.left_after_place(load.arm, load.destination)] += sunk;
-        row[self.shape.arrived_after_place()] += sunk;
-    }
-
     /// Adds what all arms move to a destination that is not the node, by any out-links.
-    fn send_all_by_any(&self, destination: u32, whole: u64, row: &mut [u64], sent: &mut Sent)
+    fn send_all_by_any<T: Tally>(
+        &self,
+        destination: u32,
+        whole: u64,
+        row: &mut [u64],
+        tally: &mut T,
+    )
         requires destination { destination < self.now.inputs.now.shape.destinations }
         requires elsewhere { is_own self.now.inputs.now.shape destination ≡ false }
         requires whole { whole ≡ sum (weights self.now.inputs.now destination) }
-        requires before { HaveMovedTo self.now destination row.old sent.old }
-        ensures after { HaveMovedTo self.now (destination + 1) row.new sent.new }
+        requires before { HaveMovedTo self.now (T.stands tally.old) destination row.old }
+        ensures after { HaveMovedTo self.now (T.stands tally.new) (destination + 1) row.new }
     {
         let mut place = destination as usize;
         for arm in 0..self.shape.arms {
-            self.send(self.load_at(arm, destination, place), whole, row, sent);
+            self.send(self.load_at(arm, destination, place), whole, row, tally);
             place += self.shape.destinations as usize;
         }
     }
 
     /// Adds what all arms move to a destination that is not the node.
-    fn send_all(&self, destination: u32, row: &mut [u64], sent: &mut Sent)
+    fn send_all<T: Tally>(&self, destination: u32, row: &mut [u64], tally: &mut T)
         requires destination { destination < self.now.inputs.now.shape.destinations }
         requires elsewhere { is_own self.now.inputs.now.shape destination ≡ false }
-        requires before { HaveMovedTo self.now destination row.old sent.old }
-        ensures after { HaveMovedTo self.now (destination + 1) row.new sent.new }
+        requires before { HaveMovedTo self.now (T.stands tally.old) destination row.old }
+        ensures after { HaveMovedTo self.now (T.stands tally.new) (destination + 1) row.new }
     {
+        T::passes();
         let whole = self.whole_weight(destination);
         if whole == 0 {
             return;
@@ -253,7 +254,7 @@ impl Mover<'_> {
         let first = self.way_by(destination, out);
         let weight = weights[out as usize];
         if weight == whole {
-            self.send_all_by_one(destination, first, row, sent);
+            self.send_all_by_one(destination, first, row, tally);
             return;
         }
         let other = next_above(weights, out + 1);
@@ -265,45 +266,33 @@ impl Mover<'_> {
                 weight,
                 whole,
             };
-            self.send_all_by_two(destination, pair, row, sent);
+            self.send_all_by_two(destination, pair, row, tally);
         } else {
-            self.send_all_by_any(destination, whole, row, sent);
-        }
-    }
-
-    /// Adds what all arms move to the sink.
-    fn sink_all(&self, destination: u32, row: &mut [u64], sent: &Sent)
-        requires destination { destination < self.now.inputs.now.shape.destinations }
-        requires here { is_own self.now.inputs.now.shape destination ≡ true }
-        requires before { HaveMovedTo self.now destination row.old sent.now }
-        ensures after { HaveMovedTo self.now (destination + 1) row.new sent.now }
-    {
-        for arm in 0..self.shape.arms {
-            self.sink(self.load(arm, destination), row, sent);
+            self.send_all_by_any(destination, whole, row, tally);
         }
     }
 
     /// Adds what all arms move to a destination.
     #[inline]
-    fn move_to(&self, destination: u32, row: &mut [u64], sent: &mut Sent)
+    fn move_to<T: Tally>(&self, destination: u32, row: &mut [u64], tally: &mut T)
         requires destination { destination < self.now.inputs.now.shape.destinations }
-        requires before { HaveMovedTo self.now destination row.old sent.old }
-        ensures after { HaveMovedTo self.now (destination + 1) row.new sent.new }
+        requires before { HaveMovedTo self.now (T.stands tally.old) destination row.old }
+        ensures after { HaveMovedTo self.now (T.stands tally.new) (destination + 1) row.new }
     {
         if self.shape.is_own(destination) {
-            self.sink_all(destination, row, sent);
+            self.sink_all(destination, row, tally);
         } else {
-            self.send_all(destination, row, sent);
+            self.send_all(destination, row, tally);
         }
     }
 
-    /// Adds what all arms move to all destinations; `sent` gets what each arm moves into each out-link.
-    pub fn move_all(&self, row: &mut [u64], sent: &mut Sent)
-        requires before { HaveMovedTo self.now 0 row.old sent.old }
-        ensures after { HaveMovedTo self.now self.now.inputs.now.shape.destinations row.new sent.new }
+    /// Adds what all arms move to all destinations, in the order of their numbers, and keeps the tally.
+    pub fn move_all<T: Tally>(&self, row: &mut [u64], tally: &mut T)
+        requires before { HaveMovedTo self.now (T.stands tally.old) 0 row.old }
+        ensures after { HaveMovedTo self.now (T.stands tally.new) self.now.inputs.now.shape.destinations row.new }
     {
         for destination in 0..self.shape.destinations {
-            self.move_to(destination, row, sent);
+            self.move_to(destination, row, tally);
         }
     }
 }

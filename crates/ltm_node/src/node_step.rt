@@ -2,7 +2,7 @@
 //!
 //! All arms first send all, in one pass and without any fraction. Only where an out-link then gets more than it can take
 //! are the shares worked out, and the pass made again with them. A narrow node has a shorter way.
-ghost use Rattle.std.specs.Prelude.{◌≡◌, ◌≢◌, ◌<◌, ◌≤◌, ◌*◌, ◌/◌, ◌+◌, ℕ, IsTrue, slice_index};
+ghost use Rattle.std.specs.Prelude.{◌≡◌, ◌≢◌, ◌<◌, ◌≤◌, ◌*◌, ◌/◌, ◌+◌, ℕ, false, true, IsTrue, slice_index};
 ghost use Rattle.ltm_units.specs.Sums.{sum_below};
 ghost use Rattle.ltm_shares.specs.Demands.{demands_of};
 ghost use Rattle.ltm_shares.specs.Sent.{sent_at};
@@ -17,6 +17,7 @@ use crate::inputs::NodeInputs;
 use crate::narrow::step_narrow;
 use crate::outputs::NodeOutputs;
 use crate::portion::Portion;
+use crate::turns::Turns;
 use ltm_shares::{ARMS, NodeDemands, OUTS, Sent, Shares, shares};
 
 /// Writes the node step of the inputs into the room of the outputs, as `solve` does, for a caller that keeps both. Takes no
@@ -47,22 +48,53 @@ fn step_wide(inputs: &NodeInputs, outputs: &mut NodeOutputs)
     if fits_supply(inputs, &sent, &totals) {
         return;
     }
-    step_short(inputs, &sent, &totals, outputs);
+    step_short(inputs, sent, &totals, outputs);
 }
 
 /// Writes the node step where an out-link is short. It is out of line for the same reason.
 #[inline(never)]
-fn step_short(inputs: &NodeInputs, sent: &Sent, totals: &[u64; OUTS], outputs: &mut NodeOutputs)
+fn step_short(inputs: &NodeInputs, sent: Sent, totals: &[u64; OUTS], outputs: &mut NodeOutputs)
     requires solvable { IsSolvable inputs.now }
-    requires sent { HoldsSent inputs.now sent.now }
-    requires totals { AreTotals inputs.now sent.now (slice_index totals.now) }
+    requires sent { HoldsSent inputs.now sent }
+    requires totals { AreTotals inputs.now sent (slice_index totals.now) }
     requires room { counts_width inputs.now.shape ≤ outputs.old.room }
     ensures step { IsNodeStep inputs.now outputs.new }
     ensures room { outputs.new.room ≡ outputs.old.room }
 {
-    let shares = share_out(inputs, sent, totals);
+    let shares = share_out(inputs, &sent, totals);
+    if inputs.by_turn() {
+        step_by_turn(inputs, &shares, sent, outputs);
+    } else {
+        step_by_part(inputs, &shares, outputs);
+    }
+}
+
+/// Writes the node step where each arm moves its share, and each part is rounded down by itself.
+fn step_by_part(inputs: &NodeInputs, shares: &Shares, outputs: &mut NodeOutputs)
+    requires solvable { IsSolvable inputs.now }
+    requires shares { AreShares (demands inputs.now) shares.now.denominator (slice_index shares.now.numerators) }
+    requires by_part { inputs.now.shape.by_turn ≡ false }
+    requires room { counts_width inputs.now.shape ≤ outputs.old.room }
+    ensures step { IsNodeStep inputs.now outputs.new }
+    ensures room { outputs.new.room ≡ outputs.old.room }
+{
     let mut moved = Sent::nothing();
-    outputs.advance(inputs, Portion::Share(&shares), &mut moved);
+    outputs.advance(inputs, Portion::Share(shares), &mut moved);
+}
+
+/// Writes the node step where each arm moves its share, and each turn is rounded down whole.
+fn step_by_turn(inputs: &NodeInputs, shares: &Shares, sent: Sent, outputs: &mut NodeOutputs)
+    requires solvable { IsSolvable inputs.now }
+    requires shares { AreShares (demands inputs.now) shares.now.denominator (slice_index shares.now.numerators) }
+    requires by_turn { inputs.now.shape.by_turn ≡ true }
+    requires sent { HoldsSent inputs.now sent }
+    requires room { counts_width inputs.now.shape ≤ outputs.old.room }
+    ensures step { IsNodeStep inputs.now outputs.new }
+    ensures room { outputs.new.room ≡ outputs.old.room }
+{
+    let portion = Portion::Share(shares);
+    let mut turns = Turns::begin(inputs, portion, sent);
+    outputs.advance(inputs, portion, &mut turns);
 }
 
 /// What all arms send into each out-link.

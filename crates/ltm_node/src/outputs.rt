@@ -1,6 +1,5 @@
 //! The counts that a node step gives.
 ghost use Rattle.std.specs.Prelude.{◌≡◌, ℕ, ◌<◌, ◌≤◌, ◌*◌, ◌+◌, ◌^◌, max, take, drop, length, IfOk, IsTrue, slice_index};
-ghost use Rattle.ltm_shares.specs.Sent.{sent_at};
 ghost use Rattle.ltm_node.specs.Shape.{counts_width, no_shape};
 ghost use Rattle.ltm_node.specs.Outputs.{
   cleared_outputs,
@@ -22,7 +21,7 @@ use crate::moves::Mover;
 use crate::narrow::Narrow;
 use crate::portion::Portion;
 use crate::shape::NodeShape;
-use ltm_shares::Sent;
+use crate::tally::Tally;
 use ltm_units::NoMemory;
 use std::alloc::Global;
 use std::marker::Model;
@@ -159,30 +158,36 @@ impl NodeOutputs {
 
     /// Adds what the arms move to the counts that they are.
     #[inline]
-    fn add_moves(&mut self, mover: &Mover<'_>, sent: &mut Sent)
+    fn add_moves<T: Tally>(&mut self, mover: &Mover<'_>, tally: &mut T)
         requires shape { self.old.shape ≡ mover.now.inputs.now.shape }
-        requires before { HaveMovedTo mover.now 0 self.old.row sent.old }
+        requires before { HaveMovedTo mover.now (T.stands tally.old) 0 self.old.row }
         ensures shape { self.new.shape ≡ mover.now.inputs.now.shape }
         ensures room { self.new.room ≡ self.old.room }
-        ensures after { HaveMovedTo mover.now mover.now.inputs.now.shape.destinations self.new.row sent.new }
+        ensures after { HaveMovedTo mover.now (T.stands tally.new) mover.now.inputs.now.shape.destinations self.new.row }
     {
         let width = self.shape.counts_width();
-        mover.move_all(&mut self.counts[0..width], sent);
+        mover.move_all(&mut self.counts[0..width], tally);
     }
 
-    /// Takes the counts at the end of the slot where each arm moves this portion of what it sends; `sent` gets what each arm
-    /// moves into each out-link.
-    pub(crate) fn advance(&mut self, inputs: &NodeInputs, portion: Portion<'_>, sent: &mut Sent)
+    /// Takes the counts at the end of the slot where each arm moves this portion of what it sends; the tally is kept of what
+    /// each moves by each out-link.
+    pub(crate) fn advance<T: Tally>(
+        &mut self,
+        inputs: &NodeInputs,
+        portion: Portion<'_>,
+        tally: &mut T,
+    )
         requires solvable { IsSolvable inputs.now }
         requires fractions { AreFractions inputs.now portion }
         requires room { counts_width inputs.now.shape ≤ self.old.room }
-        requires nothing { (arm out : ℕ) → sent_at sent.old arm out ≡ 0 }
+        requires begun { (arm out : ℕ) → arm < inputs.now.shape.arms → out < inputs.now.shape.outs
+            → T.stands tally.old inputs.now portion arm out 0 }
         ensures shape { self.new.shape ≡ inputs.now.shape }
         ensures room { self.new.room ≡ self.old.room }
-        ensures after { HaveMovedAll inputs.now portion.entry self.new.row sent.new }
+        ensures after { HaveMovedAll inputs.now portion.entry (T.stands tally.new) self.new.row }
     {
         self.begin(inputs);
-        self.add_moves(&Mover::of(inputs, portion), sent);
+        self.add_moves(&Mover::of(inputs, portion), tally);
     }
 
     /// Takes a shape, for a caller that then writes every count: what counts the row holds is not told.

@@ -12,6 +12,8 @@ pub struct NodeShape {
     pub destinations: u32,
     /// The destination that is the node itself.
     pub own: Option<u32>,
+    /// Whether what an arm moves by an out-link is rounded down once for all destinations, and not for each.
+    pub by_turn: bool,
 }
 
 impl NodeShape {
@@ -43,6 +45,7 @@ impl NodeShape {
             outs: 0,
             destinations: 0,
             own: None,
+            by_turn: false,
         }
     }
 

@@ -34,7 +34,10 @@ impl Model for Solved {
 /// All turns of an arm get one share. The share is 1 where the out-links that the arm uses can take all that is sent to
 /// them; else an out-link that is full holds the arm back, on which no arm has a greater share for its priority. What an
 /// arm moves is its share, rounded down, of what it sends to each destination by each out-link; what is rounded off
-/// stays, and is sent later. Where two arms of capacities 500 and 1000 send 500 each into an out-link that can take 600,
+/// stays, and is sent later. Where the shape says so (`by_turn`), it is its share, rounded down, of all that it sends by
+/// an out-link, and these units are split over the destinations in proportion to what is sent to each: so less than one
+/// unit of a turn is rounded off, however many destinations there are. Where two arms of capacities 500 and 1000 send 500
+/// each into an out-link that can take 600,
 ///
 /// ```text
 ///   500 of 500 --\

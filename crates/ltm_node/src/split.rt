@@ -20,3 +20,21 @@ pub fn share_of_rest(left: u64, weight: u64, rest: u64) -> u64
         left * weight / rest
     }
 }
+
+/// What moves of a part of a turn: the part of what is left to move that falls to it, of all parts that are left.
+#[inline]
+pub fn part_of_turn(left: u64, part: u64, rest: u64) -> u64
+    requires left { left ≤ most_in_slot }
+    requires part { part ≤ rest }
+    requires rest { rest < 2 ^ 40 }
+    ensures part { result ≡ left * part / rest }
+    ensures within { result ≤ left }
+{
+    if left == rest {
+        part
+    } else if left == 0 {
+        0
+    } else {
+        share_of_rest(left, part, rest)
+    }
+}

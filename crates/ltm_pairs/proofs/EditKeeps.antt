@@ -9,7 +9,7 @@ use Rattle.ltm_scenario.specs.declared.edit.EditCause.{EditCause}
 use Rattle.ltm_scenario.specs.Data.{ScenarioData}
 use Rattle.ltm_scenario.specs.Build.{as_limit, ◌>>=◌}
 use Rattle.ltm_scenario.specs.Edits.{edited, edited_from, at_place}
-use Rattle.ltm_scenario.specs.Makes.{Makes, EditsMake, demand, entry, exit, split, diagram, horizon}
+use Rattle.ltm_scenario.specs.Makes.{Makes, EditsMake, demand, entry, exit, split, splits, diagram, horizon}
 use Rattle.ltm_curve.specs.Counts.{Counts}
 use Rattle.ltm_loading.specs.Flows.{position}
 use Rattle.ltm_loading.specs.Networks.{SameNetwork}
@@ -21,19 +21,21 @@ use Rattle.ltm_pairs.proofs.EditReaches.{link_there}
 use Rattle.ltm_pairs.proofs.LongerReaches.{longer_reaches}
 
 -- ---- network, horizon and limits
--- what an edit makes of a scenario has its network, its destinations and no shorter horizon
+-- what an edit makes of a scenario has its network, its destinations, its rule of moving and no shorter horizon
 pub record SameFrame (s next : ScenarioData) : Type 0 where
   pub network : next.network ≡ s.network
   pub destinations : next.destinations ≡ s.destinations
+  pub by_turn : next.setup.by_turn ≡ s.setup.by_turn
   pub slots : s.setup.slots ≤ next.setup.slots
 
 pub frame : (s next : ScenarioData) (edit : Edit) → Makes s next edit → SameFrame s next
-frame s next edit (demand origin destination from to amount row said) = record { network = refl; destinations = refl; slots = omega arith }
-frame s next edit (entry name from to amount link said) = record { network = refl; destinations = refl; slots = omega arith }
-frame s next edit (exit name from to amount link said) = record { network = refl; destinations = refl; slots = omega arith }
-frame s next edit (split node destination from weights key said) = record { network = refl; destinations = refl; slots = omega arith }
-frame s next edit (diagram name new link named sets) = record { network = refl; destinations = refl; slots = omega arith }
-frame s next edit (horizon slots said) = record { network = refl; destinations = refl; slots = omega (arith, said.longer) }
+frame s next edit (demand origin destination from to amount row said) = record { network = refl; destinations = refl; by_turn = refl; slots = omega arith }
+frame s next edit (entry name from to amount link said) = record { network = refl; destinations = refl; by_turn = refl; slots = omega arith }
+frame s next edit (exit name from to amount link said) = record { network = refl; destinations = refl; by_turn = refl; slots = omega arith }
+frame s next edit (split node destination from weights key said) = record { network = refl; destinations = refl; by_turn = refl; slots = omega arith }
+frame s next edit (splits node destination rows n d said) = record { network = refl; destinations = refl; by_turn = refl; slots = omega arith }
+frame s next edit (diagram name new link named sets) = record { network = refl; destinations = refl; by_turn = refl; slots = omega arith }
+frame s next edit (horizon slots said) = record { network = refl; destinations = refl; by_turn = refl; slots = omega (arith, said.longer) }
 
 same_network : (s next : ScenarioData) → SameFrame s next → SameNetwork (setting_of s) (setting_of next)
 unfolding setting_of
@@ -46,6 +48,7 @@ same_network s next same = record {
   outs = rw same.network refl;
   out_link = rw same.network refl;
   own = rw same.destinations refl;
+  by_turn = sym same.by_turn;
 }
 
 longer_slots : (s next : ScenarioData) → SameFrame s next → (setting_of s).slots ≤ (setting_of next).slots
@@ -67,6 +70,7 @@ limits_after law s next edit (exit name from to amount link said) whole = record
   exit = whole_after law s.exit (length s.network.links) s.setup.slots link from to (as_limit amount.0) whole.exit (link_there s name link said.named) said.some_slots said.within;
 }
 limits_after law s next edit (split node destination from weights key said) whole = record { entry = whole.entry; exit = whole.exit }
+limits_after law s next edit (splits node destination rows n d said) whole = record { entry = whole.entry; exit = whole.exit }
 limits_after law s next edit (diagram name new link named sets) whole = record { entry = whole.entry; exit = whole.exit }
 limits_after law s next edit (horizon slots said) whole = record {
   entry = law.longer s.entry (length s.network.links) s.setup.slots slots (omega (arith, said.longer)) whole.entry;

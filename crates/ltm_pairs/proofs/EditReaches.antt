@@ -8,14 +8,14 @@ use Rattle.ltm_network.proofs.Apart.{named_there}
 use Rattle.ltm_scenario.specs.declared.edit.Edit.{Edit}
 use Rattle.ltm_scenario.specs.Data.{ScenarioData}
 use Rattle.ltm_scenario.specs.Build.{as_limit}
-use Rattle.ltm_scenario.specs.Edits.{weights_at}
-use Rattle.ltm_scenario.specs.Makes.{Makes, demand, entry, exit, split, diagram, horizon}
+use Rattle.ltm_scenario.specs.Edits.{weights_at, entries_said}
+use Rattle.ltm_scenario.specs.Makes.{Makes, demand, entry, exit, split, splits, diagram, horizon}
 use Rattle.ltm_loading.specs.Networks.{SameFor}
 use Rattle.ltm_setting.specs.Setting.{setting_of}
 use Rattle.ltm_pairs.specs.Reaches.{reach, lies_in, lies_in_one}
 use Rattle.ltm_pairs.specs.Touched.{of_node, of_end, touched_by, HaveSlots, TouchedHoldsReaders}
 use Rattle.ltm_pairs.proofs.EditLaws.{EditLaws}
-use Rattle.ltm_pairs.proofs.Touching.{outside, outside_slots, row_long, by_demand, by_split, by_entry, by_exit, by_diagram, by_horizon}
+use Rattle.ltm_pairs.proofs.Touching.{outside, outside_slots, row_long, by_demand, by_split, by_pair, by_entry, by_exit, by_diagram, by_horizon}
 
 -- ---- tests
 no_end : (a : Bool) → a || false ≡ false → a ≡ false
@@ -74,6 +74,8 @@ same_for laws s next edit whole (exit name from to amount link said) u t l h =
 same_for laws s next edit whole (split node destination from weights key said) u t l h =
     by_split laws s key (weights_at s key.node.0 weights) u t
     (from_on key.node.0 from s.setup.slots key.from u t (reach_at s.network node from s.setup.slots key.node.0 u t said.stands_at h) l said.begins)
+same_for laws s next edit whole (splits node destination rows n d said) u t l h =
+    by_pair laws s n d (entries_said s n rows) u t (nowhere n s.setup.slots u t (reach_at s.network node 0 s.setup.slots n u t said.stand_at h) l)
 same_for laws s next edit whole (diagram name new link named sets) u t l h =
     let slots : ℕ = s.setup.slots in
     let both = neither (lies_in u t (reach (tail_of s.network link) 0 slots)) (lies_in u t (reach (head_of s.network link) 0 slots))

@@ -3,10 +3,10 @@ use Rattle.std.proofs.Common.{◌≡◌, ℕ, ◌+◌, ◌<◌, ◌≤◌, ◌&&
 use Rattle.std.proofs.lemmas.Bool.{cases_lt}
 use Rattle.std.proofs.lemmas.Bool.Decides.{nat_tests}
 use Rattle.ltm_scenario.specs.declared.edit.Edit.{Edit}
-use Rattle.ltm_scenario.specs.declared.edit.Edit.TheVariants.{Demand, Limit, Split, Diagram, Exit, Horizon}
+use Rattle.ltm_scenario.specs.declared.edit.Edit.TheVariants.{Demand, Limit, Split, Splits, Diagram, Exit, Horizon}
 use Rattle.ltm_scenario.specs.Data.{ScenarioData}
 use Rattle.ltm_scenario.specs.Edits.{edited, edited_from, at_place}
-use Rattle.ltm_scenario.specs.Makes.{Makes, EditsMake, demand, entry, exit, split, diagram, horizon}
+use Rattle.ltm_scenario.specs.Makes.{Makes, EditsMake, demand, entry, exit, split, splits, diagram, horizon}
 use Rattle.ltm_pairs.specs.Touched.{adds_slot, is_added, AddedSlotsAreNew}
 use Rattle.ltm_pairs.proofs.EditKeeps.{frame, bound, placed}
 
@@ -23,6 +23,7 @@ adds s next edit t (demand origin destination from to amount row said) = sym (no
 adds s next edit t (entry name from to amount link said) = sym (none_between s.setup.slots t)
 adds s next edit t (exit name from to amount link said) = sym (none_between s.setup.slots t)
 adds s next edit t (split node destination from weights key said) = sym (none_between s.setup.slots t)
+adds s next edit t (splits node destination rows n d said) = sym (none_between s.setup.slots t)
 adds s next edit t (diagram name new link named sets) = sym (none_between s.setup.slots t)
 adds s next edit t (horizon slots said) = refl
 
@@ -31,6 +32,7 @@ none_before : (s : ScenarioData) (edit : Edit) (t : ℕ) → t < s.setup.slots �
 none_before s (Demand origin destination from to amount) t l = refl
 none_before s (Limit link from to amount) t l = refl
 none_before s (Split node destination from weights) t l = refl
+none_before s (Splits node destination rows) t l = refl
 none_before s (Diagram link new) t l = refl
 none_before s (Exit link from to amount) t l = refl
 none_before s (Horizon slots) t l = let e : nat_le s.setup.slots t ≡ false = grind (arith, nat_tests) in ap (λ b. b && nat_lt t slots) e
@@ -44,6 +46,7 @@ past_both : (s mid : ScenarioData) (edit : Edit) (t : ℕ) → s.setup.slots ≤
 past_both s mid (Demand origin destination from to amount) t a b = refl
 past_both s mid (Limit link from to amount) t a b = refl
 past_both s mid (Split node destination from weights) t a b = refl
+past_both s mid (Splits node destination rows) t a b = refl
 past_both s mid (Diagram link new) t a b = refl
 past_both s mid (Exit link from to amount) t a b = refl
 past_both s mid (Horizon slots) t a b =

@@ -4,7 +4,7 @@ use Rattle.std.specs.Option.{option_map_or}
 use Rattle.std.proofs.lemmas.Bool.{cases_lt, lt-ltb, le-ltb}
 use Rattle.ltm_network.specs.Network.{NetworkData, find_node, find_link, tail_of, head_of}
 use Rattle.ltm_scenario.specs.declared.edit.Edit.{Edit}
-use Rattle.ltm_scenario.specs.declared.edit.Edit.TheVariants.{Demand, Limit, Split, Diagram, Exit, Horizon}
+use Rattle.ltm_scenario.specs.declared.edit.Edit.TheVariants.{Demand, Limit, Split, Splits, Diagram, Exit, Horizon}
 use Rattle.ltm_pairs.specs.Reaches.{reach, lies_in_one}
 use Rattle.ltm_pairs.specs.Touched.{touched_in}
 
@@ -38,6 +38,8 @@ longer_reaches network slots more (Limit link from to amount) u t before longer 
     at_alike (tail_of network) (find_link network link) from (min to more) (min to slots) u t (cut_alike t to more slots (omega arith) before)
 longer_reaches network slots more (Split node destination from weights) u t before longer =
     at_alike (λ n. n) (find_node network node) from more slots u t (ends_alike t more slots (omega arith) before)
+longer_reaches network slots more (Splits node destination rows) u t before longer =
+    at_alike (λ n. n) (find_node network node) 0 more slots u t (ends_alike t more slots (omega arith) before)
 longer_reaches network slots more (Diagram link diagram) u t before longer =
     both_alike (tail_of network) (head_of network) (find_link network link) 0 more slots u t (ends_alike t more slots (omega arith) before)
 longer_reaches network slots more (Exit link from to amount) u t before longer =

@@ -13,6 +13,8 @@ use Rattle.ltm_demand.specs.declared.row.DemandRow.{DemandRow}
 use Rattle.ltm_demand.specs.Rows.{edited_rows}
 use Rattle.ltm_splits.specs.declared.keys.SplitKey.{SplitKey}
 use Rattle.ltm_splits.specs.Rows.{put_in}
+use Rattle.ltm_splits.specs.Table.{Entry}
+use Rattle.ltm_splits.specs.Replaced.{replaced}
 use Rattle.ltm_limits.specs.Limits.{with_limit, AreWhole}
 use Rattle.ltm_scenario.specs.Data.{ScenarioData}
 use Rattle.ltm_scenario.specs.Horizon.{with_slots}
@@ -49,7 +51,7 @@ produced_stays laws rows row u d t k h l = elim (cases_eq k 0) [
 pub by_demand : EditLaws → (s : ScenarioData) (row : DemandRow) (u t : ℕ) → (row.origin.0 ≡ u → ⊥) ⊎ (t < row.from) → SameFor (setting_of (record s { demand = edited_rows s.demand row })) (setting_of s) u t
 unfolding setting_of
 by_demand laws s row u t h = record {
-  network = record { nodes = refl; links = refl; destinations = refl; ins = refl; in_link = refl; outs = refl; out_link = refl; own = refl };
+  network = record { nodes = refl; links = refl; destinations = refl; ins = refl; in_link = refl; outs = refl; out_link = refl; own = refl; by_turn = refl };
   step = refl;
   free_time = λ i x. refl;
   in_capacity = λ i x. refl;
@@ -67,7 +69,7 @@ by_demand laws s row u t h = record {
 pub by_split : EditLaws → (s : ScenarioData) (key : SplitKey) (w : List ℕ) (u t : ℕ) → (key.node.0 ≡ u → ⊥) ⊎ (t < key.from) → SameFor (setting_of (record s { splits = put_in s.splits key w })) (setting_of s) u t
 unfolding setting_of
 by_split laws s key w u t h = record {
-  network = record { nodes = refl; links = refl; destinations = refl; ins = refl; in_link = refl; outs = refl; out_link = refl; own = refl };
+  network = record { nodes = refl; links = refl; destinations = refl; ins = refl; in_link = refl; outs = refl; out_link = refl; own = refl; by_turn = refl };
   step = refl;
   free_time = λ i x. refl;
   in_capacity = λ i x. refl;
@@ -81,12 +83,29 @@ by_split laws s key w u t h = record {
   weight = λ d j x y. ap (λ (o : Option (List ℕ)). option_map_or (λ weights. slice_index weights j) o 0) (laws.weights s.splits key w u d t h);
 }
 
+pub by_pair : EditLaws → (s : ScenarioData) (n e : ℕ) (entries : List Entry) (u t : ℕ) → (n ≡ u → ⊥) → SameFor (setting_of (record s { splits = replaced s.splits n e entries })) (setting_of s) u t
+unfolding setting_of
+by_pair laws s n e entries u t apart = record {
+  network = record { nodes = refl; links = refl; destinations = refl; ins = refl; in_link = refl; outs = refl; out_link = refl; own = refl; by_turn = refl };
+  step = refl;
+  free_time = λ i x. refl;
+  in_capacity = λ i x. refl;
+  exit_limit = λ i x. refl;
+  wave_time = λ j x. refl;
+  out_capacity = λ j x. refl;
+  storage = λ j x. refl;
+  entry_limit = λ j x. refl;
+  origin_capacity = refl;
+  produced = λ d k x l. refl;
+  weight = λ d j x y. ap (λ (o : Option (List ℕ)). option_map_or (λ weights. slice_index weights j) o 0) (laws.pairs s.splits n e entries u d t (inl (λ same. apart (sym same))));
+}
+
 -- ---- limits
 pub by_entry : EditLaws → (s : ScenarioData) (link from to limit u t : ℕ) → link < length s.entry → from ≤ to → to ≤ length (get_or s.entry link []) → (tail_of s.network link ≡ u → ⊥) ⊎ ((t < from) ⊎ (to ≤ t)) →
     SameFor (setting_of (record s { entry = with_limit s.entry link from to limit })) (setting_of s) u t
 unfolding setting_of
 by_entry laws s link from to limit u t there order fits h = record {
-  network = record { nodes = refl; links = refl; destinations = refl; ins = refl; in_link = refl; outs = refl; out_link = refl; own = refl };
+  network = record { nodes = refl; links = refl; destinations = refl; ins = refl; in_link = refl; outs = refl; out_link = refl; own = refl; by_turn = refl };
   step = refl;
   free_time = λ i x. refl;
   in_capacity = λ i x. refl;
@@ -107,7 +126,7 @@ pub by_exit : EditLaws → (s : ScenarioData) (link from to limit u t : ℕ) →
     SameFor (setting_of (record s { exit = with_limit s.exit link from to limit })) (setting_of s) u t
 unfolding setting_of
 by_exit laws s link from to limit u t there order fits h = record {
-  network = record { nodes = refl; links = refl; destinations = refl; ins = refl; in_link = refl; outs = refl; out_link = refl; own = refl };
+  network = record { nodes = refl; links = refl; destinations = refl; ins = refl; in_link = refl; outs = refl; out_link = refl; own = refl; by_turn = refl };
   step = refl;
   free_time = λ i x. refl;
   in_capacity = λ i x. refl;
@@ -145,7 +164,7 @@ by_diagram s link diagram u t tail head =
     let leaves : (j : ℕ) → j < length (Rattle.ltm_network.specs.Network.out_links s.network u) → out_link s.network u j ≢ link =
     λ j x same. tail (ap (tail_of s.network) (sym same) ∙ (has_places s.network).out_link_starts u j x) in
     record {
-      network = record { nodes = refl; links = refl; destinations = refl; ins = refl; in_link = refl; outs = refl; out_link = refl; own = refl };
+      network = record { nodes = refl; links = refl; destinations = refl; ins = refl; in_link = refl; outs = refl; out_link = refl; own = refl; by_turn = refl };
       step = refl;
       free_time = λ i x. ap (λ z. z.free_ms) (limits_stay s link diagram (in_link s.network u i) (enters i x));
       in_capacity = λ i x. ap (λ z. z.capacity) (limits_stay s link diagram (in_link s.network u i) (enters i x));
@@ -168,7 +187,7 @@ pub by_horizon : EditLaws → (s : ScenarioData) (slots u t : ℕ) → AreWhole 
 unfolding setting_of
 by_horizon laws s slots u t entry exit before =
     record {
-      network = record { nodes = refl; links = refl; destinations = refl; ins = refl; in_link = refl; outs = refl; out_link = refl; own = refl };
+      network = record { nodes = refl; links = refl; destinations = refl; ins = refl; in_link = refl; outs = refl; out_link = refl; own = refl; by_turn = refl };
       step = refl;
       free_time = λ i x. refl;
       in_capacity = λ i x. refl;

@@ -7,7 +7,7 @@ use Rattle.ltm_curve.specs.Counts.{Counts}
 use Rattle.ltm_limits.specs.Limits.{AreWhole}
 use Rattle.ltm_network.specs.Network.{NetworkData, find_node, find_link, tail_of, head_of}
 use Rattle.ltm_scenario.specs.declared.edit.Edit.{Edit}
-use Rattle.ltm_scenario.specs.declared.edit.Edit.TheVariants.{Demand, Limit, Split, Diagram, Exit, Horizon}
+use Rattle.ltm_scenario.specs.declared.edit.Edit.TheVariants.{Demand, Limit, Split, Splits, Diagram, Exit, Horizon}
 use Rattle.ltm_scenario.specs.Data.{ScenarioData}
 use Rattle.ltm_scenario.specs.Edits.{edited, edited_from}
 use Rattle.ltm_loading.specs.Flows.{position}
@@ -25,12 +25,14 @@ abbrev pub of_end : NetworkData → (ℕ → ℕ) → List ℕ → ℕ → ℕ �
 of_end network end name from to = option_map_or (λ link. reach (end link) from to ∷ []) (find_link network name) []
 
 -- demand: its origin, from its first slot on. An entry limit: the tail of the link, in its slots. An exit limit: the
--- head, in its slots. Weights: the node, from their first slot on. A diagram: both ends of the link, in every slot. A
+-- head, in its slots. Weights: the node, from their first slot on; where they are all that the node has for a
+-- destination, in every slot. A diagram: both ends of the link, in every slot. A
 -- longer horizon: no pair that was there before
 abbrev pub touched_in : NetworkData → ℕ → Edit → List Reach
 touched_in network slots (Demand origin destination from to amount) = of_node network origin from slots
 touched_in network slots (Limit link from to amount) = of_end network (tail_of network) link from (min to slots)
 touched_in network slots (Split node destination from weights) = of_node network node from slots
+touched_in network slots (Splits node destination rows) = of_node network node 0 slots
 touched_in network slots (Diagram link diagram) = of_end network (tail_of network) link 0 slots ++ of_end network (head_of network) link 0 slots
 touched_in network slots (Exit link from to amount) = of_end network (head_of network) link from (min to slots)
 touched_in network slots (Horizon more) = []
@@ -43,6 +45,7 @@ abbrev pub new_slots : ScenarioData → Edit → Option (ℕ × ℕ)
 new_slots s (Demand origin destination from to amount) = None
 new_slots s (Limit link from to amount) = None
 new_slots s (Split node destination from weights) = None
+new_slots s (Splits node destination rows) = None
 new_slots s (Diagram link diagram) = None
 new_slots s (Exit link from to amount) = None
 new_slots s (Horizon slots) = Some (s.setup.slots, slots)

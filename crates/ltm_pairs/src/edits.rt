@@ -74,6 +74,7 @@ fn add_head(scenario: &Scenario, name: &Name, from: u32, to: u32, into: &mut Spr
 /// | entry limit | the tail of the link, in the slots named |
 /// | exit limit | the head of the link, in the slots named |
 /// | weights | their node, from their first slot to the horizon |
+/// | all weights of a node for a destination | the node, in every slot |
 /// | diagram | the tail of the link, and then the head, in every slot |
 /// | horizon | none; `all_new` has the slots from the present horizon to the longer one |
 ///
@@ -88,15 +89,20 @@ pub fn touched(scenario: &Scenario, edit: &Edit, into: &mut Spread)
 {
     let slots = slot_count(scenario);
     into.clear();
-    match *edit {
-        Edit::Demand { origin, from, .. } => add_node(scenario, &origin, from, slots, into),
-        Edit::Limit { link, from, to, .. } => add_tail(scenario, &link, from, to.min(slots), into),
-        Edit::Split { node, from, .. } => add_node(scenario, &node, from, slots, into),
-        Edit::Diagram { link, .. } => {
-            add_tail(scenario, &link, 0, slots, into);
-            add_head(scenario, &link, 0, slots, into);
+    match edit {
+        Edit::Demand { origin, from, .. } => add_node(scenario, origin, *from, slots, into),
+        Edit::Limit { link, from, to, .. } => {
+            add_tail(scenario, link, *from, (*to).min(slots), into)
         }
-        Edit::Exit { link, from, to, .. } => add_head(scenario, &link, from, to.min(slots), into),
-        Edit::Horizon { slots: more } => into.add_slots(slots, more),
+        Edit::Split { node, from, .. } => add_node(scenario, node, *from, slots, into),
+        Edit::Splits { node, .. } => add_node(scenario, node, 0, slots, into),
+        Edit::Diagram { link, .. } => {
+            add_tail(scenario, link, 0, slots, into);
+            add_head(scenario, link, 0, slots, into);
+        }
+        Edit::Exit { link, from, to, .. } => {
+            add_head(scenario, link, *from, (*to).min(slots), into)
+        }
+        Edit::Horizon { slots: more } => into.add_slots(slots, *more),
     }
 }

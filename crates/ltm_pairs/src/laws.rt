@@ -9,7 +9,7 @@ use ltm_demand::production_stays;
 use ltm_limits::{limits_are_lengthened, limits_are_set, limits_stay_whole};
 use ltm_loading::{inputs_by_parts, position_read_only, set_by_one_pair, setting_read_only};
 use ltm_scenario::edits_make;
-use ltm_splits::rows_stay;
+use ltm_splits::{pair_stays, rows_stay};
 
 /// An accepted edit keeps the network, and a horizon that is no shorter.
 pub fn edits_keep()
@@ -26,6 +26,7 @@ pub fn touched_holds_readers()
     edits_make();
     production_stays();
     rows_stay();
+    pair_stays();
     limits_are_set();
     limits_are_lengthened();
     setting_read_only();

@@ -13,7 +13,7 @@ use Rattle.ltm_repair.specs.Facts.{inputs_from, IsStepOf}
 use Rattle.ltm_loading.specs.Networks.{SameNetwork}
 
 pub network_refl : (s : Setting) → SameNetwork s s
-network_refl s = record { nodes = refl; links = refl; destinations = refl; ins = refl; in_link = refl; outs = refl; out_link = refl; own = refl }
+network_refl s = record { nodes = refl; links = refl; destinations = refl; ins = refl; in_link = refl; outs = refl; out_link = refl; own = refl; by_turn = refl }
 
 pub network_trans : (r s t : Setting) → SameNetwork r s → SameNetwork s t → SameNetwork r t
 network_trans r s t a b = record {
@@ -25,6 +25,7 @@ network_trans r s t a b = record {
   outs = rw a.outs b.outs;
   out_link = rw a.out_link b.out_link;
   own = rw a.own b.own;
+  by_turn = rw a.by_turn b.by_turn;
 }
 
 pub groups_same : (r s : Setting) → SameNetwork r s → groups r ≡ groups s
@@ -37,7 +38,7 @@ pub of_same : (r s : Setting) (u g d : ℕ) → SameNetwork r s → IsOf r u g d
 of_same r s u g d same = rw (same.ins, same.in_link, same.outs, same.out_link, same.own, same.links, same.nodes) refl
 
 pub shape_same : (r s : Setting) (u : ℕ) → SameNetwork r s → shape_at r u ≡ shape_at s u
-shape_same r s u same = rw (same.ins, same.outs, same.destinations, same.own) refl
+shape_same r s u same = rw (same.ins, same.outs, same.destinations, same.own, same.by_turn) refl
 
 row_same : (r s : Setting) (c : Counts) (u k : ℕ) → SameNetwork r s → count_row r c u k ≡ count_row s c u k
 row_same r s c u k same = rw (same.ins, same.in_link, same.outs, same.out_link, same.destinations, same.own, same.links, same.nodes) refl

@@ -83,7 +83,7 @@ pub no_line : (name : List ℕ) (node : ℕ) (s : Setting) (c : Counts) → prod
 unfolding node_delay_report
 no_line name node s c none = pick_none (produced_in_all s node s.slots) _ none
 
-some_line : (name : List ℕ) (node : ℕ) (s : Setting) (c : Counts) → produced_in_all s node s.slots ≢ 0
+pub some_line : (name : List ℕ) (node : ℕ) (s : Setting) (c : Counts) → produced_in_all s node s.slots ≢ 0
     → node_delay_report name node s c ≡ node_delay_line name (waited_at s c node) (waiting_at s c node (longest s c node)) (longest s c node)
 unfolding node_delay_report
 some_line name node s c some = pick_some (produced_in_all s node s.slots) _ some

@@ -1,2 +1,4 @@
 pub mod Reported
 pub mod Delayed
+pub mod Rowed
+mod RowsTell

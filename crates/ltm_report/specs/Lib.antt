@@ -4,6 +4,9 @@ pub mod Links
 pub mod Reports
 pub mod Delays
 pub mod DelayReports
+pub mod Rows
+pub mod RowReports
+pub mod RowLaws
 pub mod Causes
 pub mod CaseFaults
 pub mod Answers

@@ -33,7 +33,7 @@ fn decimals(time: u128) -> [u8; 7]
 
 /// Appends words and a time in vehicle seconds.
 #[tactic(auto, unfolding(crate::specs::Delays::seconds_piece, crate::specs::Delays::seconds_text, ltm_units::specs::Texts::number_piece))]
-fn push_seconds(into: &mut Vec<u8>, words: &[u8], time: u128) -> Result<(), NoMemory>
+pub(crate) fn push_seconds(into: &mut Vec<u8>, words: &[u8], time: u128) -> Result<(), NoMemory>
     ensures { OnOk result (into.new.items ≡ into.old.items ++ seconds_piece words.now time) }
 {
     push_number(into, words, time / 1000000)?;
@@ -41,7 +41,7 @@ fn push_seconds(into: &mut Vec<u8>, words: &[u8], time: u128) -> Result<(), NoMe
 }
 
 #[tactic(auto, unfolding(crate::specs::Delays::spent_piece))]
-fn push_spent(into: &mut Vec<u8>, spent: u128, queued: u128) -> Result<(), NoMemory>
+pub(crate) fn push_spent(into: &mut Vec<u8>, spent: u128, queued: u128) -> Result<(), NoMemory>
     ensures { OnOk result (into.new.items ≡ into.old.items ++ spent_piece spent queued) }
 {
     push_seconds(into, b" spent ", spent)?;

@@ -8,6 +8,7 @@
 //! - **When to change it here**: when a line gets another word or number, or when there is a new cause to name.
 #![tactic(auto)]
 
+mod all_delays;
 mod answers;
 mod case_faults;
 mod causes;
@@ -22,9 +23,12 @@ mod origins;
 mod pieces;
 mod refusals;
 mod routes;
+mod row_laws;
+mod rows;
 mod times;
 mod totals;
 
+pub use all_delays::delays_text;
 pub use answers::{ANSWER_ROOM, accepted_text, settled_text};
 pub use case_faults::{case_fault_text, too_long_text};
 pub use command_faults::command_fault_text;
@@ -35,10 +39,11 @@ pub use links::{link_text, load_link_text};
 pub use load::report_of;
 pub use made::{size_text, work_text};
 pub use origins::{node_delay_text, origin_text};
-pub use refusals::{
-    long_script_text, origin_slots_text, queue_slots_text, time_slots_text, too_many_text,
-    unknown_link_text, unknown_origin_text, unknown_queue_text, unknown_time_text,
-};
+pub use refusals::{bad_slots_text, long_script_text, too_many_text, unknown_name_text};
 pub use routes::{route_row_text, route_time_text, splits_header_text};
+pub use row_laws::{
+    curves_tell_queues, delays_tell_delay, departures_tell_origins, state_tells_queues,
+};
+pub use rows::{curve_text, departures_text, state_text};
 pub use times::time_text;
 pub use totals::{totals_line_text, totals_text};

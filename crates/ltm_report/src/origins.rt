@@ -15,7 +15,7 @@ use ltm_units::{Name, NoMemory, NodeId, push_text, push_vehicles};
 use std::alloc::Global;
 
 #[tactic(auto, unfolding(crate::specs::Delays::node_piece))]
-fn push_node(into: &mut Vec<u8>, name: &Name) -> Result<(), NoMemory>
+pub(crate) fn push_node(into: &mut Vec<u8>, name: &Name) -> Result<(), NoMemory>
     ensures { OnOk result (into.new.items ≡ into.old.items ++ node_piece name.now) }
 {
     push_text(into, b"node ")?;

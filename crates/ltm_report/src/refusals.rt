@@ -1,72 +1,42 @@
 //! The lines that refuse a question or the rest of a script.
-ghost use Rattle.std.specs.Prelude.{◌≡◌, ◌++◌, OnOk, OnErr};
-ghost use Rattle.ltm_report.specs.Refusals.{unknown_link_line, unknown_time_line, time_slots_line, unknown_queue_line, queue_slots_line, unknown_origin_line, origin_slots_line, long_piece, long_script_line, too_many_line};
+ghost use Rattle.std.specs.Prelude.{◌≡◌, ◌++◌, ◌≤◌, length, codes, OnOk, OnErr};
+ghost use Rattle.ltm_report.specs.Refusals.{unknown_name_line, bad_slots_line, long_piece, long_script_line, too_many_line};
 
 use crate::pieces::push_newline;
-use ltm_units::{NoMemory, push_number, push_text};
+use ltm_units::{NoMemory, append, push_number, push_text};
 use std::alloc::Global;
 
-/// Appends that no link has the name that was asked for.
-#[tactic(auto, unfolding(crate::specs::Refusals::unknown_link_line))]
-pub fn unknown_link_text(into: &mut Vec<u8>) -> Result<(), NoMemory>
-    ensures ok { OnOk result (into.new.items ≡ into.old.items ++ unknown_link_line) }
+/// Appends that a question is refused, and what stands behind its word.
+fn refused_text(into: &mut Vec<u8>, question: &[u8], cause: &[u8]) -> Result<(), NoMemory>
+    requires { length cause.now ≤ 16 }
+    ensures ok { OnOk result (into.new.items
+        ≡ into.old.items ++ codes "refused " ++ question.now ++ cause.now) }
     ensures err { OnErr result (into.new.items ≡ into.old.items) }
 {
-    push_text(into, b"refused link UnknownName\n")
+    into.reserve(question.len() + 24)?;
+    append(into, b"refused ");
+    append(into, question);
+    append(into, cause);
+    Ok(())
 }
 
-/// Appends that no link has the name for which a travel time was asked.
-#[tactic(auto, unfolding(crate::specs::Refusals::unknown_time_line))]
-pub fn unknown_time_text(into: &mut Vec<u8>) -> Result<(), NoMemory>
-    ensures ok { OnOk result (into.new.items ≡ into.old.items ++ unknown_time_line) }
+/// Appends that nothing has the name that a question names, as `refused queue UnknownName`; the question is told by its word.
+#[tactic(auto, unfolding(crate::specs::Refusals::unknown_name_line))]
+pub fn unknown_name_text(question: &[u8], into: &mut Vec<u8>) -> Result<(), NoMemory>
+    ensures ok { OnOk result (into.new.items ≡ into.old.items ++ unknown_name_line question.now) }
     ensures err { OnErr result (into.new.items ≡ into.old.items) }
 {
-    push_text(into, b"refused time UnknownName\n")
+    refused_text(into, question, b" UnknownName\n")
 }
 
-/// Appends that the slot for which a travel time was asked is not one of the loading that is shown.
-#[tactic(auto, unfolding(crate::specs::Refusals::time_slots_line))]
-pub fn time_slots_text(into: &mut Vec<u8>) -> Result<(), NoMemory>
-    ensures ok { OnOk result (into.new.items ≡ into.old.items ++ time_slots_line) }
+/// Appends that the slot or boundary that a question names is not one of the loading that is shown, as
+/// `refused queue BadSlots`; the question is told by its word.
+#[tactic(auto, unfolding(crate::specs::Refusals::bad_slots_line))]
+pub fn bad_slots_text(question: &[u8], into: &mut Vec<u8>) -> Result<(), NoMemory>
+    ensures ok { OnOk result (into.new.items ≡ into.old.items ++ bad_slots_line question.now) }
     ensures err { OnErr result (into.new.items ≡ into.old.items) }
 {
-    push_text(into, b"refused time BadSlots\n")
-}
-
-/// Appends that no link has the name whose queue was asked for.
-#[tactic(auto, unfolding(crate::specs::Refusals::unknown_queue_line))]
-pub fn unknown_queue_text(into: &mut Vec<u8>) -> Result<(), NoMemory>
-    ensures ok { OnOk result (into.new.items ≡ into.old.items ++ unknown_queue_line) }
-    ensures err { OnErr result (into.new.items ≡ into.old.items) }
-{
-    push_text(into, b"refused queue UnknownName\n")
-}
-
-/// Appends that the boundary at which a queue was asked for is not one of the loading that is shown.
-#[tactic(auto, unfolding(crate::specs::Refusals::queue_slots_line))]
-pub fn queue_slots_text(into: &mut Vec<u8>) -> Result<(), NoMemory>
-    ensures ok { OnOk result (into.new.items ≡ into.old.items ++ queue_slots_line) }
-    ensures err { OnErr result (into.new.items ≡ into.old.items) }
-{
-    push_text(into, b"refused queue BadSlots\n")
-}
-
-/// Appends that no node has the name whose origin was asked for.
-#[tactic(auto, unfolding(crate::specs::Refusals::unknown_origin_line))]
-pub fn unknown_origin_text(into: &mut Vec<u8>) -> Result<(), NoMemory>
-    ensures ok { OnOk result (into.new.items ≡ into.old.items ++ unknown_origin_line) }
-    ensures err { OnErr result (into.new.items ≡ into.old.items) }
-{
-    push_text(into, b"refused origin UnknownName\n")
-}
-
-/// Appends that the boundary at which an origin was asked for is not one of the loading that is shown.
-#[tactic(auto, unfolding(crate::specs::Refusals::origin_slots_line))]
-pub fn origin_slots_text(into: &mut Vec<u8>) -> Result<(), NoMemory>
-    ensures ok { OnOk result (into.new.items ≡ into.old.items ++ origin_slots_line) }
-    ensures err { OnErr result (into.new.items ≡ into.old.items) }
-{
-    push_text(into, b"refused origin BadSlots\n")
+    refused_text(into, question, b" BadSlots\n")
 }
 
 #[tactic(auto, unfolding(crate::specs::Refusals::long_piece))]

@@ -71,5 +71,5 @@ are_roads s in_range is = record {
   apart = (is.network).no_loop;
   some_time = λ link low. (between s in_range is link low).0;
   most_time = λ link low. (between s in_range is link low).1;
-  few_nodes = (let a = (is.network).few_nodes in let b = (is.network).few_links in omega arith);
+  few_nodes = (let a = (is.network).few_nodes in let b = (is.network).few_links in let c = (is.network).most_is_small in omega arith);
 }

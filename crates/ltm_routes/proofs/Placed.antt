@@ -71,7 +71,7 @@ split_sum s d n routes places roads are low is =
     omega arith
 
 pub routed_refused : (s : ScenarioData) (d n : ℕ) (routes : RoutesData) (w : List ℕ) (fault : SplitFault) → LinksAtTheirPlaces → AreRoads (roads_of s) → AreRoutes (roads_of s) (destination_node s d) routes → n < length s.network.nodes
-    → is_routed s d routes n ≡ true → w ≡ route_split s routes n → 1 ≤ s.setup.slots → with_split s (key_of n d 0) w ≡ Err fault → 50000 < length s.splits + length (rows_from s d routes n)
+    → is_routed s d routes n ≡ true → w ≡ route_split s routes n → 1 ≤ s.setup.slots → with_split s (key_of n d 0) w ≡ Err fault → s.setup.most_split_rows < length s.splits + length (rows_from s d routes n)
 routed_refused s d n routes w fault places roads are low is weights slots refused =
     let full = split_refused s (key_of n d 0) w fault refused slots (subst (λ v. 1 ≤ sum v) (sym weights) (split_sum s d n routes places roads are low is)) in
     let one : length (rows_from s d routes n) ≡ 1 = ap length (routed s d n routes is) in
@@ -90,9 +90,10 @@ node_set s m k d n routes a b =
     subst (λ rows. HasSet s rows k d (n + 1)) (sym (lists_more (rows_from s d routes) n))
     (set_then s m k (lists_below n (rows_from s d routes)) (rows_from s d routes n) d n d (n + 1) a (subst (λ rows. HasSet m rows k d (n + 1)) (rows_still s m d n routes a.rest) b))
 
-pub node_over : (s m : ScenarioData) (d n nodes : ℕ) (routes : RoutesData) → HasSet s (lists_below n (rows_from s d routes)) m d n → n < nodes → 50000 < length m.splits + length (rows_from m d routes n)
-    → 50000 < length s.splits + length (lists_below nodes (rows_from s d routes))
+pub node_over : (s m : ScenarioData) (d n nodes : ℕ) (routes : RoutesData) → HasSet s (lists_below n (rows_from s d routes)) m d n → n < nodes → m.setup.most_split_rows < length m.splits + length (rows_from m d routes n)
+    → s.setup.most_split_rows < length s.splits + length (lists_below nodes (rows_from s d routes))
 node_over s m d n nodes routes a low over =
+    let most : m.setup.most_split_rows ≡ s.setup.most_split_rows = ap (λ (z : ScenarioData). z.setup.most_split_rows) a.rest in
     let count = a.count in
     let same : length (rows_from m d routes n) ≡ length (rows_from s d routes n) = ap length (rows_still s m d n routes a.rest) in
     let reach = lists_reach (rows_from s d routes) n nodes low in
@@ -121,8 +122,9 @@ destination_set s m k all d routes same a b =
     (subst (λ rows. HasSet m rows k (d + 1) 0) (to_still s m d routes a.rest ∙ ap (rows_to s d) (sym same)) b))
 
 pub destination_over : (s m : ScenarioData) (all : List RoutesData) (d count : ℕ) (routes : RoutesData) → routes_to all d ≡ routes → HasSet s (lists_below d (rows_of s all)) m d 0 → s.splits ≡ [] → d < count
-    → 50000 < length m.splits + length (rows_to m d routes) → 50000 < length (lists_below count (rows_of s all))
+    → m.setup.most_split_rows < length m.splits + length (rows_to m d routes) → s.setup.most_split_rows < length (lists_below count (rows_of s all))
 destination_over s m all d count routes same a none low over =
+    let most : m.setup.most_split_rows ≡ s.setup.most_split_rows = ap (λ (z : ScenarioData). z.setup.most_split_rows) a.rest in
     let at = a.count in
     let start : length s.splits ≡ 0 = ap length none in
     let rows : length (rows_to m d routes) ≡ length (rows_of s all d) = ap length (to_still s m d routes a.rest ∙ ap (rows_to s d) (sym same)) in
@@ -130,7 +132,7 @@ destination_over s m all d count routes same a none low over =
     omega arith
 
 pub destinations_set : (s m : ScenarioData) (all : List RoutesData) (d count : ℕ) → HasSet s (lists_below d (rows_of s all)) m d 0 → s.splits ≡ [] → d ≤ count → count ≤ d
-    → HasSet s (lists_below count (rows_of s all)) m count 0 × (length (lists_below count (rows_of s all)) ≤ 50000)
+    → HasSet s (lists_below count (rows_of s all)) m count 0 × (length (lists_below count (rows_of s all)) ≤ s.setup.most_split_rows)
 destinations_set s m all d count a none low high =
     let same : d ≡ count = omega arith in
     let set : HasSet s (lists_below count (rows_of s all)) m count 0 = subst (λ k. HasSet s (lists_below k (rows_of s all)) m k 0) same a in

@@ -85,15 +85,15 @@ put_before d n w (x ∷ xs) all =
     ]) refl
 
 -- what a row that was taken makes of the rows
-row_taken : (d next : SplitsData) (key : SplitKey) (w : List ℕ) → with_row d key w ≡ Ok next → (next ≡ with_rows d (put_in d.rows key w)) × (is_over d.rows key ≡ false)
+row_taken : (d next : SplitsData) (key : SplitKey) (w : List ℕ) → with_row d key w ≡ Ok next → (next ≡ with_rows d (put_in d.rows key w)) × (is_over d key ≡ false)
 row_taken d next key w is =
-    (elim (nat_le d.slots key.from) as (λ b. cond b (Err BadSlots) (cond (sum w == 0) (Err ZeroWeight) (cond (is_over d.rows key) (Err TooManyRows) (Ok (with_rows d (put_in d.rows key w))))) ≡ Ok next
-    → (next ≡ with_rows d (put_in d.rows key w)) × (is_over d.rows key ≡ false)) [
+    (elim (nat_le d.slots key.from) as (λ b. cond b (Err BadSlots) (cond (sum w == 0) (Err ZeroWeight) (cond (is_over d key) (Err TooManyRows) (Ok (with_rows d (put_in d.rows key w))))) ≡ Ok next
+    → (next ≡ with_rows d (put_in d.rows key w)) × (is_over d key ≡ false)) [
       | true ↦ λ e. cc
-      | false ↦ elim (sum w == 0) as (λ b. cond b (Err ZeroWeight) (cond (is_over d.rows key) (Err TooManyRows) (Ok (with_rows d (put_in d.rows key w)))) ≡ Ok next
-          → (next ≡ with_rows d (put_in d.rows key w)) × (is_over d.rows key ≡ false)) [
+      | false ↦ elim (sum w == 0) as (λ b. cond b (Err ZeroWeight) (cond (is_over d key) (Err TooManyRows) (Ok (with_rows d (put_in d.rows key w)))) ≡ Ok next
+          → (next ≡ with_rows d (put_in d.rows key w)) × (is_over d key ≡ false)) [
             | true ↦ λ e. cc
-            | false ↦ elim (is_over d.rows key) as (λ b. cond b (Err TooManyRows) (Ok (with_rows d (put_in d.rows key w))) ≡ Ok next → (next ≡ with_rows d (put_in d.rows key w)) × (b ≡ false)) [
+            | false ↦ elim (is_over d key) as (λ b. cond b (Err TooManyRows) (Ok (with_rows d (put_in d.rows key w))) ≡ Ok next → (next ≡ with_rows d (put_in d.rows key w)) × (b ≡ false)) [
               | true ↦ λ e. cc
               | false ↦ λ e. (sym (cc), refl)
             ]
@@ -101,37 +101,37 @@ row_taken d next key w is =
     ]) is
 
 -- a row that was refused, in a slot and with a weight, would be one too many
-row_refused : (d : SplitsData) (key : SplitKey) (w : List ℕ) (fault : SplitFault) → with_row d key w ≡ Err fault → key.from < d.slots → 1 ≤ sum w → 50000 ≤ length d.rows
-row_refused d key w fault is slot some = go (nat_le d.slots key.from) (sum w == 0) (is_none (row_of d.rows key)) (nat_le 50000 (length d.rows)) is (grind (arith, nat_tests)) (grind (arith, nat_tests)) (λ e. grind (arith, nat_tests))
+row_refused : (d : SplitsData) (key : SplitKey) (w : List ℕ) (fault : SplitFault) → with_row d key w ≡ Err fault → key.from < d.slots → 1 ≤ sum w → d.most_rows ≤ length d.rows
+row_refused d key w fault is slot some = go (nat_le d.slots key.from) (sum w == 0) (is_none (row_of d.rows key)) (nat_le d.most_rows (length d.rows)) is (grind (arith, nat_tests)) (grind (arith, nat_tests)) (λ e. grind (arith, nat_tests))
   where
-    go : (a b c e : Bool) → cond a (Err BadSlots) (cond b (Err ZeroWeight) (cond (c && e) (Err TooManyRows) (Ok (with_rows d (put_in d.rows key w))))) ≡ Err fault → a ≡ false → b ≡ false → (e ≡ true → 50000 ≤ length d.rows) → 50000 ≤ length d.rows
+    go : (a b c e : Bool) → cond a (Err BadSlots) (cond b (Err ZeroWeight) (cond (c && e) (Err TooManyRows) (Ok (with_rows d (put_in d.rows key w))))) ≡ Err fault → a ≡ false → b ≡ false → (e ≡ true → d.most_rows ≤ length d.rows) → d.most_rows ≤ length d.rows
     go true b c e is x y most = cc
     go false true c e is x y most = cc
     go false false false e is x y most = cc
     go false false true true is x y most = most refl
     go false false true false is x y most = cc
 
-pub split_taken : (s next : ScenarioData) (key : SplitKey) (w : List ℕ) → with_split s key w ≡ Ok next → (next ≡ record s { splits = put_in s.splits key w }) × (is_over s.splits key ≡ false)
+pub split_taken : (s next : ScenarioData) (key : SplitKey) (w : List ℕ) → with_split s key w ≡ Ok next → (next ≡ record s { splits = put_in s.splits key w }) × (is_over (splits_of s) key ≡ false)
 split_taken s next key w is = go (with_row (splits_of s) key w) refl is
   where
     go : (r : Result SplitsData SplitFault) → with_row (splits_of s) key w ≡ r → (r >>= λ (n : SplitsData). Ok (record s { splits = n.rows })) ≡ Ok next
-        → (next ≡ record s { splits = put_in s.splits key w }) × (is_over s.splits key ≡ false)
+        → (next ≡ record s { splits = put_in s.splits key w }) × (is_over (splits_of s) key ≡ false)
     go (Ok n) made e =
         let t = row_taken (splits_of s) n key w made in
         let value : next ≡ record s { splits = n.rows } = cc in
         (value ∙ ap (λ (z : SplitsData). record s { splits = z.rows }) t.0, t.1)
     go (Err fault) made e = cc
 
-pub split_refused : (s : ScenarioData) (key : SplitKey) (w : List ℕ) (fault : SplitFault) → with_split s key w ≡ Err fault → key.from < s.setup.slots → 1 ≤ sum w → 50000 ≤ length s.splits
+pub split_refused : (s : ScenarioData) (key : SplitKey) (w : List ℕ) (fault : SplitFault) → with_split s key w ≡ Err fault → key.from < s.setup.slots → 1 ≤ sum w → s.setup.most_split_rows ≤ length s.splits
 split_refused s key w fault is slot some = go (with_row (splits_of s) key w) refl is
   where
-    go : (r : Result SplitsData SplitFault) → with_row (splits_of s) key w ≡ r → (r >>= λ (n : SplitsData). Ok (record s { splits = n.rows })) ≡ Err fault → 50000 ≤ length s.splits
+    go : (r : Result SplitsData SplitFault) → with_row (splits_of s) key w ≡ r → (r >>= λ (n : SplitsData). Ok (record s { splits = n.rows })) ≡ Err fault → s.setup.most_split_rows ≤ length s.splits
     go (Ok n) made e = cc
     go (Err f) made e = row_refused (splits_of s) key w f made slot some
 
-room_left : (rows : List SplitRow) (key : SplitKey) → row_of rows key ≡ None → is_over rows key ≡ false → length rows < 50000
-room_left rows key none over =
-    let room : nat_le 50000 (length rows) ≡ false = sym (ap (λ o. is_none o && nat_le 50000 (length rows)) none) ∙ over in
+room_left : (d : SplitsData) (key : SplitKey) → row_of d.rows key ≡ None → is_over d key ≡ false → length d.rows < d.most_rows
+room_left d key none over =
+    let room : nat_le d.most_rows (length d.rows) ≡ false = sym (ap (λ o. is_none o && nat_le d.most_rows (length d.rows)) none) ∙ over in
     grind (arith, nat_tests)
 
 -- ---- rows set one after the other
@@ -144,7 +144,7 @@ one_set s next d n w before is =
       set = ap (λ (r : Result ScenarioData SplitFault). r >>= λ (z : ScenarioData). Ok z) is;
       rest = t.0 ∙ ap (λ xs. record s { splits = xs }) (sym rows);
       count = count;
-      few = λ small. let room = room_left s.splits (key_of n d 0) (fresh_none d n s.splits before) t.1 in omega arith;
+      few = λ small. let room = room_left (splits_of s) (key_of n d 0) (fresh_none d n s.splits before) t.1 in omega arith;
       before = subst (λ xs. list_all (is_before d (n + 1)) xs ≡ true) (sym rows) (put_before d n w s.splits before);
     }
 
@@ -164,7 +164,11 @@ set_then s m k xs ys d n d' n' a b = record {
   set = with_splits_append s xs ys ∙ ap (λ (r : Result ScenarioData SplitFault). r >>= λ (z : ScenarioData). with_splits z ys) a.set ∙ b.set;
   rest = b.rest ∙ ap (λ (z : ScenarioData). record z { splits = k.splits }) a.rest;
   count = (let x = a.count in let y = b.count in let long = length-append xs ys in omega arith);
-  few = λ small. b.few (a.few small);
+  few = λ small.
+      let most : m.setup.most_split_rows ≡ s.setup.most_split_rows = ap (λ (z : ScenarioData). z.setup.most_split_rows) a.rest in
+      let first = a.few small in
+      let second = b.few (omega arith) in
+      omega arith;
   before = b.before;
 }
 

@@ -10,6 +10,7 @@ use Rattle.std.proofs.lemmas.List.Sums.{sum_by-cons, sum_by-set}
 use Rattle.std.proofs.lemmas.List.Elements.{All-cons, All-tail}
 use Rattle.std.proofs.lemmas.List.Sorted.{All-permutation, Contains-permutation, length_permutation}
 use Rattle.ltm_units.specs.declared.quantities.Millis.{Millis}
+use Rattle.ltm_routes.specs.Sizes.{longest_route}
 use Rattle.ltm_routes.specs.declared.search.Waiting.{Waiting}
 use Rattle.ltm_routes.specs.Roads.{Roads, AreRoads}
 use Rattle.ltm_routes.specs.Routes.{IsRoute, time_of}
@@ -261,7 +262,7 @@ pub record Relaxes (r : Roads) (p p' : List (Option Millis)) (w w' : List Waitin
   pub roads : AreRoads r
   pub low : link < r.links
   pub long : length p ≡ r.nodes
-  pub small : t ≤ 28800000000000
+  pub small : t ≤ longest_route
   pub sum : c ≡ r.free_time link + t
   pub tail : u ≡ r.tail link
   pub lower : is_lower (potential_at p u) c ≡ true
@@ -286,7 +287,7 @@ pub relaxed_effort : (r : Roads) (p p' : List (Option Millis)) (w w' : List Wait
 relaxed_effort r p p' w w' link t c u h =
     let most = (h.roads).most_time link h.low in
     let tails = (h.roads).tails link h.low in
-    let small : t ≤ 28800000000000 = h.small in
+    let small : t ≤ longest_route = h.small in
     let sum : c ≡ r.free_time link + t = h.sum in
     let tail : u ≡ r.tail link = h.tail in
     let long : length p ≡ r.nodes = h.long in

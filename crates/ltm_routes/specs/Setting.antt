@@ -4,7 +4,6 @@ use Rattle.std.specs.List.{list_all}
 use Rattle.ltm_splits.specs.Rows.{SplitRow}
 use Rattle.ltm_scenario.specs.Data.{ScenarioData}
 use Rattle.ltm_routes.specs.Split.{with_splits, KeepsRest}
-use Rattle.ltm_units.specs.Bounds.{most_split_rows}
 
 -- the row comes before a node in the order of destination, then of node
 abbrev pub is_before : ℕ → ℕ → SplitRow → Bool
@@ -15,5 +14,5 @@ pub record HasSet (s : ScenarioData) (rows : List SplitRow) (next : ScenarioData
   pub set : with_splits s rows ≡ Ok next
   pub rest : KeepsRest s next
   pub count : length next.splits ≡ length s.splits + length rows
-  pub few : length s.splits ≤ most_split_rows → length next.splits ≤ most_split_rows
+  pub few : length s.splits ≤ s.setup.most_split_rows → length next.splits ≤ s.setup.most_split_rows
   pub before : list_all (is_before destination node) next.splits ≡ true

@@ -4,5 +4,5 @@ use Rattle.ltm_routes.specs.declared.faults.RoutesFault.{RoutesFault}
 use Rattle.ltm_routes.specs.declared.faults.RoutesFault.TheVariants.{TooManyRows, NoMemory}
 
 abbrev pub fault_text : RoutesFault → List ℕ
-fault_text TooManyRows = codes "more than 50000 split rows"
+fault_text TooManyRows = codes "too many rows"
 fault_text NoMemory = codes "out of memory"

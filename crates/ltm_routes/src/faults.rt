@@ -5,7 +5,7 @@ use std::fmt;
 
 #[derive(Clone, Copy, Debug, PartialEq, Eq)]
 pub enum RoutesFault {
-    /// The route splits are more than 50,000 rows.
+    /// The route splits are more rows than the setup allows.
     TooManyRows,
     /// Memory was not found.
     NoMemory,
@@ -19,7 +19,7 @@ impl fmt::Display for RoutesFault {
 
     fn fmt<W: fmt::Write>(&self, f: &mut fmt::Formatter<W>) -> fmt::Result {
         match self {
-            RoutesFault::TooManyRows => write!(f, "more than 50000 split rows"),
+            RoutesFault::TooManyRows => write!(f, "too many rows"),
             RoutesFault::NoMemory => write!(f, "out of memory"),
         }
     }

@@ -5,7 +5,6 @@ ghost use Rattle.ltm_scenario.specs.Reads.{destination_node};
 ghost use Rattle.ltm_routes.specs.Roads.{roads_of};
 ghost use Rattle.ltm_routes.specs.Split.{RoutesData, AreRoutes, AreAllRoutes, weight_of, route_split, is_routed, rows_from, rows_to, route_splits, with_splits, KeepsRest};
 ghost use Rattle.ltm_routes.specs.Setting.{is_before, HasSet};
-ghost use Rattle.ltm_units.specs.Bounds.{most_split_rows};
 
 use crate::faults::RoutesFault;
 use crate::found::{Routes, all_routes};
@@ -81,7 +80,7 @@ fn set_row(
         (rows_from scenario.old destination routes.now node.0) scenario.new destination (node.0
         + 1)) }
     ensures too_many { result ≡ Err RoutesFault.TooManyRows
-        → most_split_rows < length scenario.old.splits
+        → scenario.old.setup.most_split_rows < length scenario.old.splits
         + length (rows_from scenario.old destination routes.now node.0) }
 {
     keep_roads(scenario);
@@ -111,7 +110,7 @@ fn set_rows_to(
     ensures ok { OnOk result (HasSet scenario.old
         (rows_to scenario.old destination routes.now) scenario.new (destination + 1) 0) }
     ensures too_many { result ≡ Err RoutesFault.TooManyRows
-        → most_split_rows < length scenario.old.splits
+        → scenario.old.setup.most_split_rows < length scenario.old.splits
         + length (rows_to scenario.old destination routes.now) }
 {
     let nodes = scenario.network().nodes();
@@ -138,10 +137,11 @@ pub fn set_all(
         ≡ Ok next) }
     ensures rest { IfOk result (KeepsRest scenario) }
 
-    // Only more than 50,000 rows are refused.
-    ensures few { OnOk result (length (route_splits scenario all.now) ≤ most_split_rows) }
+    // Only more rows than the setup allows are refused.
+    ensures few { OnOk result (length (route_splits scenario all.now)
+        ≤ scenario.setup.most_split_rows) }
     ensures too_many { result ≡ Err RoutesFault.TooManyRows
-        → most_split_rows < length (route_splits scenario all.now) }
+        → scenario.setup.most_split_rows < length (route_splits scenario all.now) }
 {
     let _setup = scenario.setup();
     let destinations = scenario.destinations().len() as u32;
@@ -164,11 +164,11 @@ pub fn set_all(
 pub fn set_routes(alloc: Global, scenario: Scenario) -> Result<Scenario, RoutesFault>
     requires { scenario.splits ≡ [] }
     ensures set { IfOk result (λ next. (all : List RoutesData) × AreAllRoutes scenario all
-        × (length (route_splits scenario all) ≤ most_split_rows)
+        × (length (route_splits scenario all) ≤ scenario.setup.most_split_rows)
         × (with_splits scenario (route_splits scenario all) ≡ Ok next)) }
     ensures too_many { result ≡ Err RoutesFault.TooManyRows
         → (all : List RoutesData) × AreAllRoutes scenario all
-        × (most_split_rows < length (route_splits scenario all)) }
+        × (scenario.setup.most_split_rows < length (route_splits scenario all)) }
 {
     let all = all_routes(alloc, &scenario)?;
     set_all(alloc, scenario, &all)

@@ -1,6 +1,7 @@
 -- Route splits change nothing that routes, names and lines are made of.
-use Rattle.std.proofs.Common.{ℕ, ◌≡◌, ◌≤◌, List, length, Option, Result, Ok, Err, ap, sym, subst, ◌∙◌}
-use Rattle.std.specs.Prelude.{All, IfSome, IfOk, OnOk}
+use Rattle.std.proofs.Common.{ℕ, ◌≡◌, ◌≤◌, arith, Bool, true, false, if◌then◌else◌, List, length, Option, Result, Ok, Err, ap, sym, subst, ◌∙◌}
+use Rattle.std.specs.Prelude.{All, IfSome, IfOk, IfErr, OnOk}
+use Rattle.std.proofs.lemmas.Bool.Decides.{nat_tests}
 use Rattle.ltm_io.specs.Folder.{Files}
 use Rattle.ltm_network.specs.IsNetwork.{NamesAreFound}
 use Rattle.ltm_network.specs.Places.{LinksAtTheirPlaces}
@@ -8,7 +9,11 @@ use Rattle.ltm_scenario.specs.Data.{ScenarioData}
 use Rattle.ltm_scenario.specs.IsScenario.{IsScenario}
 use Rattle.ltm_scenario.specs.Valid.{IsValid}
 use Rattle.ltm_scenario.specs.Build.{◌>>=◌}
+use Rattle.ltm_units.specs.Bounds.{longest_file}
 use Rattle.ltm_casefile.specs.declared.faults.CaseFault.{CaseFault}
+use Rattle.ltm_casefile.specs.declared.faults.CaseFault.TheVariants as fault
+use Rattle.ltm_casefile.specs.declared.faults.File.TheVariants as file
+use Rattle.ltm_casefile.specs.Faults.{Says}
 use Rattle.ltm_casefile.specs.declared.tables.Table.TheVariants as table
 use Rattle.ltm_casefile.specs.Tables.{with_file}
 use Rattle.ltm_casefile.specs.Case.{whole}
@@ -17,9 +22,9 @@ use Rattle.ltm_routes.specs.Split.{RoutesData, AreAllRoutes, route_splits, with_
 use Rattle.ltm_routes_command.specs.declared.lines.RouteLines.{RouteLines}
 use Rattle.ltm_routes_command.specs.declared.lines.RouteLines.TheVariants as lines
 use Rattle.ltm_routes_command.specs.Lines.{routes_text}
-use Rattle.ltm_routes_command.specs.Routing.{routed, RoutesAnswer}
+use Rattle.ltm_routes_command.specs.Routing.{routed, is_readable, readable, RoutesAnswer, SaysOfRoutes, AnswersFault}
 use Rattle.ltm_routes_command.specs.File.{IsNamed, IsSplitsOf, IsTimesOf, IsSplitsFile}
-use Rattle.ltm_routes_command.proofs.Text.{text_back, text_short}
+use Rattle.ltm_routes_command.proofs.Text.{text_back}
 use Rattle.ltm_routes_command.proofs.WholeCase.{whole_case_told}
 
 pub still : (roads split : ScenarioData) (all : List RoutesData) → KeepsRest roads split → AreAllRoutes roads all → AreAllRoutes split all
@@ -35,14 +40,41 @@ named_kept roads split all rest named = subst (λ z. All (IsNamed z.network z.de
 
 -- a text that was made of the scenario with its splits is the answer
 pub answered : (which : RouteLines) (roads split : ScenarioData) (all : List RoutesData) (text : List ℕ) → AreAllRoutes roads all → KeepsRest roads split → routed roads all ≡ Ok split
-    → text ≡ routes_text which split all → RoutesAnswer which (Ok roads) (Ok text)
+    → text ≡ routes_text which split all → RoutesAnswer which (Ok roads) (readable which text)
 answered which roads split all text are rest set is =
-    (all, are, ap Ok (is ∙ text_kept which roads split all rest) ∙ sym (ap (λ (r : Result ScenarioData CaseFault). r >>= λ _. Ok (routes_text which roads all)) set))
+    (all, are, ap (readable which) (is ∙ text_kept which roads split all rest) ∙ sym (ap (λ (r : Result ScenarioData CaseFault). r >>= λ _. readable which (routes_text which roads all)) set))
+
+-- by whether it can be read
+pub answered_text : (which : RouteLines) (roads : ScenarioData) (text : List ℕ) → is_readable which text ≡ true → RoutesAnswer which (Ok roads) (readable which text) → RoutesAnswer which (Ok roads) (Ok text)
+answered_text which roads text short answer = subst (λ (b : Bool). RoutesAnswer which (Ok roads) (if b then Ok text else Err (fault.TooLong file.Splits))) short answer
+
+pub answered_long : (which : RouteLines) (roads : ScenarioData) (text : List ℕ) → is_readable which text ≡ false → RoutesAnswer which (Ok roads) (readable which text) → RoutesAnswer which (Ok roads) (Err (fault.TooLong file.Splits))
+answered_long which roads text long answer = subst (λ (b : Bool). RoutesAnswer which (Ok roads) (if b then Ok text else Err (fault.TooLong file.Splits))) long answer
+
+pub splits_short : (which : RouteLines) (text : List ℕ) → which ≡ lines.Splits → is_readable which text ≡ true → length text ≤ longest_file
+splits_short lines.Splits text is short = grind (arith, nat_tests)
+splits_short lines.Times text is short = cc
+
+-- a fault of the case that the routes make
+pub says_of : (which : RouteLines) (roads : ScenarioData) (all : List RoutesData) (e : CaseFault) → AreAllRoutes roads all → Says (routed roads all) e → SaysOfRoutes which roads e
+says_of which roads all (fault.Folder f) are said = said
+says_of which roads all (fault.TooLong f) are said = absurd said
+says_of which roads all (fault.Bad f row cause) are said =
+    (all, are, sym (ap (λ (r : Result ScenarioData CaseFault). r >>= λ _. readable which (routes_text which roads all)) said))
+says_of which roads all fault.NoMemory are said = tt
+
+-- a fault over the roads that a folder tells
+pub fault_told : {A : Type 0} (which : RouteLines) (told : Option Files) (roads : ScenarioData) (r : Result A CaseFault) → IfSome told (λ files. unsplit_case_of files ≡ Ok roads) → IfErr r (SaysOfRoutes which roads) → IfErr r (AnswersFault which told)
+fault_told which told roads (Ok x) said is = tt
+fault_told which told roads (Err (fault.Folder f)) said is = tt
+fault_told which told roads (Err (fault.TooLong f)) said is = (Ok roads, said, is)
+fault_told which told roads (Err (fault.Bad f row cause)) said is = (Ok roads, said, is)
+fault_told which told roads (Err fault.NoMemory) said is = tt
 
 pub splits_are : (roads split : ScenarioData) (all : List RoutesData) (text : List ℕ) → IsScenario roads → NamesAreFound → LinksAtTheirPlaces → AreAllRoutes roads all → KeepsRest roads split
-    → with_splits roads (route_splits roads all) ≡ Ok split → length (route_splits roads all) ≤ 50000 → IsValid split → whole split ≡ Ok split
+    → with_splits roads (route_splits roads all) ≡ Ok split → length text ≤ longest_file → IsValid split → whole split ≡ Ok split
     → All (IsNamed split.network split.destinations) (route_splits split all) → text ≡ routes_text lines.Splits split all → IsSplitsOf roads split text
-splits_are roads split all text scenario found places are rest set few valid is_whole named is =
+splits_are roads split all text scenario found places are rest set short valid is_whole named is =
     let text_is : text ≡ routes_text lines.Splits roads all = is ∙ text_kept lines.Splits roads split all rest in
     let names = named_kept roads split all rest named in
     record {
@@ -52,7 +84,7 @@ splits_are roads split all text scenario found places are rest set few valid is_
       valid = valid;
       whole = is_whole;
       text_is = text_is;
-      short = subst (λ t. length t ≤ 16777216) (sym text_is) (text_short roads all scenario names few);
+      short = short;
       read_back = ap (with_file table.Splits roads) text_is ∙ text_back roads split all scenario found places names set;
     }
 

@@ -9,16 +9,16 @@ use Rattle.ltm_casefile.specs.Case.{whole}
 use Rattle.ltm_routes.specs.Split.{RoutesData, route_splits, with_splits}
 use Rattle.ltm_routes_command.specs.Routing.{routed}
 
-pub few : (s split : ScenarioData) (all : List RoutesData) → length (route_splits s all) ≤ 50000 → with_splits s (route_splits s all) ≡ Ok split
+pub few : (s split : ScenarioData) (all : List RoutesData) → length (route_splits s all) ≤ s.setup.most_split_rows → with_splits s (route_splits s all) ≡ Ok split
     → routed s all ≡ whole split
 unfolding routed
 few s split all low set =
-    let no : nat_lt 50000 (length (route_splits s all)) ≡ false = grind (arith, nat_tests) in
+    let no : nat_lt s.setup.most_split_rows (length (route_splits s all)) ≡ false = grind (arith, nat_tests) in
     rw (no, set) refl
 
-pub over : (s : ScenarioData) (all : List RoutesData) → 50000 < length (route_splits s all)
+pub over : (s : ScenarioData) (all : List RoutesData) → s.setup.most_split_rows < length (route_splits s all)
     → routed s all ≡ Err (fault.Bad file.Whole 0 TooManyRows)
 unfolding routed
 over s all high =
-    let yes : nat_lt 50000 (length (route_splits s all)) ≡ true = grind (arith, nat_tests) in
+    let yes : nat_lt s.setup.most_split_rows (length (route_splits s all)) ≡ true = grind (arith, nat_tests) in
     rw yes refl

@@ -68,14 +68,14 @@ ends_read s row is =
     rw (node, end, differ, slot, leave) refl
 
 destination_stays : (s : ScenarioData) (row : SplitRow) → IsReadable s.network s.destinations s.setup.slots row → with_destination s (destination_node s row.0.destination) ≡ Ok s
-destination_stays s row is = ap (λ o. with_destination_at s.destinations (destination_node s row.0.destination) o >>= λ destinations. Ok (record s { destinations = destinations })) is.end_placed
+destination_stays s row is = ap (λ o. with_destination_at s.setup.most_destinations s.destinations (destination_node s row.0.destination) o >>= λ destinations. Ok (record s { destinations = destinations })) is.end_placed
 
 -- a row that is set has a weight
 some_weight : (d next : SplitsData) (key : SplitKey) (w : List ℕ) → with_row d key w ≡ Ok next → (sum w == 0) ≡ false
 some_weight d next key w set =
-    elim (nat_le d.slots key.from) as (λ b. cond b (Err BadSlots) (cond (sum w == 0) (Err ZeroWeight) (cond (is_over d.rows key) (Err TooManyRows) (Ok (with_rows d (put_in d.rows key w))))) ≡ Ok next → (sum w == 0) ≡ false) [
+    elim (nat_le d.slots key.from) as (λ b. cond b (Err BadSlots) (cond (sum w == 0) (Err ZeroWeight) (cond (is_over d key) (Err TooManyRows) (Ok (with_rows d (put_in d.rows key w))))) ≡ Ok next → (sum w == 0) ≡ false) [
       | true ↦ λ e. cc
-      | false ↦ elim (sum w == 0) as (λ b. cond b (Err ZeroWeight) (cond (is_over d.rows key) (Err TooManyRows) (Ok (with_rows d (put_in d.rows key w)))) ≡ Ok next → b ≡ false) [
+      | false ↦ elim (sum w == 0) as (λ b. cond b (Err ZeroWeight) (cond (is_over d key) (Err TooManyRows) (Ok (with_rows d (put_in d.rows key w)))) ≡ Ok next → b ≡ false) [
         | true ↦ λ e. cc
         | false ↦ λ e. refl
       ]

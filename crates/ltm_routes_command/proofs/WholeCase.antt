@@ -2,6 +2,7 @@
 use Rattle.std.proofs.Common.{ℕ, ◌≡◌, ◌≤◌, true, false, cond, List, length, Option, Some, None, Result, Ok, Err, IfSome, refl, ap, sym, arith, ◌∙◌}
 use Rattle.std.specs.Prelude.{nat_le}
 use Rattle.std.proofs.lemmas.Bool.Decides.{nat_tests}
+use Rattle.ltm_units.specs.Bounds.{longest_file}
 use Rattle.ltm_io.specs.declared.doc.Doc.TheVariants as doc
 use Rattle.ltm_io.specs.Folder.{Files}
 use Rattle.ltm_scenario.specs.Data.{ScenarioData}
@@ -35,15 +36,15 @@ roads_there texts roads is =
 abbrev case_texts : RoadTexts → List ℕ → CaseTexts
 case_texts texts splits = record { roads = texts; splits = splits }
 
-fits : (text : List ℕ) → length text ≤ 16777216 → sized file.Splits (Some text) ≡ Ok text
-fits text short = let small : nat_le (length text) 16777216 ≡ true = grind (arith, nat_tests) in ap (λ b. cond b (Ok text) (Err (fault.TooLong file.Splits))) small
+fits : (text : List ℕ) → length text ≤ longest_file → sized file.Splits (Some text) ≡ Ok text
+fits text short = let small : nat_le (length text) longest_file ≡ true = grind (arith, nat_tests) in ap (λ b. cond b (Ok text) (Err (fault.TooLong file.Splits))) small
 
 -- the texts of the roads do not depend on the splits
 same_roads : (files : Files) (text : List ℕ) → road_texts_of (with_splits_file files text) ≡ road_texts_of files
 unfolding road_texts_of
 same_roads files text = refl
 
-texts_are : (files : Files) (texts : RoadTexts) (text : List ℕ) → road_texts_of files ≡ Ok texts → length text ≤ 16777216 → texts_of (with_splits_file files text) ≡ Ok (case_texts texts text)
+texts_are : (files : Files) (texts : RoadTexts) (text : List ℕ) → road_texts_of files ≡ Ok texts → length text ≤ longest_file → texts_of (with_splits_file files text) ≡ Ok (case_texts texts text)
 unfolding texts_of
 texts_are files texts text are short = rw (same_roads files text, are, fits text short) refl
 
@@ -61,7 +62,7 @@ unfolding filled
 filled_is texts text opened roads split are read = rw (are.fills, read) refl
 
 pub whole_case : (files : Files) (text : List ℕ) (roads split : ScenarioData) → unsplit_case_of files ≡ Ok roads → with_file table.Splits roads text ≡ Ok split → whole split ≡ Ok split
-    → length text ≤ 16777216 → asks_for (with_splits_file files text) doc.Signals ≡ false → asks_for (with_splits_file files text) doc.Limits ≡ false → case_of (with_splits_file files text) ≡ Ok split
+    → length text ≤ longest_file → asks_for (with_splits_file files text) doc.Signals ≡ false → asks_for (with_splits_file files text) doc.Limits ≡ false → case_of (with_splits_file files text) ≡ Ok split
 whole_case files text roads split said read valid short unsignalled unlimited =
     let a = went_well (road_texts_of files) roads_in roads said in
     let texts : RoadTexts = a.0 in
@@ -78,6 +79,6 @@ whole_case files text roads split said read valid short unsignalled unlimited =
 
 -- the same, where the folder tells its files
 pub whole_case_told : (told : Option Files) (text : List ℕ) (roads split : ScenarioData) → IfSome told (λ files. unsplit_case_of files ≡ Ok roads) → with_file table.Splits roads text ≡ Ok split → whole split ≡ Ok split
-    → length text ≤ 16777216 → IfSome told (λ files. asks_for (with_splits_file files text) doc.Signals ≡ false → asks_for (with_splits_file files text) doc.Limits ≡ false → case_of (with_splits_file files text) ≡ Ok split)
+    → length text ≤ longest_file → IfSome told (λ files. asks_for (with_splits_file files text) doc.Signals ≡ false → asks_for (with_splits_file files text) doc.Limits ≡ false → case_of (with_splits_file files text) ≡ Ok split)
 whole_case_told None text roads split said read valid short = tt
 whole_case_told (Some files) text roads split said read valid short = λ unsignalled unlimited. whole_case files text roads split said read valid short unsignalled unlimited

@@ -8,13 +8,12 @@ ghost use Rattle.ltm_casefile.specs.Case.{whole};
 ghost use Rattle.ltm_casefile.specs.Faults.{Says, HasRisen, WasAsked};
 ghost use Rattle.ltm_casefile.specs.Roads.{is_of_roads};
 ghost use Rattle.ltm_routes.specs.Split.{AreAllRoutes, route_splits, with_splits, KeepsRest};
-ghost use Rattle.ltm_routes_command.specs.Routing.{routed, RoutesAnswer, AnswersRoutes, SaysOfRoutes, AnswersFault};
+ghost use Rattle.ltm_routes_command.specs.Routing.{routed, is_readable, RoutesAnswer, AnswersRoutes, SaysOfRoutes, AnswersFault};
 ghost use Rattle.ltm_routes_command.specs.File.{IsSplitsOf, IsTimesOf, IsSplitsFile, IsTimesFile};
-ghost use Rattle.ltm_units.specs.Bounds.{most_split_rows};
 
 use crate::lines::RouteLines;
 use crate::texts::routes_text;
-use ltm_casefile::{CaseCause, CaseFault, File, check_case, read_roads};
+use ltm_casefile::{CaseCause, CaseFault, File, LONGEST_FILE, check_case, read_roads};
 use ltm_io::Folder;
 use ltm_network::{links_at_their_places, names_are_found};
 use ltm_routes::{Routes, RoutesFault, all_routes, set_all};
@@ -28,7 +27,6 @@ fn split_roads(alloc: Global, roads: Scenario, all: &[Routes]) -> Result<Scenari
     requires routes { AreAllRoutes roads all.now }
     ensures ok { IfOk result (λ split. routed roads all.now ≡ Ok split) }
     ensures set { IfOk result (λ split. with_splits roads (route_splits roads all.now) ≡ Ok split) }
-    ensures few { OnOk result (length (route_splits roads all.now) ≤ most_split_rows) }
     ensures rest { IfOk result (KeepsRest roads) }
     ensures valid { IfOk result IsValid }
     ensures whole { IfOk result (λ split. whole split ≡ Ok split) }
@@ -55,7 +53,7 @@ fn split_roads(alloc: Global, roads: Scenario, all: &[Routes]) -> Result<Scenari
 fn text_over(alloc: Global, lines: RouteLines, roads: Scenario) -> Result<Vec<u8>, CaseFault>
     requires { roads.splits ≡ [] }
     ensures text { IfOk result (λ text. RoutesAnswer lines (Ok roads) (Ok text.items)) }
-    ensures fault { IfErr result (SaysOfRoutes roads) }
+    ensures fault { IfErr result (SaysOfRoutes lines roads) }
     ensures scenario { OnOk result (IsScenario roads) }
     ensures splits { lines ≡ RouteLines.Splits
         → IfOk result (λ text. (split : ScenarioData) × IsSplitsOf roads split text.items) }
@@ -70,15 +68,28 @@ fn text_over(alloc: Global, lines: RouteLines, roads: Scenario) -> Result<Vec<u8
         Err(fault) => return Err(fault),
     };
     let text = routes_text(alloc, lines, &split, &all)?;
+    if !is_readable(lines, &text) {
+        return Err(CaseFault::TooLong(File::Splits));
+    }
     Ok(text)
+}
+
+/// Whether the lines are no file of a case, or one that can be read.
+fn is_readable(lines: RouteLines, text: &[u8]) -> bool
+    ensures { result ≡ is_readable lines text.now }
+{
+    match lines {
+        RouteLines::Splits => text.len() as u64 <= LONGEST_FILE,
+        RouteLines::Times => true,
+    }
 }
 
 /// The lines of least free-flow routes over what the setup, the links and the demand of a folder say: for each node and
 /// destination with a route, in order of destination, then of node, the record of its split row or the time of its routes.
 ///
-/// The first fault is told: of the three files as `read_roads` has it; then more than 50,000 route splits; then the first
-/// rule of a valid case that is broken once they are set, with row 0 of the whole case. The setup may ask for signals
-/// and for entry limits; neither is fetched.
+/// The first fault is told: of the three files as `read_roads` has it; then more route splits than the setup allows; then the
+/// first rule of a valid case that is broken once they are set, with row 0 of the whole case; then splits that are too long to
+/// be read. The setup may ask for signals and for entry limits; neither is fetched.
 pub fn route_text<F: Folder>(
     alloc: Global,
     lines: RouteLines,

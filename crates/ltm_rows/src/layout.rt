@@ -30,7 +30,7 @@ pub enum Part {
 pub struct Layout {
     starts: Vec<usize>,
     ghost some: { 0 < length starts.items },
-    ghost few: { slice_index starts.items (length starts.items - 1) ≤ 9296000 },
+    ghost few: { slice_index starts.items (length starts.items - 1) ≤ widest_slot },
     ghost rising: { (u w : ℕ) → u ≤ w → w < length starts.items → slice_index starts.items u ≤ slice_index starts.items w },
 }
 

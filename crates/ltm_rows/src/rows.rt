@@ -27,7 +27,7 @@ pub struct KeptRows {
     wide: Layout,
     weights: Vec<u32>,
     there: Marks,
-    ghost few: { room ≤ 10000 },
+    ghost few: { room ≤ most_slots },
     ghost within: { slots ≤ room },
     ghost amounts_long: { room * slot_width narrow ≤ length amounts.items },
     ghost weights_long: { room * slot_width wide ≤ length weights.items },

@@ -45,13 +45,14 @@ place_of_other ds node other apart =
 node_stays : (ds : List ℕ) (node k : ℕ) → k < length ds → slice_index (ds ++ node ∷ []) k ≡ slice_index ds k
 node_stays ds node k h = get_or_append_left ds (node ∷ []) 0 k h
 
-pushed_is_scenario : (s : ScenarioData) (node : ℕ) → IsScenario s → node < length s.network.nodes → destination_of s.destinations node ≡ None → length s.destinations < 64 → IsScenario (record s { destinations = s.destinations ++ node ∷ [] })
+pushed_is_scenario : (s : ScenarioData) (node : ℕ) → IsScenario s → node < length s.network.nodes → destination_of s.destinations node ≡ None → length s.destinations < s.setup.most_destinations → IsScenario (record s { destinations = s.destinations ++ node ∷ [] })
 pushed_is_scenario s node is there none few =
     let ds : List ℕ = s.destinations ++ node ∷ [] in
     let long : length ds ≡ length s.destinations + 1 = length-append s.destinations (node ∷ []) in
     record {
       setup = is.setup;
       network = is.network;
+      most_links = is.most_links;
       diagram_for_each = is.diagram_for_each;
       limits = is.limits;
       entry = is.entry;
@@ -88,16 +89,16 @@ pushed_is_scenario s node is there none few =
           };
     }
 
-pub added_is_scenario : (s : ScenarioData) (node : ℕ) (next : List ℕ) → IsScenario s → node < length s.network.nodes → with_destination_at s.destinations node (destination_of s.destinations node) ≡ Ok next → IsScenario (record s { destinations = next })
+pub added_is_scenario : (s : ScenarioData) (node : ℕ) (next : List ℕ) → IsScenario s → node < length s.network.nodes → with_destination_at s.setup.most_destinations s.destinations node (destination_of s.destinations node) ≡ Ok next → IsScenario (record s { destinations = next })
 added_is_scenario s node next is there done =
-    elim (destination_of s.destinations node) as (λ r. destination_of s.destinations node ≡ r → with_destination_at s.destinations node r ≡ Ok next → IsScenario (record s { destinations = next })) [
+    elim (destination_of s.destinations node) as (λ r. destination_of s.destinations node ≡ r → with_destination_at s.setup.most_destinations s.destinations node r ≡ Ok next → IsScenario (record s { destinations = next })) [
       | Some place ↦ λ _ e. let same : s.destinations ≡ next = cc in subst (λ ds. IsScenario (record s { destinations = ds })) same is
       | None ↦ λ none e.
-          elim (nat_le 64 (length s.destinations)) as (λ b. nat_le 64 (length s.destinations) ≡ b → cond b (Err TooMany) (Ok (s.destinations ++ node ∷ [])) ≡ Ok next → IsScenario (record s { destinations = next })) [
+          elim (nat_le s.setup.most_destinations (length s.destinations)) as (λ b. nat_le s.setup.most_destinations (length s.destinations) ≡ b → cond b (Err TooMany) (Ok (s.destinations ++ node ∷ [])) ≡ Ok next → IsScenario (record s { destinations = next })) [
             | true ↦ λ _ e. cc
             | false ↦ λ few e.
                 let same : s.destinations ++ node ∷ [] ≡ next = cc in
-                let less : length s.destinations < 64 = grind (arith, nat_tests) in
+                let less : length s.destinations < s.setup.most_destinations = grind (arith, nat_tests) in
                 subst (λ ds. IsScenario (record s { destinations = ds })) same (pushed_is_scenario s node is there none less)
           ] refl e
     ] refl done

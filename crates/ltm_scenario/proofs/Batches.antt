@@ -5,12 +5,15 @@ use Rattle.ltm_scenario.specs.declared.edit.EditCause.{EditCause}
 use Rattle.ltm_scenario.specs.declared.setup.Setup.{Setup}
 use Rattle.ltm_scenario.specs.declared.side.Side.TheVariants.{Entry, Exit}
 use Rattle.ltm_scenario.specs.Data.{ScenarioData}
+use Rattle.ltm_scenario.specs.Horizon.{setup_over}
 use Rattle.ltm_scenario.specs.Shape.{SameShape}
 use Rattle.ltm_scenario.specs.Valid.{IsValid}
 use Rattle.ltm_scenario.specs.Build.{with_limit_at}
-use Rattle.ltm_scenario.specs.Edits.{weights_at, with_diagram, edited, edited_from, at_place, slots_after, horizon_after}
-use Rattle.ltm_scenario.specs.Makes.{Makes, demand, entry, split, diagram, exit, horizon}
+use Rattle.ltm_scenario.specs.Edits.{weights_at, entries_said, with_diagram, edited, edited_from, at_place, slots_after, horizon_after}
+use Rattle.ltm_scenario.specs.Makes.{Makes, demand, entry, split, splits, diagram, exit, horizon}
 use Rattle.ltm_scenario.proofs.Keeps.{split_kept, demand_kept, entry_kept, exit_kept, diagrams_kept, horizon_kept}
+use Rattle.ltm_scenario.proofs.Pairs.{pair_kept}
+use Rattle.ltm_scenario.proofs.RowsSaid.{said_first, said_closed}
 use Rattle.ltm_scenario.proofs.Making.{bound, makes}
 
 Keeps : ScenarioData → ScenarioData → Type 0
@@ -20,17 +23,15 @@ Keeps old new = SameShape old new × (IsValid old → IsValid new)
 alike : (s next : ScenarioData) → next.setup ≡ s.setup → next.network ≡ s.network → next.destinations ≡ s.destinations → SameShape s next
 alike s next setup network destinations =
     let slots : next.setup.slots ≡ s.setup.slots = ap (λ (z : Setup). z.slots) setup in
-    record { step = ap (λ (z : Setup). z.step) setup; slots = omega (arith, slots); origin_capacity = ap (λ (z : Setup). z.origin_capacity) setup; most_cells = ap (λ (z : Setup). z.most_cells) setup; network = network; destinations = destinations }
+    record { setup = setup ∙ ap (setup_over s.setup) (sym slots); slots = omega (arith, slots); network = network; destinations = destinations }
 
 pub shape_stays : (s : ScenarioData) → SameShape s s
 shape_stays s = alike s s refl refl refl
 
 shape_through : (a b c : ScenarioData) → SameShape a b → SameShape b c → SameShape a c
 shape_through a b c p q = record {
-  step = q.step ∙ p.step;
+  setup = q.setup ∙ ap (λ (z : Setup). setup_over z c.setup.slots) p.setup;
   slots = omega (arith, p.slots, q.slots);
-  origin_capacity = q.origin_capacity ∙ p.origin_capacity;
-  most_cells = q.most_cells ∙ p.most_cells;
   network = q.network ∙ p.network;
   destinations = q.destinations ∙ p.destinations;
 }
@@ -44,12 +45,14 @@ kept_by_edit s next edit (entry name from to amount link said) =
     (alike s next refl refl refl, λ valid. entry_kept s (with_limit_at s Entry link from to amount.0).entry valid)
 kept_by_edit s next edit (split node destination from weights key said) =
     (alike s next refl refl refl, λ valid. split_kept s key (weights_at s key.node.0 weights) valid said.closed)
+kept_by_edit s next edit (splits node destination rows n d said) =
+    (alike s next refl refl refl, λ valid. pair_kept n d (entries_said s n rows) s valid (said_first s n rows said.first) (said_closed s n d rows said.closed))
 kept_by_edit s next edit (diagram name new link named sets) =
     (alike s next refl refl refl, λ valid. diagrams_kept s (with_diagram s link new).diagrams valid)
 kept_by_edit s next edit (exit name from to amount link said) =
     (alike s next refl refl refl, λ valid. exit_kept s (with_limit_at s Exit link from to amount.0).exit valid)
 kept_by_edit s next edit (horizon slots said) =
-    (record { step = refl; slots = omega (arith, said.longer); origin_capacity = refl; most_cells = refl; network = refl; destinations = refl }, λ valid. horizon_kept s slots valid said.small)
+    (record { setup = refl; slots = omega (arith, said.longer); network = refl; destinations = refl }, λ valid. horizon_kept s slots valid said.small)
 
 -- ---- a batch
 pub placed : {A : Type 0} (place : ℕ) (r : Result A EditCause) (x : A) → at_place place r ≡ Ok x → r ≡ Ok x
@@ -80,6 +83,7 @@ edit_sets_horizon : (s next : ScenarioData) (edit : Edit) → Makes s next edit 
 edit_sets_horizon s next edit (demand origin destination from to amount row said) = refl
 edit_sets_horizon s next edit (entry name from to amount link said) = refl
 edit_sets_horizon s next edit (split node destination from weights key said) = refl
+edit_sets_horizon s next edit (splits node destination rows n d said) = refl
 edit_sets_horizon s next edit (diagram name new link named sets) = refl
 edit_sets_horizon s next edit (exit name from to amount link said) = refl
 edit_sets_horizon s next edit (horizon slots said) = refl

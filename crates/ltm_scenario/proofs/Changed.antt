@@ -25,13 +25,13 @@ use Rattle.ltm_scenario.proofs.Added.{added_is_scenario}
 use Rattle.ltm_scenario.proofs.Linked.{linked_is_scenario}
 
 demand_there : (t : Parts) → AreParts t → t.demand.demand ≡ demand_of (scenario_in t)
-demand_there t are = let P : ℕ → DemandData = λ n. record { slots = n; rows = t.demand.demand.rows } in ap P are.demand_slots
+demand_there t are = λ i. record { slots = are.demand_slots i; most_rows = are.demand_most i; rows = t.demand.demand.rows }
 
-splits_there : (t : Parts) → AreParts t → t.splits ≡ splits_of (scenario_in t)
-splits_there t are = let P : ℕ → SplitsData = λ n. record { slots = n; rows = t.splits.rows } in ap P are.splits_slots
+pub splits_there : (t : Parts) → AreParts t → t.splits ≡ splits_of (scenario_in t)
+splits_there t are = λ i. record { slots = are.splits_slots i; most_rows = are.splits_most i; rows = t.splits.rows }
 
 -- the demand with a row, and the same demand with other room
-pub with_demand_row : (t : Parts) (next : DemandState) (row : DemandRow) → AreParts t → IsDemandOf (scenario_in t) row → demand.with_row t.demand.demand row ≡ Ok next.demand → AreDemandRows next.demand.slots next.demand.rows → AreParts (record t { demand = next })
+pub with_demand_row : (t : Parts) (next : DemandState) (row : DemandRow) → AreParts t → IsDemandOf (scenario_in t) row → demand.with_row t.demand.demand row ≡ Ok next.demand → AreDemandRows next.demand.slots next.demand.most_rows next.demand.rows → AreParts (record t { demand = next })
 with_demand_row t next row are is done kept =
     let there : demand.with_row (demand_of (scenario_in t)) row ≡ Ok next.demand = ap (λ d. demand.with_row d row) (sym (demand_there t are)) ∙ done in
     record {
@@ -41,6 +41,8 @@ with_demand_row t next row are is done kept =
       splits_slots = are.splits_slots;
       entry_slots = are.entry_slots;
       exit_slots = are.exit_slots;
+      demand_most = ap (λ (d : DemandData). d.most_rows) (with_row_rows (demand_of (scenario_in t)) next.demand row there);
+      splits_most = are.splits_most;
     }
 
 pub with_same_demand : (t : Parts) (next : DemandState) → AreParts t → next.demand ≡ t.demand.demand → AreParts (record t { demand = next })
@@ -51,6 +53,8 @@ with_same_demand t next are same = record {
   splits_slots = are.splits_slots;
   entry_slots = are.entry_slots;
   exit_slots = are.exit_slots;
+  demand_most = ap (λ (d : DemandData). d.most_rows) same ∙ are.demand_most;
+  splits_most = are.splits_most;
 }
 
 pub with_split_row : (t : Parts) (next : SplitsData) (key : SplitKey) (weights : List ℕ) → AreParts t → IsSplitOf (scenario_in t) (key, weights) → splits.with_row t.splits key weights ≡ Ok next → HaveWeights next.rows → AreParts (record t { splits = next })
@@ -63,12 +67,14 @@ with_split_row t next key weights are is done have =
       splits_slots = ap (λ (d : SplitsData). d.slots) (with_split_row_rows (splits_of (scenario_in t)) next key weights there);
       entry_slots = are.entry_slots;
       exit_slots = are.exit_slots;
+      demand_most = are.demand_most;
+      splits_most = ap (λ (d : SplitsData). d.most_rows) (with_split_row_rows (splits_of (scenario_in t)) next key weights there);
     }
 
 pub with_same_splits : (t : Parts) (next : SplitsData) → AreParts t → next ≡ t.splits → AreParts (record t { splits = next })
 with_same_splits t next are same = subst (λ (s : SplitsData). AreParts (record t { splits = s })) (sym same) are
 
-pub with_added : (t : Parts) (node : ℕ) (next : List ℕ) → AreParts t → node < Rattle.std.proofs.Common.length t.network.nodes → with_destination_at t.destinations node (destination_of t.destinations node) ≡ Ok next → AreParts (record t { destinations = next })
+pub with_added : (t : Parts) (node : ℕ) (next : List ℕ) → AreParts t → node < Rattle.std.proofs.Common.length t.network.nodes → with_destination_at t.setup.most_destinations t.destinations node (destination_of t.destinations node) ≡ Ok next → AreParts (record t { destinations = next })
 with_added t node next are there done = record {
   scenario = added_is_scenario (scenario_in t) node next are.scenario there done;
   step = are.step;
@@ -76,6 +82,8 @@ with_added t node next are there done = record {
   splits_slots = are.splits_slots;
   entry_slots = are.entry_slots;
   exit_slots = are.exit_slots;
+  demand_most = are.demand_most;
+  splits_most = are.splits_most;
 }
 
 pub with_same_destinations : (t : Parts) (next : List ℕ) → AreParts t → next ≡ t.destinations → AreParts (record t { destinations = next })
@@ -102,5 +110,7 @@ with_linked t name tail head diagram network diagrams entry exit stay are taken 
         splits_slots = are.splits_slots;
         entry_slots = entry_slots ∙ are.entry_slots;
         exit_slots = exit_slots ∙ are.exit_slots;
+        demand_most = are.demand_most;
+        splits_most = are.splits_most;
       },
     )

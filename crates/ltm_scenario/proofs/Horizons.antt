@@ -7,7 +7,10 @@ use Rattle.ltm_demand.specs.Rows.{DemandData, DemandState, IsDemandRow, IsNoLess
 use Rattle.ltm_demand.specs.Kept.{AreDemandRows}
 use Rattle.ltm_splits.specs.Rows as splits
 use Rattle.ltm_splits.specs.Rows.{SplitsData}
+use Rattle.ltm_units.specs.Bounds.{most_slots}
 use Rattle.ltm_scenario.specs.declared.parts.Parts.{Parts}
+use Rattle.ltm_scenario.specs.declared.setup.Setup.{Setup}
+use Rattle.ltm_scenario.specs.Setup.{IsSetup}
 use Rattle.ltm_scenario.specs.declared.parts.undo.Undo.TheVariants.{Horizon}
 use Rattle.ltm_scenario.specs.Data.{ScenarioData}
 use Rattle.ltm_scenario.specs.Cells.{widths, cells, cells_with}
@@ -24,17 +27,39 @@ unfolding cells cells_with widths
 longer_cells s slots = refl
 
 -- rows within a horizon are within a longer one
-rows_within : (slots more : ℕ) (rows : List DemandRow) → slots ≤ more → AreDemandRows slots rows → AreDemandRows more rows
-rows_within slots more rows longer are = record {
+rows_within : (slots more most : ℕ) (rows : List DemandRow) → slots ≤ more → AreDemandRows slots most rows → AreDemandRows more most rows
+rows_within slots more most rows longer are = record {
   ordered = are.ordered;
   each = λ k d below. let r = are.each k d below in record { some_slots = r.some_slots; within = omega (arith, r.within, longer); some_units = r.some_units; small = r.small };
   few = are.few;
+  bounded = are.bounded;
 }
 
-pub longer_is_scenario : (s : ScenarioData) (slots : ℕ) → IsScenario s → s.setup.slots ≤ slots → slots ≤ 10000 → IsScenario (with_slots s slots)
+setup_longer : (setup : Setup) (slots : ℕ) → IsSetup setup → setup.slots ≤ slots → slots ≤ most_slots → IsSetup (setup_over setup slots)
+setup_longer setup slots is longer most = record {
+  step_least = is.step_least;
+  step_most = is.step_most;
+  slots_least = omega (arith, is.slots_least, longer);
+  slots_most = most;
+  capacity_least = is.capacity_least;
+  capacity_most = is.capacity_most;
+  cells_least = is.cells_least;
+  cells_most = is.cells_most;
+  demand_rows_least = is.demand_rows_least;
+  demand_rows_most = is.demand_rows_most;
+  split_rows_least = is.split_rows_least;
+  split_rows_most = is.split_rows_most;
+  links_least = is.links_least;
+  links_most = is.links_most;
+  destinations_least = is.destinations_least;
+  destinations_most = is.destinations_most;
+}
+
+pub longer_is_scenario : (s : ScenarioData) (slots : ℕ) → IsScenario s → s.setup.slots ≤ slots → slots ≤ most_slots → IsScenario (with_slots s slots)
 longer_is_scenario s slots is longer most = record {
-  setup = record { step_least = is.setup.step_least; step_most = is.setup.step_most; slots_least = omega (arith, is.setup.slots_least, longer); slots_most = most; capacity_least = is.setup.capacity_least; capacity_most = is.setup.capacity_most; cells_least = is.setup.cells_least; cells_most = is.setup.cells_most };
+  setup = setup_longer s.setup slots is.setup longer most;
   network = is.network;
+  most_links = is.most_links;
   diagram_for_each = is.diagram_for_each;
   limits = is.limits;
   entry = limits_whole.longer s.entry _ s.setup.slots slots longer is.entry;
@@ -43,20 +68,20 @@ longer_is_scenario s slots is longer most = record {
   destinations_are_nodes = is.destinations_are_nodes;
   destinations_apart = is.destinations_apart;
   demand = λ k d below. let r = is.demand k d below in record { origin_is_node = r.origin_is_node; origin_has_out_link = r.origin_has_out_link; destination_is_one = r.destination_is_one; ends_differ = r.ends_differ };
-  demand_rows = rows_within s.setup.slots slots s.demand longer is.demand_rows;
+  demand_rows = rows_within s.setup.slots slots s.setup.most_demand_rows s.demand longer is.demand_rows;
   splits = λ k d below. let r = is.splits k d below in record { node_is_node = r.node_is_node; destination_is_one = r.destination_is_one; ends_differ = r.ends_differ; weight_for_each = r.weight_for_each };
   weights = is.weights;
 }
 
 -- the demand with another horizon
 abbrev demand_over : DemandState → ℕ → DemandState
-demand_over d slots = record d { demand = record { slots = slots; rows = d.demand.rows } }
+demand_over d slots = record d { demand = record d.demand { slots = slots } }
 
 -- the tables with another horizon
 abbrev parts_over : Parts → ℕ → DemandState → SplitsData → LimitsState → LimitsState → Parts
 parts_over t slots demand splits entry exit = record t { setup = setup_over t.setup slots; demand = demand; splits = splits; entry = entry; exit = exit }
 
-pub stretched_are_parts : (t : Parts) (slots : ℕ) (demand : DemandState) (rows : SplitsData) (entry exit : LimitsState) → AreParts t → t.setup.slots < slots → slots ≤ 10000 →
+pub stretched_are_parts : (t : Parts) (slots : ℕ) (demand : DemandState) (rows : SplitsData) (entry exit : LimitsState) → AreParts t → t.setup.slots < slots → slots ≤ most_slots →
     demand ≡ demand_over t.demand slots → rows ≡ splits.with_slots t.splits slots →
     entry.limits ≡ limits_over t.entry.limits slots → entry.slots ≡ slots → exit.limits ≡ limits_over t.exit.limits slots → exit.slots ≡ slots →
     (scenario_in (parts_over t slots demand rows entry exit) ≡ with_slots (scenario_in t) slots) × AreParts (parts_over t slots demand rows entry exit)
@@ -71,6 +96,8 @@ stretched_are_parts t slots demand rows entry exit are longer most demand_is row
         splits_slots = ap (λ (d : SplitsData). d.slots) rows_are;
         entry_slots = entry_slots;
         exit_slots = exit_slots;
+        demand_most = ap (λ (d : DemandState). d.demand.most_rows) demand_is ∙ are.demand_most;
+        splits_most = ap (λ (d : SplitsData). d.most_rows) rows_are ∙ are.splits_most;
       },
     )
 
@@ -100,6 +127,8 @@ shortened_are_parts t slots demand rows entry exit are is demand_is rows_are ent
         splits_slots = ap (λ (d : SplitsData). d.slots) rows_are;
         entry_slots = entry_slots;
         exit_slots = exit_slots;
+        demand_most = ap (λ (d : DemandState). d.demand.most_rows) demand_is ∙ are.demand_most;
+        splits_most = ap (λ (d : SplitsData). d.most_rows) rows_are ∙ are.splits_most;
       },
     )
 

@@ -22,7 +22,7 @@ use Rattle.ltm_scenario.proofs.Kept.{split_exact, All-edited}
 use Rattle.ltm_scenario.proofs.Shapes.{cells_rest_on}
 
 -- ---- tests
-or_right : (a b b' : Bool) → (b ≡ true → b' ≡ true) → (a || b) ≡ true → (a || b') ≡ true
+pub or_right : (a b b' : Bool) → (b ≡ true → b' ≡ true) → (a || b) ≡ true → (a || b') ≡ true
 or_right true b b' h e = refl
 or_right false b b' h e = h e
 
@@ -43,10 +43,10 @@ and_second : (a b : Bool) → (a && b) ≡ true → b ≡ true
 and_second true b e = e
 and_second false b e = cc
 
-and_join : (a b : Bool) → a ≡ true → b ≡ true → (a && b) ≡ true
+pub and_join : (a b : Bool) → a ≡ true → b ≡ true → (a && b) ≡ true
 and_join a b e f = ap (λ x. x && b) e ∙ f
 
-not_true : (b : Bool) → not b ≡ false → b ≡ true
+pub not_true : (b : Bool) → not b ≡ false → b ≡ true
 not_true true e = refl
 not_true false e = cc
 
@@ -83,7 +83,7 @@ all_stays p k v (e ∷ es) h new =
       | Greater ↦ λ is. and_join (p e) _ (and_first (p e) _ h) (all_stays p k v es (and_second (p e) _ h) new)
     ] refl
 
-all_weaker : {A : Type 0} (p q : A → Bool) → ((x : A) → p x ≡ true → q x ≡ true) → (xs : List A) → list_all p xs ≡ true → list_all q xs ≡ true
+pub all_weaker : {A : Type 0} (p q : A → Bool) → ((x : A) → p x ≡ true → q x ≡ true) → (xs : List A) → list_all p xs ≡ true → list_all q xs ≡ true
 all_weaker p q h [] e = refl
 all_weaker p q h (x ∷ xs) e = and_both (p x) (q x) (list_all p xs) (list_all q xs) (h x) (all_weaker p q h xs) e
 
@@ -100,13 +100,13 @@ start_of_row starts n d (x ∷ xs) all has =
     ] refl has
 
 -- what the cells rest on stays, and so do they
-still_small : (s next : ScenarioData) → next.setup ≡ s.setup → next.network ≡ s.network → next.destinations ≡ s.destinations → is_small s ≡ true → is_small next ≡ true
+pub still_small : (s next : ScenarioData) → next.setup ≡ s.setup → next.network ≡ s.network → next.destinations ≡ s.destinations → is_small s ≡ true → is_small next ≡ true
 still_small s next setup network destinations small =
     ap (λ (z : Setup). nat_le (cells next) z.most_cells) setup
     ∙ ap (λ n. nat_le n (most_cells s)) (cells_rest_on s.setup s.network s.destinations next setup network destinations ∙ sym (cells_rest_on s.setup s.network s.destinations s refl refl refl)) ∙ small
 
 -- ---- one more split row
-abbrev with_rows : ScenarioData → List SplitRow → ScenarioData
+abbrev pub with_rows : ScenarioData → List SplitRow → ScenarioData
 with_rows s rows = record s { splits = rows }
 
 split_stays : (rows : List SplitRow) (key : SplitKey) (weights : List ℕ) (n d : ℕ) → has_split rows n d ≡ true → has_split (put_in rows key weights) n d ≡ true
@@ -115,13 +115,17 @@ split_stays rows key weights n d h = any_stays (λ k. (k.node.0 == n) && (k.dest
 start_stays : (rows : List SplitRow) (key : SplitKey) (weights : List ℕ) (n d : ℕ) → has_start rows n d ≡ true → has_start (put_in rows key weights) n d ≡ true
 start_stays rows key weights n d h = any_stays (λ k. ((k.node.0 == n) && (k.destination == d)) && (k.from == 0)) key weights rows h
 
-leads_stays : (s : ScenarioData) (key : SplitKey) (weights : List ℕ) (d : ℕ) (p : ℕ × ℕ) → leads_on s d p.0 p.1 ≡ true → leads_on (with_rows s (put_in s.splits key weights)) d p.0 p.1 ≡ true
-leads_stays s key weights d p e =
-    or_right (p.1 == 0) _ _ (or_right (head_of s.network p.0 == destination_node s d) _ _ (split_stays s.splits key weights (head_of s.network p.0) d)) e
+-- weights lead on where each pair that had a row still has one
+leads_more : (s : ScenarioData) (rows : List SplitRow) → ((n d : ℕ) → has_split s.splits n d ≡ true → has_split rows n d ≡ true) → (d : ℕ) (p : ℕ × ℕ) → leads_on s d p.0 p.1 ≡ true → leads_on (with_rows s rows) d p.0 p.1 ≡ true
+leads_more s rows stays d p e =
+    or_right (p.1 == 0) _ _ (or_right (head_of s.network p.0 == destination_node s d) _ _ (stays (head_of s.network p.0) d)) e
+
+pub all_lead_more : (s : ScenarioData) (rows : List SplitRow) → ((n d : ℕ) → has_split s.splits n d ≡ true → has_split rows n d ≡ true) → (n d : ℕ) (ws : List ℕ) → all_lead_on s n d ws ≡ true → all_lead_on (with_rows s rows) n d ws ≡ true
+all_lead_more s rows stays n d ws e =
+    all_weaker (λ p. leads_on s d p.0 p.1) (λ p. leads_on (with_rows s rows) d p.0 p.1) (leads_more s rows stays d) (zip (out_links s.network n) ws) e
 
 all_lead_stays : (s : ScenarioData) (key : SplitKey) (weights : List ℕ) (n d : ℕ) (ws : List ℕ) → all_lead_on s n d ws ≡ true → all_lead_on (with_rows s (put_in s.splits key weights)) n d ws ≡ true
-all_lead_stays s key weights n d ws e =
-    all_weaker (λ p. leads_on s d p.0 p.1) (λ p. leads_on (with_rows s (put_in s.splits key weights)) d p.0 p.1) (leads_stays s key weights d) (zip (out_links s.network n) ws) e
+all_lead_stays s key weights n d ws e = all_lead_more s (put_in s.splits key weights) (split_stays s.splits key weights) n d ws e
 
 new_start : (s : ScenarioData) (key : SplitKey) (weights : List ℕ) → list_all (is_split_begun s) s.splits ≡ true → (not (key.from == 0) && not (has_split s.splits key.node.0 key.destination)) ≡ false → has_start (put_in s.splits key weights) key.node.0 key.destination ≡ true
 new_start s key weights begun closed =

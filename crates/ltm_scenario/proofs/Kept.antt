@@ -28,21 +28,22 @@ All-edited P rows row all here =
     (All-filter (λ r. is_gt (row_cmp r row)) P rows all))
 
 -- the data once a row is set
-pub with_row_rows : (d next : DemandData) (row : DemandRow) → demand.with_row d row ≡ Ok next → next ≡ record { slots = d.slots; rows = edited_rows d.rows row }
+pub with_row_rows : (d next : DemandData) (row : DemandRow) → demand.with_row d row ≡ Ok next → next ≡ record d { rows = edited_rows d.rows row }
 unfolding demand.with_row
 with_row_rows d next row is =
-    elim (not (has_slots d.slots row)) as (λ b. cond b (Err BadSlots) (cond (nat_lt 10000 (length (edited_rows d.rows row))) (Err TooManyRows) (Ok (record { slots = d.slots; rows = edited_rows d.rows row }))) ≡ Ok next → next ≡ record { slots = d.slots; rows = edited_rows d.rows row }) [
+    elim (not (has_slots d.slots row)) as (λ b. cond b (Err BadSlots) (cond (nat_lt d.most_rows (length (edited_rows d.rows row))) (Err TooManyRows) (Ok (record d { rows = edited_rows d.rows row }))) ≡ Ok next → next ≡ record d { rows = edited_rows d.rows row }) [
       | true ↦ λ e. cc
-      | false ↦ λ e. elim (nat_lt 10000 (length (edited_rows d.rows row))) as (λ b. cond b (Err TooManyRows) (Ok (record { slots = d.slots; rows = edited_rows d.rows row })) ≡ Ok next → next ≡ record { slots = d.slots; rows = edited_rows d.rows row }) [
+      | false ↦ λ e. elim (nat_lt d.most_rows (length (edited_rows d.rows row))) as (λ b. cond b (Err TooManyRows) (Ok (record d { rows = edited_rows d.rows row })) ≡ Ok next → next ≡ record d { rows = edited_rows d.rows row }) [
         | true ↦ λ e. cc
         | false ↦ λ e. cc
       ] e
     ] is
 
-with_demand_rows : (s : ScenarioData) (rows : List DemandRow) → IsScenario s → All (IsDemandOf s) rows → AreDemandRows s.setup.slots rows → IsScenario (record s { demand = rows })
+with_demand_rows : (s : ScenarioData) (rows : List DemandRow) → IsScenario s → All (IsDemandOf s) rows → AreDemandRows s.setup.slots s.setup.most_demand_rows rows → IsScenario (record s { demand = rows })
 with_demand_rows s rows is all kept = record {
   setup = is.setup;
   network = is.network;
+  most_links = is.most_links;
   diagram_for_each = is.diagram_for_each;
   limits = is.limits;
   entry = is.entry;
@@ -56,10 +57,10 @@ with_demand_rows s rows is all kept = record {
   weights = is.weights;
 }
 
-pub demand_is_scenario : (s : ScenarioData) (row : DemandRow) (next : DemandData) → IsScenario s → IsDemandOf s row → demand.with_row (demand_of s) row ≡ Ok next → AreDemandRows next.slots next.rows → IsScenario (record s { demand = next.rows })
+pub demand_is_scenario : (s : ScenarioData) (row : DemandRow) (next : DemandData) → IsScenario s → IsDemandOf s row → demand.with_row (demand_of s) row ≡ Ok next → AreDemandRows next.slots next.most_rows next.rows → IsScenario (record s { demand = next.rows })
 demand_is_scenario s row next is here done kept =
-    let rows : next ≡ record { slots = s.setup.slots; rows = edited_rows s.demand row } = with_row_rows (demand_of s) next row done in
-    subst (λ (rs : List DemandRow). IsScenario (record s { demand = rs })) (sym (ap (λ (d : DemandData). d.rows) rows)) (with_demand_rows s (edited_rows s.demand row) is (All-edited (IsDemandOf s) s.demand row is.demand here) (subst (λ (d : DemandData). AreDemandRows d.slots d.rows) rows kept))
+    let rows : next ≡ record (demand_of s) { rows = edited_rows s.demand row } = with_row_rows (demand_of s) next row done in
+    subst (λ (rs : List DemandRow). IsScenario (record s { demand = rs })) (sym (ap (λ (d : DemandData). d.rows) rows)) (with_demand_rows s (edited_rows s.demand row) is (All-edited (IsDemandOf s) s.demand row is.demand here) (subst (λ (d : DemandData). AreDemandRows d.slots d.most_rows d.rows) rows kept))
 
 -- ---- splits
 both_equal : (a b : Ordering) → ordering_then a b ≡ Equal → (a ≡ Equal) × (b ≡ Equal)
@@ -85,10 +86,11 @@ All-put_in P (e ∷ es) key weights all here =
       | Greater ↦ λ _. All-cons P e (insert_entry split_cmp es key weights) (All-head P e es all) (All-put_in P es key weights (All-tail P e es all) here)
     ] refl
 
-with_split_rows : (s : ScenarioData) (rows : List SplitRow) → IsScenario s → All (IsSplitOf s) rows → HaveWeights rows → IsScenario (record s { splits = rows })
+pub with_split_rows : (s : ScenarioData) (rows : List SplitRow) → IsScenario s → All (IsSplitOf s) rows → HaveWeights rows → IsScenario (record s { splits = rows })
 with_split_rows s rows is all weights = record {
   setup = is.setup;
   network = is.network;
+  most_links = is.most_links;
   diagram_for_each = is.diagram_for_each;
   limits = is.limits;
   entry = is.entry;
@@ -105,11 +107,11 @@ with_split_rows s rows is all weights = record {
 -- the data once a split row is set
 pub with_split_row_rows : (d next : SplitsData) (key : SplitKey) (weights : List ℕ) → splits.with_row d key weights ≡ Ok next → next ≡ splits.with_rows d (put_in d.rows key weights)
 with_split_row_rows d next key weights is =
-    elim (nat_le d.slots key.from) as (λ b. cond b (Err SplitSlots) (cond (sum weights == 0) (Err ZeroWeight) (cond (is_over d.rows key) (Err SplitRows) (Ok (splits.with_rows d (put_in d.rows key weights))))) ≡ Ok next → next ≡ splits.with_rows d (put_in d.rows key weights)) [
+    elim (nat_le d.slots key.from) as (λ b. cond b (Err SplitSlots) (cond (sum weights == 0) (Err ZeroWeight) (cond (is_over d key) (Err SplitRows) (Ok (splits.with_rows d (put_in d.rows key weights))))) ≡ Ok next → next ≡ splits.with_rows d (put_in d.rows key weights)) [
       | true ↦ λ e. cc
-      | false ↦ λ e. elim (sum weights == 0) as (λ b. cond b (Err ZeroWeight) (cond (is_over d.rows key) (Err SplitRows) (Ok (splits.with_rows d (put_in d.rows key weights)))) ≡ Ok next → next ≡ splits.with_rows d (put_in d.rows key weights)) [
+      | false ↦ λ e. elim (sum weights == 0) as (λ b. cond b (Err ZeroWeight) (cond (is_over d key) (Err SplitRows) (Ok (splits.with_rows d (put_in d.rows key weights)))) ≡ Ok next → next ≡ splits.with_rows d (put_in d.rows key weights)) [
         | true ↦ λ e. cc
-        | false ↦ λ e. elim (is_over d.rows key) as (λ b. cond b (Err SplitRows) (Ok (splits.with_rows d (put_in d.rows key weights))) ≡ Ok next → next ≡ splits.with_rows d (put_in d.rows key weights)) [
+        | false ↦ λ e. elim (is_over d key) as (λ b. cond b (Err SplitRows) (Ok (splits.with_rows d (put_in d.rows key weights))) ≡ Ok next → next ≡ splits.with_rows d (put_in d.rows key weights)) [
           | true ↦ λ e. cc
           | false ↦ λ e. cc
         ] e

@@ -7,6 +7,7 @@ pub mod Empty
 pub mod Found
 pub mod Horizons
 pub mod Keeps
+pub mod Pairs
 pub mod Kept
 pub mod Linked
 pub mod Making
@@ -14,6 +15,7 @@ pub mod Places
 pub mod Ranges
 pub mod Reaching
 pub mod Rooms
+pub mod RowsSaid
 pub mod Shapes
 pub mod Undoing
 pub mod Validity

@@ -102,6 +102,7 @@ linked_is_scenario s name tail head diagram stay is taken free sets =
     record {
       setup = is.setup;
       network = stay.more s.network next name tail head is.network (network_linked s.network name tail head taken);
+      most_links = is.most_links;
       diagram_for_each = length-append s.diagrams (diagram ∷ []) ∙ ap (λ n. n + 1) is.diagram_for_each ∙ sym (length-append s.network.links _);
       limits = All-push (λ d. IsOk (limits_of d s.setup.step.0)) s.diagrams diagram is.limits sets;
       entry = subst (λ n. AreWhole (with_limits_of_link s.entry s.setup.slots) n s.setup.slots) (sym (length-append s.network.links _)) (limits_whole.more s.entry (length s.network.links) s.setup.slots is.entry);
@@ -116,14 +117,14 @@ linked_is_scenario s name tail head diagram stay is taken free sets =
     }
 
 -- ---- a link that is taken finds room
-few_links : (n : ℕ) → nat_le 4000 n ≡ false → n < 4000
-few_links n few = grind (arith, nat_tests)
+few_links : (most n : ℕ) → nat_le most n ≡ false → n < most
+few_links most n few = grind (arith, nat_tests)
 
-pub room_for_link : (d : NetworkData) (name tail head : List ℕ) → checked d name tail head ≡ Ok tt → length d.links < 4000
+pub room_for_link : (d : NetworkData) (name tail head : List ℕ) → checked d name tail head ≡ Ok tt → length d.links < d.most_links
 unfolding checked
 room_for_link d name tail head is =
-    let few : nat_le 4000 (length d.links) ≡ false = not_refused _ TooManyLinks (both_ok _ _ tt (both_ok _ _ tt (both_ok _ _ tt is).1).1).0 in
-    few_links (length d.links) few
+    let few : nat_le d.most_links (length d.links) ≡ false = not_refused _ TooManyLinks (both_ok _ _ tt (both_ok _ _ tt (both_ok _ _ tt is).1).1).0 in
+    few_links d.most_links (length d.links) few
 
 pub is_network_linked : (d next : NetworkData) (name tail head : List ℕ) → checked d name tail head ≡ Ok tt → network.with_link d name tail head ≡ Ok next → next ≡ network.network_linked d name tail head
 is_network_linked d next name tail head taken is =

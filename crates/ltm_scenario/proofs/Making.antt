@@ -11,23 +11,28 @@ use Rattle.ltm_demand.specs.declared.row.DemandRow.{DemandRow}
 use Rattle.ltm_demand.specs.Rows as demand_rows
 use Rattle.ltm_demand.specs.Rows.{DemandData, edited_rows}
 use Rattle.ltm_splits.specs.declared.keys.SplitKey.{SplitKey}
-use Rattle.ltm_splits.specs.Rows as splits
+use Rattle.ltm_splits.specs.Rows as split_rows
+use Rattle.ltm_splits.specs.Table.{Entry}
+use Rattle.ltm_splits.specs.Replaced as of_pair
+use Rattle.ltm_splits.specs.Replaced.{replaced}
 use Rattle.ltm_splits.specs.Rows.{SplitRow, SplitsData, put_in, key_of}
-use Rattle.ltm_scenario.specs.declared.edit.Edit.TheVariants.{Demand, Limit, Split, Diagram as NewDiagram, Exit, Horizon}
+use Rattle.ltm_scenario.specs.declared.edit.Edit.TheVariants.{Demand, Limit, Split, Splits, Diagram as NewDiagram, Exit, Horizon}
 use Rattle.ltm_scenario.specs.declared.edit.EditCause.{EditCause}
 use Rattle.ltm_scenario.specs.declared.edit.EditCause.TheVariants.{UnknownName, UnknownDestination, NoOrigin, SameEnds, BadSlots, OpenSplit, ZeroWeight, Diagram as BadDiagram}
 use Rattle.ltm_scenario.specs.declared.side.Side.TheVariants.{Entry as AtEntry, Exit as AtExit}
 use Rattle.ltm_scenario.specs.Weights.{NamedWeight}
 use Rattle.ltm_scenario.specs.Data.{ScenarioData, demand_of, splits_of}
 use Rattle.ltm_scenario.specs.Reads.{destination_of, has_no_out_link, has_split}
-use Rattle.ltm_scenario.specs.Build.{with_demand, with_split, with_limit_at, are_slots, ◌>>=◌}
-use Rattle.ltm_scenario.specs.Edits.{or_edit_cause, cause_of_demand, cause_of_split, cause_of_horizon, demand_row, limited_link, split_key, split_row, weights_at, is_open, is_out_link, diagram_edited, with_diagram}
+use Rattle.ltm_scenario.specs.Build.{with_demand, with_split, with_pair, with_limit_at, are_slots, ◌>>=◌}
+use Rattle.ltm_scenario.specs.Edits.{or_edit_cause, cause_of_demand, cause_of_split, cause_of_horizon, demand_row, limited_link, named_pair, split_key, split_row, rows_checked, entries_said, weights_at, is_open, is_out_link, diagram_edited, with_diagram}
 use Rattle.ltm_scenario.specs.declared.faults.HorizonFault.{HorizonFault}
 use Rattle.ltm_scenario.specs.declared.faults.HorizonFault.TheVariants.{BadSlots as HorizonSlots, CellsOver}
 use Rattle.ltm_scenario.specs.Cells.{cells_with, most_cells}
 use Rattle.ltm_scenario.specs.Horizon.{with_slots, with_horizon, is_longer}
-use Rattle.ltm_scenario.specs.Makes.{IsRowSaid, IsLinkSaid, IsSplitSaid, IsHorizonSaid, Makes, EditsMake, demand, entry, split, diagram, exit, horizon}
+use Rattle.ltm_scenario.specs.Makes.{IsNamed, IsRowSaid, IsLinkSaid, IsSplitSaid, IsHorizonSaid, Makes, EditsMake, demand, entry, split, splits, diagram, exit, horizon}
 use Rattle.ltm_scenario.proofs.Kept.{with_row_rows, with_split_row_rows}
+use Rattle.ltm_scenario.proofs.Pairs.{with_pair_rows}
+use Rattle.ltm_scenario.proofs.RowsSaid.{are_checked}
 use Rattle.ltm_scenario.proofs.Horizons.{longer_cells}
 
 -- a chain that ends well went well at each step
@@ -104,19 +109,30 @@ row_is_closed s key weights row is =
     let made : SplitRow = (key, weights) in
     (let same : row ≡ made = cc (b.2) in same, not_refused _ OpenSplit b.1)
 
+pair_named : (s : ScenarioData) (node destination : List ℕ) (pair : ℕ × ℕ) → named_pair s node destination ≡ Ok pair → (find_node s.network node ≡ Some pair.0) × IsNamed s destination pair.1
+unfolding named_pair
+pair_named s node destination pair is =
+    let n = bound (found (find_node s.network node) UnknownName) _ pair is in
+    let e = bound (found (find_node s.network destination) UnknownName) _ pair n.2 in
+    let d = bound (found (destination_of s.destinations e.0) UnknownDestination) _ pair e.2 in
+    let a = bound (refuse (n.0 == e.0) SameEnds) _ pair d.2 in
+    let made : ℕ × ℕ = (n.0, d.0) in
+    let same : made ≡ pair = cc (a.2) in (
+      was_found (find_node s.network node) UnknownName n.0 n.1 ∙ ap (λ (p : ℕ × ℕ). Some p.0) same,
+      (e.0, was_found (find_node s.network destination) UnknownName e.0 e.1, was_found (destination_of s.destinations e.0) UnknownDestination d.0 d.1 ∙ ap (λ (p : ℕ × ℕ). Some p.1) same),
+    )
+
 key_said : (s : ScenarioData) (node destination : List ℕ) (from : ℕ) (weights : List NamedWeight) (key : SplitKey) → split_key s node destination from weights ≡ Ok key → is_open s key.node.0 key.destination key.from (weights_at s key.node.0 weights) ≡ false → IsSplitSaid s node destination from weights key
 unfolding split_key
 key_said s node destination from weights key is closed =
-    let n = bound (found (find_node s.network node) UnknownName) _ key is in
-    let e = bound (found (find_node s.network destination) UnknownName) _ key n.2 in
-    let d = bound (found (destination_of s.destinations e.0) UnknownDestination) _ key e.2 in
-    let a = bound (refuse (n.0 == e.0) SameEnds) _ key d.2 in
-    let b = bound (refuse (not (nat_lt from s.setup.slots)) BadSlots) _ key a.2 in
-    let c = bound (refuse (not (list_all (λ w. is_out_link s n.0 w.0) weights)) UnknownName) _ key b.2 in
-    let same : key_of n.0 d.0 from ≡ key = cc (c.2) in
+    let pair = bound (named_pair s node destination) _ key is in
+    let named = pair_named s node destination pair.0 pair.1 in
+    let b = bound (refuse (not (nat_lt from s.setup.slots)) BadSlots) _ key pair.2 in
+    let c = bound (refuse (not (list_all (λ w. is_out_link s (pair.0).0 w.0) weights)) UnknownName) _ key b.2 in
+    let same : key_of (pair.0).0 (pair.0).1 from ≡ key = cc (c.2) in
     record {
-      stands_at = was_found (find_node s.network node) UnknownName n.0 n.1 ∙ ap (λ (k : SplitKey). Some k.node.0) same;
-      leads_to = (e.0, was_found (find_node s.network destination) UnknownName e.0 e.1, was_found (destination_of s.destinations e.0) UnknownDestination d.0 d.1 ∙ ap (λ (k : SplitKey). Some k.destination) same);
+      stands_at = named.0 ∙ ap (λ (k : SplitKey). Some k.node.0) same;
+      leads_to = subst (IsNamed s destination) (ap (λ (k : SplitKey). k.destination) same) named.1;
       begins = sym (ap (λ (k : SplitKey). k.from) same);
       within = key_within from s.setup.slots (not_refused (not (nat_lt from s.setup.slots)) BadSlots b.1);
       closed = closed;
@@ -124,9 +140,16 @@ key_said s node destination from weights key is closed =
 
 with_split_is : (s next : ScenarioData) (key : SplitKey) (weights : List ℕ) → with_split s key weights ≡ Ok next → next ≡ record s { splits = put_in s.splits key weights }
 with_split_is s next key weights is =
-    let d = bound (splits.with_row (splits_of s) key weights) (λ (n : SplitsData). Ok (record s { splits = n.rows })) next is in
+    let d = bound (split_rows.with_row (splits_of s) key weights) (λ (n : SplitsData). Ok (record s { splits = n.rows })) next is in
     let same : record s { splits = (d.0).rows } ≡ next = cc (d.2) in
     sym same ∙ ap (λ (n : SplitsData). record s { splits = n.rows }) (with_split_row_rows (splits_of s) d.0 key weights d.1)
+
+-- ---- all splits of a node and a destination
+with_pair_is : (s next : ScenarioData) (n d : ℕ) (entries : List Entry) → with_pair s n d entries ≡ Ok next → next ≡ record s { splits = replaced s.splits n d entries }
+with_pair_is s next n d entries is =
+    let p = bound (of_pair.with_pair (splits_of s) n d entries) (λ (z : SplitsData). Ok (record s { splits = z.rows })) next is in
+    let same : record s { splits = (p.0).rows } ≡ next = cc (p.2) in
+    sym same ∙ ap (λ (z : SplitsData). record s { splits = z.rows }) (with_pair_rows (splits_of s) p.0 n d entries p.1)
 
 -- ---- the horizon
 -- a chosen answer is none of the faults
@@ -162,6 +185,16 @@ makes s next (Split node destination from weights) is =
     let done : with_split s k.0 ws ≡ Ok next = ap (λ (row : SplitRow). with_split s row.0 row.1) (sym closed.0) ∙ uncaused cause_of_split (with_split s (r.0).0 (r.0).1) next r.2 in
     let same : next ≡ record s { splits = put_in s.splits k.0 ws } = with_split_is s next k.0 ws done in
     subst (λ (z : ScenarioData). Makes s z (Split node destination from weights)) (sym same) (split node destination from weights k.0 (key_said s node destination from weights k.0 k.1 closed.1))
+makes s next (Splits node destination rows) is =
+    let pair = bound (named_pair s node destination) (λ pair. rows_checked s pair.0 pair.1 None rows >>= λ _. or_edit_cause cause_of_split (with_pair s pair.0 pair.1 (entries_said s pair.0 rows))) next is in
+    let n : ℕ = (pair.0).0 in
+    let d : ℕ = (pair.0).1 in
+    let named = pair_named s node destination pair.0 pair.1 in
+    let checked = bound (rows_checked s n d None rows) (λ _. or_edit_cause cause_of_split (with_pair s n d (entries_said s n rows))) next pair.2 in
+    let said = are_checked s n d None rows (checked.1 ∙ ap (λ (u : Unit {0}). Ok u) refl) in
+    let same : next ≡ record s { splits = replaced s.splits n d (entries_said s n rows) } = with_pair_is s next n d (entries_said s n rows) (uncaused cause_of_split (with_pair s n d (entries_said s n rows)) next checked.2) in
+    subst (λ (z : ScenarioData). Makes s z (Splits node destination rows)) (sym same)
+    (splits node destination rows n d (record { stand_at = named.0; lead_to = named.1; first = said.first refl; rising = said.rising; within = said.within; closed = said.closed }))
 makes s next (NewDiagram name new) is =
     let l = bound (found (find_link s.network name) UnknownName) (λ link. or_edit_cause BadDiagram (limits_of new s.setup.step.0) >>= λ _. Ok (with_diagram s link new)) next is in
     let d = bound (or_edit_cause BadDiagram (limits_of new s.setup.step.0)) (λ _. Ok (with_diagram s l.0 new)) next l.2 in

@@ -1,8 +1,10 @@
 -- Which horizons a scenario may have.
-use Rattle.std.proofs.Common.{◌≡◌, ℕ, ◌≤◌, ◌↔◌, List, Ok, true, refl, sym, subst, arith}
+use Rattle.std.proofs.Common.{◌≡◌, ℕ, ◌≤◌, ◌↔◌, List, Ok, true, refl, sym, ap, subst, arith}
 use Rattle.std.specs.Prelude.{nat_le, IsTrue}
 use Rattle.std.proofs.lemmas.Bool.Decides.{nat_tests}
+use Rattle.ltm_units.specs.Bounds.{most_slots}
 use Rattle.ltm_scenario.specs.declared.edit.Edit.{Edit}
+use Rattle.ltm_scenario.specs.declared.setup.Setup.{Setup}
 use Rattle.ltm_scenario.specs.Data.{ScenarioData}
 use Rattle.ltm_scenario.specs.Cells.{widths, cells, cells_with, most_cells}
 use Rattle.ltm_scenario.specs.IsScenario.{IsScenario}
@@ -28,7 +30,7 @@ may_stay s slots is valid now = record {
 }
 
 -- a longer one
-pub may_grow : (s : ScenarioData) (slots count most : ℕ) → count ≡ cells_with s slots → most ≡ most_cells s → s.setup.slots ≤ slots → slots ≤ 10000 → IsTrue (nat_le count most) ↔ MayReach s slots
+pub may_grow : (s : ScenarioData) (slots count most : ℕ) → count ≡ cells_with s slots → most ≡ most_cells s → s.setup.slots ≤ slots → slots ≤ most_slots → IsTrue (nat_le count most) ↔ MayReach s slots
 may_grow s slots count most is limit longer within = (
   λ low. record { longer = longer; most = within; small = subst (λ n. n ≤ most_cells s) is (subst (λ n. count ≤ n) limit (few count most low)) },
   λ may. is_few count most (subst (λ n. n ≤ most) (sym is) (subst (λ n. cells_with s slots ≤ n) (sym limit) may.small)),
@@ -44,4 +46,4 @@ batch_reaches place s next edits is valid scenario =
     let shape = batch_keeps_shape place s next edits is in
     let small = (batch_keeps_valid place s next edits is valid).small in
     subst (MayReach s) (batch_sets_horizon place s next edits is)
-    (record { longer = shape.slots; most = scenario.setup.slots_most; small = subst (λ n. n ≤ most_cells s) (cells_there s next shape) (subst (λ n. cells next ≤ n) shape.most_cells (few (cells next) (most_cells next) small)) })
+    (record { longer = shape.slots; most = scenario.setup.slots_most; small = subst (λ n. n ≤ most_cells s) (cells_there s next shape) (subst (λ n. cells next ≤ n) (ap (λ (z : Setup). z.most_cells) shape.setup) (few (cells next) (most_cells next) small)) })

@@ -4,7 +4,7 @@ use Rattle.std.proofs.lemmas.Bool.Decides.{nat_tests}
 use Rattle.ltm_demand.specs.declared.row.DemandRow.{DemandRow}
 use Rattle.ltm_demand.specs.Rows.{DemandData, OriginRoom, IsNoLess, CanRestore, room_at, own_rows, amount_at}
 use Rattle.ltm_scenario.specs.declared.parts.undo.Undo.{Undo}
-use Rattle.ltm_scenario.specs.declared.parts.undo.Undo.TheVariants.{Demand, Limit, NewSplit, OldSplit, Diagram, Horizon}
+use Rattle.ltm_scenario.specs.declared.parts.undo.Undo.TheVariants.{Demand, Limit, NewSplit, OldSplit, Pair, Diagram, Horizon}
 use Rattle.ltm_scenario.specs.declared.side.Side.TheVariants.{Entry, Exit}
 use Rattle.ltm_scenario.specs.Data.{ScenarioData, demand_of}
 use Rattle.ltm_scenario.specs.State.{ScenarioState, KeepsRoom}
@@ -49,6 +49,7 @@ fits_in_room s a1 a2 a3 b1 b2 b3 (Limit Entry link from was) h1 h2 h3 fits = (fi
 fits_in_room s a1 a2 a3 b1 b2 b3 (Limit Exit link from was) h1 h2 h3 fits = (fits.0, fits.1, omega (arith, fits.2))
 fits_in_room s a1 a2 a3 b1 b2 b3 (NewSplit key) h1 h2 h3 fits = tt
 fits_in_room s a1 a2 a3 b1 b2 b3 (OldSplit key was) h1 h2 h3 fits = fits
+fits_in_room s a1 a2 a3 b1 b2 b3 (Pair node destination was) h1 h2 h3 fits = fits
 fits_in_room s a1 a2 a3 b1 b2 b3 (Diagram link diagram limits) h1 h2 h3 fits = fits
 fits_in_room s a1 a2 a3 b1 b2 b3 (Horizon slots) h1 h2 h3 fits = fits
 

@@ -17,9 +17,9 @@ use Rattle.ltm_splits.specs.Rows as splits
 use Rattle.ltm_splits.specs.Rows.{SplitRow, SplitsData, put_back, row_of}
 use Rattle.ltm_scenario.specs.declared.parts.Parts.{Parts}
 use Rattle.ltm_scenario.specs.declared.parts.undo.Undo.{Undo}
-use Rattle.ltm_scenario.specs.declared.parts.undo.Undo.TheVariants.{Demand, Limit, NewSplit, OldSplit, Diagram, Horizon}
+use Rattle.ltm_scenario.specs.declared.parts.undo.Undo.TheVariants.{Demand, Limit, NewSplit, OldSplit, Pair, Diagram, Horizon}
 use Rattle.ltm_scenario.specs.declared.side.Side.TheVariants.{Entry, Exit}
-use Rattle.ltm_scenario.specs.Data.{ScenarioData}
+use Rattle.ltm_scenario.specs.Data.{ScenarioData, demand_of}
 use Rattle.ltm_scenario.specs.Diagrams.{DiagramsState}
 use Rattle.ltm_scenario.specs.State.{ScenarioState}
 use Rattle.ltm_scenario.specs.IsScenario.{IsScenario}
@@ -38,7 +38,8 @@ demand_undoes t next row are are_next back can =
     let rows : t.demand.demand.rows ≡ edited_rows next.demand.rows row = ap (λ (d : DemandData). d.rows) (with_row_rows next.demand t.demand.demand row back) in
     undoes_by (state_in t) (state_in (record t { demand = next })) (Demand row) are.scenario
     (ap (λ (rs : List DemandRow). record (scenario_in t) { demand = rs }) (sym rows))
-    (let P : ℕ → Type 0 = λ n. CanRestore (record { demand = record { slots = n; rows = next.demand.rows }; room = next.room }) row in subst P are_next.demand_slots can)
+    (let there : next.demand ≡ demand_of (scenario_in (record t { demand = next })) = λ i. record { slots = are_next.demand_slots i; most_rows = are_next.demand_most i; rows = next.demand.rows } in
+    subst (λ (d : DemandData). CanRestore (record { demand = d; room = next.room }) row) there can)
 
 pub demand_restored : (t : Parts) (next : DemandState) (row : DemandRow) → AreParts t → IsScenario (undone (scenario_in t) (Demand row)) → demand.with_row t.demand.demand row ≡ Ok next.demand → (scenario_in (record t { demand = next }) ≡ undone (scenario_in t) (Demand row)) × AreParts (record t { demand = next })
 demand_restored t next row are is done =
@@ -52,6 +53,8 @@ demand_restored t next row are is done =
         splits_slots = are.splits_slots;
         entry_slots = are.entry_slots;
         exit_slots = are.exit_slots;
+        demand_most = ap (λ (d : DemandData). d.most_rows) rows ∙ are.demand_most;
+        splits_most = are.splits_most;
       },
     )
 
@@ -67,6 +70,8 @@ entry_restored t next link from was are is done slots =
         splits_slots = are.splits_slots;
         entry_slots = slots ∙ are.entry_slots;
         exit_slots = are.exit_slots;
+        demand_most = are.demand_most;
+        splits_most = are.splits_most;
       },
     )
 
@@ -81,6 +86,8 @@ exit_restored t next link from was are is done slots =
         splits_slots = are.splits_slots;
         entry_slots = are.entry_slots;
         exit_slots = slots ∙ are.exit_slots;
+        demand_most = are.demand_most;
+        splits_most = are.splits_most;
       },
     )
 
@@ -115,6 +122,7 @@ split_undoes t next key weights (OldSplit at was) are note back stands =
     undoes_by (state_in t) (state_in (record t { splits = next })) (OldSplit at was) are.scenario
     (ap (λ (rs : List SplitRow). record (scenario_in t) { splits = rs }) (ap (λ k. splits.put_in next.rows k was.items) note.0 ∙ ap (put_back next.rows key) (sym note.1) ∙ back))
     (some, note.2)
+split_undoes t next key weights (Pair node destination was) are note back stands = absurd note
 split_undoes t next key weights (Diagram link diagram limits) are note back stands = absurd note
 split_undoes t next key weights (Horizon slots) are note back stands = absurd note
 
@@ -129,6 +137,8 @@ splits_restored t next rows are is done =
         splits_slots = ap (λ (d : SplitsData). d.slots) done ∙ are.splits_slots;
         entry_slots = are.entry_slots;
         exit_slots = are.exit_slots;
+        demand_most = are.demand_most;
+        splits_most = ap (λ (d : SplitsData). d.most_rows) done ∙ are.splits_most;
       },
     )
 
@@ -137,6 +147,7 @@ diagram_is_scenario : (s : ScenarioData) (link : ℕ) (diagram : LinkDiagram) �
 diagram_is_scenario s link diagram is sets = record {
   setup = is.setup;
   network = is.network;
+  most_links = is.most_links;
   diagram_for_each = length-set s.diagrams link diagram ∙ is.diagram_for_each;
   limits = All-set (λ d. IsOk (limits_of d s.setup.step.0)) s.diagrams link diagram sets is.limits;
   entry = is.entry;
@@ -161,6 +172,8 @@ diagrams_changed t next link diagram limits are sets step done =
         splits_slots = are.splits_slots;
         entry_slots = are.entry_slots;
         exit_slots = are.exit_slots;
+        demand_most = are.demand_most;
+        splits_most = are.splits_most;
       },
     )
 

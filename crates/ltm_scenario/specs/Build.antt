@@ -16,6 +16,8 @@ use Rattle.ltm_splits.specs.declared.keys.SplitKey.{SplitKey}
 use Rattle.ltm_splits.specs.declared.keys.SplitFault.{SplitFault}
 use Rattle.ltm_splits.specs.Rows as splits
 use Rattle.ltm_splits.specs.Rows.{SplitsData}
+use Rattle.ltm_splits.specs.Table.{Entry as PairEntry}
+use Rattle.ltm_splits.specs.Replaced as replaced
 use Rattle.ltm_scenario.specs.declared.faults.LinkFault.{LinkFault}
 use Rattle.ltm_scenario.specs.declared.faults.LinkFault.TheVariants.{Network, Diagram as BadDiagram}
 use Rattle.ltm_scenario.specs.declared.faults.DestinationFault.{DestinationFault}
@@ -55,22 +57,22 @@ with_link s name tail head diagram =
     of_diagram (limits_of diagram s.setup.step.0) >>= λ _.
     Ok (with_link_on s next diagram)
 
-abbrev pub most_destinations : ℕ
-most_destinations = 64
-
--- the destinations once a node is one
-abbrev pub with_destination_at : List ℕ → ℕ → Option ℕ → Result (List ℕ) DestinationFault
-with_destination_at destinations node (Some place) = Ok destinations
-with_destination_at destinations node None = if nat_le most_destinations (length destinations) then Err TooMany else Ok (destinations ++ node ∷ [])
+-- the destinations, at most so many, once a node is one
+abbrev pub with_destination_at : ℕ → List ℕ → ℕ → Option ℕ → Result (List ℕ) DestinationFault
+with_destination_at most destinations node (Some place) = Ok destinations
+with_destination_at most destinations node None = if nat_le most (length destinations) then Err TooMany else Ok (destinations ++ node ∷ [])
 
 abbrev pub with_destination : ScenarioData → ℕ → Result ScenarioData DestinationFault
-with_destination s node = with_destination_at s.destinations node (destination_of s.destinations node) >>= λ destinations. Ok (record s { destinations = destinations })
+with_destination s node = with_destination_at s.setup.most_destinations s.destinations node (destination_of s.destinations node) >>= λ destinations. Ok (record s { destinations = destinations })
 
 abbrev pub with_demand : ScenarioData → DemandRow → Result ScenarioData DemandFault
 with_demand s row = demand.with_row (demand_of s) row >>= λ next. Ok (record s { demand = next.rows })
 
 abbrev pub with_split : ScenarioData → SplitKey → List ℕ → Result ScenarioData SplitFault
 with_split s key weights = splits.with_row (splits_of s) key weights >>= λ next. Ok (record s { splits = next.rows })
+
+abbrev pub with_pair : ScenarioData → ℕ → ℕ → List PairEntry → Result ScenarioData SplitFault
+with_pair s node destination entries = replaced.with_pair (splits_of s) node destination entries >>= λ next. Ok (record s { splits = next.rows })
 
 -- some slots, and all of them within the horizon
 abbrev pub are_slots : ScenarioData → ℕ → ℕ → Bool

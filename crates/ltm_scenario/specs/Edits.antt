@@ -1,8 +1,8 @@
 -- What edits make of a scenario, or the first cause to refuse one.
-use Rattle.std.specs.Prelude.{ℕ, ◌+◌, ◌==◌, ◌≤◌, ◌&&◌, ◌||◌, not, Bool, false, nat_lt, if◌then◌else◌, List, [], ◌∷◌, All, map, sum, slice_set, Result, Ok, Err}
+use Rattle.std.specs.Prelude.{ℕ, ◌+◌, ◌==◌, ◌≤◌, ◌&&◌, ◌||◌, not, Bool, false, nat_lt, if◌then◌else◌, List, [], ◌∷◌, All, map, sum, slice_set, Option, Some, None, is_none, Result, Ok, Err}
 use Rattle.std.specs.List.{list_all}
 use Rattle.std.specs.Option.{option_map_or}
-use Rattle.ltm_units.specs.Results.{refuse, found}
+use Rattle.ltm_units.specs.Results.{refuse, found, ◌>>>◌}
 use Rattle.ltm_diagram.specs.declared.diagram.Diagram.{Diagram}
 use Rattle.ltm_diagram.specs.Limits.{limits_of}
 use Rattle.ltm_network.specs.Names.{same}
@@ -14,8 +14,9 @@ use Rattle.ltm_splits.specs.declared.keys.SplitKey.{SplitKey}
 use Rattle.ltm_splits.specs.declared.keys.SplitFault.{SplitFault}
 use Rattle.ltm_splits.specs.declared.keys.SplitFault.TheVariants.{BadSlots as SplitSlots, ZeroWeight as SplitWeight, TooManyRows as SplitRows, NoMemory as SplitMemory}
 use Rattle.ltm_splits.specs.Rows.{SplitRow, key_of}
+use Rattle.ltm_splits.specs.Table.{Entry}
 use Rattle.ltm_scenario.specs.declared.edit.Edit.{Edit}
-use Rattle.ltm_scenario.specs.declared.edit.Edit.TheVariants.{Demand, Limit, Split, Diagram as NewDiagram, Exit, Horizon}
+use Rattle.ltm_scenario.specs.declared.edit.Edit.TheVariants.{Demand, Limit, Split, Splits, Diagram as NewDiagram, Exit, Horizon}
 use Rattle.ltm_scenario.specs.declared.edit.EditFault.{EditFault}
 use Rattle.ltm_scenario.specs.declared.edit.EditCause.{EditCause}
 use Rattle.ltm_scenario.specs.declared.edit.EditCause.TheVariants.{UnknownName, UnknownDestination, NoOrigin, SameEnds, BadSlots, OpenSplit, ZeroWeight, TooManyRows, Diagram as BadDiagram, CellsOver, NoMemory}
@@ -23,12 +24,12 @@ use Rattle.ltm_scenario.specs.declared.faults.HorizonFault.{HorizonFault}
 use Rattle.ltm_scenario.specs.declared.faults.HorizonFault.TheVariants.{BadSlots as HorizonSlots, CellsOver as HorizonCells, NoMemory as HorizonMemory}
 use Rattle.ltm_scenario.specs.declared.side.Side.{Side}
 use Rattle.ltm_scenario.specs.declared.side.Side.TheVariants.{Entry as AtEntry, Exit as AtExit}
-use Rattle.ltm_scenario.specs.Weights.{NamedWeight}
+use Rattle.ltm_scenario.specs.Weights.{NamedWeight, NamedRow}
 use Rattle.ltm_scenario.specs.Data.{ScenarioData}
 use Rattle.ltm_scenario.specs.Reads.{destination_of, has_no_out_link, has_split}
 use Rattle.ltm_scenario.specs.Valid.{all_lead_on}
 use Rattle.ltm_scenario.specs.Horizon.{with_horizon}
-use Rattle.ltm_scenario.specs.Build.{with_demand, with_split, with_limit_at, are_slots, ◌>>=◌}
+use Rattle.ltm_scenario.specs.Build.{with_demand, with_split, with_pair, with_limit_at, are_slots, ◌>>=◌}
 use Rattle.ltm_units.specs.Bounds.{most_amount}
 
 abbrev pub cause_of_demand : DemandFault → EditCause
@@ -99,16 +100,22 @@ abbrev pub is_open : ScenarioData → ℕ → ℕ → ℕ → List ℕ → Bool
 is_open s node destination from weights =
     (not (from == 0) && not (has_split s.splits node destination)) || not (all_lead_on s node destination weights)
 
--- the key of the row that an edit sets
-unfoldable pub split_key : ScenarioData → List ℕ → List ℕ → ℕ → List NamedWeight → Result SplitKey EditCause
-split_key s node destination from weights =
+-- the node and the destination whose rows an edit sets
+unfoldable pub named_pair : ScenarioData → List ℕ → List ℕ → Result (ℕ × ℕ) EditCause
+named_pair s node destination =
     found (find_node s.network node) UnknownName >>= λ n.
     found (find_node s.network destination) UnknownName >>= λ end.
     found (destination_of s.destinations end) UnknownDestination >>= λ d.
     refuse (n == end) SameEnds >>= λ _.
+    Ok (n, d)
+
+-- the key of the row that an edit sets
+unfoldable pub split_key : ScenarioData → List ℕ → List ℕ → ℕ → List NamedWeight → Result SplitKey EditCause
+split_key s node destination from weights =
+    named_pair s node destination >>= λ pair.
     refuse (not (nat_lt from s.setup.slots)) BadSlots >>= λ _.
-    refuse (not (list_all (λ w. is_out_link s n w.0) weights)) UnknownName >>= λ _.
-    Ok (key_of n d from)
+    refuse (not (list_all (λ w. is_out_link s pair.0 w.0) weights)) UnknownName >>= λ _.
+    Ok (key_of pair.0 pair.1 from)
 
 -- the row of that key with those weights, which are not all 0 and lead on
 unfoldable pub split_row : ScenarioData → SplitKey → List ℕ → Result SplitRow EditCause
@@ -122,6 +129,37 @@ split_edited s node destination from weights =
     split_key s node destination from weights >>= λ key.
     split_row s key (weights_at s key.node.0 weights) >>= λ row.
     or_edit_cause cause_of_split (with_split s row.0 row.1)
+
+-- ---- all splits of a node and a destination
+-- the rows that an edit says, with a weight for each out-link of the node
+abbrev pub entries_said : ScenarioData → ℕ → List NamedRow → List Entry
+entries_said s node rows = map (λ row. (row.0, weights_at s node row.1)) rows
+
+-- a row may begin at the slot: the first at 0, each other behind the one before it, and within the horizon
+abbrev pub may_begin : ℕ → Option ℕ → ℕ → Bool
+may_begin slots None from = (from == 0) && nat_lt from slots
+may_begin slots (Some before) from = nat_lt before from && nat_lt from slots
+
+-- the weights are those of out-links of the node, not all 0, and lead on
+unfoldable pub row_checked : ScenarioData → ℕ → ℕ → List NamedWeight → Result (Unit {0}) EditCause
+row_checked s node destination weights =
+    refuse (not (list_all (λ w. is_out_link s node w.0) weights)) UnknownName
+    >>> refuse (sum (weights_at s node weights) == 0) ZeroWeight
+    >>> refuse (not (all_lead_on s node destination (weights_at s node weights))) OpenSplit
+
+-- the rows of the pair that come behind one that begins at that slot, in order; where none came before, there is one
+abbrev pub rows_checked : ScenarioData → ℕ → ℕ → Option ℕ → List NamedRow → Result (Unit {0}) EditCause
+rows_checked s node destination before [] = refuse (is_none before) BadSlots
+rows_checked s node destination before (row ∷ rows) =
+    refuse (not (may_begin s.setup.slots before row.0)) BadSlots
+    >>> row_checked s node destination row.1
+    >>> rows_checked s node destination (Some row.0) rows
+
+abbrev pub splits_edited : ScenarioData → List ℕ → List ℕ → List NamedRow → Result ScenarioData EditCause
+splits_edited s node destination rows =
+    named_pair s node destination >>= λ pair.
+    rows_checked s pair.0 pair.1 None rows >>= λ _.
+    or_edit_cause cause_of_split (with_pair s pair.0 pair.1 (entries_said s pair.0 rows))
 
 -- ---- diagrams
 abbrev pub with_diagram : ScenarioData → ℕ → Diagram → ScenarioData
@@ -142,6 +180,7 @@ abbrev pub edited : ScenarioData → Edit → Result ScenarioData EditCause
 edited s (Demand origin destination from to amount) = demand_edited s origin destination from to amount.0
 edited s (Limit link from to amount) = limit_edited s AtEntry link from to amount.0
 edited s (Split node destination from weights) = split_edited s node destination from weights
+edited s (Splits node destination rows) = splits_edited s node destination rows
 edited s (NewDiagram link diagram) = diagram_edited s link diagram
 edited s (Exit link from to amount) = limit_edited s AtExit link from to amount.0
 edited s (Horizon slots) = horizon_edited s slots
@@ -164,6 +203,7 @@ abbrev pub amount_of : Edit → ℕ
 amount_of (Demand origin destination from to amount) = amount.0
 amount_of (Limit link from to amount) = amount.0
 amount_of (Split node destination from weights) = 0
+amount_of (Splits node destination rows) = 0
 amount_of (NewDiagram link diagram) = 0
 amount_of (Exit link from to amount) = amount.0
 amount_of (Horizon slots) = 0
@@ -173,6 +213,7 @@ abbrev pub slots_after : ℕ → Edit → ℕ
 slots_after slots (Demand origin destination from to amount) = slots
 slots_after slots (Limit link from to amount) = slots
 slots_after slots (Split node destination from weights) = slots
+slots_after slots (Splits node destination rows) = slots
 slots_after slots (NewDiagram link diagram) = slots
 slots_after slots (Exit link from to amount) = slots
 slots_after slots (Horizon more) = more

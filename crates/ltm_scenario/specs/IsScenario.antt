@@ -28,16 +28,17 @@ pub record IsSplitOf (s : ScenarioData) (row : SplitRow) : Type 0 where
 pub record IsScenario (s : ScenarioData) : Type 0 where
   pub setup : IsSetup s.setup
   pub network : IsNetwork s.network
+  pub most_links : s.network.most_links ≡ s.setup.most_links
   pub diagram_for_each : length s.diagrams ≡ length s.network.links
   -- each diagram sets limits at the step
   pub limits : All (λ diagram. IsOk (limits_of diagram s.setup.step.0)) s.diagrams
   -- an entry and an exit limit for each link and slot
   pub entry : AreWhole s.entry (length s.network.links) s.setup.slots
   pub exit : AreWhole s.exit (length s.network.links) s.setup.slots
-  pub few_destinations : length s.destinations ≤ 64
+  pub few_destinations : length s.destinations ≤ s.setup.most_destinations
   pub destinations_are_nodes : All (λ node. node < length s.network.nodes) s.destinations
   pub destinations_apart : (destination : ℕ) → destination < length s.destinations → destination_of s.destinations (destination_node s destination) ≡ Some destination
   pub demand : All (IsDemandOf s) s.demand
-  pub demand_rows : AreDemandRows s.setup.slots s.demand
+  pub demand_rows : AreDemandRows s.setup.slots s.setup.most_demand_rows s.demand
   pub splits : All (IsSplitOf s) s.splits
   pub weights : HaveWeights s.splits

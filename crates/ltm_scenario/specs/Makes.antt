@@ -1,5 +1,6 @@
 -- What an accepted edit makes of a scenario, kind by kind.
-use Rattle.std.specs.Prelude.{◌≡◌, ℕ, ◌<◌, ◌≤◌, true, false, List, Some, Ok, IsOk}
+use Rattle.std.specs.Prelude.{◌≡◌, ℕ, ◌<◌, ◌≤◌, true, false, All, List, slice_get, Some, Ok, IsOk}
+use Rattle.std.specs.Option.{option_map}
 use Rattle.ltm_units.specs.declared.quantities.Units.{Units}
 use Rattle.ltm_network.specs.Network.{find_node, find_link}
 use Rattle.ltm_diagram.specs.declared.diagram.Diagram.{Diagram}
@@ -8,16 +9,18 @@ use Rattle.ltm_demand.specs.declared.row.DemandRow.{DemandRow}
 use Rattle.ltm_demand.specs.Rows.{edited_rows}
 use Rattle.ltm_splits.specs.declared.keys.SplitKey.{SplitKey}
 use Rattle.ltm_splits.specs.Rows.{put_in}
+use Rattle.ltm_splits.specs.Entries.{IsRising}
+use Rattle.ltm_splits.specs.Replaced.{replaced}
 use Rattle.ltm_scenario.specs.declared.edit.Edit.{Edit}
-use Rattle.ltm_scenario.specs.declared.edit.Edit.TheVariants.{Demand, Limit, Split, Diagram as NewDiagram, Exit, Horizon}
+use Rattle.ltm_scenario.specs.declared.edit.Edit.TheVariants.{Demand, Limit, Split, Splits, Diagram as NewDiagram, Exit, Horizon}
 use Rattle.ltm_scenario.specs.declared.side.Side.TheVariants.{Entry as AtEntry, Exit as AtExit}
-use Rattle.ltm_scenario.specs.Weights.{NamedWeight}
+use Rattle.ltm_scenario.specs.Weights.{NamedWeight, NamedRow}
 use Rattle.ltm_scenario.specs.Data.{ScenarioData}
 use Rattle.ltm_scenario.specs.Reads.{destination_of}
-use Rattle.ltm_scenario.specs.Valid.{is_demand_split, is_small}
+use Rattle.ltm_scenario.specs.Valid.{is_demand_split, is_small, all_lead_on}
 use Rattle.ltm_scenario.specs.Build.{with_limit_at}
 use Rattle.ltm_scenario.specs.Horizon.{with_slots}
-use Rattle.ltm_scenario.specs.Edits.{edited, weights_at, is_open, with_diagram}
+use Rattle.ltm_scenario.specs.Edits.{edited, weights_at, is_open, entries_said, with_diagram}
 use Rattle.ltm_units.specs.Bounds.{most_slots}
 
 -- the name is that of a destination
@@ -49,6 +52,16 @@ pub record IsSplitSaid (s : ScenarioData) (node destination : List ℕ) (from : 
   pub within : from < s.setup.slots
   pub closed : is_open s key.node.0 key.destination key.from (weights_at s key.node.0 weights) ≡ false
 
+-- the split rows that an edit says of a node and a destination: the first begins at slot 0, each other behind the one before
+-- it, all within the horizon, with weights that lead on
+pub record AreRowsSaid (s : ScenarioData) (node destination : List ℕ) (rows : List NamedRow) (n d : ℕ) : Type 0 where
+  pub stand_at : find_node s.network node ≡ Some n
+  pub lead_to : IsNamed s destination d
+  pub first : option_map (λ row. row.0) (slice_get rows 0) ≡ Some 0
+  pub rising : IsRising (entries_said s n rows)
+  pub within : All (λ row. row.0 < s.setup.slots) rows
+  pub closed : All (λ row. all_lead_on s n d (weights_at s n row.1) ≡ true) rows
+
 -- the horizon that an edit says: longer than it was, and short enough
 pub record IsHorizonSaid (s : ScenarioData) (slots : ℕ) : Type 0 where
   pub longer : s.setup.slots < slots
@@ -63,6 +76,8 @@ pub data Makes (s : ScenarioData) : ScenarioData → Edit → Type 0 where
       Makes s (with_limit_at s AtEntry link from to amount.0) (Limit name from to amount)
   split : (node destination : List ℕ) (from : ℕ) (weights : List NamedWeight) (key : SplitKey) → IsSplitSaid s node destination from weights key →
       Makes s (record s { splits = put_in s.splits key (weights_at s key.node.0 weights) }) (Split node destination from weights)
+  splits : (node destination : List ℕ) (rows : List NamedRow) (n d : ℕ) → AreRowsSaid s node destination rows n d →
+      Makes s (record s { splits = replaced s.splits n d (entries_said s n rows) }) (Splits node destination rows)
   diagram : (name : List ℕ) (new : Diagram) (link : ℕ) → find_link s.network name ≡ Some link → IsOk (limits_of new s.setup.step.0) →
       Makes s (with_diagram s link new) (NewDiagram name new)
   exit : (name : List ℕ) (from to : ℕ) (amount : Units) (link : ℕ) → IsLinkSaid s name from to link →

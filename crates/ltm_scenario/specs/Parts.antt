@@ -20,7 +20,7 @@ scenario_in t = record {
 abbrev pub state_in : Parts → ScenarioState
 state_in t = record { scenario = scenario_in t; demand_room = t.demand.room; entry_places = t.entry.places; exit_places = t.exit.places }
 
--- the parts agree on the step and the horizon, and what they say is a scenario
+-- the parts agree on the step, the horizon and the most rows, and what they say is a scenario
 pub record AreParts (t : Parts) : Type 0 where
   pub scenario : IsScenario (scenario_in t)
   pub step : t.diagrams.step ≡ t.setup.step.0
@@ -28,3 +28,5 @@ pub record AreParts (t : Parts) : Type 0 where
   pub splits_slots : t.splits.slots ≡ t.setup.slots
   pub entry_slots : t.entry.slots ≡ t.setup.slots
   pub exit_slots : t.exit.slots ≡ t.setup.slots
+  pub demand_most : t.demand.demand.most_rows ≡ t.setup.most_demand_rows
+  pub splits_most : t.splits.most_rows ≡ t.setup.most_split_rows

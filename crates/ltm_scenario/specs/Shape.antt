@@ -1,12 +1,11 @@
 -- What no edit changes, and what none lowers.
 use Rattle.std.specs.Prelude.{◌≡◌, ◌≤◌}
 use Rattle.ltm_scenario.specs.Data.{ScenarioData}
+use Rattle.ltm_scenario.specs.Horizon.{setup_over}
 
--- the same step, capacity of origins, most cells, nodes, links and destinations, and a horizon that is no shorter
+-- the same nodes, links and destinations, and the same setup, but that the horizon may be longer
 pub record SameShape (old new : ScenarioData) : Type 0 where
-  pub step : new.setup.step ≡ old.setup.step
+  pub setup : new.setup ≡ setup_over old.setup new.setup.slots
   pub slots : old.setup.slots ≤ new.setup.slots
-  pub origin_capacity : new.setup.origin_capacity ≡ old.setup.origin_capacity
-  pub most_cells : new.setup.most_cells ≡ old.setup.most_cells
   pub network : new.network ≡ old.network
   pub destinations : new.destinations ≡ old.destinations

@@ -6,6 +6,10 @@ use Rattle.ltm_network.specs.Names.{same}
 abbrev pub NamedWeight : Type 0
 NamedWeight = List ℕ × ℕ
 
+-- a row by the names of out-links: a first slot, and the weights from then on
+abbrev pub NamedRow : Type 0
+NamedRow = ℕ × List NamedWeight
+
 -- some weight has the name
 abbrev pub is_named : List ℕ → List NamedWeight → Bool
 is_named name weights = list_any (λ w. same w.0 name) weights

@@ -52,7 +52,7 @@ impl Batch {
         if edits.is_empty() || edits.len() > MOST_EDITS {
             return Err(BatchFault::Count);
         }
-        match Vec::from_slice(alloc, edits) {
+        match copied(alloc, edits) {
             Ok(edits) => return Ok(Batch { edits }),
             Err(_) => return Err(BatchFault::NoMemory),
         }
@@ -87,9 +87,20 @@ impl Batch {
         ensures { IfOk result (λ copy. copy ≡ self.now) }
     {
         let alloc = *self.edits.allocator();
-        let edits = Vec::from_slice(alloc, &self.edits)?;
+        let edits = copied(alloc, &self.edits)?;
         Ok(Batch { edits })
     }
+}
+
+/// Equal edits.
+fn copied(alloc: Global, edits: &[Edit]) -> Result<Vec<Edit>, NoMemory>
+    ensures { IfOk result (λ copy. copy.items ≡ edits.now) }
+{
+    let mut copies = Vec::with_capacity(alloc, edits.len())?;
+    for edit in edits {
+        copies.push(edit.try_copy()?)?;
+    }
+    Ok(copies)
 }
 
 /// The horizon once the edits are made one after another.

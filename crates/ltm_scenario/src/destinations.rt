@@ -2,14 +2,12 @@
 ghost use Rattle.std.specs.Prelude.{◌≡◌, ◌≢◌, ℕ, ◌<◌, ◌≤◌, List, [], ◌∷◌, ◌++◌, length, map, Some, None, IfOk, IfErr, OnOk, OnErr, Ok, Err, IfSome, slice_index, slice_index_or, vec_len};
 ghost use Rattle.ltm_scenario.specs.Reads.{destination_of};
 ghost use Rattle.ltm_scenario.specs.Build.{with_destination_at};
+ghost use Rattle.ltm_units.specs.Bounds.{most_destinations};
 
 use crate::faults::DestinationFault;
 use ltm_units::{NoMemory, NodeId};
 use std::alloc::Global;
 use std::marker::Model;
-
-/// The most destinations of a case.
-const MOST_DESTINATIONS: usize = 64;
 
 /// The list of destinations, and by node number the place of the node in it, as far as the last node that is one.
 pub struct Destinations {
@@ -30,12 +28,13 @@ impl Drop for Destinations {
 impl Model for Destinations {
     ghost use Rattle.std.specs.Prelude.{◌≡◌, ◌≤◌, ℕ, List, None, map, vec_len, slice_index_or};
     ghost use Rattle.ltm_scenario.specs.Reads.{destination_of};
+    ghost use Rattle.ltm_units.specs.Bounds.{most_destinations};
 
     ghost Value = { List ℕ };
 
     ghost view = { λ d. map (λ node. node.0) d.list.items };
 
-    ghost invariant = { λ d. (vec_len d.list ≤ 64)
+    ghost invariant = { λ d. (vec_len d.list ≤ most_destinations)
         × ((node : ℕ) → slice_index_or d.places.items node None ≡ destination_of (map (λ n. n.0) d.list.items) node) };
 }
 
@@ -52,14 +51,14 @@ impl Destinations {
     pub fn list(&self) -> &[NodeId]
         ensures nodes { map (λ node. node.0) result.now ≡ self.now }
         ensures count { length result.now ≡ length self.now }
-        ensures few { length result.now ≤ 64 }
+        ensures few { length result.now ≤ most_destinations }
     {
         &self.list
     }
 
     pub fn len(&self) -> u32
         ensures count { result ≡ length self.now }
-        ensures few { result ≤ 64 }
+        ensures few { result ≤ most_destinations }
     {
         self.list.len() as u32
     }
@@ -85,20 +84,21 @@ impl Destinations {
         None
     }
 
-    /// The place of the node, which becomes the last destination where it was none.
-    pub fn add(&mut self, node: NodeId) -> Result<u32, DestinationFault>
-        ensures ok { OnOk result (with_destination_at self.old node.0 (destination_of self.old node.0)
-            ≡ Ok self.new) }
+    /// The place of the node, which becomes the last of at most so many destinations where it was none.
+    pub fn add(&mut self, most: u32, node: NodeId) -> Result<u32, DestinationFault>
+        requires { most ≤ most_destinations }
+        ensures ok { OnOk result
+            (with_destination_at most self.old node.0 (destination_of self.old node.0) ≡ Ok self.new) }
         ensures place { IfOk result (λ place. destination_of self.new node.0 ≡ Some place) }
         ensures err { OnErr result (self.new ≡ self.old) }
         ensures cause { IfErr result (λ e. e ≢ DestinationFault.NoMemory
-            → with_destination_at self.old node.0 (destination_of self.old node.0) ≡ Err e) }
+            → with_destination_at most self.old node.0 (destination_of self.old node.0) ≡ Err e) }
     {
         match self.place(node) {
             Some(place) => return Ok(place),
             None => {}
         }
-        if self.list.len() >= MOST_DESTINATIONS {
+        if self.list.len() >= most as usize {
             return Err(DestinationFault::TooMany);
         }
         let place = self.len();
@@ -109,7 +109,7 @@ impl Destinations {
     /// Puts a node last that is no destination yet.
     fn put(&mut self, node: NodeId) -> Result<(), NoMemory>
         requires new { destination_of self.old node.0 ≡ None }
-        requires few { length self.old < 64 }
+        requires few { length self.old < most_destinations }
         ensures ok { OnOk result (self.new ≡ self.old ++ node.0 ∷ []) }
         ensures err { OnErr result (self.new ≡ self.old) }
     {

@@ -1,10 +1,11 @@
 //! Edits of a scenario, and why one is refused.
+use crate::split_rows::SplitRows;
 use crate::weights::Weights;
 use ltm_diagram::{Diagram, DiagramFault};
 use ltm_units::{Name, NoMemory, Units};
 
 /// A change of a scenario, by names. Slots run from `from` up to, and without, `to`.
-#[derive(Clone, Copy)]
+#[derive(Drop)]
 pub enum Edit {
     /// Sets the demand from an origin to a destination over the slots; an amount of 0 takes the row out.
     Demand {
@@ -29,6 +30,12 @@ pub enum Edit {
         from: u32,
         weights: Weights,
     },
+    /// Puts split rows in place of all that a node has for a destination.
+    Splits {
+        node: Name,
+        destination: Name,
+        rows: SplitRows,
+    },
     /// Replaces the diagram of a link for the whole horizon.
     Diagram {
         link: Name,
@@ -49,7 +56,7 @@ pub enum Edit {
 }
 
 impl Edit {
-    ghost use Rattle.std.specs.Prelude.{◌≡◌};
+    ghost use Rattle.std.specs.Prelude.{◌≡◌, IfOk};
     ghost use Rattle.ltm_scenario.specs.Edits.{amount_of, slots_after};
 
     /// The amount of the edit, 0 where its kind has none.
@@ -59,7 +66,10 @@ impl Edit {
         match *self {
             Edit::Demand { amount, .. } | Edit::Limit { amount, .. } | Edit::Exit { amount, .. } =>
                 amount,
-            Edit::Split { .. } | Edit::Diagram { .. } | Edit::Horizon { .. } => Units(0),
+            Edit::Split { .. }
+            | Edit::Splits { .. }
+            | Edit::Diagram { .. }
+            | Edit::Horizon { .. } => Units(0),
         }
     }
 
@@ -72,8 +82,77 @@ impl Edit {
             Edit::Demand { .. }
             | Edit::Limit { .. }
             | Edit::Split { .. }
+            | Edit::Splits { .. }
             | Edit::Diagram { .. }
             | Edit::Exit { .. } => slots,
+        }
+    }
+
+    /// An equal edit, its rows on the same allocator.
+    pub fn try_copy(&self) -> Result<Edit, NoMemory>
+        ensures { IfOk result (λ copy. copy ≡ self.now) }
+    {
+        match self {
+            Edit::Demand {
+                origin,
+                destination,
+                from,
+                to,
+                amount,
+            } => Ok(Edit::Demand {
+                origin: *origin,
+                destination: *destination,
+                from: *from,
+                to: *to,
+                amount: *amount,
+            }),
+            Edit::Limit {
+                link,
+                from,
+                to,
+                amount,
+            } => Ok(Edit::Limit {
+                link: *link,
+                from: *from,
+                to: *to,
+                amount: *amount,
+            }),
+            Edit::Split {
+                node,
+                destination,
+                from,
+                weights,
+            } => Ok(Edit::Split {
+                node: *node,
+                destination: *destination,
+                from: *from,
+                weights: *weights,
+            }),
+            Edit::Splits {
+                node,
+                destination,
+                rows,
+            } => Ok(Edit::Splits {
+                node: *node,
+                destination: *destination,
+                rows: rows.try_copy()?,
+            }),
+            Edit::Diagram { link, diagram } => Ok(Edit::Diagram {
+                link: *link,
+                diagram: *diagram,
+            }),
+            Edit::Exit {
+                link,
+                from,
+                to,
+                amount,
+            } => Ok(Edit::Exit {
+                link: *link,
+                from: *from,
+                to: *to,
+                amount: *amount,
+            }),
+            Edit::Horizon { slots } => Ok(Edit::Horizon { slots: *slots }),
         }
     }
 }
@@ -89,18 +168,19 @@ pub enum EditCause {
     NoOrigin,
     /// The origin, or the node of a split row, is the destination.
     SameEnds,
-    /// The slots are none, or go past the horizon; or a new horizon is no longer than the old one, or above 10,000 slots.
+    /// The slots are none, or go past the horizon; or the first row of a pair does not begin at slot 0, or another not behind
+    /// the one before it; or a new horizon is no longer than the old one, or above 10,000 slots.
     BadSlots,
     /// The origin and the destination have no split row; or the row would be the first of its node and destination and
     /// begin late; or a weight leads to a node that is not the destination and has no split row for it.
     OpenSplit,
     /// All weights are 0.
     ZeroWeight,
-    /// There would be more than 10,000 demand rows, or more than 50,000 split rows.
+    /// There would be more demand rows, or more split rows, than the case may have.
     TooManyRows,
     /// The diagram sets no limits at the step of the setup.
     Diagram(DiagramFault),
-    /// Over the new horizon the cells would be more than 54,000,000; this many.
+    /// Over the new horizon the cells would be more than the setup allows; this many.
     CellsOver(u128),
     /// Memory was not found.
     NoMemory,

@@ -10,6 +10,7 @@ ghost use Rattle.ltm_scenario.specs.Parts.{scenario_in, state_in, AreParts};
 ghost use Rattle.ltm_units.specs.Bounds.{most_amount};
 
 mod split;
+mod splits;
 
 use crate::edit::{Edit, EditCause, EditFault};
 use crate::faults::HorizonFault;
@@ -83,34 +84,39 @@ impl Parts {
         ensures room { KeepsRoom (state_in self.old) (state_in self.new) }
         ensures parts { AreParts self.new }
     {
-        match *edit {
+        match edit {
             Edit::Demand {
                 origin,
                 destination,
                 from,
                 to,
                 amount,
-            } => return self.edit_demand(&origin, &destination, from, to, amount),
+            } => return self.edit_demand(origin, destination, *from, *to, *amount),
             Edit::Limit {
                 link,
                 from,
                 to,
                 amount,
-            } => return self.edit_limit(Side::Entry, &link, from, to, amount),
+            } => return self.edit_limit(Side::Entry, link, *from, *to, *amount),
             Edit::Split {
                 node,
                 destination,
                 from,
                 weights,
-            } => return self.edit_split(&node, &destination, from, &weights),
-            Edit::Diagram { link, diagram } => return self.edit_diagram(&link, diagram),
+            } => return self.edit_split(node, destination, *from, weights),
+            Edit::Splits {
+                node,
+                destination,
+                rows,
+            } => return self.edit_splits(node, destination, rows.rows()),
+            Edit::Diagram { link, diagram } => return self.edit_diagram(link, *diagram),
             Edit::Exit {
                 link,
                 from,
                 to,
                 amount,
-            } => return self.edit_limit(Side::Exit, &link, from, to, amount),
-            Edit::Horizon { slots } => return self.edit_horizon(slots),
+            } => return self.edit_limit(Side::Exit, link, *from, *to, *amount),
+            Edit::Horizon { slots } => return self.edit_horizon(*slots),
         }
     }
 

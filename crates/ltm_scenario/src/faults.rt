@@ -29,7 +29,7 @@ impl From<NoMemory> for LinkFault {
 /// Why a node does not become a destination.
 #[derive(Clone, Copy, Debug, PartialEq, Eq)]
 pub enum DestinationFault {
-    /// There are 64 destinations, and the node is none of them.
+    /// There are as many destinations as the setup allows, and the node is none of them.
     TooMany,
     /// Memory was not found.
     NoMemory,

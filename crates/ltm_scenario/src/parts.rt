@@ -14,7 +14,7 @@ use crate::diagrams::Diagrams;
 use crate::setup::Setup;
 use ltm_demand::Demand;
 use ltm_limits::SlotLimits;
-use ltm_network::Network;
+use ltm_network::{Network, networks_stay_networks};
 use ltm_splits::Splits;
 use std::alloc::Global;
 
@@ -53,20 +53,21 @@ impl Drop for Parts {
 
 impl Parts {
     /// No link, no destination, no row.
-    #[tactic(auto, using(crate::proofs::Empty::empty_is_scenario))]
+    #[tactic(auto, using(crate::proofs::Empty::empty_is_scenario, crate::proofs::Empty::is_setup))]
     pub fn new(alloc: Global, setup: Setup) -> Parts
         requires { setup_checked setup ≡ Ok tt }
         ensures scenario { scenario_in result ≡ empty_scenario setup }
         ensures parts { AreParts result }
     {
+        networks_stay_networks();
         Parts {
             alloc,
             setup,
-            network: Network::new(alloc),
+            network: Network::of_most(alloc, setup.most_links),
             diagrams: Diagrams::new(alloc, setup.step),
             destinations: Destinations::new(alloc),
-            demand: Demand::new(alloc, setup.slots),
-            splits: Splits::new(alloc, setup.slots),
+            demand: Demand::of_most(alloc, setup.slots, setup.most_demand_rows),
+            splits: Splits::of_most(alloc, setup.slots, setup.most_split_rows),
             entry: SlotLimits::new(alloc, setup.slots),
             exit: SlotLimits::new(alloc, setup.slots),
         }

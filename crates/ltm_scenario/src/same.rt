@@ -31,6 +31,30 @@ fn same_weights(a: &Weights, b: &Weights) -> bool
     same_pairs(a.pairs(), b.pairs())
 }
 
+fn same_row(a: &(u32, Weights), b: &(u32, Weights)) -> bool
+    ensures { IsTrue result ↔ (a.now ≡ b.now) }
+{
+    a.0 == b.0 && same_weights(&a.1, &b.1)
+}
+
+fn same_rows(a: &[(u32, Weights)], b: &[(u32, Weights)]) -> bool
+    ensures { IsTrue result ↔ (a.now ≡ b.now) }
+{
+    let mut left = a;
+    let mut right = b;
+    'rows: while let Some((x, xs)) = left.split_first() {
+        let Some((y, ys)) = right.split_first() else {
+            return false;
+        };
+        if !same_row(x, y) {
+            return false;
+        }
+        left = xs;
+        right = ys;
+    }
+    right.is_empty()
+}
+
 fn same_diagram(a: &Diagram, b: &Diagram) -> bool
     ensures { IsTrue result ↔ (a.now ≡ b.now) }
 {
@@ -102,6 +126,18 @@ pub fn same_edit(a: &Edit, b: &Edit) -> bool
             && same_name(destination, d)
             && *from == *f
             && same_weights(weights, w),
+        (
+            Edit::Splits {
+                node,
+                destination,
+                rows,
+            },
+            Edit::Splits {
+                node: n,
+                destination: d,
+                rows: r,
+            },
+        ) => same_name(node, n) && same_name(destination, d) && same_rows(rows.rows(), r.rows()),
         (
             Edit::Diagram { link, diagram },
             Edit::Diagram {

@@ -144,12 +144,19 @@ impl Scenario {
         }
     }
 
-    /// The step, the slots, the capacity of origins and the most cells.
+    /// The step, the slots, the capacity of origins, how large the case may be, and how nodes move.
     pub fn setup(&self) -> &Setup
         ensures setup { result.now ≡ self.now.setup }
         ensures scenario { IsScenario self.now }
     {
         &self.parts.setup
+    }
+
+    /// Whether what moves through a turn is floored for the turn, and not for each destination.
+    pub fn by_turn(&self) -> bool
+        ensures { result ≡ self.now.setup.by_turn }
+    {
+        self.parts.setup.by_turn
     }
 
     /// The nodes and links.

@@ -1,15 +1,31 @@
 //! The setup of a case.
 ghost use Rattle.std.specs.Prelude.{◌≡◌, ◌&&◌};
+ghost use Rattle.ltm_scenario.specs.Setup.{limited};
 
+use ltm_demand::DEFAULT_DEMAND_ROWS;
+use ltm_network::DEFAULT_LINKS;
+use ltm_splits::DEFAULT_SPLIT_ROWS;
 use ltm_units::{Millis, Units};
 
 /// The most slots of a horizon.
 pub const MOST_SLOTS: u32 = 10_000;
 
-/// The most cells of a case that does not say how many it may have.
-pub const MOST_CELLS: u32 = 54_000_000;
+/// The most rows of demand, and of splits, that a setup may ask for.
+const MOST_ROWS: u64 = 500_000;
 
-/// How long a slot is, how many there are, what leaves an origin in one, and how large a case is asked for.
+/// The most links that a setup may ask for.
+const MOST_LINKS: u64 = 16_000;
+
+/// The most destinations that a setup may ask for.
+const MOST_DESTINATIONS: u64 = 256;
+
+/// The most cells of a case that does not say how many it may have.
+pub const DEFAULT_CELLS: u32 = 54_000_000;
+
+/// The most destinations of such a case.
+pub const DEFAULT_DESTINATIONS: u32 = 64;
+
+/// How long a slot is, how many there are, what leaves an origin in one, how large the case may be, and how nodes move.
 #[derive(Clone, Copy, Debug, PartialEq, Eq)]
 pub struct Setup {
     /// The length of a slot, 1 to 60,000 ms.
@@ -18,8 +34,18 @@ pub struct Setup {
     pub slots: u32,
     /// The most that leaves an origin in a slot, 1 to 32,000 thousandths of a vehicle.
     pub origin_capacity: Units,
-    /// The most cells that the case may have, 1 to 2,000,000,000.
+    /// The most cells that the case may have, at least 1.
     pub most_cells: u32,
+    /// The most rows of demand, 1 to 500,000.
+    pub most_demand_rows: u32,
+    /// The most split rows, 1 to 500,000.
+    pub most_split_rows: u32,
+    /// The most links, 1 to 16,000.
+    pub most_links: u32,
+    /// The most destinations, 1 to 256.
+    pub most_destinations: u32,
+    /// Whether what moves through a turn is floored for the turn, and not for each destination.
+    pub by_turn: bool,
 }
 
 /// Why a setup is none.
@@ -29,12 +55,18 @@ pub enum SetupFault {
     Range(u32),
     /// These three are within their limits, and the most cells are not.
     MostCells,
+    /// All before are within their limits, and the most rows of demand or of splits are not.
+    MostRows,
+    /// All before are within their limits, and the most links are not.
+    MostLinks,
+    /// All before are within their limits, and the most destinations are not.
+    MostDestinations,
 }
 
 impl Setup {
     ghost use Rattle.ltm_scenario.specs.Setup.{setup_of, setup_checked};
 
-    /// The setup of a case that does not say how many cells it may have.
+    /// The setup of a case that does not say how large it may be.
     pub fn of(step: Millis, slots: u32, origin_capacity: Units) -> Setup
         ensures { result ≡ setup_of step slots origin_capacity }
     {
@@ -42,7 +74,12 @@ impl Setup {
             step,
             slots,
             origin_capacity,
-            most_cells: MOST_CELLS,
+            most_cells: DEFAULT_CELLS,
+            most_demand_rows: DEFAULT_DEMAND_ROWS,
+            most_split_rows: DEFAULT_SPLIT_ROWS,
+            most_links: DEFAULT_LINKS,
+            most_destinations: DEFAULT_DESTINATIONS,
+            by_turn: false,
         }
     }
 
@@ -50,18 +87,48 @@ impl Setup {
     pub(crate) fn check(&self) -> Result<(), SetupFault>
         ensures { result ≡ setup_checked self.now }
     {
-        if !(1..=60_000).contains(&self.step.0) {
-            return Err(SetupFault::Range(1));
-        }
-        if !(1..=MOST_SLOTS).contains(&self.slots) {
-            return Err(SetupFault::Range(2));
-        }
-        if !(1..=32_000).contains(&self.origin_capacity.0) {
-            return Err(SetupFault::Range(3));
-        }
-        if !(1..=2_000_000_000).contains(&self.most_cells) {
-            return Err(SetupFault::MostCells);
-        }
-        Ok(())
+        limited(60_000, self.step.0, SetupFault::Range(1))?;
+        limited(
+            u64::from(MOST_SLOTS),
+            u64::from(self.slots),
+            SetupFault::Range(2),
+        )?;
+        limited(32_000, self.origin_capacity.0, SetupFault::Range(3))?;
+        limited(
+            u64::from(u32::MAX),
+            u64::from(self.most_cells),
+            SetupFault::MostCells,
+        )?;
+        limited(
+            MOST_ROWS,
+            u64::from(self.most_demand_rows),
+            SetupFault::MostRows,
+        )?;
+        limited(
+            MOST_ROWS,
+            u64::from(self.most_split_rows),
+            SetupFault::MostRows,
+        )?;
+        limited(
+            MOST_LINKS,
+            u64::from(self.most_links),
+            SetupFault::MostLinks,
+        )?;
+        let destinations = u64::from(self.most_destinations);
+        limited(
+            MOST_DESTINATIONS,
+            destinations,
+            SetupFault::MostDestinations,
+        )
     }
+}
+
+/// Refuses a number that is 0 or more than this.
+fn limited(most: u64, number: u64, fault: SetupFault) -> Result<(), SetupFault>
+    ensures { result ≡ limited most number fault }
+{
+    if !(1..=most).contains(&number) {
+        return Err(fault);
+    }
+    Ok(())
 }

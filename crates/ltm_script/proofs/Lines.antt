@@ -11,11 +11,12 @@ use Rattle.ltm_scenario.specs.declared.edit.Edit.{Edit}
 use Rattle.ltm_scenario.specs.Batch.{is_count}
 use Rattle.ltm_script.specs.declared.command.Command.{Command}
 use Rattle.ltm_script.specs.declared.command.Command.TheVariants as command
+use Rattle.ltm_script.specs.declared.command.Question.{Question}
 use Rattle.ltm_script.specs.declared.command.CommandFault.{CommandFault}
 use Rattle.ltm_script.specs.declared.command.CommandFault.TheVariants.{NotJson, NotCommand, NoMemory}
 use Rattle.ltm_script.specs.Members.{text_in}
 use Rattle.ltm_script.specs.Edits.{edits_from}
-use Rattle.ltm_script.specs.Commands.{count_of, or_none, batch_of, array_of, link_of, time_of, queue_of, origin_of, command_by, command_from, command_of}
+use Rattle.ltm_script.specs.Commands.{count_of, or_none, batch_of, array_of, question_by, command_by, command_from, command_of}
 use Rattle.ltm_script.specs.Line.{value_of, command_in, reading}
 use Rattle.ltm_script.proofs.Placed.{edits_never}
 
@@ -39,9 +40,9 @@ either : (b : Bool) (x y : Result Command CommandFault) → x ≢ Err NoMemory �
 either true x y first second = first
 either false x y first second = second
 
-or_none_never : (c : Option Command) → or_none c ≢ Err NoMemory
+or_none_never : (q : Option Question) → or_none q ≢ Err NoMemory
 or_none_never None = λ is. cc
-or_none_never (Some c) = λ is. cc
+or_none_never (Some q) = λ is. cc
 
 batch_never : (edits : Result (List Edit) CommandFault) → edits ≢ Err NoMemory → batch_of edits ≢ Err NoMemory
 batch_never (Ok es) never = λ is. cc
@@ -57,13 +58,7 @@ command_never : (word : Option (List ℕ)) (d : Data) → command_from word d �
 command_never None d = λ is. cc
 command_never (Some word) d =
     either (same word (codes "edit")) _ _ (array_never (option_and_then as_array (get (codes "edits") d)))
-    (either (same word (codes "totals")) _ _ (λ is. cc)
-    (either (same word (codes "link")) _ _ (or_none_never (link_of d))
-    (either (same word (codes "time")) _ _ (or_none_never (time_of d))
-    (either (same word (codes "delay")) _ _ (λ is. cc)
-    (either (same word (codes "queue")) _ _ (or_none_never (queue_of d))
-    (either (same word (codes "origin")) _ _ (or_none_never (origin_of d))
-    (either (same word (codes "settle")) _ _ (λ is. cc) (λ is. cc))))))))
+    (either (same word (codes "settle")) _ _ (λ is. cc) (or_none_never (question_by word d)))
 
 reading_never : (value : Option Data) → command_in value ≢ Err NoMemory
 reading_never None = λ is. cc

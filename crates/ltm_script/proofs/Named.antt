@@ -12,12 +12,12 @@ use Rattle.serde_json.specs.declared.value.Value.{Value}
 use Rattle.ltm_scenario.specs.Weights.{NamedWeight, are_weights, are_apart, as_weights}
 use Rattle.ltm_script.specs.Weights.{weight_of, weights_of, before}
 
--- a list of weights before others, where the others are weights
-abbrev pub joined : List NamedWeight → Option (List NamedWeight) → Option (List NamedWeight)
+-- a list before others, where the others are told
+abbrev pub joined : {A : Type 0} → List A → Option (List A) → Option (List A)
 joined front None = None
-joined front (Some ws) = Some (front ++ ws)
+joined front (Some xs) = Some (front ++ xs)
 
-pub one_more : (front : List NamedWeight) (w : NamedWeight) (more : Option (List NamedWeight)) → joined (front ++ w ∷ []) more ≡ joined front (before (Some w) more)
+pub one_more : {A : Type 0} (front : List A) (w : A) (more : Option (List A)) → joined (front ++ w ∷ []) more ≡ joined front (before (Some w) more)
 one_more front w None = refl
 one_more front w (Some ws) = ap Some (append_assoc front (w ∷ []) ws)
 

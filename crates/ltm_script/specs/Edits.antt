@@ -3,11 +3,12 @@ use Rattle.std.specs.Prelude.{ℕ, ◌+◌, List, [], ◌∷◌, codes, Option, 
 use Rattle.serde_json.specs.Data.{Data, Items, no_items, item}
 use Rattle.ltm_scenario.specs.Names.{same}
 use Rattle.ltm_scenario.specs.declared.edit.Edit.{Edit}
-use Rattle.ltm_scenario.specs.declared.edit.Edit.TheVariants.{Demand, Limit, Split, Diagram as NewDiagram, Exit, Horizon}
+use Rattle.ltm_scenario.specs.declared.edit.Edit.TheVariants.{Demand, Limit, Split, Splits, Diagram as NewDiagram, Exit, Horizon}
 use Rattle.ltm_script.specs.declared.command.CommandFault.{CommandFault}
 use Rattle.ltm_script.specs.declared.command.CommandFault.TheVariants.{NotCommand}
 use Rattle.ltm_script.specs.Members.{◌>>=◌, text_in, name_in, whole_in, amount_in}
 use Rattle.ltm_script.specs.Weights.{weights_in}
+use Rattle.ltm_script.specs.Rows.{rows_in}
 
 unfoldable pub demand_of : Data → Option Edit
 demand_of d = do
@@ -42,6 +43,13 @@ split_of d = do
   weights ← weights_in d
   Some (Split node destination from weights)
 
+unfoldable pub splits_of : Data → Option Edit
+splits_of d = do
+  node ← name_in (codes "node") d
+  destination ← name_in (codes "destination") d
+  rows ← rows_in d
+  Some (Splits node destination rows)
+
 unfoldable pub diagram_of : Data → Option Edit
 diagram_of d = do
   link ← name_in (codes "link") d
@@ -62,6 +70,7 @@ edit_by kind d =
     if same kind (codes "demand") then demand_of d
     else if same kind (codes "limit") then limit_of d
     else if same kind (codes "split") then split_of d
+    else if same kind (codes "splits") then splits_of d
     else if same kind (codes "diagram") then diagram_of d
     else if same kind (codes "exit") then exit_of d
     else if same kind (codes "horizon") then horizon_of d

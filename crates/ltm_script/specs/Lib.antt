@@ -4,3 +4,4 @@ pub mod Gives
 pub mod Line
 pub mod Members
 pub mod Weights
+pub mod Rows

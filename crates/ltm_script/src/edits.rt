@@ -2,15 +2,17 @@
 ghost use Rattle.std.specs.Prelude.{◌≡◌, ◌≤◌, Some, IfSome, IfOk, OnErr, length};
 ghost use Rattle.serde_json.specs.View.{view, items_view};
 ghost use Rattle.ltm_scenario.specs.Edits.{amount_of, HaveAmounts};
-ghost use Rattle.ltm_script.specs.Edits.{demand_of, limit_of, split_of, diagram_of, exit_of, horizon_of, edit_of, edits_from};
+ghost use Rattle.ltm_script.specs.Edits.{demand_of, limit_of, split_of, splits_of, diagram_of, exit_of, horizon_of, edit_of, edits_from};
 ghost use Rattle.ltm_script.specs.Gives.{Gives};
 ghost use Rattle.ltm_units.specs.Bounds.{most_amount};
 
 use crate::CommandFault;
 use crate::members::{find_amount, find_name, find_text, find_whole};
+use crate::rows::find_rows;
 use crate::weights::find_weights;
 use ltm_diagram::Diagram;
 use ltm_scenario::Edit;
+use ltm_units::NoMemory;
 use serde_json::Value;
 use std::alloc::Global;
 
@@ -84,6 +86,27 @@ fn read_split(value: &Value) -> Option<Edit>
     })
 }
 
+#[tactic(auto, unfolding(crate::specs::Edits::splits_of))]
+fn read_splits(alloc: Global, value: &Value) -> Result<Option<Edit>, NoMemory>
+    ensures edit { IfOk result (λ edit. edit ≡ splits_of (view value.now)) }
+    ensures small { IfOk result (λ edit. IfSome edit (λ e. amount_of e ≤ most_amount)) }
+{
+    let Some(node) = find_name(value, "node") else {
+        return Ok(None);
+    };
+    let Some(destination) = find_name(value, "destination") else {
+        return Ok(None);
+    };
+    let Some(rows) = find_rows(alloc, value, node)? else {
+        return Ok(None);
+    };
+    Ok(Some(Edit::Splits {
+        node,
+        destination,
+        rows,
+    }))
+}
+
 #[tactic(auto, unfolding(crate::specs::Edits::diagram_of))]
 fn read_diagram(value: &Value) -> Option<Edit>
     ensures edit { result ≡ diagram_of (view value.now) }
@@ -113,18 +136,22 @@ fn read_horizon(value: &Value) -> Option<Edit>
 }
 
 /// The edit that a value is, by its kind.
-fn read_edit(value: &Value) -> Option<Edit>
-    ensures edit { result ≡ edit_of (view value.now) }
-    ensures small { IfSome result (λ edit. amount_of edit ≤ most_amount) }
+fn read_edit(alloc: Global, value: &Value) -> Result<Option<Edit>, NoMemory>
+    ensures edit { IfOk result (λ edit. edit ≡ edit_of (view value.now)) }
+    ensures small { IfOk result (λ edit. IfSome edit (λ e. amount_of e ≤ most_amount)) }
 {
-    match find_text(value, "kind")? {
-        "demand" => read_demand(value),
-        "limit" => read_limit(value),
-        "split" => read_split(value),
-        "diagram" => read_diagram(value),
-        "exit" => read_exit(value),
-        "horizon" => read_horizon(value),
-        _ => None,
+    let Some(kind) = find_text(value, "kind") else {
+        return Ok(None);
+    };
+    match kind {
+        "demand" => Ok(read_demand(value)),
+        "limit" => Ok(read_limit(value)),
+        "split" => Ok(read_split(value)),
+        "splits" => read_splits(alloc, value),
+        "diagram" => Ok(read_diagram(value)),
+        "exit" => Ok(read_exit(value)),
+        "horizon" => Ok(read_horizon(value)),
+        _ => Ok(None),
     }
 }
 
@@ -137,9 +164,10 @@ pub(crate) fn read_edits(alloc: Global, values: &[Value]) -> Result<Vec<Edit>, C
     let mut edits = Vec::new(alloc);
     let mut place: u32 = 1;
     for value in values {
-        match read_edit(value) {
-            None => return Err(CommandFault::NotCommand(place)),
-            Some(edit) => {
+        match read_edit(alloc, value) {
+            Err(_) => return Err(CommandFault::NoMemory),
+            Ok(None) => return Err(CommandFault::NotCommand(place)),
+            Ok(Some(edit)) => {
                 if edits.push(edit).is_err() {
                     return Err(CommandFault::NoMemory);
                 }

@@ -9,7 +9,8 @@ mod command;
 mod edits;
 mod line;
 mod members;
+mod rows;
 mod weights;
 
-pub use command::{Command, CommandFault};
+pub use command::{Command, CommandFault, Question};
 pub use line::{every_line_is_read, read_command};

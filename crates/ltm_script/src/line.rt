@@ -2,12 +2,12 @@
 ghost use Rattle.std.specs.Prelude.{◌≡◌, ◌≢◌, ◌≤◌, Some, Err, IfOk, OnErr, codes, length, option_map, option_and_then};
 ghost use Rattle.serde_json.specs.Find.{as_array, get};
 ghost use Rattle.serde_json.specs.View.{view, items_view};
-ghost use Rattle.ltm_script.specs.Commands.{command_of, array_of, HasAmounts};
+ghost use Rattle.ltm_script.specs.Commands.{question_by, command_of, array_of, HasAmounts};
 ghost use Rattle.ltm_script.specs.Line.{reading, EveryLineIsRead};
 
 use crate::edits::read_edits;
 use crate::members::{find_name, find_text, find_whole};
-use crate::{Command, CommandFault};
+use crate::{Command, CommandFault, Question};
 use ltm_scenario::{Batch, BatchFault};
 use serde_json::Value;
 use std::alloc::Global;
@@ -43,6 +43,49 @@ fn read_batch(alloc: Global, values: &Vec<Value>) -> Result<Command, CommandFaul
     }
 }
 
+/// The question that a value asks by a word.
+fn read_question(value: &Value, word: &str) -> Option<Question>
+    ensures { result ≡ question_by word.now (view value.now) }
+{
+    match word {
+        "totals" => Some(Question::Totals),
+        "link" => {
+            let link = find_name(value, "link")?;
+            Some(Question::Link(link))
+        }
+        "time" => {
+            let link = find_name(value, "link")?;
+            let slot = find_whole(value, "slot")?;
+            Some(Question::Time { link, slot })
+        }
+        "delay" => Some(Question::Delay),
+        "queue" => {
+            let link = find_name(value, "link")?;
+            let slot = find_whole(value, "slot")?;
+            Some(Question::Queue { link, slot })
+        }
+        "origin" => {
+            let node = find_name(value, "node")?;
+            let slot = find_whole(value, "slot")?;
+            Some(Question::Origin { node, slot })
+        }
+        "state" => {
+            let slot = find_whole(value, "slot")?;
+            Some(Question::State { slot })
+        }
+        "curve" => {
+            let link = find_name(value, "link")?;
+            Some(Question::Curve { link })
+        }
+        "departures" => {
+            let node = find_name(value, "node")?;
+            Some(Question::Departures { node })
+        }
+        "delays" => Some(Question::Delays),
+        _ => None,
+    }
+}
+
 /// The command that a value is.
 fn read_value(alloc: Global, value: &Value) -> Result<Command, CommandFault>
     ensures command { result ≢ Err CommandFault.NoMemory → result ≡ command_of (view value.now) }
@@ -51,29 +94,11 @@ fn read_value(alloc: Global, value: &Value) -> Result<Command, CommandFault>
     let no_command = CommandFault::NotCommand(0);
     match find_text(value, "do").ok_or(no_command)? {
         "edit" => read_batch(alloc, find_edits(value).ok_or(no_command)?),
-        "totals" => Ok(Command::Totals),
-        "link" => {
-            let link = find_name(value, "link").ok_or(no_command)?;
-            Ok(Command::Link(link))
-        }
-        "time" => {
-            let link = find_name(value, "link").ok_or(no_command)?;
-            let slot = find_whole(value, "slot").ok_or(no_command)?;
-            Ok(Command::Time { link, slot })
-        }
-        "delay" => Ok(Command::Delay),
-        "queue" => {
-            let link = find_name(value, "link").ok_or(no_command)?;
-            let slot = find_whole(value, "slot").ok_or(no_command)?;
-            Ok(Command::Queue { link, slot })
-        }
-        "origin" => {
-            let node = find_name(value, "node").ok_or(no_command)?;
-            let slot = find_whole(value, "slot").ok_or(no_command)?;
-            Ok(Command::Origin { node, slot })
-        }
         "settle" => Ok(Command::Settle),
-        _ => Err(no_command),
+        word => {
+            let question = read_question(value, word).ok_or(no_command)?;
+            Ok(Command::Ask(question))
+        }
     }
 }
 

@@ -2,7 +2,7 @@
 ghost use Rattle.std.specs.Prelude.{◌≡◌, option_and_then};
 ghost use Rattle.serde_json.specs.View.{view, members_view};
 ghost use Rattle.ltm_scenario.specs.Weights.{as_weights};
-ghost use Rattle.ltm_script.specs.Weights.{weight_of, weights_of, weights_in};
+ghost use Rattle.ltm_script.specs.Weights.{weight_of, weights_of, weights_from, weights_in};
 
 use crate::members::read_whole;
 use ltm_scenario::Weights;
@@ -38,15 +38,22 @@ fn read_members(members: &Map<String, Value>, filler: Name) -> Option<Weights>
     Weights::of(Four::of(&places[..count])?)
 }
 
+/// The weights that the members of an object are.
+pub(crate) fn read_weights(value: &Value, filler: Name) -> Option<Weights>
+    ensures { result ≡ weights_from (view value.now) }
+{
+    match value.as_object() {
+        Some(members) => read_members(members, filler),
+        None => None,
+    }
+}
+
 /// The weights of an edit.
 pub(crate) fn find_weights(value: &Value, filler: Name) -> Option<Weights>
     ensures { result ≡ weights_in (view value.now) }
 {
     match value.get("weights") {
-        Some(found) => match found.as_object() {
-            Some(members) => read_members(members, filler),
-            None => None,
-        },
+        Some(found) => read_weights(found, filler),
         None => None,
     }
 }

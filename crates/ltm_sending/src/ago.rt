@@ -2,6 +2,7 @@
 ghost use Rattle.std.specs.Prelude.{◌≡◌, ℕ, ◌+◌, ◌*◌, ◌/◌, ◌^◌, ◌<◌, ◌≤◌};
 ghost use Rattle.ltm_curve.specs.Counts.{Rises};
 ghost use Rattle.ltm_curve.specs.Table.{groups_of, destinations_of, slots_of, total_of};
+ghost use Rattle.ltm_curve.specs.Totals.{most_total};
 ghost use Rattle.ltm_diagram.specs.Delays.{IsDelay};
 ghost use Rattle.ltm_loading.specs.Flows.{earlier};
 ghost use Rattle.ltm_units.specs.Bounds.{longest_step};
@@ -68,7 +69,7 @@ pub(crate) fn total_ago<K: Kind>(
 fn interpolated_part(units: u64, rest: u32, step: Millis) -> u64
     requires small_step { step.0 ≤ longest_step }
     requires rest { rest < step.0 }
-    requires small { units ≤ 2 ^ 37 }
+    requires small { units ≤ most_total }
     ensures part { result ≡ units * rest / step.0 }
     ensures within { result ≤ units }
 {

@@ -27,12 +27,7 @@ settle_count log n c = let (count, rest) = c.exact in count
 count_beside : (s : Analysts) (said : Result Command CommandFault) (text : List ℕ) (t : Analysts) → Answers CountsAlone s said text t → Answers IsSettleCount s said text t
 count_beside s (Ok command.Settle) text t ((n, count, is), same) = ((n, settle_count s.log n count, is), same)
 count_beside s (Ok (command.Edit batch)) text t a = a
-count_beside s (Ok command.Totals) text t a = a
-count_beside s (Ok (command.Link name)) text t a = a
-count_beside s (Ok (command.Time name slot)) text t a = a
-count_beside s (Ok command.Delay) text t a = a
-count_beside s (Ok (command.Queue name boundary)) text t a = a
-count_beside s (Ok (command.Origin name boundary)) text t a = a
+count_beside s (Ok (command.Ask q)) text t a = a
 count_beside s (Err f) text t a = a
 
 -- no more batches are shown than accepted
@@ -56,12 +51,7 @@ settled_finished laws s = let same = laws.version_mark s.log in omega (arith, sa
 finished : (laws : LogLaws) (s : Analysts) (said : Result Command CommandFault) (text : List ℕ) (t : Analysts) → IsFinished s → Answers CountsAlone s said text t → IsFinished t
 finished laws s (Ok command.Settle) text t is (count, same) = stays_finished (settled s) t same (settled_finished laws s)
 finished laws s (Ok (command.Edit batch)) text t is a = edit_finished laws s t batch text (edited_all (scenario_now s.log) batch) is a
-finished laws s (Ok command.Totals) text t is (told, same) = stays_finished s t same is
-finished laws s (Ok (command.Link name)) text t is (told, same) = stays_finished s t same is
-finished laws s (Ok (command.Time name slot)) text t is (told, same) = stays_finished s t same is
-finished laws s (Ok command.Delay) text t is (told, same) = stays_finished s t same is
-finished laws s (Ok (command.Queue name boundary)) text t is (told, same) = stays_finished s t same is
-finished laws s (Ok (command.Origin name boundary)) text t is (told, same) = stays_finished s t same is
+finished laws s (Ok (command.Ask q)) text t is (told, same) = stays_finished s t same is
 finished laws s (Err fault.NotJson) text t is (told, same) = stays_finished s t same is
 finished laws s (Err (fault.NotCommand place)) text t is (told, same) = stays_finished s t same is
 finished laws s (Err fault.NoMemory) text t is none = absurd none

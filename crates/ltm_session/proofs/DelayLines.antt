@@ -1,4 +1,4 @@
--- Reports of queues and delays, and why one is refused: each is one line.
+-- Reports of queues and delays: each is one line.
 use Rattle.std.proofs.Common.{ℕ, ◌≡◌, ◌≢◌, ◌+◌, ◌/◌, ◌%◌, true, List, [], ◌∷◌, ◌++◌, refl, codes, arith}
 use Rattle.std.proofs.lemmas.List.Elements.{All-nil, All-cons}
 use Rattle.std.specs.Fmt.{decimal}
@@ -14,21 +14,12 @@ use Rattle.ltm_flows.specs.Origins.{produced_in_all, departed_from}
 use Rattle.ltm_report.specs.Pieces.{version_piece}
 use Rattle.ltm_report.specs.Links.{name_piece, through_piece}
 use Rattle.ltm_report.specs.Times.{slot_piece}
-use Rattle.ltm_report.specs.Refusals.{unknown_queue_line, queue_slots_line, unknown_origin_line, origin_slots_line}
 use Rattle.ltm_report.specs.Delays.{seconds_text, seconds_piece, spent_piece, waited_piece, queue_piece, delay_line, queue_line, node_piece, origin_piece, origin_line}
 use Rattle.ltm_report.specs.DelayReports.{delay_report, queue_report, origin_report}
 use Rattle.ltm_session.specs.OneLine.{IsPlain, IsOneLine}
 use Rattle.ltm_session.proofs.Pieces.{plain_append, plain_words, plain_decimal, plain_amount, plain_name}
 use Rattle.ltm_session.proofs.OneLine.{one_line}
 use Rattle.ltm_session.proofs.ReportLines.{version_plain, name_plain, through_plain, slot_plain, opens_plain}
-
-pub unknown_queue_one : IsOneLine unknown_queue_line
-unfolding unknown_queue_line
-unknown_queue_one = one_line (codes "refused queue UnknownName") (plain_words (codes "refused queue UnknownName") refl)
-
-pub queue_slots_one : IsOneLine queue_slots_line
-unfolding queue_slots_line
-queue_slots_one = one_line (codes "refused queue BadSlots") (plain_words (codes "refused queue BadSlots") refl)
 
 -- ---- times
 next_plain : (b : ℕ) (more : List ℕ) → b ≢ 10 → IsPlain more → IsPlain (b ∷ more)
@@ -54,17 +45,17 @@ seconds_plain n =
     (next_plain 46 (a ∷ b ∷ c ∷ d ∷ e ∷ f ∷ []) (omega arith)
     (six_plain a b c d e f (omega arith) (omega arith) (omega arith) (omega arith) (omega arith) (omega arith)))
 
-plain_seconds : (words : List ℕ) (n : ℕ) → IsPlain words → IsPlain (seconds_piece words n)
+pub plain_seconds : (words : List ℕ) (n : ℕ) → IsPlain words → IsPlain (seconds_piece words n)
 unfolding seconds_piece
 plain_seconds words n plain = plain_append words (seconds_text n) plain (seconds_plain n)
 
-spent_plain : (a b : ℕ) → IsPlain (spent_piece a b)
+pub spent_plain : (a b : ℕ) → IsPlain (spent_piece a b)
 unfolding spent_piece
 spent_plain a b = plain_append (seconds_piece (codes " spent ") a) (seconds_piece (codes " queued ") b)
     (plain_seconds (codes " spent ") a (plain_words (codes " spent ") refl))
     (plain_seconds (codes " queued ") b (plain_words (codes " queued ") refl))
 
-waited_plain : (n : ℕ) → IsPlain (waited_piece n)
+pub waited_plain : (n : ℕ) → IsPlain (waited_piece n)
 unfolding waited_piece
 waited_plain n = plain_seconds (codes " waited ") n (plain_words (codes " waited ") refl)
 
@@ -98,15 +89,7 @@ queue_report_one version name link boundary s c is =
     queue_one version name boundary (entered_link s c link boundary) (left_link s c link boundary) (queue_at s c link boundary) is
 
 -- ---- origins
-pub unknown_origin_one : IsOneLine unknown_origin_line
-unfolding unknown_origin_line
-unknown_origin_one = one_line (codes "refused origin UnknownName") (plain_words (codes "refused origin UnknownName") refl)
-
-pub origin_slots_one : IsOneLine origin_slots_line
-unfolding origin_slots_line
-origin_slots_one = one_line (codes "refused origin BadSlots") (plain_words (codes "refused origin BadSlots") refl)
-
-node_plain : (name : List ℕ) → is_name name ≡ true → IsPlain (node_piece name)
+pub node_plain : (name : List ℕ) → is_name name ≡ true → IsPlain (node_piece name)
 unfolding node_piece
 node_plain name is = plain_append (codes "node ") name (plain_words (codes "node ") refl) (plain_name name is)
 

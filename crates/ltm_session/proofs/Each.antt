@@ -28,12 +28,7 @@ edit_count (Err f) s t batch P Q (p, same) = same_count s t same
 answer_count : (IsCount : Log → ℕ → Type 0) (s : Analysts) (said : Result Command CommandFault) (text : List ℕ) (t : Analysts) → Answers IsCount s said text t → t.settles ≡ s.settles + settle_said said
 answer_count IsCount s (Ok command.Settle) text t (count, same) = ap (λ (a : Analysts). a.settles) same
 answer_count IsCount s (Ok (command.Edit batch)) text t a = edit_count (edited_all (scenario_now s.log) batch) s t batch _ _ a
-answer_count IsCount s (Ok command.Totals) text t (told, same) = same_count s t same
-answer_count IsCount s (Ok (command.Link name)) text t (told, same) = same_count s t same
-answer_count IsCount s (Ok (command.Time name slot)) text t (told, same) = same_count s t same
-answer_count IsCount s (Ok command.Delay) text t (told, same) = same_count s t same
-answer_count IsCount s (Ok (command.Queue name boundary)) text t (told, same) = same_count s t same
-answer_count IsCount s (Ok (command.Origin name boundary)) text t (told, same) = same_count s t same
+answer_count IsCount s (Ok (command.Ask q)) text t (told, same) = same_count s t same
 answer_count IsCount s (Err fault.NotJson) text t (told, same) = same_count s t same
 answer_count IsCount s (Err (fault.NotCommand place)) text t (told, same) = same_count s t same
 answer_count IsCount s (Err fault.NoMemory) text t none = absurd none

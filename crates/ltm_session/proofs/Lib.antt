@@ -10,6 +10,7 @@ pub mod OneMachine
 pub mod Ending
 pub mod Besides
 mod SameReports
+mod SameRows
 mod OneOutput
 pub mod Looking
 mod Pieces
@@ -17,7 +18,7 @@ pub mod OneLine
 mod Named
 mod ReportLines
 mod DelayLines
+mod RowLines
 mod AnswerLines
 mod Promised
 pub mod Kept
-pub mod Standing

@@ -7,22 +7,33 @@ use Rattle.ltm_units.specs.Words.{is_name}
 use Rattle.ltm_network.specs.Names.{same}
 use Rattle.ltm_scenario.specs.declared.edit.Edit.{Edit}
 use Rattle.ltm_scenario.specs.Batch.{is_count}
-use Rattle.ltm_script.specs.Commands.{or_none, batch_of, array_of, link_of, time_of, queue_of, origin_of, command_by, command_from, count_of}
+use Rattle.ltm_script.specs.Commands.{or_none, batch_of, array_of, link_of, time_of, queue_of, origin_of, state_of, curve_of, departures_of, question_by, command_by, command_from, count_of}
 use Rattle.ltm_script.specs.Edits.{edits_from}
 use Rattle.ltm_script.specs.Line.{reading, command_in, value_of}
 use Rattle.ltm_script.specs.Members.{◌>>=◌, text_in, name_of, name_in, whole_in}
 use Rattle.ltm_script.specs.declared.command.Command.{Command}
 use Rattle.ltm_script.specs.declared.command.Command.TheVariants as command
+use Rattle.ltm_script.specs.declared.command.Question.{Question}
+use Rattle.ltm_script.specs.declared.command.Question.TheVariants as question
 use Rattle.ltm_script.specs.declared.command.CommandFault.{CommandFault}
 use Rattle.ltm_script.specs.declared.command.CommandFault.TheVariants as fault
 
--- the name of a question is one
+-- the name in a question is one
+abbrev pub NamesOne : Question → Type 0
+NamesOne (question.Link name) = is_name name ≡ true
+NamesOne (question.Time name slot) = is_name name ≡ true
+NamesOne (question.Queue name boundary) = is_name name ≡ true
+NamesOne (question.Origin name boundary) = is_name name ≡ true
+NamesOne (question.Curve name) = is_name name ≡ true
+NamesOne (question.Departures name) = is_name name ≡ true
+NamesOne q = Unit {0}
+
 abbrev pub HasName : Result Command CommandFault → Type 0
-HasName (Ok (command.Link name)) = is_name name ≡ true
-HasName (Ok (command.Time name slot)) = is_name name ≡ true
-HasName (Ok (command.Queue name boundary)) = is_name name ≡ true
-HasName (Ok (command.Origin name boundary)) = is_name name ≡ true
+HasName (Ok (command.Ask q)) = NamesOne q
 HasName said = Unit {0}
+
+abbrev AsksNamed : Option Question → Type 0
+AsksNamed o = IfSome o NamesOne
 
 abbrev IsNamed : Option (List ℕ) → Type 0
 IsNamed o = IfSome o (λ name. is_name name ≡ true)
@@ -47,35 +58,49 @@ array_named : (o : Option Items) → HasName (array_of o)
 array_named None = tt
 array_named (Some items) = either (is_count (count_of items)) (batch_of (edits_from 1 items)) (Err (fault.NotCommand 0)) (batch_named (edits_from 1 items)) tt
 
-link_named : (o : Option (List ℕ)) → IsNamed o → HasName (or_none (o >>= λ link. Some (command.Link link)))
-link_named None is = tt
-link_named (Some name) is = is
+-- a question that has a name, and one that has a slot too
+one_named : (o : Option (List ℕ)) (ask : List ℕ → Question) → ((name : List ℕ) → is_name name ≡ true → NamesOne (ask name)) → IsNamed o
+    → AsksNamed (o >>= λ name. Some (ask name))
+one_named None ask each is = tt
+one_named (Some name) ask each is = each name is
 
-time_named : (o : Option (List ℕ)) (slot : Option ℕ) → IsNamed o → HasName (or_none (o >>= λ link. slot >>= λ slot. Some (command.Time link slot)))
-time_named None slot is = tt
-time_named (Some name) None is = tt
-time_named (Some name) (Some slot) is = is
+two_named : (o : Option (List ℕ)) (slot : Option ℕ) (ask : List ℕ → ℕ → Question) → ((name : List ℕ) (k : ℕ) → is_name name ≡ true → NamesOne (ask name k)) → IsNamed o
+    → AsksNamed (o >>= λ name. slot >>= λ k. Some (ask name k))
+two_named None slot ask each is = tt
+two_named (Some name) None ask each is = tt
+two_named (Some name) (Some k) ask each is = each name k is
 
-queue_named : (o : Option (List ℕ)) (slot : Option ℕ) → IsNamed o → HasName (or_none (o >>= λ link. slot >>= λ slot. Some (command.Queue link slot)))
-queue_named None slot is = tt
-queue_named (Some name) None is = tt
-queue_named (Some name) (Some slot) is = is
+state_named : (slot : Option ℕ) → AsksNamed (slot >>= λ k. Some (question.State k))
+state_named None = tt
+state_named (Some k) = tt
 
-origin_named : (o : Option (List ℕ)) (slot : Option ℕ) → IsNamed o → HasName (or_none (o >>= λ node. slot >>= λ slot. Some (command.Origin node slot)))
-origin_named None slot is = tt
-origin_named (Some name) None is = tt
-origin_named (Some name) (Some slot) is = is
+asks_either : (b : Bool) (x y : Option Question) → AsksNamed x → AsksNamed y → AsksNamed (if b then x else y)
+asks_either true x y p q = p
+asks_either false x y p q = q
+
+question_named : (word : List ℕ) (d : Data) → AsksNamed (question_by word d)
+question_named word d =
+    let link = named_in (text_in (codes "link") d) in
+    let node = named_in (text_in (codes "node") d) in
+    asks_either (same word (codes "totals")) (Some question.Totals) _ tt
+    (asks_either (same word (codes "link")) (link_of d) _ (one_named (name_in (codes "link") d) (λ name. question.Link name) (λ name is. is) link)
+    (asks_either (same word (codes "time")) (time_of d) _ (two_named (name_in (codes "link") d) (whole_in (codes "slot") d) (λ name k. question.Time name k) (λ name k is. is) link)
+    (asks_either (same word (codes "delay")) (Some question.Delay) _ tt
+    (asks_either (same word (codes "queue")) (queue_of d) _ (two_named (name_in (codes "link") d) (whole_in (codes "slot") d) (λ name k. question.Queue name k) (λ name k is. is) link)
+    (asks_either (same word (codes "origin")) (origin_of d) _ (two_named (name_in (codes "node") d) (whole_in (codes "slot") d) (λ name k. question.Origin name k) (λ name k is. is) node)
+    (asks_either (same word (codes "state")) (state_of d) _ (state_named (whole_in (codes "slot") d))
+    (asks_either (same word (codes "curve")) (curve_of d) _ (one_named (name_in (codes "link") d) (λ name. question.Curve name) (λ name is. is) link)
+    (asks_either (same word (codes "departures")) (departures_of d) _ (one_named (name_in (codes "node") d) (λ name. question.Departures name) (λ name is. is) node)
+    (asks_either (same word (codes "delays")) (Some question.Delays) None tt tt)))))))))
+
+or_none_named : (o : Option Question) → AsksNamed o → HasName (or_none o)
+or_none_named None is = tt
+or_none_named (Some q) is = is
 
 by_named : (word : List ℕ) (d : Data) → HasName (command_by word d)
 by_named word d =
     either (same word (codes "edit")) (array_of (option_and_then as_array (get (codes "edits") d))) _ (array_named (option_and_then as_array (get (codes "edits") d)))
-    (either (same word (codes "totals")) (Ok command.Totals) _ tt
-    (either (same word (codes "link")) (or_none (link_of d)) _ (link_named (name_in (codes "link") d) (named_in (text_in (codes "link") d)))
-    (either (same word (codes "time")) (or_none (time_of d)) _ (time_named (name_in (codes "link") d) (whole_in (codes "slot") d) (named_in (text_in (codes "link") d)))
-    (either (same word (codes "delay")) (Ok command.Delay) _ tt
-    (either (same word (codes "queue")) (or_none (queue_of d)) _ (queue_named (name_in (codes "link") d) (whole_in (codes "slot") d) (named_in (text_in (codes "link") d)))
-    (either (same word (codes "origin")) (or_none (origin_of d)) _ (origin_named (name_in (codes "node") d) (whole_in (codes "slot") d) (named_in (text_in (codes "node") d)))
-    (either (same word (codes "settle")) (Ok command.Settle) (Err (fault.NotCommand 0)) tt tt)))))))
+    (either (same word (codes "settle")) (Ok command.Settle) (or_none (question_by word d)) tt (or_none_named (question_by word d) (question_named word d)))
 
 from_named : (word : Option (List ℕ)) (d : Data) → HasName (command_from word d)
 from_named None d = tt

@@ -1,7 +1,8 @@
 -- Without workers a scenario and a script have one output.
-use Rattle.std.proofs.Common.{ℕ, ◌≡◌, ◌++◌, ◌<◌, ◌≤◌, ◌+◌, List, [], ◌∷◌, inl, inr, length, refl, ap, sym, subst, ◌∙◌, arith}
+use Rattle.std.proofs.Common.{ℕ, ◌≡◌, ◌++◌, ◌<◌, ◌+◌, Bool, true, false, List, [], ◌∷◌, codes, length, refl, ap, sym, subst, ◌∙◌, arith}
+use Rattle.std.proofs.lemmas.Bool.{ltb-true, leb-true}
 use Rattle.std.proofs.lemmas.List.{length-map}
-use Rattle.std.specs.Prelude.{Option, Some, None, Result, Ok, Err, MatchResult, MatchOption}
+use Rattle.std.specs.Prelude.{Option, Some, None, Result, Ok, Err, MatchResult, nat_le, nat_lt}
 use Rattle.ltm_flows.specs.Counts.{Counts}
 use Rattle.ltm_network.specs.Network.{NetworkData, find_link, find_node, link_names}
 use Rattle.ltm_network.proofs.Apart.{named_there}
@@ -10,6 +11,7 @@ use Rattle.ltm_scenario.specs.declared.edit.EditFault.{EditFault}
 use Rattle.ltm_scenario.specs.Data.{ScenarioData}
 use Rattle.ltm_scenario.specs.Edits.{edited_all}
 use Rattle.ltm_loading.specs.Setting.{Setting}
+use Rattle.ltm_loading.specs.Loading.{IsLoading}
 use Rattle.ltm_loading.specs.LoadingLaws.{OneLoading}
 use Rattle.ltm_loading.proofs.Same.{AgreeTo}
 use Rattle.ltm_setting.specs.Setting.{setting_of}
@@ -17,23 +19,27 @@ use Rattle.ltm_setting.specs.ScenarioLaw.{ScenariosAreSettings}
 use Rattle.ltm_script.specs.Line.{reading}
 use Rattle.ltm_script.specs.declared.command.Command.{Command}
 use Rattle.ltm_script.specs.declared.command.Command.TheVariants as command
+use Rattle.ltm_script.specs.declared.command.Question.{Question}
+use Rattle.ltm_script.specs.declared.command.Question.TheVariants as question
 use Rattle.ltm_script.specs.declared.command.CommandFault.{CommandFault}
 use Rattle.ltm_script.specs.declared.command.CommandFault.TheVariants as fault
 use Rattle.ltm_report.specs.Answers.{accepted_line, settled_line}
 use Rattle.ltm_report.specs.EditFaults.{edit_fault_line}
-use Rattle.ltm_report.specs.Refusals.{unknown_link_line, unknown_time_line, unknown_queue_line, unknown_origin_line}
 use Rattle.ltm_io.specs.Script.{lines_of}
 use Rattle.ltm_core.specs.Log.{Log, with_batch, version_now, settled_of, scenario_at, scenario_now}
 use Rattle.ltm_core.specs.Settling.{IsExactCount, setting_at}
-use Rattle.ltm_report.specs.Reports.{totals_report, link_report}
-use Rattle.ltm_report.specs.DelayReports.{delay_report, queue_report, origin_report}
+use Rattle.ltm_report.specs.Reports.{link_report}
+use Rattle.ltm_report.specs.DelayReports.{queue_report, origin_report}
+use Rattle.ltm_report.specs.RowReports.{state_report, curve_report, departures_report}
 use Rattle.ltm_session.specs.Reports.{time_report}
+use Rattle.ltm_session.specs.Questions.{Report, of_name, where_there, asked}
 use Rattle.ltm_session.specs.Analysts.{Analysts, opening_state, shown_scenario, settled}
-use Rattle.ltm_session.specs.Answers.{ReportsShown, TellsTimeAt, TellsQueueAt, TellsOriginAt, IsScenarioOf, CountsAlone, AnswersAlone}
+use Rattle.ltm_session.specs.Answers.{ReportsShown, TellsAsked, IsScenarioOf, CountsAlone, AnswersAlone}
 use Rattle.ltm_session.specs.Session.{AnswersLine, AnswersLines}
 use Rattle.ltm_session.specs.Laws.{OneOutput}
 use Rattle.ltm_times.proofs.Alike.{agree, differing_same}
 use Rattle.ltm_session.proofs.SameReports.{totals_same, links_same, times_same, delays_same, queues_same, origins_same}
+use Rattle.ltm_session.proofs.SameRows.{states_same, curves_same, departures_same, all_delays_same}
 
 -- there is one loading of a setting, and scenarios make settings
 pub record Known : Type 0 where
@@ -52,102 +58,101 @@ nodes_in : (s : ScenarioData) → (setting_of s).nodes ≡ length s.network.node
 unfolding setting_of
 nodes_in s = refl
 
--- ---- reports
--- a report that is the same of all loadings of a scenario is one text
-reported_same : (k : Known) (s : Analysts) (report : ℕ → Setting → Counts → List ℕ)
-    → ((a b : Counts) → IsScenarioOf s.log s.shown → AgreeTo (setting_at s.log s.shown) a b (setting_at s.log s.shown).slots
-    → report s.shown (setting_at s.log s.shown) a ≡ report s.shown (setting_at s.log s.shown) b)
-    → (x y : List ℕ) → ReportsShown s report x → ReportsShown s report y → x ≡ y
-reported_same k s report same x y (a, is, la, told_x) (b, is_too, lb, told_y) =
-    told_x ∙ same a b is (agree (setting_at s.log s.shown) a b k.one (k.settings (scenario_at s.log s.shown) is.scenario) la lb) ∙ sym told_y
+-- ---- questions
+-- what is asked is the same of two counts
+abbrev AsksSame : ℕ → Setting → Counts → Counts → Result Report (List ℕ) → Type 0
+AsksSame version z a b r = MatchResult r (λ report. report version z a ≡ report version z b) (λ refusal. Unit {0})
 
-totals_once : (k : Known) (s : Analysts) (x y : List ℕ) → ReportsShown s totals_report x → ReportsShown s totals_report y → x ≡ y
-totals_once k s x y told_x told_y = reported_same k s totals_report (λ a b is same. totals_same (setting_at s.log s.shown) a b s.shown same) x y told_x told_y
+named_same : (version : ℕ) (z : Setting) (a b : Counts) (word : List ℕ) (found : Option ℕ) (bound : ℕ) (report : ℕ → Report)
+    → ((k : ℕ) → found ≡ Some k → k < bound) → ((k : ℕ) → k < bound → report k version z a ≡ report k version z b) → AsksSame version z a b (of_name word found report)
+named_same version z a b word None bound report within each = tt
+named_same version z a b word (Some k) bound report within each = each k (within k refl)
 
--- a link of the opening network is one of the scenario that is shown
-link_within : (s : Analysts) (link : ℕ) → IsScenarioOf s.log s.shown → link < length s.log.opening.network.links → link < (setting_at s.log s.shown).links
-link_within s link is there =
-    subst (λ n. link < n) (sym (links_in (scenario_at s.log s.shown) ∙ ap (λ (n : NetworkData). length n.links) is.network)) there
+there_same : (version : ℕ) (z : Setting) (a b : Counts) (word : List ℕ) (there : Bool) (r : Result Report (List ℕ)) → (there ≡ true → AsksSame version z a b r) → AsksSame version z a b (where_there word there r)
+there_same version z a b word there (Err refusal) same = tt
+there_same version z a b word true (Ok report) same = same refl
+there_same version z a b word false (Ok report) same = tt
 
-link_once : (k : Known) (s : Analysts) (name : List ℕ) (link : ℕ) (x y : List ℕ) → link < length s.log.opening.network.links
-    → ReportsShown s (λ version. link_report version name link) x → ReportsShown s (λ version. link_report version name link) y → x ≡ y
-link_once k s name link x y there told_x told_y =
-    reported_same k s (λ version. link_report version name link)
-    (λ a b is same. links_same (setting_at s.log s.shown) a b s.shown link name same (link_within s link is there)) x y told_x told_y
-
-time_once : (k : Known) (s : Analysts) (name : List ℕ) (slot link : ℕ) (x y : List ℕ) → link < length s.log.opening.network.links
-    → slot < (shown_scenario s).setup.slots
-    → ReportsShown s (λ version. time_report version name link slot) x → ReportsShown s (λ version. time_report version name link slot) y → x ≡ y
-time_once k s name slot link x y there few told_x told_y =
-    let slots = slots_in (scenario_at s.log s.shown) in
-    reported_same k s (λ version. time_report version name link slot)
-    (λ a b is same. times_same (setting_at s.log s.shown) a b s.shown link slot name (k.settings (scenario_at s.log s.shown) is.scenario).some_step same (link_within s link is there) (omega (arith, slots, few))) x y told_x told_y
-
-time_at_once : (k : Known) (s : Analysts) (name : List ℕ) (slot link : ℕ) (x y : List ℕ) → link < length s.log.opening.network.links
-    → TellsTimeAt s name slot link x → TellsTimeAt s name slot link y → x ≡ y
-time_at_once k s name slot link x y there (inl (few, told_x)) (inl (few_too, told_y)) = time_once k s name slot link x y there few told_x told_y
-time_at_once k s name slot link x y there (inl (few, told_x)) (inr (many, is)) = absurd (omega (arith, few, many))
-time_at_once k s name slot link x y there (inr (many, is)) (inl (few, told_y)) = absurd (omega (arith, few, many))
-time_at_once k s name slot link x y there (inr (many, is)) (inr (many_too, is_too)) = is ∙ sym is_too
-
-delay_once : (k : Known) (s : Analysts) (x y : List ℕ) → ReportsShown s delay_report x → ReportsShown s delay_report y → x ≡ y
-delay_once k s x y told_x told_y =
-    reported_same k s delay_report
-    (λ a b is same. delays_same (setting_at s.log s.shown) a b s.shown (k.settings (scenario_at s.log s.shown) is.scenario).some_step same) x y told_x told_y
-
-queue_once : (k : Known) (s : Analysts) (name : List ℕ) (boundary link : ℕ) (x y : List ℕ) → link < length s.log.opening.network.links → boundary ≤ (shown_scenario s).setup.slots
-    → ReportsShown s (λ version. queue_report version name link boundary) x → ReportsShown s (λ version. queue_report version name link boundary) y → x ≡ y
-queue_once k s name boundary link x y there few told_x told_y =
-    let slots = slots_in (scenario_at s.log s.shown) in
-    reported_same k s (λ version. queue_report version name link boundary)
-    (λ a b is same. queues_same (setting_at s.log s.shown) a b s.shown link boundary name (k.settings (scenario_at s.log s.shown) is.scenario).some_step same (link_within s link is there) (omega (arith, slots, few))) x y told_x told_y
-
-queue_at_once : (k : Known) (s : Analysts) (name : List ℕ) (boundary link : ℕ) (x y : List ℕ) → link < length s.log.opening.network.links
-    → TellsQueueAt s name boundary link x → TellsQueueAt s name boundary link y → x ≡ y
-queue_at_once k s name boundary link x y there (inl (few, told_x)) (inl (few_too, told_y)) = queue_once k s name boundary link x y there few told_x told_y
-queue_at_once k s name boundary link x y there (inl (few, told_x)) (inr (many, is)) = absurd (omega (arith, few, many))
-queue_at_once k s name boundary link x y there (inr (many, is)) (inl (few, told_y)) = absurd (omega (arith, few, many))
-queue_at_once k s name boundary link x y there (inr (many, is)) (inr (many_too, is_too)) = is ∙ sym is_too
-
--- a node of the opening network is one of the scenario that is shown
-node_within : (s : Analysts) (node : ℕ) → IsScenarioOf s.log s.shown → node < length s.log.opening.network.nodes → node < (setting_at s.log s.shown).nodes
-node_within s node is there =
-    subst (λ n. node < n) (sym (nodes_in (scenario_at s.log s.shown) ∙ ap (λ (n : NetworkData). length n.nodes) is.network)) there
-
-origin_once : (k : Known) (s : Analysts) (name : List ℕ) (boundary node : ℕ) (x y : List ℕ) → node < length s.log.opening.network.nodes → boundary ≤ (shown_scenario s).setup.slots
-    → ReportsShown s (λ version. origin_report version name node boundary) x → ReportsShown s (λ version. origin_report version name node boundary) y → x ≡ y
-origin_once k s name boundary node x y there few told_x told_y =
-    let slots = slots_in (scenario_at s.log s.shown) in
-    reported_same k s (λ version. origin_report version name node boundary)
-    (λ a b is same. origins_same (setting_at s.log s.shown) a b s.shown node boundary name same (node_within s node is there) (omega (arith, slots, few))) x y told_x told_y
-
-origin_at_once : (k : Known) (s : Analysts) (name : List ℕ) (boundary node : ℕ) (x y : List ℕ) → node < length s.log.opening.network.nodes
-    → TellsOriginAt s name boundary node x → TellsOriginAt s name boundary node y → x ≡ y
-origin_at_once k s name boundary node x y there (inl (few, told_x)) (inl (few_too, told_y)) = origin_once k s name boundary node x y there few told_x told_y
-origin_at_once k s name boundary node x y there (inl (few, told_x)) (inr (many, is)) = absurd (omega (arith, few, many))
-origin_at_once k s name boundary node x y there (inr (many, is)) (inl (few, told_y)) = absurd (omega (arith, few, many))
-origin_at_once k s name boundary node x y there (inr (many, is)) (inr (many_too, is_too)) = is ∙ sym is_too
-
--- ---- links by name
-named_within : (n : NetworkData) (name : List ℕ) (link : ℕ) → find_link n name ≡ Some link → link < length n.links
-named_within n name link is =
+-- links and nodes that have a name are there
+link_within : (n : NetworkData) (name : List ℕ) (count link : ℕ) → count ≡ length n.links → find_link n name ≡ Some link → link < count
+link_within n name count link many is =
     let (there, which) = named_there (link_names n) name link is in
     let long : length (link_names n) ≡ length n.links = simp length-map in
-    omega (arith, there, long)
+    omega (arith, there, long, many)
 
--- what is told of a name is one text, where what is told of its link is
-by_name : (n : NetworkData) (name : List ℕ) (P : List ℕ → ℕ → Type 0) (none x y : List ℕ) (found : Option ℕ) → find_link n name ≡ found
-    → ((link : ℕ) (x y : List ℕ) → link < length n.links → P x link → P y link → x ≡ y)
-    → MatchOption found (x ≡ none) (P x) → MatchOption found (y ≡ none) (P y) → x ≡ y
-by_name n name P none x y None is once told_x told_y = told_x ∙ sym told_y
-by_name n name P none x y (Some link) is once told_x told_y = once link x y (named_within n name link is) told_x told_y
+node_within : (n : NetworkData) (name : List ℕ) (count node : ℕ) → count ≡ length n.nodes → find_node n name ≡ Some node → node < count
+node_within n name count node many is = let (there, which) = named_there n.nodes name node is in omega (arith, there, many)
 
--- the same of a node by its name
-by_node : (n : NetworkData) (name : List ℕ) (P : List ℕ → ℕ → Type 0) (none x y : List ℕ) (found : Option ℕ) → find_node n name ≡ found
-    → ((node : ℕ) (x y : List ℕ) → node < length n.nodes → P x node → P y node → x ≡ y)
-    → MatchOption found (x ≡ none) (P x) → MatchOption found (y ≡ none) (P y) → x ≡ y
-by_node n name P none x y None is once told_x told_y = told_x ∙ sym told_y
-by_node n name P none x y (Some node) is once told_x told_y = let (there, which) = named_there n.nodes name node is in once node x y there told_x told_y
+-- two loadings of a setting that has the links and nodes of a network
+record Alike (n : NetworkData) (slots : ℕ) (z : Setting) (a b : Counts) : Type 0 where
+  some_step : 0 < z.step
+  agree : AgreeTo z a b z.slots
+  links : z.links ≡ length n.links
+  nodes : z.nodes ≡ length n.nodes
+  slots_are : z.slots ≡ slots
+
+asked_same : (n : NetworkData) (slots : ℕ) (z : Setting) (a b : Counts) (version : ℕ) (q : Question) → Alike n slots z a b → AsksSame version z a b (asked n slots q)
+asked_same n slots z a b version question.Totals l = totals_same z a b version l.agree
+asked_same n slots z a b version (question.Link name) l =
+    named_same version z a b (codes "link") (find_link n name) z.links (λ link version. link_report version name link) (λ link is. link_within n name z.links link l.links is)
+    (λ link there. links_same z a b version link name l.agree there)
+asked_same n slots z a b version (question.Time name slot) l =
+    there_same version z a b (codes "time") (nat_lt slot slots) _ (λ test.
+    let few = ltb-true slot slots test in
+    let last = l.slots_are in
+    named_same version z a b (codes "time") (find_link n name) z.links (λ link version. time_report version name link slot) (λ link is. link_within n name z.links link l.links is)
+    (λ link there. times_same z a b version link slot name l.some_step l.agree there (omega (arith, few, last))))
+asked_same n slots z a b version question.Delay l = delays_same z a b version l.some_step l.agree
+asked_same n slots z a b version (question.Queue name boundary) l =
+    there_same version z a b (codes "queue") (nat_le boundary slots) _ (λ test.
+    let few = leb-true boundary slots test in
+    let last = l.slots_are in
+    named_same version z a b (codes "queue") (find_link n name) z.links (λ link version. queue_report version name link boundary) (λ link is. link_within n name z.links link l.links is)
+    (λ link there. queues_same z a b version link boundary name l.some_step l.agree there (omega (arith, few, last))))
+asked_same n slots z a b version (question.Origin name boundary) l =
+    there_same version z a b (codes "origin") (nat_le boundary slots) _ (λ test.
+    let few = leb-true boundary slots test in
+    let last = l.slots_are in
+    named_same version z a b (codes "origin") (find_node n name) z.nodes (λ node version. origin_report version name node boundary) (λ node is. node_within n name z.nodes node l.nodes is)
+    (λ node there. origins_same z a b version node boundary name l.agree there (omega (arith, few, last))))
+asked_same n slots z a b version (question.State boundary) l =
+    there_same version z a b (codes "state") (nat_le boundary slots) (Ok (λ version. state_report version boundary)) (λ test.
+    let few = leb-true boundary slots test in
+    let last = l.slots_are in
+    states_same z a b version boundary l.some_step l.agree (omega (arith, few, last)))
+asked_same n slots z a b version (question.Curve name) l =
+    named_same version z a b (codes "curve") (find_link n name) z.links (λ link version. curve_report version name link) (λ link is. link_within n name z.links link l.links is)
+    (λ link there. curves_same z a b version link name l.agree there)
+asked_same n slots z a b version (question.Departures name) l =
+    named_same version z a b (codes "departures") (find_node n name) z.nodes (λ node version. departures_report version name node) (λ node is. node_within n name z.nodes node l.nodes is)
+    (λ node there. departures_same z a b version node name l.agree there)
+asked_same n slots z a b version question.Delays l = all_delays_same z a b version l.some_step l.agree
+
+-- the scenario that is shown has the links and nodes of the opening network
+alike : (k : Known) (s : Analysts) (a b : Counts) → IsScenarioOf s.log s.shown → IsLoading (setting_at s.log s.shown) a → IsLoading (setting_at s.log s.shown) b
+    → Alike s.log.opening.network (shown_scenario s).setup.slots (setting_at s.log s.shown) a b
+alike k s a b is la lb =
+    let z = scenario_at s.log s.shown in
+    let setting = k.settings z is.scenario in
+    record {
+      some_step = setting.some_step;
+      agree = agree (setting_at s.log s.shown) a b k.one setting la lb;
+      links = links_in z ∙ ap (λ (n : NetworkData). length n.links) is.network;
+      nodes = nodes_in z ∙ ap (λ (n : NetworkData). length n.nodes) is.network;
+      slots_are = slots_in z;
+    }
+
+told_once : (k : Known) (s : Analysts) (r : Result Report (List ℕ)) (x y : List ℕ)
+    → ((a b : Counts) → IsScenarioOf s.log s.shown → IsLoading (setting_at s.log s.shown) a → IsLoading (setting_at s.log s.shown) b → AsksSame s.shown (setting_at s.log s.shown) a b r)
+    → MatchResult r (λ report. ReportsShown s report x) (λ refusal. x ≡ refusal) → MatchResult r (λ report. ReportsShown s report y) (λ refusal. y ≡ refusal) → x ≡ y
+told_once k s (Ok report) x y same (a, is, la, told_x) (b, is_too, lb, told_y) = told_x ∙ same a b is la lb ∙ sym told_y
+told_once k s (Err refusal) x y same told_x told_y = told_x ∙ sym told_y
+
+asked_once : (k : Known) (s : Analysts) (q : Question) (x y : List ℕ) → TellsAsked s q x → TellsAsked s q y → x ≡ y
+asked_once k s q x y told_x told_y =
+    let n = s.log.opening.network in
+    let slots = (shown_scenario s).setup.slots in
+    told_once k s (asked n slots q) x y (λ a b is la lb. asked_same n slots (setting_at s.log s.shown) a b s.shown q (alike k s a b is la lb)) told_x told_y
 
 -- ---- settles
 count_once : (k : Known) (log : Log) (n m : ℕ) → CountsAlone log n → CountsAlone log m → n ≡ m
@@ -181,28 +186,7 @@ answer_once : (k : Known) (s : Analysts) (said : Result Command CommandFault) (x
 answer_once k s (Ok command.Settle) x y t u ((n, counts, is), same) ((m, counts_too, is_too), same_too) =
     (is ∙ ap (settled_line (version_now s.log)) (count_once k s.log n m counts counts_too) ∙ sym is_too, both_stay (settled s) t u same same_too)
 answer_once k s (Ok (command.Edit batch)) x y t u a b = edits_once (edited_all (scenario_now s.log) batch) s t u batch x y a b
-answer_once k s (Ok command.Totals) x y t u (told, same) (told_too, same_too) = (totals_once k s x y told told_too, both_stay s t u same same_too)
-answer_once k s (Ok (command.Link name)) x y t u (told, same) (told_too, same_too) = (
-  by_name s.log.opening.network name (λ x link. ReportsShown s (λ version. link_report version name link) x) unknown_link_line x y (find_link s.log.opening.network name) refl
-      (λ link x y there told_x told_y. link_once k s name link x y there told_x told_y) told told_too,
-  both_stay s t u same same_too,
-)
-answer_once k s (Ok (command.Time name slot)) x y t u (told, same) (told_too, same_too) = (
-  by_name s.log.opening.network name (λ x link. TellsTimeAt s name slot link x) unknown_time_line x y (find_link s.log.opening.network name) refl
-      (λ link x y there told_x told_y. time_at_once k s name slot link x y there told_x told_y) told told_too,
-  both_stay s t u same same_too,
-)
-answer_once k s (Ok command.Delay) x y t u (told, same) (told_too, same_too) = (delay_once k s x y told told_too, both_stay s t u same same_too)
-answer_once k s (Ok (command.Queue name boundary)) x y t u (told, same) (told_too, same_too) = (
-  by_name s.log.opening.network name (λ x link. TellsQueueAt s name boundary link x) unknown_queue_line x y (find_link s.log.opening.network name) refl
-      (λ link x y there told_x told_y. queue_at_once k s name boundary link x y there told_x told_y) told told_too,
-  both_stay s t u same same_too,
-)
-answer_once k s (Ok (command.Origin name boundary)) x y t u (told, same) (told_too, same_too) = (
-  by_node s.log.opening.network name (λ x node. TellsOriginAt s name boundary node x) unknown_origin_line x y (find_node s.log.opening.network name) refl
-      (λ node x y there told_x told_y. origin_at_once k s name boundary node x y there told_x told_y) told told_too,
-  both_stay s t u same same_too,
-)
+answer_once k s (Ok (command.Ask q)) x y t u (told, same) (told_too, same_too) = (asked_once k s q x y told told_too, both_stay s t u same same_too)
 answer_once k s (Err fault.NotJson) x y t u (told, same) (told_too, same_too) = (told ∙ sym told_too, both_stay s t u same same_too)
 answer_once k s (Err (fault.NotCommand place)) x y t u (told, same) (told_too, same_too) = (told ∙ sym told_too, both_stay s t u same same_too)
 answer_once k s (Err fault.NoMemory) x y t u none b = absurd none

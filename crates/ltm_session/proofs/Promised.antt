@@ -1,8 +1,7 @@
 -- A session keeps its promise: the machine of the analysts stands as the lines say, line by line.
-use Rattle.std.proofs.Common.{ℕ, ◌≡◌, ◌≤◌, ◌+◌, ◌<◌, ◌⊎◌, inl, inr, refl, ap, sym, subst, ◌∙◌, arith, true, false, List, [], ◌∷◌, ◌++◌, length, take, length-append}
-use Rattle.std.specs.Prelude.{Option, None, Some, Result, Ok, Err, MatchResult, MatchOption}
+use Rattle.std.proofs.Common.{ℕ, ◌≡◌, ◌≤◌, ◌+◌, refl, ap, sym, subst, ◌∙◌, arith, true, false, List, [], ◌∷◌, ◌++◌, length, take, length-append}
+use Rattle.std.specs.Prelude.{Result, Ok, Err, MatchResult}
 use Rattle.std.proofs.lemmas.List.{length-take-le}
-use Rattle.ltm_network.specs.Network.{find_link, find_node}
 use Rattle.ltm_scenario.specs.declared.edit.Edit.{Edit}
 use Rattle.ltm_scenario.specs.declared.edit.EditFault.{EditFault}
 use Rattle.ltm_scenario.specs.Data.{ScenarioData}
@@ -12,20 +11,18 @@ use Rattle.ltm_loading.specs.Loading.{IsLoading}
 use Rattle.ltm_setting.specs.Setting.{setting_of}
 use Rattle.ltm_script.specs.declared.command.Command.{Command}
 use Rattle.ltm_script.specs.declared.command.Command.TheVariants as command
+use Rattle.ltm_script.specs.declared.command.Question.{Question}
 use Rattle.ltm_script.specs.declared.command.CommandFault.{CommandFault}
 use Rattle.ltm_script.specs.declared.command.CommandFault.TheVariants as fault
 use Rattle.ltm_report.specs.Answers.{accepted_line, settled_line}
 use Rattle.ltm_report.specs.EditFaults.{edit_fault_line}
-use Rattle.ltm_report.specs.Refusals.{unknown_link_line, unknown_time_line, time_slots_line, unknown_queue_line, queue_slots_line, unknown_origin_line, origin_slots_line}
-use Rattle.ltm_report.specs.Reports.{totals_report, link_report}
-use Rattle.ltm_report.specs.DelayReports.{delay_report, queue_report, origin_report}
 use Rattle.ltm_core.specs.Log.{Log, with_batch, batches_of, version_now, scenario_at, scenario_now, after_batches}
 use Rattle.ltm_core.specs.Settling.{IsSettleCount}
 use Rattle.ltm_core.proofs.Logs.{length_batches, opening_batch, batches_more, opening_marked, batches_marked}
-use Rattle.ltm_session.specs.Reports.{time_report}
+use Rattle.ltm_session.specs.Questions.{Report, asked}
 use Rattle.ltm_session.specs.Analysts.{Analysts, opening_state, settled, IsShownLater}
-use Rattle.ltm_session.specs.Answers.{ReportsShown, TellsTimeAt, TellsQueueAt, TellsOriginAt, Answers}
-use Rattle.ltm_session.specs.Promise.{Standing, at_first, after_edit, after_command, Report, Tells, OfLink, OfNode, OfSlot, OfBoundary, slots_after, IsAnswer}
+use Rattle.ltm_session.specs.Answers.{ReportsShown, Answers}
+use Rattle.ltm_session.specs.Promise.{Standing, at_first, after_edit, after_command, Tells, slots_after, IsAnswer}
 
 -- the machine stands as the lines say
 pub record Agrees (s : ScenarioData) (now : Standing) (u : Analysts) : Type 0 where
@@ -61,35 +58,20 @@ tells s now u report text g (c, of, loads, is) =
       is ∙ ap (λ z. report u.shown (setting_of z) c) at ∙ ap (λ k. report k (setting_of (after_batches s (shown_by now u))) c) many,
     )
 
--- a question that names a link, and one that names a slot
-of_link : (s : ScenarioData) (u : Analysts) (name refusal text : List ℕ) (P Q : ℕ → Type 0) → u.log.opening ≡ s → ((link : ℕ) → P link → Q link)
-    → MatchOption (find_link u.log.opening.network name) (text ≡ refusal) P → OfLink s name refusal text Q
-of_link s u name refusal text P Q opening more is =
-    found (find_link s.network name) (subst (λ (z : ScenarioData). MatchOption (find_link z.network name) (text ≡ refusal) P) opening is)
-  where
-    found : (o : Option ℕ) → MatchOption o (text ≡ refusal) P → MatchOption o (text ≡ refusal) Q
-    found None told = told
-    found (Some link) told = more link told
-
-of_node : (s : ScenarioData) (u : Analysts) (name refusal text : List ℕ) (P Q : ℕ → Type 0) → u.log.opening ≡ s → ((node : ℕ) → P node → Q node)
-    → MatchOption (find_node u.log.opening.network name) (text ≡ refusal) P → OfNode s name refusal text Q
-of_node s u name refusal text P Q opening more is =
-    found (find_node s.network name) (subst (λ (z : ScenarioData). MatchOption (find_node z.network name) (text ≡ refusal) P) opening is)
-  where
-    found : (o : Option ℕ) → MatchOption o (text ≡ refusal) P → MatchOption o (text ≡ refusal) Q
-    found None told = told
-    found (Some node) told = more node told
-
-of_slot : (a b slot : ℕ) (refusal text : List ℕ) (P Q : Type 0) → a ≡ b → (P → Q) → ((slot < a) × P) ⊎ ((a ≤ slot) × (text ≡ refusal)) → OfSlot b slot refusal text Q
-of_slot a b slot refusal text P Q same more (inl (low, told)) = inl (omega (arith, same, low), more told)
-of_slot a b slot refusal text P Q same more (inr (high, is)) = inr (omega (arith, same, high), is)
-
-of_boundary : (a b boundary : ℕ) (refusal text : List ℕ) (P Q : Type 0) → a ≡ b → (P → Q) → ((boundary ≤ a) × P) ⊎ ((a < boundary) × (text ≡ refusal)) → OfBoundary b boundary refusal text Q
-of_boundary a b boundary refusal text P Q same more (inl (low, told)) = inl (omega (arith, same, low), more told)
-of_boundary a b boundary refusal text P Q same more (inr (high, is)) = inr (omega (arith, same, high), is)
+-- what a question asks of what is shown
+answers_asked : (s : ScenarioData) (now : Standing) (u : Analysts) (r : Result Report (List ℕ)) (text : List ℕ) → Agrees s now u
+    → MatchResult r (λ report. ReportsShown u report text) (λ refusal. text ≡ refusal)
+    → MatchResult r (λ report. Tells s (shown_by now u) report text) (λ refusal. text ≡ refusal)
+answers_asked s now u (Ok report) text g told = tells s now u report text g told
+answers_asked s now u (Err refusal) text g is = is
 
 slots_are : (s : ScenarioData) (now : Standing) (u : Analysts) → Agrees s now u → (scenario_at u.log u.shown).setup.slots ≡ slots_after s (shown_by now u)
 slots_are s now u g = ap (λ (z : ScenarioData). z.setup.slots) (shown_is s now u g)
+
+asked_is : (s : ScenarioData) (now : Standing) (u : Analysts) (q : Question) → Agrees s now u
+    → asked u.log.opening.network (scenario_at u.log u.shown).setup.slots q ≡ asked s.network (slots_after s (shown_by now u)) q
+asked_is s now u q g =
+    ap (λ (z : ScenarioData). asked z.network (scenario_at u.log u.shown).setup.slots q) g.opening ∙ ap (λ (n : ℕ). asked s.network n q) (slots_are s now u g)
 
 -- ---- one line
 -- it is answered as promised, the machine stands as the lines with it say, and no fewer batches are shown
@@ -145,46 +127,10 @@ step s now u (Ok command.Settle) text t g ((n, count, is), same) =
     let low = g.finished in
     let one : t.shown ≡ version_now u.log = ap (λ x. x.shown) same in
     ((n, is ∙ ap (λ k. settled_line k n) all), subst (λ (x : Analysts). Agrees s (record now { settled = true }) x) (sym same) (with_settle s now u g), omega (one, all, low, arith))
-step s now u (Ok command.Totals) text t g (is, same) = let there = stays s now u t g same in (tells s now u totals_report text g is, there.0, there.1)
-step s now u (Ok (command.Link name)) text t g (is, same) =
-    let there = stays s now u t g same in (
-      of_link s u name unknown_link_line text (λ link. ReportsShown u (λ version. link_report version name link) text)
-          (λ link. Tells s (shown_by now u) (λ version. link_report version name link) text) g.opening
-          (λ link. tells s now u (λ version. link_report version name link) text g) is,
-      there.0,
-      there.1,
-    )
-step s now u (Ok (command.Time name slot)) text t g (is, same) =
-    let there = stays s now u t g same in (
-      of_link s u name unknown_time_line text (λ link. TellsTimeAt u name slot link text)
-          (λ link. OfSlot (slots_after s (shown_by now u)) slot time_slots_line text (Tells s (shown_by now u) (λ version. time_report version name link slot) text)) g.opening
-          (λ link. of_slot (scenario_at u.log u.shown).setup.slots (slots_after s (shown_by now u)) slot time_slots_line text
-          (ReportsShown u (λ version. time_report version name link slot) text) (Tells s (shown_by now u) (λ version. time_report version name link slot) text)
-          (slots_are s now u g) (tells s now u (λ version. time_report version name link slot) text g)) is,
-      there.0,
-      there.1,
-    )
-step s now u (Ok command.Delay) text t g (is, same) = let there = stays s now u t g same in (tells s now u delay_report text g is, there.0, there.1)
-step s now u (Ok (command.Queue name boundary)) text t g (is, same) =
-    let there = stays s now u t g same in (
-      of_link s u name unknown_queue_line text (λ link. TellsQueueAt u name boundary link text)
-          (λ link. OfBoundary (slots_after s (shown_by now u)) boundary queue_slots_line text (Tells s (shown_by now u) (λ version. queue_report version name link boundary) text)) g.opening
-          (λ link. of_boundary (scenario_at u.log u.shown).setup.slots (slots_after s (shown_by now u)) boundary queue_slots_line text
-          (ReportsShown u (λ version. queue_report version name link boundary) text) (Tells s (shown_by now u) (λ version. queue_report version name link boundary) text)
-          (slots_are s now u g) (tells s now u (λ version. queue_report version name link boundary) text g)) is,
-      there.0,
-      there.1,
-    )
-step s now u (Ok (command.Origin name boundary)) text t g (is, same) =
-    let there = stays s now u t g same in (
-      of_node s u name unknown_origin_line text (λ node. TellsOriginAt u name boundary node text)
-          (λ node. OfBoundary (slots_after s (shown_by now u)) boundary origin_slots_line text (Tells s (shown_by now u) (λ version. origin_report version name node boundary) text)) g.opening
-          (λ node. of_boundary (scenario_at u.log u.shown).setup.slots (slots_after s (shown_by now u)) boundary origin_slots_line text
-          (ReportsShown u (λ version. origin_report version name node boundary) text) (Tells s (shown_by now u) (λ version. origin_report version name node boundary) text)
-          (slots_are s now u g) (tells s now u (λ version. origin_report version name node boundary) text g)) is,
-      there.0,
-      there.1,
-    )
+step s now u (Ok (command.Ask q)) text t g (is, same) =
+    let there = stays s now u t g same in
+    let told = subst (λ (r : Result Report (List ℕ)). MatchResult r (λ report. ReportsShown u report text) (λ refusal. text ≡ refusal)) (asked_is s now u q g) is in
+    (answers_asked s now u (asked s.network (slots_after s (shown_by now u)) q) text g told, there.0, there.1)
 step s now u (Err fault.NotJson) text t g (is, same) = let there = stays s now u t g same in (is, there.0, there.1)
 step s now u (Err (fault.NotCommand place)) text t g (is, same) = let there = stays s now u t g same in (is, there.0, there.1)
 step s now u (Err fault.NoMemory) text t g none = absurd none

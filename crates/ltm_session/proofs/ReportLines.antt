@@ -20,7 +20,7 @@ use Rattle.ltm_report.specs.Answers.{accepted_piece, accepted_line, settled_piec
 use Rattle.ltm_report.specs.Causes.{field_word, free_time_words, times_words, diagram_words}
 use Rattle.ltm_report.specs.EditFaults.{edit_cause_words, refused_edit_piece, edit_fault_line}
 use Rattle.ltm_report.specs.CommandFaults.{command_fault_words, command_fault_line}
-use Rattle.ltm_report.specs.Refusals.{unknown_link_line, unknown_time_line, time_slots_line}
+use Rattle.ltm_report.specs.Refusals.{unknown_name_line, bad_slots_line}
 use Rattle.ltm_report.specs.Totals.{came_piece, stays_piece, totals_line}
 use Rattle.ltm_report.specs.Links.{name_piece, through_piece, load_link_line, link_line}
 use Rattle.ltm_report.specs.Times.{time_words, slot_piece, time_line}
@@ -87,17 +87,17 @@ unfolding command_fault_line
 command_fault_one f = one_line (codes "refused command " ++ command_fault_words f)
     (plain_append (codes "refused command ") (command_fault_words f) (plain_words (codes "refused command ") refl) (words_plain f))
 
-pub unknown_link_one : IsOneLine unknown_link_line
-unfolding unknown_link_line
-unknown_link_one = one_line (codes "refused link UnknownName") (plain_words (codes "refused link UnknownName") refl)
+pub unknown_name_one : (word : List ℕ) → IsPlain word → IsOneLine (unknown_name_line word)
+unfolding unknown_name_line
+unknown_name_one word plain =
+    piece_first (codes "refused " ++ word) (codes " UnknownName\n") (plain_append (codes "refused ") word (plain_words (codes "refused ") refl) plain)
+    (one_line (codes " UnknownName") (plain_words (codes " UnknownName") refl))
 
-pub unknown_time_one : IsOneLine unknown_time_line
-unfolding unknown_time_line
-unknown_time_one = one_line (codes "refused time UnknownName") (plain_words (codes "refused time UnknownName") refl)
-
-pub time_slots_one : IsOneLine time_slots_line
-unfolding time_slots_line
-time_slots_one = one_line (codes "refused time BadSlots") (plain_words (codes "refused time BadSlots") refl)
+pub bad_slots_one : (word : List ℕ) → IsPlain word → IsOneLine (bad_slots_line word)
+unfolding bad_slots_line
+bad_slots_one word plain =
+    piece_first (codes "refused " ++ word) (codes " BadSlots\n") (plain_append (codes "refused ") word (plain_words (codes "refused ") refl) plain)
+    (one_line (codes " BadSlots") (plain_words (codes " BadSlots") refl))
 
 -- ---- what is done
 pub accepted_one : (version : ℕ) → IsOneLine (accepted_line version)

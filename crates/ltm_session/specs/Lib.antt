@@ -1,4 +1,5 @@
 pub mod Reports
+pub mod Questions
 pub mod Analysts
 pub mod Answers
 pub mod Session

@@ -2,18 +2,16 @@
 -- that it writes between a settle and the next accepted edit is that of the one loading of the scenario as the
 -- accepted edits leave it, and every other report is that of a finished loading of a prefix of those edits, never
 -- shorter than one shown before.
-use Rattle.std.specs.Prelude.{ℕ, ◌≡◌, ◌⊎◌, ◌<◌, ◌≤◌, ◌+◌, Bool, true, false, List, [], ◌∷◌, ◌++◌, length, map}
-use Rattle.std.specs.Prelude.{take, All, Option, IfSome, Result, Ok, Err, MatchResult, MatchOption}
+use Rattle.std.specs.Prelude.{ℕ, ◌≡◌, ◌≤◌, ◌+◌, Bool, true, false, List, [], ◌∷◌, ◌++◌, length, map}
+use Rattle.std.specs.Prelude.{take, All, Option, IfSome, Result, Ok, Err, MatchResult}
 use Rattle.std.specs.List.{concat}
 use Rattle.ltm_io.specs.Script.{lines_of}
 use Rattle.ltm_flows.specs.Counts.{Counts}
-use Rattle.ltm_network.specs.Network.{find_link, find_node}
 use Rattle.ltm_scenario.specs.declared.edit.Edit.{Edit}
 use Rattle.ltm_scenario.specs.declared.edit.EditFault.{EditFault}
 use Rattle.ltm_scenario.specs.Data.{ScenarioData}
 use Rattle.ltm_scenario.specs.Edits.{edited_all}
 use Rattle.ltm_scenario.specs.IsScenario.{IsScenario}
-use Rattle.ltm_loading.specs.Setting.{Setting}
 use Rattle.ltm_loading.specs.Loading.{IsLoading}
 use Rattle.ltm_setting.specs.Setting.{setting_of}
 use Rattle.ltm_script.specs.Line.{reading}
@@ -23,11 +21,8 @@ use Rattle.ltm_script.specs.declared.command.CommandFault.{CommandFault}
 use Rattle.ltm_report.specs.Answers.{accepted_line, settled_line}
 use Rattle.ltm_report.specs.EditFaults.{edit_fault_line}
 use Rattle.ltm_report.specs.CommandFaults.{command_fault_line}
-use Rattle.ltm_report.specs.Refusals.{unknown_link_line, unknown_time_line, time_slots_line, unknown_queue_line, queue_slots_line, unknown_origin_line, origin_slots_line}
-use Rattle.ltm_report.specs.Reports.{totals_report, link_report}
-use Rattle.ltm_report.specs.DelayReports.{delay_report, queue_report, origin_report}
 use Rattle.ltm_core.specs.Log.{after_batches}
-use Rattle.ltm_session.specs.Reports.{time_report}
+use Rattle.ltm_session.specs.Questions.{Report, asked}
 use Rattle.ltm_session.specs.OneLine.{IsPlain, IsOneLine}
 
 -- ---- the script
@@ -62,10 +57,6 @@ abbrev pub standing : ScenarioData → List (List ℕ) → Standing
 standing s lines = after_lines s at_first lines
 
 -- ---- the output
--- how a report is told of a loading: of its version, of what it is a loading of, and of its counts
-abbrev pub Report : Type 0
-Report = ℕ → Setting → Counts → List ℕ
-
 -- the text tells so of the loading of a scenario, under a version: there is a loading, and there is no other
 abbrev pub TellsOf : ScenarioData → ℕ → Report → List ℕ → Type 0
 TellsOf z version report text =
@@ -75,48 +66,22 @@ TellsOf z version report text =
 abbrev pub Tells : ScenarioData → List (List Edit) → Report → List ℕ → Type 0
 Tells s batches report text = TellsOf (after_batches s batches) (length batches) report text
 
--- a question that names a link is refused where the scenario has none of the name
-abbrev pub OfLink : ScenarioData → List ℕ → List ℕ → List ℕ → (ℕ → Type 0) → Type 0
-OfLink s name refusal text Told = MatchOption (find_link s.network name) (text ≡ refusal) Told
-
--- and one that names a node
-abbrev pub OfNode : ScenarioData → List ℕ → List ℕ → List ℕ → (ℕ → Type 0) → Type 0
-OfNode s name refusal text Told = MatchOption (find_node s.network name) (text ≡ refusal) Told
-
--- a question that names a slot is refused where there are only so many
-abbrev pub OfSlot : ℕ → ℕ → List ℕ → List ℕ → Type 0 → Type 0
-OfSlot slots slot refusal text Told = ((slot < slots) × Told) ⊎ ((slots ≤ slot) × (text ≡ refusal))
-
--- and one that names a boundary is refused where the last one comes before it
-abbrev pub OfBoundary : ℕ → ℕ → List ℕ → List ℕ → Type 0 → Type 0
-OfBoundary last boundary refusal text Told =
-    ((boundary ≤ last) × Told) ⊎ ((last < boundary) × (text ≡ refusal))
-
 abbrev pub slots_after : ScenarioData → List (List Edit) → ℕ
 slots_after s batches = (after_batches s batches).setup.slots
 
 -- the answer to a line, where the session stands so and the loading after these batches is shown: an edit is told
--- to be accepted or refused, a settle to be made, a line that is no command to be none; and a question gets its
--- report of that loading
+-- to be accepted or refused, a settle to be made, a line that is no command to be none; and a question gets the
+-- report of that loading that it asks for, or the line that refuses it
 abbrev pub IsAnswer : ScenarioData → Standing → List (List Edit) → Result Command CommandFault → List ℕ → Type 0
 IsAnswer s now shown (Ok (command.Edit batch)) text =
     MatchResult (edited_all (after_batches s now.accepted) batch)
     (λ next. text ≡ accepted_line (length now.accepted + 1))
     (λ fault. text ≡ edit_fault_line fault)
 IsAnswer s now shown (Ok command.Settle) text = (n : ℕ) × (text ≡ settled_line (length now.accepted) n)
-IsAnswer s now shown (Ok command.Totals) text = Tells s shown totals_report text
-IsAnswer s now shown (Ok (command.Link name)) text = OfLink s name unknown_link_line text
-    (λ link. Tells s shown (λ version. link_report version name link) text)
-IsAnswer s now shown (Ok (command.Time name slot)) text = OfLink s name unknown_time_line text
-    (λ link. OfSlot (slots_after s shown) slot time_slots_line text
-    (Tells s shown (λ version. time_report version name link slot) text))
-IsAnswer s now shown (Ok command.Delay) text = Tells s shown delay_report text
-IsAnswer s now shown (Ok (command.Queue name boundary)) text = OfLink s name unknown_queue_line text
-    (λ link. OfBoundary (slots_after s shown) boundary queue_slots_line text
-    (Tells s shown (λ version. queue_report version name link boundary) text))
-IsAnswer s now shown (Ok (command.Origin name boundary)) text = OfNode s name unknown_origin_line text
-    (λ node. OfBoundary (slots_after s shown) boundary origin_slots_line text
-    (Tells s shown (λ version. origin_report version name node boundary) text))
+IsAnswer s now shown (Ok (command.Ask question)) text =
+    MatchResult (asked s.network (slots_after s shown) question)
+    (λ report. Tells s shown report text)
+    (λ refusal. text ≡ refusal)
 IsAnswer s now shown (Err fault) text = text ≡ command_fault_line fault
 
 -- a line of the script, the text that answers it, and how many of the accepted batches the loading has that is

@@ -19,12 +19,7 @@ use Rattle.ltm_session_editors.specs.Files.{texts_of, has_many}
 -- what a line was read as is a batch of edits, or no edit, or no command; no line is read as want of memory
 abbrev pub batch_in : Result Command CommandFault → Result (List Edit) LineCause
 batch_in (Ok (command.Edit edits)) = Ok edits
-batch_in (Ok command.Totals) = Err NotEdit
-batch_in (Ok (command.Link link)) = Err NotEdit
-batch_in (Ok (command.Time link slot)) = Err NotEdit
-batch_in (Ok command.Delay) = Err NotEdit
-batch_in (Ok (command.Queue link boundary)) = Err NotEdit
-batch_in (Ok (command.Origin node boundary)) = Err NotEdit
+batch_in (Ok (command.Ask question)) = Err NotEdit
 batch_in (Ok command.Settle) = Err NotEdit
 batch_in (Err fault.NotJson) = Err NotJson
 batch_in (Err (fault.NotCommand place)) = Err (NotCommand place)

@@ -50,12 +50,7 @@ settles s t same = record {
 pub grows : (s t : Analysts) (said : Result Command CommandFault) (text : List ℕ) → AnswersAlone s said text t → Grows s t
 grows s t (Ok command.Settle) text (told, same) = settles s t same
 grows s t (Ok (command.Edit batch)) text told = edits (edited_all (scenario_now s.log) batch) s t batch _ _ told
-grows s t (Ok command.Totals) text (told, same) = stays s t same
-grows s t (Ok (command.Link name)) text (told, same) = stays s t same
-grows s t (Ok (command.Time name slot)) text (told, same) = stays s t same
-grows s t (Ok command.Delay) text (told, same) = stays s t same
-grows s t (Ok (command.Queue name boundary)) text (told, same) = stays s t same
-grows s t (Ok (command.Origin name boundary)) text (told, same) = stays s t same
+grows s t (Ok (command.Ask q)) text (told, same) = stays s t same
 grows s t (Err fault.NotJson) text (told, same) = stays s t same
 grows s t (Err (fault.NotCommand place)) text (told, same) = stays s t same
 grows s t (Err fault.NoMemory) text told = absurd told

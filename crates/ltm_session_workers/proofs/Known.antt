@@ -46,12 +46,7 @@ edit_shows (Err f) s t batch P Q (p, same) = ap (λ (a : Analysts). a.shown) sam
 
 reply_shows : (s t : Analysts) (c : Command) (text : List ℕ) → Replies s (Ok c) text t → t.shown ≡ s.shown
 reply_shows s t (command.Edit batch) text r = edit_shows (edited_all (scenario_now s.log) batch) s t batch _ _ r
-reply_shows s t command.Totals text (r, same) = ap (λ (a : Analysts). a.shown) same
-reply_shows s t (command.Link name) text (r, same) = ap (λ (a : Analysts). a.shown) same
-reply_shows s t (command.Time name slot) text (r, same) = ap (λ (a : Analysts). a.shown) same
-reply_shows s t command.Delay text (r, same) = ap (λ (a : Analysts). a.shown) same
-reply_shows s t (command.Queue name boundary) text (r, same) = ap (λ (a : Analysts). a.shown) same
-reply_shows s t (command.Origin name boundary) text (r, same) = ap (λ (a : Analysts). a.shown) same
+reply_shows s t (command.Ask q) text (r, same) = ap (λ (a : Analysts). a.shown) same
 reply_shows s t command.Settle text r = absurd r
 
 pub reply_leaves : {A B : Type 0} (d e : CoreData) (c : Command) (old new : List ℕ) (r : Result A B)
@@ -63,12 +58,7 @@ reply_leaves d e c old new (Err x) made (still, same) = same.shown.version
 -- ---- a line
 answers_reply : (IsCount : Log → ℕ → Type 0) (s : Analysts) (c : Command) (text : List ℕ) (t : Analysts) → Replies s (Ok c) text t → Answers IsCount s (Ok c) text t
 answers_reply IsCount s (command.Edit batch) text t r = r
-answers_reply IsCount s command.Totals text t r = r
-answers_reply IsCount s (command.Link name) text t r = r
-answers_reply IsCount s (command.Time name slot) text t r = r
-answers_reply IsCount s command.Delay text t r = r
-answers_reply IsCount s (command.Queue name boundary) text t r = r
-answers_reply IsCount s (command.Origin name boundary) text t r = r
+answers_reply IsCount s (command.Ask q) text t r = r
 answers_reply IsCount s command.Settle text t r = absurd r
 
 -- a core whose list is known is at the machine that is known, but for what it shows

@@ -1,5 +1,6 @@
 -- Places of a scenario, as a loading counts them, and what of a setting contracts name most.
-use Rattle.std.specs.Prelude.{ℕ, ◌<◌, ◌≤◌}
+use Rattle.std.specs.Prelude.{ℕ, ◌+◌, ◌*◌, ◌<◌, ◌≤◌}
+use Rattle.ltm_units.specs.Bounds.{most_links, most_nodes}
 use Rattle.ltm_curve.specs.declared.curves.Curves.{Curves}
 use Rattle.ltm_node.specs.declared.shape.NodeShape.{NodeShape}
 use Rattle.ltm_scenario.specs.Data.{ScenarioData}
@@ -10,11 +11,11 @@ use Rattle.ltm_setting.specs.Setting.{setting_of}
 
 -- two groups of each link, one of each node, and the one behind them
 abbrev pub last_group : ℕ
-last_group = 16000
+last_group = 2 * most_links + most_nodes
 
 -- all groups
 abbrev pub most_groups : ℕ
-most_groups = 16001
+most_groups = last_group + 1
 
 -- ---- which numbers are those of a node, a slot, a link, a destination
 abbrev pub IsNode : ScenarioData → ℕ → Type 0

@@ -50,6 +50,7 @@ setting_of s = record {
   links = length s.network.links;
   destinations = length s.destinations;
   origin_capacity = s.setup.origin_capacity.0;
+  by_turn = s.setup.by_turn;
   tail = tail_of s.network;
   head = head_of s.network;
   ins = λ u. length (in_links s.network u);

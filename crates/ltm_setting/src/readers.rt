@@ -5,7 +5,7 @@ ghost use Rattle.ltm_curve.specs.Counts.{total};
 ghost use Rattle.ltm_loading.specs.Setting.{Setting};
 ghost use Rattle.ltm_setting.specs.Setting.{setting_of};
 ghost use Rattle.ltm_setting.specs.Places.{IsDestination, IsLink, IsNode, IsSlot};
-ghost use Rattle.ltm_units.specs.Bounds.{longest_step, longest_time, most_in_slot, most_links, most_nodes, most_on_link, most_produced, most_slots};
+ghost use Rattle.ltm_units.specs.Bounds.{longest_step, longest_time, most_destinations, most_in_slot, most_links, most_nodes, most_on_link, most_produced, most_slots};
 
 use ltm_demand::{destinations_add_up, production_never_falls};
 use ltm_diagram::{Delays, Limits, limits_in_range};
@@ -46,6 +46,15 @@ pub fn origin_capacity(scenario: &Scenario) -> u64
     scenario.setup().origin_capacity.0
 }
 
+/// Whether what an arm moves by an out-link is rounded down once for all destinations, and not for each.
+#[inline]
+#[tactic(auto, unfolding(crate::specs::Setting::setting_of))]
+pub fn by_turn(scenario: &Scenario) -> bool
+    ensures { result ≡ (setting_of scenario.now).by_turn }
+{
+    scenario.setup().by_turn
+}
+
 /// How many nodes there are.
 #[inline]
 #[tactic(auto, unfolding(crate::specs::Setting::setting_of))]
@@ -71,7 +80,7 @@ pub fn link_count(scenario: &Scenario) -> u32
 #[tactic(auto, unfolding(crate::specs::Setting::setting_of))]
 pub fn destination_count(scenario: &Scenario) -> u32
     ensures value { result ≡ (setting_of scenario.now).destinations }
-    ensures few { result ≤ 64 }
+    ensures few { result ≤ most_destinations }
 {
     let _setup = scenario.setup();
     scenario.destinations().len() as u32

@@ -1,5 +1,5 @@
 //! What the arms of a node send into its out-links.
-ghost use Rattle.std.specs.Prelude.{◌≡◌, ℕ, ◌+◌, ◌<◌, ◌^◌};
+ghost use Rattle.std.specs.Prelude.{◌≡◌, ℕ, ◌+◌, ◌<◌, ◌≤◌, ◌^◌};
 
 /// How many arms a node has at most.
 pub const ARMS: usize = 5;
@@ -49,5 +49,16 @@ impl Sent {
         ensures { Adds arm out amount self.old self.new }
     {
         self.amounts[arm * OUTS + out] += amount;
+    }
+
+    /// Takes from what an arm sends into an out-link: to add it again would give what was.
+    #[inline]
+    pub fn take(&mut self, arm: usize, out: usize, amount: u64)
+        requires arm { arm < 5 }
+        requires out { out < 4 }
+        requires within { amount ≤ sent_at self.old arm out }
+        ensures { Adds arm out amount self.new self.old }
+    {
+        self.amounts[arm * OUTS + out] -= amount;
     }
 }

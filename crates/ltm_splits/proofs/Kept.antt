@@ -14,8 +14,8 @@ use Rattle.ltm_splits.proofs.Pairs.{put_all, take_all, row_all}
 use Rattle.ltm_splits.proofs.Sorted.{split_total, there, weights_put, weights_take, ordered_put, ordered_take, back_new, back_old, length_put_new, length_put_old, length_take, take_absent}
 use Rattle.ltm_splits.specs.Rows.{split_cmp}
 
-abbrev pub with_slots_rows : ℕ → List SplitRow → SplitsData
-with_slots_rows slots rows = record { slots = slots; rows = rows }
+abbrev pub data_of : ℕ → ℕ → List SplitRow → SplitsData
+data_of slots most rows = record { slots = slots; most_rows = most; rows = rows }
 
 value_of : {X : Type 0} (o : Option X) → true ≡ is_some o → (x : X) × (o ≡ Some x)
 value_of None h = cc
@@ -146,7 +146,7 @@ pub room_keeps_none : (table roomy : List (List (List Entry))) (n d f : ℕ) →
 room_keeps_none table roomy n d f same none = ap (lookup (is_at (nat_cmp f))) same ∙ sym (row_all n d f table) ∙ none
 
 -- a table with other rows, where the rows in it are put in or not
-pub rows_clause : (slots : ℕ) (old new : List SplitRow) (now : SplitsData) (key : SplitKey) (w : List ℕ) (stands : Bool) → new ≡ (if stands then put_in old key w else old) → with_slots_rows slots old ≡ now →
-    with_slots_rows slots new ≡ (if stands then with_rows now (put_in now.rows key w) else now)
-rows_clause slots old new now key w true is shown = ap (with_slots_rows slots) is ∙ ap (λ (v : SplitsData). with_rows v (put_in v.rows key w)) shown
-rows_clause slots old new now key w false is shown = ap (with_slots_rows slots) is ∙ shown
+pub rows_clause : (slots most : ℕ) (old new : List SplitRow) (now : SplitsData) (key : SplitKey) (w : List ℕ) (stands : Bool) → new ≡ (if stands then put_in old key w else old) → data_of slots most old ≡ now →
+    data_of slots most new ≡ (if stands then with_rows now (put_in now.rows key w) else now)
+rows_clause slots most old new now key w true is shown = ap (data_of slots most) is ∙ ap (λ (v : SplitsData). with_rows v (put_in v.rows key w)) shown
+rows_clause slots most old new now key w false is shown = ap (data_of slots most) is ∙ shown

@@ -1,6 +1,7 @@
 pub mod Ends
 pub mod Order
 pub mod Pairs
+pub mod Whole
 pub mod Place
 pub mod Sums
 pub mod Sorted

@@ -37,7 +37,7 @@ module _ (n d : ℕ) where
       read_ends rows_of_node n (Before n d) (Behind n d) (node_before n d) (node_behind n d) read skip stop [] refl 0 n nodes (omega arith)
       ∙ read_ends (rows_of_pair n) d (Before n d) (Behind n d) (pair_before n d) (pair_behind n d) read skip stop [] refl 0 d (get_or nodes n []) (omega arith)
 
-  edit_all : (edit : List SplitRow → List SplitRow) →
+  pub edit_all : (edit : List SplitRow → List SplitRow) →
       ((xs ys : List SplitRow) → AllByRecursion (Before n d) xs → edit (xs ++ ys) ≡ xs ++ edit ys) →
       ((xs ys : List SplitRow) → AllByRecursion (Behind n d) ys → edit (xs ++ ys) ≡ edit xs ++ ys) →
       (nodes : List (List (List Entry))) (es : List Entry) → n < length nodes → d < length (get_or nodes n []) →
@@ -80,7 +80,7 @@ module _ (n d : ℕ) where
   row_pair f [] = refl
   row_pair f (e ∷ es) = ap (λ r. cond (is_eq r) (Some e.1) (row_of (rows_of_pair n d es) (key_of n d f))) (cmp_same f e.0) ∙ ap (λ o. cond (is_eq (nat_cmp f e.0)) (Some e.1) o) (row_pair f es)
 
-  begun_pair : (t : ℕ) (es : List Entry) → rows_begun (rows_of_pair n d es) n d t ≡ rows_of_pair n d (filter (λ e. nat_le e.0 t) es)
+  pub begun_pair : (t : ℕ) (es : List Entry) → rows_begun (rows_of_pair n d es) n d t ≡ rows_of_pair n d (filter (λ e. nat_le e.0 t) es)
   begun_pair t [] = refl
   begun_pair t (e ∷ es) =
       ap (λ b. cond (b && nat_le e.0 t) ((key_of n d e.0, e.1) ∷ rows_begun (rows_of_pair n d es) n d t) (rows_begun (rows_of_pair n d es) n d t)) (of_same e)
@@ -93,7 +93,7 @@ module _ (n d : ℕ) where
   of_pair [] = refl
   of_pair (e ∷ es) = ap (λ b. cond b ((key_of n d e.0, e.1) ∷ filter (is_of n d) (rows_of_pair n d es)) (filter (is_of n d) (rows_of_pair n d es))) (of_same e) ∙ ap (λ l. (key_of n d e.0, e.1) ∷ l) (of_pair es)
 
-  last_pair : (o : Option Entry) (es : List Entry) → option_map (λ row. row.1) (last_or (option_map (λ (e : Entry). (key_of n d e.0, e.1)) o) (rows_of_pair n d es)) ≡ option_map (λ e. e.1) (last_or o es)
+  pub last_pair : (o : Option Entry) (es : List Entry) → option_map (λ row. row.1) (last_or (option_map (λ (e : Entry). (key_of n d e.0, e.1)) o) (rows_of_pair n d es)) ≡ option_map (λ e. e.1) (last_or o es)
   last_pair None [] = refl
   last_pair (Some e) [] = refl
   last_pair o (e ∷ es) = last_pair (Some e) es
@@ -126,10 +126,12 @@ module _ (n d : ℕ) where
       ∙ begun_pair t (entries_at nodes n d))
       ∙ last_pair None (filter (λ e. nat_le e.0 t) (entries_at nodes n d))
 
-  pub begins_all : (nodes : List (List (List Entry))) → begins (rows_of_all nodes) n d ≡ option_map (λ e. e.0) (slice_get (entries_at nodes n d) 0)
-  begins_all nodes =
-      ap (λ rows. option_map (λ row. row.0.from) (slice_get rows 0)) (read_all (filter (is_of n d))
+  pub of_all : (nodes : List (List (List Entry))) → filter (is_of n d) (rows_of_all nodes) ≡ rows_of_pair n d (entries_at nodes n d)
+  of_all nodes =
+      read_all (filter (is_of n d))
       (λ xs ys h. filter_skip (is_of n d) xs ys (all_weaker (Before n d) (λ e. is_of n d e ≡ false) (apart_before n d) xs h))
       (λ xs ys h. filter_stop (is_of n d) xs ys (all_weaker (Behind n d) (λ e. is_of n d e ≡ false) (apart_behind n d) ys h)) nodes
-      ∙ of_pair (entries_at nodes n d))
-      ∙ first_pair (entries_at nodes n d)
+      ∙ of_pair (entries_at nodes n d)
+
+  pub begins_all : (nodes : List (List (List Entry))) → begins (rows_of_all nodes) n d ≡ option_map (λ e. e.0) (slice_get (entries_at nodes n d) 0)
+  begins_all nodes = ap (λ rows. option_map (λ row. row.0.from) (slice_get rows 0)) (of_all nodes) ∙ first_pair (entries_at nodes n d)

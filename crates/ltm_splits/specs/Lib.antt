@@ -1,5 +1,6 @@
 pub mod Rows
 pub mod Table
+pub mod Replaced
 pub mod Entries
 pub mod Weights
 pub mod Latest

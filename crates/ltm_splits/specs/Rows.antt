@@ -11,7 +11,6 @@ use Rattle.ltm_splits.specs.Weights.{AreWeights}
 use Rattle.ltm_splits.specs.declared.keys.SplitKey.{SplitKey}
 use Rattle.ltm_splits.specs.declared.keys.SplitFault.{SplitFault}
 use Rattle.ltm_splits.specs.declared.keys.SplitFault.TheVariants.{BadSlots, ZeroWeight, TooManyRows}
-use Rattle.ltm_units.specs.Bounds.{most_split_rows}
 
 -- by node, then by destination, then by first slot
 abbrev pub split_cmp : SplitKey → SplitKey → Ordering
@@ -21,9 +20,10 @@ split_cmp a b = ordering_then (nat_cmp a.node.0 b.node.0) (ordering_then (nat_cm
 abbrev pub SplitRow : Type 0
 SplitRow = SplitKey × List ℕ
 
--- the horizon, and the rows in the order of their keys
+-- the horizon, how many rows there may be, and the rows in the order of their keys
 pub record SplitsData : Type 0 where
   pub slots : ℕ
+  pub most_rows : ℕ
   pub rows : List SplitRow
 
 -- each key is below those after it
@@ -35,10 +35,10 @@ abbrev pub HaveWeights : List SplitRow → Type 0
 HaveWeights rows = All (λ row. AreWeights row.1) rows
 
 abbrev pub with_rows : SplitsData → List SplitRow → SplitsData
-with_rows d rows = record { slots = d.slots; rows = rows }
+with_rows d rows = record d { rows = rows }
 
 abbrev pub with_slots : SplitsData → ℕ → SplitsData
-with_slots d slots = record { slots = slots; rows = d.rows }
+with_slots d slots = record d { slots = slots }
 
 abbrev pub key_of : ℕ → ℕ → ℕ → SplitKey
 key_of node destination from = record { node = record { 0 = node }; destination = destination; from = from }
@@ -60,16 +60,16 @@ abbrev pub put_back : List SplitRow → SplitKey → Option (List ℕ) → List 
 put_back rows key None = taken_out rows key
 put_back rows key (Some weights) = put_in rows key weights
 
--- whether it would be the 50,001st row
-abbrev pub is_over : List SplitRow → SplitKey → Bool
-is_over rows key = is_none (row_of rows key) && nat_le most_split_rows (length rows)
+-- whether it would be one row too many
+abbrev pub is_over : SplitsData → SplitKey → Bool
+is_over d key = is_none (row_of d.rows key) && nat_le d.most_rows (length d.rows)
 
 -- the table with the row, or the first reason to refuse it
 abbrev pub with_row : SplitsData → SplitKey → List ℕ → Result SplitsData SplitFault
 with_row d key weights =
     if nat_le d.slots key.from then Err BadSlots
     else (if sum weights == 0 then Err ZeroWeight
-    else (if is_over d.rows key then Err TooManyRows
+    else (if is_over d key then Err TooManyRows
     else Ok (with_rows d (put_in d.rows key weights))))
 
 -- whether the row is one of the pair of node and destination

@@ -6,5 +6,5 @@ use Rattle.ltm_splits.specs.declared.keys.SplitFault.TheVariants.{BadSlots, Zero
 abbrev pub fault_text : SplitFault → List ℕ
 fault_text BadSlots = codes "the first slot is not below the horizon"
 fault_text ZeroWeight = codes "no weight is above 0"
-fault_text TooManyRows = codes "more than 50000 split rows"
+fault_text TooManyRows = codes "too many rows"
 fault_text NoMemory = codes "out of memory"

@@ -20,7 +20,7 @@ pub enum SplitFault {
     BadSlots,
     /// No out-link has a weight above 0.
     ZeroWeight,
-    /// The table has 50,000 rows, and none with this key.
+    /// The table has as many rows as it may have, and none with this key.
     TooManyRows,
     NoMemory,
 }
@@ -35,7 +35,7 @@ impl fmt::Display for SplitFault {
         match self {
             SplitFault::BadSlots => write!(f, "the first slot is not below the horizon"),
             SplitFault::ZeroWeight => write!(f, "no weight is above 0"),
-            SplitFault::TooManyRows => write!(f, "more than 50000 split rows"),
+            SplitFault::TooManyRows => write!(f, "too many rows"),
             SplitFault::NoMemory => write!(f, "out of memory"),
         }
     }

@@ -2,8 +2,8 @@
 //!
 //! It stands on `ltm_units` alone. To ask for the row in force costs two steps through flat lists where a node and a
 //! destination have one row, which lies in the second of them, and a search by halving where they have more. To set a
-//! row costs a move of that short list at most. Change it here where a row means something else, or comes into force otherwise than from its first slot on.
-//! Contracts see a table as its horizon and the list of its rows in the order of their keys.
+//! row costs a move of that short list at most, and to put another list in its place no copy at all. Change it here where
+//! a row means something else, or comes into force otherwise than from its first slot on. Contracts see a table as its horizon and the list of its rows in the order of their keys.
 #![tactic(auto)]
 
 mod keys;
@@ -17,7 +17,8 @@ mod splits;
 mod weights;
 
 pub use keys::{SplitFault, SplitKey};
-pub use laws::{rows_stay, rules_of_rows};
+pub use laws::{pair_stays, rows_stay, rules_of_rows};
+pub use pair_rows::PairRows;
 pub use rows::Rows;
-pub use splits::Splits;
+pub use splits::{DEFAULT_SPLIT_ROWS, Splits};
 pub use weights::Weights;

@@ -11,6 +11,7 @@ use crate::weights::Weights;
 use ltm_units::NoMemory;
 use std::alloc::Global;
 use std::marker::Model;
+use std::mem;
 
 /// By destination, up to the last that has had a row.
 #[derive(Drop)]
@@ -108,6 +109,15 @@ impl NodeRows {
             return false;
         }
         self.pairs[destination as usize].remove(from)
+    }
+
+    /// Puts other rows of the destination in place of those that it has, which come back.
+    pub fn exchange(&mut self, destination: u32, rows: PairRows) -> PairRows
+        requires room { destination < length self.old }
+        ensures rows { self.new ≡ slice_set self.old destination rows }
+        ensures was { result ≡ slice_index_or self.old destination [] }
+    {
+        mem::replace(&mut self.pairs[destination as usize], rows)
     }
 
     pub fn try_copy(&self) -> Result<NodeRows, NoMemory>

@@ -115,6 +115,16 @@ impl NodeTable {
         self.nodes[key.node.0 as usize].remove(key.destination, key.from)
     }
 
+    /// Puts other rows of the node and the destination in place of those that stand, which come back.
+    pub fn exchange(&mut self, node: NodeId, destination: u32, rows: PairRows) -> PairRows
+        requires node { node.0 < length self.old }
+        requires destination { destination < length (slice_index_or self.old node.0 []) }
+        ensures rows { self.new ≡ with_entries self.old node.0 destination rows }
+        ensures was { result ≡ entries_at self.old node.0 destination }
+    {
+        self.nodes[node.0 as usize].exchange(destination, rows)
+    }
+
     pub fn try_copy(&self) -> Result<NodeTable, NoMemory>
         ensures { IfOk result (λ copy. copy ≡ self.now) }
     {

@@ -1,10 +1,10 @@
 //! The rows of one node and one destination.
-ghost use Rattle.std.specs.Prelude.{◌≡◌, [], Some, None, IfOk, IfErr, IfSome, OnOk, OnErr, IsSome, is_some, if◌then◌else◌, slice_get, sum, ◌<◌};
+ghost use Rattle.std.specs.Prelude.{◌≡◌, ℕ, [], ◌∷◌, ◌++◌, length, Some, None, IfOk, IfErr, IfSome, OnOk, OnErr, IsSome, is_some, if◌then◌else◌, slice_get, sum, ◌<◌};
 ghost use Rattle.std.specs.Option.{option_map, option_copied};
 ghost use Rattle.std.specs.Map.{lookup, remove_entry};
 ghost use Rattle.std.specs.BTreeMap.{insert_entry, is_at};
 ghost use Rattle.std.specs.Ordering.{nat_cmp};
-ghost use Rattle.ltm_splits.specs.Entries.{IsRising, IsAt, IsGap, IsCount, entry_in_force};
+ghost use Rattle.ltm_splits.specs.Entries.{start_at, IsRising, IsAt, IsGap, IsCount, entry_in_force};
 ghost use Rattle.ltm_splits.specs.Weights.{AreWeights};
 
 use crate::row_list::RowList;
@@ -13,10 +13,17 @@ use ltm_units::NoMemory;
 use std::alloc::Global;
 use std::marker::Model;
 
-/// First slots that rise, each with the weights from then on: mostly one, which is read without a search.
-#[derive(Drop)]
+/// The rows of a node and a destination: first slots that rise, each with the weights from then on, mostly one. Contracts
+/// see them as the list of both.
 pub struct PairRows {
     rows: RowList,
+}
+
+// By hand, so that letting go of them is one call.
+impl Drop for PairRows {
+    fn drop(self) {
+        let PairRows { rows: _rows } = self;
+    }
 }
 
 impl Model for PairRows {
@@ -33,6 +40,7 @@ impl Model for PairRows {
 }
 
 impl PairRows {
+    /// No row. It takes no memory.
     pub fn new() -> PairRows
         ensures { result ≡ [] }
     {
@@ -41,9 +49,19 @@ impl PairRows {
         }
     }
 
+    /// Adds a row behind all others.
+    pub fn push(&mut self, alloc: Global, from: u32, weights: Weights) -> Result<(), NoMemory>
+        requires { (i : ℕ) → i < length self.old → start_at self.old i < from }
+        ensures ok { OnOk result (self.new ≡ self.old ++ (from, weights) ∷ []) }
+        ensures err { OnErr result (self.new ≡ self.old) }
+    {
+        let end = self.rows.as_slice().len();
+        Ok(self.rows.insert(alloc, end, (from, weights))?)
+    }
+
     /// The weights of the last row that begins at or before the slot.
     #[inline]
-    pub fn at(&self, slot: u32) -> Option<&Weights>
+    pub(crate) fn at(&self, slot: u32) -> Option<&Weights>
         ensures { option_copied result ≡ entry_in_force self.now slot }
     {
         match &self.rows {
@@ -72,14 +90,14 @@ impl PairRows {
     }
 
     /// The first slot of the first row.
-    pub fn begins(&self) -> Option<u32>
+    pub(crate) fn begins(&self) -> Option<u32>
         ensures { result ≡ option_map (λ e. e.0) (slice_get self.now 0) }
     {
         self.rows.as_slice().first().map(|row| row.0)
     }
 
     /// The weights of the row with exactly that first slot.
-    pub fn get(&self, from: u32) -> Option<&[u32]>
+    pub(crate) fn get(&self, from: u32) -> Option<&[u32]>
         ensures weights { option_copied result ≡ lookup (is_at (nat_cmp from)) self.now }
         ensures some { IfSome result (λ weights. AreWeights weights.now) }
     {
@@ -91,13 +109,14 @@ impl PairRows {
 
     /// The rows in order of first slot.
     pub fn rows(&self) -> &[(u32, Weights)]
-        ensures { result.now ≡ self.now }
+        ensures rows { result.now ≡ self.now }
+        ensures rising { IsRising self.now }
     {
         self.rows.as_slice()
     }
 
     /// Gives the row with that first slot other weights, where there is one.
-    pub fn replace(&mut self, from: u32, weights: Weights) -> bool
+    pub(crate) fn replace(&mut self, from: u32, weights: Weights) -> bool
         ensures stood { result ≡ is_some (lookup (is_at (nat_cmp from)) self.old) }
         ensures rows { self.new
             ≡ (if result then insert_entry nat_cmp self.old from weights else self.old) }
@@ -112,7 +131,12 @@ impl PairRows {
     }
 
     /// Adds a row with a first slot that no row has.
-    pub fn insert(&mut self, alloc: Global, from: u32, weights: Weights) -> Result<(), NoMemory>
+    pub(crate) fn insert(
+        &mut self,
+        alloc: Global,
+        from: u32,
+        weights: Weights,
+    ) -> Result<(), NoMemory>
         requires { lookup (is_at (nat_cmp from)) self.old ≡ None }
         ensures ok { OnOk result (self.new ≡ insert_entry nat_cmp self.old from weights) }
         ensures err { OnErr result (self.new ≡ self.old) }
@@ -124,7 +148,7 @@ impl PairRows {
     }
 
     /// Takes out the row with that first slot, where there is one.
-    pub fn remove(&mut self, from: u32) -> bool
+    pub(crate) fn remove(&mut self, from: u32) -> bool
         ensures stood { result ≡ is_some (lookup (is_at (nat_cmp from)) self.old) }
         ensures rows { self.new ≡ remove_entry (is_at (nat_cmp from)) self.old }
     {
@@ -137,7 +161,7 @@ impl PairRows {
         }
     }
 
-    pub fn try_copy(&self) -> Result<PairRows, NoMemory>
+    pub(crate) fn try_copy(&self) -> Result<PairRows, NoMemory>
         ensures { IfOk result (λ copy. copy ≡ self.now) }
     {
         Ok(PairRows {

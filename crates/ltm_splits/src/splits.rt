@@ -2,7 +2,10 @@
 ghost use Rattle.std.specs.Prelude.{◌≡◌, ◌≢◌, ◌≤◌, ◌<◌, [], Ok, Err, Some, None, IsTrue, IsSome, IsNone, IfSome, IfOk, IfErr, OnOk, OnErr, is_some, if◌then◌else◌, length};
 ghost use Rattle.std.specs.Option.{option_copied};
 ghost use Rattle.ltm_splits.specs.Weights.{AreWeights};
-ghost use Rattle.ltm_units.specs.Bounds.{most_slots, most_split_rows};
+ghost use Rattle.ltm_units.specs.Bounds as bounds;
+ghost use Rattle.ltm_units.specs.Bounds.{most_slots};
+
+mod whole;
 
 use crate::keys::{SplitFault, SplitKey};
 use crate::node_table::NodeTable;
@@ -12,6 +15,9 @@ use ltm_units::{NoMemory, NodeId};
 use std::alloc::Global;
 use std::marker::Model;
 
+/// The most rows of a table that is not told how many it takes.
+pub const DEFAULT_SPLIT_ROWS: u32 = 50_000;
+
 /// Split rows: from its first slot on, a row spreads the traffic of a node for a destination over the node's out-links,
 /// until a later row of the same node and destination takes its place.
 ///
@@ -19,6 +25,7 @@ use std::marker::Model;
 /// pair, mostly one.
 pub struct Splits {
     slots: u32,
+    most_rows: u32,
     count: usize,
     table: NodeTable,
 }
@@ -28,6 +35,7 @@ impl Drop for Splits {
     fn drop(self) {
         let Splits {
             slots: _slots,
+            most_rows: _most_rows,
             count: _count,
             table: _table,
         } = self;
@@ -35,27 +43,38 @@ impl Drop for Splits {
 }
 
 impl Model for Splits {
-    ghost use Rattle.std.specs.Prelude.{◌≡◌, length};
+    ghost use Rattle.std.specs.Prelude.{◌≡◌, ◌≤◌, length};
     ghost use Rattle.ltm_splits.specs.Rows.{SplitsData, IsOrdered, HaveWeights};
     ghost use Rattle.ltm_splits.specs.Table.{rows_of_all};
 
     ghost Value = { SplitsData };
 
-    ghost view = { λ s. record { slots = s.slots; rows = rows_of_all s.table } };
+    ghost view = { λ s. record { slots = s.slots; most_rows = s.most_rows; rows = rows_of_all s.table } };
 
-    ghost invariant = { λ s. IsOrdered (rows_of_all s.table) × (s.count ≡ length (rows_of_all s.table)) × HaveWeights (rows_of_all s.table) };
+    ghost invariant = { λ s. IsOrdered (rows_of_all s.table) × (s.count ≡ length (rows_of_all s.table)) × HaveWeights (rows_of_all s.table) × (length (rows_of_all s.table) ≤ s.most_rows) };
 }
 
 impl Splits {
     ghost use Rattle.ltm_splits.specs.Rows.{IsOrdered, HaveWeights, key_of, with_rows, with_slots, with_row, row_of, put_in, taken_out, put_back, row_in_force, begins};
 
-    /// A table without rows, for that many slots. It takes no memory.
+    /// A table without rows, for that many slots, and at most 50,000 rows. It takes no memory.
     pub fn new(alloc: Global, slots: u32) -> Splits
         ensures slots { result.slots ≡ slots }
+        ensures most { result.most_rows ≡ bounds.default_split_rows }
+        ensures rows { result.rows ≡ [] }
+    {
+        Splits::of_most(alloc, slots, DEFAULT_SPLIT_ROWS)
+    }
+
+    /// A table without rows, for that many slots, and at most so many rows. It takes no memory.
+    pub fn of_most(alloc: Global, slots: u32, most_rows: u32) -> Splits
+        ensures slots { result.slots ≡ slots }
+        ensures most { result.most_rows ≡ most_rows }
         ensures rows { result.rows ≡ [] }
     {
         Splits {
             slots,
+            most_rows,
             count: 0,
             table: NodeTable::new(alloc),
         }
@@ -120,7 +139,7 @@ impl Splits {
         if self.replace(key, weights) {
             return Ok(());
         }
-        if self.count >= 50_000 {
+        if self.count >= self.most_rows as usize {
             return Err(SplitFault::TooManyRows);
         }
         match self.add(key, weights) {
@@ -244,6 +263,7 @@ impl Splits {
     {
         Ok(Splits {
             slots: self.slots,
+            most_rows: self.most_rows,
             count: self.count,
             table: self.table.try_copy()?,
         })
@@ -266,7 +286,7 @@ impl Splits {
     // Adds a row with a key that no row has.
     fn add(&mut self, key: SplitKey, weights: Weights) -> Result<(), NoMemory>
         requires new { row_of self.old.rows key ≡ None }
-        requires few { length self.old.rows < most_split_rows }
+        requires few { length self.old.rows < self.old.most_rows }
         requires weights { AreWeights weights }
         ensures ok { OnOk result (self.new
             ≡ with_rows self.old (put_in self.old.rows key weights)) }

@@ -24,7 +24,7 @@ over_plus s f g =
     ap (λ (n : ℕ). n * s.step) (sum_below-plus s.slots (λ t. f (t + 1)) (λ t. g (t + 1)))
     ∙ add-mul (sum_below s.slots (λ t. f (t + 1))) (sum_below s.slots (λ t. g (t + 1))) s.step
 
-over_each : (s : Setting) (n : ℕ) (f : ℕ → ℕ → ℕ) → over_time s (λ k. sum_below n (λ i. f i k)) ≡ sum_below n (λ i. over_time s (f i))
+pub over_each : (s : Setting) (n : ℕ) (f : ℕ → ℕ → ℕ) → over_time s (λ k. sum_below n (λ i. f i k)) ≡ sum_below n (λ i. over_time s (f i))
 over_each s n f =
     ap (λ (m : ℕ). m * s.step) (sym (sum_below-swap n s.slots (λ i t. f i (t + 1))))
     ∙ sym (sum_below-mul n (λ i. sum_below s.slots (λ t. f i (t + 1))) s.step)

@@ -2,6 +2,7 @@
 ghost use Rattle.std.specs.Prelude.{◌≡◌, ◌↔◌, ℕ, ◌+◌, ◌-◌, ◌*◌, ◌/◌, ◌<◌, ◌≤◌, ◌^◌, None, option_map};
 ghost use Rattle.ltm_curve.specs.Counts.{Rises};
 ghost use Rattle.ltm_curve.specs.TotalCurves.{total_groups, total_slots, total_at};
+ghost use Rattle.ltm_curve.specs.Totals.{most_total};
 ghost use Rattle.ltm_times.specs.Moments.{first_moment};
 ghost use Rattle.ltm_units.specs.Bounds.{longest_step};
 
@@ -34,7 +35,7 @@ fn first_boundary(curves: &TotalCurves, group: u32, count: u64) -> u32
 fn wait_in_slot(from: u64, to: u64, count: u64, step: u64) -> u64
     requires not_yet { from < count }
     requires reached { count ≤ to }
-    requires few { to ≤ 2 ^ 37 }
+    requires few { to ≤ most_total }
     requires short_step { step ≤ longest_step }
     requires some_step { 1 ≤ step }
     ensures some { 1 ≤ result }

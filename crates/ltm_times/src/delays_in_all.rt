@@ -52,7 +52,7 @@ fn departed(loading: &Loading, boundary: u32) -> u128
 }
 
 /// The time that all wait at their origins, in units times milliseconds.
-fn waited(loading: &Loading) -> u128
+pub fn waited(loading: &Loading) -> u128
     ensures { (s : Setting) (version : ℕ) (c : Counts) → ShowsCounts s version c loading.now
         → result ≡ waited s c }
 {

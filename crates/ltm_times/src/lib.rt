@@ -24,7 +24,7 @@ mod ready;
 mod spending;
 
 pub use delays::{DelayTotals, LinkDelay, LinkState, OriginDelay, OriginState, Peak};
-pub use delays_in_all::delay_totals;
+pub use delays_in_all::{delay_totals, waited};
 pub use laws::{
     delays_are_summed, left_was_produced, left_was_ready, peaks_are_first_greatest,
     queues_stand_on_links, spent_adds_up,

@@ -1,6 +1,7 @@
 //! The queue of a link, and what its vehicles spend on it.
 ghost use Rattle.std.specs.Prelude.{◌≡◌, ℕ, ◌+◌, ◌-◌, ◌<◌, ◌≤◌, ◌^◌};
 ghost use Rattle.ltm_curve.specs.Counts.{Counts};
+ghost use Rattle.ltm_curve.specs.Totals.{most_total};
 ghost use Rattle.ltm_loading.specs.Setting.{Setting};
 ghost use Rattle.ltm_loading.specs.Totals.{entered_link, left_link};
 ghost use Rattle.ltm_flows.specs.Shown.{links_of, last_of, ShowsCounts};
@@ -20,7 +21,7 @@ pub fn queue(loading: &Loading, link: LinkId, boundary: u32) -> Units
     requires boundary { boundary ≤ last_of loading.now }
     ensures shown { (s : Setting) (version : ℕ) (c : Counts) → ShowsCounts s version c loading.now
         → result.0 ≡ queue s c link.0 boundary }
-    ensures small { result.0 ≤ 2 ^ 37 }
+    ensures small { result.0 ≤ most_total }
 {
     let _links = loading.links();
     let curves = loading.curves();
@@ -54,7 +55,7 @@ fn on_link(loading: &Loading, link: LinkId, boundary: u32) -> u64
     requires boundary { boundary ≤ last_of loading.now }
     ensures shown { (s : Setting) (version : ℕ) (c : Counts) → ShowsCounts s version c loading.now
         → result ≡ entered_link s c link.0 boundary - left_link s c link.0 boundary }
-    ensures small { result ≤ 2 ^ 37 }
+    ensures small { result ≤ most_total }
 {
     let left = loading.left_by(link, boundary).0;
     loading.entered_by(link, boundary).0.saturating_sub(left)
@@ -75,8 +76,9 @@ pub(crate) fn peak_by(before: Peak, number: Units, at: u32) -> Peak
 /// The time that vehicles spend on a link and stand in its queue, and the longest queue, in one pass over the boundaries.
 pub fn link_delay(loading: &Loading, link: LinkId) -> LinkDelay
     requires { link.0 < links_of loading.now }
-    ensures { (s : Setting) (version : ℕ) (c : Counts) → ShowsCounts s version c loading.now
+    ensures shown { (s : Setting) (version : ℕ) (c : Counts) → ShowsCounts s version c loading.now
         → IsLinkDelay s c link.0 result }
+    ensures small { result.queued ≤ 2 ^ 112 }
 {
     let mut spent = 0u128;
     let mut queued = 0u128;

@@ -2,6 +2,7 @@
 ghost use Rattle.std.specs.Prelude.{◌≡◌, ◌+◌, ◌-◌, ◌*◌, ◌<◌, ◌≤◌, ◌^◌};
 ghost use Rattle.ltm_curve.specs.Counts.{Rises, interpolated};
 ghost use Rattle.ltm_curve.specs.TotalCurves.{total_groups, total_slots, total_at};
+ghost use Rattle.ltm_curve.specs.Totals.{most_total};
 ghost use Rattle.ltm_times.specs.Queues.{delayed};
 ghost use Rattle.ltm_units.specs.Bounds.{longest_step};
 
@@ -17,7 +18,7 @@ fn past(curves: &TotalCurves, group: u32, boundary: u32, rest: Millis, step: Mil
     requires rises { Rises (total_at curves.now group) (total_slots curves.now) }
     ensures total { result
         ≡ interpolated (total_at curves.now group) step.0 (boundary * step.0 + rest.0) }
-    ensures small { result ≤ 2 ^ 37 }
+    ensures small { result ≤ most_total }
 {
     let before = curves.total(group, boundary);
     if rest.0 == 0 {
@@ -43,7 +44,7 @@ pub(crate) fn total_ago(
     requires some_step { 1 ≤ step.0 }
     requires short_step { step.0 ≤ longest_step }
     ensures total { result ≡ delayed (total_at curves.now group) step.0 delay.0 boundary }
-    ensures small { result ≤ 2 ^ 37 }
+    ensures small { result ≤ most_total }
 {
     let end = u64::from(boundary) * step.0;
     if end < delay.0 {

@@ -6,11 +6,14 @@ abbrev pub most_slots : ℕ
 most_slots = 10000
 
 abbrev pub most_links : ℕ
-most_links = 4000
+most_links = 16000
 
 -- two ends of each link
 abbrev pub most_nodes : ℕ
-most_nodes = 8000
+most_nodes = 32000
+
+abbrev pub most_destinations : ℕ
+most_destinations = 256
 
 -- a step, in milliseconds
 abbrev pub longest_step : ℕ
@@ -23,6 +26,19 @@ longest_time = 3600000000
 -- vehicles that stand on a kilometre
 abbrev pub most_per_km : ℕ
 most_per_km = 10000
+
+-- ---- of a case that does not say how large it may be
+abbrev pub default_links : ℕ
+default_links = 4000
+
+abbrev pub default_destinations : ℕ
+default_destinations = 64
+
+abbrev pub default_demand_rows : ℕ
+default_demand_rows = 10000
+
+abbrev pub default_split_rows : ℕ
+default_split_rows = 50000
 
 -- ---- amounts, in thousandths of a vehicle
 -- what passes a link, or leaves an origin, in one slot
@@ -39,20 +55,16 @@ most_amount = 1000000000
 
 -- what an origin has produced for a destination, or for all
 abbrev pub most_produced : ℕ
-most_produced = 10000000000000
+most_produced = 500000000000000
 
 -- ---- rows and bytes
--- rows of demand
-abbrev pub most_demand_rows : ℕ
-most_demand_rows = 10000
+-- rows of demand, and rows of splits
+abbrev pub most_rows : ℕ
+most_rows = 500000
 
--- rows of splits
-abbrev pub most_split_rows : ℕ
-most_split_rows = 50000
-
--- numbers that a pair of node and slot reads, at five arms, four out-links and 64 destinations
+-- numbers that a pair of node and slot reads, at five arms, four out-links and 256 destinations
 abbrev pub widest_row : ℕ
-widest_row = 1162
+widest_row = 4618
 
 -- bytes of a file of a case, of edits or of routes
 abbrev pub longest_file : ℕ

@@ -8,6 +8,7 @@ use Rattle.ltm_curve.specs.Table.{counts_of}
 use Rattle.ltm_curve.specs.Cells.{is_changed}
 use Rattle.ltm_node.specs.Shape.{counts_begin}
 use Rattle.ltm_scenario.specs.declared.edit.Edit.{Edit}
+use Rattle.ltm_scenario.specs.declared.setup.Setup.{Setup}
 use Rattle.ltm_scenario.specs.Network.{NetworkData}
 use Rattle.ltm_scenario.specs.Data.{ScenarioData}
 use Rattle.ltm_scenario.specs.Shape.{SameShape}
@@ -25,6 +26,7 @@ use Rattle.ltm_pairs.specs.Touched.{touched_in, touched_by, is_touched}
 use Rattle.ltm_pairs.proofs.LongerReaches.{longer_reaches}
 use Rattle.ltm_repair.proofs.Index.{index_stays_current}
 use Rattle.ltm_repair.proofs.KeepsBatch.{accept_keeps}
+use Rattle.ltm_repair.proofs.Networks.{shape_same}
 use Rattle.ltm_pairs.specs.Reaches.{lies_in_one}
 use Rattle.ltm_working.specs.declared.table.Table.{Table}
 use Rattle.ltm_rows.specs.declared.claim_rows.ClaimRows.{ClaimRows}
@@ -59,6 +61,7 @@ one_network a b same = record {
   outs = rw same.network refl;
   out_link = rw same.network refl;
   own = rw same.destinations refl;
+  by_turn = sym (ap (λ (z : Setup). z.by_turn) same.setup);
 }
 
 pub horizon_is : (a : ScenarioData) → (setting_of a).slots ≡ a.setup.slots
@@ -67,9 +70,6 @@ horizon_is a = refl
 
 longer : (a b : ScenarioData) → SameShape a b → (setting_of a).slots ≤ (setting_of b).slots
 longer a b same = omega (arith, horizon_is a, horizon_is b, same.slots)
-
-shape_same : (r s : Setting) (u : ℕ) → SameNetwork r s → shape_at r u ≡ shape_at s u
-shape_same r s u same = rw (same.ins, same.outs, same.destinations, same.own) refl
 
 lies_same : (r s : Setting) (part : Part) (p : Layout) → SameNetwork r s → LiesAs r part p → LiesAs s part p
 lies_same r s part p same lies = record {
@@ -101,6 +101,7 @@ fits_same r s t same fits =
       outs = same.outs;
       out_link = same.out_link;
       own = same.own;
+      by_turn = same.by_turn;
     } in
     record {
       curves = record { same_groups = fits.curves.same_groups ∙ all; same_destinations = fits.curves.same_destinations ∙ same.destinations; same_slots = refl };

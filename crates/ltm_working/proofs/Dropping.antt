@@ -3,6 +3,7 @@ use Rattle.std.proofs.Common.{◌≡◌, ℕ, ◌+◌, ◌*◌, min, ◌<◌, �
 use Rattle.std.specs.Prelude.{Option, Some, None}
 use Rattle.std.proofs.Math.Nat.{mul-le-mul_right}
 use Rattle.std.proofs.lemmas.Bool.{cases_lt, cases_eq, eq-eqb, ne_eqb}
+use Rattle.ltm_units.specs.Bounds.{widest_row}
 use Rattle.ltm_curve.specs.Table.{counts_of}
 use Rattle.ltm_node.specs.Inputs.{Inputs}
 use Rattle.ltm_node.specs.Shape.{width}
@@ -214,7 +215,7 @@ seen_trans a b c first next =
     next ∙ (ap (λ (z : Table). record z { index = c.index }) first ∙ ap (λ (f : Frontier). record a { frontier = f; index = c.index }) (sym front))
 
 -- ---- what is found
-pub most_wide : (s : Setting) (u : ℕ) → IsSetting s → u < s.nodes → width (shape_at s u) ≤ 1162
+pub most_wide : (s : Setting) (u : ℕ) → IsSetting s → u < s.nodes → width (shape_at s u) ≤ widest_row
 most_wide s u is x =
     let d : ℕ = s.destinations in
     let arms : (s.ins u + min 1 (s.outs u)) * d ≤ 5 * d = mul-le-mul_right d (omega (arith, is.small.few_ins u x)) in

@@ -244,7 +244,7 @@ impl Table {
     }
 
     /// A pair of the front slot whose inputs differ from the kept ones, with its inputs but for the counts, for which there is
-    /// room for 1,162 numbers. Settled pairs that it passes are dropped; while claims are out, at their slot alone.
+    /// room for the widest row. Settled pairs that it passes are dropped; while claims are out, at their slot alone.
     #[inline(always)]
     pub(crate) fn find(&mut self, scenario: &Scenario, inputs: &mut NodeInputs) -> Found
         requires ready { IsReadyFor scenario.now self.old }
@@ -264,7 +264,7 @@ impl Table {
     }
 
     /// Claims a pair of the front slot whose inputs differ from the kept ones, and writes its inputs, for which there is
-    /// room for 1,162 numbers. Settled pairs that it passes are dropped; while claims are out, at their slot alone.
+    /// room for the widest row. Settled pairs that it passes are dropped; while claims are out, at their slot alone.
     pub fn claim(&mut self, scenario: &Scenario, inputs: &mut NodeInputs) -> Found
         requires ready { IsReadyFor scenario.now self.old }
         requires room { widest_row ≤ inputs.old.room }

@@ -122,6 +122,33 @@ fn renew_in(
     renew_row(curves, changed, group, slot + 1, counts)
 }
 
+/// The same in a room for all destinations that there may be. Kept out of line, since it is cleared at each call.
+#[inline(never)]
+fn renew_wide(
+    curves: &mut Curves,
+    changed: &mut Changed,
+    group: u32,
+    slot: u32,
+    moves: &[u64],
+) -> bool
+    requires group { group < groups_of curves.old }
+    requires slot { slot < slots_of curves.old }
+    requires count { length moves.now ≡ destinations_of curves.old }
+    requires small { (d : ℕ) → d < length moves.now
+        → counts_of curves.old group d slot + slice_index moves.now d < 2 ^ 31 }
+    requires cells { HasCells changed.old (groups_of curves.old) (slots_of curves.old) }
+    ensures value { result
+        ≡ row_differs (destinations_of curves.old) (counts_of curves.old) group (slot + 1)
+        (slice_index (counted_row Moved (counts_of curves.old) group slot moves.now)) }
+    ensures sets { SetsRow curves.old curves.new group (slot + 1)
+        (counted_row Moved (counts_of curves.old) group slot moves.now) }
+    ensures cells { PutsCells changed.old changed.new (λ g k. result && is_pair group (slot
+        + 1) g k) }
+{
+    let _most = curves.destinations();
+    renew_in(curves, changed, group, slot, moves, &mut [0; 256])
+}
+
 /// The same for any count of destinations, and with four without a loop. Kept out of line.
 #[inline(never)]
 fn renew_many(
@@ -145,7 +172,6 @@ fn renew_many(
     ensures cells { PutsCells changed.old changed.new (λ g k. result && is_pair group (slot
         + 1) g k) }
 {
-    let _most = curves.destinations();
     if moves.len() == 4 {
         let before = curves.row(group, slot);
         let first = u64::from(before[0]) + moves[0];
@@ -163,7 +189,10 @@ fn renew_many(
     if moves.len() <= 8 {
         return renew_in(curves, changed, group, slot, moves, &mut [0; 8]);
     }
-    renew_in(curves, changed, group, slot, moves, &mut [0; 64])
+    if moves.len() <= 64 {
+        return renew_in(curves, changed, group, slot, moves, &mut [0; 64]);
+    }
+    renew_wide(curves, changed, group, slot, moves)
 }
 
 /// The same, with one and with two destinations without a loop.

@@ -79,7 +79,7 @@ impl Table {
     }
 
     /// Claims a pair as `claim` does, makes its step and commits it, in one call: no claim is written and compared again.
-    /// There is room for 1,162 numbers in both buffers. Takes no memory.
+    /// There is room for the widest row in both buffers. Takes no memory.
     pub fn recompute(
         &mut self,
         scenario: &Scenario,

@@ -78,7 +78,7 @@ fn accept(alloc: Global, scenario: &mut Scenario, edits: &[Edit]) -> Told {
 }
 
 fn accept_one(alloc: Global, scenario: &mut Scenario, change: Change) -> Told {
-    match edit_of(change) {
+    match edit_of(alloc, change) {
         Some(edit) => accept(alloc, scenario, &[edit]),
         None => Told::Nothing,
     }

@@ -31,6 +31,8 @@ pub enum Case {
     ///              c
     /// ```
     ThreeLinks,
+    /// The three links, of a case of at most three split rows.
+    FewRows,
     /// A thousand links in a row over so many slots, `l0000` from `n0000` to `n0001` and so on, that end at the one destination
     /// `n1000`; without rows.
     Corridor(u32),
@@ -68,9 +70,16 @@ pub fn setup_of(case: Case) -> Setup {
         Case::Road(slots) => slots,
         Case::FullRoad => 10_000,
         Case::Corridor(slots) => slots,
-        Case::UnsplitRoad | Case::ClosedCopy | Case::ThreeLinks => 4,
+        Case::UnsplitRoad | Case::ClosedCopy | Case::ThreeLinks | Case::FewRows => 4,
     };
-    Setup::of(Millis(1000), slots, Units(1000))
+    let setup = Setup::of(Millis(1000), slots, Units(1000));
+    match case {
+        Case::FewRows => Setup {
+            most_split_rows: 3,
+            ..setup
+        },
+        _ => setup,
+    }
 }
 
 /// Whether a link may start at the node of that name.
@@ -259,7 +268,7 @@ pub fn fill(scenario: &mut Scenario, case: Case) -> Option<()> {
         Case::UnsplitRoad => unsplit_road(scenario),
         Case::FullRoad => full_road(scenario),
         Case::ClosedCopy => closed_road(scenario),
-        Case::ThreeLinks => three_links(scenario),
+        Case::ThreeLinks | Case::FewRows => three_links(scenario),
         Case::Corridor(_) => corridor(scenario),
     }
 }

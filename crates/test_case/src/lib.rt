@@ -29,6 +29,8 @@ mod made;
 #[cfg(test)]
 mod networks;
 #[cfg(test)]
+mod pair_edits;
+#[cfg(test)]
 mod rules;
 #[cfg(test)]
 mod splits;

@@ -9,10 +9,10 @@ use ltm_flows::{Loading, Totals, cold};
 use ltm_io::MemFolder;
 use ltm_network::NetworkFault;
 use ltm_report::{
-    accepted_text, case_fault_text, command_fault_text, edit_fault_text, link_text, load_link_text,
-    long_script_text, route_row_text, route_time_text, settled_text, size_text, splits_header_text,
-    time_slots_text, time_text, too_long_text, too_many_text, totals_line_text, totals_text,
-    unknown_link_text, unknown_time_text, work_text,
+    accepted_text, bad_slots_text, case_fault_text, command_fault_text, edit_fault_text, link_text,
+    load_link_text, long_script_text, route_row_text, route_time_text, settled_text, size_text,
+    splits_header_text, time_text, too_long_text, too_many_text, totals_line_text, totals_text,
+    unknown_name_text, work_text,
 };
 use ltm_scenario::{EditCause, EditFault, Scenario};
 use ltm_script::CommandFault;
@@ -230,9 +230,9 @@ fn write_answers(alloc: Global, text: &mut Vec<u8>) -> Result<(), NoMemory> {
 
 /// Writes further answers.
 fn write_more_answers(alloc: Global, name: &Name, text: &mut Vec<u8>) -> Result<(), NoMemory> {
-    unknown_link_text(text)?;
-    unknown_time_text(text)?;
-    time_slots_text(text)?;
+    unknown_name_text(b"link", text)?;
+    unknown_name_text(b"time", text)?;
+    bad_slots_text(b"time", text)?;
     time_text(alloc, 1, name, 3, Some(Millis(2000)), text)?;
     time_text(alloc, 0, name, 0, None, text)?;
     long_script_text(alloc, 3, text)?;

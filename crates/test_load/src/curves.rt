@@ -158,3 +158,23 @@ fn first_units_and_copies(rt: HostRuntime) {
         Err(_) => panic!(rt; "no memory"),
     }
 }
+
+// 2^31 - 1 units for each of 256 destinations, which come to more than 32 bits hold, and then none for the last of them.
+fn ask_wide(rt: &impl Abort, curves: &mut Curves)
+    requires shape { HasShape curves.old 1 256 1 }
+    requires empty { IsEmpty curves.old }
+{
+    curves.set_row(0, 1, &[2_147_483_647; 256]);
+    assert_eq!(rt; curves.total(0, 1), 549_755_813_632);
+    curves.set(0, 255, 1, 0);
+    assert_eq!(rt; curves.total(0, 1), 547_608_329_985);
+    assert_eq!(rt; curves.get(0, 254, 1), 2_147_483_647);
+}
+
+#[test]
+fn totals_of_many_destinations(rt: HostRuntime) {
+    match Curves::create(rt.alloc(), 1, 256, 1) {
+        Ok(mut curves) => ask_wide(&rt, &mut curves),
+        Err(_) => panic!(rt; "no memory"),
+    }
+}

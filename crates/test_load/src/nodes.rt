@@ -113,6 +113,7 @@ fn shape(arms: u32, outs: u32, destinations: u32) -> NodeShape {
         outs,
         destinations,
         own: None,
+        by_turn: false,
     }
 }
 
@@ -123,7 +124,14 @@ fn shape_of(arms: u32, outs: u32, destinations: u32, own: u32) -> NodeShape {
         outs,
         destinations,
         own: Some(own),
+        by_turn: false,
     }
+}
+
+/// The same shape where turns are rounded down whole.
+fn by_turn(mut shape: NodeShape) -> NodeShape {
+    shape.by_turn = true;
+    shape
 }
 
 // Rows and counts are written part by part, as the layout has them.
@@ -269,5 +277,54 @@ fn moves_to_the_sink(rt: HostRuntime) {
         shape_of(2, 1, 2, 1),
         &[8, 0, 0, 9, 0, 0, 0, 0, 0, 0, 0, 0, 20, 20, 1, 0],
         &[0, 0, 0, 9, 0, 0, 9],
+    );
+}
+
+#[test]
+fn moves_by_turn(rt: HostRuntime) {
+    // two thirds of 3 are 2: of 1 and 2 these are 0 and 2
+    gives(
+        &rt,
+        rt.alloc(),
+        by_turn(shape(1, 1, 2)),
+        &[1, 2, 0, 0, 0, 0, 0, 2, 1000, 1, 1],
+        &[0, 2, 0, 2, 0],
+    );
+    // 7 of 15: of 5, 5 and 5 these are 2, 2 and 3, the last destination's what the others leave
+    gives(
+        &rt,
+        rt.alloc(),
+        by_turn(shape(1, 1, 3)),
+        &[5, 5, 5, 1, 2, 3, 4, 5, 6, 0, 7, 1000, 1, 1, 1],
+        &[3, 4, 6, 6, 7, 9, 0],
+    );
+    // a turn that is not short has the same share of two thirds: 1 of 1 and 1; and of 5 for the node 3 arrive
+    gives(
+        &rt,
+        rt.alloc(),
+        by_turn(shape_of(1, 2, 4, 3)),
+        &[
+            6, 1, 1, 5, 10, 20, 30, 40, 1, 2, 3, 4, 5, 6, 7, 8, 9, 4, 100, 13, 1, 0, 0, 1, 0, 1, 1,
+            1,
+        ],
+        &[14, 20, 31, 43, 5, 2, 3, 4, 5, 6, 8, 8, 12],
+    );
+    // each of two arms moves half, and splits its own turn: 3 are 1 and 2 of 3 and 3, and 0, 0 and 3 of 1, 0 and 5
+    gives(
+        &rt,
+        rt.alloc(),
+        by_turn(shape(2, 1, 3)),
+        &[
+            3, 3, 0, 1, 0, 5, 0, 0, 0, 0, 0, 0, 0, 0, 0, 0, 6, 6, 6, 1, 1, 1,
+        ],
+        &[1, 2, 0, 0, 0, 3, 1, 2, 3, 0],
+    );
+    // where there is room, all moves
+    gives(
+        &rt,
+        rt.alloc(),
+        by_turn(shape(1, 2, 2)),
+        &[10, 7, 5, 6, 1, 2, 3, 4, 0, 100, 100, 1000, 3, 1, 0, 1],
+        &[15, 13, 8, 2, 6, 11, 0],
     );
 }

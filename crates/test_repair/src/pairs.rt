@@ -3,7 +3,7 @@ ghost use Rattle.std.specs.Prelude.{◌≡◌, []};
 
 use ltm_diagram::{Delay, Diagram};
 use ltm_pairs::{ArmSet, Spread, dependents, readers_ago, touched};
-use ltm_scenario::{Edit, Scenario, Setup, Weights};
+use ltm_scenario::{Edit, Scenario, Setup, SplitRows, Weights};
 use ltm_units::{Four, Millis, Name, NodeId, Pair, Reach, Units};
 use std::alloc::Global;
 use std::process::Abort;
@@ -91,6 +91,15 @@ fn split(rt: &impl Abort, from: u32) -> Edit {
     }
 }
 
+// Whatever the rows are.
+fn splits(rt: &impl Abort, alloc: Global) -> Edit {
+    Edit::Splits {
+        node: named(rt, "n2"),
+        destination: named(rt, "n3"),
+        rows: SplitRows::of(Vec::new(alloc)),
+    }
+}
+
 fn new_diagram(rt: &impl Abort, link: &str) -> Edit {
     Edit::Diagram {
         link: named(rt, link),
@@ -106,7 +115,7 @@ fn reaches_of(spread: &Spread) -> ([Option<Reach>; 2], usize, Option<(u32, u32)>
 }
 
 // One spread for all edits: each call replaces what it held. The first and the second reach, where there is one.
-fn reaches_of_edits(rt: &impl Abort, scenario: &Scenario, spread: &mut Spread) {
+fn reaches_of_edits(rt: &impl Abort, alloc: Global, scenario: &Scenario, spread: &mut Spread) {
     let cases = [
         (demand(rt, 2, 5), [Some(reach(0, 2, 12)), None]),
         (limit(rt, "a", 3, 7), [Some(reach(0, 3, 7)), None]),
@@ -114,6 +123,7 @@ fn reaches_of_edits(rt: &impl Abort, scenario: &Scenario, spread: &mut Spread) {
         (exit(rt, "a", 0, 4), [Some(reach(1, 0, 4)), None]),
         (exit(rt, "b", 1, 20), [Some(reach(2, 1, 12)), None]),
         (split(rt, 4), [Some(reach(1, 4, 12)), None]),
+        (splits(rt, alloc), [Some(reach(1, 0, 12)), None]),
         (
             new_diagram(rt, "b"),
             [Some(reach(1, 0, 12)), Some(reach(2, 0, 12))],
@@ -180,7 +190,7 @@ fn reaches_of_edits_and_commits(rt: HostRuntime) {
     let mut spread = Spread::new();
     match corridor(&rt, rt.alloc()) {
         Some(scenario) => {
-            reaches_of_edits(&rt, &scenario, &mut spread);
+            reaches_of_edits(&rt, rt.alloc(), &scenario, &mut spread);
             slots_of_a_longer_horizon(&rt, &scenario, &mut spread);
             reaches_of_commits(&rt, &scenario, &mut spread);
         }

@@ -23,6 +23,9 @@ pub enum Case {
     TwoRoads,
     /// The two links over so many slots, at least five.
     TwoRoadsOver(u32),
+    /// The same two links, of which `b` can take 200 thousandths in a slot and holds 1,200, over sixteen slots; seven
+    /// vehicles start in the first ten.
+    Spillback,
     /// A thousand links of 20 m in a row over two slots.
     Corridor,
 }
@@ -46,6 +49,17 @@ fn two_roads(alloc: Global, slots: u32) -> Result<MemFolder, NoMemory> {
         &setup,
         "link,from,to,length_m,free_kmh,wave_kmh,jam_per_km\na,n1,n2,20,36,18,150\nb,n2,n3,20,36,18,150\n",
         "origin,destination,from_slot,to_slot,vehicles\nn1,n3,0,5,5\n",
+        "node,destination,from_slot,weights\nn1,n3,0,a=1\nn2,n3,0,b=1\n",
+    )
+}
+
+fn spillback(alloc: Global) -> Result<MemFolder, NoMemory> {
+    MemFolder::of_case(
+        alloc,
+        &[],
+        "step_ms,slots,origin_capacity\n1000,16,1\n",
+        "link,from,to,length_m,free_kmh,wave_kmh,jam_per_km\na,n1,n2,20,36,18,150\nb,n2,n3,20,36,18,60\n",
+        "origin,destination,from_slot,to_slot,vehicles\nn1,n3,0,10,7\n",
         "node,destination,from_slot,weights\nn1,n3,0,a=1\nn2,n3,0,b=1\n",
     )
 }
@@ -88,6 +102,7 @@ fn folder(alloc: Global, case: Case) -> Result<MemFolder, NoMemory> {
         Case::ShortRoad => one_road(alloc, THREE_SLOTS, TWENTY_METRES),
         Case::TwoRoads => two_roads(alloc, 12),
         Case::TwoRoadsOver(slots) => two_roads(alloc, slots),
+        Case::Spillback => spillback(alloc),
         Case::Corridor => corridor(alloc),
     }
 }

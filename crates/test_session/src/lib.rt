@@ -16,4 +16,6 @@ mod lines;
 #[cfg(test)]
 mod repairs;
 #[cfg(test)]
+mod rows;
+#[cfg(test)]
 mod talking;

@@ -1,12 +1,13 @@
 //! Amounts that are added to counts in place.
 ghost use Rattle.std.specs.Prelude.{◌≡◌, ℕ, ◌+◌, ◌*◌, ◌^◌, ◌<◌, ◌≤◌, length, sum, slice_index};
+ghost use Rattle.ltm_units.specs.Bounds.{most_destinations};
 
 use super::{Curves, capped};
 
 /// Adds amounts to a row of counts in 32 bits, and gives their sum.
 fn add_many(row: &mut [u32], amounts: &[u64]) -> u64
     requires count { length row.old ≡ length amounts.now }
-    requires few { length amounts.now ≤ 64 }
+    requires few { length amounts.now ≤ most_destinations }
     requires small { (d : ℕ) → d < length amounts.now
         → slice_index row.old d + slice_index amounts.now d < 2 ^ 31 }
     ensures whole { result ≡ sum amounts.now }
@@ -53,7 +54,7 @@ impl Curves {
             self.add_two(group, boundary, amounts);
         } else if amounts.len() == 1 {
             let count = self.get(group, 0, boundary) + amounts[0];
-            self.set_only(group, boundary, count);
+            self.set_count(group, 0, boundary, count);
         } else if amounts.len() > 2 {
             self.add_several(group, boundary, amounts);
         }
@@ -76,9 +77,10 @@ impl Curves {
         add_both(&mut self.counts[from..to], amounts);
     }
 
-    /// The same where there are several destinations: the total grows by as much. Kept out of line.
+    /// The same where there are several destinations: what is kept of the total grows by as much, or stays capped. Kept out
+    /// of line.
     #[inline(never)]
-    #[tactic(auto, using(crate::proofs::Places::total_small), unfolding(crate::specs::Table::counts_of))]
+    #[tactic(auto, unfolding(crate::specs::Table::counts_of))]
     fn add_several(&mut self, group: u32, boundary: u32, amounts: &[u64])
         requires group { group < groups_of self.old }
         requires boundary { boundary ≤ slots_of self.old }
@@ -88,11 +90,11 @@ impl Curves {
             → counts_of self.old group d boundary + slice_index amounts.now d < 2 ^ 31 }
         ensures { AddsRow self.old self.new group boundary amounts.now }
     {
-        let total = self.kept_total(group, boundary);
         let row = self.row_number(group, boundary);
         let from = self.start(group, boundary);
         let to = from + self.destinations as usize;
+        let kept = u64::from(self.totals[row]);
         let whole = add_many(&mut self.counts[from..to], amounts);
-        self.totals[row] = capped(total + whole);
+        self.totals[row] = capped(kept + whole);
     }
 }

@@ -99,7 +99,7 @@ impl Curves {
         if self.destinations == 2 {
             self.put_both(group, boundary, other.row(group, boundary));
         } else if self.destinations == 1 {
-            self.set_only(group, boundary, other.get(group, 0, boundary));
+            self.set_count(group, 0, boundary, other.get(group, 0, boundary));
         } else if self.destinations > 2 {
             let total = other.total(group, boundary);
             self.put_row(group, boundary, other.row(group, boundary), total);

@@ -1,5 +1,6 @@
 //! Totals over all destinations.
 ghost use Rattle.std.specs.Prelude.{◌≡◌, ◌^◌, ◌<◌, ◌≤◌};
+ghost use Rattle.ltm_curve.specs.Totals.{most_total};
 
 use super::Curves;
 
@@ -12,7 +13,7 @@ impl Curves {
         requires group { group < groups_of self.now }
         requires boundary { boundary ≤ slots_of self.now }
         ensures total { result ≡ total_of self.now group boundary }
-        ensures small { result ≤ 2 ^ 37 }
+        ensures small { result ≤ most_total }
     {
         if self.destinations > 2 {
             self.kept_total(group, boundary)

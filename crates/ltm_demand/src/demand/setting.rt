@@ -2,15 +2,12 @@
 ghost use Rattle.std.specs.Prelude.{◌≡◌, ◌≢◌, true, ℕ, ◌+◌, ◌<◌, ◌≤◌, length, OnErr, OnOk, IfErr, IfOk, Ok, Err, vec_len};
 ghost use Rattle.ltm_demand.specs.Rows.{row_if_any};
 ghost use Rattle.ltm_demand.specs.Origins.{rows_of, origin_at, IsAlike};
-ghost use Rattle.ltm_units.specs.Bounds.{most_amount, most_demand_rows};
+ghost use Rattle.ltm_units.specs.Bounds.{most_amount};
 
 use crate::demand::{Demand, origin_of};
 use crate::origin::Origin;
 use crate::{DemandFault, DemandRow};
 use ltm_units::{NoMemory, Units};
-
-/// The most rows that a demand has.
-const MAX_ROWS: usize = 10_000;
 
 /// Sees to it that there are more than `place` origins. No row and no room changes.
 fn make_origins(origins: &mut Vec<Origin>, place: u32) -> Result<(), NoMemory>
@@ -75,7 +72,7 @@ impl Demand {
         requires slots { has_slots self.old.demand.slots row.now ≡ true }
         requires small { row.now.amount.0 ≤ most_amount }
         requires some { 0 < row.now.amount.0 }
-        requires few { length self.old.demand.rows < most_demand_rows }
+        requires few { length self.old.demand.rows < self.old.demand.most_rows }
         requires vacant { has_place self.old row.now ≡ true }
         ensures done { with_row self.old.demand row.now ≡ Ok self.new.demand }
         ensures back { with_row self.new.demand (with_amount row.now 0) ≡ Ok self.old.demand }
@@ -127,7 +124,7 @@ impl Demand {
         ensures was { amount_at self.old.demand.rows row.now ≡ 0 }
         ensures room { KeepsRoom self.old self.new }
     {
-        if self.count >= MAX_ROWS {
+        if self.count >= self.most_rows as usize {
             return Err(DemandFault::TooManyRows);
         }
         self.make_room(row)?;

@@ -1,6 +1,7 @@
 //! What a finished loading tells of origins, links and all together, at a boundary or at the last one.
 ghost use Rattle.std.specs.Prelude.{◌≡◌, ◌≤◌, ◌<◌, ◌^◌, ℕ};
 ghost use Rattle.ltm_curve.specs.Counts.{Counts};
+ghost use Rattle.ltm_curve.specs.Totals.{most_total};
 ghost use Rattle.ltm_loading.specs.Setting.{Setting};
 ghost use Rattle.ltm_loading.specs.Totals.{arrived, entered_link, left_link};
 ghost use Rattle.ltm_flows.specs.Origins.{produced_in_all, departed_from};
@@ -74,7 +75,7 @@ impl Loading {
         requires node { node.0 < nodes_of self.now }
         requires boundary { boundary ≤ last_of self.now }
         ensures counted { result.0 ≡ departed_by self.now node.0 boundary }
-        ensures small { result.0 ≤ 2 ^ 37 }
+        ensures small { result.0 ≤ most_total }
         ensures shown { (s : Setting) (version : ℕ) (c : Counts) → ShowsCounts s version c self.now
             → result.0 ≡ departed_from s c node.0 boundary }
     {
@@ -86,7 +87,7 @@ impl Loading {
         requires link { link.0 < links_of self.now }
         requires boundary { boundary ≤ last_of self.now }
         ensures counted { result.0 ≡ entered_by self.now link.0 boundary }
-        ensures small { result.0 ≤ 2 ^ 37 }
+        ensures small { result.0 ≤ most_total }
         ensures shown { (s : Setting) (version : ℕ) (c : Counts) → ShowsCounts s version c self.now
             → result.0 ≡ entered_link s c link.0 boundary }
     {
@@ -98,7 +99,7 @@ impl Loading {
         requires link { link.0 < links_of self.now }
         requires boundary { boundary ≤ last_of self.now }
         ensures counted { result.0 ≡ left_by self.now link.0 boundary }
-        ensures small { result.0 ≤ 2 ^ 37 }
+        ensures small { result.0 ≤ most_total }
         ensures shown { (s : Setting) (version : ℕ) (c : Counts) → ShowsCounts s version c self.now
             → result.0 ≡ left_link s c link.0 boundary }
     {

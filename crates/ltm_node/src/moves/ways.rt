@@ -8,7 +8,7 @@ ghost use Rattle.ltm_node.specs.Outputs.{entered_after_place};
 
 use super::Mover;
 use crate::loads::Load;
-use ltm_shares::Sent;
+use crate::tally::Tally;
 
 /// An out-link, and where the count that has entered it for a destination stands.
 #[derive(Clone, Copy)]
@@ -63,82 +63,84 @@ impl Mover<'_> {
 
     /// Adds what moves of a load that goes by one out-link.
     #[inline]
-    fn send_by_one(&self, load: Load, way: Way, row: &mut [u64], sent: &mut Sent)
+    fn send_by_one<T: Tally>(&self, load: Load, way: Way, row: &mut [u64], tally: &mut T)
         requires load { IsLoad self.now.inputs.now load }
         requires elsewhere { is_own self.now.inputs.now.shape load.destination ≡ false }
         requires way { IsOnlyWay self.now.inputs.now load.destination way }
-        requires before { IsMovingAt self.now load.destination load.arm row.old sent.old }
-        ensures after { IsMovingAt self.now load.destination (load.arm + 1) row.new sent.new }
+        requires before { IsMovingAt self.now (T.stands tally.old) load.destination load.arm row.old }
+        ensures after { IsMovingAt self.now (T.stands tally.new) load.destination (load.arm + 1) row.new }
     {
+        T::passes();
         if load.amount == 0 {
             return;
         }
-        let moved = self.enter(load.by(way.out, load.amount), way.place, row, sent);
-        self.leave(load, moved, row, sent);
+        let moved = self.enter(load.by(way.out, load.amount), way.place, row, tally);
+        self.leave(load, moved, row, tally);
     }
 
     /// Adds what all arms move to a destination that is not the node, by one out-link.
-    pub(super) fn send_all_by_one(
+    pub(super) fn send_all_by_one<T: Tally>(
         &self,
         destination: u32,
         way: Way,
         row: &mut [u64],
-        sent: &mut Sent,
+        tally: &mut T,
     )
         requires destination { destination < self.now.inputs.now.shape.destinations }
         requires elsewhere { is_own self.now.inputs.now.shape destination ≡ false }
         requires way { IsOnlyWay self.now.inputs.now destination way }
-        requires before { HaveMovedTo self.now destination row.old sent.old }
-        ensures after { HaveMovedTo self.now (destination + 1) row.new sent.new }
+        requires before { HaveMovedTo self.now (T.stands tally.old) destination row.old }
+        ensures after { HaveMovedTo self.now (T.stands tally.new) (destination + 1) row.new }
     {
         let mut place = destination as usize;
         for arm in 0..self.shape.arms {
-            self.send_by_one(self.load_at(arm, destination, place), way, row, sent);
+            self.send_by_one(self.load_at(arm, destination, place), way, row, tally);
             place += self.shape.destinations as usize;
         }
     }
 
     /// Adds what moves of a load that goes by two out-links.
     #[inline]
-    fn send_by_two(&self, load: Load, pair: TwoWays, row: &mut [u64], sent: &mut Sent)
+    fn send_by_two<T: Tally>(&self, load: Load, pair: TwoWays, row: &mut [u64], tally: &mut T)
         requires load { IsLoad self.now.inputs.now load }
         requires elsewhere { is_own self.now.inputs.now.shape load.destination ≡ false }
         requires pair { AreOnlyWays self.now.inputs.now load.destination pair }
-        requires before { IsMovingAt self.now load.destination load.arm row.old sent.old }
-        ensures after { IsMovingAt self.now load.destination (load.arm + 1) row.new sent.new }
+        requires before { IsMovingAt self.now (T.stands tally.old) load.destination load.arm row.old }
+        ensures after { IsMovingAt self.now (T.stands tally.new) load.destination (load.arm + 1) row.new }
     {
+        T::passes();
         if load.amount == 0 {
             return;
         }
         let part = load.amount * pair.weight / pair.whole;
-        let first = self.enter(load.by(pair.first.out, part), pair.first.place, row, sent);
+        let first = self.enter(load.by(pair.first.out, part), pair.first.place, row, tally);
         let other = load.amount - part;
         let second = self.enter(
             load.by(pair.second.out, other),
             pair.second.place,
             row,
-            sent,
+            tally,
         );
-        self.leave(load, first + second, row, sent);
+        self.leave(load, first + second, row, tally);
     }
 
     /// Adds what all arms move to a destination that is not the node, by two out-links.
-    pub(super) fn send_all_by_two(
+    pub(super) fn send_all_by_two<T: Tally>(
         &self,
         destination: u32,
         pair: TwoWays,
         row: &mut [u64],
-        sent: &mut Sent,
+        tally: &mut T,
     )
         requires destination { destination < self.now.inputs.now.shape.destinations }
         requires elsewhere { is_own self.now.inputs.now.shape destination ≡ false }
         requires pair { AreOnlyWays self.now.inputs.now destination pair }
-        requires before { HaveMovedTo self.now destination row.old sent.old }
-        ensures after { HaveMovedTo self.now (destination + 1) row.new sent.new }
+        requires before { HaveMovedTo self.now (T.stands tally.old) destination row.old }
+        ensures after { HaveMovedTo self.now (T.stands tally.new) (destination + 1) row.new }
     {
         let mut place = destination as usize;
         for arm in 0..self.shape.arms {
-            self.send_by_two(self.load_at(arm, destination, place), pair, row, sent);
+            self.send_by_two(self.load_at(arm, destination, place), pair, row, tally);
             place += self.shape.destinations as usize;
         }
     }

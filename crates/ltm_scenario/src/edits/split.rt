@@ -1,9 +1,9 @@
-//! Edits of a split row.
+//! Edits of one split row.
 ghost use Rattle.std.specs.Prelude.{◌≡◌, ◌≢◌, ℕ, ◌<◌, ◌≤◌, ◌==◌, List, length, take, sum, Some, None, Ok, Err, OnOk, OnErr, IfOk, IfErr, IfSome, false, if◌then◌else◌};
 ghost use Rattle.std.specs.List.{list_all};
 ghost use Rattle.ltm_network.specs.Network.{out_links};
 ghost use Rattle.ltm_scenario.specs.Reads.{destination_node};
-ghost use Rattle.ltm_scenario.specs.Edits.{split_key, split_row, split_edited, is_out_link, weight_of, weights_at, is_open, cause_of_split};
+ghost use Rattle.ltm_scenario.specs.Edits.{named_pair, split_key, split_row, split_edited, is_out_link, weight_of, weights_at, is_open, cause_of_split};
 ghost use Rattle.ltm_scenario.specs.State.{KeepsRoom};
 ghost use Rattle.ltm_scenario.specs.Undo.{Undoes};
 ghost use Rattle.ltm_scenario.specs.Parts.{scenario_in, state_in, AreParts};
@@ -13,9 +13,9 @@ use crate::parts::Parts;
 use crate::parts::undo::Undo;
 use crate::weights::Weights;
 use ltm_splits::{SplitFault, SplitKey, Weights as RowWeights};
-use ltm_units::Name;
+use ltm_units::{Name, NodeId};
 
-fn cause_of_split(fault: SplitFault) -> EditCause
+pub(crate) fn cause_of_split(fault: SplitFault) -> EditCause
     ensures { result ≡ cause_of_split fault }
 {
     match fault {
@@ -60,6 +60,38 @@ impl Parts {
         }
     }
 
+    /// The node and the destination whose rows an edit sets.
+    #[tactic(auto, unfolding(crate::specs::Edits::named_pair))]
+    pub(crate) fn named_pair(
+        &self,
+        node: &Name,
+        destination: &Name,
+    ) -> Result<(NodeId, u32), EditCause>
+        ensures ok { IfOk result (λ pair. named_pair (scenario_in self.now) node.now destination.now
+            ≡ Ok (pair.0.0, pair.1)) }
+        ensures cause { IfErr result (λ e. named_pair (scenario_in self.now) node.now destination.now
+            ≡ Err e) }
+        ensures node { IfOk result (λ pair. pair.0.0 < length (scenario_in self.now).network.nodes) }
+        ensures destination { IfOk result
+            (λ pair. pair.1 < length (scenario_in self.now).destinations) }
+        ensures ends { IfOk result (λ pair.
+            (pair.0.0 == destination_node (scenario_in self.now) pair.1) ≡ false) }
+    {
+        let Some(node) = self.network.find_node(node) else {
+            return Err(EditCause::UnknownName);
+        };
+        let Some(end) = self.network.find_node(destination) else {
+            return Err(EditCause::UnknownName);
+        };
+        let Some(destination) = self.destinations.place(end) else {
+            return Err(EditCause::UnknownDestination);
+        };
+        if node.0 == end.0 {
+            return Err(EditCause::SameEnds);
+        }
+        Ok((node, destination))
+    }
+
     /// The key of the row that an edit sets.
     #[tactic(auto, unfolding(crate::specs::Edits::split_key))]
     fn split_key(
@@ -78,18 +110,10 @@ impl Parts {
         ensures ends { IfOk result (λ key.
             (key.node.0 == destination_node (scenario_in self.now) key.destination) ≡ false) }
     {
-        let Some(node) = self.network.find_node(node) else {
-            return Err(EditCause::UnknownName);
+        let (node, destination) = match self.named_pair(node, destination) {
+            Ok(pair) => pair,
+            Err(cause) => return Err(cause),
         };
-        let Some(end) = self.network.find_node(destination) else {
-            return Err(EditCause::UnknownName);
-        };
-        let Some(destination) = self.destinations.place(end) else {
-            return Err(EditCause::UnknownDestination);
-        };
-        if node.0 == end.0 {
-            return Err(EditCause::SameEnds);
-        }
         if from >= self.setup.slots {
             return Err(EditCause::BadSlots);
         }

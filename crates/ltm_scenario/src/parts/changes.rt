@@ -1,7 +1,9 @@
 //! Changes of one table, each of which gives what undoes it.
-ghost use Rattle.std.specs.Prelude.{◌≡◌, ◌≢◌, ℕ, ◌<◌, ◌≤◌, length, true, Ok, Err, OnOk, OnErr, IfOk, IfErr};
+ghost use Rattle.std.specs.Prelude.{◌≡◌, ◌≢◌, ℕ, ◌<◌, ◌≤◌, All, length, true, Ok, Err, OnOk, OnErr, IfOk, IfErr};
 ghost use Rattle.ltm_diagram.specs.Limits.{limits_of};
-ghost use Rattle.ltm_scenario.specs.Build.{with_demand, with_split, with_limit_at, are_slots};
+ghost use Rattle.ltm_splits.specs.Weights.{AreWeights};
+ghost use Rattle.ltm_splits.specs.Table.{rows_of_pair};
+ghost use Rattle.ltm_scenario.specs.Build.{with_demand, with_split, with_pair, with_limit_at, are_slots};
 ghost use Rattle.ltm_scenario.specs.Edits.{with_diagram};
 ghost use Rattle.ltm_scenario.specs.State.{KeepsRoom};
 ghost use Rattle.ltm_scenario.specs.SplitNote.{IsSplitNote};
@@ -15,8 +17,8 @@ use crate::parts::undo::Undo;
 use crate::side::Side;
 use ltm_demand::{DemandFault, DemandRow};
 use ltm_diagram::{Diagram, Limits};
-use ltm_splits::{SplitFault, SplitKey};
-use ltm_units::{NoMemory, Units};
+use ltm_splits::{PairRows, SplitFault, SplitKey};
+use ltm_units::{NoMemory, NodeId, Units};
 
 impl Parts {
     #[tactic(auto, using(crate::proofs::Undoing::demand_undoes, crate::proofs::Changed::with_demand_row, crate::proofs::Changed::with_same_demand))]
@@ -116,6 +118,37 @@ impl Parts {
             .set(key.node, key.destination, key.from, weights)
         {
             Ok(()) => return Ok(undo),
+            Err(fault) => return Err(fault),
+        }
+    }
+
+    #[tactic(auto, using(crate::proofs::Pairs::pair_undoes, crate::proofs::Pairs::with_pair_rows, crate::proofs::Changed::with_same_splits))]
+    pub fn change_pair(
+        &mut self,
+        node: NodeId,
+        destination: u32,
+        rows: PairRows,
+    ) -> Result<Undo, SplitFault>
+        requires parts { AreParts self.old }
+        requires some { 0 < length rows }
+        requires weights { All (λ row. AreWeights row.1) rows }
+        requires rows { All (IsSplitOf (scenario_in self.old))
+            (rows_of_pair node.0 destination rows) }
+        ensures ok { OnOk result (with_pair (scenario_in self.old) node.0 destination rows
+            ≡ Ok (scenario_in self.new)) }
+        ensures undo { IfOk result (Undoes (state_in self.old) (state_in self.new)) }
+        ensures err { OnErr result (scenario_in self.new ≡ scenario_in self.old) }
+        ensures cause { IfErr result (λ e. e ≢ SplitFault.NoMemory
+            → with_pair (scenario_in self.old) node.0 destination rows ≡ Err e) }
+        ensures room { KeepsRoom (state_in self.old) (state_in self.new) }
+        ensures parts { AreParts self.new }
+    {
+        match self.splits.exchange(node, destination, rows) {
+            Ok(was) => return Ok(Undo::Pair {
+                node,
+                destination,
+                was,
+            }),
             Err(fault) => return Err(fault),
         }
     }

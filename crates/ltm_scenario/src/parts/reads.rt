@@ -8,7 +8,7 @@ ghost use Rattle.ltm_scenario.specs.Valid.{leads_on};
 ghost use Rattle.ltm_scenario.specs.Build.{are_slots};
 ghost use Rattle.ltm_scenario.specs.Edits.{is_out_link, weight_of, weights_at};
 ghost use Rattle.ltm_scenario.specs.Parts.{scenario_in};
-ghost use Rattle.ltm_units.specs.Bounds.{most_links};
+ghost use Rattle.ltm_units.specs.Bounds.{most_links, most_nodes, most_destinations, widest_row};
 
 use crate::parts::Parts;
 use ltm_splits::Weights as RowWeights;
@@ -158,7 +158,7 @@ impl Parts {
     #[tactic(auto, unfolding(crate::specs::Cells::widths))]
     fn widths(&self) -> u32
         ensures value { result ≡ widths (scenario_in self.now) }
-        ensures small { result ≤ 16000000 }
+        ensures small { result ≤ most_nodes * widest_row }
     {
         let mut widths = 0;
         for node in 0..self.network.nodes() {
@@ -171,7 +171,7 @@ impl Parts {
     fn width(&self, node: NodeId) -> u32
         requires { node.0 < length (scenario_in self.now).network.nodes }
         ensures value { result ≡ width (scenario_in self.now) node.0 }
-        ensures small { result ≤ 2000 }
+        ensures small { result ≤ widest_row }
     {
         let network = &self.network;
         let ins = network.in_links(node).len() as u32;
@@ -186,16 +186,16 @@ impl Parts {
 fn width_of(arms: u32, outs: u32, destinations: u32) -> u32
     requires arms { arms ≤ 5 }
     requires outs { outs ≤ 4 }
-    requires destinations { destinations ≤ 64 }
+    requires destinations { destinations ≤ most_destinations }
     ensures value { result ≡ 2 * arms * destinations + 2 * outs * destinations + 1 + outs + arms }
-    ensures small { result ≤ 2000 }
+    ensures small { result ≤ widest_row }
 {
     2 * arms * destinations + 2 * outs * destinations + 1 + outs + arms
 }
 
 /// The cells of a case of that shape.
 fn cells_of(slots: u32, widths: u32, links: u32, nodes: u32, destinations: u32) -> u128
-    requires nodes { nodes < 100000 }
+    requires nodes { nodes ≤ most_nodes }
     requires links { links ≤ most_links }
     ensures { result ≡ cells_of slots widths links nodes destinations }
 {

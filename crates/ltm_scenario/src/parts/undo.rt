@@ -14,7 +14,8 @@ use crate::parts::Parts;
 use crate::side::Side;
 use ltm_demand::DemandRow;
 use ltm_diagram::{Diagram, Limits};
-use ltm_splits::SplitKey;
+use ltm_splits::{PairRows, SplitKey};
+use ltm_units::NodeId;
 
 /// What an edit took away, with its place, so that it can be put back without memory.
 #[derive(Drop)]
@@ -32,6 +33,12 @@ pub enum Undo {
     NewSplit(SplitKey),
     /// The weights of the split row at the key.
     OldSplit(SplitKey, Vec<u32>),
+    /// The split rows of a node and a destination.
+    Pair {
+        node: NodeId,
+        destination: u32,
+        was: PairRows,
+    },
     /// The diagram of a link, and its limits.
     Diagram {
         link: u32,
@@ -61,6 +68,11 @@ impl Parts {
             } => self.restore_limit(side, link, from, was),
             Undo::NewSplit(key) => self.take_out_split(key),
             Undo::OldSplit(key, was) => self.restore_split(key, was),
+            Undo::Pair {
+                node,
+                destination,
+                was,
+            } => self.restore_pair(node, destination, was),
             Undo::Diagram {
                 link,
                 diagram,
@@ -119,6 +131,18 @@ impl Parts {
     {
         self.splits
             .put_back(key.node, key.destination, key.from, &was);
+    }
+
+    #[tactic(auto, using(crate::proofs::Undoing::splits_restored))]
+    fn restore_pair(&mut self, node: NodeId, destination: u32, was: PairRows)
+        requires parts { AreParts self.old }
+        requires can { CanUndo (state_in self.old) (Undo.Pair node destination was) }
+        ensures scenario { scenario_in self.new
+            ≡ undone (scenario_in self.old) (Undo.Pair node destination was) }
+        ensures room { KeepsRoom (state_in self.old) (state_in self.new) }
+        ensures parts { AreParts self.new }
+    {
+        self.splits.put_back_pair(node, destination, was);
     }
 
     #[tactic(auto, using(crate::proofs::Undoing::diagrams_restored))]

@@ -95,7 +95,8 @@ impl Scenario {
         ensures cause { IfErr result (λ e. e ≢ DestinationFault.NoMemory
             → with_destination self.old node.0 ≡ Err e) }
     {
-        match self.parts.destinations.add(node) {
+        let most = self.parts.setup.most_destinations;
+        match self.parts.destinations.add(most, node) {
             Ok(place) => return Ok(place),
             Err(fault) => return Err(fault),
         }

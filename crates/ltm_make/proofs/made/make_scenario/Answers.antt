@@ -30,6 +30,11 @@ add_ends-requires-clause-none c =
     let laid : c.add_grid.new.self ≡ with_grid c.args.grid.nodes c.args.grid.width (making_from c.args.start) = c.in_ok-add_grid.ensures ∙ ap (with_grid c.args.grid.nodes c.args.grid.width) c.open-making.ensures in
     ap (λ (m : Making). m.scenario.destinations) laid ∙ (grid_fresh c.args.start c.args.grid.nodes c.args.grid.width).destinations
 
+pub add_ends-requires-clause-setup : goal.add_ends-requires-clause-setup
+add_ends-requires-clause-setup c =
+    let laid : c.add_grid.new.self ≡ with_grid c.args.grid.nodes c.args.grid.width (making_from c.args.start) = c.in_ok-add_grid.ensures ∙ ap (with_grid c.args.grid.nodes c.args.grid.width) c.open-making.ensures in
+    ap (λ (m : Making). m.scenario.setup) laid ∙ (grid_fresh c.args.start c.args.grid.nodes c.args.grid.width).setup
+
 pub add_splits-requires-clause-laid : goal.add_splits-requires-clause-laid
 add_splits-requires-clause-laid c =
     let ended : c.add_ends.new.self ≡ with_ends c.args.grid.width (with_grid c.args.grid.nodes c.args.grid.width (making_from c.args.start)) =

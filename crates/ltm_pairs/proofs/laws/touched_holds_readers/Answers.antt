@@ -9,6 +9,7 @@ returns c =
       longer = c.limits_are_lengthened.ensures;
       production = c.production_stays.ensures;
       weights = c.rows_stay.ensures;
+      pairs = c.pair_stays.ensures.others;
       reads = c.setting_read_only.ensures;
       positions = c.position_read_only.ensures;
     })

@@ -7,5 +7,5 @@ returns-clause-small c =
       arith,
       c.by_end.ensures,
       c.production_never_falls.ensures.within c.demand-demand.result.now.demand.rows c.args.node.0 c.args.destination (c.args.boundary - 1),
-      c.production_never_falls.ensures.small c.demand-demand.result.now.demand.slots c.demand-demand.result.now.demand.rows c.rows-rows.ensures.kept,
+      c.production_never_falls.ensures.small c.demand-demand.result.now.demand.slots c.demand-demand.result.now.demand.most_rows c.demand-demand.result.now.demand.rows c.rows-rows.ensures.kept,
     )

@@ -26,5 +26,5 @@ returns-clause-small c =
       c.origin_by_end.ensures,
       ap (λ (d : DemandData). origin_by_end d.rows c.args.node.0 (c.args.boundary - 1)) c.demand.ensures,
       c.destinations_add_up.ensures.within s.demand c.args.node.0 (c.args.boundary - 1),
-      c.production_never_falls.ensures.small s.setup.slots s.demand c.setup-setup.ensures.scenario.demand_rows,
+      c.production_never_falls.ensures.small s.setup.slots s.setup.most_demand_rows s.demand c.setup-setup.ensures.scenario.demand_rows,
     )

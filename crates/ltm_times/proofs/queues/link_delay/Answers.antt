@@ -1,4 +1,5 @@
-use Rattle.std.proofs.Common.{◌≡◌, ◌+◌, ◌-◌, ◌*◌, ℕ, ap, arith, refl, subst, ◌∙◌}
+use Rattle.std.proofs.Common.{◌≡◌, ◌+◌, ◌-◌, ◌*◌, ◌^◌, ◌≤◌, ℕ, ap, arith, refl, subst, ◌∙◌}
+use Rattle.std.proofs.lemmas.Nat.{mul-le}
 use Rattle.ltm_units.specs.Sums.{sum_below}
 use Rattle.ltm_units.proofs.Sums.{sum_below_more}
 use Rattle.ltm_loading.specs.Totals.{entered_link, left_link}
@@ -21,8 +22,14 @@ loop-slot-preserved c = record {
       (c.queue-standing.ensures.shown s version counts shows);
 }
 
-pub returns : goal.returns
-returns c s version counts shows =
+pub returns-clause-small : goal.returns-clause-small
+returns-clause-small c =
+    let long : c.loop-slot.queued ≤ 2 ^ 96 = omega (arith, c.loop-slot.invariant.queued_small, c.loop-slot.auto.slot-end, c.slots-slot-end.type_inv) in
+    let step : c.from-step.result ≤ 2 ^ 16 = omega (arith, c.from-step.ensures, c.step.ensures.small) in
+    mul-le c.loop-slot.queued c.from-step.result (2 ^ 96) (2 ^ 16) long step
+
+pub returns-clause-shown : goal.returns-clause-shown
+returns-clause-shown c s version counts shows =
     let link = c.args.link.0 in
     let on : ℕ → ℕ = λ t. entered_link s counts link (t + 1) - left_link s counts link (t + 1) in
     let standing : ℕ → ℕ = λ t. queue s counts link (t + 1) in

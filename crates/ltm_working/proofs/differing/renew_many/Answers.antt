@@ -32,11 +32,17 @@ returns-then-moves-le8-clause-value c = c.renew_in.ensures.value
 pub returns-then-moves-le8-clause-sets : goal.returns-then-moves-le8-clause-sets
 returns-then-moves-le8-clause-sets c = c.renew_in.ensures.sets
 
+pub returns-then-moves-le64-clause-value : goal.returns-then-moves-le64-clause-value
+returns-then-moves-le64-clause-value c = c.renew_in-then-moves-le64.ensures.value
+
+pub returns-then-moves-le64-clause-sets : goal.returns-then-moves-le64-clause-sets
+returns-then-moves-le64-clause-sets c = c.renew_in-then-moves-le64.ensures.sets
+
 pub returns-clause-value : goal.returns-clause-value
-returns-clause-value c = c.renew_in-2.ensures.value
+returns-clause-value c = c.renew_wide.ensures.value
 
 pub returns-clause-sets : goal.returns-clause-sets
-returns-clause-sets c = c.renew_in-2.ensures.sets
+returns-clause-sets c = c.renew_wide.ensures.sets
 
 pub renew_in-requires-clause-room : goal.renew_in-requires-clause-room
 renew_in-requires-clause-room c = c.if-moves-le8.true

@@ -1,4 +1,5 @@
 use Rattle.std.proofs.Common.{◌≤◌, arith}
+use Rattle.ltm_units.specs.Bounds.{most_nodes}
 use Rattle.ltm_setting.specs.Setting.{setting_of}
 use Rattle.ltm_core.proofs.Claimings.{kept_in}
 use Rattle.ltm_core.proofs.Histories.{core_told}
@@ -16,7 +17,7 @@ commit-requires-clause-shape c = (kept_in _ _ c.args.pair c.args.ticket c.args.s
 
 pub overflow_add-self : goal.overflow_add-self
 overflow_add-self c =
-    let few : (setting_of c.self.inside.scenario).nodes ≤ 8000 = omega (c.node_count-nodes.ensures.value, c.node_count-nodes.ensures.few, arith) in
+    let few : (setting_of c.self.inside.scenario).nodes ≤ most_nodes = omega (c.node_count-nodes.ensures.value, c.node_count-nodes.ensures.few, arith) in
     omega (commits_fit c.repair_laws.ensures _ _ c.args.pair c.args.ticket c.args.solved.now.inputs c.self.view_is c.self.invariant.0 c.requires few, arith)
 
 pub invariant_of-self : goal.invariant_of-self

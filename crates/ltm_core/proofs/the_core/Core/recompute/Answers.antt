@@ -1,4 +1,5 @@
 use Rattle.std.proofs.Common.{◌≤◌, arith}
+use Rattle.ltm_units.specs.Bounds.{most_nodes}
 use Rattle.ltm_setting.specs.Setting.{setting_of}
 use Rattle.ltm_core.proofs.Histories.{core_told}
 use Rattle.ltm_core.proofs.Claimings.{core_after_claim, came_claim}
@@ -7,7 +8,7 @@ use Rattle.ltm_core.proofs.the_core.Core.recompute.Goals as goal
 
 pub overflow_add-self : goal.overflow_add-self
 overflow_add-self c =
-    let few : (setting_of c.self.inside.scenario).nodes ≤ 8000 = omega (c.node_count-nodes.ensures.value, c.node_count-nodes.ensures.few, arith) in
+    let few : (setting_of c.self.inside.scenario).nodes ≤ most_nodes = omega (c.node_count-nodes.ensures.value, c.node_count-nodes.ensures.few, arith) in
     omega (anew_fits c.repair_laws.ensures _ _ _ _ _ c.self.invariant.0 c.in-Work.ensures.recomputes.1 few, arith)
 
 pub invariant_of-self : goal.invariant_of-self

@@ -1,13 +1,14 @@
 use Rattle.std.proofs.Common.{ap, arith, inl, inr, sym, ◌+◌, ◌-◌, ◌≤◌, ◌∙◌}
 use Rattle.std.proofs.Math.Nat.{mul-le-mul_right}
+use Rattle.ltm_units.specs.Bounds.{most_marked}
 use Rattle.ltm_marks.specs.Marks.{rows_of, width_of}
 use Rattle.ltm_curve.proofs.Cells.{marked_small, one_more, of_cell, in_cells, same_cells}
 use Rattle.ltm_curve.proofs.changed.Changed.put.Goals as goal
 
 pub overflow_add-self : goal.overflow_add-self
 overflow_add-self c =
-    let few : rows_of c.args.self.now.marks ≤ 65536 = omega (arith, c.rows-rows.ensures.value, c.rows-rows.ensures.small) in
-    let narrow : width_of c.args.self.now.marks ≤ 65536 = omega (arith, c.width-width.ensures.value, c.width-width.ensures.small) in
+    let few : rows_of c.args.self.now.marks ≤ most_marked = omega (arith, c.rows-rows.ensures.value, c.rows-rows.ensures.small) in
+    let narrow : width_of c.args.self.now.marks ≤ most_marked = omega (arith, c.width-width.ensures.value, c.width-width.ensures.small) in
     omega (arith, c.args.self.now.counted, marked_small c.args.self.now.marks, mul-le-mul_right (width_of c.args.self.now.marks) few)
 
 pub invariant_of-self-clause-some_boundary : goal.invariant_of-self-clause-some_boundary

@@ -1,28 +1,18 @@
-use Rattle.std.proofs.Common.{◌≡◌, ℕ, ◌+◌, ◌^◌, List, ◌∙◌, arith, refl, ap, sym, length, slice_index}
-use Rattle.std.proofs.lemmas.List.{with_items_is}
-use Rattle.ltm_curve.proofs.PutOver.{put_over, length_over, small_over, sets_row_holds}
+use Rattle.std.proofs.Common.{arith, refl}
+use Rattle.ltm_curve.proofs.PutOver.{row_written, sets_row_holds}
 use Rattle.ltm_curve.proofs.curves.Curves.put_both.Goals as goal
 
 pub invariant_of-self : goal.invariant_of-self
 invariant_of-self c =
-    let from : ℕ = c.start-from.result in
-    let to : ℕ = from + c.args.self.now.destinations in
-    let items : List ℕ = c.args.self.now.counts.items in
-    let written : put_over from to c.deref_mut.result.now c.copy_from_slice.new.self ≡ put_over from to items c.args.counts.now =
-    ap (λ (xs : List ℕ). put_over from to xs c.copy_from_slice.new.self) c.deref_mut.ensures.value ∙ ap (put_over from to items) c.copy_from_slice.ensures.after in
-    let long : length (put_over from to items c.args.counts.now) ≡ length items = length_over from to items c.args.counts.now (omega arith) (omega (arith, c.start-from.ensures.within)) (omega (arith, c.requires.count)) in
-    let all = with_items_is c.args.self.now.counts (put_over from to c.deref_mut.result.now c.copy_from_slice.new.self) (ap length written ∙ (long ∙ (ap length (sym c.deref_mut.ensures.value) ∙ c.deref_mut.ensures.len))) ∙ written in
+    let written =
+    row_written c.args.self.now c.start-from.result c.deref_mut.result.now c.copy_from_slice.new.self c.args.counts.now c.deref_mut.ensures.value c.deref_mut.ensures.len c.copy_from_slice.ensures.after c.start-from.ensures.within c.requires.count c.requires.small in
     record {
-      long = ap length all ∙ (long ∙ c.args.self.now.long);
+      long = written.long;
       few = c.args.self.now.few;
       within = c.args.self.now.within;
       counts_room = c.args.self.now.counts_room;
       totals_room = c.args.self.now.totals_room;
-      small = λ i. omega (
-        arith,
-        ap (λ (xs : List ℕ). slice_index xs i) all,
-        small_over from to items c.args.counts.now (2 ^ 31) (omega arith) (omega (arith, c.start-from.ensures.within)) (omega (arith, c.requires.count)) c.args.self.now.small c.requires.small i,
-      );
+      small = written.small;
       no_totals = c.args.self.now.no_totals;
       all_totals = c.args.self.now.all_totals;
       sums = λ several. absurd (omega (arith, several, c.requires.two));
@@ -30,12 +20,7 @@ invariant_of-self c =
 
 pub returns : goal.returns
 returns c =
-    let from : ℕ = c.start-from.result in
-    let to : ℕ = from + c.args.self.now.destinations in
-    let items : List ℕ = c.args.self.now.counts.items in
-    let written : put_over from to c.deref_mut.result.now c.copy_from_slice.new.self ≡ put_over from to items c.args.counts.now =
-    ap (λ (xs : List ℕ). put_over from to xs c.copy_from_slice.new.self) c.deref_mut.ensures.value ∙ ap (put_over from to items) c.copy_from_slice.ensures.after in
-    let long : length (put_over from to items c.args.counts.now) ≡ length items = length_over from to items c.args.counts.now (omega arith) (omega (arith, c.start-from.ensures.within)) (omega (arith, c.requires.count)) in
-    sets_row_holds c.args.self.now _ c.args.group c.args.boundary from c.args.counts.now c.requires.group c.requires.count (record { groups = refl; destinations = refl; slots = refl })
-    c.start-from.ensures.place c.start-from.ensures.within
-    (with_items_is c.args.self.now.counts (put_over from to c.deref_mut.result.now c.copy_from_slice.new.self) (ap length written ∙ (long ∙ (ap length (sym c.deref_mut.ensures.value) ∙ c.deref_mut.ensures.len))) ∙ written)
+    let written =
+    row_written c.args.self.now c.start-from.result c.deref_mut.result.now c.copy_from_slice.new.self c.args.counts.now c.deref_mut.ensures.value c.deref_mut.ensures.len c.copy_from_slice.ensures.after c.start-from.ensures.within c.requires.count c.requires.small in
+    sets_row_holds c.args.self.now _ c.args.group c.args.boundary c.start-from.result c.args.counts.now c.requires.group c.requires.count (record { groups = refl; destinations = refl; slots = refl })
+    c.start-from.ensures.place c.start-from.ensures.within written.put

@@ -1,5 +1,6 @@
 use Rattle.std.proofs.Common.{◌≡◌, ℕ, ◌^◌, ◌≤◌, slice_index, arith, ap, ◌∙◌}
 use Rattle.std.proofs.Math.Nat.{mul-le-mul_right}
+use Rattle.ltm_units.specs.Bounds.{most_destinations}
 use Rattle.ltm_units.specs.Sums.{sum_below}
 use Rattle.ltm_units.proofs.Sums.{sum_below-most, sum_below-same}
 use Rattle.ltm_curve.specs.Table.{counts_of}
@@ -8,7 +9,7 @@ use Rattle.ltm_curve.proofs.curves.Curves.summed_total.Goals as goal
 pub overflow_add-total : goal.overflow_add-total
 overflow_add-total c =
     let d : ℕ = c.loop-destination.destination in
-    let few : d ≤ 64 = omega (arith, c.loop-destination-test.true, c.row-row.ensures.count, c.args.self.now.few) in
+    let few : d ≤ most_destinations = omega (arith, c.loop-destination-test.true, c.row-row.ensures.count, c.args.self.now.few) in
     omega (
       arith,
       c.from-total.ensures,

@@ -15,7 +15,7 @@ index_mut-origin-requires c =
     let xs = c.self.inside.origins.items in
     let row = c.args.row.now in
     let kept = c.self.invariant in
-    let vacant : IsVacant xs row = vacant_in c.self.inside.slots c.self.inside.count xs row kept (subst (λ (d : DemandState). has_place d row ≡ true) (sym c.self.view_is) c.requires.vacant) in
+    let vacant : IsVacant xs row = vacant_in c.self.inside.slots c.self.inside.most_rows c.self.inside.count xs row kept (subst (λ (d : DemandState). has_place d row ≡ true) (sym c.self.view_is) c.requires.vacant) in
     let inside : row.origin.0 < length xs = vacant_inside xs row vacant in
     omega (arith, inside, c.self.inside.origins.ok)
 
@@ -24,8 +24,8 @@ fill-requires-clause-gap c =
     let xs = c.self.inside.origins.items in
     let row = c.args.row.now in
     let kept = c.self.invariant in
-    let gap : IsGap (origin_at xs row.origin.0).rows row c.args.place = gap_own c.self.inside.slots c.self.inside.count xs row c.args.place kept (subst (λ (d : DemandState). IsGap (own_rows d.demand.rows row.origin.0) row c.args.place) (sym c.self.view_is) c.requires.gap) in
-    let vacant : IsVacant xs row = vacant_in c.self.inside.slots c.self.inside.count xs row kept (subst (λ (d : DemandState). has_place d row ≡ true) (sym c.self.view_is) c.requires.vacant) in
+    let gap : IsGap (origin_at xs row.origin.0).rows row c.args.place = gap_own c.self.inside.slots c.self.inside.most_rows c.self.inside.count xs row c.args.place kept (subst (λ (d : DemandState). IsGap (own_rows d.demand.rows row.origin.0) row c.args.place) (sym c.self.view_is) c.requires.gap) in
+    let vacant : IsVacant xs row = vacant_in c.self.inside.slots c.self.inside.most_rows c.self.inside.count xs row kept (subst (λ (d : DemandState). has_place d row ≡ true) (sym c.self.view_is) c.requires.vacant) in
     let inside : row.origin.0 < length xs = vacant_inside xs row vacant in
     let read : c.index_mut-origin.result.now ≡ origin_at xs row.origin.0 = get_or_read xs row.origin.0 c.index_mut-origin.result.now inside c.index_mut-origin.ensures.value no_origin in
     subst (λ (o : OriginData). IsGap o.rows row c.args.place) (sym read) gap
@@ -35,7 +35,7 @@ fill-requires-clause-vacant c =
     let xs = c.self.inside.origins.items in
     let row = c.args.row.now in
     let kept = c.self.invariant in
-    let vacant : IsVacant xs row = vacant_in c.self.inside.slots c.self.inside.count xs row kept (subst (λ (d : DemandState). has_place d row ≡ true) (sym c.self.view_is) c.requires.vacant) in
+    let vacant : IsVacant xs row = vacant_in c.self.inside.slots c.self.inside.most_rows c.self.inside.count xs row kept (subst (λ (d : DemandState). has_place d row ≡ true) (sym c.self.view_is) c.requires.vacant) in
     let inside : row.origin.0 < length xs = vacant_inside xs row vacant in
     let read : c.index_mut-origin.result.now ≡ origin_at xs row.origin.0 = get_or_read xs row.origin.0 c.index_mut-origin.result.now inside c.index_mut-origin.ensures.value no_origin in
     subst (λ (o : OriginData). length o.rows < o.places) (sym read) vacant.rows
@@ -45,7 +45,7 @@ fill-requires-clause-reached c =
     let xs = c.self.inside.origins.items in
     let row = c.args.row.now in
     let kept = c.self.invariant in
-    let vacant : IsVacant xs row = vacant_in c.self.inside.slots c.self.inside.count xs row kept (subst (λ (d : DemandState). has_place d row ≡ true) (sym c.self.view_is) c.requires.vacant) in
+    let vacant : IsVacant xs row = vacant_in c.self.inside.slots c.self.inside.most_rows c.self.inside.count xs row kept (subst (λ (d : DemandState). has_place d row ≡ true) (sym c.self.view_is) c.requires.vacant) in
     let inside : row.origin.0 < length xs = vacant_inside xs row vacant in
     let read : c.index_mut-origin.result.now ≡ origin_at xs row.origin.0 = get_or_read xs row.origin.0 c.index_mut-origin.result.now inside c.index_mut-origin.ensures.value no_origin in
     subst (λ (o : OriginData). IsReached o.table row) (sym read) vacant.reached
@@ -55,44 +55,44 @@ fill-requires-clause-roomy c =
     let xs = c.self.inside.origins.items in
     let row = c.args.row.now in
     let kept = c.self.invariant in
-    let gap : IsGap (origin_at xs row.origin.0).rows row c.args.place = gap_own c.self.inside.slots c.self.inside.count xs row c.args.place kept (subst (λ (d : DemandState). IsGap (own_rows d.demand.rows row.origin.0) row c.args.place) (sym c.self.view_is) c.requires.gap) in
-    let vacant : IsVacant xs row = vacant_in c.self.inside.slots c.self.inside.count xs row kept (subst (λ (d : DemandState). has_place d row ≡ true) (sym c.self.view_is) c.requires.vacant) in
+    let gap : IsGap (origin_at xs row.origin.0).rows row c.args.place = gap_own c.self.inside.slots c.self.inside.most_rows c.self.inside.count xs row c.args.place kept (subst (λ (d : DemandState). IsGap (own_rows d.demand.rows row.origin.0) row c.args.place) (sym c.self.view_is) c.requires.gap) in
+    let vacant : IsVacant xs row = vacant_in c.self.inside.slots c.self.inside.most_rows c.self.inside.count xs row kept (subst (λ (d : DemandState). has_place d row ≡ true) (sym c.self.view_is) c.requires.vacant) in
     let inside : row.origin.0 < length xs = vacant_inside xs row vacant in
     let read : c.index_mut-origin.result.now ≡ origin_at xs row.origin.0 = get_or_read xs row.origin.0 c.index_mut-origin.result.now inside c.index_mut-origin.ensures.value no_origin in
-    subst (λ (o : OriginData). IsRoomy o.table row 0) (sym read) (roomy_was c.self.inside.slots c.self.inside.count xs row 0 kept (none_joined c.self.inside.slots c.self.inside.count xs row c.args.place kept gap))
+    subst (λ (o : OriginData). IsRoomy o.table row 0) (sym read) (roomy_was c.self.inside.slots c.self.inside.most_rows c.self.inside.count xs row 0 kept (none_joined c.self.inside.slots c.self.inside.most_rows c.self.inside.count xs row c.args.place kept gap))
 
 pub invariant_of-self : goal.invariant_of-self
 invariant_of-self c =
     let xs = c.self.inside.origins.items in
     let row = c.args.row.now in
     let kept = c.self.invariant in
-    let gap : IsGap (origin_at xs row.origin.0).rows row c.args.place = gap_own c.self.inside.slots c.self.inside.count xs row c.args.place kept (subst (λ (d : DemandState). IsGap (own_rows d.demand.rows row.origin.0) row c.args.place) (sym c.self.view_is) c.requires.gap) in
-    let vacant : IsVacant xs row = vacant_in c.self.inside.slots c.self.inside.count xs row kept (subst (λ (d : DemandState). has_place d row ≡ true) (sym c.self.view_is) c.requires.vacant) in
+    let gap : IsGap (origin_at xs row.origin.0).rows row c.args.place = gap_own c.self.inside.slots c.self.inside.most_rows c.self.inside.count xs row c.args.place kept (subst (λ (d : DemandState). IsGap (own_rows d.demand.rows row.origin.0) row c.args.place) (sym c.self.view_is) c.requires.gap) in
+    let vacant : IsVacant xs row = vacant_in c.self.inside.slots c.self.inside.most_rows c.self.inside.count xs row kept (subst (λ (d : DemandState). has_place d row ≡ true) (sym c.self.view_is) c.requires.vacant) in
     let inside : row.origin.0 < length xs = vacant_inside xs row vacant in
     let read : c.index_mut-origin.result.now ≡ origin_at xs row.origin.0 = get_or_read xs row.origin.0 c.index_mut-origin.result.now inside c.index_mut-origin.ensures.value no_origin in
     let within : has_slots c.self.inside.slots row ≡ true = subst (λ (d : DemandState). has_slots d.demand.slots row ≡ true) (sym c.self.view_is) c.requires.slots in
-    let few : length (rows_of xs) < 10000 = subst (λ (d : DemandState). length d.demand.rows < 10000) (sym c.self.view_is) c.requires.few in
+    let few : length (rows_of xs) < c.self.inside.most_rows = subst (λ (d : DemandState). length d.demand.rows < d.demand.most_rows) (sym c.self.view_is) c.requires.few in
     let one : length (edited_rows (rows_of xs) row) ≡ length (rows_of xs) + 1 = subst (λ (d : DemandState). length (edited_rows d.demand.rows row) ≡ length d.demand.rows + 1) (sym c.self.view_is) (length_filled c.args.self.now.demand.rows row c.args.place c.requires.gap c.requires.some) in
     let rows : c.fill.new.self.rows ≡ edited_rows (origin_at xs row.origin.0).rows row = c.fill.ensures.rows ∙ ap (λ (o : OriginData). edited_rows o.rows row) read in
     let shifted : IsShifted (origin_at xs row.origin.0).table c.fill.new.self.table row 0 = subst (λ (o : OriginData). IsShifted o.table c.fill.new.self.table row 0) read c.fill.ensures.shifted in
-    filled_kept c.self.inside.slots c.self.inside.count xs row c.args.place kept gap c.fill.new.self inside within c.requires.small one few rows shifted vacant.reached
+    filled_kept c.self.inside.slots c.self.inside.most_rows c.self.inside.count xs row c.args.place kept gap c.fill.new.self inside within c.requires.small one few rows shifted vacant.reached
 
 pub returns : goal.returns
 returns c =
     let xs = c.self.inside.origins.items in
     let row = c.args.row.now in
     let kept = c.self.invariant in
-    let gap : IsGap (origin_at xs row.origin.0).rows row c.args.place = gap_own c.self.inside.slots c.self.inside.count xs row c.args.place kept (subst (λ (d : DemandState). IsGap (own_rows d.demand.rows row.origin.0) row c.args.place) (sym c.self.view_is) c.requires.gap) in
-    let vacant : IsVacant xs row = vacant_in c.self.inside.slots c.self.inside.count xs row kept (subst (λ (d : DemandState). has_place d row ≡ true) (sym c.self.view_is) c.requires.vacant) in
+    let gap : IsGap (origin_at xs row.origin.0).rows row c.args.place = gap_own c.self.inside.slots c.self.inside.most_rows c.self.inside.count xs row c.args.place kept (subst (λ (d : DemandState). IsGap (own_rows d.demand.rows row.origin.0) row c.args.place) (sym c.self.view_is) c.requires.gap) in
+    let vacant : IsVacant xs row = vacant_in c.self.inside.slots c.self.inside.most_rows c.self.inside.count xs row kept (subst (λ (d : DemandState). has_place d row ≡ true) (sym c.self.view_is) c.requires.vacant) in
     let inside : row.origin.0 < length xs = vacant_inside xs row vacant in
     let read : c.index_mut-origin.result.now ≡ origin_at xs row.origin.0 = get_or_read xs row.origin.0 c.index_mut-origin.result.now inside c.index_mut-origin.ensures.value no_origin in
     let within : has_slots c.self.inside.slots row ≡ true = subst (λ (d : DemandState). has_slots d.demand.slots row ≡ true) (sym c.self.view_is) c.requires.slots in
-    let few : length (rows_of xs) < 10000 = subst (λ (d : DemandState). length d.demand.rows < 10000) (sym c.self.view_is) c.requires.few in
+    let few : length (rows_of xs) < c.self.inside.most_rows = subst (λ (d : DemandState). length d.demand.rows < d.demand.most_rows) (sym c.self.view_is) c.requires.few in
     let one : length (edited_rows (rows_of xs) row) ≡ length (rows_of xs) + 1 = subst (λ (d : DemandState). length (edited_rows d.demand.rows row) ≡ length d.demand.rows + 1) (sym c.self.view_is) (length_filled c.args.self.now.demand.rows row c.args.place c.requires.gap c.requires.some) in
     let rows : c.fill.new.self.rows ≡ edited_rows (origin_at xs row.origin.0).rows row = c.fill.ensures.rows ∙ ap (λ (o : OriginData). edited_rows o.rows row) read in
     let shifted : IsShifted (origin_at xs row.origin.0).table c.fill.new.self.table row 0 = subst (λ (o : OriginData). IsShifted o.table c.fill.new.self.table row 0) read c.fill.ensures.shifted in
-    let all = subst (λ (d : DemandState). IsDone d (state_of c.self.inside.slots (rows_of (set xs row.origin.0 c.fill.new.self)) (room_of (set xs row.origin.0 c.fill.new.self))) row 0) c.self.view_is
-    (filled_done c.self.inside.slots c.self.inside.count xs row c.args.place kept gap c.fill.new.self inside within c.requires.small one few rows shifted vacant.reached) in
+    let all = subst (λ (d : DemandState). IsDone d (state_of c.self.inside.slots c.self.inside.most_rows (rows_of (set xs row.origin.0 c.fill.new.self)) (room_of (set xs row.origin.0 c.fill.new.self))) row 0) c.self.view_is
+    (filled_done c.self.inside.slots c.self.inside.most_rows c.self.inside.count xs row c.args.place kept gap c.fill.new.self inside within c.requires.small one few rows shifted vacant.reached) in
     record {
       done = all.done;
       back = all.back;

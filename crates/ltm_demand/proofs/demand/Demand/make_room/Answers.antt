@@ -10,8 +10,8 @@ use Rattle.ltm_demand.proofs.KeptOrigins.{kept_alike, alike_set, rows_set, room_
 use Rattle.ltm_demand.proofs.Changes.{has_place_in}
 use Rattle.ltm_demand.proofs.demand.Demand.make_room.Goals as goal
 
-abbrev made : ℕ → List DemandRow → DemandData
-made slots rows = record { slots = slots; rows = rows }
+abbrev made : ℕ → ℕ → List DemandRow → DemandData
+made slots most rows = record { slots = slots; most_rows = most; rows = rows }
 
 all_three : {A E : Type 0} (r : Result A E) (P Q R S : Type 0) → OnOk r P → OnOk r Q → OnOk r R → (P → Q → R → S) → OnOk r S
 all_three (Ok a) P Q R S p q r f = f p q r
@@ -33,8 +33,8 @@ invariant_of-self-2 c =
     let keeps : IsNoLess (room_in (origin_at ys i)) (room_in x) = subst (λ (o : OriginData). IsNoLess (room_in o) (room_in x)) read c.make_room.ensures.places in
     let rows : x.rows ≡ (origin_at ys i).rows = c.make_room.ensures.rows ∙ ap (λ (o : OriginData). o.rows) read in
     let is : IsAlike (origin_at ys i) x = record { rows = rows; told = subst (λ (o : OriginData). (k t : ℕ) → told x.table k t ≡ told o.table k t) read c.make_room.ensures.same; destinations = keeps.destinations; slots = keeps.slots } in
-    let first : IsKept c.self.inside.slots c.self.inside.count ys = kept_alike c.self.inside.slots c.self.inside.count xs ys c.make_origins.ensures.alike c.make_origins.ensures.rows c.self.invariant in
-    let last : IsKept c.self.inside.slots c.self.inside.count (set ys i x) = kept_alike c.self.inside.slots c.self.inside.count ys (set ys i x) (alike_set ys i x inside is) (rows_set ys i x inside rows) first in
+    let first : IsKept c.self.inside.slots c.self.inside.most_rows c.self.inside.count ys = kept_alike c.self.inside.slots c.self.inside.most_rows c.self.inside.count xs ys c.make_origins.ensures.alike c.make_origins.ensures.rows c.self.invariant in
+    let last : IsKept c.self.inside.slots c.self.inside.most_rows c.self.inside.count (set ys i x) = kept_alike c.self.inside.slots c.self.inside.most_rows c.self.inside.count ys (set ys i x) (alike_set ys i x inside is) (rows_set ys i x inside rows) first in
     last
 
 pub returns-clause-demand : goal.returns-clause-demand
@@ -46,7 +46,7 @@ returns-clause-demand c =
     let inside : i < length ys = omega (arith, c.in_ok-make_origins.ensures.ok, c.make_origins.new.origins.ok) in
     let read : c.index_mut-origin.result.now ≡ origin_at ys i = get_or_read ys i c.index_mut-origin.result.now inside c.index_mut-origin.ensures.value no_origin in
     let rows : x.rows ≡ (origin_at ys i).rows = c.make_room.ensures.rows ∙ ap (λ (o : OriginData). o.rows) read in
-    ap (λ rows. made c.self.inside.slots rows) (rows_set ys i x inside rows ∙ c.make_origins.ensures.rows) ∙ ap (λ (d : DemandState). d.demand) c.self.view_is
+    ap (λ rows. made c.self.inside.slots c.self.inside.most_rows rows) (rows_set ys i x inside rows ∙ c.make_origins.ensures.rows) ∙ ap (λ (d : DemandState). d.demand) c.self.view_is
 
 pub returns-clause-ok : goal.returns-clause-ok
 returns-clause-ok c =
@@ -59,11 +59,11 @@ returns-clause-ok c =
     let keeps : IsNoLess (room_in (origin_at ys i)) (room_in x) = subst (λ (o : OriginData). IsNoLess (room_in o) (room_in x)) read c.make_room.ensures.places in
     let rows : x.rows ≡ (origin_at ys i).rows = c.make_room.ensures.rows ∙ ap (λ (o : OriginData). o.rows) read in
     let is : IsAlike (origin_at ys i) x = record { rows = rows; told = subst (λ (o : OriginData). (k t : ℕ) → told x.table k t ≡ told o.table k t) read c.make_room.ensures.same; destinations = keeps.destinations; slots = keeps.slots } in
-    let first : IsKept c.self.inside.slots c.self.inside.count ys = kept_alike c.self.inside.slots c.self.inside.count xs ys c.make_origins.ensures.alike c.make_origins.ensures.rows c.self.invariant in
-    let last : IsKept c.self.inside.slots c.self.inside.count (set ys i x) = kept_alike c.self.inside.slots c.self.inside.count ys (set ys i x) (alike_set ys i x inside is) (rows_set ys i x inside rows) first in
+    let first : IsKept c.self.inside.slots c.self.inside.most_rows c.self.inside.count ys = kept_alike c.self.inside.slots c.self.inside.most_rows c.self.inside.count xs ys c.make_origins.ensures.alike c.make_origins.ensures.rows c.self.invariant in
+    let last : IsKept c.self.inside.slots c.self.inside.most_rows c.self.inside.count (set ys i x) = kept_alike c.self.inside.slots c.self.inside.most_rows c.self.inside.count ys (set ys i x) (alike_set ys i x inside is) (rows_set ys i x inside rows) first in
     let here : origin_at (set ys i x) i ≡ x = get_or-set_same ys i x no_origin inside in
     all_three c.make_room.result _ _ _ _ c.make_room.ensures.vacant c.make_room.ensures.destination c.make_room.ensures.end (λ vacant destination end.
-    has_place_in c.self.inside.slots (set ys i x) c.args.row.now last.own (subst (λ (y : OriginData). length y.rows < y.places) (sym here) vacant)
+    has_place_in c.self.inside.slots c.self.inside.most_rows (set ys i x) c.args.row.now last.own (subst (λ (y : OriginData). length y.rows < y.places) (sym here) vacant)
     (subst (λ (y : OriginData). IsReached y.table c.args.row.now) (sym here) (record { destination = destination; end = end })))
 
 pub returns-clause-room : goal.returns-clause-room

@@ -1,5 +1,6 @@
-use Rattle.std.proofs.Common.{◌≡◌, ◌∙◌, ◌-◌, ◌++◌, ◌∷◌, [], ℕ, List, ap, arith, subst, sym}
+use Rattle.std.proofs.Common.{◌≡◌, ◌∙◌, ◌-◌, ◌++◌, ◌∷◌, [], ℕ, List, ap, arith, length, length-append, subst, sym}
 use Rattle.ltm_network.specs.Network.{NetworkData}
+use Rattle.ltm_scenario.specs.declared.setup.Setup.{Setup}
 use Rattle.ltm_scenario.specs.Data.{ScenarioData}
 use Rattle.ltm_scenario.specs.Reads.{destination_of}
 use Rattle.ltm_make.specs.Branches.{number}
@@ -29,3 +30,18 @@ add_end-requires-2-clause-new c =
     ap (λ (list : List ℕ). destination_of list c.in_ok-second.second.0) ends
     ∙ (ap (λ (u : ℕ). destination_of (number c.args.self.now.scenario.network 0 ∷ []) u) (c.in_ok-second.ensures.number ∙ ap (λ (n : NetworkData). number n (c.args.grid.width - 1)) c.network-2.ensures)
     ∙ ends_apart c.args.self.now.scenario.network c.args.grid.nodes c.args.grid.width c.requires.grid c.requires.along)
+
+pub add_end-requires-clause-few : goal.add_end-requires-clause-few
+add_end-requires-clause-few c =
+    omega (arith, ap (λ (list : List ℕ). length list) c.requires.none, ap (λ (z : Setup). z.most_destinations) c.requires.setup)
+
+pub add_end-requires-2-clause-few : goal.add_end-requires-2-clause-few
+add_end-requires-2-clause-few c =
+    omega (
+      arith,
+      ap (λ (s : ScenarioData). length s.destinations) c.in_ok-add_end.ensures,
+      length-append c.args.self.now.scenario.destinations (c.in_ok-first.first.0 ∷ []),
+      ap (λ (list : List ℕ). length list) c.requires.none,
+      ap (λ (s : ScenarioData). s.setup.most_destinations) c.in_ok-add_end.ensures,
+      ap (λ (z : Setup). z.most_destinations) c.requires.setup,
+    )

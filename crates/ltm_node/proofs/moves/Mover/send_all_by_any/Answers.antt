@@ -1,5 +1,4 @@
 use Rattle.std.proofs.Common.{◌≡◌, ℕ, ap, arith, rules, subst}
-use Rattle.ltm_shares.specs.Sent.{sent_at}
 use Rattle.ltm_node.specs.declared.shape.NodeShape.{NodeShape}
 use Rattle.ltm_node.specs.Solvable.{IsSolvable}
 use Rattle.ltm_node.specs.Portion.{denominator, numerator}
@@ -8,15 +7,15 @@ use Rattle.ltm_node.proofs.Amounts.{next_destination}
 use Rattle.ltm_node.proofs.moves.Mover.send_all_by_any.Goals as goal
 
 pub returns : goal.returns
-returns c =
+returns g c =
     let n = c.args.self.now.inputs.now in
     let e : ℕ = denominator c.args.self.now.portion in
     let p : ℕ → ℕ = numerator c.args.self.now.portion in
     let s : IsSolvable n = search rules in
-    let sent : ℕ → ℕ → ℕ = sent_at c.loop-arm.sent in
+    let stands : ℕ → ℕ → ℕ → Type 0 = g.T.Tally.stands c.loop-arm.tally n c.args.self.now.portion in
     let same : c.args.self.now.shape ≡ n.shape = search rules in
     let all : c.loop-arm.arm ≡ n.shape.arms = omega (arith, c.loop-arm-test.false, ap (λ (z : NodeShape). z.arms) same) in
     record {
-      after = next_destination n e p c.args.destination c.loop-arm.row sent s
-          (subst (λ (k : ℕ). IsMoving n e p c.args.destination k 0 c.loop-arm.row sent) all c.loop-arm.invariant.moving);
+      after = next_destination n e p stands c.args.destination c.loop-arm.row s
+          (subst (λ (k : ℕ). IsMoving n e p stands c.args.destination k 0 c.loop-arm.row) all c.loop-arm.invariant.moving);
     }

@@ -1,28 +1,29 @@
 use Rattle.std.proofs.Common.{◌<◌, ℕ, ◌+◌, ◌∙◌, ap, arith, rules, subst, sym}
-use Rattle.ltm_shares.specs.Sent.{sent_at}
 use Rattle.ltm_node.specs.declared.loads.Part.{Part}
 use Rattle.ltm_node.specs.Solvable.{IsSolvable}
 use Rattle.ltm_node.specs.Portion.{denominator, numerator}
 use Rattle.ltm_node.specs.Step.{moved}
 use Rattle.ltm_node.specs.Moving.{IsMoving, IsPart}
+use Rattle.ltm_node.proofs.Moved.{moved_none}
 use Rattle.ltm_node.proofs.Amounts.{entered_past}
 use Rattle.ltm_node.proofs.Splitting.{sum_of_term}
 use Rattle.ltm_node.proofs.Ways.{is_out, part_one, beside_one, unsent_on}
 use Rattle.ltm_node.proofs.moves.Mover.send_by_one.Goals as goal
 
 pub returns-then-load-eq0 : goal.returns-then-load-eq0
-returns-then-load-eq0 c =
+returns-then-load-eq0 g c =
     let n = c.args.self.now.inputs.now in
+    let q = c.args.self.now.portion in
     let e : ℕ = denominator c.args.self.now.portion in
     let p : ℕ → ℕ = numerator c.args.self.now.portion in
     let s : IsSolvable n = search rules in
     record {
-      after = unsent_on n e p c.args.load.destination c.args.load.arm c.args.row.now (sent_at c.args.sent.now) s c.requires.before c.requires.load.arm c.requires.load.destination
+      after = unsent_on n e p (g.T.Tally.stands c.args.tally.now n q) c.args.load.destination c.args.load.arm c.args.row.now s (c.passes.ensures c.args.tally.now n q) c.requires.before c.requires.load.arm c.requires.load.destination
           (omega (arith, c.requires.load.amount, c.if-load-eq0.true));
     }
 
 pub enter-moved-requires-clause-part : goal.enter-moved-requires-clause-part
-enter-moved-requires-clause-part c =
+enter-moved-requires-clause-part g c =
     let n = c.args.self.now.inputs.now in
     let a : ℕ = c.args.load.arm in
     let b : ℕ = c.args.load.destination in
@@ -35,8 +36,9 @@ enter-moved-requires-clause-part c =
     })
 
 pub enter-moved-requires-clause-before : goal.enter-moved-requires-clause-before
-enter-moved-requires-clause-before c =
+enter-moved-requires-clause-before g c =
     let n = c.args.self.now.inputs.now in
+    let q = c.args.self.now.portion in
     let e : ℕ = denominator c.args.self.now.portion in
     let p : ℕ → ℕ = numerator c.args.self.now.portion in
     let s : IsSolvable n = search rules in
@@ -44,12 +46,12 @@ enter-moved-requires-clause-before c =
     let b : ℕ = c.args.load.destination in
     let k : ℕ = c.args.way.out in
     let within : k < n.shape.outs = is_out n b k c.requires.way.all.within in
-    subst (λ (q : Part). IsMoving n e p q.destination q.arm q.out c.args.row.now (sent_at c.args.sent.now)) (sym c.by.ensures)
-    (entered_past n e p b a 0 k c.args.row.now (sent_at c.args.sent.now) s c.requires.before (omega arith) (omega arith) (λ j _ less.
-    beside_one n e p a b k c.requires.elsewhere c.requires.way.all j (omega arith)))
+    subst (λ (r : Part). IsMoving n e p (g.T.Tally.stands c.args.tally.now n q) r.destination r.arm r.out c.args.row.now) (sym c.by.ensures)
+    (entered_past n e p (g.T.Tally.stands c.args.tally.now n q) b a 0 k c.args.row.now s (c.passes.ensures c.args.tally.now n q) c.requires.before c.requires.load.destination (omega arith) (omega arith) (λ j _ less.
+    beside_one n a b k c.requires.elsewhere c.requires.way.all j (omega arith)))
 
 pub leave-requires-clause-total : goal.leave-requires-clause-total
-leave-requires-clause-total c =
+leave-requires-clause-total g c =
     let n = c.args.self.now.inputs.now in
     let e : ℕ = denominator c.args.self.now.portion in
     let p : ℕ → ℕ = numerator c.args.self.now.portion in
@@ -59,11 +61,12 @@ leave-requires-clause-total c =
     let within : k < n.shape.outs = is_out n b k c.requires.way.all.within in
     c.enter-moved.ensures.moved
     ∙ (ap (λ (q : Part). moved n e p q.arm q.destination q.out) c.by.ensures
-    ∙ sym (sum_of_term n.shape.outs k (λ j. moved n e p a b j) within (beside_one n e p a b k c.requires.elsewhere c.requires.way.all)))
+    ∙ sym (sum_of_term n.shape.outs k (λ j. moved n e p a b j) within (λ j ne. moved_none n e p a b j (beside_one n a b k c.requires.elsewhere c.requires.way.all j ne))))
 
 pub leave-requires-clause-before : goal.leave-requires-clause-before
-leave-requires-clause-before c =
+leave-requires-clause-before g c =
     let n = c.args.self.now.inputs.now in
+    let q = c.args.self.now.portion in
     let e : ℕ = denominator c.args.self.now.portion in
     let p : ℕ → ℕ = numerator c.args.self.now.portion in
     let s : IsSolvable n = search rules in
@@ -71,7 +74,7 @@ leave-requires-clause-before c =
     let b : ℕ = c.args.load.destination in
     let k : ℕ = c.args.way.out in
     let within : k < n.shape.outs = is_out n b k c.requires.way.all.within in
-    let after : IsMoving n e p b a (k + 1) c.enter-moved.new.row (sent_at c.enter-moved.new.sent) =
-    subst (λ (q : Part). IsMoving n e p q.destination q.arm (q.out + 1) c.enter-moved.new.row (sent_at c.enter-moved.new.sent)) c.by.ensures c.enter-moved.ensures.after in
-    entered_past n e p b a (k + 1) n.shape.outs c.enter-moved.new.row (sent_at c.enter-moved.new.sent) s after (omega arith) (omega arith) (λ j more _.
-    beside_one n e p a b k c.requires.elsewhere c.requires.way.all j (omega arith))
+    let after : IsMoving n e p (g.T.Tally.stands c.enter-moved.new.tally n q) b a (k + 1) c.enter-moved.new.row =
+    subst (λ (r : Part). IsMoving n e p (g.T.Tally.stands c.enter-moved.new.tally n q) r.destination r.arm (r.out + 1) c.enter-moved.new.row) c.by.ensures c.enter-moved.ensures.after in
+    entered_past n e p (g.T.Tally.stands c.enter-moved.new.tally n q) b a (k + 1) n.shape.outs c.enter-moved.new.row s (c.passes.ensures c.enter-moved.new.tally n q) after c.requires.load.destination (omega arith) (omega arith) (λ j more _.
+    beside_one n a b k c.requires.elsewhere c.requires.way.all j (omega arith))

@@ -1,7 +1,6 @@
 use Rattle.std.proofs.Common.{◌≡◌, ◌≤◌, ◌<◌, ℕ, ◌+◌, ◌-◌, ◌*◌, ◌/◌, ◌∙◌, ap, arith, rules, subst, sym, List, sum, get_or, length, slice_index}
 use Rattle.ltm_units.specs.Nested.{nested_split}
 use Rattle.ltm_units.proofs.Sums.{sum_below_more}
-use Rattle.ltm_shares.specs.Sent.{sent_at}
 use Rattle.ltm_node.specs.declared.loads.Part.{Part}
 use Rattle.ltm_node.specs.Inputs.{weights}
 use Rattle.ltm_node.specs.Solvable.{IsSolvable}
@@ -9,20 +8,21 @@ use Rattle.ltm_node.specs.Portion.{denominator, numerator, AreFractions}
 use Rattle.ltm_node.specs.Splitting.{IsSplitUpTo}
 use Rattle.ltm_node.specs.Step.{moved}
 use Rattle.ltm_node.specs.Moving.{IsMoving, IsPart}
-use Rattle.ltm_node.proofs.Ranges.{sending_small, weights_fit, part_is, moved_none, moved_small, moved_out_small}
+use Rattle.ltm_node.proofs.Ranges.{sending_small, weights_fit, part_is}
+use Rattle.ltm_node.proofs.Moved.{moved_none, moved_small, moved_out_small}
 use Rattle.ltm_node.proofs.Splitting.{out_within, weight_within_rest, part_next, split_next, split_ended, sum_ended}
 use Rattle.ltm_node.specs.declared.shape.NodeShape.{NodeShape}
 use Rattle.ltm_node.proofs.Amounts.{entered_past, place_on}
 use Rattle.ltm_node.proofs.moves.Mover.split.Goals as goal
 
 pub share_of_rest-requires-clause-left : goal.share_of_rest-requires-clause-left
-share_of_rest-requires-clause-left c =
+share_of_rest-requires-clause-left g c =
     let n = c.args.self.now.inputs.now in
     let s : IsSolvable n = search rules in
     omega (arith, c.loop-rest.invariant.split.within, c.requires.load.amount, sending_small n c.args.load.arm c.args.load.destination s c.requires.load.arm c.requires.load.destination)
 
 pub share_of_rest-requires-clause-weight : goal.share_of_rest-requires-clause-weight
-share_of_rest-requires-clause-weight c =
+share_of_rest-requires-clause-weight g c =
     let ws : List ℕ = weights c.args.self.now.inputs.now c.args.load.destination in
     let split : IsSplitUpTo c.args.load.amount ws c.loop-rest.out c.loop-rest.left c.loop-rest.rest = c.loop-rest.invariant.split in
     omega (
@@ -32,7 +32,7 @@ share_of_rest-requires-clause-weight c =
     )
 
 pub share_of_rest-requires-clause-rest : goal.share_of_rest-requires-clause-rest
-share_of_rest-requires-clause-rest c =
+share_of_rest-requires-clause-rest g c =
     let n = c.args.self.now.inputs.now in
     let s : IsSolvable n = search rules in
     omega (
@@ -43,7 +43,7 @@ share_of_rest-requires-clause-rest c =
     )
 
 pub overflow_sub-rest : goal.overflow_sub-rest
-overflow_sub-rest c =
+overflow_sub-rest g c =
     let ws : List ℕ = weights c.args.self.now.inputs.now c.args.load.destination in
     let split : IsSplitUpTo c.args.load.amount ws c.loop-rest.out c.loop-rest.left c.loop-rest.rest = c.loop-rest.invariant.split in
     omega (
@@ -53,7 +53,7 @@ overflow_sub-rest c =
     )
 
 pub enter-total-requires-clause-part : goal.enter-total-requires-clause-part
-enter-total-requires-clause-part c =
+enter-total-requires-clause-part g c =
     let n = c.args.self.now.inputs.now in
     let a : ℕ = c.args.load.arm in
     let b : ℕ = c.args.load.destination in
@@ -72,7 +72,7 @@ enter-total-requires-clause-part c =
     })
 
 pub overflow_add-total : goal.overflow_add-total
-overflow_add-total c =
+overflow_add-total g c =
     let n = c.args.self.now.inputs.now in
     let e : ℕ = denominator c.args.self.now.portion in
     let p : ℕ → ℕ = numerator c.args.self.now.portion in
@@ -87,8 +87,9 @@ overflow_add-total c =
     omega (arith, c.loop-rest.invariant.total, moved_out_small n e p a b k s f c.requires.load.arm c.requires.load.destination, c.loop-rest.invariant.within, s.few_outs)
 
 pub loop-rest-preserved : goal.loop-rest-preserved
-loop-rest-preserved c =
+loop-rest-preserved g c =
     let n = c.args.self.now.inputs.now in
+    let q = c.args.self.now.portion in
     let e : ℕ = denominator c.args.self.now.portion in
     let p : ℕ → ℕ = numerator c.args.self.now.portion in
     let a : ℕ = c.args.load.arm in
@@ -109,11 +110,11 @@ loop-rest-preserved c =
           let same : c.args.self.now.shape ≡ n.shape = search rules in
           omega (arith, c.loop-rest.invariant.place, ap (λ (z : NodeShape). z.destinations) same, place_on n.shape k b);
       total = omega (arith, c.loop-rest.invariant.total, sum_below_more (λ j. moved n e p a b j) k);
-      moving = subst (λ (q : Part). IsMoving n e p q.destination q.arm (q.out + 1) c.enter-total.new.row (sent_at c.enter-total.new.sent)) c.by-part.ensures c.enter-total.ensures.after;
+      moving = subst (λ (r : Part). IsMoving n e p (g.T.Tally.stands c.enter-total.new.tally n q) r.destination r.arm (r.out + 1) c.enter-total.new.row) c.by-part.ensures c.enter-total.ensures.after;
     }
 
 pub leave-requires-clause-total : goal.leave-requires-clause-total
-leave-requires-clause-total c =
+leave-requires-clause-total g c =
     let n = c.args.self.now.inputs.now in
     let e : ℕ = denominator c.args.self.now.portion in
     let p : ℕ → ℕ = numerator c.args.self.now.portion in
@@ -126,8 +127,9 @@ leave-requires-clause-total c =
     moved_none n e p a b j (sym (part_is n c.args.load.amount a b j 0 c.requires.elsewhere c.requires.load.amount (sym (split_ended c.args.load.amount (weights n b) k c.loop-rest.left c.loop-rest.rest j c.loop-rest.invariant.split none more))))))
 
 pub leave-requires-clause-before : goal.leave-requires-clause-before
-leave-requires-clause-before c =
+leave-requires-clause-before g c =
     let n = c.args.self.now.inputs.now in
+    let q = c.args.self.now.portion in
     let e : ℕ = denominator c.args.self.now.portion in
     let p : ℕ → ℕ = numerator c.args.self.now.portion in
     let s : IsSolvable n = search rules in
@@ -135,5 +137,5 @@ leave-requires-clause-before c =
     let b : ℕ = c.args.load.destination in
     let k : ℕ = c.loop-rest.out in
     let none : c.loop-rest.rest ≡ 0 = omega (arith, c.loop-rest-test.false) in
-    entered_past n e p b a k n.shape.outs c.loop-rest.row (sent_at c.loop-rest.sent) s c.loop-rest.invariant.moving c.loop-rest.invariant.within (omega arith) (λ j more _.
-    moved_none n e p a b j (sym (part_is n c.args.load.amount a b j 0 c.requires.elsewhere c.requires.load.amount (sym (split_ended c.args.load.amount (weights n b) k c.loop-rest.left c.loop-rest.rest j c.loop-rest.invariant.split none more)))))
+    entered_past n e p (g.T.Tally.stands c.loop-rest.tally n q) b a k n.shape.outs c.loop-rest.row s (c.passes.ensures c.loop-rest.tally n q) c.loop-rest.invariant.moving c.requires.load.destination c.loop-rest.invariant.within (omega arith) (λ j more _.
+    sym (part_is n c.args.load.amount a b j 0 c.requires.elsewhere c.requires.load.amount (sym (split_ended c.args.load.amount (weights n b) k c.loop-rest.left c.loop-rest.rest j c.loop-rest.invariant.split none more))))

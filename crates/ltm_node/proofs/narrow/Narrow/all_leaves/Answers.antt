@@ -13,7 +13,7 @@ returns-clause-all c =
     let same : c.args.self.now.shape ≡ n.shape = search rules in
     λ t arm.
     let some : 0 < weight n 0 0 = omega (arith, ltb-true 0 c.weight.result t, c.weight.ensures) in
-    all_to_out n arm c.requires.elsewhere (omega (arith, s.few_outs, c.if-self-eq0.false, ap (λ (z : NodeShape). z.outs) same)) some
+    all_to_out n arm s c.requires.elsewhere (omega (arith, s.few_outs, c.if-self-eq0.false, ap (λ (z : NodeShape). z.outs) same)) some
 
 pub returns-clause-nothing : goal.returns-clause-nothing
 returns-clause-nothing c =
@@ -22,4 +22,4 @@ returns-clause-nothing c =
     let same : c.args.self.now.shape ≡ n.shape = search rules in
     λ t arm.
     let none : weight n 0 0 ≡ 0 = omega (arith, ltb-false 0 c.weight.result t, c.weight.ensures) in
-    nothing_to_out n arm c.requires.elsewhere (omega (arith, s.few_outs, c.if-self-eq0.false, ap (λ (z : NodeShape). z.outs) same)) none
+    nothing_to_out n arm s c.requires.elsewhere (omega (arith, s.few_outs, c.if-self-eq0.false, ap (λ (z : NodeShape). z.outs) same)) none

@@ -12,12 +12,12 @@ use Rattle.ltm_scenario.proofs.scenario.Scenario.join.Goals as goal
 pub with_link-requires : goal.with_link-requires
 with_link-requires c =
     let taken : checked c.self.inside.parts.network c.args.name c.args.tail c.args.head ≡ Ok tt = ap (λ (v : ScenarioData). checked v.network c.args.name c.args.tail c.args.head) c.self.view_is ∙ c.requires.taken in
-    omega (arith, room_for_link c.self.inside.parts.network c.args.name c.args.tail c.args.head taken, c.self.invariant.scenario.entry.for_each)
+    omega (arith, room_for_link c.self.inside.parts.network c.args.name c.args.tail c.args.head taken, c.self.invariant.scenario.network.most_is_small, c.self.invariant.scenario.entry.for_each)
 
 pub with_link-requires-2 : goal.with_link-requires-2
 with_link-requires-2 c =
     let taken : checked c.self.inside.parts.network c.args.name c.args.tail c.args.head ≡ Ok tt = ap (λ (v : ScenarioData). checked v.network c.args.name c.args.tail c.args.head) c.self.view_is ∙ c.requires.taken in
-    omega (arith, room_for_link c.self.inside.parts.network c.args.name c.args.tail c.args.head taken, c.self.invariant.scenario.exit.for_each)
+    omega (arith, room_for_link c.self.inside.parts.network c.args.name c.args.tail c.args.head taken, c.self.invariant.scenario.network.most_is_small, c.self.invariant.scenario.exit.for_each)
 
 pub returns-clause-ok : goal.returns-clause-ok
 returns-clause-ok c =

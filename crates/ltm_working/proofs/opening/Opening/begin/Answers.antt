@@ -1,4 +1,5 @@
 use Rattle.std.proofs.Common.{◌≡◌, ◌∙◌, ap, arith, subst, ℕ}
+use Rattle.ltm_units.specs.Bounds.{widest_row}
 use Rattle.ltm_curve.specs.Table.{counts_of}
 use Rattle.ltm_node.specs.Inputs.{Inputs}
 use Rattle.ltm_node.specs.Outputs.{Outputs}
@@ -12,8 +13,8 @@ use Rattle.ltm_working.proofs.opening.Opening.begin.Goals as goal
 pub returns : goal.returns
 returns c =
     let s = setting_of c.args.scenario.now in
-    let wide : c.in_ok-inputs.inputs.room ≡ 1162 = ap (λ (n : Inputs). n.room) c.in_ok-inputs.ensures in
-    let wide_out : c.in_ok-outputs.outputs.room ≡ 1162 = ap (λ (o : Outputs). o.room) c.in_ok-outputs.ensures in
+    let wide : c.in_ok-inputs.inputs.room ≡ widest_row = ap (λ (n : Inputs). n.room) c.in_ok-inputs.ensures in
+    let wide_out : c.in_ok-outputs.outputs.room ≡ widest_row = ap (λ (o : Outputs). o.room) c.in_ok-outputs.ensures in
     record {
       working = working_start s c.in_ok-curves.curves c.in_ok-curves.ensures.shape c.in_ok-curves.ensures.empty;
       keeps = keeps_first s (counts_of c.in_ok-curves.curves) c.in_ok-kept.kept c.in_ok-index.index

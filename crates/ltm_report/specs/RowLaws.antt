@@ -1,0 +1,79 @@
+-- What the lines of all links, nodes or boundaries tell is what the lines of each of them alone tell.
+use Rattle.std.specs.Prelude.{ℕ, ◌≡◌, ◌<◌, ◌+◌, List, [], codes}
+use Rattle.ltm_curve.specs.Counts.{Counts}
+use Rattle.ltm_loading.specs.Setting.{Setting, IsSetting}
+use Rattle.ltm_flows.specs.Origins.{produced_in_all}
+use Rattle.ltm_report.specs.Delays.{delay_line, link_delay_line, queue_line, node_delay_line, origin_line}
+use Rattle.ltm_report.specs.DelayReports.{delay_report, link_delay_report, queue_report, node_delay_report, origin_report}
+use Rattle.ltm_report.specs.Rows.{state_line, curve_line, departures_line, link_numbers, node_numbers, delays_line}
+use Rattle.ltm_report.specs.RowReports.{state_report, curve_report, departures_report, delays_report}
+
+-- at a link's place in `state` stand the numbers of its `queue` at the boundary, and at a node's place that of its `origin`
+pub record StateOf (s : Setting) (c : Counts) (boundary : ℕ) : Type 0 where
+  pub entered : ℕ → ℕ
+  pub gone : ℕ → ℕ
+  pub queued : ℕ → ℕ
+  pub waiting : ℕ → ℕ
+  pub produced : ℕ → ℕ
+  pub departed : ℕ → ℕ
+  pub state : (version : ℕ) → state_report version boundary s c ≡ state_line version boundary s.links s.nodes entered gone queued waiting
+  pub queue : (version : ℕ) (name : List ℕ) (link : ℕ) →
+      queue_report version name link boundary s c ≡ queue_line version name boundary (entered link) (gone link) (queued link)
+  pub origin : (version : ℕ) (name : List ℕ) (node : ℕ) →
+      origin_report version name node boundary s c ≡ origin_line version name boundary (produced node) (departed node) (waiting node)
+
+abbrev pub StateTellsQueues : Type 0
+StateTellsQueues = (s : Setting) (c : Counts) (boundary : ℕ) → StateOf s c boundary
+
+-- at a boundary's place in `curve` stand what has entered the link and left it, as `queue` there tells them
+pub record CurveOf (s : Setting) (c : Counts) (link : ℕ) : Type 0 where
+  pub entered : ℕ → ℕ
+  pub gone : ℕ → ℕ
+  pub queued : ℕ → ℕ
+  pub curve : (version : ℕ) (name : List ℕ) → curve_report version name link s c ≡ curve_line version name (s.slots + 1) entered gone
+  pub queue : (version : ℕ) (name : List ℕ) (boundary : ℕ) →
+      queue_report version name link boundary s c ≡ queue_line version name boundary (entered boundary) (gone boundary) (queued boundary)
+
+abbrev pub CurvesTellQueues : Type 0
+CurvesTellQueues = (s : Setting) (c : Counts) (link : ℕ) → CurveOf s c link
+
+-- and in `departures` what the origin of the node has produced and what has left it, as `origin` there tells them
+pub record DeparturesOf (s : Setting) (c : Counts) (node : ℕ) : Type 0 where
+  pub produced : ℕ → ℕ
+  pub departed : ℕ → ℕ
+  pub waiting : ℕ → ℕ
+  pub departures : (version : ℕ) (name : List ℕ) →
+      departures_report version name node s c ≡ departures_line version name (s.slots + 1) produced departed
+  pub origin : (version : ℕ) (name : List ℕ) (boundary : ℕ) →
+      origin_report version name node boundary s c ≡ origin_line version name boundary (produced boundary) (departed boundary) (waiting boundary)
+
+abbrev pub DeparturesTellOrigins : Type 0
+DeparturesTellOrigins = (s : Setting) (c : Counts) (node : ℕ) → DeparturesOf s c node
+
+-- `delays` has the numbers of `delay`, at a link's place those of its line in the report of a case, and at a node's place
+-- those of its line there; of a node that has no line there all are 0
+pub record DelaysOf (s : Setting) (c : Counts) : Type 0 where
+  pub spent : ℕ
+  pub queued : ℕ
+  pub waited : ℕ
+  pub spent_on : ℕ → ℕ
+  pub queued_on : ℕ → ℕ
+  pub most_queued : ℕ → ℕ
+  pub fullest : ℕ → ℕ
+  pub waited_at : ℕ → ℕ
+  pub most_waiting : ℕ → ℕ
+  pub longest : ℕ → ℕ
+  pub delays : (version : ℕ) →
+      delays_report version s c ≡ delays_line version spent queued waited
+      s.links (λ link. link_numbers (spent_on link) (queued_on link) (most_queued link) (fullest link))
+      s.nodes (λ node. node_numbers (waited_at node) (most_waiting node) (longest node))
+  pub delay : (version : ℕ) → delay_report version s c ≡ delay_line version spent queued waited
+  pub link : (name : List ℕ) (link : ℕ) →
+      link_delay_report name link s c ≡ link_delay_line name (spent_on link) (queued_on link) (most_queued link) (fullest link)
+  pub node : (name : List ℕ) (node : ℕ) → 0 < produced_in_all s node s.slots →
+      node_delay_report name node s c ≡ node_delay_line name (waited_at node) (most_waiting node) (longest node)
+  pub idle : (name : List ℕ) (node : ℕ) → node < s.nodes → produced_in_all s node s.slots ≡ 0 →
+      (node_delay_report name node s c ≡ []) × (node_numbers (waited_at node) (most_waiting node) (longest node) ≡ codes " 0.000000 0.000 0")
+
+abbrev pub DelaysTellDelay : Type 0
+DelaysTellDelay = (s : Setting) (c : Counts) → IsSetting s → DelaysOf s c
