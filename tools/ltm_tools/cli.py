@@ -4,9 +4,12 @@ Each command is a module of `commands`, called as it is typed, with NAME, SUMMAR
 `run(args) -> int`, which gives the status. It may have NEEDS, the names of libraries beside Python's own without which it cannot run.
 """
 import argparse
+import errno
 import importlib
 import io
 import os
+import re
+import signal
 import sys
 from collections.abc import Sequence
 from types import ModuleType
@@ -18,7 +21,7 @@ from .errors import Fault
 # modules, in the order in which they are told
 COMMANDS = (
     "inspect", "explain", "from_gmns", "from_sumo", "demand", "splits", "signals",
-    "queues", "times", "compare", "page", "geojson", "plot", "draw", "sweep", "apply", "prove",
+    "queues", "times", "compare", "page", "geojson", "plot", "draw", "sweep", "apply", "prove", "install",
 )
 
 PROGRAM = "ltm-tools"
@@ -29,14 +32,23 @@ class Parser(argparse.ArgumentParser):
     """A parser whose fault is one line and status 1."""
 
     def error(self, message: str) -> NoReturn:
-        hint = "; a name that begins with - stands behind --" if "-" in message.partition(":")[2] else ""
-        print(f"{self.prog}: {message}{hint} ({self.prog} --help says more)", file=sys.stderr)
+        option = re.match(r"argument (?:-[a-z]/)?(--[a-z-]+): expected", message)
+        hint = f"; one that begins with - stands behind =, as in {option[1]}=-a" if option else ""
+        if "-" in message.partition(":")[2]:
+            hint = "; a name that begins with - stands behind --"
+        tell(f"{self.prog}: {message}{hint} ({self.prog} --help says more)")
         sys.exit(1)
 
 
-def commands() -> list[ModuleType]:
-    """The modules of all commands."""
-    return [importlib.import_module(f".commands.{name}", __package__) for name in COMMANDS]
+def commands(names: Sequence[str] = COMMANDS) -> list[ModuleType]:
+    """The modules of all commands, or of some."""
+    return [importlib.import_module(f".commands.{name}", __package__) for name in names]
+
+
+def asked(words: Sequence[str]) -> Sequence[str]:
+    """The command that is asked for, which loads no other; where there is none, all."""
+    name = words[0].replace("-", "_") if words else ""
+    return [name] if name in COMMANDS else COMMANDS
 
 
 def parser_of(modules: Sequence[ModuleType]) -> Parser:
@@ -54,34 +66,95 @@ def parser_of(modules: Sequence[ModuleType]) -> Parser:
 
 def run(words: Sequence[str] | None) -> int:
     """Runs a command: its status."""
-    args = parser_of(commands()).parse_args(words)
+    words = sys.argv[1:] if words is None else words
+    args = parser_of(commands(asked(words))).parse_args(words)
     try:
         libraries.need(getattr(args.module, "NEEDS", ()))
         status = int(args.module.run(args))
         sys.stdout.flush()
         return status
     except Fault as fault:
-        print(f"{PROGRAM} {args.command}: {fault}", file=sys.stderr)
+        tell(f"{PROGRAM} {args.command}: {fault}")
         return 1
+
+
+def end_by_signals() -> None:
+    """Has the signals that end a run end it as an interrupt does: what it has started ends too, and no file stays half written."""
+    for number in (signal.SIGTERM, signal.SIGHUP):
+        if signal.getsignal(number) is not signal.SIG_IGN:
+            signal.signal(number, lambda got, _: sys.exit(128 + got))
+
+
+def end_output() -> None:
+    """Writes what is left of the output; where it cannot be written, nothing is tried anew when Python ends."""
+    try:
+        sys.stdout.flush()
+    except OSError:
+        try:
+            os.dup2(os.open(os.devnull, os.O_WRONLY), sys.stdout.fileno())
+        except (OSError, ValueError):
+            pass
 
 
 def main(words: Sequence[str] | None = None) -> int:
     """Runs a command; whatever is wrong is one line on the standard error, and status 1."""
+    if words is None:
+        standard_streams()
+        end_by_signals()
     for stream in (sys.stdout, sys.stderr):
         if isinstance(stream, io.TextIOWrapper):
             stream.reconfigure(errors="backslashreplace")
     try:
-        return run(words)
+        return status_of(words)
     except BrokenPipeError:
-        # whoever read the output has gone: there is nobody to tell, and nothing is to be written when Python ends
-        os.dup2(os.open(os.devnull, os.O_WRONLY), sys.stdout.fileno())
+        end_output()  # whoever read the output has gone: there is nobody to tell
         return 1
     except KeyboardInterrupt:
         return INTERRUPTED
     except OSError as error:
-        place = f"{error.filename}: " if error.filename else ""
-        print(f"{PROGRAM}: {place}{error.strerror or error}", file=sys.stderr)
+        place = f"{os.fsdecode(error.filename)}: " if isinstance(error.filename, (str, bytes, os.PathLike)) else ""
+        tell(f"{PROGRAM}: {place}{error.strerror or error}")
+        end_output()
         return 1
     except (MemoryError, RecursionError):
-        print(f"{PROGRAM}: memory was not found", file=sys.stderr)
+        tell(f"{PROGRAM}: memory was not found")
         return 1
+
+
+def status_of(words: Sequence[str] | None) -> int:
+    """Runs a command, or tells what is wrong with its words, or its help: the status, once all is written."""
+    try:
+        return run(words)
+    except SystemExit as end:
+        sys.stdout.flush()
+        return end.code if isinstance(end.code, int) else int(bool(end.code))
+
+
+def tell(text: str) -> None:
+    """Writes one line on the standard error, if that takes it."""
+    try:
+        print(" ".join(text.split()), file=sys.stderr, flush=True)
+    except OSError:
+        pass
+
+
+class Closed(io.TextIOBase):
+    """The standard output where it is closed: whatever is written is a fault."""
+
+    def write(self, text: str) -> int:
+        raise OSError(errno.EBADF, "it is closed", "the standard output")
+
+
+def standard_streams() -> None:
+    """Puts something in the place of standard streams that are closed, so that no file that is opened later is taken for one of them."""
+    for number in range(3):
+        try:
+            os.fstat(number)
+        except OSError:
+            os.set_inheritable(os.open(os.devnull, os.O_RDWR), True)
+    if sys.stdin is None:
+        sys.stdin = open(os.devnull, encoding="utf-8")
+    if sys.stdout is None:
+        sys.stdout = Closed()
+    if sys.stderr is None:
+        sys.stderr = open(os.devnull, "w", encoding="utf-8")

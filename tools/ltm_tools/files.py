@@ -7,6 +7,7 @@ import codecs
 import csv
 import io
 import os
+import re
 import sys
 from collections.abc import Iterable, Iterator, Sequence
 from dataclasses import dataclass
@@ -14,6 +15,11 @@ from fractions import Fraction
 from typing import NamedTuple
 
 from .errors import Fault
+from .formats import exact_or_none, number_rule
+from .replacing import make_folders, replace
+
+
+NO_TEXT = re.compile("[\ud800-\udfff]")  # halves of pairs, by which a byte that is no text is kept
 
 
 class Record(NamedTuple):
@@ -56,6 +62,11 @@ def read_text(path: str | os.PathLike[str]) -> str:
 def bytes_text(data: bytes) -> str:
     """Bytes as text that keeps each of them: UTF-8 where they are, and else a mark for a byte that is none."""
     return data.decode("utf-8", "surrogateescape")
+
+
+def readable(text: str) -> str:
+    """A text that can be written: bytes that are no text as \\xfc, as a name of a folder may have them."""
+    return NO_TEXT.sub(lambda found: f"\\x{ord(found[0]) - 0xDC00:02x}" if ord(found[0]) >= 0xDC80 else f"\\u{ord(found[0]):04x}", text)
 
 
 def shown(text: str) -> str:
@@ -149,12 +160,10 @@ class Row:
         text = self.fields.get(field, "").strip()
         if text == "" and default is not None:
             return Fraction(default)
-        try:
-            if "/" in text:
-                raise ValueError
-            return Fraction(text)
-        except (ValueError, ZeroDivisionError):
-            raise self.fault(field, "a number is wanted") from None
+        number = exact_or_none(text)
+        if number is None:
+            raise self.fault(field, number_rule(text))
+        return number
 
     def whole(self, field: str, default: int | None = None) -> int:
         """The whole number of a field."""
@@ -162,6 +171,16 @@ class Row:
         if number.denominator != 1:
             raise self.fault(field, "a whole number is wanted")
         return number.numerator
+
+
+def check_fields(record: Sequence[str], header: Sequence[str], place: str, advice: str = "") -> None:
+    """A Fault where a row has a text that no field of the header is for, or no text for one of its fields."""
+    count, wanted = len(record), len(header)
+    if any(text.strip() for text in record[wanted:]):
+        raise Fault(f"{place}: {count} fields, and the header has {wanted}: {shown(record[wanted])} is surplus, and a field with a separator in it"
+                    f" stands in quotes{advice}")
+    if any(name.strip() for name in header[count:]):
+        raise Fault(f"{place}: {count} fields, and the header has {wanted}: {' and '.join(header[count:])} is missing{advice}")
 
 
 def read_table(path: str | os.PathLike[str], wanted: Sequence[str] = ()) -> list[Row]:
@@ -178,26 +197,24 @@ def read_table(path: str | os.PathLike[str], wanted: Sequence[str] = ()) -> list
     missing = [name for name in wanted if name not in names]
     if missing:
         raise Fault(f"{path}: no field {', '.join(missing)} in the header; it has {', '.join(names)}")
+    for line, row in rows[1:]:
+        check_fields(row, names, f"{path} line {line}")
     return [Row(f"{path} row {number}", dict(zip(names, row))) for number, (_, row) in enumerate(rows[1:], 2)]
 
 
 def write_text(path: str | os.PathLike[str], text: str) -> None:
-    """Writes a file in UTF-8, or to the standard output where the path is `-`."""
-    try:
-        if os.fspath(path) == "-":
-            sys.stdout.write(text)
-            return
-        with open(path, "w", encoding="utf-8", newline="\n") as file:
-            file.write(text)
-    except OSError as error:
-        raise Fault(f"{path}: {error.strerror or error}") from None
+    """Writes a file in UTF-8, whole or not at all, or to the standard output where the path is `-`."""
+    text = readable(text)
+    if os.fspath(path) == "-":
+        sys.stdout.write(text)
+    else:
+        write_bytes(path, text.encode())
 
 
 def write_bytes(path: str | os.PathLike[str], data: bytes) -> None:
-    """Writes a file of these bytes."""
+    """Writes a file of these bytes, whole or not at all."""
     try:
-        with open(path, "wb") as file:
-            file.write(data)
+        replace(path, data)
     except OSError as error:
         raise Fault(f"{path}: {error.strerror or error}") from None
 
@@ -211,8 +228,8 @@ def write_records(path: str | os.PathLike[str], header: Sequence[str], rows: Ite
 def make_folder(path: str | os.PathLike[str]) -> None:
     """Makes the folder, and those above it, where it is not there."""
     try:
-        os.makedirs(path, exist_ok=True)
-    except FileExistsError:
+        make_folders(path)
+    except (FileExistsError, NotADirectoryError):
         raise Fault(f"{path}: a file stands there, and a folder is wanted") from None
     except OSError as error:
         raise Fault(f"{path}: {error.strerror or error}") from None

@@ -3,6 +3,7 @@
 Each limit is that of the program (docs/FORMATS.md, docs/MODEL.md); no other module writes one down again.
 """
 import re
+from collections.abc import Iterable
 from decimal import Decimal
 from fractions import Fraction
 
@@ -19,8 +20,15 @@ NAME_RULE = "1 to 32 ASCII letters, digits, _ or -"
 WHOLE = re.compile(r"[0-9]{1,10}", re.ASCII)
 WHOLE_BELOW = 2**32
 WHOLE_RULE = "1 to 10 digits with a value below 4294967296"
+TOLD = re.compile(r"[0-9]{1,20}", re.ASCII)
 VEHICLES = re.compile(r"[0-9]+(?:\.[0-9]{1,3})?", re.ASCII)
 VEHICLES_RULE = "digits, or digits, a point and 1 to 3 digits, at most 1000000 vehicles"
+NUMBER = re.compile(r"([+-]?(?:[0-9]+\.?[0-9]*|\.[0-9]+))(?:e([+-]?[0-9]+))?", re.ASCII | re.IGNORECASE)
+RATIO = re.compile(r"[0-9]+/[0-9]+", re.ASCII)
+MOST_NUMBER, MOST_SIGNS, MOST_POWERS = 10**15, 60, range(-400, 61)  # of a number in a table of others, or on the command line
+LEAST_ABOVE_0 = Fraction(1, 10**30)  # of one that others are divided by
+LONGEST_SECONDS = 10_000_000  # of a time in files of others: some 115 days
+NUMBER_RULE = "a number is wanted, of at most 10^15 and written with at most 60 signs"
 WEIGHTS_RULE = "1 to 4 entries NAME=NUMBER with one space between two, and no name twice"
 
 # amounts, in thousandths of a vehicle
@@ -40,15 +48,18 @@ MOST_KMH = 1_000
 MOST_JAM_PER_KM = 10_000
 
 # the network and its tables
-MOST_LINKS = 4_000
+MOST_LINKS = 4_000  # of a case whose setup has no column `links`
+MOST_LINKS_ASKED = 16_000  # in that column, and so on below
 MOST_OUT = 4  # links out of a node
 MOST_IN = 4  # links into a node
-MOST_DESTINATIONS = 64
-MOST_DEMAND_ROWS = 10_000
-MOST_SPLIT_ROWS = 50_000
+MOST_DESTINATIONS = 64  # of a case whose setup has no column `destinations`
+MOST_DESTINATIONS_ASKED = 256
+MOST_DEMAND_ROWS = 10_000  # of a case whose setup has no column `rows`
+MOST_SPLIT_ROWS = 50_000  # of such a case too
+MOST_ROWS_ASKED = 500_000  # of either
 MOST_WEIGHTS = 4  # of a split row
 MOST_CELLS = 54_000_000  # of a case whose setup has no column `cells`
-MOST_CELLS_ASKED = 2_000_000_000  # in that column
+MOST_CELLS_ASKED = 4_294_967_295
 
 # scripts and batches
 MOST_EDITS = 32  # of a batch
@@ -60,13 +71,14 @@ MOST_EDITORS = 8
 
 # the files of a case, in the order in which they are read: the fields of each header
 SETUP = ("step_ms", "slots", "origin_capacity")
-SETUP_MORE = ("signals", "limits", "cells")  # may stand behind these three, each or not, in this order
+SETUP_MORE = ("signals", "limits", "cells", "rows", "links", "destinations", "moves")  # may stand behind these three, each or not, in this order
 LINKS = ("link", "from", "to", "length_m", "free_kmh", "wave_kmh", "jam_per_km")
 DEMAND = ("origin", "destination", "from_slot", "to_slot", "vehicles")
 SPLITS = ("node", "destination", "from_slot", "weights")
 SIGNALS = ("link", "from_slot", "to_slot", "vehicles")
 HEADERS = {"setup": SETUP, "links": LINKS, "demand": DEMAND, "splits": SPLITS, "signals": SIGNALS, "limits": SIGNALS}
 CURVES = ("kind", "name", "destination", "counts")
+QUOTE = '"'  # of a field of CSV, and within it twice
 
 
 def headers_of(file: str) -> list[tuple[str, ...]]:
@@ -87,6 +99,30 @@ def whole_of(text: str) -> int | None:
     if WHOLE.fullmatch(text) is None or int(text) >= WHOLE_BELOW:
         return None
     return int(text)
+
+
+def exact_or_none(text: str) -> Fraction | None:
+    """The exact number that a text of others tells, as `12`, `-0.5` or `1.2e3`, or None where it tells none, or one of a size with which
+    nothing could be worked out."""
+    found = NUMBER.fullmatch(text.strip())
+    if found is None or len(found[0]) > MOST_SIGNS or int(found[2] or 0) not in MOST_POWERS:
+        return None
+    number = Fraction(found[0])
+    return number if abs(number) <= MOST_NUMBER else None
+
+
+def above_0_or_none(text: str) -> Fraction | None:
+    """The exact number above 0 that a text tells, which may be two with a `/` between, or None where it tells none, or one so small that
+    nothing can be divided by it."""
+    number = exact_or_none(text)
+    if number is None and len(text) <= 2 * MOST_SIGNS and RATIO.fullmatch(text.strip()) and text.partition("/")[2].strip("0 "):
+        number = Fraction(text.strip())
+    return number if number is not None and MOST_NUMBER >= number >= LEAST_ABOVE_0 else None
+
+
+def number_rule(text: str) -> str:
+    """What is wrong with a text that tells no number."""
+    return NUMBER_RULE if NUMBER.fullmatch(text.strip()) else "a number is wanted"
 
 
 def units_or_none(text: str) -> int | None:
@@ -138,6 +174,11 @@ def vehicles_text(units: int) -> str:
     return f"{sign}{abs(units) // UNITS}.{abs(units) % UNITS:03}"
 
 
+def told_or_none(text: str) -> int | None:
+    """A whole number as the program prints it, of up to 20 digits, or None where a text is none."""
+    return int(text) if TOLD.fullmatch(text) else None
+
+
 def told_units(text: str) -> int:
     """Thousandths of an amount as the program prints it, with three decimals and of any size."""
     return _told(text, 3)
@@ -150,8 +191,8 @@ def told_time(text: str) -> int:
 
 def _told(text: str, decimals: int) -> int:
     whole, _, part = text.partition(".")
-    if not whole or len(part) != decimals or not (whole + part).isdecimal() or not text.isascii():
-        raise Fault(f"{text!r} is no number with {decimals} decimals")
+    if not whole or len(part) != decimals or not (whole + part).isdecimal() or not text.isascii() or len(text) > MOST_SIGNS:
+        raise Fault(f"{text[:MOST_SIGNS]!r} is no number with {decimals} decimals")
     return int(whole + part)
 
 
@@ -163,6 +204,14 @@ def short_vehicles(units: int) -> str:
 def weights_text(weights: dict[str, int]) -> str:
     """Weights as a field of `splits.csv`: `a=1 b=3`."""
     return " ".join(f"{name}={weight}" for name, weight in weights.items())
+
+
+def record_text(fields: Iterable[object]) -> str:
+    """A record of CSV without its end: fields with commas between, in quotes where one has a comma, a quote or a line's end, or is
+    empty and stands alone."""
+    texts = [str(field) for field in fields]
+    return ",".join(f'"{text.replace(QUOTE, QUOTE + QUOTE)}"' if any(sign in text for sign in ',"\n\r') or texts == [""] else text
+                    for text in texts)
 
 
 def count_text(number: int) -> str:

@@ -5,14 +5,12 @@ all its digits.
 """
 from __future__ import annotations
 
-import csv
-import io
 import json
 from collections.abc import Sequence
 from decimal import Decimal
 from typing import NamedTuple
 
-from .formats import HOUR_MS, UNITS
+from .formats import HOUR_MS, UNITS, record_text
 
 Cell = str | int | Decimal | None
 FORMATS = ("text", "csv", "json")
@@ -60,11 +58,8 @@ def rounded(top: int, bottom: int, decimals: int) -> Decimal:
 
 def csv_text(header: Sequence[str], rows: Sequence[Sequence[Cell]]) -> str:
     """The table as CSV: a header, and a line for each row."""
-    file = io.StringIO()
-    writer = csv.writer(file, lineterminator="\n")
-    writer.writerow(header)
-    writer.writerows(["" if cell is None else format(cell, "f") if isinstance(cell, Decimal) else cell for cell in row] for row in rows)
-    return file.getvalue()
+    texts = [["" if cell is None else format(cell, "f") if isinstance(cell, Decimal) else cell for cell in row] for row in rows]
+    return "".join(record_text(row) + "\n" for row in (header, *texts))
 
 
 def json_text(header: Sequence[str], rows: Sequence[Sequence[Cell]]) -> str:

@@ -7,26 +7,28 @@ import subprocess
 import sys
 from collections.abc import Sequence
 from pathlib import Path
+from types import TracebackType
 from typing import IO
 
 from .errors import Fault
 
 CLONE = Path(__file__).resolve().parents[2]
 BUILT = CLONE / "crates" / "ltm" / "out" / "ltm"
+INSTALLED = Path(__file__).resolve().parents[1] / "ltm"  # where ./ltm --install puts it, beside the folder of this package
 LARGE_PAGES = {"GLIBC_TUNABLES": "glibc.malloc.hugetlb=1"}  # for large tables, where the system gives them to whoever asks: less time
 HOW = "./ltm --prove in a clone of the repository makes it, and --program FILE or the variable LTM names one"
 
 
 def find_program(program: str | os.PathLike[str] | None = None) -> Path:
     """The absolute path of the program: the one named, else that of the variable LTM, else the one built in the clone, else one beside
-    this command, else `ltm` on the path; a Fault that says how to have it where there is none."""
+    this package or this command, else `ltm` on the path; a Fault that says how to have it where there is none."""
     named = program or os.environ.get("LTM")
     if named:
         path = Path(named).absolute()
         if not path.is_file() or not os.access(path, os.X_OK):
             raise Fault(f"{named} is no program that can be run: {HOW}")
         return path
-    for path in (BUILT, Path(sys.argv[0]).resolve().with_name("ltm")):  # the second where ./ltm --install put both side by side
+    for path in (BUILT, INSTALLED, Path(sys.argv[0]).resolve().with_name("ltm")):
         if path.is_file() and os.access(path, os.X_OK):
             return path
     found = shutil.which("ltm")
@@ -43,13 +45,22 @@ def check_folder(folder: str | os.PathLike[str]) -> None:
         raise Fault(f"{folder} may not be entered")
 
 
+class Running(subprocess.Popen[bytes]):
+    """The program while it runs. Where a block that waits for it is left by an exception it is ended."""
+
+    def __exit__(self, kind: type[BaseException] | None, error: BaseException | None, trace: TracebackType | None) -> None:
+        if kind is not None:
+            self.kill()
+        super().__exit__(kind, error, trace)
+
+
 def start(folder: str | os.PathLike[str], words: Sequence[str], program: str | os.PathLike[str] | None = None,
-          stdin: int | IO[bytes] = subprocess.DEVNULL) -> "subprocess.Popen[bytes]":
+          stdin: int | IO[bytes] = subprocess.DEVNULL) -> Running:
     """The program with these words, started in a folder, its output a pipe."""
     path = find_program(program)
     check_folder(folder)
     try:
-        return subprocess.Popen([str(path), *words], cwd=folder, stdin=stdin, stdout=subprocess.PIPE, env={**LARGE_PAGES, **os.environ})
+        return Running([str(path), *words], cwd=folder, stdin=stdin, stdout=subprocess.PIPE, env={**LARGE_PAGES, **os.environ})
     except OSError as error:
         raise Fault(f"{path}: {error.strerror or error}") from None
 

@@ -1,6 +1,7 @@
 """Reads the tables that other tools write: any usual encoding, separator, and order and writing of field names.
 
-Fields are known by lower-case names; a table of other names for them says which are meant.
+Fields are known by lower-case names; a table of other names for them says which are meant. A file is read line by line: `Stream` gives its
+rows one after the other, so that a large table takes no more memory than what is made of it, and `read` gives all.
 """
 from __future__ import annotations
 
@@ -9,16 +10,34 @@ import csv
 import io
 import os
 import re
-from collections.abc import Mapping, Sequence
+import sys
+from collections.abc import Iterable, Iterator, Mapping, Sequence
 from dataclasses import dataclass
+from itertools import chain
+from typing import IO
 
 from .errors import Fault
-from .files import Row, read_bytes, shown
+from .files import Row, check_fields, shown
 
 SEPARATORS = ",;\t|"
-COMMENTS = re.compile(r"\A(?:\s*# [^\r\n]*[\r\n]+)+")  # lines before the header
 END_MARKS = "\0\x1a"  # with which some systems end or fill a file
 DECIMAL_COMMA = re.compile(r"[+-]?[0-9]+,[0-9]+", re.ASCII)
+HEAD_BYTES = 200  # by which an encoding without a mark is known
+MARKS = {"utf-32": (codecs.BOM_UTF32_LE, codecs.BOM_UTF32_BE), "utf-16": (codecs.BOM_UTF16_LE, codecs.BOM_UTF16_BE)}
+CHUNK_BYTES = 1 << 20
+MOST_FIELD = 1 << 30
+
+
+LENIENT = "; --lenient reads the table all the same, without what is surplus, and with what is missing empty"
+
+
+@dataclass(frozen=True, slots=True)
+class Reading:
+    """How tables are read: in which encoding, by what a file holds where none is said; and whether rows may have more fields than the
+    header, or fewer, and the header one field twice."""
+
+    encoding: str | None = None
+    is_lenient: bool = False
 
 
 @dataclass(frozen=True, slots=True)
@@ -41,70 +60,163 @@ class Table:
     notes: tuple[str, ...]
 
 
-def text_of(data: bytes, encoding: str | None, path: str | os.PathLike[str]) -> tuple[str, str | None]:
-    """The text of bytes, and the encoding where it is not UTF-8: that of a mark, UTF-16 by its zeros, else Windows-1252."""
+def source_of(path: str | os.PathLike[str]) -> IO[bytes]:
+    """The bytes of a file, or of the standard input where the path is `-`, which can be read more than once."""
+    if os.fspath(path) == "-":
+        return io.BytesIO(sys.stdin.buffer.read())
+    file = open(path, "rb")
+    return file if file.seekable() else io.BytesIO(file.read())
+
+
+def encoding_of(source: IO[bytes], encoding: str | None, path: str | os.PathLike[str]) -> tuple[str, str | None]:
+    """The encoding of bytes, and what it is called where it is neither UTF-8 nor the one that is asked for: that of a mark, UTF-16 by its
+    zeros, else Windows-1252."""
+    head = source.read(HEAD_BYTES)
+    source.seek(0)
     if encoding is not None:
-        try:
-            return data.decode(encoding).removeprefix("\ufeff"), None
-        except LookupError:
-            raise Fault(f"--encoding {encoding}: no such encoding; as utf-8, latin-1, cp1250 or utf-16") from None
-        except UnicodeDecodeError as error:
-            raise Fault(f"{path}: byte {error.start} is no {encoding}; give another --encoding, or none") from None
-    for marks, name in (((codecs.BOM_UTF32_LE, codecs.BOM_UTF32_BE), "utf-32"), ((codecs.BOM_UTF16_LE, codecs.BOM_UTF16_BE), "utf-16")):
-        if data.startswith(marks):
-            return data.decode(name, "replace"), name.upper()
-    for zeros, name in ((data[1:200:2], "utf-16-le"), (data[0:200:2], "utf-16-be")):
+        plain = encoding.lower().replace("_", "-")
+        name = f"{encoding}-le" if plain in MARKS and not head.startswith(MARKS[plain]) else encoding
+        wrong = first_wrong(source, name)
+        if wrong is not None:
+            raise Fault(f"{path}: byte {wrong} is no {encoding}; give another --encoding, or none")
+        return name, None
+    for name, marks in MARKS.items():
+        if head.startswith(marks):
+            return name, name.upper()
+    for zeros, name in ((head[1::2], "utf-16-le"), (head[::2], "utf-16-be")):
         if zeros and not any(zeros):
-            return data.decode(name, "replace"), name.upper()
+            return name, name.upper()
+    return ("utf-8-sig", None) if first_wrong(source, "utf-8") is None else ("cp1252", "Windows-1252 (Latin-1)")
+
+
+def first_wrong(source: IO[bytes], encoding: str) -> int | None:
+    """The first byte that is no text in an encoding, None where all are; the bytes can then be read from their beginning."""
+    done = 0
     try:
-        return data.decode("utf-8-sig"), None
-    except UnicodeDecodeError:
-        return data.decode("cp1252", "replace"), "Windows-1252 (Latin-1)"
+        "a".encode(encoding)  # which is refused where an encoding is none of text
+        decoder = codecs.getincrementaldecoder(encoding)("strict")
+        while True:
+            before, _ = decoder.getstate()
+            data = source.read(CHUNK_BYTES)
+            decoder.decode(data, not data)
+            done += len(data)
+            if not data:
+                return None
+    except UnicodeDecodeError as error:
+        return done - len(before) + error.start
+    except (LookupError, ValueError, AttributeError, TypeError):
+        raise Fault(f"--encoding {encoding}: no such encoding; as utf-8, latin-1, cp1250 or utf-16") from None
+    finally:
+        source.seek(0)
 
 
-def separator_of(text: str) -> str:
-    """The separator that the first line has most of, outside of quotes."""
-    line = re.sub(r'"[^"]*"', "", next((line for line in text.splitlines() if line.strip()), ""))
+def separator_of(line: str) -> str:
+    """The separator that a line has most of, outside of quotes."""
+    line = re.sub(r'"[^"]*"', "", line)
     return max(SEPARATORS, key=line.count) if any(sign in line for sign in SEPARATORS) else ","
 
 
+class Stream:
+    """A table while it is read: the fields of its header, what was done to read it, and its rows, which come once."""
+
+    def __init__(self, path: str | os.PathLike[str], wanted: Sequence[str] = (), names: Mapping[str, Sequence[str]] | None = None,
+                 reading: Reading = Reading()) -> None:
+        self.path, self.reading = path, reading
+        csv.field_size_limit(MOST_FIELD)
+        try:
+            source = source_of(path)
+            name, told = encoding_of(source, reading.encoding, path)
+            lines = self.lines_of(source, name)
+            self.before, first = start_of(lines)
+        except OSError as error:
+            raise Fault(f"{path}: {error.strerror or error}") from None
+        self.separator = separator_of(first)
+        self.records = self.records_of(chain([first] if first else [], lines))
+        line, header = next(self.records, (0, []))
+        if not header:
+            raise Fault(f"{path}: the file is empty, and a header with {', '.join(wanted) or 'fields'} is wanted")
+        self.header = [field.strip() for field in header]
+        self.fields = tuple(known([field.lower() for field in self.header], names or {}))
+        self.written = dict(zip(self.fields, self.header))
+        for name in wanted:
+            if name not in self.fields:
+                others = " or ".join((name, *(names or {}).get(name, ())))
+                raise Fault(f"{path}: no field {others} in the header; it has {', '.join(self.fields)}")
+        if not reading.is_lenient:
+            check_header(self.header, f"{path} line {line}")
+        self.notes = ((f"{path} is read as {told}",) if told else ()) + (
+            (f"{path} is read with {self.separator!r} between fields",) if self.separator != "," else ())
+
+    def lines_of(self, source: IO[bytes], encoding: str) -> Iterator[str]:
+        """The lines of bytes with their ends, without a mark before them and without what some systems put behind the last one."""
+        try:
+            for number, line in enumerate(io.TextIOWrapper(source, encoding, "replace", newline="")):
+                line = line.rstrip(END_MARKS) if line.endswith(tuple(END_MARKS)) else line
+                line = line.removeprefix("\ufeff") if number == 0 else line
+                if line:
+                    yield line
+        except OSError as error:
+            raise Fault(f"{self.path}: {error.strerror or error}") from None
+        except (UnicodeError, LookupError):
+            raise Fault(f"{self.path}: it cannot be read as {encoding}; give another --encoding, or none") from None
+
+    def records_of(self, lines: Iterable[str]) -> Iterator[tuple[int, list[str]]]:
+        """The records that are not empty, each with the line where it ends."""
+        reader = csv.reader(lines, delimiter=self.separator, skipinitialspace=True)
+        try:
+            for record in reader:
+                if any(field.strip() for field in record):
+                    yield self.before + reader.line_num, record
+        except csv.Error as error:
+            raise Fault(f"{self.path}: line {self.before + reader.line_num}: {error}") from None
+
+    def __iter__(self) -> Iterator[TableRow]:
+        for line, record in self.records:
+            if not self.reading.is_lenient:
+                check_fields(record, self.header, f"{self.path} line {line}", LENIENT)
+            fields = record if self.separator == "," else map(point, record)
+            yield TableRow(f"{self.path} line {line}", dict(zip(self.fields, fields)), self.written)
+
+
+def start_of(lines: Iterator[str]) -> tuple[int, str]:
+    """How many lines stand before the first that is neither blank nor a remark, and that line; an empty text where there is none."""
+    for before, line in enumerate(lines):
+        if line.strip() and not line.lstrip().startswith("# "):
+            return before, line
+    return 0, ""
+
+
 def read(path: str | os.PathLike[str], wanted: Sequence[str] = (), names: Mapping[str, Sequence[str]] | None = None,
-         encoding: str | None = None) -> Table:
+         reading: Reading = Reading()) -> Table:
     """The rows of a table with a header. `names` gives other names of a field, the first that is there counts; a wanted field that is
     missing is a Fault with the names that it may have."""
-    text, found = text_of(read_bytes(path), encoding, path)
-    text = COMMENTS.sub("", text.rstrip(END_MARKS))
-    separator = separator_of(text)
-    csv.field_size_limit(1 << 30)
-    reader = csv.reader(io.StringIO(text, newline=""), delimiter=separator, skipinitialspace=True)
-    try:
-        records = [(reader.line_num, record) for record in reader if any(field.strip() for field in record)]
-    except csv.Error as error:
-        raise Fault(f"{path}: line {reader.line_num}: {error}") from None
-    if not records:
-        raise Fault(f"{path}: the file is empty, and a header with {', '.join(wanted) or 'fields'} is wanted")
-    header = [field.strip() for field in records[0][1]]
-    fields = known([field.lower() for field in header], names or {})
-    written = dict(zip(fields, header))
-    for name in wanted:
-        if name not in fields:
-            others = " or ".join((name, *(names or {}).get(name, ())))
-            raise Fault(f"{path}: no field {others} in the header; it has {', '.join(fields)}")
-    commas = separator != ","
-    rows = [TableRow(f"{path} line {line}", dict(zip(fields, (point(field) if commas else field for field in record))), written)
-            for line, record in records[1:]]
-    notes = [f"{path} is read as {found}"] if found else []
-    notes += [f"{path} is read with {separator!r} between fields"] if commas else []
-    return Table(rows, tuple(fields), tuple(notes))
+    found = Stream(path, wanted, names, reading)
+    return Table(list(found), found.fields, found.notes)
+
+
+def check_header(header: Sequence[str], place: str) -> None:
+    """A Fault where a header has a field twice."""
+    twice = next((name for number, name in enumerate(header) if name and name in header[:number]), None)
+    if twice is not None:
+        raise Fault(f"{place}: the field {twice} stands twice in the header{LENIENT}")
 
 
 def whole_numbers(rows: Sequence[Row], fields: tuple[str, ...]) -> None:
     """Takes the `.0` off ids that were written as decimals."""
     for name in fields:
         texts = [row.fields.get(name, "").strip() for row in rows]
-        if any(text.endswith(".0") for text in texts) and all(text.removesuffix(".0").isdigit() for text in texts if text):
-            for row, text in zip(rows, texts):
-                row.fields[name] = text.removesuffix(".0")
+        whole = whole_names(texts)
+        for row, text in zip(rows, texts):
+            if text in whole:
+                row.fields[name] = whole[text]
+
+
+def whole_names(texts: Iterable[str]) -> dict[str, str]:
+    """The ids that were written as decimals, where all of them were whole numbers, each without its `.0`."""
+    listed = [text for text in texts if text]
+    if any(text.endswith(".0") for text in listed) and all(text.removesuffix(".0").isdigit() for text in listed):
+        return {text: text.removesuffix(".0") for text in listed}
+    return {}
 
 
 def point(text: str) -> str:

@@ -1,5 +1,6 @@
 """A session that is made for the tests of sweeps: what it tells is a sum over the limits that stand, so that a row is right where its
-scenario's edits, and no others, were made. An edit of the link `z` is refused, at one of `end`, and the first of `once`, it ends, and one of `kill` kills whoever asks it."""
+scenario's edits, and no others, were made. An edit of the link `z` is refused, at one of `end`, and the first of `once`, it ends, one of
+`kill` kills whoever asks it, and after so many lines as it takes it ends."""
 import json
 import zlib
 from collections.abc import Sequence
@@ -16,7 +17,10 @@ import json, os, time, zlib
 told_in = open({log!r}, "a", buffering=1)
 print("opened", os.getppid(), file=told_in)
 standing, shown, made = {{}}, {{}}, 0
-for line in sys.stdin:
+for number, line in enumerate(sys.stdin, 1):
+    if number > {most_lines}:
+        print("too many lines", flush=True)
+        sys.exit(8)
     told = json.loads(line)
     for edit in told.get("edits", ()):
         time.sleep(1 if edit["link"] == "slow" else {pause})
@@ -59,7 +63,7 @@ def row_of(number: int, name: str, made: Sequence[Edit]) -> list[str]:
             if edit["vehicles"] != "32":
                 standing[str(edit["kind"]), slot] = str(edit["vehicles"])
     units = zlib.crc32(repr(sorted(standing.items())).encode()) % 10**6
-    return [str(number), name, "ok", "1.000", vehicles_text(units), "0.250", "0.000"]
+    return [str(number), name, "ok", "1.000", vehicles_text(units), "0.250", "0.000", "0.250"]
 
 
 REFUSED = "refused edit 1 UnknownName: links.csv has no link z"
@@ -68,9 +72,11 @@ REFUSED = "refused edit 1 UnknownName: links.csv has no link z"
 class SweepTest(FolderTest):
     """A test with the smallest case, the made session, and files of scenarios."""
 
-    def session(self, pause: float = 0.0, refuses_links: bool = False, more: int = 0, status: int = 0) -> str:
-        """The made session as a program; it takes so long for each edit, tells so many units more, and ends with this status."""
-        return str(self.program(SESSION.format(log=str(self.folder / "log"), pause=pause, refuses_links=refuses_links, more=more, status=status)))
+    def session(self, pause: float = 0.0, refuses_links: bool = False, more: int = 0, status: int = 0, most_lines: int = 100_000) -> str:
+        """The made session as a program; it takes so long for each edit, tells so many units more, takes so many lines, and ends with
+        this status."""
+        return str(self.program(SESSION.format(log=str(self.folder / "log"), pause=pause, refuses_links=refuses_links, more=more,
+                                               status=status, most_lines=most_lines)))
 
     def log(self) -> list[str]:
         """Which sessions were opened and ended."""
@@ -92,6 +98,6 @@ class SweepTest(FolderTest):
         for number in range(1, count + 1):
             first, second = edits.limit("a", number % 4, 4, number), edits.exit_limit("z" if number % 7 == 0 else "a", 0, 1 + number % 4, 2 * number)
             all_batches.append([[first], [second]])
-            refused = [str(number), f"s, {number}", f"batch 2 {REFUSED}", "", "", "", ""]
+            refused = [str(number), f"s, {number}", f"batch 2 {REFUSED}", "", "", "", "", ""]
             rows.append(row_of(number, f"s, {number}", (first, second)) if number % 7 else refused)
         return self.scenarios(*all_batches), rows

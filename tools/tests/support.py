@@ -40,17 +40,30 @@ def script(name: str) -> Any:
     return module
 
 
-def takes_columns() -> bool:
-    """Whether the program is there and takes the columns `limits` and `cells` of `setup.csv`."""
+def takes_columns(columns: str = "limits,cells", values: str = "0,102") -> bool:
+    """Whether the program is there and takes these columns of `setup.csv`."""
     if not os.access(BUILT, os.X_OK):
         return False
     with tempfile.TemporaryDirectory() as folder:
-        for name, text in {**ROAD, "setup": "step_ms,slots,origin_capacity,limits,cells\n1000,4,1,0,102\n"}.items():
+        for name, text in {**ROAD, "setup": f"step_ms,slots,origin_capacity,{columns}\n1000,4,1,{values}\n"}.items():
             Path(folder, f"{name}.csv").write_text(text)
         return subprocess.run([BUILT, "load"], cwd=folder, capture_output=True).returncode == 0
 
 
+def takes_splits() -> bool:
+    """Whether the program is there, and its sessions answer `state` and take the edit `splits`."""
+    if not os.access(BUILT, os.X_OK):
+        return False
+    asked = ('{"do": "state", "slot": 0}\n{"do": "edit", "edits": [{"kind": "splits", "node": "n1", "destination": "n2", "rows": [[0, {"a": 1}]]}]}\n')
+    with tempfile.TemporaryDirectory() as folder:
+        for name, text in ROAD.items():
+            Path(folder, f"{name}.csv").write_text(text)
+        return b"refused" not in subprocess.run([BUILT, "session", "0"], cwd=folder, input=asked.encode(), capture_output=True).stdout
+
+
+needs_splits = unittest.skipUnless(takes_splits(), "no program is built whose sessions answer `state` and take `splits`")
 needs_columns = unittest.skipUnless(takes_columns(), "no program is built that takes the columns limits and cells")
+needs_sizes = unittest.skipUnless(takes_columns("rows,links,destinations,moves", "1,1,1,1"), "no program is built that takes the columns rows to moves")
 
 
 class FolderTest(unittest.TestCase):

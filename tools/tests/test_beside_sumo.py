@@ -91,7 +91,8 @@ class Town(FolderTest):
     def test_its_report_without_signals_is_that_of_another_engine(self) -> None:
         tools = EXAMPLES.parent / "tools" / "ltm-tools"
         for words in ([EXAMPLES / "from_sumo" / "make.py", "town", "."],
-                      [tools, "from-sumo", "town.net.xml", "town.rou.xml", "town.add.xml", "case", "--fit", "5s", "--horizon", "75"]):
+                      [tools, "from-sumo", "town.net.xml", "town.rou.xml", "town.add.xml", "case", "--fit", "5s", "--horizon", "75",
+                       "--moves", "0"]):
             done = subprocess.run([str(word) for word in words], cwd=self.folder, capture_output=True, text=True)
             self.assertEqual((done.returncode, done.stderr), (0, ""))
         setup = self.folder / "case" / "setup.csv"

@@ -1,8 +1,11 @@
 """The command line: what is wrong is one line and status 1, never a traceback."""
+import functools
 import os
 import shutil
+import signal
 import subprocess
 import sys
+import time
 import unittest
 from pathlib import Path
 from unittest import mock
@@ -86,12 +89,41 @@ class Command(FolderTest):
         done = self.run_tool("inspect", self.case(links=b"link\xff\n"))
         self.assertIn('"link\\xff"', done.stdout)
 
+    def inspect_merge(self, stdout: int) -> "subprocess.CompletedProcess[str]":
+        """A run that writes little, all at its end."""
+        environment = {name: text for name, text in os.environ.items() if name != "PYTHONUNBUFFERED"}
+        return subprocess.run([sys.executable, TOOLS / "ltm-tools", "inspect", EXAMPLES / "merge"], stdout=stdout, stderr=subprocess.PIPE, text=True, env=environment)
+
     def test_a_reader_that_has_gone(self) -> None:
         read, write = os.pipe()
         os.close(read)
-        done = subprocess.run([sys.executable, TOOLS / "ltm-tools", "inspect", EXAMPLES / "merge"], stdout=write, stderr=subprocess.PIPE, text=True)
+        done = self.inspect_merge(write)
         os.close(write)
         self.assertEqual((done.returncode, done.stderr), (1, ""))
+
+    def test_a_full_disk(self) -> None:
+        with open("/dev/full", "wb") as full:
+            done = self.inspect_merge(full.fileno())
+        self.assertEqual((done.returncode, done.stderr), (1, "ltm-tools: No space left on device\n"))
+
+    def test_a_signal_ends_what_was_started(self) -> None:
+        """The program ends with the command that waits for it."""
+        program = self.program(f"import os, pathlib, time; pathlib.Path({str(self.folder / 'pid')!r}).write_text(f'{{os.getpid()}}\\n'); time.sleep(60)")
+        noted = self.folder / "pid"
+        for number in (signal.SIGTERM, signal.SIGHUP, signal.SIGINT):
+            words = [sys.executable, TOOLS / "ltm-tools", "queues", self.case(), "--program", program]
+            heard = functools.partial(signal.signal, signal.SIGINT, signal.default_int_handler)
+            with subprocess.Popen(words, stderr=subprocess.PIPE, text=True, preexec_fn=heard) as command:
+                while not (noted.exists() and noted.read_text().endswith("\n")):
+                    time.sleep(0.05)
+                command.send_signal(number)
+                told = command.communicate(timeout=30)[1]
+            self.assertEqual((command.returncode, told), (128 + number, ""))
+            ended = time.monotonic() + 10
+            while Path(f"/proc/{noted.read_text().strip()}").exists() and time.monotonic() < ended:
+                time.sleep(0.05)
+            self.assertFalse(Path(f"/proc/{noted.read_text().strip()}").exists(), number)
+            noted.unlink()
 
     def test_a_folder_whose_name_begins_with_a_dash(self) -> None:
         self.case().rename(self.folder / "-case")

@@ -1,14 +1,16 @@
 """The columns behind the third of `setup.csv`, and `limits.csv`: what a case is refused for, in the program's order and words.
 
 `data/faults/cases.json` has for each case the files in which it differs from `data/delay/base`, bytes as Latin-1 and null where a file is
-missing, and by command the status and the line of an engine that was written without this one.
+missing, and by command the status and the line of an engine that was written without this one; `sizes.json` has those with the columns
+`rows`, `links`, `destinations` and `moves`.
 """
 import json
 import subprocess
 import unittest
 from pathlib import Path
+from typing import Any
 
-from support import BUILT, FolderTest, needs_columns
+from support import BUILT, FolderTest, needs_columns, needs_sizes
 from ltm_tools.case import Case
 from ltm_tools.case.bad_case import BadCase, NoFile, TooLong
 from ltm_tools.case.explain import explain
@@ -17,7 +19,8 @@ from ltm_tools.formats import MOST_FILE_BYTES, SETUP, SETUP_MORE, headers_of
 
 DATA = Path(__file__).resolve().parent / "data"
 BASE = DATA / "delay" / "base"
-TOLD = json.loads((DATA / "faults" / "cases.json").read_text())
+SIZES = json.loads((DATA / "faults" / "sizes.json").read_text())
+TOLD = json.loads((DATA / "faults" / "cases.json").read_text()) | SIZES
 FILES = ("setup", "links", "demand", "splits", "signals", "limits")
 
 
@@ -42,7 +45,7 @@ class ColumnsTest(FolderTest):
 
 class Faults(ColumnsTest):
     def test_each(self) -> None:
-        """51 of the cases are refused by `load`, 4 of those by `routes`."""
+        """103 of the cases are refused by `load`, 56 by `routes`."""
         refused = 0
         for name, told in TOLD.items():
             self.made(told["files"])
@@ -54,7 +57,7 @@ class Faults(ColumnsTest):
                     with self.subTest(name, word=word):
                         self.assertEqual((3 if isinstance(fault, NoFile) else 6 if fault else 0), status, fault)
                         self.assertEqual(fault.line() if isinstance(fault, BadCase) else None, line or None)
-        self.assertEqual(refused, 55)
+        self.assertEqual(refused, 159)
 
     def test_each_is_explained(self) -> None:
         for name, told in TOLD.items():
@@ -65,7 +68,15 @@ class Faults(ColumnsTest):
 
     @needs_columns
     def test_the_program_tells_these(self) -> None:
-        for name, told in TOLD.items():
+        self.tells({name: told for name, told in TOLD.items() if name not in SIZES})
+
+    @needs_sizes
+    def test_the_program_tells_these_of_sizes(self) -> None:
+        self.tells(SIZES)
+
+    def tells(self, cases: dict[str, Any]) -> None:
+        """The program's status for each of these, and its line where it refuses."""
+        for name, told in cases.items():
             self.made(told["files"])
             for word in ("load", "routes"):
                 if word in told:
@@ -78,10 +89,11 @@ class Faults(ColumnsTest):
 
 class Columns(ColumnsTest):
     def test_headers(self) -> None:
-        """Of three columns each or not, in order: eight headers."""
-        more = {header[len(SETUP):] for header in headers_of("setup")}
-        self.assertEqual(more, {(), ("signals",), ("limits",), ("cells",), ("signals", "limits"), ("signals", "cells"), ("limits", "cells"), SETUP_MORE})
-        self.assertEqual(len(headers_of("setup")), 8)
+        """Of seven columns each or not, in order: 128 headers."""
+        more = [header[len(SETUP):] for header in headers_of("setup")]
+        self.assertEqual((len(more), len(set(more))), (128, 128))
+        self.assertTrue({(), ("signals",), ("limits", "cells"), ("cells", "rows"), ("rows", "moves"), ("signals", "links", "destinations"), SETUP_MORE} <= set(more))
+        self.assertTrue(all([SETUP_MORE.index(column) for column in header] == sorted(SETUP_MORE.index(column) for column in header) for header in more))
 
     def test_both_files_are_fetched_before_either_is_read(self) -> None:
         """signals.csv first: too long beside a missing limits.csv, or missing beside a too long limits.csv."""
@@ -102,14 +114,37 @@ class Columns(ColumnsTest):
         case = Case.read(self.made({**TOLD["head-signals-limits-cells-good7"]["files"]}))
         self.assertEqual((case.setup.signals, case.setup.limits, case.setup.cells, case.setup.most_cells), (True, True, 2_000_000_000, 2_000_000_000))
         self.assertTrue(case.signals and case.limits)
-        self.assertEqual(Case.read(self.made({})).setup.most_cells, 54_000_000)
+        setup = Case.read(self.made({})).setup
+        self.assertEqual((setup.most_cells, setup.most_demand_rows, setup.most_split_rows, setup.most_links, setup.most_destinations, setup.moves),
+                         (54_000_000, 10_000, 50_000, 4_000, 64, False))
+        setup = Case.read(self.made(SIZES["sizes-signals-limits-cells-rows-links-destinations-moves"]["files"])).setup
+        self.assertEqual((setup.signals, setup.limits, setup.most_cells, setup.most_demand_rows, setup.most_split_rows, setup.most_links, setup.most_destinations, setup.moves),
+                         (True, True, 1480, 6, 6, 4, 2, True))
+
+    def test_they_are_written(self) -> None:
+        """Each column that a setup has is written, and read again; one that it does not have is not written."""
+        header = "step_ms,slots,origin_capacity,rows,links,destinations,moves\n"
+        for values in ("500000,16000,256,1", "3,4,2,1", "3,4,2,0"):
+            case = Case.read(self.made({"setup": f"{header}1000,12,1,{values}\n", "splits": None}))
+            case.write(self.folder / "again")
+            self.assertEqual(Case.read(self.folder / "again"), case)
+        text = (self.folder / "again" / "setup.csv").read_text()
+        self.assertEqual(text, "step_ms,slots,origin_capacity,rows,links,destinations\n1000,12,1,3,4,2\n")
 
     def test_words(self) -> None:
         for name, parts in {
-            "head-bad-limits-signals": ["exactly step_ms,slots,origin_capacity, and behind it each of signals, limits, cells or not, in this order"],
+            "head-bad-limits-signals": ["exactly step_ms,slots,origin_capacity, and behind it each of signals, limits, cells, rows, links, destinations, moves or not, in this order"],
             "head-limits-limits-2": ['limits "2"', "1 where there is a limits.csv"],
-            "head-signals-limits-cells-cells-0": ['cells "0"', "1 to 2,000,000,000"],
-            "head-cells-cells-2000000001": ['cells "2000000001"', "1 to 2,000,000,000", "without this column it is 54,000,000"],
+            "head-signals-limits-cells-cells-0": ['cells "0"', "1 to 4,294,967,295"],
+            "sizes-cells-4294967296": ['cells "4294967296"', "below 4294967296"],
+            "rows-rows-500001": ['rows "500001"', "1 to 500,000", "without this column it is 10,000 for demand and 50,000 for splits"],
+            "sizes-links-16001": ['links "16001"', "1 to 16,000", "without this column it is 4,000"],
+            "sizes-destinations-257": ['destinations "257"', "1 to 256", "without this column it is 64"],
+            "sizes-moves-2": ['moves "2"', "1 where what moves is floored for each turn"],
+            "rows-rows-2": ["there are 2 rows already", "write up to 500000 in the column rows of setup.csv; or gather rows"],
+            "rows-rows-5": ["there are 5 rows already"],
+            "sizes-links-3": ["there are 3 links already", "write up to 16000 in the column links of setup.csv; or take a part"],
+            "sizes-destinations-1": ["n4 would be destination 2, and at most 1 may be", "write up to 256 in the column destinations of setup.csv; or gather nearby"],
             "head-limits-missing": ["limits.csv is not there", "put 0 in the field limits"],
             "limits-file-slots-over": ["limits.csv, line 2, to_slot", "the horizon has 12 slots"],
             # 1.1 bytes a cell are 1,628, and MB are rounded up

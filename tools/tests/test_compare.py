@@ -16,6 +16,7 @@ from ltm_tools.errors import Fault
 from ltm_tools.listing import rounded
 from ltm_tools.loading.compare import Comparison, change, most_changed
 from ltm_tools.loading.loaded import Loaded
+from ltm_tools.loading.remaining import Remaining
 from ltm_tools.loading.session import Session
 from ltm_tools.program import output
 
@@ -69,6 +70,46 @@ class Totals(unittest.TestCase):
         self.assertEqual([str(rounded(top, 8, 2)) for top in (1, -1, 0, 12, -12)], ["0.13", "-0.13", "0.00", "1.50", "-1.50"])
 
 
+LOADING = """kind,name,destination,counts
+up,a,n2,0 500 1000 1000 1000
+down,a,n2,0 0 0 500 {last}
+dep,n1,n2,0 500 1000 1000 1000
+dep,n2,n2,0 0 0 0 0
+arr,n2,n2,0 0 0 500 {last}
+"""
+
+
+class NotThere(FolderTest):
+    """The smallest case, of which one vehicle sets out, beside itself with a thousandth or two that do not arrive."""
+
+    def compare(self, last: int, *words: str) -> tuple[int, str, str]:
+        case = str(self.case(curves=LOADING.format(last=1000)))
+        other = self.folder / "other.csv"
+        other.write_text(LOADING.format(last=last))
+        return commands.run("compare", case, case, "--curves", f"{case}/curves.csv", "--other-curves", str(other), *words)
+
+    def test_hours_that_are_not_to_be_compared(self) -> None:
+        told = ("hours are not to be compared: 0.000 and 0.002 vehicles are not there by the end, which differ by over 0.1 % of the vehicles; "
+                "a longer horizon lets them arrive\n")
+        status, out, err = self.compare(998)
+        self.assertEqual((status, err), (0, ""))
+        self.assertIn(f"not_there  0.000  0.002   0.002\n{told}\nqueued on links", out)
+        for words in (["--format", "csv", "--table", "totals"], ["--format", "json"]):
+            status, out, err = self.compare(998, *words)
+            self.assertEqual((status, err), (0, f"ltm-tools compare: {told}"))
+        self.assertIn('{"name": "not_there", "one": 0.000, "other": 0.002, "change": 0.002}', out)
+
+    def test_a_thousandth_of_the_vehicles(self) -> None:
+        for last in (1000, 999):
+            for words in ([], ["--format", "csv"]):
+                status, out, err = self.compare(last, *words)
+                self.assertEqual((status, err), (0, ""))
+                self.assertNotIn("not to be compared", out)
+        self.assertTrue(Remaining(0, 0).comparable(Remaining(0, 0)))
+        self.assertFalse(Remaining(9_000, 10).comparable(Remaining(9_000, 0)))
+        self.assertTrue(Remaining(9_000, 0).comparable(Remaining(10_000, 10)))
+
+
 @needs_program
 class Command(FolderTest):
     """The corridor, and it with works that let through a third more: no queue there."""
@@ -101,9 +142,10 @@ class Command(FolderTest):
 
     def test_delay_is_the_program_s(self) -> None:
         """Of all, of each link and of each origin what `ltm delay` tells of that case, to the last digit, and their difference."""
-        for one, other in (("corridor", self.folder / "wider"), ("closures", EXAMPLES / "closures"), ("incident", EXAMPLES / "merge"), ("spillback", EXAMPLES / "evening")):
+        for one, other, apart in (("corridor", self.folder / "wider", 0), ("closures", EXAMPLES / "closures", 0),
+                                  ("incident", EXAMPLES / "merge", 1), ("spillback", EXAMPLES / "evening", 1)):
             status, text, fault = commands.run("compare", str(EXAMPLES / one), str(other), "--program", str(BUILT), "--format", "json")
-            self.assertEqual((status, fault), (0, ""))
+            self.assertEqual((status, fault.count("hours are not to be compared"), fault.count("\n")), (0, apart, apart))
             assert_told(self, json.loads(text, parse_float=Decimal), told_by_the_program(EXAMPLES / one), told_by_the_program(Path(other)))
 
 
@@ -142,6 +184,8 @@ class Versions(FolderTest):
                     self.assertEqual(found.times()[name], (times[one][place], times[2 if other is None else other][place]))
                 for place, name in enumerate(("generated", "arrived", "on_links", "waiting")):
                     self.assertEqual(found.amounts()[name], (totals[one][place], totals[2 if other is None else other][place]))
+                not_there = [generated - arrived for generated, arrived, *_ in totals]
+                self.assertEqual(found.amounts()["not_there"], (not_there[one], not_there[2 if other is None else other]))
             self.assertEqual(len(set(times)), 3)
             for version in (0, 1, 2):
                 session.save(self.folder / str(version), version)
@@ -161,7 +205,7 @@ class Versions(FolderTest):
                 session.save(self.folder / str(version))
         for words, one, other in (([], EXAMPLES / "closures", self.folder / "2"), (["--versions", "2", "1"], self.folder / "2", self.folder / "1")):
             status, text, fault = commands.run("compare", case, "--script", str(script), "--program", str(BUILT), "--format", "json", *words)
-            self.assertEqual((status, fault), (0, ""))
+            self.assertEqual((status, fault.count("hours are not to be compared"), fault.count("\n")), (0, 1, 1))
             assert_told(self, json.loads(text, parse_float=Decimal), told_by_the_program(one), told_by_the_program(other))
         told = commands.run("compare", case, "--script", str(script), "--program", str(BUILT))[1]
         self.assertEqual(told.split(";")[0], f"one is version 0 of {case}, other is version 2 of 2")

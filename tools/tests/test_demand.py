@@ -1,12 +1,14 @@
 """Demand in time adds up to the thousandth; tables, matrices, profiles and trips as they come."""
 import unittest
 from fractions import Fraction
+from unittest import mock
 
 import commands
 from support import FolderTest
 
 from ltm_tools.case import Case, Demand, Link, Setup
 from ltm_tools.errors import Fault
+from ltm_tools.network.passages import Roads
 from ltm_tools.network.profiles import Part, Trip, by_profile, by_trips, spread
 
 
@@ -46,10 +48,10 @@ class Trips(unittest.TestCase):
 
 
 class Command(FolderTest):
-    def give(self, text: str, *words: str, encoding: str = "utf-8", **more: str) -> tuple[int, str, str]:
+    def give(self, text: str, *words: str, encoding: str = "utf-8", setup: Setup = Setup(10_000, 360, 1000), **more: str) -> tuple[int, str, str]:
         """Gives demand of a file to a case of two roads of an hour in steps of 10 s."""
         folder = self.folder / "case"
-        Case(Setup(10_000, 360, 1000), [Link("a", "n1", "n2", 500, 36, 18, 150), Link("b", "n2", "n3", 500, 36, 18, 150)]).write(folder)
+        Case(setup, [Link("a", "n1", "n2", 500, 36, 18, 150), Link("b", "n2", "n3", 500, 36, 18, 150)]).write(folder)
         for name, other in more.items():
             (self.folder / name).write_text(other)
         (self.folder / "file").write_text(text, encoding=encoding)
@@ -77,6 +79,16 @@ class Command(FolderTest):
             status, _, err = self.give(text, "--trips", "@file")
             self.assertEqual((status, err), (0, ""))
             self.assertEqual(self.rows(), [("n1", "n3", 0, 90, 2000), ("n2", "n3", 270, 360, 1000)])
+
+    def test_what_the_setup_asks_for(self) -> None:
+        """Rows and destinations are as many as the setup says; destinations are counted before ways are sought."""
+        table = "origin,destination,vehicles\nn1,n3,1\nn2,n3,1\nn1,n2,1\n"
+        for more, told in (({"rows": 3}, ""), ({"rows": 2}, "rows of demand, of 3 pairs"), ({"destinations": 2}, ""), ({"destinations": 1}, "there are 2 destinations, and at most 1 may be")):
+            with mock.patch.object(Roads, "least_times", autospec=True, side_effect=Roads.least_times) as sought:
+                status, _, err = self.give(table, "--table", "@file", setup=Setup(10_000, 360, 1000, **more))
+            self.assertEqual((status, told in err, sought.called), (1 if told else 0, True, not told))
+            trips = "origin,destination,depart\nn1,n3,7:01\nn2,n3,7:01\nn1,n2,7:01\n"
+            self.assertEqual(self.give(trips, "--trips", "@file", setup=Setup(10_000, 360, 1000, **more))[0], 1 if told else 0)
 
     def test_faults_are_one_line_each(self) -> None:
         for text, words, told in (

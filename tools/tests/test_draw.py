@@ -1,14 +1,20 @@
 """Pictures: what is drawn is what the curves say; each command writes a picture."""
+import html
+import math
+import re
 import subprocess
 import sys
 import unittest
+from typing import Any
 
-from support import FolderTest, TOOLS
+from support import ROAD, FolderTest, TOOLS
 from test_delay import DATA, read
 from ltm_tools import libraries
 from ltm_tools.libraries import DEBIAN_PYTHON
+from ltm_tools.loading.curves import Curves
 from ltm_tools.loading.loaded import Loaded
-from ltm_tools.show.draw import beside, shares
+from ltm_tools.show.draw import beside, bent, draw_map, draw_shares, shares
+from ltm_tools.show.plot import draw_arrivals
 
 CURVES = str(DATA / "spillback" / "curves.csv")
 
@@ -32,11 +38,64 @@ class Numbers(unittest.TestCase):
         self.assertAlmostEqual(rows[1][15], 100 * 400 / 1200)
 
     def test_right_of_the_line(self) -> None:
-        self.assertEqual(beside((0, 0), (10, 0), 1, 0), [(0, -1), (10, -1)])
-        self.assertEqual(beside((0, 0), (0, 10), 1, 0), [(1, 0), (1, 10)])
-        bent = beside((0, 0), (10, 0), 0, 0.1)
-        self.assertAlmostEqual(bent[10][0], 5)
-        self.assertAlmostEqual(bent[10][1], 1)
+        self.assertEqual(beside(((0, 0), (10, 0)), 1), [(0, -1), (10, -1)])
+        self.assertEqual(beside(((0, 0), (0, 10)), 1), [(1, 0), (1, 10)])
+        # to the east and then to the north: the corner lies where both sides, moved by 1, meet; a way straight back meets nowhere
+        self.assertEqual(beside(((0, 0), (10, 0), (10, 10)), 1), [(0, -1), (11, -1), (11, 10)])
+        self.assertEqual(beside(((0, 0), (10, 0), (0, 0)), 1), [(0, -1), (10, 0), (0, 1)])
+        # from 10 degrees off straight back the corner would lie 11.5 out, and lies 2.5
+        sharp = beside(((0, 0), (10, 0), (10 - 10 * math.cos(math.radians(10)), 10 * math.sin(math.radians(10)))), 1)[1]
+        self.assertAlmostEqual(math.dist(sharp, (10, 0)), 2.5)
+        self.assertEqual(beside(((1, 1), (1, 1)), 1), [(1, 1), (1, 1)])
+
+    def test_bent_lines(self) -> None:
+        line = bent(((0, 0), (10, 0)), 0.1)
+        self.assertAlmostEqual(line[10][0], 5)
+        self.assertAlmostEqual(line[10][1], 1)
+        self.assertEqual((line[0], line[-1]), ((0, 0), (10, 0)))
+        self.assertEqual(bent(((0, 0), (3, 4), (10, 0)), 0), ((0, 0), (3, 4), (10, 0)))
+
+
+@unittest.skipIf(libraries.missing(["matplotlib"]), "matplotlib is not there: python3-matplotlib")
+class Texts(FolderTest):
+    """Texts stand in a picture as they are: asked of an SVG that has texts as texts."""
+
+    def texts(self, figure: Any) -> list[str]:
+        import matplotlib
+
+        with matplotlib.rc_context({"svg.fonttype": "none"}):
+            figure.savefig(self.folder / "picture.svg")
+        return [html.unescape(text) for text in re.findall(r"<text[^>]*>([^<]*)</text>", (self.folder / "picture.svg").read_text(encoding="utf-8"))]
+
+    def plotter(self) -> Any:
+        import matplotlib
+
+        matplotlib.use("Agg")
+        import matplotlib.pyplot
+
+        return matplotlib.pyplot
+
+    def test_a_legend_has_every_destination(self) -> None:
+        names = ["_", "_end", "a$b$", "$", "-x", "plain"]
+        plot = self.plotter()
+        figure = draw_arrivals(plot, Curves(1000, 3, {("arr", name): {name: b"0 1000 %d" % (9000 - place)} for place, name in enumerate(names)}))
+        self.assertEqual(self.texts(figure)[-len(names) - 1:], ["destination", *names])
+        lines = figure.axes[0].get_legend().get_lines()
+        self.assertEqual([line.get_color() for line in lines], [line.get_color() for line in figure.axes[0].get_lines()])
+        figure = draw_arrivals(plot, Curves(1000, 3, {("arr", f"_{n}"): {f"_{n}": b"0 0 %d" % n} for n in range(10, 20)}))
+        self.assertEqual(self.texts(figure)[-8:], [*(f"_{n}" for n in range(19, 12, -1)), "3 others together"])
+
+    def test_names_above_pictures(self) -> None:
+        """Of a folder too that is no UTF-8."""
+        titles = [r"$\frac$", "a$b$c", r"a\$b", "fl\udcfc\udcdf"]
+        one, folder = Loaded(*read("spillback")), str(DATA / "spillback")
+        for number, title in enumerate(titles):
+            other = titles[number - 1]
+            told = [text.replace("fl\udcfc\udcdf", r"fl\xfc\xdf") for text in (title, other)]
+            drawn = self.texts(draw_map(self.plotter(), [one, one], [folder, folder], [title, other], 8, 0))
+            self.assertEqual([text for text in drawn if text.endswith("at 0:00:08")], [f"{text} at 0:00:08" for text in told])
+            drawn = self.texts(draw_shares(self.plotter(), [one, one], [title, other], ["a", "b"], 0))
+            self.assertEqual([text for text in told if text not in drawn], [])
 
 
 @unittest.skipUnless(has_matplotlib(), "matplotlib is not there: python3-matplotlib")
@@ -52,6 +111,16 @@ class Command(FolderTest):
             self.draw(*words, "--curves", CURVES, "-o", str(self.folder / name))
             self.assertEqual((self.folder / name).read_bytes()[:8], b"\x89PNG\r\n\x1a\n")
             self.assertGreater((self.folder / name).stat().st_size, 8000)
+
+    def test_a_case_without_links(self) -> None:
+        """One line says so; with or without a second that has some."""
+        links, rows = "link,from,to,length_m,free_kmh,wave_kmh,jam_per_km\n", {name: text.split("\n")[0] + "\n" for name, text in ROAD.items() if name in ("demand", "splits")}
+        case = str(self.case(links=links, **rows))
+        curves = self.folder / "curves.csv"
+        curves.write_text("kind,name,destination,counts\n")
+        for words in ([case, "--curves", str(curves)], [case, "--curves", str(curves), "--other", str(DATA / "spillback"), "--other-curves", CURVES]):
+            told = self.draw("map", *words, "--at", "0:00", "-o", str(self.folder / "map.png"), status=1)
+            self.assertEqual(told, "ltm-tools draw: there is nothing to draw: the case has no link\n")
 
     def test_faults(self) -> None:
         case = str(DATA / "spillback")

@@ -41,7 +41,7 @@ def star(count: int) -> dict[str, str]:
 # the files that differ from the smallest case; status; the program's line; texts that the explanation has
 CASES: dict[str, tuple[dict[str, str], int, str, list[str]]] = {
     "Header": ({"links": "link;from;to\n"}, 6, "bad case links row 1 Header", ["links.csv, line 1", "semicolons", "link,from,to,length_m,free_kmh,wave_kmh,jam_per_km"]),
-    "Header of setup": ({"setup": "step,slots\n"}, 6, "bad case setup row 1 Header", ["exactly step_ms,slots,origin_capacity, and behind it each of signals, limits, cells or not, in this order", '"step,slots"']),
+    "Header of setup": ({"setup": "step,slots\n"}, 6, "bad case setup row 1 Header", ["exactly step_ms,slots,origin_capacity, and behind it each of signals, limits, cells, rows, links, destinations, moves or not, in this order", '"step,slots"']),
     "Header in large letters": ({"demand": DEMAND.upper()}, 6, "bad case demand row 1 Header", ["small letters"]),
     "Header missing": ({"splits": ""}, 6, "bad case splits row 1 Header", ["splits.csv: the file has no record"]),
     "Rows": ({"setup": "step_ms,slots,origin_capacity\n"}, 6, "bad case setup row 2 Rows", ["no record after the header"]),
@@ -214,7 +214,7 @@ class Scripts(FolderTest):
             ('{"do": "totals", "a": ' + "[" * 127 + "]" * 127 + "}", "NotJson", "too deep"),
             ('["do"]', "NotCommand 0", 'the member do was looked for, and ["do"] is no object'),
             ('{"Do": "totals"}', "NotCommand 0", "the member do was looked for, and is not there; there is Do"),
-            ('{"do": "total"}', "NotCommand 0", 'the member do is "total", and it is one of edit, totals, link, time, delay, queue, origin, settle'),
+            ('{"do": "total"}', "NotCommand 0", 'the member do is "total", and it is one of edit, totals, link, time, delay, queue, origin, state, curve, departures, delays, settle'),
             ('{"do": "link"}', "NotCommand 0", "the member link was looked for, and is not there"),
             ('{"do": "time", "link": "a", "slot": "3"}', "NotCommand 0", 'the member slot is "3", and a whole number from 0 to 4294967295 is wanted: "3" as the number 3'),
             ('{"do": "time", "link": "a", "slot": 3.0}', "NotCommand 0", "the member slot is 3.0"),
@@ -225,7 +225,7 @@ class Scripts(FolderTest):
             ('{"do": "edit", "edits": []}', "NotCommand 0", "the member edits has 0 edits, and 1 to 32 are wanted"),
             ('{"do": "edit", "edits": [{"kind": "horizon", "slots": 5}, {"kind": "limit", "link": "a", "from": 0, "to": 1, "vehicles": 0}]}', "NotCommand 2",
              'the member vehicles is 0, and a text with vehicles (digits, or digits, a point and 1 to 3 digits, at most 1000000 vehicles) is wanted: 0 as the text "0"'),
-            ('{"do": "edit", "edits": [{"kind": "close"}]}', "NotCommand 1", "one of demand, limit, exit, split, diagram, horizon"),
+            ('{"do": "edit", "edits": [{"kind": "close"}]}', "NotCommand 1", "one of demand, limit, exit, split, splits, diagram, horizon"),
             ('{"do": "edit", "edits": [{"kind": "split", "node": "a", "destination": "b", "from": 0, "weights": "a=1"}]}', "NotCommand 1", 'the member weights is "a=1", and an object'),
             ('{"do": "edit", "edits": [{"kind": "split", "node": "a", "destination": "b", "from": 0, "weights": {"a": 0.5}}]}', "NotCommand 1", "the member a is 0.5"),
         ):
@@ -243,9 +243,28 @@ class Scripts(FolderTest):
                 self.assertEqual(read_line(line.encode()).cause, answer.removeprefix("refused command ") if answer.startswith("refused command ") else None)
         self.assertGreater(none, 20)
         case = self.case()
-        for line in ('{"do": "delay"}', '{"do": "queue", "link": "a", "slot": 0}', '{"do": "origin", "node": "n1", "slot": 0}'):
+        for line in ('{"do": "delay"}', '{"do": "queue", "link": "a", "slot": 0}', '{"do": "origin", "node": "n1", "slot": 0}', '{"do": "state", "slot": 0}',
+                     '{"do": "curve", "link": "a"}', '{"do": "departures", "node": "n1"}', '{"do": "delays"}'):
             (case / "edits1.jsonl").write_text(line + "\n")
             self.assertIn("stands there, and a file of edits has edits alone", explain(str(case), 13, "bad script edits1 line 1 NotEdit")[0])
+
+    def test_splits_and_questions_on_all_at_once(self) -> None:
+        """The same of the edit `splits` and of `state`, `curve`, `departures` and `delays`."""
+        causes: dict[str | None, int] = {}
+        for line, answer in json.loads((DATA.parent / "wholes" / "lines.json").read_text()):
+            cause = answer.removeprefix("refused command ") if answer.startswith("refused command ") else None
+            causes[cause] = causes.get(cause, 0) + 1
+            with self.subTest(line):
+                self.assertEqual(read_line(line.encode()).cause, cause)
+        self.assertGreater(min(causes.get(cause, 0) for cause in (None, "NotCommand 0", "NotCommand 1")), 15)
+        edit = '{"do": "edit", "edits": [{"kind": "splits", "node": "a", "destination": "b", %s}]}'
+        for rows, part in (('"row": [[0, {"a": 1}]]', "the member rows was looked for, and is not there"), ('"rows": []', "the member rows is empty"),
+                           ('"rows": [[0, {"a": 1}], 5]', "row 2 of the member rows is 5, and a slot and weights are wanted"),
+                           ('"rows": [["0", {"a": 1}]]', 'row 1 of the member rows: the member slot is "0", and a whole number from 0 to 4294967295 is wanted'),
+                           ('"rows": [[0, {"a": 1}], [1, {}]]', "row 2 of the member rows: the member weights has 0 members"),
+                           ('"rows": [[0, {"a": "1"}]]', 'row 1 of the member rows: the member a is "1"')):
+            self.assertIn(part, read_line((edit % rows).encode()).reason)
+        self.assertEqual(read_line((edit % '"rows": [[0, {"a": 1}]], "from": 3').encode()).passed_over, ["from of edit 1"])
 
     def test_members_that_are_passed_over(self) -> None:
         script = self.folder / "script.jsonl"

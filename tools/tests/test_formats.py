@@ -44,6 +44,7 @@ class Fields(unittest.TestCase):
 
     def test_weights(self) -> None:
         self.assertEqual(formats.weights_or_none("a=1 b=03"), {"a": 1, "b": 3})
+        self.assertEqual(formats.weights_or_none("a=1 b=0 c=0 d=4"), {"a": 1, "b": 0, "c": 0, "d": 4})
         for text in ("", "a", "a=", "=1", "a=1  b=1", "a=1 a=2", "a=1 b=1 c=1 d=1 e=1", "a=1 ", "a=b=1"):
             self.assertIsNone(formats.weights_or_none(text), text)
 

@@ -1,6 +1,8 @@
 """Cases of small GMNS networks, as they come: units, missing fields, encodings, zones, names; and each refusal says what to do."""
+import shutil
 import unittest
 from fractions import Fraction
+from unittest import mock
 
 import commands
 from support import EXAMPLES, FolderTest
@@ -9,6 +11,7 @@ from ltm_tools.case import Case
 from ltm_tools.network.ends import Joined, joined, most_used
 from ltm_tools.network.names import names_for
 from ltm_tools.network.network import Network, road_of
+from ltm_tools.network.reach import Reach
 
 
 class GmnsTest(FolderTest):
@@ -25,7 +28,7 @@ class GmnsTest(FolderTest):
         return commands.run("from-gmns", str(self.folder / "net"), str(self.folder / "case"), *words)
 
     def made(self, *words: str) -> Case:
-        status, _, err = self.make(*words)
+        status, self.out, err = self.make(*words)
         self.assertEqual((status, err), (0, ""))
         return Case.read(self.folder / "case")
 
@@ -106,6 +109,20 @@ class Fields(GmnsTest):
             self.net(f"link_id,from_node_id,to_node_id,length,lanes,free_speed,capacity,directed\na,1,2,1000,1,60,900,{text}\n")
             self.assertEqual(set(self.links()), names)
 
+    def test_links_that_end_where_they_begin(self) -> None:
+        self.net(PLAIN + "c,2,2,1000,1,60,1000\nd,3,3,1000,1,60,1000\n")
+        status, out, _ = self.make()
+        self.assertEqual((status, [link.name for link in Case.read(self.folder / "case").links]), (0, ["a", "b"]))
+        self.assertIn("2 links end where they begin and are left out\n", out)
+
+    def test_many_faults_of_one_kind(self) -> None:
+        """Twenty are told, and how many more there are."""
+        for count, last in ((20, "link l19"), (21, "1 more such faults of links"), (24, "4 more such faults of links")):
+            self.net("link_id,from_node_id,to_node_id,length,lanes,free_speed,capacity\n" + "".join(f"l{number},{number},{number + 1},none,1,60,900\n" for number in range(count)))
+            told = [line for line in self.refused().splitlines() if line.startswith("cannot be carried: ")]
+            self.assertEqual(len(told), min(count, 21))
+            self.assertTrue(told[-1].startswith(f"cannot be carried: {last}"), told[-1])
+
     def test_ids_that_were_written_as_decimals(self) -> None:
         self.net(PLAIN.replace("a,1,2", "a,1.0,2.0").replace("b,2,3", "b,2.0,3.0"), demand="o_zone_id,d_zone_id,volume\n1,3,7\n")
         self.assertEqual([(row.origin, row.destination, row.units) for row in self.made().demand], [("1", "3", 7000)])
@@ -118,6 +135,28 @@ class Fields(GmnsTest):
     def test_faults_name_link_field_and_text(self) -> None:
         self.net(PLAIN.replace("b,2,3,1000,1,60", "b,2,3,1000,1,fast"))
         self.assertEqual(self.refused(), "cannot be carried: link b: free_speed is 'fast', and a number above 0 is wanted; left empty it is set by the link's kind\n")
+
+    def test_movements_are_told_to_be_passed_over(self) -> None:
+        self.net(PLAIN, movement="mvmt_id,node_id,ib_link_id,ob_link_id\n1,2,a,b\n")
+        self.assertIn("movement.csv is not read: ", self.make()[1])
+
+    def test_numbers_of_any_size(self) -> None:
+        """Each is a fault that names it, or is read exactly."""
+        for text in ("1e308", "1e99999999", "-1e99999999", "9" * 400, "1e400", "inf", "nan", "1e-99999999"):
+            for old in ("b,2,3,1000", "b,2,3,1000,1,60", "b,2,3,1000,1,60,1000"):
+                self.net(PLAIN.replace(old + ("\n" if old.endswith("60,1000") else ","), old.rpartition(",")[0] + f",{text}" + ("\n" if old.endswith("60,1000") else ",")))
+                status, _, err = self.make()
+                self.assertNotIn("Traceback", err)
+                self.assertTrue(status == 0 and text == "nan" or "and a number above 0 is wanted" in err or "no length" in err, (text, old, err))
+            self.net(PLAIN, demand=f"o_zone_id,d_zone_id,volume\n1,3,{text}\n")
+            shutil.rmtree(self.folder / "case", ignore_errors=True)
+            self.assertRegex(self.refused(), r"demand\.csv line 2: volume is \".*: a number is wanted|vehicles, and 0 to 1000000 are allowed")
+            (self.folder / "net" / "demand.csv").unlink()
+        self.net(PLAIN, demand="o_zone_id,d_zone_id,volume\n1,3,3.2e-41\n1,2,4\n")
+        self.assertEqual([(row.destination, row.units) for row in self.made().demand], [("2", 4000)])
+        for words in (("--jam", "1e99999999"), ("--jam", "1e400"), ("--step", "1e99999999"), ("--fit", "1e-99999999s"), ("--horizon", "9" * 4000), ("--period", "1e3")):
+            status, out, err = self.make(*words)
+            self.assertEqual((status, out, err.count("\n")), (1, "", 1), words)
 
     def test_a_missing_file_or_field_is_one_line(self) -> None:
         self.net("a,b\n1,2\n")
@@ -195,14 +234,50 @@ class Zones(GmnsTest):
         self.net(PLAIN, demand="o_zone_id,d_zone_id,volume\n1,3,2\n3,1,4\n")
         self.assertEqual(self.amounts("--leave-out-unreached"), {("1", "3"): 2000})
 
-    def test_fewer_destinations(self) -> None:
-        rows = "".join(f"l{number},{number},{number + 1},1000,1,60,900\n" for number in range(1, 70))
-        demand = "o_zone_id,d_zone_id,volume\n" + "".join(f"1,{number},{number}\n" for number in range(2, 71))
+    def row_of_ends(self, ends: int) -> None:
+        """So many roads behind one another, with demand from the first node to each other, to each more than to the one before."""
+        rows = "".join(f"l{number},{number},{number + 1},1000,1,60,900\n" for number in range(1, ends + 1))
+        demand = "o_zone_id,d_zone_id,volume\n" + "".join(f"1,{number},{number}\n" for number in range(2, ends + 2))
         self.net("link_id,from_node_id,to_node_id,length,lanes,free_speed,capacity\n" + rows, demand=demand)
-        self.assertIn("give --destinations 64", self.refused())
+
+    def test_fewer_destinations(self) -> None:
+        self.row_of_ends(257)
+        self.assertIn("there are 257 destinations, and at most 256 may be: give --destinations 256", self.refused())
+        self.assertIn("there are 257 destinations", self.refused("--leave-out-unreached"))
+        self.assertIn("--destinations is 1 to 256", self.refused("--destinations", "257"))
         case = self.made("--destinations", "2", "--horizon", "60")
-        # 70 and 69 have most; whoever wants less far drives on to 69
-        self.assertEqual({row.destination: row.units for row in case.demand}, {"69": 1000 * (69 * 70 // 2 - 1), "70": 70_000})
+        # 258 and 257 have most; whoever wants less far drives on to 257
+        self.assertEqual({row.destination: row.units for row in case.demand}, {"257": 1000 * (257 * 258 // 2 - 1), "258": 258_000})
+
+    def test_destinations_are_counted_before_ways_are_sought(self) -> None:
+        self.row_of_ends(257)
+        with mock.patch.object(Reach, "__init__", side_effect=AssertionError("ways are sought")):
+            self.assertIn("there are 257 destinations", self.refused())
+
+    def test_destinations_that_are_asked_for(self) -> None:
+        self.row_of_ends(65)
+        self.assertEqual(self.made("--horizon", "60").setup.destinations, 65)
+        self.assertIn("\n65 destinations, so the column destinations of setup.csv asks for as many, as without it 64 may be\n"
+                      "65 destinations, more than 16, so the column moves of setup.csv is 1: what moves through a turn is floored for the turn", self.out)
+        self.row_of_ends(64)
+        case = self.made("--horizon", "60")
+        self.assertEqual((case.setup.destinations, case.setup.moves), (None, True))
+
+    def test_the_rule_of_flooring(self) -> None:
+        """1 from 17 destinations on; told where it is not asked for."""
+        for ends, words, moves, told in ((16, (), False, False), (17, (), True, True), (17, ("--moves", "0"), False, False), (2, ("--moves", "1"), True, False)):
+            self.row_of_ends(ends)
+            self.assertEqual(self.made("--horizon", "60", *words).setup.moves, moves, (ends, words))
+            self.assertEqual("so the column moves of setup.csv is 1" in self.out, told, (ends, words))
+
+    def test_rows_that_are_asked_for(self) -> None:
+        """65 ends of a row of 1,000 roads: of the k-th from the end the routes are from 1,001 - k nodes, 65 * 1,000 - 64 * 65 / 2 = 62,920 in all."""
+        rows = "".join(f"l{number},{number},{number + 1},1000,1,60,900\n" for number in range(1, 1001))
+        demand = "o_zone_id,d_zone_id,volume\n" + "".join(f"1,{1001 - number},10\n" for number in range(65))
+        self.net("link_id,from_node_id,to_node_id,length,lanes,free_speed,capacity\n" + rows, demand=demand)
+        case = self.made("--horizon", "60", "--step", "30s")
+        self.assertEqual(case.setup.rows, 63_000)
+        self.assertIn("65 rows of demand and 62,920 of routes, so the column rows of setup.csv asks for 63,000 of each, as without it 10,000 and 50,000 may be\n", self.out)
 
 
 class Fitted(GmnsTest):
@@ -266,10 +341,10 @@ class Fitted(GmnsTest):
     def test_more_cells_than_may_be_asked_for_are_told_with_what_fits(self) -> None:
         # with 32 destinations the widths are 131, 196 of 1,498 nodes and 66, a boundary of both curves 287,936, the limits 2,998: 584,739 a slot
         self.corridor(32)
-        err = self.refused("--step", "2s", "--horizon", "120")
-        self.assertIn(f"{584_739 * 3600 + 287_936:,} cells, and at most 2,000,000,000 may be: --horizon 113 at this step or --fit 2400 at this horizon"
-                      " or --destinations 30 at both", err)
-        self.assertIn("1,982,553,146 cells, so the column cells of setup.csv asks for 1,983,000,000", self.make("--step", "2s", "--horizon", "113")[1])
+        err = self.refused("--step", "2s", "--horizon", "300")
+        self.assertIn(f"{584_739 * 9000 + 287_936:,} cells, and at most 4,294,967,295 may be: --horizon 244 at this step or --fit 2500 at this horizon"
+                      " or --destinations 26 at both", err)
+        self.assertIn("4,280,577,416 cells, so the column cells of setup.csv asks for 4,281,000,000", self.make("--step", "2s", "--horizon", "244")[1])
 
 
 class InTime(GmnsTest):

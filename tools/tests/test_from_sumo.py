@@ -1,11 +1,14 @@
 """Cases of small nets of SUMO, written by hand: what is left out, routes, trips, flows, programs of signals; and each refusal says what to do."""
 import gzip
+import os
+import subprocess
+import sys
 import unittest
 from fractions import Fraction
 from unittest import mock
 
 import commands
-from support import FolderTest
+from support import FolderTest, TOOLS
 
 from ltm_tools.case import Case, cells
 from ltm_tools.sumo.signals import filled
@@ -86,6 +89,87 @@ class Network(SumoTest):
         self.assertEqual((status, err.count("\n")), (1, 1))
         self.assertIn("netconvert", commands.run("from-sumo", str(self.folder / "none.xml"), str(self.folder / "case"))[2] + "netconvert")
         self.assertIn("no such file", commands.run("from-sumo", str(self.folder / "none.xml"), str(self.folder / "case"))[2])
+
+
+class Edges(SumoTest):
+    """What SUMO refuses or opens, numbers of any size, and files that are damaged: one line, in a short time."""
+
+    HELD = EDGES + way("in", "on", 0, 'tl="B" linkIndex="0"') + way("in", "left#1", 1, 'tl="B" linkIndex="1"') + way("left#1", "home") + way("home", "in")
+
+    def program(self, *states: str) -> str:
+        phases = "".join(f'<phase duration="30" state="{state}"/>' for state in states)
+        return f'<tlLogic id="B" type="static" programID="1" offset="0">{phases}</tlLogic>'
+
+    def test_letters_of_a_program(self) -> None:
+        """As SUMO 1.15 has it: fewer letters than ways, those on foot too, or phases of several numbers it does not take; more it passes over."""
+        on_foot = '<connection from=":B_c0" to=":B_w0" fromLane="0" toLane="0" tl="B" linkIndex="2" dir="s" state="M"/>'
+        for held, states, told in ((self.HELD, ("G", "r"), "its phases have 1 letters, and the signal holds 2 ways"), (self.HELD, ("Gr", "r"), "its phases have 1 and 2 letters"),
+                                   (self.HELD + on_foot, ("Gr", "rG"), "its phases have 2 letters, and the signal holds 3 ways")):
+            self.assertIn(f"signal B, program 1: {told}", self.refused(net=held + self.program(*states)))
+            self.assertIn(f"signal B, program 1: {told}", self.refused(net=held, more=self.program(*states)))
+        self.made(net=self.HELD + self.program("Gr", "rG"))
+        self.made(net=self.HELD + self.program("GrGG", "rGrr"))
+
+    def test_a_class_that_ignores_what_is_forbidden(self) -> None:
+        more = edge("walk", "A", "C", lane='allow="pedestrian"') + edge("shut", "A", "C", lane='disallow="all"')
+        self.assertEqual({link.name for link in self.made("--vehicle-class", "ignoring", net=EDGES + more).links}, {"in", "on", "left_1", "-in", "home", "walk", "shut"})
+
+    def test_zones(self) -> None:
+        for text in ('<taz id="1" edges="in on"/>', '<tazs><taz id="1"><tazSource id="in" weight="1"/></taz></tazs>'):
+            err = self.refused(more=text)
+            self.assertEqual(err.count("\n"), 1)
+            self.assertIn("this has zones (TAZ), and trips between zones need edges first: duarouter -n ", err)
+
+    def test_the_length_before_a_fit(self) -> None:
+        """Five edges of 200 m; that to the signal is cut 51 m before it, 5 s at 36 km/h and a metre, since a trip ends there: what is there
+        twice then is no length of the source."""
+        self.made("--fit", "5s", net=self.HELD + self.program("Gr", "rG"), routes='<vehicle id="1" depart="0"><route edges="home in"/></vehicle>')
+        self.assertIn("1 edges are cut a step before a signal", self.out)
+        self.assertIn("  length 1.0 km becomes 1.1 km (+5.10 %), free-flow times 100 s become 105 s (+5.10 %)\n", self.out)
+
+    def test_a_reader_that_goes(self) -> None:
+        """As `head`: the case is there."""
+        path = self.folder / "net.net.xml"
+        path.write_text(f"<net>{EDGES}{WAYS}</net>")
+        read, write = os.pipe()
+        os.close(read)
+        done = subprocess.run([sys.executable, TOOLS / "ltm-tools", "from-sumo", path, self.folder / "case"], stdout=write, stderr=subprocess.PIPE)
+        os.close(write)
+        self.assertEqual(done.stderr, b"")
+        self.assertEqual(len(Case.read(self.folder / "case").links), 5)
+
+    def test_numbers_of_any_size(self) -> None:
+        flow = '<flow id="f" begin="{}" end="{}" {}><route edges="in on"/></flow>'
+        for told, words in (("1,000,000,000 vehicles, and at most 3,000,000 may set out", ("0", "3600", 'number="1000000000"')),
+                            ("is no number: a number is wanted, of at most 10^15", ("0", "3600", 'number="1e99999999"')),
+                            ("is no number: a number is wanted, of at most 10^15", ("0", "3600", 'vehsPerHour="1e308"')),
+                            ("vehicles, and at most 3,000,000 may set out", ("0", "3600", 'period="1e-9"')),
+                            ("is no time", ("0", "1e12", 'vehsPerHour="60"')), ("is no time", ("1e99999999", "5", 'vehsPerHour="60"')),
+                            ("it lasts longer than 10,000,000 s", ("0", "", 'number="5" vehsPerHour="1e-200"'))):
+            self.assertIn(told, self.refused(routes=flow.format(*words)))
+        for metres, speed in (("1e99999999", "10"), ("200", "1e400"), ("1e300", "1"), ("9" * 5000, "10")):
+            self.assertIn("a number is wanted, of at most 10^15", self.refused(net=edge("a", "A", "B", metres=metres, speed=speed)))
+        self.assertIn("1 edges are left out: without length or speed", self.make(net=EDGES + edge("slow", "A", "C", speed="1e-300"))[1])
+
+    def test_damaged_files(self) -> None:
+        whole = gzip.compress(f"<net>{EDGES}{WAYS}</net>".encode() * 50)
+        path = self.folder / "net.net.xml.gz"
+        for data in (whole[: len(whole) // 2], whole[:40] + b"\xff" * 40 + whole[80:], whole[:-6] + b"abcdef", b"\x1f\x8b", b"\x1f\x8b" + b"\0" * 40):
+            path.write_bytes(data)
+            status, out, err = commands.run("from-sumo", str(path), str(self.folder / "case"))
+            self.assertEqual((status, out, err.count("\n")), (1, "", 1))
+            self.assertRegex(err, "the packed file is cut off or damaged|this is no XML file, or it is cut off")
+
+    def test_odd_encodings(self) -> None:
+        path = self.folder / "net.net.xml"
+        for name, told in (("utf-32", ""), ("shift_jis", "multi-byte encodings are not supported"), ("nonsense", "unknown encoding"), ("rot13", "")):
+            path.write_bytes(f'<?xml version="1.0" encoding="{name}"?><net>{EDGES}{WAYS}</net>'.encode())
+            status, out, err = commands.run("from-sumo", str(path), str(self.folder / "case"))
+            self.assertEqual((status, out, err.count("\n")), (1, "", 1), (name, err))
+            self.assertIn(told, err)
+        for name in ("latin-1", "utf-16", "cp1252"):
+            path.write_bytes(f'<?xml version="1.0" encoding="{name}"?><net>{EDGES}{WAYS}</net>'.encode(name))
+            self.assertEqual(commands.run("from-sumo", str(path), str(self.folder / "case"))[0], 0, name)
 
 
 class Vehicles(SumoTest):

@@ -1,10 +1,14 @@
 """What `inspect` tells of a case, circles among it."""
 import subprocess
 import unittest
+from unittest import mock
 
 from support import BUILT, EXAMPLES, FolderTest, ROAD, needs_program
 from ltm_tools.case import Case, Demand, Link, Setup, Split
+from ltm_tools.case import inspect as inspecting
+from ltm_tools.case.cells import cells_in, memory_text, produced_bytes
 from ltm_tools.case.circles import find_circles
+from ltm_tools.case.flooring import Narrow, narrow_links
 from ltm_tools.case.inspect import inspect, link_lines
 
 
@@ -54,6 +58,76 @@ class Circles(FolderTest):
             ring(*links).write(self.folder / "ring")
             run = subprocess.run([BUILT, "load"], cwd=self.folder / "ring", capture_output=True, text=True)
             self.assertIn(f"generated 0.001 arrived {arrived} ", run.stdout)
+
+
+def row_of_ends(count: int, moves: bool = False) -> Case:
+    """Roads one behind another, each of 500 thousandths in a slot, from n0 to so many destinations, one at the end of each."""
+    links = [Link(f"a{k}", f"n{k}", f"n{k + 1}", 20, 36, 18, 150) for k in range(count)]
+    ends = [f"n{k + 1}" for k in range(count)]
+    splits = [Split(f"n{k}", end, 0, {f"a{k}": 1}) for number, end in enumerate(ends) for k in range(number + 1)]
+    return Case(Setup(1000, 400, 1000, moves=moves), links, [Demand("n0", end, 0, 100, 1000) for end in ends], splits)
+
+
+class Flooring(FolderTest):
+    def told(self, case: Case) -> list[str]:
+        case.write(self.folder / "row")
+        told = inspect(str(self.folder / "row"))
+        return told[next((place for place, line in enumerate(told) if line.startswith("flooring")), len(told) - 1):-1]
+
+    def test_from_20_thousandths_a_destination_on(self) -> None:
+        """500 thousandths are 20 for each of 25, and 520 would be for each of 26; the second road has one destination less."""
+        self.assertEqual(narrow_links(row_of_ends(25)), [])
+        self.assertEqual(narrow_links(row_of_ends(26)), [Narrow("a0", 500, 26)])
+        self.assertEqual(narrow_links(row_of_ends(28)), [Narrow("a0", 500, 28), Narrow("a1", 500, 27), Narrow("a2", 500, 26)])
+
+    def test_destinations_that_use_it(self) -> None:
+        """Not those to which nobody sets out, or whose traffic goes another way; but one to which some goes later on."""
+        case = row_of_ends(26)
+        case.demand = case.demand[:-1]
+        self.assertEqual(narrow_links(case), [])
+        case = row_of_ends(26)
+        case.links.append(Link("b", "n0", "n1", 20, 36, 18, 150))
+        case.splits[0].weights = {"a0": 0, "b": 1}
+        self.assertEqual(narrow_links(case), [])
+        case.splits.append(Split("n0", "n1", 7, {"a0": 1}))
+        self.assertEqual(narrow_links(case), [Narrow("a0", 500, 26)])
+
+    def test_what_is_told(self) -> None:
+        self.assertEqual(self.told(row_of_ends(25)), [])
+        self.assertEqual(self.told(row_of_ends(28)), [
+            "flooring    3 links with less than 20 thousandths of a vehicle in a slot for each destination that uses it: flooring takes a part of what could pass",
+            "            the worst is a0: 500 thousandths in a slot, and 28 destinations",
+            "            write 1 in the column moves of setup.csv, or take longer steps or fewer destinations"])
+        self.assertEqual(self.told(row_of_ends(26, moves=True)), [
+            "flooring    1 link with less than 20 thousandths of a vehicle in a slot for each destination that uses it: what passes is shared over the destinations in coarse parts",
+            "            the worst is a0: 500 thousandths in a slot, and 26 destinations",
+            "            take longer steps or fewer destinations"])
+
+    def test_without_splits(self) -> None:
+        case = row_of_ends(28)
+        case.splits = None
+        self.assertEqual(narrow_links(case), [])
+
+
+class Memory(FolderTest):
+    def test_what_origins_have_produced(self) -> None:
+        """n0 up to slot 100 for 3 destinations and for all, 8 bytes each; n1, to the second and third alone, up to slot 7; as many for 0 vehicles are none."""
+        case = row_of_ends(3)
+        self.assertEqual(produced_bytes(case), 8 * 4 * 100)
+        case.demand += [Demand("n1", "n3", 2, 7, 5), Demand("n1", "n2", 0, 3, 5), Demand("n2", "n3", 0, 400, 0)]
+        self.assertEqual(produced_bytes(case), 8 * 4 * 100 + 8 * 4 * 7)
+
+    def test_it_is_told(self) -> None:
+        """A load takes 1.1 bytes a cell and the table once, a session 2 and the table twice; at most 2 and 3."""
+        self.assertEqual(memory_text(10_000_000, 39_000_000), "about 50 MB for a load and 98 MB for a session, at most 59 and 108")
+        self.assertEqual(memory_text(10_000_000), "about 11 MB for a load and 20 MB for a session, at most 20 and 30")
+        self.assertEqual([cells_in(108_000_000, produced) for produced in (0, 39_000_000, 60_000_000)], [36_000_000, 10_000_000, 0])
+        case = row_of_ends(4)
+        case.demand += [Demand("n1", "n4", 0, 400, 5), Demand("n2", "n4", 0, 400, 5), Demand("n3", "n4", 0, 400, 5)]
+        case.write(self.folder / "row")
+        with mock.patch.object(inspecting, "memory_text", lambda cells, produced=0: f"{cells} {produced}"):
+            told = inspect(str(self.folder / "row"))
+        self.assertTrue(any(line.startswith(f"memory      {case.cells()} 52000; ") for line in told), told)
 
 
 class Told(FolderTest):

@@ -12,7 +12,7 @@ PACKAGE = TOOLS / "ltm_tools"
 # from the lowest: the modules and packages of each line, which import those of lines above alone
 LAYERS = (
     ("errors",),
-    ("formats", "libraries", "program"),
+    ("formats", "libraries", "program", "replacing"),
     ("files", "listing"),
     ("tables",),
     ("case",),
@@ -101,7 +101,29 @@ class Layers(FolderTest):
                 self.assertIn(f"`{name}{'/' * (PACKAGE / name).is_dir()}`", told)
 
 
+def words_of_commands(text: str) -> set[str]:
+    """What of a command the text of a module has: `argparse`, and `print`."""
+    found = set()
+    for node in ast.walk(ast.parse(text)):
+        if isinstance(node, ast.Import):
+            found |= {alias.name for alias in node.names} & {"argparse"}
+        elif isinstance(node, ast.ImportFrom) and node.module == "argparse":
+            found.add("argparse")
+        elif isinstance(node, ast.Call) and isinstance(node.func, ast.Name) and node.func.id == "print":
+            found.add("print")
+    return found
+
+
 class Commands(unittest.TestCase):
+    def test_commands_alone_know_argparse_and_print(self) -> None:
+        found = {name_of(PACKAGE, path): words for path in PACKAGE.rglob("*.py") if (words := words_of_commands(path.read_text(encoding="utf-8")))}
+        self.assertEqual({name: words for name, words in found.items() if unit(name) not in ("commands", "cli")}, {})
+        self.assertEqual(found["cli"], {"argparse", "print"})
+
+    def test_what_is_looked_for(self) -> None:
+        self.assertEqual(words_of_commands("from argparse import Namespace\nprint(1)"), {"argparse", "print"})
+        self.assertEqual(words_of_commands("import argparse, os\nprinted(1)"), {"argparse"})
+
     def test_modules_are_called_as_commands_are_typed(self) -> None:
         for name, module in zip(cli.COMMANDS, cli.commands(), strict=True):
             self.assertEqual(module.NAME, name.replace("_", "-"))

@@ -4,10 +4,13 @@ import random
 import re
 import unittest
 from pathlib import Path
+from typing import Any
+from unittest import mock
 
 from browser import Browser, needs_browser
 from support import FolderTest
 from test_delay import DATA, read
+from test_from_sumo import edge
 from ltm_tools import cli
 from ltm_tools.case import Case, Demand, Limit, Link, Setup, Split
 from ltm_tools.case.geojson import geojson
@@ -53,6 +56,16 @@ class Files(FolderTest):
         self.assertRaisesRegex(Fault, "is not d3.min.js of version 5 to 7", find_d3, str(self.folder / "d3.js"))
 
 
+class Shuffled(random.Random):
+    """Counts how often it shuffles."""
+
+    count = 0
+
+    def shuffle(self, x: Any) -> None:
+        Shuffled.count += 1
+        super().shuffle(x)
+
+
 class Drawing(unittest.TestCase):
     def test_lengths(self) -> None:
         """A square of roads of 100 m, and one diagonal of 141 m: it can be drawn exactly."""
@@ -61,6 +74,14 @@ class Drawing(unittest.TestCase):
         for tail, head, length in links:
             self.assertLess(abs(((at[tail][0] - at[head][0]) ** 2 + (at[tail][1] - at[head][1]) ** 2) ** 0.5 - length), 25)
         self.assertEqual(at, layout.places("abcd", links))
+
+    def test_rounds(self) -> None:
+        """As many as there may be moves, thirty at most, and never less than three."""
+        for moves, rounds in ((1_500_000, 30), (10 * 24, 10), (0, 3)):  # 24 pairs: 3 from each of 4 pivots, and 12 of neighbours
+            with mock.patch.object(layout, "MOST_MOVES", moves), mock.patch.object(layout.random, "Random", Shuffled):
+                Shuffled.count = 0
+                layout.places("abcd", [(one, other, 100.0) for one, other in ("ab", "bc", "cd", "da", "ac", "bd")])
+                self.assertEqual(Shuffled.count, rounds)
 
     def test_parts_do_not_overlap(self) -> None:
         at = layout.places("abcde", [("a", "b", 100.0), ("c", "d", 50.0)])
@@ -109,6 +130,46 @@ class GeoJson(FolderTest):
         self.assertEqual(case.to_geojson(folder, curves, 8), (folder / "links.json").read_text())
         self.assertNotIn("entered", json.loads(case.to_geojson(folder))["features"][0]["properties"])
         self.assertRaisesRegex(Fault, "has no nodes.csv", case.to_geojson, DATA / "spillback")
+
+
+def told_on(page: Path) -> dict[str, Any]:
+    """What the page knows of its first case."""
+    told: dict[str, Any] = json.loads(page.read_text().partition('id="data">')[2].partition("</script>")[0])["cases"][0]
+    return told
+
+
+# two roads from A to C by B, one of them in a bow, and the way back along it; B lies 400 m east of A, and C 300 m north of B
+BOW = ((100.0, 50.0), (150.0, 190.0), (300.0, 250.0), (450.0, 190.0), (500.0, 50.0))
+PLACES = {"A": BOW[0], "B": BOW[-1], "C": (500.0, 350.0)}
+
+
+def imported(folder: Path) -> Path:
+    """The page of a net that was imported, without vehicles."""
+    junctions = "".join(f'<junction id="{name}" type="priority" x="{x + 1000}" y="{y - 20}"/>' for name, (x, y) in PLACES.items())
+    bow, back = (f'shape="{" ".join(f"{x + 1000},{y - 20}" for x, y in line)}"' for line in (BOW, BOW[::-1]))
+    edges = edge("bow", "A", "B", more=bow) + edge("back", "B", "A", more=back) + edge("on", "B", "C")
+    (folder / "net.net.xml").write_text(f'<net><location netOffset="1000.00,-20.00" projParameter="!"/>{junctions}{edges}</net>')
+    assert cli.run(["from-sumo", str(folder / "net.net.xml"), str(folder / "case"), "--horizon", "5"]) == 0
+    (folder / "case" / "curves.csv").write_text("kind,name,destination,counts\n")
+    return write_page(folder, str(folder / "case"), "--curves", str(folder / "case" / "curves.csv"))
+
+
+@needs_d3
+class Imported(FolderTest):
+    def test_the_page_has_the_places_of_the_source(self) -> None:
+        told = told_on(imported(self.folder))
+        self.assertEqual({node["name"]: (node["x"], node["y"]) for node in told["nodes"]}, PLACES)
+        self.assertEqual({link["name"]: link.get("shape") for link in told["links"]}, {"bow": [list(place) for place in BOW], "back": [list(place) for place in BOW[::-1]], "on": None})
+
+    def test_two_cases_of_which_one_has_places(self) -> None:
+        page = imported(self.folder)
+        other = Case.read(self.folder / "case")
+        other.write(self.folder / "other")
+        curves = str(self.folder / "case" / "curves.csv")
+        page = write_page(self.folder, str(self.folder / "case"), str(self.folder / "other"), "--curves", curves, "--other-curves", curves)
+        both = json.loads(page.read_text().partition('id="data">')[2].partition("</script>")[0])["cases"]
+        self.assertEqual(both[0]["links"], both[1]["links"])
+        self.assertIn("shape", both[1]["links"][0])
 
 
 @needs_d3
@@ -165,6 +226,29 @@ class InABrowser(FolderTest):
             self.assertEqual(told[1], [list(curves.on_link(link.name)) for link in case.links])
             self.assertEqual(told[2], [list(delay.waiting(curves, case, node)) for node in delay.demand_of(case)])
             self.assertEqual(self.browser.console(), [])
+
+    def test_links_are_drawn_where_the_source_has_them(self) -> None:
+        """Beside the points of the source as far as a link is wide, on its right, in the scale with which the network fills the map."""
+        self.browser.open(imported(self.folder))
+        box = self.browser.run("const box = document.getElementById('network').getBoundingClientRect(); return [box.left, box.top, box.width, box.height]")
+        scale = min((box[2] - 120) / 400, (box[3] - 120) / 300)
+        ways = {name: self.browser.run("return ltm.way(arguments[0])", name) for name in ("bow", "back", "on")}
+        for name, line in (("bow", BOW), ("back", BOW[::-1]), ("on", (PLACES["B"], PLACES["C"]))):
+            drawn = [(box[0] + box[2] / 2 + (x - 300) * scale, box[1] + box[3] / 2 - (y - 200) * scale) for x, y in line]
+            self.assertEqual(len(ways[name]), len(line))
+            for place, (x, y) in enumerate(drawn):
+                # to the right of the way there, which is below it where it leads to the east: a link is 3.3 wide, and its middle 2.65 off
+                east, south = ways[name][place][0] - x, ways[name][place][1] - y
+                ahead, behind = drawn[min(place + 1, len(drawn) - 1)], drawn[max(place - 1, 0)]
+                way = ahead[0] - behind[0], ahead[1] - behind[1]
+                self.assertGreater(way[0] * south - way[1] * east, 0)
+                self.assertLess(2.6, (east**2 + south**2) ** 0.5)
+                self.assertLess((east**2 + south**2) ** 0.5, 4)
+        self.browser.click(*self.browser.run("return ltm.middle('bow')"))
+        self.assertEqual(self.text("#link h2"), "Link bow from A to B, 200 m")
+        self.browser.click(*self.browser.run("return ltm.middle('back')"))
+        self.assertEqual(self.text("#link h2"), "Link back from B to A, 200 m")
+        self.assertEqual(self.browser.console(), [])
 
     def test_large(self) -> None:
         """2,000 links and 700 slots: under 20 MB, and open within two seconds of the page's processor time."""

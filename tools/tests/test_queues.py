@@ -6,8 +6,10 @@ import unittest
 from contextlib import redirect_stdout
 from unittest import mock
 
+from support import FolderTest
 from test_delay import DATA, read
 from ltm_tools import cli
+from ltm_tools.case import Case
 from ltm_tools.loading import counts as numbers, delay, queues as module
 from ltm_tools.loading.queues import Queue, queues, spans
 
@@ -58,6 +60,28 @@ class Spillback(unittest.TestCase):
                                    "storage": "3.000", "delay": "20.700000"})
         told = json.loads(run("--least", "0.001", "--format", "json"))
         self.assertEqual([(row["name"], row["delay"], row["storage"]) for row in told], [("n1", 29.0, None), ("a", 20.7, 3.0)])
+
+
+class Dissolved(FolderTest):
+    """Road `a` takes a second to drive: its queue is 0, 0.7, 1.1, 0.3 and 0 vehicles at boundaries 1 to 5, and 0.4 wait at n1 at 1 alone."""
+
+    step_ms, boundaries = 1000, 6
+
+    def up(self, link: str) -> list[int]:
+        return [0, 1000, 2000, 2000, 2000, 2000]
+
+    def down(self, link: str) -> list[int]:
+        return [0, 0, 300, 900, 1700, 2000]
+
+    def departed(self, node: str) -> list[int]:
+        return [0, 600, 2000, 2000, 2000, 2000] if node == "n1" else [0] * 6
+
+    def test_what_is_below_the_least_is_no_part_of_a_queue(self) -> None:
+        case = Case.read(self.case(links="link,from,to,length_m,free_kmh,wave_kmh,jam_per_km\na,n1,n2,10,36,18,150\n",
+                                   setup="step_ms,slots,origin_capacity\n1000,5,1\n", demand="origin,destination,from_slot,to_slot,vehicles\nn1,n2,0,2,2\n"))
+        self.assertEqual(queues(self, case, 500), [Queue("link", "a", 2, 3, False, 1100, 3, 1500, 1_800_000)])
+        self.assertEqual([(queue.kind, queue.first, queue.last, queue.delay) for queue in queues(self, case, 1)],
+                         [("link", 2, 4, 2_100_000), ("origin", 1, 1, 400_000)])
 
 
 if __name__ == "__main__":

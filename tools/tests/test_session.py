@@ -4,15 +4,17 @@ import os
 import unittest
 from decimal import Decimal
 from pathlib import Path
+from typing import Any
 from unittest import mock
 
-from support import BUILT, EXAMPLES, FolderTest, needs_program
+from support import BUILT, EXAMPLES, FolderTest, needs_program, needs_splits
 from ltm_tools import edits
 from ltm_tools.errors import Fault
+from ltm_tools.loading.delay import Delay, Wait
 from ltm_tools.loading.session import Refused, Session
 from ltm_tools.program import output
 
-DATA = Path(__file__).resolve().parent / "data" / "delay"
+DATA = Path(__file__).resolve().parent / "data"
 
 # answers each line by the next of these lines, and writes what it was asked into asked.txt where it runs
 ANSWERS = """
@@ -24,6 +26,28 @@ with open("asked.txt", "w") as asked:
         print(answer, flush=True)
 sys.exit({status})
 """
+
+
+def again(session: Session, command: dict[str, Any]) -> str:
+    """The answer to a command, written from what its call gives."""
+    if command["do"] == "state":
+        state = session.state(command["slot"])
+        parts = {"in": state.entered, "out": state.left, "queue": state.queue, "waiting": state.waiting}
+        assert all(list(part) == (["n1", "n2", "n3"] if name == "waiting" else ["a", "b"]) for name, part in parts.items())
+        return " ".join([f"version {state.version} slot {state.slot}", *(f"{name} {' '.join(map(str, part.values()))}" for name, part in parts.items())])
+    if command["do"] == "curve":
+        curve = session.curve(command["link"])
+        return f"version {curve.version} link {command['link']} in {' '.join(map(str, curve.entered))} out {' '.join(map(str, curve.left))}"
+    told = session.delays()
+    assert list(told.links) == ["a", "b"] and list(told.nodes) == ["n1", "n2", "n3"]
+    links = " ".join(f"{decimals(link.spent, 6)} {decimals(link.queued, 6)} {decimals(link.most, 3)} {link.at}" for link in told.links.values())
+    nodes = " ".join(f"{decimals(node.waited, 6)} {decimals(node.most, 3)} {node.at}" for node in told.nodes.values())
+    return (f"version {told.version} spent {decimals(told.spent, 6)} queued {decimals(told.queued, 6)} waited {decimals(told.waited, 6)}"
+            f" links {links} nodes {nodes}")
+
+
+def decimals(number: int, places: int) -> str:
+    return str(Decimal(number).scaleb(-places).quantize(Decimal(1).scaleb(-places)))
 
 
 class Pages(FolderTest):
@@ -55,7 +79,7 @@ class Made(FolderTest):
 
     def test_queues_and_delay(self) -> None:
         """Each of these questions of scripts, asked by its call: the numbers are those of the answer, by an engine that was written without this one."""
-        told = [(json.loads(line), answer) for line, answer in json.loads((DATA / "answers.json").read_text())]
+        told = [(json.loads(line), answer) for line, answer in json.loads((DATA / "delay" / "answers.json").read_text())]
         kinds: dict[str, int] = {}
         with self.session(*(answer for _, answer in told)) as session:
             for command, answer in told:
@@ -74,6 +98,56 @@ class Made(FolderTest):
         asked = [json.loads(line) for line in (self.folder / "case" / "asked.txt").read_text().splitlines()]
         for (command, answer), line in zip(told, asked):
             self.assertEqual({**command, **line} if "NotCommand" not in answer else line, command)
+
+    def test_all_at_once(self) -> None:
+        """Questions on all links or all boundaries of examples/spillback, by an engine that was written without this one: what they give
+        tells the answer again, with a number for each name in its order."""
+        told = [(json.loads(line), answer) for line, answer in json.loads((DATA / "wholes" / "spillback.json").read_text())]
+        kinds: dict[str, int] = {}
+        with Session(EXAMPLES / "spillback", program=self.program(ANSWERS.format(answers=[answer for _, answer in told], status=0).replace("asked.txt", f"{self.folder}/asked.txt"))) as session:
+            for command, answer in told:
+                with self.subTest(command, answer=answer):
+                    if command["do"] in ("edit", "settle"):
+                        session.ask(**command)
+                    elif answer.startswith("refused"):
+                        with self.assertRaisesRegex(Refused, answer):
+                            session.state(command["slot"])
+                    else:
+                        self.assertEqual(again(session, command), answer)
+                        kinds[command["do"]] = kinds.get(command["do"], 0) + 1
+        self.assertEqual(kinds, {"state": 18, "curve": 12, "delays": 12})
+
+    def test_by_name(self) -> None:
+        """Worked on examples/spillback: at boundary 4 there are 2 vehicles in a and 0.4 in b, and 0.8 wait; the queue of a is longest at 8."""
+        curve = "0 500 1000 1500 2000 2500 3000 3200"
+        answers = ["version 0 slot 4 in 2000 400 out 400 0 queue 600 0 waiting 800 0 0", f"version 0 node n1 produced 0 700 1400 2100 2800 3500 4200 4900 left {curve}",
+                   "version 0 spent 64.900000 queued 20.700000 waited 29.000000 links 30.500000 20.700000 1.800 8 5.400000 0.000000 0.000 0"
+                   " nodes 29.000000 3.200 10 0.000000 0.000 0 0.000000 0.000 0"]
+        with Session(EXAMPLES / "spillback", program=self.program(ANSWERS.format(answers=answers, status=0).replace("asked.txt", f"{self.folder}/asked.txt"))) as session:
+            self.assertEqual(session.state(4), (0, 4, {"a": 2000, "b": 400}, {"a": 400, "b": 0}, {"a": 600, "b": 0}, {"n1": 800, "n2": 0, "n3": 0}))
+            self.assertEqual(session.departures("n1"), (0, tuple(range(0, 5600, 700)), tuple(map(int, curve.split()))))
+            delays = session.delays()
+        self.assertEqual(delays[:4], (0, 64_900_000, 20_700_000, 29_000_000))
+        self.assertEqual(delays.links, {"a": Delay(30_500_000, 20_700_000, 1800, 8), "b": Delay(5_400_000, 0, 0, 0)})
+        self.assertEqual(delays.nodes, {"n1": Wait(29_000_000, 3200, 10), "n2": Wait(0, 0, 0), "n3": Wait(0, 0, 0)})
+
+    def test_names_that_are_words_of_an_answer(self) -> None:
+        with self.session("version 2 link in in 0 500 out 0 0", "version 2 node left produced 0 1 left 0 2") as session:
+            self.assertEqual(session.curve("in"), (2, (0, 500), (0, 0)))
+            self.assertEqual(session.departures("left"), (2, (0, 1), (0, 2)))
+
+    def test_answers_that_do_not_fit(self) -> None:
+        """One number too few for a link, and parts that are not there."""
+        for answer, fault in (("version 0 slot 4 in out 400 queue 600 waiting 800 0", "tells of 0, and the case has 1"),
+                              ("version 0 slot 4 in 1 out 400 queue 600", "has not the parts in, out, queue, waiting"), ("version 0", "has not the parts")):
+            with self.session(answer) as session, self.subTest(answer):
+                self.assertRaisesRegex(Fault, fault, session.state, 4)
+
+    def test_splits(self) -> None:
+        with self.session("accepted version 1") as session:
+            session.edit(edits.splits("n1", "n2", [(0, {"a": 1}), (3, {"a": 2, "b": 0})]))
+        self.assertEqual((self.folder / "case" / "asked.txt").read_text(), '{"do": "edit", "edits": [{"kind": "splits", "node": "n1", "destination": "n2", '
+                         '"rows": [[0, {"a": 1}], [3, {"a": 2, "b": 0}]]}]}\n')
 
     def test_refusals(self) -> None:
         with self.session("refused edit 2 Diagram StepTooLong 1440 7200", "refused link UnknownName", "refused command NotCommand 1") as session:
@@ -109,6 +183,19 @@ class Proved(unittest.TestCase):
             self.assertEqual(session.totals(), (1, 7000, 6000, 1000, 0))
             with self.assertRaisesRegex(Refused, "refused link UnknownName: links.csv has no link nowhere"):
                 session.link("nowhere")
+
+    @needs_splits
+    def test_all_at_once(self) -> None:
+        """The program tells what is told in the test of that name above."""
+        told = [(json.loads(line), answer) for line, answer in json.loads((DATA / "wholes" / "spillback.json").read_text())]
+        with Session(EXAMPLES / "spillback", program=BUILT) as session:
+            for command, answer in told:
+                if command["do"] in ("edit", "settle"):
+                    self.assertEqual(" ".join(session.ask(**command)), answer)
+                elif answer.startswith("refused"):
+                    self.assertRaisesRegex(Refused, answer, session.state, command["slot"])
+                else:
+                    self.assertEqual(again(session, command), answer)
 
 
 if __name__ == "__main__":

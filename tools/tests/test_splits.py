@@ -31,6 +31,12 @@ def splits(routes: list[tuple[str, int, int]], links: list[Link] = SQUARE, deman
     return {(row.node, row.destination, row.from_slot): row.weights for row in rows}, "\n".join(cuts.lines())
 
 
+class Parts(unittest.TestCase):
+    def test_a_node_alone_is_none(self) -> None:
+        self.assertEqual(strong_parts("abcd", {"a": "b", "b": "c", "c": "d"}), [])
+        self.assertEqual(strong_parts("abcde", {"a": "b", "b": "ac", "c": "d", "d": "e", "e": "c"}), [{"c", "d", "e"}, {"a", "b"}])
+
+
 class Circles(unittest.TestCase):
     # three drive o u v w z; one drives o u v, back to u, and by x
     WANDERER = [("in uv vw out", 0, 3), ("in uv vu ux xw out", 0, 1)]
@@ -189,6 +195,16 @@ class Command(FolderTest):
             self.assertEqual((status, out, err.count("\n")), (1, "", 1), err)
             self.assertIn(told, err)
             self.assertFalse((folder / "splits.csv").exists())
+
+    def test_rows_that_the_setup_allows(self) -> None:
+        """6 rows, one for each of 5 nodes that vehicles come by, and one more where they go on by another link later."""
+        for rows, status in ((6, 0), (5, 1)):
+            folder = self.square(routes="depart,links\n7:00,in uv vw out\n7:30,in ux xw out\n")
+            case = Case.read(folder)
+            case.setup.rows = rows
+            case.write(folder)
+            told = commands.run("splits", str(folder), "--routes", str(self.folder / "routes.csv"))
+            self.assertEqual((told[0], "6 rows of splits, and at most 5 may be" in told[2]), (status, rows == 5), told)
 
     def test_turning_counts(self) -> None:
         folder = self.square(counts="from_link,to_link,vehicles\nin,uv,30\nin,ux,10\n")

@@ -1,4 +1,5 @@
 """`./ltm`, with an `rt` and a program that are made for the test, in a small clone and a clean environment."""
+import fcntl
 import functools
 import os
 import shutil
@@ -7,11 +8,14 @@ import subprocess
 import sys
 import time
 import unittest
+from collections.abc import Callable
+from pathlib import Path
 from unittest import mock
 
-from support import CLONE, FolderTest, TOOLS
+from support import CLONE, FolderTest, ROAD, TOOLS
 from ltm_tools.errors import Fault
 from ltm_tools.proving.plan import Plan, read_costs, read_crates, stands_on
+from ltm_tools.proving.sums import sum_of, sums_of, write_sums
 
 SYSTEM = "/usr/bin:/bin"
 
@@ -51,37 +55,43 @@ class Clone(FolderTest):
         (self.top / "tools").mkdir()
         shutil.copy(TOOLS / "ltm-tools", self.top / "tools" / "ltm-tools")
         shutil.copytree(TOOLS / "ltm_tools", self.top / "tools" / "ltm_tools", ignore=shutil.ignore_patterns("__pycache__"))
-        (self.top / "crates.txt").write_text(CRATES)
-        (self.top / "CONTRIBUTING.md").write_text(COSTS)
-        for crate in ("ltm", "ltm_a", "ltm_b", "ltm_c", "ltm_d", "ltm_low", "ltm_low_tests"):
-            (self.top / "crates" / crate / "src").mkdir(parents=True)
-            (self.top / "crates" / crate / "src" / "lib.rt").write_text(f"// {crate}\n")
+        self.fill()
         python = self.made / "bin" / "python3"
         python.write_text(f'#!/bin/sh\nexec "{sys.executable}" "$@"\n')
         python.chmod(0o755)
         self.built = self.top / "crates" / "ltm" / "out" / "ltm"
         self.case()
 
+    def fill(self) -> None:
+        """The texts that are proved."""
+        (self.top / "crates.txt").write_text(CRATES)
+        (self.top / "CONTRIBUTING.md").write_text(COSTS)
+        for crate in ("ltm", "ltm_a", "ltm_b", "ltm_c", "ltm_d", "ltm_low", "ltm_low_tests"):
+            (self.top / "crates" / crate / "src").mkdir(parents=True)
+            (self.top / "crates" / crate / "src" / "lib.rt").write_text(f"// {crate}\n")
+
     def rt(self, text: str, body: str = "") -> None:
         path = self.made / "bin" / "rt"
         path.write_text(text.format(body=body))
         path.chmod(0o755)
 
-    def build(self, body: str, age: float = 0.0) -> None:
-        """A program in place of the proved one, older than the sources by so many seconds."""
-        self.built.parent.mkdir()
+    def build(self, body: str, is_proved: bool = True) -> None:
+        """A program in place of the proved one, with its sums if it is to be one."""
+        self.built.parent.mkdir(exist_ok=True)
         self.built.write_text(f"#!/bin/bash\n{body}\n")
         self.built.chmod(0o755)
-        past = time.time() - 1000
-        for path in self.top.glob("crates/*/src/lib.rt"):
-            os.utime(path, (past, past))
-        os.utime(self.built, (past + 1 - age, past + 1 - age))
+        if is_proved:
+            write_sums(self.top, sums_of(self.top, stands_on(read_crates(CRATES))))
 
     def environment(self) -> dict[str, str]:
         return {"PATH": f"{self.made / 'bin'}:{SYSTEM}", "MADE": str(self.made), "HOME": str(self.made)}
 
-    def run_ltm(self, *words: str, script: str = "") -> "subprocess.CompletedProcess[str]":
-        return subprocess.run([str(self.top / "ltm"), *words], cwd=self.folder, env=self.environment(), input=script, capture_output=True, text=True, timeout=60)
+    def run_ltm(self, *words: str, script: str = "", **variables: str) -> "subprocess.CompletedProcess[str]":
+        return subprocess.run([str(self.top / "ltm"), *words], cwd=self.folder, env={**self.environment(), **variables}, input=script, capture_output=True, text=True, timeout=60)
+
+    def version(self) -> str:
+        """What `--version` says of the proof."""
+        return self.run_ltm("--version").stdout.split("; ")[1]
 
     def called(self) -> list[str]:
         return (self.made / "called").read_text().splitlines()
@@ -138,13 +148,15 @@ class NotProved(Clone):
         self.assertIn("'-x' is no command", self.run_ltm("case", "-x").stderr)
         self.assertFalse((self.made / "called").exists())
 
-    def test_a_source_that_is_newer(self) -> None:
-        self.build("echo old", age=10)
+    def test_a_source_that_has_changed(self) -> None:
+        self.build("echo old")
+        (self.top / "crates" / "ltm_a" / "src" / "lib.rt").write_text("// changed\n")
         self.rt(ANSWERS, "echo new;" + ENDED.format(0))
         done = self.run_ltm("case", "load")
         self.assertEqual((done.returncode, done.stdout), (0, "new\n"))
-        self.assertIn("a source is newer than the proved program", done.stderr)
+        self.assertIn("a source has changed since the program was proved: crates/ltm_a/src/lib.rt", done.stderr)
         self.assertNotEqual(self.run_ltm("--install", str(self.folder / "bin")).returncode, 0)
+        self.assertFalse((self.folder / "bin").exists())
 
     def test_folders(self) -> None:
         self.assertEqual(self.run_ltm("nowhere", "load").returncode, 2)
@@ -181,7 +193,7 @@ class Proved(Clone):
         done = self.run_ltm("case", "load")
         self.assertEqual((done.returncode, done.stdout), (3, ""))
         self.assertIn("ltm: splits.csv is not there\n", done.stderr)
-        self.built.write_text("#!/bin/bash\necho bad case links row 1 Header\nexit 6\n")
+        self.build("echo bad case links row 1 Header; exit 6")
         self.case(links="link\n", splits="")
         self.assertIn("ltm: links.csv, line 1: the header", self.run_ltm("case", "load").stderr)
 
@@ -201,14 +213,6 @@ class Proved(Clone):
         self.assertEqual(done.returncode, 5)
         self.assertIn("ltm: the output failed", done.stderr)
 
-    def test_install(self) -> None:
-        self.build('echo installed: "$@"')
-        self.assertEqual(self.run_ltm("--install", str(self.folder / "bin")).returncode, 0)
-        done = subprocess.run([self.folder / "bin" / "ltm", "load"], capture_output=True, text=True)
-        self.assertEqual(done.stdout, "installed: load\n")
-        done = subprocess.run([self.folder / "bin" / "ltm-tools", "inspect", self.folder / "case"], env=self.environment(), capture_output=True, text=True)
-        self.assertIn("network     1 link, 2 nodes, 1 destination", done.stdout)
-
     def test_what_is_told(self) -> None:
         self.rt(PROVES)
         self.build("exit 0")
@@ -216,6 +220,330 @@ class Proved(Clone):
         told = self.run_ltm("--help").stdout
         for word in ("load", "curves", "check", "routes", "session N", "view V", "editors K", "try START NODES", "--prove", "--install DIR", "docs/FORMATS.md"):
             self.assertIn(word, told)
+
+
+    def test_the_program_that_a_variable_names(self) -> None:
+        """It answers in place of the proved one, and where there is none."""
+        self.rt(ANSWERS, "exit 1")
+        named = self.program("print('named', *sys.argv[1:])")
+        for name in (str(named), named.name):
+            done = self.run_ltm("case", "load", LTM=name)
+            self.assertEqual((done.returncode, done.stdout, done.stderr), (0, "named load\n", ""))
+        self.assertIn(f"LTM names {named}, which answers in its place", self.run_ltm("--version", LTM=str(named)).stdout)
+        self.assertEqual(self.run_ltm("case", "load", LTM=str(self.folder)).returncode, 1)
+        done = self.run_ltm("case", "load", LTM="nowhere")
+        self.assertEqual((done.returncode, done.stderr), (1, "ltm: the variable LTM names nowhere, which is no program that can be run\n"))
+        self.build("echo proved")
+        self.assertEqual(self.run_ltm("case", "load", LTM="").stdout, "proved\n")
+        self.assertRegex(self.run_ltm("--version", LTM=str(self.built)).stdout, "; proved; ")
+
+    def test_check_runs_once(self) -> None:
+        """A refusal of `check` is explained by what it has written, which took its time."""
+        self.build('echo "$@" >>"$MADE/runs"; echo loading no node n2 slot 1; exit 12')
+        done = self.run_ltm("case", "check")
+        self.assertEqual((done.returncode, done.stdout), (12, "loading no node n2 slot 1\n"))
+        self.assertEqual((self.made / "runs").read_text(), "check\n")
+        self.assertIn("ltm: the counts at the end of slot 1", done.stderr)
+        self.build("exit 3")
+        self.assertEqual(self.run_ltm("case", "check").stdout, "")
+
+    def test_a_script_that_was_partly_read(self) -> None:
+        """Lines are counted from the first that the session has read."""
+        self.build("cat >/dev/null")
+        (self.folder / "script").write_text('none\n{"do": "totals"}\n{"do": "none"}\n')
+        done = subprocess.run(["bash", "-c", "{ read -r line; clone/ltm case session 0; } <script"], cwd=self.folder, env=self.environment(), capture_output=True, text=True)
+        self.assertNotIn("line 1 of the script", done.stderr)
+        self.assertIn("ltm: line 2 of the script: ", done.stderr)
+        self.assertNotIn("line 3 of the script", done.stderr)
+
+
+class Surroundings(Clone):
+    def test_a_path_for_cd(self) -> None:
+        self.build("pwd")
+        (self.made / "case").mkdir()
+        for cdpath in (str(self.folder), str(self.made), f"{self.made}:{self.folder}:."):
+            done = subprocess.run(["clone/ltm", "case", "load"], cwd=self.folder, env={**self.environment(), "CDPATH": cdpath}, capture_output=True, text=True)
+            self.assertEqual((done.returncode, done.stdout, done.stderr), (0, f"{self.folder / 'case'}\n", ""))
+
+    def test_folders_that_end_in_a_newline(self) -> None:
+        self.build("cat setup.csv; pwd")
+        (self.folder / "case").rename(self.folder / "case\n")
+        self.top = self.top.rename(self.folder / "clone\n")
+        done = self.run_ltm("case\n", "load")
+        self.assertEqual((done.returncode, done.stderr), (0, ""))
+        self.assertEqual(done.stdout, f"{ROAD['setup']}{self.folder}/case\n\n")
+
+    def test_a_signal_ends_what_was_started(self) -> None:
+        body = 'echo $$ >"$MADE/pid"; exec sleep 60'
+        self.rt(ANSWERS, body)
+        for is_built in (False, True):
+            if is_built:
+                self.build(body)
+            for words, number in ((["load"], signal.SIGTERM), (["check"], signal.SIGHUP), (["session", "0"], signal.SIGKILL)):
+                with self.subTest(is_built=is_built, words=words):
+                    self.end_by(number, words)
+        self.assertEqual([path for path in self.made.iterdir() if path.name.startswith("tmp.") and not path.name.endswith("killed")], [])
+
+    def end_by(self, number: signal.Signals, words: list[str]) -> None:
+        """Runs the wrapper, ends it by a signal, and sees that what it had started ends too."""
+        noted = self.made / "pid"
+        noted.unlink(missing_ok=True)
+        with subprocess.Popen([self.top / "ltm", "case", *words], cwd=self.folder, env=self.environment(), stdin=subprocess.DEVNULL, stderr=subprocess.DEVNULL) as wrapper:
+            soon(lambda: noted.exists() and noted.read_text().endswith("\n"))
+            wrapper.send_signal(number)
+        self.assertNotEqual(wrapper.returncode, 0)
+        pid = int(noted.read_text())
+        soon(lambda: not is_running(pid))
+        self.assertFalse(is_running(pid))
+
+
+def soon(done: Callable[[], bool]) -> None:
+    """Waits until something is so, and at most for ten seconds."""
+    for _ in range(200):
+        if done():
+            return
+        time.sleep(0.05)
+
+
+def is_running(pid: int) -> bool:
+    """Whether there is such a process, which has not ended."""
+    try:
+        return "zombie" not in Path(f"/proc/{pid}/status").read_text()
+    except OSError:
+        return False
+
+
+class Proofs(Clone):
+    """What counts as proved, by the sums that stand beside the program."""
+
+    def setUp(self) -> None:
+        super().setUp()
+        self.rt(PROVES)
+
+    def text(self, name: str) -> Path:
+        return self.top / "crates" / name / "src" / "lib.rt"
+
+    def change(self, path: Path, text: str) -> None:
+        """Another text, with the time of the one before."""
+        times = path.stat()
+        path.write_text(text)
+        os.utime(path, ns=(times.st_atime_ns, times.st_mtime_ns))
+
+    def test_what_is_not_as_it_was_proved(self) -> None:
+        lib = self.text("ltm_a")
+        for what, reason in (
+            (lambda: self.change(lib, "// ltm_b\n"), "a source has changed since the program was proved: crates/ltm_a/src/lib.rt"),
+            (lambda: os.utime(self.text("ltm_c"), (0, 0)), "proved"),
+            (lambda: self.text("ltm_low_tests").unlink(), "proved"),
+            (lambda: self.text("ltm_low").unlink(), "a source is gone since the program was proved: crates/ltm_low/src/lib.rt"),
+            (lambda: lib.with_name("more.rt").write_text(""), "a source is new since the program was proved: crates/ltm_a/src/more.rt"),
+            (lambda: self.change(self.top / "crates.txt", CRATES + "# more\n"), "a source has changed since the program was proved: crates.txt"),
+            (lambda: (self.top / "HANDLES").write_text("Handles allowed: none.\n"), "a source is new since the program was proved: HANDLES"),
+            (lambda: self.change(self.built, "#!/bin/bash\necho another\n"), "the program that is there is not the one that was proved"),
+            (lambda: self.built.with_name("ltm.sums").unlink(), "the program that is there is not known to be proved"),
+            (lambda: self.built.chmod(0o644), "the program is not proved yet"),
+        ):
+            with self.subTest(reason=reason):
+                shutil.rmtree(self.top / "crates")
+                (self.top / "HANDLES").unlink(missing_ok=True)
+                self.fill()
+                self.build("echo as it was")
+                self.assertEqual(self.version(), "proved")
+                what()
+                self.assertEqual(self.version(), reason)
+
+    def test_sums_that_are_kept(self) -> None:
+        """Where nothing was touched no sum is made, and a change that keeps size and time is seen."""
+        self.build("echo proved")
+        time.sleep(2.1)
+        self.assertEqual(self.version(), "proved")
+        (self.made / "bin" / "python3").write_text("#!/bin/sh\nexit 1\n")
+        self.assertEqual(self.version(), "proved")
+        self.change(self.text("ltm_a"), "// ltm_b\n")
+        self.assertNotEqual(self.version(), "proved")
+
+    def test_what_has_changed_just_now_is_not_kept(self) -> None:
+        self.build("echo proved")
+        self.assertEqual(self.version(), "proved")
+        self.assertEqual([path.name for path in self.built.parent.iterdir() if "seen" in path.name], [])
+
+    def leave(self, name: str, text: str | bytes) -> None:
+        """A file that `rt` leaves beside the program."""
+        self.built.with_name(name).write_bytes(text if isinstance(text, bytes) else text.encode())
+
+    def test_a_program_that_rt_has_built(self) -> None:
+        """`rt run` leaves a stamp that ends with the program's sum. It counts once, and then the sums do."""
+        self.build("echo run", is_proved=False)
+        self.leave("ltm.stamp", "0" * 64 + "1" * 64)
+        self.assertEqual(self.version(), "the program that is there is not known to be proved")
+        self.leave("ltm.stamp", "0" * 64 + sum_of(self.built))
+        self.assertEqual(self.version(), "proved")
+        self.leave("ltm.stamp", "")
+        self.assertEqual(self.version(), "proved")
+        self.assertEqual(self.run_ltm("case", "load").stdout, "run\n")
+
+    def test_a_text_that_was_touched_since(self) -> None:
+        for what in (lambda: self.change(self.text("ltm_a"), "// ltm_b\n"), lambda: self.text("ltm_a").unlink(), lambda: shutil.rmtree(self.text("ltm_a").parent)):
+            shutil.rmtree(self.top / "crates")
+            self.fill()
+            self.build("echo run", is_proved=False)
+            self.leave("ltm.stamp", "0" * 64 + sum_of(self.built))
+            time.sleep(0.02)
+            what()
+            self.assertEqual(self.version(), "the program that is there is not known to be proved")
+
+    def test_a_program_that_the_gate_has_built(self) -> None:
+        """`rt ci` makes all `out` folders anew, and at last runs the program and leaves what it wrote."""
+        def gate(wrote: str, before: Callable[[], object] = lambda: None, after: Callable[[], object] = lambda: None) -> str:
+            shutil.rmtree(self.top / "crates")
+            self.fill()
+            (self.top / "crates" / "ltm" / "stdout").write_text("as is wanted\n")
+            time.sleep(0.02)
+            for name in stands_on(read_crates(CRATES)):
+                (self.top / "crates" / name / "out").mkdir()
+            time.sleep(0.02)
+            before()
+            self.build("echo gate", is_proved=False)
+            time.sleep(0.02)
+            self.leave("stdout", wrote)
+            after()
+            return self.version()
+
+        unknown = "the program that is there is not known to be proved"
+        self.assertEqual(gate("as is wanted\n"), "proved")
+        self.assertEqual(gate("another\n"), unknown)
+        self.assertEqual(gate("as is wanted\n", before=lambda: self.change(self.text("ltm_a"), "// ltm_b\n")), unknown)
+        self.assertEqual(gate("as is wanted\n", after=lambda: self.change(self.text("ltm_a"), "// ltm_b\n")), unknown)
+        self.assertEqual(gate("as is wanted\n", after=lambda: (time.sleep(0.02), self.build("echo another", is_proved=False))), unknown)
+
+
+class Installing(Clone):
+    def setUp(self) -> None:
+        super().setUp()
+        self.build('echo installed: "$@"')
+        self.into = self.folder / "bin"
+
+    def install(self, into: "str | Path | None" = None) -> "subprocess.CompletedProcess[str]":
+        return self.run_ltm("--install", str(into or self.into))
+
+    def answer(self) -> str:
+        return subprocess.run([self.into / "ltm", "load"], capture_output=True, text=True).stdout
+
+    def test_install(self) -> None:
+        self.assertEqual(self.install().returncode, 0)
+        self.assertEqual(self.answer(), "installed: load\n")
+        done = subprocess.run([self.into / "ltm-tools", "inspect", self.folder / "case"], env=self.environment(), capture_output=True, text=True)
+        self.assertIn("network     1 link, 2 nodes, 1 destination", done.stdout)
+        self.assertEqual(sorted(path.name for path in self.into.iterdir()), ["ltm", "ltm-tools", "ltm_tools"])
+
+    def test_its_own_copy_is_replaced(self) -> None:
+        self.install()
+        (self.into / "ltm_tools" / "__pycache__").mkdir()
+        (self.into / "ltm_tools" / "__pycache__" / "cli.pyc").write_text("")
+        (self.into / "my_own").write_text("mine")
+        self.build('echo again: "$@"')
+        done = self.install()
+        self.assertEqual((done.returncode, self.answer()), (0, "again: load\n"), done.stderr)
+        self.assertEqual(sorted(path.name for path in self.into.iterdir()), ["ltm", "ltm-tools", "ltm_tools", "my_own"])
+
+    def test_what_a_cut_installation_leaves(self) -> None:
+        """The tools are renamed first, and the program of before is known."""
+        self.install()
+        before = (self.into / "ltm").read_bytes()
+        self.build('echo again: "$@"')
+        self.install()
+        (self.into / "ltm").write_bytes(before)
+        self.assertEqual((self.install().returncode, self.answer()), (0, "again: load\n"))
+
+    def test_what_is_the_clones(self) -> None:
+        link = self.folder / "link"
+        link.symlink_to(self.top)
+        before = everything(self.top)
+        for into in (self.top, self.top / "tools", self.top / "bin", self.top / "crates" / "ltm" / "out", link, link / "tools"):
+            done = self.install(into)
+            self.assertEqual(done.returncode, 1, into)
+            self.assertIn("lies in the clone itself", done.stderr)
+        done = subprocess.run(["./ltm", "--install", "."], cwd=self.top, env=self.environment(), capture_output=True, text=True)
+        self.assertEqual((done.returncode, done.stderr), (1, "ltm-tools install: . lies in the clone itself, which stays as it is: name a folder outside of it\n"))
+        self.assertIn("a folder is wanted", self.run_ltm("--install", "").stderr)
+        self.assertEqual(everything(self.top), before)
+        # outside of the clone this folder is one like any other
+        self.into.mkdir()
+        done = subprocess.run([self.top / "ltm", "--install", "."], cwd=self.into, env=self.environment(), capture_output=True, text=True)
+        self.assertEqual((done.returncode, self.answer()), (0, "installed: load\n"), done.stderr)
+
+    def test_what_is_not_ours(self) -> None:
+        tools = self.into / "ltm_tools"
+
+        def put(path: Path, text: str) -> None:
+            path.parent.mkdir(exist_ok=True, parents=True)
+            path.write_text(text)
+
+        for is_installed, what, named in (
+            (False, lambda: put(self.into / "ltm", "mine"), "ltm"),
+            (False, lambda: put(self.into / "ltm" / "mine", "mine"), "ltm"),
+            (False, lambda: (self.into / "ltm").mkdir(parents=True), "ltm"),
+            (False, lambda: put(self.into / "ltm-tools", "mine"), "ltm-tools"),
+            (False, lambda: put(tools / "mine", "mine"), "ltm_tools"),
+            (False, lambda: tools.mkdir(parents=True), "ltm_tools"),
+            (True, lambda: put(tools / "mine", "mine"), "ltm_tools/mine"),
+            (True, lambda: put(tools / "cli.py", "mine"), "ltm_tools/cli.py"),
+            (True, lambda: put(self.into / "ltm", "mine"), "ltm"),
+            (True, lambda: (self.into / "ltm").unlink() or (self.into / "ltm").symlink_to(self.built), "ltm"),
+            (True, lambda: (tools / "link").symlink_to(self.folder), "ltm_tools/link"),
+        ):
+            shutil.rmtree(self.into, ignore_errors=True)
+            if is_installed:
+                self.install()
+            what()
+            with self.subTest(is_installed=is_installed, named=named):
+                before = everything(self.into)
+                done = self.install()
+                self.assertEqual(done.returncode, 1)
+                self.assertIn(f"{self.into}/{named} is no", done.stderr)
+                self.assertEqual(everything(self.into), before)
+        (self.folder / "file").write_text("mine")
+        self.assertIn("is no folder", self.install(self.folder / "file").stderr)
+
+    def start(self) -> "subprocess.Popen[str]":
+        return subprocess.Popen([self.top / "ltm", "--install", self.into], env=self.environment(), stderr=subprocess.PIPE, text=True)
+
+    def test_two_at_once(self) -> None:
+        """One waits for the other."""
+        self.install()
+        folder = os.open(self.into, os.O_RDONLY)
+        fcntl.flock(folder, fcntl.LOCK_EX)
+        both = [self.start(), self.start()]
+        with self.assertRaises(subprocess.TimeoutExpired):
+            both[0].wait(timeout=3)
+        os.close(folder)
+        self.assertEqual([(one.communicate()[1][:16], one.returncode) for one in both], [("ltm: installed: ", 0)] * 2)
+        self.assertEqual(self.answer(), "installed: load\n")
+        self.assertEqual(sorted(path.name for path in self.into.iterdir()), ["ltm", "ltm-tools", "ltm_tools"])
+
+    def test_a_clone_that_may_only_be_read(self) -> None:
+        """Whatever its modes are, the copy can be written by its owner, and replaced."""
+        for path in (*self.top.rglob("*"), self.top):
+            path.chmod(path.stat().st_mode & ~0o222)
+        try:
+            self.assertEqual(self.install().returncode, 0)
+        finally:
+            for path in (self.top, *self.top.rglob("*")):
+                path.chmod(path.stat().st_mode | 0o200)
+        self.assertEqual([path for path in self.into.rglob("*") if not path.stat().st_mode & 0o200], [])
+        self.assertEqual(self.install().returncode, 0)
+
+    def test_its_program_is_found_from_any_python(self) -> None:
+        """Also where a library is missing, and the tools run themselves anew by the Python that has it."""
+        self.install()
+        asked = "import sys; sys.path.append(sys.argv.pop(1)); from ltm_tools.program import find_program; print(find_program())"
+        done = subprocess.run([sys.executable, "-c", asked, self.into], cwd="/", env={"PATH": SYSTEM}, capture_output=True, text=True)
+        self.assertEqual(done.stdout, f"{self.into / 'ltm'}\n", done.stderr)
+
+
+def everything(top: Path) -> dict[str, bytes]:
+    """What stands below a folder; of a link, where it goes."""
+    return {str(path): os.readlink(path).encode() if path.is_symlink() else path.read_bytes() if path.is_file() else b"" for path in top.rglob("*")}
 
 
 class Proving(Clone):

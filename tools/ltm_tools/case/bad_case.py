@@ -7,10 +7,9 @@ from collections.abc import Iterable
 
 from ..errors import Fault
 from ..files import shown
-from ..formats import (HEADERS, MOST_CELLS, MOST_CELLS_ASKED, MOST_DEMAND_ROWS, MOST_DESTINATIONS, MOST_IN,
-                       MOST_LINKS, MOST_OUT, MOST_SLOTS, MOST_SLOT_UNITS, MOST_SPLIT_ROWS, MOST_STEP_MS, NAME_RULE,
-                       SETUP, SETUP_MORE, VEHICLES_RULE, WEIGHTS_RULE, WHOLE_RULE, count_text, headers_of,
-                       vehicles_text)
+from ..formats import (HEADERS, MOST_CELLS, MOST_CELLS_ASKED, MOST_DEMAND_ROWS, MOST_DESTINATIONS, MOST_DESTINATIONS_ASKED, MOST_IN,
+                       MOST_LINKS, MOST_LINKS_ASKED, MOST_OUT, MOST_ROWS_ASKED, MOST_SLOTS, MOST_SLOT_UNITS, MOST_SPLIT_ROWS, MOST_STEP_MS,
+                       NAME_RULE, SETUP, SETUP_MORE, VEHICLES_RULE, WEIGHTS_RULE, WHOLE_RULE, count_text, headers_of, vehicles_text)
 from .cells import asked_for, memory_text
 
 KINDS = {"name": f"a name is {NAME_RULE}", "whole": f"a whole number is {WHOLE_RULE}", "vehicles": f"vehicles are {VEHICLES_RULE}",
@@ -107,9 +106,13 @@ def setup_range(place: int, name: str, text: str) -> BadCase:
     rules = {"step_ms": f"a step is 1 to {MOST_STEP_MS} milliseconds", "slots": f"there are 1 to {MOST_SLOTS} slots",
              "origin_capacity": f"an origin capacity is 0.001 to {SLOT_VEHICLES} vehicles in a slot",
              "signals": "it is 1 where there is a signals.csv, and else 0", "limits": "it is 1 where there is a limits.csv, and else 0",
-             "cells": f"it is 1 to {count_text(MOST_CELLS_ASKED)}"}
+             "cells": f"it is 1 to {count_text(MOST_CELLS_ASKED)}", "rows": f"it is 1 to {count_text(MOST_ROWS_ASKED)}",
+             "links": f"it is 1 to {count_text(MOST_LINKS_ASKED)}", "destinations": f"it is 1 to {count_text(MOST_DESTINATIONS_ASKED)}",
+             "moves": "it is 1 where what moves is floored for each turn, and 0 where it is for each destination"}
     advice = {"slots": "take a longer step, and so fewer slots", "step_ms": "a second is 1000",
-              "cells": f"without this column it is {count_text(MOST_CELLS)}"}.get(name, "") if text.strip("0") else ""
+              "cells": f"without this column it is {count_text(MOST_CELLS)}", "links": f"without this column it is {count_text(MOST_LINKS)}",
+              "rows": f"without this column it is {count_text(MOST_DEMAND_ROWS)} for demand and {count_text(MOST_SPLIT_ROWS)} for splits",
+              "destinations": f"without this column it is {MOST_DESTINATIONS}"}.get(name, "") if text.strip("0") else ""
     return BadCase("setup", 2, f"Range {place}", rules[name], advice, place)
 
 
@@ -121,9 +124,14 @@ def self_loop(row: int, node: str) -> BadCase:
     return BadCase("links", row, "SelfLoop", f"the link begins and ends at the node {node}", "a link joins two nodes", 3)
 
 
-def too_many_links(row: int) -> BadCase:
-    return BadCase("links", row, "TooManyLinks", f"there are {count_text(MOST_LINKS)} links already, which is the most",
-                   "take a part of the network, or merge links that follow one another")
+def asking(column: str, most: int, most_asked: int) -> str:
+    """How the setup asks for more than it allows, where it may."""
+    return f"write up to {most_asked} in the column {column} of setup.csv; or " if most < most_asked else ""
+
+
+def too_many_links(row: int, most: int) -> BadCase:
+    return BadCase("links", row, "TooManyLinks", f"there are {count_text(most)} links already, which is the most",
+                   f"{asking('links', most, MOST_LINKS_ASKED)}take a part of the network, or merge links that follow one another")
 
 
 def too_many_out(row: int, node: str, links: Iterable[str]) -> BadCase:
@@ -204,29 +212,29 @@ def zero_weight(row: int) -> BadCase:
     return BadCase("splits", row, "ZeroWeight", "all weights are 0", "give at least one link a weight above 0", 4)
 
 
-def too_many_destinations(file: str, row: int, node: str) -> BadCase:
+def too_many_destinations(file: str, row: int, node: str, most: int) -> BadCase:
     return BadCase(file, row, "TooManyDestinations",
-                   f"{node} would be destination {MOST_DESTINATIONS + 1}, and at most {MOST_DESTINATIONS} may be",
-                   "gather nearby destinations in one node", 2)
+                   f"{node} would be destination {most + 1}, and at most {most} may be",
+                   f"{asking('destinations', most, MOST_DESTINATIONS_ASKED)}gather nearby destinations in one node", 2)
 
 
-def too_many_rows(file: str, row: int) -> BadCase:
-    most = MOST_DEMAND_ROWS if file == "demand" else MOST_SPLIT_ROWS
+def too_many_rows(file: str, row: int, most: int) -> BadCase:
     return BadCase(file, row, "TooManyRows", f"there are {count_text(most)} rows already, which is the most",
-                   "gather rows: longer spans, or fewer pairs")
+                   f"{asking('rows', most, MOST_ROWS_ASKED)}gather rows: longer spans, or fewer pairs")
 
 
-def too_many_routes(rows: int) -> BadCase:
-    return BadCase("whole", 0, "TooManyRows", f"the routes make {count_text(rows)} rows, and at most {count_text(MOST_SPLIT_ROWS)} may be",
-                   "take fewer destinations, or a smaller network")
+def too_many_routes(rows: int, most: int) -> BadCase:
+    asked = f"write {rows} in the column rows of setup.csv; or " if rows <= MOST_ROWS_ASKED else ""
+    return BadCase("whole", 0, "TooManyRows", f"the routes make {count_text(rows)} rows, and at most {count_text(most)} may be",
+                   f"{asked}take fewer destinations, or a smaller network")
 
 
 def no_split(node: str, destination: str, reason: str, advice: str) -> BadCase:
     return BadCase("whole", 0, f"NoSplit {node} {destination}", reason, advice)
 
 
-def cells_over(cells: int, most: int, fits: int, slots: int) -> BadCase:
+def cells_over(cells: int, most: int, fits: int, slots: int, produced: int) -> BadCase:
     rule = f"the case has {count_text(cells)} cells, and at most {count_text(most)} may be"
-    asking = f"write {asked_for(cells)} in the column cells of setup.csv, which takes {memory_text(cells)}; or " if cells <= MOST_CELLS_ASKED else ""
+    asked = f"write {asked_for(cells)} in the column cells of setup.csv, which takes {memory_text(cells, produced)}; or " if cells <= MOST_CELLS_ASKED else ""
     fitting = "not one slot fits: take " if fits < 1 else f"{count_text(fits)} of its {count_text(slots)} slots would fit: take fewer slots or a longer step, "
-    return BadCase("whole", 0, f"CellsOver {cells}", rule, f"{asking}{fitting}a smaller network, or fewer destinations")
+    return BadCase("whole", 0, f"CellsOver {cells}", rule, f"{asked}{fitting}a smaller network, or fewer destinations")

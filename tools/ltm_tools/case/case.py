@@ -6,7 +6,7 @@ from typing import Protocol
 
 from ..errors import Fault
 from .geojson import geojson
-from .places import FILE, read_places
+from .places import FILE, Places, read_places
 from .reading import read_case, read_network
 from .rows import Rows
 from .writing import write_rows
@@ -44,10 +44,14 @@ class Case(Rows):
         """Writes the files of the case into a folder, which is made where it is not there. Without splits no `splits.csv` is written."""
         write_rows(self, folder)
 
+    def places(self, folder: str | os.PathLike[str]) -> Places | None:
+        """Where its nodes lie and its links run, as the `nodes.csv` and the `shapes.csv` of a folder say; None where there is no `nodes.csv`."""
+        return read_places(folder, self)
+
     def to_geojson(self, folder: str | os.PathLike[str], curves: TellsLinks | None = None, boundary: int | None = None) -> str:
-        """The links as GeoJSON, with the places that the `nodes.csv` of a folder has; with the curves of the case's loading also what these
-        tell of each link, and what stands on it at a boundary."""
-        places = read_places(folder, self)
+        """The links as GeoJSON, with the places that the `nodes.csv` of a folder has, along the shapes of its `shapes.csv`; with the curves of
+        the case's loading also what these tell of each link, and what stands on it at a boundary."""
+        places = self.places(folder)
         if places is None:
             raise Fault(f"{os.fspath(folder)} has no {FILE}, which says where its nodes lie")
         return geojson(self, places, {} if curves is None else curves.told_of_links(self, boundary))

@@ -1,4 +1,5 @@
-"""Cells of a case that are more than one may have without asking: the number for the column `cells` of `setup.csv`, and the memory."""
+"""Cells of a case that are more than one may have without asking: the number for the column `cells` of `setup.csv`, and the memory that they
+and the table of what origins have produced take."""
 from fractions import Fraction
 
 from ..errors import Fault
@@ -8,6 +9,8 @@ from .rows import Rows
 ROUNDED_TO = 1_000_000
 LOAD_BYTES = (Fraction(11, 10), Fraction(2))  # of memory for a cell, as measured and at most
 SESSION_BYTES = (Fraction(2), Fraction(3))
+SESSION_TABLES = 2  # tables of what origins have produced, of which a load has one
+PRODUCED_BYTES = 8  # of a number of such a table
 
 
 def asked_for(cells: int) -> int:
@@ -15,15 +18,33 @@ def asked_for(cells: int) -> int:
     return min(MOST_CELLS_ASKED, -(-cells // ROUNDED_TO) * ROUNDED_TO)
 
 
-def megabytes(cells: int, each: Fraction) -> str:
-    """The memory of cells in MB, rounded up."""
-    return count_text(-(-cells * each // 1_000_000))
+def produced_bytes(case: Rows) -> int:
+    """The memory of the table of what origins have produced: of each origin, up to the last slot with demand from there, a number for each
+    destination up to the last that it has in order of numbers, and one for all together."""
+    number = {node: place for place, node in enumerate(case.destinations)}
+    last: dict[str, tuple[int, int]] = {}
+    for row in case.standing_demand():
+        destination, slot = last.get(row.origin, (0, 0))
+        last[row.origin] = max(destination, number[row.destination]), max(slot, row.to_slot)
+    return PRODUCED_BYTES * sum((destination + 2) * slot for destination, slot in last.values())
 
 
-def memory_text(cells: int) -> str:
-    """What a load and a session of so many cells take: `about 60 MB for a load and 108 MB for a session, at most 108 and 162`."""
-    (load, most_load), (session, most_session) = ([megabytes(cells, each) for each in sizes] for sizes in (LOAD_BYTES, SESSION_BYTES))
+def megabytes(amount: Fraction) -> str:
+    """Bytes in MB, rounded up."""
+    return count_text(-(-amount // 1_000_000))
+
+
+def memory_text(cells: int, produced: int = 0) -> str:
+    """What a load and a session of so many cells take, with a table of what origins have produced of so many bytes:
+    `about 60 MB for a load and 108 MB for a session, at most 108 and 162`."""
+    load, most_load = (megabytes(cells * each + produced) for each in LOAD_BYTES)
+    session, most_session = (megabytes(cells * each + SESSION_TABLES * produced) for each in SESSION_BYTES)
     return f"about {load} MB for a load and {session} MB for a session, at most {most_load} and {most_session}"
+
+
+def cells_in(memory: int, produced: int) -> int:
+    """The cells for which a session surely finds so many bytes of memory, beside its tables of what origins have produced."""
+    return max(0, int((memory - SESSION_TABLES * produced) // SESSION_BYTES[1]))
 
 
 def ask_for_cells(case: Rows) -> str:
@@ -36,7 +57,7 @@ def ask_for_cells(case: Rows) -> str:
         return f"{count_text(cells)} cells of at most {count_text(MOST_CELLS)}"
     case.setup.cells = asked_for(cells)
     return (f"{count_text(cells)} cells, so the column cells of setup.csv asks for {count_text(case.setup.cells)}, as without it {count_text(MOST_CELLS)} may be:"
-            f" {memory_text(cells)}")
+            f" {memory_text(cells, produced_bytes(case))}")
 
 
 def cells_advice(case: Rows) -> str:

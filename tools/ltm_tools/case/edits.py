@@ -1,5 +1,5 @@
 """The edits of a session, as objects of its script. Amounts are thousandths of a vehicle; slots go up to, and without, `to_slot`."""
-from collections.abc import Mapping
+from collections.abc import Iterable, Mapping
 
 from ..formats import MOST_SLOT_UNITS, short_vehicles
 
@@ -26,6 +26,11 @@ def exit_limit(link: str, from_slot: int, to_slot: int, units: int = NO_LIMIT) -
 def split(node: str, destination: str, from_slot: int, weights: Mapping[str, int]) -> Edit:
     """Sets a split row."""
     return {"kind": "split", "node": node, "destination": destination, "from": from_slot, "weights": dict(weights)}
+
+
+def splits(node: str, destination: str, rows: Iterable[tuple[int, Mapping[str, int]]]) -> Edit:
+    """Sets all split rows of a node for a destination, each the slot from which on it stands, the first 0, and its weights: others go."""
+    return {"kind": "splits", "node": node, "destination": destination, "rows": [[slot, dict(weights)] for slot, weights in rows]}
 
 
 def diagram(link: str, length_m: int, free_kmh: int, wave_kmh: int, jam_per_km: int) -> Edit:

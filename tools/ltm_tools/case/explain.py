@@ -14,7 +14,7 @@ from ..formats import (HEADERS, MOST_CURVES_BYTES, MOST_EDITOR_LINES, MOST_FILE_
                        clock_text, count_text)
 from .bad_case import BadCase, NoFile
 from .case import Case
-from .cells import memory_text
+from .cells import memory_text, produced_bytes
 from .curve_faults import find_fault
 from .refusals import why_refused
 from .script import Line, line_text, parsed, read_line, script_lines
@@ -101,7 +101,7 @@ def files_beside(words: list[str]) -> list[str]:
     """The files that are fetched after those of the case."""
     if words[0] == "check":
         return ["curves.csv"]
-    if words[0] == "editors" and len(words) == 2 and words[1].isdigit():
+    if words[0] == "editors" and not usage_fault(words):
         return [f"edits{editor}.jsonl" for editor in range(1, int(words[1]) + 1)]
     return []
 
@@ -181,10 +181,11 @@ def too_much(folder: str, status: int, line: str, words: list[str]) -> Told:
 def no_memory(folder: str, words: list[str]) -> Told:
     """How large the case is, where memory was not found."""
     try:
-        cells = read(folder, words).cells()
+        case = read(folder, words)
     except Fault:
         return ["memory was not found"]
-    return [f"memory was not found; the case has {count_text(cells)} cells, {memory_text(cells)}", "    take fewer slots, or end other programs"]
+    cells = case.cells()
+    return [f"memory was not found; the case has {count_text(cells)} cells, {memory_text(cells, produced_bytes(case))}", "    take fewer slots, or end other programs"]
 
 
 def bad_curves(folder: str, line: str) -> Told:
@@ -207,7 +208,7 @@ def not_loading(folder: str, line: str) -> Told:
         return []
     if line.strip() == "loading no start":
         return ["a count at boundary 0 is not 0, or something leaves the origin of a node without links out of it"]
-    found = re.fullmatch(r"loading no node ([A-Za-z0-9_-]+) slot ([0-9]+)", line.strip())
+    found = re.fullmatch(r"loading no node ([A-Za-z0-9_-]+) slot ([0-9]{1,10})", line.strip())
     if found is None or found[1] not in case.nodes or int(found[2]) >= case.setup.slots:
         return []
     node, slot = found[1], int(found[2])
@@ -220,7 +221,7 @@ def not_loading(folder: str, line: str) -> Told:
 
 def bad_script(folder: str, line: str) -> Told:
     """Why a line of a file of edits is no edit."""
-    found = re.fullmatch(r"bad script edits([1-8]) line ([0-9]+) (NotEdit|NotJson|NotCommand [0-9]+)", line.strip())
+    found = re.fullmatch(r"bad script edits([1-8]) line ([0-9]{1,10}) (NotEdit|NotJson|NotCommand [0-9]+)", line.strip())
     if found is None:
         return []
     name, number = f"edits{found[1]}.jsonl", int(found[2])

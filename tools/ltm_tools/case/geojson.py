@@ -9,11 +9,11 @@ from .rows import Rows
 
 
 def geojson(case: Rows, places: Places, more: Mapping[str, Mapping[str, object]]) -> str:
-    """The links as GeoJSON, straight lines between their nodes, with the numbers of their diagrams and `more` by link. Places in degrees are
-    as the standard asks; others have a member `crs` that names their projection, which QGIS and GDAL read."""
+    """The links as GeoJSON, along their shapes, with the numbers of their diagrams and `more` by link. Places in degrees are as the standard
+    asks; others have a member `crs` that names their projection, which QGIS and GDAL read."""
     features = []
     for link in case.links:
-        line = [list(places.of[link.tail]), list(places.of[link.head])]
+        line = [list(point) for point in places.line(link)]
         told = {"link": link.name, "from": link.tail, "to": link.head, "length_m": link.length_m, "free_kmh": link.free_kmh,
                 "wave_kmh": link.wave_kmh, "jam_per_km": link.jam_per_km, **more.get(link.name, {})}
         features.append({"type": "Feature", "properties": told, "geometry": {"type": "LineString", "coordinates": line}})

@@ -8,9 +8,10 @@ from ..formats import (HOUR_MS, MOST_CELLS_ASKED, MOST_SLOTS, clock_text, count_
                        vehicles_text)
 from .bad_case import BadCase
 from .case import Case
-from .cells import SESSION_BYTES, asked_for, memory_text
+from .cells import asked_for, cells_in, memory_text, produced_bytes
 from .circles import find_circles
 from .fields import fetch, read_header
+from .flooring import flooring_lines
 from .reading import Reader, read_setup
 from .rows import Link
 
@@ -70,7 +71,7 @@ def inspect(folder: str) -> list[str]:
     except Fault:
         pass
     else:
-        told = [*size_lines(case), *step_lines(case), *circle_lines(case), *origin_lines(case)]
+        told = [*size_lines(case), *step_lines(case), *circle_lines(case), *origin_lines(case), *flooring_lines(case)]
     return told + refusal_lines(folder, refusal)
 
 
@@ -89,7 +90,8 @@ def size_lines(case: Case) -> list[str]:
         first, last = min(row.from_slot for row in demand), max(row.to_slot for row in demand)
         span = f", setting out from {clock_text(first * setup.step_ms)} to {clock_text(last * setup.step_ms)}"
     cells, fits = case.cells(), case.slots_that_fit()
-    in_memory = min(fits, case.slots_that_fit(int(free_memory() // SESSION_BYTES[1])))
+    produced = produced_bytes(case)
+    in_memory = min(fits, case.slots_that_fit(cells_in(free_memory(), produced)))
     asking = f"; the column cells of setup.csv may ask for {asked_for(cells)}" if setup.most_cells < cells <= MOST_CELLS_ASKED else ""
     return [
         f"network     {counted(len(case.links), 'link')}, {counted(len(case.nodes), 'node')}, {counted(len(case.destinations), 'destination')}",
@@ -98,7 +100,7 @@ def size_lines(case: Case) -> list[str]:
         f"horizon     {clock_text(setup.horizon_ms)}, {counted(setup.slots, 'slot')} of {setup.step_ms} ms",
         f"cells       {count_text(cells)} of at most {count_text(setup.most_cells)}; up to {count_text(fits)} slots fit"
         + (", the most there may be" if fits == MOST_SLOTS else "") + asking,
-        f"memory      {memory_text(cells)}; up to {count_text(in_memory)} slots fit in what is free",
+        f"memory      {memory_text(cells, produced)}; up to {count_text(in_memory)} slots fit in what is free",
     ]
 
 

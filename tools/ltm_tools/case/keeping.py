@@ -8,25 +8,97 @@ from __future__ import annotations
 import copy
 import json
 import os
-from collections.abc import Iterable, Sequence
-from typing import NamedTuple
+from collections.abc import Callable, Iterable, Sequence
+from dataclasses import replace
+from typing import Generic, NamedTuple, TypeVar
 
 from ..errors import Fault
 from ..files import read_bytes, write_bytes
 from ..formats import MOST_SLOT_UNITS, units_of
 from ..program import output
+from ..replacing import together
 from .case import Case
 from .edits import Edit
-from .places import FILE
+from .places import FILES
 from .rows import Demand, Limit, Split
 
 
+Row = TypeVar("Row", Demand, Split)
+
+
+class ByKey(Generic[Row]):
+    """Rows in their order, of which one with the key of others takes their place, behind all."""
+
+    def __init__(self, rows: Iterable[Row], key: Callable[[Row], object]) -> None:
+        self.key: Callable[[Row], object] = key
+        self.count = 0
+        self.rows: dict[int, Row] = {}
+        self.places: dict[object, list[int]] = {}
+        for row in rows:
+            self.add(row)
+
+    def add(self, row: Row) -> None:
+        """Adds a row behind the others."""
+        self.rows[self.count] = row
+        self.places.setdefault(self.key(row), []).append(self.count)
+        self.count += 1
+
+    def put(self, row: Row) -> None:
+        """Adds a row behind the others, and takes out those with its key."""
+        self.take_out(self.key(row))
+        self.add(row)
+
+    def take_out(self, key: object) -> None:
+        """Takes out the rows with a key."""
+        for place in self.places.pop(key, ()):
+            del self.rows[place]
+
+
+class Layers:
+    """Rows of limits in their order, of which a later one goes over earlier ones of its link."""
+
+    def __init__(self, rows: Iterable[Limit]) -> None:
+        self.count = 0
+        self.of: dict[str, dict[int, Limit]] = {}
+        for row in rows:
+            self.add(row)
+
+    def add(self, row: Limit) -> None:
+        """Adds a row over the others."""
+        self.of.setdefault(row.link, {})[self.count] = row
+        self.count += 1
+
+    def lay(self, row: Limit) -> None:
+        """Adds a row over the others, and takes out those of which it leaves nothing; it is left out where it takes nothing back."""
+        under = self.of.get(row.link, {})
+        self.of[row.link] = {place: other for place, other in under.items() if other.from_slot < row.from_slot or other.to_slot > row.to_slot}
+        over = any(other.from_slot < row.to_slot and other.to_slot > row.from_slot for other in self.of[row.link].values())
+        if over or row.units < MOST_SLOT_UNITS:
+            self.add(row)
+
+    def rows(self) -> list[Limit]:
+        """All rows in their order."""
+        return [row for _, row in sorted(pair for rows in self.of.values() for pair in rows.items())]
+
+
 class Keeper:
-    """A case, and what accepted edits make of it."""
+    """A case, and what accepted edits make of it, each in about the same time however many came before."""
 
     def __init__(self, case: Case) -> None:
         self.case = copy.deepcopy(case)
-        self.destinations = list(case.destinations)
+        self.destinations = dict.fromkeys(case.destinations)
+        self.links = {link.name: link for link in self.case.links}
+        self.demand: ByKey[Demand] = ByKey(self.case.demand, lambda row: (row.origin, row.destination, row.from_slot, row.to_slot))
+        self.splits: ByKey[Split] = ByKey(self.case.splits or (), lambda row: (row.node, row.destination, row.from_slot))
+        self.slots: dict[tuple[str, str], set[int]] = {}  # at which the rows of each pair begin
+        for row in self.splits.rows.values():
+            self.slots.setdefault((row.node, row.destination), set()).add(row.from_slot)
+        self.limits, self.signals = Layers(self.case.limits), Layers(self.case.signals)
+
+    def put_split(self, row: Split) -> None:
+        """Adds a split row, in place of one with its key."""
+        self.slots.setdefault((row.node, row.destination), set()).add(row.from_slot)
+        self.splits.put(row)
 
     def make(self, batch: Iterable[Edit]) -> None:
         """Makes an accepted batch."""
@@ -35,39 +107,39 @@ class Keeper:
 
     def edit(self, edit: Edit) -> None:
         """Makes an accepted edit."""
-        kind, case = edit["kind"], self.case
+        kind = edit["kind"]
         if kind == "demand":
-            self.name(str(edit["destination"]))
-            row = Demand(str(edit["origin"]), str(edit["destination"]), whole(edit["from"]), whole(edit["to"]), units_of(str(edit["vehicles"])))
-            case.demand = [other for other in case.demand if key_of(other) != key_of(row)] + [row]
+            self.destinations.setdefault(str(edit["destination"]))
+            self.demand.put(Demand(str(edit["origin"]), str(edit["destination"]), whole(edit["from"]), whole(edit["to"]), units_of(str(edit["vehicles"]))))
         elif kind == "split":
-            self.name(str(edit["destination"]))
+            self.destinations.setdefault(str(edit["destination"]))
             weights = edit["weights"]
-            assert isinstance(weights, dict) and case.splits is not None
-            split = Split(str(edit["node"]), str(edit["destination"]), whole(edit["from"]), dict(weights))
-            case.splits = [other for other in case.splits if (other.node, other.destination, other.from_slot) != (split.node, split.destination, split.from_slot)] + [split]
+            assert isinstance(weights, dict) and self.case.splits is not None
+            self.put_split(Split(str(edit["node"]), str(edit["destination"]), whole(edit["from"]), dict(weights)))
+        elif kind == "splits":
+            self.destinations.setdefault(str(edit["destination"]))
+            pair, rows = (str(edit["node"]), str(edit["destination"])), edit["rows"]
+            assert isinstance(rows, list) and self.case.splits is not None
+            for begin in self.slots.pop(pair, ()):
+                self.splits.take_out((*pair, begin))
+            for slot, of in rows:
+                self.put_split(Split(*pair, whole(slot), dict(of)))
         elif kind in ("limit", "exit"):
-            limit = Limit(str(edit["link"]), whole(edit["from"]), whole(edit["to"]), units_of(str(edit["vehicles"])))
-            if kind == "exit":
-                case.signals = laid_over(case.signals, limit)
-            else:
-                case.limits = laid_over(case.limits, limit)
+            layers = self.limits if kind == "limit" else self.signals
+            layers.lay(Limit(str(edit["link"]), whole(edit["from"]), whole(edit["to"]), units_of(str(edit["vehicles"]))))
         elif kind == "diagram":
-            link = case.link(str(edit["link"]))
+            link = self.links[str(edit["link"])]
             link.length_m, link.free_kmh, link.wave_kmh, link.jam_per_km = (whole(edit[name]) for name in ("length_m", "free_kmh", "wave_kmh", "jam_per_km"))
         else:
-            case.setup.slots = whole(edit["slots"])
-
-    def name(self, destination: str) -> None:
-        if destination not in self.destinations:
-            self.destinations.append(destination)
+            self.case.setup.slots = whole(edit["slots"])
 
     def kept(self) -> Case:
         """The case of the scenario."""
-        case = copy.deepcopy(self.case)
+        demand, splits = list(self.demand.rows.values()), None if self.case.splits is None else list(self.splits.rows.values())
+        case = copy.deepcopy(replace(self.case, demand=demand, splits=splits, limits=self.limits.rows(), signals=self.signals.rows()))
         case.setup.signals = case.setup.signals or bool(case.signals)
         case.setup.limits = case.setup.limits or bool(case.limits)
-        if case.destinations != self.destinations:
+        if case.destinations != list(self.destinations):
             case.demand = [self.naming(node) for node in self.destinations] + case.demand
         return case
 
@@ -75,17 +147,6 @@ class Keeper:
         """A row of demand without vehicles, which names a destination and stands for nothing."""
         origin = next(link.tail for link in self.case.links if link.tail != destination)
         return Demand(origin, destination, 0, 1, 0)
-
-
-def laid_over(rows: list[Limit], row: Limit) -> list[Limit]:
-    """Rows of limits with one more that goes over them, without those of which it leaves nothing; it is left out where it takes nothing back."""
-    left = [other for other in rows if other.link != row.link or other.from_slot < row.from_slot or other.to_slot > row.to_slot]
-    over = any(other.link == row.link and other.from_slot < row.to_slot and other.to_slot > row.from_slot for other in left)
-    return [*left, row] if over or row.units < MOST_SLOT_UNITS else left
-
-
-def key_of(row: Demand) -> tuple[str, str, int, int]:
-    return row.origin, row.destination, row.from_slot, row.to_slot
 
 
 def whole(value: object) -> int:
@@ -106,12 +167,13 @@ def case_of(folder: str | os.PathLike[str], made: Sequence[Sequence[Edit]], vers
 
 
 def keep(folder: str | os.PathLike[str], made: Sequence[Sequence[Edit]], to: str | os.PathLike[str], version: int | None = None) -> None:
-    """Writes that case into another folder, with the places of the nodes as they are where the first folder has them."""
-    places = os.path.join(folder, FILE)
-    data = read_bytes(places) if os.path.exists(places) else None
-    case_of(folder, made, version).write(to)
-    if data is not None:
-        write_bytes(os.path.join(to, FILE), data)
+    """Writes that case into another folder, with the places of nodes and the shapes of links as they are where the first folder has them."""
+    kept = {name: read_bytes(path) for name in FILES if os.path.exists(path := os.path.join(folder, name))}
+    case = case_of(folder, made, version)
+    with together():
+        case.write(to)
+        for name, data in kept.items():
+            write_bytes(os.path.join(to, name), data)
 
 
 class Batch(NamedTuple):

@@ -7,9 +7,8 @@ import os
 from collections.abc import Callable, Iterable
 
 from ..files import records
-from ..formats import (HEADERS, MOST_CELLS_ASKED, MOST_DEMAND_ROWS, MOST_DESTINATIONS, MOST_IN, MOST_JAM_PER_KM,
-                       MOST_KMH, MOST_LENGTH_M, MOST_LINKS, MOST_OUT, MOST_SLOTS, MOST_SLOT_UNITS, MOST_SPLIT_ROWS,
-                       MOST_STEP_MS, weights_or_none)
+from ..formats import (HEADERS, MOST_CELLS_ASKED, MOST_DESTINATIONS_ASKED, MOST_IN, MOST_JAM_PER_KM, MOST_KMH, MOST_LENGTH_M,
+                       MOST_LINKS_ASKED, MOST_OUT, MOST_ROWS_ASKED, MOST_SLOTS, MOST_SLOT_UNITS, MOST_STEP_MS, weights_or_none)
 from . import bad_case
 from .bad_case import NoFile
 from .fields import check_width, fetch, name_in, read_header, units_in, whole_in
@@ -17,6 +16,10 @@ from .rows import Demand, Limit, Link, Rows, Setup, Split
 from .valid import check_cells, check_routes, check_splits
 
 MOST_DIAGRAM = (MOST_LENGTH_M, MOST_KMH, MOST_KMH, MOST_JAM_PER_KM)
+RANGES = {"step_ms": (1, MOST_STEP_MS), "slots": (1, MOST_SLOTS), "origin_capacity": (1, MOST_SLOT_UNITS), "signals": (0, 1), "limits": (0, 1),
+          "cells": (1, MOST_CELLS_ASKED), "rows": (1, MOST_ROWS_ASKED), "links": (1, MOST_LINKS_ASKED),
+          "destinations": (1, MOST_DESTINATIONS_ASKED), "moves": (0, 1)}
+"""Of each field of `setup.csv` the least and the most."""
 
 
 def read_case(folder: str | os.PathLike[str], *, splits: bool | None = None) -> Rows:
@@ -73,16 +76,15 @@ def read_setup(data: bytes) -> Setup:
     step_ms, slots = whole_in("setup", 2, fields, 1), whole_in("setup", 2, fields, 2)
     values = [step_ms, slots, units_in("setup", 2, fields, 3)]
     values += [whole_in("setup", 2, fields, place) for place in range(4, width + 1)]
-    least_and_most = {"step_ms": (1, MOST_STEP_MS), "slots": (1, MOST_SLOTS), "origin_capacity": (1, MOST_SLOT_UNITS),
-                      "signals": (0, 1), "limits": (0, 1), "cells": (1, MOST_CELLS_ASKED)}
     named = dict(zip(found[0].fields, values))
     for place, (name, value) in enumerate(named.items(), 1):
-        least, most = least_and_most[name]
+        least, most = RANGES[name]
         if not least <= value <= most:
             raise bad_case.setup_range(place, name, fields[place - 1])
     if len(found) > 2:
         raise bad_case.second_setup_record()
-    return Setup(step_ms, slots, values[2], named.get("signals") == 1, named.get("limits") == 1, named.get("cells"))
+    return Setup(step_ms, slots, values[2], named.get("signals") == 1, named.get("limits") == 1, named.get("cells"), named.get("rows"),
+                 named.get("links"), named.get("destinations"), named.get("moves") == 1)
 
 
 class Reader:
@@ -124,8 +126,8 @@ class Reader:
             raise bad_case.twice_named(row, link.name, self.rows[link.name])
         if link.tail == link.head:
             raise bad_case.self_loop(row, link.tail)
-        if len(self.links) >= MOST_LINKS:
-            raise bad_case.too_many_links(row)
+        if len(self.links) >= self.case.setup.most_links:
+            raise bad_case.too_many_links(row, self.case.setup.most_links)
         if len(self.out.get(link.tail, ())) >= MOST_OUT:
             raise bad_case.too_many_out(row, link.tail, self.out[link.tail])
         if len(self.into.get(link.head, ())) >= MOST_IN:
@@ -140,8 +142,9 @@ class Reader:
             raise bad_case.unknown(file, row, place, "node", name, nearest(name, self.out))
 
     def add_destination(self, file: str, row: int, node: str) -> None:
-        if node not in self.destinations and len(self.destinations) >= MOST_DESTINATIONS:
-            raise bad_case.too_many_destinations(file, row, node)
+        most = self.case.setup.most_destinations
+        if node not in self.destinations and len(self.destinations) >= most:
+            raise bad_case.too_many_destinations(file, row, node, most)
         self.destinations.add(node)
 
     def add_demand(self, row: int, fields: list[str]) -> None:
@@ -157,8 +160,9 @@ class Reader:
         self.check_slots("demand", row, first, end)
         self.add_destination("demand", row, destination)
         key = (origin, destination, first, end)
-        if units and key not in self.demand and len(self.demand) >= MOST_DEMAND_ROWS:
-            raise bad_case.too_many_rows("demand", row)
+        most = self.case.setup.most_demand_rows
+        if units and key not in self.demand and len(self.demand) >= most:
+            raise bad_case.too_many_rows("demand", row, most)
         (self.demand.add if units else self.demand.discard)(key)
         self.case.demand.append(Demand(*key, units))
 
@@ -185,8 +189,9 @@ class Reader:
             raise bad_case.zero_weight(row)
         self.add_destination("splits", row, destination)
         key = (node, destination, first)
-        if key not in self.splits and len(self.splits) >= MOST_SPLIT_ROWS:
-            raise bad_case.too_many_rows("splits", row)
+        most = self.case.setup.most_split_rows
+        if key not in self.splits and len(self.splits) >= most:
+            raise bad_case.too_many_rows("splits", row, most)
         self.splits.add(key)
         assert self.case.splits is not None
         self.case.splits.append(Split(*key, weights))

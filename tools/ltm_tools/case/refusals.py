@@ -5,25 +5,24 @@ is told.
 """
 from collections.abc import Mapping
 
-from ..formats import MOST_DEMAND_ROWS, MOST_SLOTS, MOST_SPLIT_ROWS, count_text
+from ..formats import MOST_SLOTS, count_text, told_or_none, whole_of
 from .bad_case import BadCase
 from .case import Case
 from .reading import check_diagram
 from .rows import Link
 
 Members = Mapping[str, object]
+QUESTIONS = ("link", "time", "queue", "origin", "state", "curve", "departures")
 
 
 def why_refused(case: Case, command: Members, answer: str) -> str:
     """One line for an answer `refused ..` to a command of a script; nothing where the command does not show why."""
     words = answer.split()
-    if words[:1] == ["refused"] and len(words) == 3 and words[1] in ("link", "time", "queue", "origin"):
+    if words[:1] == ["refused"] and len(words) == 3 and words[1] in QUESTIONS:
         return of_question(case, command, words[2])
-    if words[:2] != ["refused", "edit"] or len(words) < 4 or not words[2].isdigit():
-        return ""
+    place = whole_of(words[2]) if words[:2] == ["refused", "edit"] and len(words) > 3 else None
     edits = command.get("edits")
-    place = int(words[2])
-    if not isinstance(edits, (list, tuple)) or not 1 <= place <= len(edits) or not isinstance(edits[place - 1], Mapping):
+    if place is None or not isinstance(edits, (list, tuple)) or not 1 <= place <= len(edits) or not isinstance(edits[place - 1], Mapping):
         return ""
     return of_edit(case, edits[place - 1], words[3:])
 
@@ -50,14 +49,15 @@ def of_edit(case: Case, edit: Members, cause: list[str]) -> str:
     if cause[0] == "BadSlots":
         return bad_slots(edit)
     if cause[0] == "ZeroWeight":
-        return "all weights are 0"
+        zero = next((f" of row {number}" for number, (_, weights) in enumerate(rows_of(edit), 1) if not any(weights.values())), "")
+        return f"all weights{zero} are 0"
     if cause[0] == "OpenSplit":
         return open_split(edit)
     if cause[0] == "TooManyRows":
-        most = MOST_DEMAND_ROWS if kind == "demand" else MOST_SPLIT_ROWS
-        return f"there are {count_text(most)} rows already, which is the most"
-    if cause[0] == "CellsOver" and len(cause) == 2 and cause[1].isdigit():
-        return f"the case would have {count_text(int(cause[1]))} cells, and at most {count_text(case.setup.most_cells)} may be"
+        most = case.setup.most_demand_rows if kind == "demand" else case.setup.most_split_rows
+        return f"there {f'would be more than {count_text(most)} rows' if kind == 'splits' else f'are {count_text(most)} rows already'}, which is the most"
+    if cause[0] == "CellsOver" and len(cause) == 2 and (cells := told_or_none(cause[1])) is not None:
+        return f"the case would have {count_text(cells)} cells, and at most {count_text(case.setup.most_cells)} may be"
     return diagram(case, edit, " ".join(cause)) if kind == "diagram" else ""
 
 
@@ -67,16 +67,36 @@ def unknown(case: Case, members: Members) -> str:
     for place in ("link", "origin", "node", "destination"):
         if place in members and members[place] not in (links if place == "link" else nodes):
             return f"links.csv has no {'link' if place == 'link' else 'node'} {members[place]}"
-    weights = members.get("weights")
-    if isinstance(weights, Mapping):
-        out = [link.name for link in case.out_links(str(members.get("node")))]
-        wrong = [str(name) for name in weights if name not in out]
+    out = [link.name for link in case.out_links(str(members.get("node")))]
+    for weights in (members.get("weights"), *(row[1] for row in rows_of(members))):
+        wrong = [str(name) for name in weights if name not in out] if isinstance(weights, Mapping) else []
         if wrong:
             return f"{wrong[0]} is no link out of {members.get('node')}: these are {', '.join(out) or 'none'}"
     return ""
 
 
+def rows_of(edit: Members) -> list[tuple[int, Members]]:
+    """The rows of an edit `splits`, each a slot and weights; none of another."""
+    rows = edit.get("rows")
+    pairs = rows if isinstance(rows, (list, tuple)) and edit.get("kind") == "splits" else ()
+    return [(row[0], row[1]) for row in pairs if isinstance(row, (list, tuple)) and len(row) == 2 and isinstance(row[0], int)]
+
+
+def bad_rows(edit: Members) -> str:
+    """Which row of an edit `splits` begins at a slot that it may not."""
+    before = -1
+    for number, (slot, _) in enumerate(rows_of(edit), 1):
+        if number == 1 and slot:
+            return f"the first row begins at slot {slot}, and is to begin at slot 0"
+        if slot <= before:
+            return f"row {number} begins at slot {slot}, which is not behind slot {before} of the row before"
+        before = slot
+    return f"slots from {before} on go past the horizon"
+
+
 def bad_slots(edit: Members) -> str:
+    if edit.get("kind") == "splits":
+        return bad_rows(edit)
     first, end = edit.get("from"), edit.get("to")
     if edit.get("kind") == "horizon":
         return f"a horizon of {edit.get('slots')} slots is no longer than the one before, or above {count_text(MOST_SLOTS)}"
@@ -88,6 +108,8 @@ def bad_slots(edit: Members) -> str:
 def open_split(edit: Members) -> str:
     if edit.get("kind") == "demand":
         return f"no split row says how traffic for {edit.get('destination')} goes on from {edit.get('origin')}"
+    if edit.get("kind") == "splits":
+        return "a weight leads to a node where no split row says how it goes on"
     return (f"the row would be the first of {edit.get('node')} for {edit.get('destination')} and begin after slot 0, or a weight leads to "
             "a node where no split row says how it goes on")
 

@@ -2,13 +2,15 @@
 from collections.abc import Iterator
 from dataclasses import dataclass, field
 
-from ..formats import MOST_CELLS, MOST_SLOTS, MOST_SLOT_UNITS, MOST_STEP_MS
+from ..formats import (MOST_CELLS, MOST_DEMAND_ROWS, MOST_DESTINATIONS, MOST_LINKS, MOST_SLOTS, MOST_SLOT_UNITS, MOST_SPLIT_ROWS,
+                       MOST_STEP_MS)
 
 
 @dataclass(slots=True)
 class Setup:
     """The file `setup.csv`: the step in ms, the number of slots, what an origin can send in a slot in thousandths of a vehicle; whether
-    there are a `signals.csv` and a `limits.csv`; and the most cells, None where the column is not there."""
+    there are a `signals.csv` and a `limits.csv`; the most cells, rows of demand and as many of splits, links and destinations, each None
+    where the column is not there; and whether what moves through a turn is floored for the turn, and not for each destination."""
 
     step_ms: int
     slots: int
@@ -16,6 +18,10 @@ class Setup:
     signals: bool = False
     limits: bool = False
     cells: int | None = None
+    rows: int | None = None
+    links: int | None = None
+    destinations: int | None = None
+    moves: bool = False
 
     @property
     def horizon_ms(self) -> int:
@@ -26,6 +32,26 @@ class Setup:
     def most_cells(self) -> int:
         """How many cells the case may have."""
         return MOST_CELLS if self.cells is None else self.cells
+
+    @property
+    def most_demand_rows(self) -> int:
+        """How many rows of demand the case may have."""
+        return MOST_DEMAND_ROWS if self.rows is None else self.rows
+
+    @property
+    def most_split_rows(self) -> int:
+        """How many split rows the case may have."""
+        return MOST_SPLIT_ROWS if self.rows is None else self.rows
+
+    @property
+    def most_links(self) -> int:
+        """How many links the case may have."""
+        return MOST_LINKS if self.links is None else self.links
+
+    @property
+    def most_destinations(self) -> int:
+        """How many destinations the case may have."""
+        return MOST_DESTINATIONS if self.destinations is None else self.destinations
 
 
 @dataclass(slots=True)

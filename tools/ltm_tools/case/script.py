@@ -154,6 +154,10 @@ def is_array(value: object) -> bool:
     return isinstance(value, list)
 
 
+def is_object(value: object) -> bool:
+    return isinstance(value, dict)
+
+
 NAME = (f"a name ({NAME_RULE})", is_name_text)
 WHOLE = ("a whole number from 0 to 4294967295", is_whole)
 AMOUNT = (f"a text with vehicles ({VEHICLES_RULE})", is_amount)
@@ -168,6 +172,10 @@ COMMANDS: dict[str, Members] = {
     "delay": {},
     "queue": {"link": NAME, "slot": WHOLE},
     "origin": {"node": NAME, "slot": WHOLE},
+    "state": {"slot": WHOLE},
+    "curve": {"link": NAME},
+    "departures": {"node": NAME},
+    "delays": {},
     "settle": {},
 }
 LIMIT: Members = {"link": NAME, "from": WHOLE, "to": WHOLE, "vehicles": AMOUNT}
@@ -176,6 +184,7 @@ EDITS: dict[str, Members] = {
     "limit": LIMIT,
     "exit": LIMIT,
     "split": {"node": NAME, "destination": NAME, "from": WHOLE},
+    "splits": {"node": NAME, "destination": NAME},
     "diagram": {"link": NAME, "length_m": WHOLE, "free_kmh": WHOLE, "wave_kmh": WHOLE, "jam_per_km": WHOLE},
     "horizon": {"slots": WHOLE},
 }
@@ -189,7 +198,7 @@ def looked_up(value: object, chooser: str, tables: dict[str, Members]) -> tuple[
         raise NotThat(f"the member {chooser} is {told(word)}, and it is one of {', '.join(tables)}")
     for name, kind in tables[word].items():
         wanted(value, name, *kind)
-    looked = {chooser, *tables[word]} | {"edit": {"edits"}, "split": {"weights"}}.get(word, set())
+    looked = {chooser, *tables[word]} | {"edit": {"edits"}, "split": {"weights"}, "splits": {"rows"}}.get(word, set())
     return word, [name for name in value if name not in looked]
 
 
@@ -210,15 +219,39 @@ def edit_of(value: object) -> list[str]:
     """The members of an edit that nothing looks at, once it has all that its kind asks for."""
     kind, passed_over = looked_up(value, "kind", EDITS)
     if kind == "split":
-        weights = wanted(value, "weights", "an object, as {\"a\": 1}", lambda found: isinstance(found, dict))
-        assert isinstance(weights, dict)
-        if not 1 <= len(weights) <= MOST_WEIGHTS:
-            raise NotThat(f"the member weights has {len(weights)} members, and 1 to {MOST_WEIGHTS} are wanted")
-        for name, weight in weights.items():
-            if not is_name(name):
-                raise NotThat(f"the member weights has {told(name)}, which is no name ({NAME_RULE})")
-            wanted(weights, name, *WHOLE)
+        check_weights(value)
+    if kind == "splits":
+        check_rows(value)
     return passed_over
+
+
+def check_weights(value: object) -> None:
+    """Whether the member `weights` of an object has weights."""
+    weights = wanted(value, "weights", "an object, as {\"a\": 1}", is_object)
+    assert isinstance(weights, dict)
+    if not 1 <= len(weights) <= MOST_WEIGHTS:
+        raise NotThat(f"the member weights has {len(weights)} members, and 1 to {MOST_WEIGHTS} are wanted")
+    for name in weights:
+        if not is_name(name):
+            raise NotThat(f"the member weights has {told(name)}, which is no name ({NAME_RULE})")
+        wanted(weights, name, *WHOLE)
+
+
+def check_rows(value: object) -> None:
+    """Whether the member `rows` of an object has rows, each a slot and weights."""
+    rows = wanted(value, "rows", "an array of rows, as [[0, {\"a\": 1}]]", is_array)
+    assert isinstance(rows, list)
+    if not rows:
+        raise NotThat("the member rows is empty, and has a row or more, as [[0, {\"a\": 1}]]")
+    for number, row in enumerate(rows, 1):
+        if not isinstance(row, list) or len(row) != 2:
+            raise NotThat(f"row {number} of the member rows is {told(row)}, and a slot and weights are wanted, as [0, {{\"a\": 1}}]")
+        try:
+            pair = {"slot": row[0], "weights": row[1]}
+            wanted(pair, "slot", *WHOLE)
+            check_weights(pair)
+        except NotThat as error:
+            raise NotThat(f"row {number} of the member rows: {error}") from None
 
 
 def script_lines(data: bytes) -> list[bytes]:

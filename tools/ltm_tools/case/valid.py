@@ -1,7 +1,9 @@
 """What the whole of a case has to meet: a split row wherever traffic may come, or a route, and no more cells than may be."""
-from ..formats import MOST_SPLIT_ROWS
+from collections.abc import Iterable, Mapping
+
 from . import bad_case
 from .bad_case import BadCase
+from .cells import produced_bytes
 from .rows import Rows, Split
 
 
@@ -57,29 +59,45 @@ def late_row(node: str, destination: str, first: int) -> BadCase:
                              "let it begin at slot 0, or add one that does")
 
 
-def reaching(case: Rows, destination: str) -> set[str]:
-    """The nodes from which links lead to a destination, it among them."""
+def reached(case: Rows) -> dict[str, set[str]]:
+    """Of each destination the nodes from which links lead there, it among them."""
     tails: dict[str, list[str]] = {}
     for link in case.links:
         tails.setdefault(link.head, []).append(link.tail)
-    found, left = {destination}, [destination]
+    return {destination: leading(tails, destination) for destination in case.destinations}
+
+
+def leading(before: Mapping[str, Iterable[str]], node: str) -> set[str]:
+    """The nodes from which ways lead to one, it among them, by the nodes just before each."""
+    found, left = {node}, [node]
     while left:
-        for tail in tails.get(left.pop(), ()):
+        for tail in before.get(left.pop(), ()):
             if tail not in found:
                 found.add(tail)
                 left.append(tail)
     return found
 
 
+def rows_of(reach: Mapping[str, set[str]]) -> int:
+    """How many rows the routes to destinations make, by the nodes from which links lead there: one at each other node."""
+    return sum(len(found) - 1 for found in reach.values())
+
+
+def route_rows(case: Rows) -> int:
+    """How many rows `ltm routes` makes of a case."""
+    return rows_of(reached(case))
+
+
 def check_routes(case: Rows) -> None:
     """Whether there is a route for all demand, and routes make no more rows than may be."""
     nodes = {node: number for number, node in enumerate(case.nodes)}
-    reach = {destination: reaching(case, destination) for destination in case.destinations}
-    rows = sum(len(found) - 1 for found in reach.values())
-    if rows > MOST_SPLIT_ROWS:
-        raise bad_case.too_many_routes(rows)
+    reach = reached(case)
+    rows = rows_of(reach)
+    if rows > case.setup.most_split_rows:
+        raise bad_case.too_many_routes(rows, case.setup.most_split_rows)
     pairs = {(row.origin, row.destination) for row in case.standing_demand()}
-    for origin, destination in sorted(pairs, key=lambda pair: (nodes[pair[0]], list(reach).index(pair[1]))):
+    ends = {node: number for number, node in enumerate(reach)}
+    for origin, destination in sorted(pairs, key=lambda pair: (nodes[pair[0]], ends[pair[1]])):
         if origin not in reach[destination]:
             reason = f"vehicles set out from {origin} for {destination}, and no links lead there from {origin}"
             raise bad_case.no_split(origin, destination, reason, "add a link, or take the demand out")
@@ -89,4 +107,4 @@ def check_cells(case: Rows) -> None:
     """Whether the cells are within the limit of the setup."""
     cells = case.cells()
     if cells > case.setup.most_cells:
-        raise bad_case.cells_over(cells, case.setup.most_cells, case.slots_that_fit(), case.setup.slots)
+        raise bad_case.cells_over(cells, case.setup.most_cells, case.slots_that_fit(), case.setup.slots, produced_bytes(case))

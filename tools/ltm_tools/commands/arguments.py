@@ -2,13 +2,21 @@
 from __future__ import annotations
 
 import argparse
+import io
+import os
+import re
 from collections.abc import Mapping, Sequence
-from fractions import Fraction
+from typing import Any
 
+from ..case import Case
 from ..errors import Fault
-from ..files import write_text
-from ..formats import MINUTE_MS, clock_ms
+from ..files import write_bytes, write_text
+from ..formats import MINUTE_MS, clock_ms, clock_text, count_text, exact_or_none
 from ..listing import FORMATS, Cell, csv_text, json_text
+from ..tables import Reading
+
+MOST_TOLD = 100_000  # lines of a table by time
+WHOLE_WORD = re.compile(r"-?[0-9]{1,9}", re.ASCII)
 
 
 def add_program_argument(parser: argparse.ArgumentParser) -> None:
@@ -41,15 +49,26 @@ def add_format_arguments(parser: argparse.ArgumentParser) -> None:
 
 def add_reading_arguments(parser: argparse.ArgumentParser, files: Mapping[str, str], start: str, counted: str) -> "argparse._MutuallyExclusiveGroup":
     """The case, and options: one of these with a file, as they are told here; `--start`, with what slot 0 is where nothing is said; `--slice`,
-    with what its minutes are; and `--encoding`. The options of which one is given can be added to."""
+    with what its minutes are; and how tables are read. The options of which one is given can be added to."""
     parser.add_argument("case", help="the folder of the case")
     kind = parser.add_mutually_exclusive_group(required=True)
     for name, told in files.items():
         kind.add_argument(name, metavar="FILE", help=told)
     parser.add_argument("--start", metavar="CLOCK", help=f"the clock time of slot 0 ({start})")
-    parser.add_argument("--slice", type=int, default=15, metavar="MINUTES", help=f"the minutes {counted} (15)")
-    parser.add_argument("--encoding", help="the encoding of the files (UTF-8, else by what they hold)")
+    parser.add_argument("--slice", type=whole, default=15, metavar="MINUTES", help=f"the minutes {counted} (15)")
+    add_table_arguments(parser)
     return kind
+
+
+def add_table_arguments(parser: "argparse._ActionsContainer") -> None:
+    """The options `--encoding` and `--lenient`, for commands that read tables of other tools."""
+    parser.add_argument("--encoding", help="the encoding of the files (UTF-8, else by what they hold)")
+    parser.add_argument("--lenient", action="store_true", help="take rows with more fields than the header, and leave these out, and rows with fewer")
+
+
+def reading_of(args: argparse.Namespace) -> Reading:
+    """How tables are to be read, by these options."""
+    return Reading(args.encoding, args.lenient)
 
 
 def clock(text: str) -> int:
@@ -60,15 +79,41 @@ def clock(text: str) -> int:
         raise argparse.ArgumentTypeError(str(fault)) from None
 
 
+def whole(text: str) -> int:
+    """A whole number of the command line."""
+    if WHOLE_WORD.fullmatch(text) is None:
+        raise argparse.ArgumentTypeError(f"{text!r} is no whole number below 1,000,000,000")
+    return int(text)
+
+
 def minutes(text: str) -> int:
     """Minutes of the command line, as 5 or 0.5, in ms."""
-    try:
-        ms = Fraction(text) * MINUTE_MS
-    except (ValueError, ZeroDivisionError):
-        raise argparse.ArgumentTypeError(f"{text!r} is no number of minutes") from None
+    number = exact_or_none(text)
+    if number is None:
+        raise argparse.ArgumentTypeError(f"{text!r} is no number of minutes")
+    ms = number * MINUTE_MS
     if ms < 1 or ms.denominator != 1:
         raise argparse.ArgumentTypeError(f"{text!r} minutes are no whole number of milliseconds above 0")
     return ms.numerator
+
+
+def check_every(every_ms: int, case: Case) -> None:
+    """A Fault where a line at every so many ms of the horizon would be too many."""
+    lines = case.setup.horizon_ms // every_ms
+    if lines > MOST_TOLD:
+        raise Fault(f"--every gives {count_text(lines)} lines for a horizon of {clock_text(case.setup.horizon_ms)}, and at most {count_text(MOST_TOLD)} are told")
+
+
+def write_picture(figure: Any, path: str) -> None:
+    """Writes a figure of matplotlib, in the form that the file's name says; as a PNG, with that behind its name, where it says none."""
+    name, ending = os.path.splitext(path)
+    form = ending.removeprefix(".") or "png"
+    made = io.BytesIO()
+    try:
+        figure.savefig(made, format=form, dpi=110)
+    except (OSError, ValueError) as error:
+        raise Fault(f"{path}: {error}") from None
+    write_bytes(f"{name}.{form}", made.getvalue())
 
 
 def write_table(args: argparse.Namespace, header: Sequence[str], rows: Sequence[Sequence[Cell]], text: str) -> None:

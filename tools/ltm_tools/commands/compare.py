@@ -2,6 +2,7 @@
 from __future__ import annotations
 
 import argparse
+import sys
 from collections.abc import Callable
 
 from ..case.keeping import batches_of
@@ -11,7 +12,8 @@ from ..formats import MINUTE_MS, clock_text
 from ..listing import Cell, TimeUnit, csv_text, json_text, seconds, text_table, time_unit, vehicles
 from ..loading.compare import Comparison, Pairs, change, most_changed, of_versions
 from ..loading.loaded import loaded, told_delay
-from .arguments import add_format_arguments, add_program_argument, add_start_argument, minutes
+from ..loading.remaining import told_apart
+from .arguments import add_format_arguments, add_program_argument, add_start_argument, check_every, minutes, whole
 
 NAME = "compare"
 SUMMARY = "tell what two cases, or two versions of one, differ in: vehicle time, delay by link, arrivals by time, the links that changed most"
@@ -23,7 +25,8 @@ EXAMPLES = """\
 Version V is the case after the first V batches of the script that the program accepts; version 0 is the case as it is.
 Each change is the second case's number less the first's. Times are vehicle time: 2.5 vehicle hours are one vehicle for two and a
 half hours, or five for half an hour. `spent` is all time on links and at origins; `queued` is the part of it in queues of links,
-and `waited` that at origins; together they are the delay. CSV has one table, and JSON all; their times are vehicle seconds.
+and `waited` that at origins; together they are the delay. `not_there` is who is on a link or waits at the end: where that differs by over
+0.1 % of the vehicles, hours are not to be compared, which is told. CSV has one table, and JSON all; their times are vehicle seconds.
 """
 TABLES = ("totals", "links", "origins", "arrivals")
 
@@ -32,23 +35,29 @@ def add_arguments(parser: argparse.ArgumentParser) -> None:
     parser.add_argument("case", metavar="CASE", help="the folder of a case")
     parser.add_argument("other", metavar="OTHER", nargs="?", help="the folder of another, as with some works")
     parser.add_argument("--script", metavar="SCRIPT", help="in place of OTHER a script of edits of CASE, as a session takes it, or - for the standard input")
-    parser.add_argument("--versions", metavar="V", type=int, nargs=2, help="after how many accepted batches of the script each is (0, and all)")
+    parser.add_argument("--versions", metavar="V", type=whole, nargs=2, help="after how many accepted batches of the script each is (0, and all)")
     for name, text in (("curves", "CASE"), ("other-curves", "OTHER")):
         parser.add_argument(f"--{name}", metavar="FILE", help=f"a curve file of {text} (else the program makes it)")
     add_program_argument(parser)
     add_start_argument(parser)
     parser.add_argument("--every", metavar="MINUTES", type=minutes, default=5 * MINUTE_MS, help="arrivals every so many minutes (5)")
-    parser.add_argument("--links", metavar="N", type=int, default=10, help="in text, how many links that changed most (10)")
+    parser.add_argument("--links", metavar="N", type=whole, default=10, help="in text, how many links that changed most (10)")
     parser.add_argument("--table", choices=TABLES, default="links", help="which table in CSV (links)")
     add_format_arguments(parser)
 
 
 def run(args: argparse.Namespace) -> int:
+    if args.links < 0:
+        raise Fault("--links is 0 or more")
     found, names = by_script(args) if args.script is not None else by_folders(args)
+    for one in found.both:
+        check_every(args.every, one.case)
     if args.format == "text":
         write_text(args.output, text(found, names, args))
         return 0
     tables = {name: (header, rows) for name, header, rows in all_tables(found, args)}
+    if not found.comparable():
+        print(f"ltm-tools {NAME}: {told_apart(*found.remaining())}", file=sys.stderr)
     if args.format == "csv":
         write_text(args.output, csv_text(*tables[args.table]))
     else:
@@ -101,6 +110,8 @@ def text(found: Comparison, names: tuple[str, str], args: argparse.Namespace) ->
     rows = [exact(name, pair, unit.show) for name, pair in found.times().items()]
     rows += [exact(name, pair, vehicles) for name, pair in found.amounts().items()]
     lines.append(text_table(header, rows))
+    if not found.comparable():
+        lines.append(f"{told_apart(*found.remaining())}\n")
     lines += pieces("queued on links", found.links(), args.links, unit, "link")
     lines += pieces("waited at origins", found.origins(), args.links, unit, "origin")
     moments = [[clock_text(args.start + moment), *exact("", pair, vehicles)[1:]] for moment, pair in found.arrivals(args.every).items()]

@@ -9,12 +9,12 @@ from pathlib import Path
 from ..case import Case, Demand
 from ..errors import Fault
 from ..files import write_records
-from ..formats import DEMAND, MINUTE_MS, MOST_DESTINATIONS, clock_ms, clock_text, short_vehicles
+from ..formats import DEMAND, MINUTE_MS, MOST_DESTINATIONS_ASKED, clock_ms, clock_text, short_vehicles
 from ..network.demand_files import exists, quarter_before, read_amounts, read_profile, read_trips, whole_units
 from ..network.passages import Roads
 from ..network.profiles import Part, Trip, by_profile, by_trips
 from ..network.source import Source
-from .arguments import add_reading_arguments
+from .arguments import add_reading_arguments, reading_of, whole
 
 NAME = "demand"
 SUMMARY = "give a case its demand, of a table with a profile or of trips"
@@ -34,7 +34,7 @@ def add_arguments(parser: argparse.ArgumentParser) -> None:
     add_reading_arguments(parser, {"--table": "vehicles by origin and destination", "--trips": "trips, each with its time"},
                           "the first time of the profile, or the quarter of an hour before the first trip", "over which trips are counted together")
     parser.add_argument("--profile", metavar="FILE", help="when the vehicles of the table set out")
-    parser.add_argument("--period", type=int, metavar="MINUTES", help="set out evenly over so many minutes, in place of a profile (all slots)")
+    parser.add_argument("--period", type=whole, metavar="MINUTES", help="set out evenly over so many minutes, in place of a profile (all slots)")
     parser.add_argument("--leave-out-unreached", action="store_true", help="leave out demand to which no way leads, and tell how much")
 
 
@@ -47,7 +47,7 @@ def run(args: argparse.Namespace) -> int:
         rows, notes = rows_of_table(case, source, args)
     else:
         rows, notes = rows_of_trips(case, source, args)
-    rows = checked(rows, roads, args.leave_out_unreached, notes)
+    rows = checked(rows, roads, case.setup.most_destinations, args.leave_out_unreached, notes)
     write_records(Path(args.case) / "demand.csv", DEMAND, ([row.origin, row.destination, row.from_slot, row.to_slot, short_vehicles(row.units)] for row in rows))
     ends = {row.destination for row in rows}
     total = sum(row.units for row in rows)
@@ -58,7 +58,7 @@ def run(args: argparse.Namespace) -> int:
 
 def rows_of_table(case: Case, source: Source, args: argparse.Namespace) -> tuple[list[Demand], list[str]]:
     """The rows of a table, spread over a profile or a period."""
-    amounts = read_amounts(exists(args.table), args.encoding)
+    amounts = read_amounts(exists(args.table), reading_of(args))
     notes = list(amounts.notes)
     parts = parts_of(case, args, notes)
     last = max(part.to_slot for part in parts)
@@ -74,14 +74,14 @@ def rows_of_table(case: Case, source: Source, args: argparse.Namespace) -> tuple
             units[ends] = units.get(ends, Fraction(0)) + volume
     if amounts.inner:
         notes.append(f"{float(amounts.inner):g} vehicles stay within a node and are left out")
-    return by_profile({ends: whole_units(volume, f"demand from {ends[0]} to {ends[1]}") for ends, volume in units.items()}, parts), notes
+    return by_profile({ends: whole_units(volume, f"demand from {ends[0]} to {ends[1]}") for ends, volume in units.items()}, parts, case.setup.most_demand_rows), notes
 
 
 def parts_of(case: Case, args: argparse.Namespace, notes: list[str]) -> list[Part]:
     """The parts of a profile, or one for a period."""
     if args.profile is not None:
         start = clock_ms(args.start) if args.start is not None else None
-        parts, begun, told = read_profile(exists(args.profile), start_ms=start, step_ms=case.setup.step_ms, encoding=args.encoding)
+        parts, begun, told = read_profile(exists(args.profile), start_ms=start, step_ms=case.setup.step_ms, reading=reading_of(args))
         notes += [*told, f"slot 0 begins at {clock_text(begun)}"]
         return parts
     slots = case.setup.slots if args.period is None else args.period * MINUTE_MS // case.setup.step_ms
@@ -92,7 +92,7 @@ def parts_of(case: Case, args: argparse.Namespace, notes: list[str]) -> list[Par
 
 def rows_of_trips(case: Case, source: Source, args: argparse.Namespace) -> tuple[list[Demand], list[str]]:
     """The rows of trips, counted by slices."""
-    trips = read_trips(exists(args.trips), args.encoding)
+    trips = read_trips(exists(args.trips), reading_of(args))
     if not trips:
         raise Fault(f"{args.trips}: no trips")
     if args.slice < 1:
@@ -102,23 +102,27 @@ def rows_of_trips(case: Case, source: Source, args: argparse.Namespace) -> tuple
     inner = sum(trip.units for trip in trips if trip.time_ms >= start and source.node(trip.origin) == source.node(trip.destination))
     counted = [Trip(source.node(trip.origin), source.node(trip.destination), trip.time_ms - start, trip.units)
                for trip in trips if trip.time_ms >= start and source.node(trip.origin) != source.node(trip.destination)]
-    rows, late = by_trips(counted, step_ms=case.setup.step_ms, slots=case.setup.slots, slice_slots=max(1, args.slice * MINUTE_MS // case.setup.step_ms))
+    rows, late = by_trips(counted, step_ms=case.setup.step_ms, slots=case.setup.slots, slice_slots=max(1, args.slice * MINUTE_MS // case.setup.step_ms),
+                          most=case.setup.most_demand_rows)
     notes = [f"slot 0 begins at {clock_text(start)}"]
     notes += [f"{short_vehicles(units)} vehicles {why} and are left out" for units, why in
               ((early, "set out before it"), (late, "set out after the last slot"), (inner, "stay within a node")) if units]
     return rows, notes
 
 
-def checked(rows: Iterable[Demand], roads: Roads, leave_out: bool, notes: list[str]) -> list[Demand]:
-    """The rows to whose destination a way leads; a Fault, or a note, where there is none."""
+def checked(rows: Iterable[Demand], roads: Roads, most_destinations: int, leave_out: bool, notes: list[str]) -> list[Demand]:
+    """The rows to whose destination a way leads; a Fault, or a note, where there is none. A Fault before ways are sought where there are too
+    many destinations."""
     listed = list(rows)
-    reached = {destination: roads.least_times(destination) for destination in {row.destination for row in listed}}
+    ends = {row.destination for row in listed}
+    if len(ends) > most_destinations:
+        raise Fault(f"there are {len(ends)} destinations, and at most {most_destinations} may be; join zones in the table, or ask for up to"
+                    f" {MOST_DESTINATIONS_ASKED} in the column destinations of setup.csv")
+    reached = {destination: roads.least_times(destination) for destination in ends}
     lost = [row for row in listed if row.origin not in reached[row.destination]]
     if lost and not leave_out:
         raise Fault(f"no route leads from node {lost[0].origin} to node {lost[0].destination}, and so for {short_vehicles(sum(row.units for row in lost))} vehicles;"
                     " --leave-out-unreached leaves them out")
     if lost:
         notes.append(f"{short_vehicles(sum(row.units for row in lost))} vehicles have no route and are left out")
-    if len(reached) > MOST_DESTINATIONS:
-        raise Fault(f"there are {len(reached)} destinations, and at most {MOST_DESTINATIONS} may be; join zones in the table")
     return [row for row in listed if row.origin in reached[row.destination]]

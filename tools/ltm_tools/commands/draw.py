@@ -4,10 +4,9 @@ from __future__ import annotations
 import argparse
 import os
 
-from ..errors import Fault
 from ..loading.loaded import loaded
 from ..show.draw import draw_map, draw_newell, draw_shares
-from .arguments import add_curves_arguments, add_start_argument, clock
+from .arguments import add_curves_arguments, add_start_argument, clock, write_picture
 
 NAME = "draw"
 SUMMARY = "draw how full a path was, a map at a moment, or the cumulative curves of a path, in clock time; two cases side by side"
@@ -55,8 +54,5 @@ def run(args: argparse.Namespace) -> int:
         figure = draw_newell(plot, both[0], args.names, args.start)
     else:
         figure = draw_map(plot, both, folders, titles, both[0].boundary_at(args.at, args.start), args.start)
-    try:
-        figure.savefig(args.output, dpi=110)
-    except (OSError, ValueError) as error:
-        raise Fault(f"{args.output}: {error}") from None
+    write_picture(figure, args.output)
     return 0

@@ -2,6 +2,7 @@
 import argparse
 
 from ..case.explain import explain
+from .arguments import whole
 
 NAME = "explain"
 SUMMARY = "say in words what ltm has written, and what to do about it"
@@ -17,7 +18,7 @@ lines of a script that are no commands are explained, and members that are passe
 
 def add_arguments(parser: argparse.ArgumentParser) -> None:
     parser.add_argument("folder", help="the folder of the case")
-    parser.add_argument("status", type=int, help="the exit status of ltm")
+    parser.add_argument("status", type=whole, help="the exit status of ltm")
     parser.add_argument("line", help="the last line that it wrote")
     parser.add_argument("words", nargs="*", metavar="WORD", help="the words that it was given")
     parser.add_argument("--command", metavar="COMMAND", dest="asked", help="the line of a script that was answered by LINE")

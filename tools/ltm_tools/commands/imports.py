@@ -2,20 +2,25 @@
 from __future__ import annotations
 
 import argparse
-from collections.abc import Callable, Iterable
+import sys
+from collections.abc import Callable
 from fractions import Fraction
+from typing import Any, TypeVar
 
 from ..errors import Fault
-from ..formats import MOST_DESTINATIONS, MOST_SLOT_UNITS, MOST_STEP_MS, UNITS
-from ..network.importing import Refused
+from ..formats import above_0_or_none, MOST_SLOT_UNITS, MOST_STEP_MS, UNITS
+from ..network.imported import Imported
+from ..network.importing import NotCarried
+from ..network.options import BadOption, Options
+from .arguments import whole
+
+Asked = TypeVar("Asked", bound=Options)
 
 
 def step_argument(text: str) -> int:
     """A step in ms, as `5000`, or in seconds, as `5s`."""
-    try:
-        step = Fraction(text.removesuffix("ms") if text.endswith("ms") else text.removesuffix("s")) * (1000 if text.endswith("s") and not text.endswith("ms") else 1)
-    except (ValueError, ZeroDivisionError):
-        step = Fraction(0)
+    number, unit = (text.removesuffix("ms"), 1) if text.endswith("ms") or not text.endswith("s") else (text.removesuffix("s"), 1000)
+    step = (above_0_or_none(number) or Fraction(0)) * unit
     if step.denominator != 1 or not 1 <= step <= MOST_STEP_MS:
         raise argparse.ArgumentTypeError(f"{text!r} is no step; as 5000 or 5s, at most {MOST_STEP_MS} ms")
     return int(step)
@@ -23,11 +28,8 @@ def step_argument(text: str) -> int:
 
 def above_0(text: str) -> Fraction:
     """A number above 0."""
-    try:
-        number = Fraction(text)
-    except (ValueError, ZeroDivisionError):
-        number = Fraction(0)
-    if number <= 0:
+    number = above_0_or_none(text)
+    if number is None:
         raise argparse.ArgumentTypeError(f"{text!r} is no number above 0")
     return number
 
@@ -42,19 +44,31 @@ def add_network_arguments(parser: argparse.ArgumentParser) -> None:
     group.add_argument("--least-step", type=step_argument, default=1000, metavar="STEP", help="the shortest step to propose (1000)")
     group.add_argument("--steps", action="store_true", help="tell what a fit to each of some steps would change, and write nothing")
     group.add_argument("--rename", action="store_true", help="make names for those that a case cannot have; source_links.csv and source_nodes.csv have both")
-    group.add_argument("--origin-capacity", type=int, default=MOST_SLOT_UNITS // UNITS, metavar="N", help="the most vehicles that leave an origin in a step (32)")
+    group.add_argument("--origin-capacity", type=whole, default=MOST_SLOT_UNITS // UNITS, metavar="N", help="the most vehicles that leave an origin in a step (32)")
+    group.add_argument("--moves", type=int, choices=(0, 1), help="1: what moves through a turn is floored for the turn, 0: for each destination, which takes a part of"
+                       " what can pass where they are many (1 where there are more than 16)")
 
 
-def run_import(args: argparse.Namespace, make: Callable[[argparse.Namespace], int], minutes: Iterable[str]) -> int:
-    """Makes a case, once the numbers of the command line are in their limits, these in minutes among them; tells what cannot be carried."""
-    for name in minutes:
-        if getattr(args, name) is not None and getattr(args, name) < 1:
-            raise Fault(f"--{name.replace('_', '-')} is at least 1")
-    for name, most in (("origin_capacity", MOST_SLOT_UNITS // UNITS), ("destinations", MOST_DESTINATIONS)):
-        if getattr(args, name) is not None and not 1 <= getattr(args, name) <= most:
-            raise Fault(f"--{name.replace('_', '-')} is 1 to {most}")
+def network_options(args: argparse.Namespace) -> dict[str, Any]:
+    """What these arguments ask for, by the names of options."""
+    return {"fit": args.fit, "balance": not args.no_balance, "step": args.step, "least_step": args.least_step, "rename": args.rename,
+            "origin_capacity": args.origin_capacity, "destinations": args.destinations, "moves": None if args.moves is None else args.moves == 1}
+
+
+def run_import(args: argparse.Namespace, options_of: Callable[[argparse.Namespace], Asked], make: Callable[[Asked], Imported],
+               steps: Callable[[Asked], list[str]]) -> int:
+    """Makes a case and writes it, or tells what steps would change; tells what was made, or what cannot be carried."""
     try:
-        return make(args)
-    except Refused as refused:
-        refused.tell()
+        asked = options_of(args)
+        if args.steps:
+            print(*steps(asked), sep="\n")
+            return 0
+        made = make(asked)
+    except BadOption as fault:
+        raise Fault(f"--{fault.name.replace('_', '-')} {fault.rule}") from None
+    except NotCarried as fault:
+        print(*fault.told(), sep="\n", file=sys.stderr)
         return 1
+    older = made.write(args.case)  # before it is told, whoever reads that, as head does, and goes
+    print(*made.told, *older, sep="\n")
+    return 0

@@ -4,7 +4,7 @@ from __future__ import annotations
 import argparse
 import os
 
-from ..files import write_text
+from ..files import readable, write_text
 from ..formats import units_of
 from ..loading.curves import Summed
 from ..loading.loaded import Loaded, loaded
@@ -41,5 +41,7 @@ def run(args: argparse.Namespace) -> int:
     folders = [folder for folder, _ in asked]
     both = [Loaded(one.case, Summed(one.curves)) for one in (loaded(folder, curves, args.program) for folder, curves in asked)]
     called = [os.path.basename(os.path.abspath(folder)) for folder in folders]
-    write_text(args.output, page(both, folders, args.names or called, args.start, max(1, units_of(args.least)), args.title or called[0], library))
+    names = [readable(name) for name in args.names or called]
+    title = readable(args.title or called[0])
+    write_text(args.output, page(both, folders, names, args.start, max(1, units_of(args.least)), title, library))
     return 0

@@ -4,9 +4,9 @@ from __future__ import annotations
 import argparse
 
 from ..case import Case
-from ..errors import Fault
 from ..loading.curves import Curves
 from ..show.plot import draw_arrivals, draw_link, draw_path
+from .arguments import write_picture
 
 NAME = "plot"
 SUMMARY = "draw a link, a path or the arrivals from a curve file"
@@ -45,8 +45,5 @@ def run(args: argparse.Namespace) -> int:
         figure = draw_path(plot, curves, links, args.names)
     else:
         figure = draw_arrivals(plot, curves)
-    try:
-        figure.savefig(args.picture, dpi=110)
-    except (OSError, ValueError) as error:
-        raise Fault(f"{args.picture}: {error}") from None
+    write_picture(figure, args.picture)
     return 0

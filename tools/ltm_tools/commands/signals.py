@@ -15,6 +15,7 @@ from ..network.flows import turn_shares
 from ..network.passages import Roads
 from ..network.source import Source
 from ..tables import read
+from .arguments import add_table_arguments, reading_of
 
 NAME = "signals"
 SUMMARY = "give a case its signals, of cycles with greens"
@@ -49,7 +50,7 @@ def add_arguments(parser: argparse.ArgumentParser) -> None:
     parser.add_argument("--cycles", required=True, metavar="FILE", help="the greens")
     parser.add_argument("--clock", metavar="CLOCK", help="the clock time of slot 0, where start and end are clock times")
     parser.add_argument("--even", action="store_true", help="one limit for each link, the mean of its cycle: fewer records, and no platoons")
-    parser.add_argument("--encoding", help="the encoding of the file (UTF-8, else by what it holds)")
+    add_table_arguments(parser)
 
 
 def run(args: argparse.Namespace) -> int:
@@ -57,7 +58,7 @@ def run(args: argparse.Namespace) -> int:
     case = Case.read(args.case)
     roads = Roads.of(case.links)
     source = Source.read(args.case, roads)
-    table = read(exists(args.cycles), ("link", "cycle", "green_from", "green_to"), NAMES, args.encoding)
+    table = read(exists(args.cycles), ("link", "cycle", "green_from", "green_to"), NAMES, reading_of(args))
     clock = clock_ms(args.clock) if args.clock is not None else 0
     records = [record_of(row, source, case, clock) for row in table.rows]
     plans, notes = plans_of(records, case)

@@ -7,8 +7,8 @@ from pathlib import Path
 
 from ..case import Case, Demand, Split
 from ..errors import Fault
-from ..files import Row, write_records
-from ..formats import DEMAND, MINUTE_MS, MOST_SPLIT_ROWS, SPLITS, clock_ms, clock_text, short_vehicles, weights_text
+from ..files import Row, write_bytes, write_records
+from ..formats import DEMAND, MINUTE_MS, MOST_ROWS_ASKED, SPLITS, clock_ms, clock_text, short_vehicles, weights_text
 from ..network.demand_files import exists, moment_ms, quarter_before, whole_units
 from ..network.passages import Roads
 from ..network.profiles import Trip, by_trips
@@ -16,8 +16,9 @@ from ..network.route_splits import Route, circles, from_routes
 from ..network.source import Source
 from ..network.turns import Turn, from_turns
 from ..program import output
+from ..replacing import together
 from ..tables import read
-from .arguments import add_program_argument, add_reading_arguments
+from .arguments import add_program_argument, add_reading_arguments, reading_of
 
 NAME = "splits"
 SUMMARY = "give a case its splits, of counted routes, turning counts or least routes"
@@ -56,12 +57,14 @@ def run(args: argparse.Namespace) -> int:
     case = Case.read(args.case, splits=False)
     roads = Roads.of(case.links)
     source = Source.read(args.case, roads)
-    rows, notes = (of_routes if args.routes is not None else of_turns)(case, roads, source, args)
-    if len(rows) > MOST_SPLIT_ROWS:
-        raise Fault(f"{len(rows)} rows of splits, and at most {MOST_SPLIT_ROWS} may be; give a longer --slice than {args.slice}")
-    if circles(case.links, rows):
-        raise Fault("a destination has a circle, which is a fault of this tool")
-    write_records(Path(args.case) / "splits.csv", SPLITS, ([row.node, row.destination, row.from_slot, weights_text(row.weights)] for row in rows))
+    with together():
+        rows, notes = (of_routes if args.routes is not None else of_turns)(case, roads, source, args)
+        if len(rows) > case.setup.most_split_rows:
+            raise Fault(f"{len(rows)} rows of splits, and at most {case.setup.most_split_rows} may be; give a longer --slice than {args.slice}, or ask for up to"
+                        f" {MOST_ROWS_ASKED} in the column rows of setup.csv")
+        if circles(case.links, rows):
+            raise Fault("a destination has a circle, which is a fault of this tool")
+        write_records(Path(args.case) / "splits.csv", SPLITS, ([row.node, row.destination, row.from_slot, weights_text(row.weights)] for row in rows))
     print(f"{len(rows)} rows of splits for {len({row.destination for row in rows})} destinations; none has a circle")
     print(*notes, sep="\n")
     return 0
@@ -70,15 +73,14 @@ def run(args: argparse.Namespace) -> int:
 def least(args: argparse.Namespace) -> int:
     """Writes what `ltm routes` says."""
     text = output(args.case, "routes", program=args.program)
-    with open(os.path.join(args.case, "splits.csv"), "wb") as file:
-        file.write(text)
+    write_bytes(os.path.join(args.case, "splits.csv"), text)
     print(f"{text.count(10) - 1} rows of splits, of least routes by free-flow time")
     return 0
 
 
 def of_routes(case: Case, roads: Roads, source: Source, args: argparse.Namespace) -> tuple[list[Split], list[str]]:
     """The rows of counted routes."""
-    table = read(exists(args.routes), (), ROUTE_NAMES, args.encoding)
+    table = read(exists(args.routes), (), ROUTE_NAMES, reading_of(args))
     if not {"links", "nodes"} & set(table.fields):
         raise Fault(f"{args.routes}: no field links or nodes in the header; it has {', '.join(table.fields)}")
     times = [moment_ms(row, "depart") if row.text("depart", "") else 0 for row in table.rows]
@@ -109,7 +111,8 @@ def of_routes(case: Case, roads: Roads, source: Source, args: argparse.Namespace
 def demand_of(case: Case, roads: Roads, routes: list[Route], args: argparse.Namespace, notes: list[str]) -> list[Demand]:
     """The demand of routes by slices, which is written."""
     trips = [Trip(roads.links[route.links[0]].tail, roads.links[route.links[-1]].head, route.depart_ms, route.units) for route in routes]
-    rows, _ = by_trips(trips, step_ms=case.setup.step_ms, slots=case.setup.slots, slice_slots=max(1, args.slice * MINUTE_MS // case.setup.step_ms))
+    rows, _ = by_trips(trips, step_ms=case.setup.step_ms, slots=case.setup.slots, slice_slots=max(1, args.slice * MINUTE_MS // case.setup.step_ms),
+                        most=case.setup.most_demand_rows)
     write_records(Path(args.case) / "demand.csv", DEMAND,
                   ([row.origin, row.destination, row.from_slot, row.to_slot, short_vehicles(row.units)] for row in rows))
     notes.append(f"{short_vehicles(sum(row.units for row in rows))} vehicles of demand in {len(rows)} rows")
@@ -146,7 +149,7 @@ def words_of(text: str) -> list[str]:
 
 def of_turns(case: Case, roads: Roads, source: Source, args: argparse.Namespace) -> tuple[list[Split], list[str]]:
     """The rows that fit turning counts."""
-    table = read(exists(args.turns), ("to_link", "vehicles"), TURN_NAMES, args.encoding)
+    table = read(exists(args.turns), ("to_link", "vehicles"), TURN_NAMES, reading_of(args))
     turns, gone = [], 0
     for row in table.rows:
         after = link_in(row, "to_link", source)

@@ -10,12 +10,14 @@ from collections.abc import Iterable, Iterator, Sequence
 from .. import libraries
 from ..case import Case
 from ..errors import Fault
-from ..files import write_records
+from ..files import write_text
+from ..formats import count_text, counted, vehicles_text
 from ..listing import csv_text
+from ..loading.remaining import TOLD_APART
 from ..program import find_program
 from ..sweep.here import chunks, here
-from ..sweep.scenarios import Row, Scenario, header, read_scenarios
-from .arguments import add_program_argument
+from ..sweep.scenarios import AS_IT_IS, FAILED, Row, Scenario, header, read_scenarios, remaining
+from .arguments import add_program_argument, whole
 
 NAME = "sweep"
 SUMMARY = "run many scenarios of a case, each from the opened loading, on all processors or on a cluster of Dask"
@@ -54,9 +56,10 @@ def add_arguments(parser: argparse.ArgumentParser) -> None:
     parser.add_argument("case", metavar="CASE", help="the folder of a case")
     parser.add_argument("scenarios", metavar="SCENARIOS", help="a file of scenarios, a JSON object a line, or - for the standard input")
     parser.add_argument("-o", "--output", metavar="FILE", default="-", help="the CSV file to write (else the standard output)")
-    parser.add_argument("--links", metavar="NAME", nargs="+", default=[], help="tell also what has entered and left these links")
+    parser.add_argument("--links", metavar="NAME", nargs="+", action="extend", default=[],
+                        help="tell also what has entered and left these links; one that begins with - as in --links=-a")
     parser.add_argument("--delay", action="store_true", help="tell also the vehicle time spent, queued and waited, in vehicle seconds")
-    parser.add_argument("--sessions", metavar="N", type=int, default=os.cpu_count() or 1, help="how many sessions run here at once (one a processor)")
+    parser.add_argument("--sessions", metavar="N", type=whole, default=os.cpu_count() or 1, help="how many sessions run here at once (one a processor)")
     parser.add_argument("--scheduler", metavar="ADDRESS", help="the scheduler of a cluster of Dask, as tcp://10.0.0.7:8786")
     parser.add_argument("--progress", action="store_true", help="show how far it is, also where the standard error is no terminal")
     add_program_argument(parser)
@@ -75,31 +78,43 @@ def run(args: argparse.Namespace) -> int:
     found = read_scenarios(args.scenarios)
     progress = Progress(max(1, len(found)), args.progress or sys.stderr.isatty())
     rows = list(collected(pieces(args, found), progress))
-    if args.output == "-":
-        sys.stdout.write(csv_text(header(args.links, args.delay), rows))
-    else:
-        write_records(args.output, header(args.links, args.delay), [quoted(row) for row in rows])
+    first = rows.pop(0) if args.delay and rows else None
+    write_text(args.output, csv_text(header(args.links, args.delay), rows))
+    for line in told_after(rows, first):
+        print(f"ltm-tools {NAME}: {line}", file=sys.stderr)
     return 0
 
 
 def pieces(args: argparse.Namespace, found: Sequence[Scenario]) -> Iterable[list[Row]]:
-    """The rows of results, piece by piece in order."""
+    """The rows of results, piece by piece in order; with delays that of the case as it is before them."""
+    parts = chunks(found)
+    if args.delay and parts:
+        parts = [[AS_IT_IS, *parts[0]], *parts[1:]]
     if args.scheduler is None:
-        return here(args.case, str(find_program(args.program)), args.links, args.delay, found, min(args.sessions, max(1, len(chunks(found)))))
+        return here(args.case, str(find_program(args.program)), args.links, args.delay, parts, min(args.sessions, max(1, len(parts))))
     from ..sweep.cluster import there
 
-    return there(args.scheduler, args.case, args.program, args.links, args.delay, chunks(found))
+    return there(args.scheduler, args.case, args.program, args.links, args.delay, parts)
+
+
+def told_after(rows: Sequence[Row], first: Row | None) -> Iterator[str]:
+    """What is to be known of the rows: how many failed, and of how many the hours cannot be compared with those of the case as it is."""
+    failed = sum(row[2].startswith(FAILED) for row in rows)
+    if failed:
+        yield f"{counted(failed, 'scenario')} of {count_text(len(rows))} failed: their rows say why"
+    base = remaining(first) if first is not None else None
+    ends = [end for row in rows if (end := remaining(row)) is not None]
+    if base is not None and (apart := sum(not end.comparable(base) for end in ends)):
+        yield (f"the hours of {count_text(apart)} of {counted(len(rows), 'scenario')} are not to be compared with those of the case as it is:"
+               f" of that {vehicles_text(base.not_there)} vehicles are not there by the end, and of each of these over {TOLD_APART} of the"
+               " vehicles more or fewer (not_there); a longer horizon lets them arrive")
 
 
 def collected(parts: Iterable[list[Row]], progress: Progress) -> Iterator[Row]:
+    """The rows of all parts, of which progress is told."""
     try:
         for part in parts:
-            progress.add(len(part))
+            progress.add(sum(row[0] != str(AS_IT_IS.number) for row in part))
             yield from part
     finally:
         progress.end()
-
-
-def quoted(row: Row) -> Row:
-    """The fields as CSV has them."""
-    return [csv_text([field], []).rstrip("\n") if field else "" for field in row]

@@ -7,13 +7,13 @@ from ..formats import MINUTE_MS, clock_text
 from ..listing import Cell, text_table
 from ..loading.loaded import loaded
 from ..loading.times import Path, Trip
-from .arguments import add_curves_arguments, add_format_arguments, add_start_argument, minutes, write_table
+from .arguments import add_curves_arguments, add_format_arguments, add_start_argument, check_every, minutes, write_table
 
 NAME = "times"
 SUMMARY = "tell how long a path of links takes for departures over the day, the wait at the origin included"
 EXAMPLES = """\
     ltm-tools times examples/corridor r1 r2 r3 r4 r5 r6 r7 r8 works r9 --every 5 --start 7:00
-    ltm-tools times examples/incident west east --links --format csv
+    ltm-tools times examples/incident west east --by-link --every 2
 
 Whoever departs waits at the path's first node until all have left that were produced there before, and leaves each link once all
 have left that entered before, in no less than its free-flow time. `none` stands where that is not before the end of the horizon. The
@@ -34,6 +34,7 @@ def add_arguments(parser: argparse.ArgumentParser) -> None:
 
 def run(args: argparse.Namespace) -> int:
     case, curves = loaded(args.case, args.curves, args.program)
+    check_every(args.every, case)
     path = Path(curves, case, args.links, not args.no_wait)
     trips = list(path.trips(args.every))
     names = [link.name for link in path.links]

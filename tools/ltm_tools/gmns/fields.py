@@ -7,6 +7,7 @@ from collections.abc import Mapping
 from fractions import Fraction
 
 from ..files import Row
+from ..formats import above_0_or_none, exact_or_none
 
 METRES = {"m": Fraction(1), "km": Fraction(1000), "mi": Fraction(1609344, 1000), "ft": Fraction(3048, 10000)}
 KMH = {"kmh": Fraction(1), "mph": Fraction(1609344, 1000000), "ms": Fraction(18, 5)}
@@ -55,22 +56,13 @@ YES, NO = ("1", "true", "t", "yes", "y"), ("0", "false", "f", "no", "n")
 
 def fraction_or_none(row: Row, name: str) -> Fraction | None:
     """The exact number above 0 of a field, or none."""
-    return above_0(row.fields.get(name, ""))
-
-
-def above_0(text: str) -> Fraction | None:
-    """The exact number above 0 that a text is, or none."""
-    try:
-        number = Fraction(text.strip())
-    except (ValueError, ZeroDivisionError):
-        return None
-    return number if number > 0 else None
+    return above_0_or_none(row.fields.get(name, ""))
 
 
 def measure(row: Row, name: str, words: Mapping[str, str], scales: Mapping[str, Fraction], unit: str) -> None:
     """Writes a field with a unit behind its number, as `30 mph`, in the unit of the others."""
     found = MEASURE.fullmatch(row.fields.get(name, "").strip().lower())
-    number = above_0(found[1]) if found else None
+    number = above_0_or_none(found[1]) if found else None
     if found and number and found[2].strip() in words:
         row.fields[name] = str(number * scales[words[found[2].strip()]] / scales[unit])
 
@@ -79,7 +71,7 @@ def least_of(row: Row, name: str) -> bool:
     """Writes the least number of a field that has several, as `['2', '3']` or `50;70`; whether it had."""
     text = row.fields.get(name, "").strip()
     if LIST.fullmatch(text) and not THOUSANDS.fullmatch(text):
-        numbers = [number for part in re.findall(r"[0-9.]+", text) if (number := above_0(part))]
+        numbers = [number for part in re.findall(r"[0-9.]+", text) if (number := above_0_or_none(part))]
         if numbers:
             row.fields[name] = str(min(numbers))
             return True
@@ -88,10 +80,7 @@ def least_of(row: Row, name: str) -> bool:
 
 def fraction_zero(text: str) -> bool:
     """Whether a text is the number 0."""
-    try:
-        return Fraction(text) == 0
-    except (ValueError, ZeroDivisionError):
-        return False
+    return exact_or_none(text) == 0
 
 
 def number_or_none(row: Row, name: str) -> float | None:

@@ -4,19 +4,22 @@ A link needs its ends, and a length or places to work it out. What else is missi
 """
 from __future__ import annotations
 
+import re
 from collections.abc import Sequence
-from dataclasses import dataclass, field
+from dataclasses import dataclass, field, replace
 from fractions import Fraction
 from pathlib import Path
 
 from ..errors import Fault
 from ..files import Row
-from ..network.lengths import Point, metres, points_of, unit_by_lengths, unit_by_range
+from ..network.lengths import metres, points_of, unit_by_lengths, unit_by_range
+from ..network.lines import Point, towards
 from ..network.network import LEAST_M, Network, Node, Road, road_of
-from ..tables import Table, read, whole_numbers
+from ..tables import Reading, Table, read, whole_numbers
 from .fields import (EMPTY, KMH, LENGTH_WORDS, LINK_NAMES, METRES, NO, NODE_NAMES, SPEED_WORDS, YES, for_cars,
                      fraction_or_none, fraction_zero, kind_of, least_of, measure, number_or_none)
-from .sides import by_side
+from .sides import TurnedRow, by_side
+
 
 @dataclass
 class Units:
@@ -27,9 +30,11 @@ class Units:
     places: str | None = None
     capacity: str = "lane"
     jam: Fraction = Fraction(150)
-    encoding: str | None = None
+    reading: Reading = Reading()
     rename: bool = False
     """Whether a name that stands twice gets a number."""
+    crs: str | None = None
+    """The projection of places, where that is not degrees of longitude and latitude."""
 
 
 @dataclass
@@ -60,19 +65,22 @@ def read_gmns(folder: Path, units: Units) -> Read:
     made = Read(units=units)
     read_config(folder, made)
     made.nodes = read_nodes(folder, made)
-    table = read(path, ("from_node_id", "to_node_id"), LINK_NAMES, units.encoding)
+    table = read(path, ("from_node_id", "to_node_id"), LINK_NAMES, units.reading)
     made.notes += table.notes
+    if file_of(folder, "movement.csv").exists():
+        made.notes.append("movement.csv is not read: from each link traffic may go on by each link that leaves its end node, except where splits do not send it")
     whole_numbers(table.rows, ("link_id", "from_node_id", "to_node_id"))
     if "link_id" not in table.fields:
         made.notes.append("link.csv has no link_id; links are named by their ends")
     rows = by_side(table)
     for row in rows:
         plain_numbers(row, made)
-    lines = {row.place: line_of(row, made, shapes) for shapes in [read_shapes(folder, units)] for row in rows}
+    shapes = read_shapes(folder, units)
+    lines = [line_of(row, made, shapes) for row in rows]
     check_units(rows, lines, made)
     taken: set[str] = set()
-    for row in rows:
-        read_link(row, lines[row.place], made, taken)
+    for row, line in zip(rows, lines):
+        read_link(row, line, made, taken)
     if not made.network.roads and not made.faults:
         raise Fault("; ".join([f"{path}: no link that cars may use", *made.told()]))
     return made
@@ -102,13 +110,14 @@ def read_config(folder: Path, made: Read) -> None:
     path = file_of(folder, "config.csv")
     if not path.exists():
         return
-    rows = read(path, (), None, made.units.encoding).rows
+    rows = read(path, (), None, made.units.reading).rows
     fields = rows[0].fields if rows else {}
     said = {name: fields.get(name, "").strip().lower() for name in ("long_length", "speed")}
     length, speed = LENGTH_WORDS.get(said["long_length"]), SPEED_WORDS.get(said["speed"])
     for name, known, option, asked in (("long_length", length, "--length-unit", made.units.length), ("speed", speed, "--speed-unit", made.units.speed)):
         if said[name] and not known and not asked:
             raise Fault(f"config.csv: {name} is {said[name]!r}, a unit that is not known; give {option}")
+    made.units.crs = made.units.crs or crs_of(fields.get("crs", ""))
     if made.units.length is None and length:
         made.units.length = length
         made.notes.append(f"config.csv says that lengths are in {length}")
@@ -117,12 +126,18 @@ def read_config(folder: Path, made: Read) -> None:
         made.notes.append(f"config.csv says that speeds are in {speed}")
 
 
+def crs_of(text: str) -> str | None:
+    """The EPSG code that a text tells, as `EPSG:25832`; None where it tells none."""
+    found = re.fullmatch(r"(?:urn:ogc:def:crs:)?(?:epsg *:*)? *([0-9]{4,6})", text.strip().lower())
+    return f"EPSG:{found[1]}" if found is not None else None
+
+
 def read_nodes(folder: Path, made: Read) -> Table | None:
     """The places of `node.csv`, where it is there."""
     path = file_of(folder, "node.csv")
     if not path.exists():
         return None
-    table = read(path, ("node_id",), NODE_NAMES, made.units.encoding)
+    table = read(path, ("node_id",), NODE_NAMES, made.units.reading)
     made.notes += table.notes
     whole_numbers(table.rows, ("node_id", "zone_id"))
     for row in table.rows:
@@ -137,7 +152,7 @@ def read_shapes(folder: Path, units: Units) -> dict[str, str]:
     path = file_of(folder, "geometry.csv")
     if not path.exists():
         return {}
-    rows = read(path, ("geometry_id", "geometry"), None, units.encoding).rows
+    rows = read(path, ("geometry_id", "geometry"), None, units.reading).rows
     return {row.text("geometry_id", ""): row.text("geometry", "") for row in rows}
 
 
@@ -154,17 +169,16 @@ def line_of(row: Row, made: Read, shapes: dict[str, str]) -> list[Point]:
     """The points of a link: of its geometry, else its ends; none where they have no places."""
     points = points_of(row.text("geometry", "") or shapes.get(row.text("geometry_id", ""), ""))
     if points:
-        return points
+        return points[::-1] if isinstance(row, TurnedRow) else points
     ends = [made.network.nodes.get(row.text(name, "")) for name in ("from_node_id", "to_node_id")]
     return [(node.x, node.y) for node in ends if node is not None and node.x is not None and node.y is not None] if None not in ends else []
 
 
-def check_units(rows: Sequence[Row], lines: dict[str, list[Point]], made: Read) -> None:
+def check_units(rows: Sequence[Row], lines: Sequence[list[Point]], made: Read) -> None:
     """Settles the unit of places, and says where lengths do not go with them."""
     unit = made.units.length or "m"
     known, points = [], []
-    for row in rows:
-        line = lines[row.place]
+    for row, line in zip(rows, lines):
         points += line
         length = fraction_or_none(row, "length")
         if len(line) > 1 and length:
@@ -242,7 +256,8 @@ def both_ways(row: Row, road: Road, made: Read) -> list[Road]:
         made.faults.append(f"link {road.name}: directed is {text!r}; 1 or true, 0 or false is wanted")
     if text not in NO and not fraction_zero(text):
         return []
-    return [Road(road.name + "_r", road.head, road.tail, road.length, road.time, road.storage, road.capacity, road.kind, (road.name + "_r",))]
+    name = road.name + "_r"
+    return [replace(road, name=name, tail=road.head, head=road.tail, parts=(name,), shape=road.shape[::-1])]
 
 
 def road_of_row(row: Row, name: str, ends: tuple[str, str], line: list[Point], what: str, made: Read) -> Road | None:
@@ -259,8 +274,9 @@ def road_of_row(row: Row, name: str, ends: tuple[str, str], line: list[Point], w
     capacity = number(row, "capacity", Fraction(lane_flow), what, made)
     if lanes is None or speed is None or length is None or capacity is None:
         return None
+    tail, head = (made.network.nodes[end].place if end in made.network.nodes else None for end in ends)
     return road_of(name, *ends, metres=length, kmh=speed * KMH[units.speed or "kmh"], jam=units.jam * lanes,
-                   capacity=capacity if whole else capacity * lanes, kind=kind)
+                   capacity=capacity if whole else capacity * lanes, kind=kind, shape=towards(line, tail, head) if len(line) > 1 else ())
 
 
 def length_of(row: Row, line: list[Point], what: str, made: Read) -> Fraction | None:

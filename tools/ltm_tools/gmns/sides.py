@@ -3,7 +3,7 @@
 from __future__ import annotations
 
 from collections.abc import Iterator, Mapping, Sequence
-from dataclasses import replace
+from dataclasses import dataclass, replace
 
 from ..tables import Table, TableRow
 from .fields import EMPTY, LINK_NAMES
@@ -45,9 +45,14 @@ def sides_of(row: TableRow, fields: Mapping[tuple[str, int], str], direction: st
         yield made
 
 
-def turned(row: TableRow, beside: bool = False) -> TableRow:
+@dataclass(frozen=True, slots=True)
+class TurnedRow(TableRow):
+    """A row of the way back, whose line is drawn from its end."""
+
+
+def turned(row: TableRow, beside: bool = False) -> TurnedRow:
     """A row of the way back, by another name where the way there has a row too."""
     made = {**row.fields, "from_node_id": row.fields.get("to_node_id", ""), "to_node_id": row.fields.get("from_node_id", ""), "directed": "1"}
     if beside and made.get("link_id", ""):
         made["link_id"] += "_r"
-    return replace(row, fields=made)
+    return TurnedRow(row.place, made, row.written)

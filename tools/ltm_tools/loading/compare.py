@@ -10,6 +10,7 @@ from ..case.keeping import case_of
 from .counts import Counts, as_list, total
 from .delay import Report, report
 from .loaded import Loaded, loaded, told_delay
+from .remaining import Remaining
 from .times import at
 
 Pairs = dict[str, tuple[int | None, int | None]]
@@ -31,6 +32,17 @@ class Comparison:
         """Totals at the end of the horizon, in units."""
         ends = [end_totals(loading, list(arrived)) for loading, arrived in zip(self.both, self.arrived)]
         return {name: (ends[0][name], ends[1][name]) for name in ends[0]}
+
+    def remaining(self) -> tuple[Remaining, Remaining]:
+        """Who is not there by the end, in each."""
+        generated, not_there = (self.amounts()[name] for name in ("generated", "not_there"))
+        one, other = (Remaining(whole or 0, rest or 0) for whole, rest in zip(generated, not_there))
+        return one, other
+
+    def comparable(self) -> bool:
+        """Whether vehicle times can be compared, by who is not there by the end."""
+        one, other = self.remaining()
+        return one.comparable(other)
 
     def links(self) -> Pairs:
         """The delay of each link, in units times ms."""
@@ -72,12 +84,12 @@ def arrivals(loading: Loaded) -> list[int]:
 
 
 def end_totals(loading: Loaded, arrived: Sequence[int]) -> dict[str, int]:
-    """The totals at the end of the horizon, as `ltm load` tells them."""
+    """The totals at the end of the horizon, as `ltm load` tells them, and who is not there then: on a link or waiting."""
     case, curves = loading
     generated = sum(row.units for row in case.standing_demand())
     on_links = sum(last(curves.up(link.name)) - last(curves.down(link.name)) for link in case.links)
     return {"generated": generated, "arrived": arrived[-1], "on_links": on_links,
-            "waiting": generated - sum(last(curves.departed(node)) for node in case.nodes)}
+            "waiting": generated - sum(last(curves.departed(node)) for node in case.nodes), "not_there": generated - arrived[-1]}
 
 
 def last(counts: Counts) -> int:

@@ -10,18 +10,24 @@ Amounts come back as whole thousandths of a vehicle, times as whole milliseconds
 import json
 import os
 import subprocess
+from collections.abc import Callable
 from types import TracebackType
-from typing import TYPE_CHECKING, NamedTuple
+from typing import TYPE_CHECKING, TypeVar
 
 from ..case import Case
 from ..case.edits import Edit
 from ..case.refusals import why_refused
 from ..errors import Fault
-from ..formats import MOST_EDITS, MOST_LINE_BYTES, MOST_WORKERS, told_time, told_units
+from ..files import shown
+from ..formats import MOST_EDITS, MOST_LINE_BYTES, MOST_WORKERS, told_time, told_units, whole_of
 from ..program import start
+from .answers import (AllDelays, Delays, LinkCurve, LinkQueue, LinkTime, Names, OriginCurve, OriginQueue, Passed, Settled, State, Totals,
+                      all_delays_of, link_curve_of, origin_curve_of, state_of)
 
 if TYPE_CHECKING:
     from .compare import Comparison
+
+Told = TypeVar("Told")
 
 
 class Refused(Fault):
@@ -33,63 +39,8 @@ class Refused(Fault):
         super().__init__(answer + (f": {reason}" if reason else ""))
 
 
-class Settled(NamedTuple):
-    """What a settle tells: the accepted batches, and how many pairs of node and slot were worked out anew."""
-
-    version: int
-    recomputed: int
-
-
-class Totals(NamedTuple):
-    """The totals at the end of the horizon, in thousandths of a vehicle."""
-
-    version: int
-    generated: int
-    arrived: int
-    on_links: int
-    waiting: int
-
-
-class Passed(NamedTuple):
-    """What has entered and left a link by the end of the horizon, in thousandths of a vehicle."""
-
-    version: int
-    entered: int
-    left: int
-
-
-class LinkTime(NamedTuple):
-    """How long a link takes whoever enters in a slot, in ms; None where those before have not left by the end."""
-
-    version: int
-    ms: int | None
-
-
-class Delays(NamedTuple):
-    """Vehicle time in thousandths of a vehicle times ms: of all, in queues of links, and waited at origins (see the module `delay`)."""
-
-    version: int
-    spent: int
-    queued: int
-    waited: int
-
-
-class LinkQueue(NamedTuple):
-    """What has entered and left a link by a boundary, and its queue then, in thousandths of a vehicle."""
-
-    version: int
-    entered: int
-    left: int
-    queue: int
-
-
-class OriginQueue(NamedTuple):
-    """What the demand of a node has produced by a boundary, what has left it, and what waits then, in thousandths of a vehicle."""
-
-    version: int
-    produced: int
-    left: int
-    waiting: int
+class Ended(Fault):
+    """The session has ended, where an answer was wanted."""
 
 
 class Session:
@@ -101,6 +52,7 @@ class Session:
         self.folder, self.program = folder, program
         self.words = ["session", str(workers)]
         self.made: list[list[Edit]] = []  # the accepted batches
+        self.read: Names | None = None  # the names that the case has, once an answer asks for them
         self.process = start(folder, self.words, program, subprocess.PIPE)
 
     def __enter__(self) -> "Session":
@@ -109,8 +61,10 @@ class Session:
     def __exit__(self, kind: type[BaseException] | None, error: BaseException | None, trace: TracebackType | None) -> None:
         if kind is None:
             self.close()
-        else:
-            self._let_go()
+            return
+        if not issubclass(kind, Exception):  # an interrupt, which waits for no answer
+            self.process.kill()
+        self._let_go()
 
     def close(self) -> None:
         """Ends the session; a Fault where the program tells one. Nothing where it has ended."""
@@ -141,7 +95,7 @@ class Session:
         """The words of the answer to a command of a script, as `ask(do="totals")`; Refused where it is refused."""
         assert self.process.stdin is not None and self.process.stdout is not None
         if self.process.stdout.closed:
-            raise Fault(f"{self.folder}: ltm {' '.join(self.words)} has ended")
+            raise Ended(f"{self.folder}: ltm {' '.join(self.words)} has ended")
         line = line_of(command)
         try:
             self.process.stdin.write(line + b"\n")
@@ -152,10 +106,18 @@ class Session:
         words = answer.split()
         if not words or words[:2] in (["bad", "case"], ["too", "long"], ["too", "many"]):
             self._let_go()
-            raise Fault(f"{self.folder}: ltm {' '.join(self.words)} ended with status {self.process.returncode}: {answer or 'no answer'}")
+            raise Ended(f"{self.folder}: ltm {' '.join(self.words)} ended with status {self.process.returncode}: {answer or 'no answer'}")
         if words[0] == "refused":
             raise _refused(answer, words, self._reason(command, answer))
         return words
+
+    def _told(self, read: Callable[[list[str]], Told], **command: object) -> Told:
+        """What is read of the answer to a command; a Fault where that is no such answer."""
+        words = self.ask(**command)
+        try:
+            return read(words)
+        except (Fault, IndexError, ValueError):
+            raise Fault(f"{self.folder}: ltm {' '.join(self.words)} answers {shown(' '.join(words))} to {command['do']}, which is no answer to it") from None
 
     def _reason(self, command: dict[str, object], answer: str) -> str:
         """Why the session refused a command, by the files of the case."""
@@ -168,13 +130,13 @@ class Session:
         """Makes a batch of edits, whole or not at all: the number of accepted batches. See the module `edits`."""
         if not 1 <= len(edits) <= MOST_EDITS:
             raise Fault(f"a batch has 1 to {MOST_EDITS} edits, and not {len(edits)}")
-        version = int(self.ask(do="edit", edits=edits)[2])
+        version = self._told(lambda words: int(words[2]), do="edit", edits=edits)
         self.made.append(list(edits))
         return version
 
     def save(self, folder: str | os.PathLike[str], version: int | None = None) -> None:
         """Writes the case that all accepted batches leave, or the first `version` of them, in a folder: what `load` tells there the session
-        shows once it has settled them, and the file `nodes.csv` where the session's folder has it."""
+        shows once it has settled them, and the files `nodes.csv` and `shapes.csv` where the session's folder has them."""
         from ..case.keeping import keep
 
         keep(self.folder, self.made, folder, version)
@@ -187,40 +149,57 @@ class Session:
 
     def settle(self) -> Settled:
         """Works out anew what the edits change, and shows it."""
-        words = self.ask(do="settle")
-        return Settled(int(words[2]), int(words[4]))
+        return self._told(lambda words: Settled(int(words[2]), int(words[4])), do="settle")
 
     def totals(self) -> Totals:
         """The totals of the loading that is shown."""
-        words = self.ask(do="totals")
-        return Totals(int(words[1]), *(told_units(words[place]) for place in (3, 5, 7, 9)))
+        return self._told(lambda words: Totals(int(words[1]), *(told_units(words[place]) for place in (3, 5, 7, 9))), do="totals")
 
     def link(self, name: str) -> Passed:
         """What has entered and left a link in the loading that is shown."""
-        words = self.ask(do="link", link=name)
-        return Passed(int(words[1]), told_units(words[5]), told_units(words[7]))
+        return self._told(lambda words: Passed(int(words[1]), told_units(words[5]), told_units(words[7])), do="link", link=name)
 
     def time(self, name: str, slot: int) -> LinkTime:
         """How long a link takes whoever enters it in a slot, in the loading that is shown."""
-        words = self.ask(do="time", link=name, slot=slot)
-        return LinkTime(int(words[1]), None if words[7] == "none" else int(words[7]))
+        return self._told(lambda words: LinkTime(int(words[1]), None if words[7] == "none" else int(words[7])), do="time", link=name, slot=slot)
 
     def delay(self) -> Delays:
         """The vehicle time of the loading that is shown, and the delay in it."""
-        words = self.ask(do="delay")
-        return Delays(int(words[1]), *(told_time(words[place]) for place in (3, 5, 7)))
+        return self._told(lambda words: Delays(int(words[1]), *(told_time(words[place]) for place in (3, 5, 7))), do="delay")
 
     def queue(self, name: str, slot: int) -> LinkQueue:
         """What has entered and left a link by the beginning of a slot, and its queue, in the loading that is shown. The slot may be the
         first behind the horizon."""
-        words = self.ask(do="queue", link=name, slot=slot)
-        return LinkQueue(int(words[1]), *(told_units(words[place]) for place in (7, 9, 11)))
+        return self._told(lambda words: LinkQueue(int(words[1]), *(told_units(words[place]) for place in (7, 9, 11))), do="queue", link=name, slot=slot)
 
     def origin(self, name: str, slot: int) -> OriginQueue:
         """What the demand of a node has produced by the beginning of a slot, what has left it, and how many wait there, in the loading that
         is shown. The slot may be the first behind the horizon."""
-        words = self.ask(do="origin", node=name, slot=slot)
-        return OriginQueue(int(words[1]), *(told_units(words[place]) for place in (7, 9, 11)))
+        return self._told(lambda words: OriginQueue(int(words[1]), *(told_units(words[place]) for place in (7, 9, 11))), do="origin", node=name, slot=slot)
+
+    def state(self, slot: int) -> State:
+        """What has entered and left each link by the beginning of a slot, its queue, and who waits at each node, in the loading that is
+        shown. The slot may be the first behind the horizon."""
+        return state_of(self.ask(do="state", slot=slot), self.names())
+
+    def curve(self, name: str) -> LinkCurve:
+        """What has entered and left a link by each boundary, in the loading that is shown."""
+        return link_curve_of(self.ask(do="curve", link=name))
+
+    def departures(self, name: str) -> OriginCurve:
+        """What the demand of a node has produced by each boundary and what has left it, in the loading that is shown."""
+        return origin_curve_of(self.ask(do="departures", node=name))
+
+    def delays(self) -> AllDelays:
+        """The vehicle time of the loading that is shown and the delay in it, of all and of each link and node, as `ltm delay` tells it."""
+        return all_delays_of(self.ask(do="delays"), self.names())
+
+    def names(self) -> Names:
+        """The links and nodes of the case, in the order in which answers tell of them."""
+        if self.read is None:
+            case = Case.read_network(self.folder)
+            self.read = Names([link.name for link in case.links], case.nodes)
+        return self.read
 
 
 def line_of(command: dict[str, object]) -> bytes:
@@ -233,6 +212,5 @@ def line_of(command: dict[str, object]) -> bytes:
 
 def _refused(answer: str, words: list[str], reason: str) -> Refused:
     """`refused edit P CAUSE ..`, `refused link CAUSE`, `refused command NotCommand P` and the like."""
-    if words[1] == "edit":
-        return Refused(answer, " ".join(words[3:]), int(words[2]), reason)
-    return Refused(answer, words[2], int(words[3]) if len(words) > 3 else 0, reason)
+    number = next((number for word in words[2:4] if (number := whole_of(word)) is not None), 0)
+    return Refused(answer, " ".join(words[3:] if words[1:2] == ["edit"] else words[2:3]), number, reason)

@@ -54,7 +54,7 @@ def search(fit: Fit, routes: Sequence[Used], off: list[float]) -> dict[str, floa
     """The change of each road's time in ms, a road at a time while all others stay."""
     users: dict[str, list[int]] = {}
     for number, route in enumerate(routes):
-        for name in set(route.roads):
+        for name in dict.fromkeys(route.roads):  # in order, so that each run gives the same
             users.setdefault(name, []).append(number)
     whole = sum(route.units for route in routes)
     weights = [route.units / whole / float(route.time) ** 2 for route in routes]

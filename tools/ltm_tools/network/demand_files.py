@@ -5,15 +5,16 @@ Times are clock times, as 7:45 or 07:45:30, or seconds; they become milliseconds
 from __future__ import annotations
 
 import os
-from collections.abc import Iterable, Iterator
+import sys
+from collections.abc import Iterable, Iterator, Sequence
 from dataclasses import dataclass
 from fractions import Fraction
 from pathlib import Path
 
 from ..errors import Fault
 from ..files import Row
-from ..formats import CLOCK, MINUTE_MS, MOST_UNITS, clock_ms, clock_text
-from ..tables import Table, read, whole_numbers
+from ..formats import CLOCK, MINUTE_MS, LONGEST_SECONDS, MOST_UNITS, clock_ms, clock_text, count_text, whole_of
+from ..tables import Reading, Stream, read, whole_names
 from .profiles import Part
 
 TABLE_NAMES = {"o_zone_id": ("origin", "o", "orig", "from_zone", "o_zone", "from", "o_node_id", "origin_zone_id", "origin_id", "from_zone_id", "orig_taz",
@@ -23,6 +24,7 @@ TABLE_NAMES = {"o_zone_id": ("origin", "o", "orig", "from_zone", "o_zone", "from
                "volume": ("vehicles", "trips", "demand", "count", "flow", "value", "total", "vol", "volumes", "amount", "number", "weight")}
 SORTS = ("time_period", "demand_period", "period", "agent_type", "mode", "user_class", "vehicle_type", "purpose", "scenario")
 """Fields by which the rows of a table are often told apart."""
+MOST_TOLD = 1000  # values of such a field
 TRIP_NAMES = {**{name: others for name, others in TABLE_NAMES.items() if name != "volume"}, "volume": ("vehicles", "count", "number"),
               "depart": ("departure", "departure_time", "depart_time", "start_time", "time", "start", "begin")}
 PROFILE_NAMES = {"from": ("begin", "start", "time", "from_time", "interval"), "to": ("end", "to_time"), "share": ("vehicles", "count", "value", "weight", "percent")}
@@ -52,53 +54,83 @@ def moment_ms(row: Row, field: str) -> int:
     text = row.text(field)
     if CLOCK.fullmatch(text):
         return clock_ms(text)
-    parts = text.split(":")
-    if len(parts) == 4 and all(part.isdigit() for part in parts):
-        return int(parts[0]) * 1440 * MINUTE_MS + clock_ms(":".join(parts[1:]))
-    return int(row.number(field) * 1000)
+    days, _, clock = text.partition(":")
+    if text.count(":") == 3 and len(days) < 4 and (count := whole_of(days)) is not None:
+        return count * 1440 * MINUTE_MS + clock_ms(clock)
+    seconds = row.number(field)
+    if abs(seconds) > LONGEST_SECONDS:
+        raise row.fault(field, f"a clock time is wanted, or seconds, of at most {count_text(LONGEST_SECONDS)}")
+    return int(seconds * 1000)
 
 
-def read_amounts(path: str | os.PathLike[str], encoding: str | None = None) -> Amounts:
+def read_amounts(path: str | os.PathLike[str], reading: Reading = Reading()) -> Amounts:
     """The table of a file, a list with a volume in each row, or a matrix with origins down and destinations across."""
-    table = read(path, (), TABLE_NAMES, encoding)
-    whole_numbers(table.rows, ("o_zone_id", "d_zone_id"))
+    table = Stream(path, (), TABLE_NAMES, reading)
+    sorts: dict[str, set[str]] = {name: set() for name in SORTS if name in table.fields}
     if {"o_zone_id", "d_zone_id"} <= set(table.fields):
-        counted = volume_field(table, path)
-        cells = [(row.text("o_zone_id"), row.text("d_zone_id"), volume_of(row, counted)) for row in table.rows]
+        cells = listed(table, volume_field(table.fields, path), sorts)
     elif "volume" not in table.fields and "d_zone_id" not in table.fields and len(table.fields) > 1:
         cells = matrix_cells(table)
     else:
         raise Fault(f"{path}: no field o_zone_id, d_zone_id or volume in the header; it has {', '.join(table.fields)}")
-    made = Amounts({}, Fraction(0), (*table.notes, *sorts_told(table, path)))
-    for origin, destination, volume in cells:
+    zones: tuple[set[str], set[str]] = set(), set()
+    volumes = summed(cells, zones)
+    whole = [whole_names(names) for names in zones]
+    made = Amounts({}, Fraction(0), (*table.notes, *sorts_told(sorts, path)))
+    for pair, volume in volumes.items():
+        origin, destination = (names.get(zone, zone) for names, zone in zip(whole, pair))
         if origin == destination:
             made.inner += volume
-        elif volume:
+        else:
             made.volumes[origin, destination] = made.volumes.get((origin, destination), Fraction(0)) + volume
     return made
 
 
-def volume_field(table: Table, path: str | os.PathLike[str]) -> str:
+def summed(cells: Iterable[tuple[str, str, Fraction]], zones: tuple[set[str], set[str]]) -> dict[tuple[str, str], Fraction]:
+    """The volumes by pair, in the order in which pairs come first, without pairs of none; the names of origins and of destinations are
+    noted."""
+    volumes: dict[tuple[str, str], Fraction] = {}
+    for origin, destination, volume in cells:
+        pair = sys.intern(origin), sys.intern(destination)
+        for names, name in zip(zones, pair):
+            names.add(name)
+        if volume:
+            volumes[pair] = volumes[pair] + volume if pair in volumes else volume
+    return volumes
+
+
+def listed(table: Stream, counted: str, sorts: dict[str, set[str]]) -> Iterator[tuple[str, str, Fraction]]:
+    """The pairs of a list with their volumes; which values tell its rows apart is noted."""
+    for row in table:
+        for name, values in sorts.items():
+            if len(values) <= MOST_TOLD:
+                values.add(row.fields.get(name, ""))
+        yield row.text("o_zone_id"), row.text("d_zone_id"), volume_of(row, counted)
+
+
+def volume_field(fields: Sequence[str], path: str | os.PathLike[str]) -> str:
     """The field with the vehicles of a list; where none is called so, the only other one."""
-    if "volume" in table.fields:
+    if "volume" in fields:
         return "volume"
-    others = [name for name in table.fields if name and name not in ("o_zone_id", "d_zone_id", *SORTS)]
+    others = [name for name in fields if name and name not in ("o_zone_id", "d_zone_id", *SORTS)]
     if len(others) == 1:
         return others[0]
     raise Fault(f"{path}: no field volume in the header" + (f"; call one of {', '.join(others)} volume" if others else ""))
 
 
-def sorts_told(table: Table, path: str | os.PathLike[str]) -> list[str]:
+def sorts_told(sorts: dict[str, set[str]], path: str | os.PathLike[str]) -> list[str]:
     """A line for each field that tells rows apart by more than one value, as all rows are added."""
-    counts = {name: len({row.fields.get(name, "") for row in table.rows}) for name in SORTS if name in table.fields}
-    return [f"{path} has {count} values of {name}, and the vehicles of all are added" for name, count in counts.items() if count > 1]
+    counts = {name: f"over {MOST_TOLD}" if len(values) > MOST_TOLD else str(len(values)) for name, values in sorts.items() if len(values) > 1}
+    return [f"{path} has {count} values of {name}, and the vehicles of all are added" for name, count in counts.items()]
 
 
-def matrix_cells(table: Table) -> list[tuple[str, str, Fraction]]:
+def matrix_cells(table: Stream) -> Iterator[tuple[str, str, Fraction]]:
     """The entries of a matrix: the first field of a row is its origin, and the header has the destinations."""
     first, *destinations = table.fields
-    whole_numbers(table.rows, (first,))
-    return [(row.text(first), row.written[name].removesuffix(".0"), volume_of(row, name)) for row in table.rows for name in destinations if name]
+    for row in table:
+        for name in destinations:
+            if name:
+                yield row.text(first), row.written[name].removesuffix(".0"), volume_of(row, name)
 
 
 def volume_of(row: Row, field: str) -> Fraction:
@@ -109,17 +141,17 @@ def volume_of(row: Row, field: str) -> Fraction:
     return volume
 
 
-def read_trips(path: str | os.PathLike[str], encoding: str | None = None) -> list[ZoneTrip]:
+def read_trips(path: str | os.PathLike[str], reading: Reading = Reading()) -> list[ZoneTrip]:
     """Trips with a time each, a vehicle each where no number is said."""
-    table = read(path, ("o_zone_id", "d_zone_id", "depart"), TRIP_NAMES, encoding)
-    return [ZoneTrip(row.text("o_zone_id"), row.text("d_zone_id"), moment_ms(row, "depart"), whole_units(row.number("volume", 1), row.place))
-            for row in table.rows]
+    return [ZoneTrip(sys.intern(row.text("o_zone_id")), sys.intern(row.text("d_zone_id")), moment_ms(row, "depart"),
+                     whole_units(row.number("volume", 1), row.place))
+            for row in Stream(path, ("o_zone_id", "d_zone_id", "depart"), TRIP_NAMES, reading)]
 
 
-def read_profile(path: str | os.PathLike[str], *, start_ms: int | None, step_ms: int, encoding: str | None = None) -> tuple[list[Part], int, tuple[str, ...]]:
+def read_profile(path: str | os.PathLike[str], *, start_ms: int | None, step_ms: int, reading: Reading = Reading()) -> tuple[list[Part], int, tuple[str, ...]]:
     """The parts of a profile in slots, the time in ms at which slot 0 begins, and what is to be told. Without a start that is the
     profile's first time."""
-    table = read(path, ("from", "share"), PROFILE_NAMES, encoding)
+    table = read(path, ("from", "share"), PROFILE_NAMES, reading)
     if not table.rows:
         raise Fault(f"{path}: a profile without rows; as from,to,share and 7:00,7:15,0.2")
     begins = [moment_ms(row, "from") for row in table.rows]
@@ -170,7 +202,7 @@ def quarter_before(time_ms: int) -> int:
     return time_ms // (15 * MINUTE_MS) * 15 * MINUTE_MS
 
 
-def exists(path: str) -> Path:
+def exists(path: str | os.PathLike[str]) -> Path:
     """The path of a file that is there."""
     if not Path(path).is_file():
         raise Fault(f"{path}: no such file")

@@ -15,11 +15,12 @@ lengths where they have it.
 from __future__ import annotations
 
 from collections.abc import Iterable
-from dataclasses import dataclass
+from dataclasses import dataclass, replace
 from fractions import Fraction
 
 from ..errors import Fault
 from ..formats import MOST_IN, MOST_KMH, MOST_OUT
+from .lines import Line, Point, cut_at, joined
 from .network import Network, Node, Road, diagram, most_capacity, nearest, totals
 
 ARMS = min(MOST_IN, MOST_OUT)
@@ -40,8 +41,7 @@ class Change:
 def stretched(road: Road, time: Fraction) -> Road:
     """The road made longer by a free-flow time in ms, at its speed and density; shorter where the time is below 0."""
     metres = time * road.kmh / 3600
-    return Road(road.name, road.tail, road.head, road.length + metres, road.time + time,
-                road.storage + metres * road.jam / 1000, road.capacity, road.kind, road.parts)
+    return replace(road, length=road.length + metres, time=road.time + time, storage=road.storage + metres * road.jam / 1000)
 
 
 def longest_step(road: Road, step: int | None = None) -> int:
@@ -88,6 +88,14 @@ class Fit:
         """Whether a road is too short for the step."""
         return longest_step(road, self.step) < self.step
 
+    def carries(self, road: Road) -> bool:
+        """Whether a road has the speed and the storage for its capacity."""
+        try:
+            diagram(road, self.step)
+        except Fault:
+            return False
+        return True
+
     def too_short(self) -> list[str]:
         """The roads that are too short, the shortest first."""
         return [road.name for road in sorted(self.network.roads.values(), key=lambda road: (road.time, road.name)) if self.short(road)]
@@ -128,14 +136,13 @@ class Fit:
         return done
 
     def pairs_at(self, node: str) -> list[tuple[Road, Road]]:
-        """Each road into a node with the road on which it goes on; none where that is open."""
+        """Each road into a node with the road on which it goes on, where these are roads of one street; none where that is open."""
         ins = [self.network.roads[name] for name in self.network.ins[node]]
         outs = [self.network.roads[name] for name in self.network.outs[node]]
-        if len(ins) != len(outs) or len(ins) > 2:
-            return []
-        pairs = [(road, after) for road in ins for after in outs if after.head != road.tail]
         sides = {road.tail for road in ins} | {road.head for road in outs}
-        return pairs if len(pairs) == len(ins) and len(sides) == 2 else []
+        if len(ins) != len(outs) or len({road.tail for road in ins}) != len(ins) or len({road.head for road in outs}) != len(outs) or len(sides) != 2:
+            return []
+        return [(road, after) for road in ins for after in outs if after.head != road.tail]
 
     def in_series(self, node: str) -> bool:
         """Whether roads only lead through a node, and nothing begins, ends or is held there."""
@@ -153,7 +160,8 @@ class Fit:
         for first, second in self.pairs_at(node):
             longer = first if first.length >= second.length else second
             made = Road(longer.name, first.tail, second.head, first.length + second.length, first.time + second.time,
-                        first.storage + second.storage, min(first.capacity, second.capacity), longer.kind, first.parts + second.parts)
+                        first.storage + second.storage, min(first.capacity, second.capacity), longer.kind, first.parts + second.parts,
+                        joined([self.network.line(first), self.network.line(second)]))
             shorter = second if longer is first else first
             self.network.remove(first.name)
             self.network.remove(second.name)
@@ -191,11 +199,16 @@ class Fit:
             return False
         if any(name in network.signals or not self.short(network.roads[name]) for name in gone):
             return False
+        left = 0
         for side in (network.ins, network.outs):
-            if len([name for name in side[tail] + side[head] if name not in gone]) > max(ARMS, len(side[tail]), len(side[head])):
+            count = len([name for name in side[tail] + side[head] if name not in gone])
+            if count > max(ARMS, len(side[tail]), len(side[head])):
                 return False
+            left += count
+        if not left and (tail in network.ends or head in network.ends):
+            return False  # a node without roads is none, and trips begin or end at this one
         if self.only_behind(road) or self.only_before(road):
-            return True
+            return all(self.carries(heir) for _, heir in self.heirs(road))
         return self.comes_back(road) and 2 * road.time <= self.step
 
     def only_before(self, road: Road) -> bool:
@@ -205,6 +218,14 @@ class Fit:
     def only_behind(self, road: Road) -> bool:
         """Whether every route that leaves a road's head came by the road."""
         return self.network.ins[road.head] == [road.name] and road.head not in self.network.ends
+
+    def heirs(self, road: Road) -> list[tuple[Road, Road]]:
+        """The roads to which the length, the time and the storage of a contracted road go, as they are and as they become."""
+        gone = self.between(road)
+        names = self.network.ins[road.tail] if self.only_before(road) else self.network.outs[road.head] if self.only_behind(road) else []
+        were = [self.network.roads[name] for name in names if name not in gone]
+        return [(heir, replace(heir, length=heir.length + road.length, time=heir.time + road.time, storage=heir.storage + road.storage / len(were)))
+                for heir in were]
 
     def comes_back(self, road: Road) -> bool:
         """Whether the head of a road leads back to its tail by at most three roads that are too short as well."""
@@ -216,16 +237,12 @@ class Fit:
 
     def contract(self, road: Road) -> None:
         """Makes one node of the ends of a road."""
-        network, gone = self.network, self.between(road)
-        before, behind = self.only_before(road), self.only_behind(road)
-        taken = [network.roads[name] for name in gone]
+        network, heirs = self.network, self.heirs(road)
+        pushed_from, pushed_to = [was for was, _ in heirs], [heir for _, heir in heirs]
+        taken = [network.roads[name] for name in self.between(road)]
         kept, other = (road.head, road.tail) if road.head in network.ends else (road.tail, road.head)
-        for name in gone:
-            network.remove(name)
-        heirs = network.ins[road.tail] if before else network.outs[road.head] if behind else []
-        pushed_from = [network.roads[name] for name in heirs]
-        pushed_to = [Road(heir.name, heir.tail, heir.head, heir.length + road.length, heir.time + road.time,
-                          heir.storage + road.storage / len(heirs), heir.capacity, heir.kind, heir.parts) for heir in pushed_from]
+        for one in taken:
+            network.remove(one.name)
         for heir in pushed_to:
             self.put(heir)
         for name in list(network.outs[other]):
@@ -295,17 +312,33 @@ class Fit:
         count = min(ARMS, len(side[node]) - ARMS + 1)
         chosen = sorted((network.roads[name] for name in side[node]), key=lambda road: (road.time < 3 * self.step, road.capacity, road.name))[:count]
         made = self.connector(node, word, number, chosen)
-        network.add_node(Node(made.tail if word == "in" else made.head, network.nodes[node].x, network.nodes[node].y))
+        inner = made.tail if word == "in" else made.head
+        shapes = [self.cut_shape(road, word, made) for road in chosen]
+        network.add_node(Node(inner, *self.middle(node, [shape[-1] if word == "in" else shape[0] for shape in shapes if shape])))
         after = []
-        for road in chosen:
+        for road, shape in zip(chosen, shapes):
             cut = stretched(road, -made.time) if road.time > 2 * made.time else road
-            after.append(cut if cut is not road and not self.short(cut) else road)
+            after.append(replace(cut if cut is not road and not self.short(cut) else road, shape=shape))
             self.put(after[-1])
-            (network.move_head if word == "in" else network.move_tail)(road.name, made.tail if word == "in" else made.head)
+            (network.move_head if word == "in" else network.move_tail)(road.name, inner)
         network.add(made)
-        kept = sum(new is old for old, new in zip(chosen, after))
+        kept = sum(new.time == old.time for old, new in zip(chosen, after))
         note = f"{' '.join(road.name for road in chosen)} by {made.name}" + (f"; {kept} of them become longer by it" if kept else "")
         self.tell("node split", node, chosen, [*after, made], note)
+
+    def cut_shape(self, road: Road, word: str, made: Road) -> Line:
+        """The points of a road without those along a connector at its end, or at its beginning; none where its places are not known."""
+        line = self.network.line(road)
+        if len(line) < 2:
+            return ()
+        share = float(min(made.length / road.length, Fraction(1, 2)))
+        return cut_at(line, 1 - share)[0] if word == "in" else cut_at(line, share)[1]
+
+    def middle(self, node: str, places: list[Point]) -> Point | tuple[None, None]:
+        """The middle of places; the place of a node where there is none."""
+        if not places:
+            return self.network.nodes[node].place or (None, None)
+        return sum(x for x, _ in places) / len(places), sum(y for _, y in places) / len(places)
 
     def connector(self, node: str, word: str, number: int, chosen: list[Road]) -> Road:
         """The connector between a node and some of its roads, as long as the step asks for."""

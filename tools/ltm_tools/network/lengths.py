@@ -10,7 +10,7 @@ import re
 from collections.abc import Iterable, Sequence
 from fractions import Fraction
 
-Point = tuple[float, float]
+from .lines import Point
 
 EARTH_M = 6_371_008.8
 UNITS = {"degrees": None, "m": 1.0, "km": 1000.0, "ft": 0.3048, "mi": 1609.344}

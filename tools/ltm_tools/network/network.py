@@ -8,13 +8,13 @@ from __future__ import annotations
 
 import heapq
 from collections.abc import Callable, Iterable
-from dataclasses import dataclass, field
+from dataclasses import dataclass, field, replace
 from fractions import Fraction
 
 from ..case import Link
 from ..errors import Fault
 from ..formats import HOUR_MS, MOST_JAM_PER_KM, MOST_KMH, MOST_LENGTH_M, MOST_SLOT_UNITS
-
+from .lines import Line, Point, joined
 
 LEAST_M = Fraction(1)
 """The length of a road that is shorter in its source, as a link of a case has whole metres."""
@@ -32,6 +32,11 @@ class Node:
     name: str
     x: float | None = None
     y: float | None = None
+
+    @property
+    def place(self) -> Point | None:
+        """Where it lies, if that is known."""
+        return None if self.x is None or self.y is None else (self.x, self.y)
 
 
 @dataclass(slots=True)
@@ -52,6 +57,8 @@ class Road:
     kind: str = ""
     parts: tuple[str, ...] = ()
     """The roads of the source that it is made of, in the order of driving; none for a connector that was made."""
+    shape: Line = ()
+    """The points that it leads through, as in the source, from its tail on; none where nothing says them."""
 
     @property
     def kmh(self) -> Fraction:
@@ -65,10 +72,10 @@ class Road:
 
 
 def road_of(name: str, tail: str, head: str, *, metres: Fraction, kmh: Fraction, jam: Fraction, capacity: Fraction,
-            kind: str = "") -> Road:
+            kind: str = "", shape: Line = ()) -> Road:
     """The road of a length in metres, a free speed in km/h, a jam density in vehicles/km and a capacity an hour; one that is shorter has LEAST_M."""
     metres = max(metres, LEAST_M)
-    return Road(name, tail, head, metres, metres * 3600 / kmh, metres * jam / 1000, capacity, kind, (name,))
+    return Road(name, tail, head, metres, metres * 3600 / kmh, metres * jam / 1000, capacity, kind, (name,), shape)
 
 
 def top(link: Link) -> Fraction:
@@ -138,7 +145,7 @@ class Network:
             made.outs.setdefault(node, [])
             made.ins.setdefault(node, [])
         for road in self.roads.values():
-            made.add(Road(road.name, road.tail, road.head, road.length, road.time, road.storage, road.capacity, road.kind, road.parts))
+            made.add(replace(road))
         return made
 
     def add_node(self, node: Node) -> None:
@@ -182,6 +189,11 @@ class Network:
     def drop_node(self, name: str) -> None:
         """Takes out a node without roads."""
         del self.nodes[name], self.outs[name], self.ins[name]
+
+    def line(self, road: Road) -> Line:
+        """The points of a road from end to end; fewer than two where too few places are known."""
+        ends = [((place,) if (place := self.nodes[end].place) is not None else ()) for end in (road.tail, road.head)]
+        return joined([ends[0], road.shape, ends[1]])
 
     def used_nodes(self) -> list[str]:
         """The nodes on some road, in the order in which a case of these roads numbers them."""

@@ -69,8 +69,9 @@ def strong_parts(nodes: Iterable[str], after: Mapping[str, Iterable[str]]) -> li
                 if work:
                     low[work[-1][0]] = min(low[work[-1][0]], low[node])
                 if low[node] == number[node]:
-                    part = set(stack[stack.index(node):])
-                    del stack[stack.index(node):]
+                    part = set()
+                    while node not in part:
+                        part.add(stack.pop())
                     on_stack -= part
                     if len(part) > 1:
                         found.append(part)

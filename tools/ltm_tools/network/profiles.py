@@ -41,20 +41,23 @@ def spread(units: int, shares: Sequence[Fraction]) -> list[int]:
     return parts
 
 
-def by_profile(amounts: dict[tuple[str, str], int], parts: Sequence[Part]) -> list[Demand]:
-    """Demand rows of amounts (thousandths) from an origin to a destination, spread over a profile."""
+def by_profile(amounts: dict[tuple[str, str], int], parts: Sequence[Part], most: int = MOST_DEMAND_ROWS) -> list[Demand]:
+    """Demand rows of amounts (thousandths) from an origin to a destination, spread over a profile, at most so many."""
     if not parts:
         raise Fault("a profile without parts; give at least one")
+    pairs = sum(units > 0 for units in amounts.values())
+    if pairs > most:
+        raise too_many(f"over {most}", pairs, len(parts), most)
     rows = []
     for (origin, destination), units in amounts.items():
         for part, share in zip(parts, spread(units, [part.share for part in parts])):
             if share:
                 rows.append(Demand(origin, destination, part.from_slot, part.to_slot, share))
-    return checked(joined(rows), len(parts))
+    return checked(joined(rows), len(parts), most)
 
 
-def by_trips(trips: Iterable[Trip], *, step_ms: int, slots: int, slice_slots: int) -> tuple[list[Demand], int]:
-    """Demand rows of trips counted by slices, and the thousandths of vehicles that set out past the horizon and are left out."""
+def by_trips(trips: Iterable[Trip], *, step_ms: int, slots: int, slice_slots: int, most: int = MOST_DEMAND_ROWS) -> tuple[list[Demand], int]:
+    """Demand rows of trips counted by slices, at most so many, and the thousandths of vehicles that set out past the horizon and are left out."""
     counted: dict[tuple[str, str, int], int] = {}
     late = 0
     for trip in trips:
@@ -66,7 +69,7 @@ def by_trips(trips: Iterable[Trip], *, step_ms: int, slots: int, slice_slots: in
         counted[key] = counted.get(key, 0) + trip.units
     rows = [Demand(origin, destination, part * slice_slots, min((part + 1) * slice_slots, slots), units)
             for (origin, destination, part), units in sorted(counted.items()) if units]
-    return checked(joined(rows), -(-slots // slice_slots)), late
+    return checked(joined(rows), -(-slots // slice_slots), most), late
 
 
 def joined(rows: Iterable[Demand]) -> list[Demand]:
@@ -78,13 +81,17 @@ def joined(rows: Iterable[Demand]) -> list[Demand]:
     return [Demand(*key, amount) for key, amount in units.items()]
 
 
-def checked(rows: list[Demand], slices: int) -> list[Demand]:
-    """The rows, where they are within the limits of the program."""
-    if len(rows) > MOST_DEMAND_ROWS:
-        pairs = len({(row.origin, row.destination) for row in rows})
-        raise Fault(f"{len(rows)} rows of demand, of {pairs} pairs of origin and destination in {slices} slices, and at most {MOST_DEMAND_ROWS}"
-                    " may be; take longer slices, or join zones")
+def checked(rows: list[Demand], slices: int, most: int) -> list[Demand]:
+    """The rows, where they are within the limits of the program and at most so many."""
+    if len(rows) > most:
+        raise too_many(str(len(rows)), len({(row.origin, row.destination) for row in rows}), slices, most)
     for row in rows:
         if row.units > MOST_UNITS:
             raise Fault(f"demand from {row.origin} to {row.destination}: more than 1000000 vehicles in a row; take shorter slices")
     return rows
+
+
+def too_many(rows: str, pairs: int, slices: int, most: int) -> Fault:
+    """The Fault of more rows than may be."""
+    return Fault(f"{rows} rows of demand, of {pairs} pairs of origin and destination in {slices} slices, and at most {most}"
+                 " may be; take longer slices, or join zones")

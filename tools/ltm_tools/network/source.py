@@ -12,6 +12,7 @@ from pathlib import Path
 
 from ..errors import Fault
 from ..files import read_table, write_text
+from ..formats import record_text
 from .passages import Roads
 
 LINKS_FILE, NODES_FILE = "source_links.csv", "source_nodes.csv"
@@ -99,10 +100,5 @@ class Source:
 
 
 def lines_of(rows: Iterable[Sequence[str]]) -> str:
-    """Records with quotes where a field needs them."""
-    return "".join(",".join(quoted(field) for field in row) + "\n" for row in rows)
-
-
-def quoted(text: str) -> str:
-    """A field, in quotes where it has a comma, a quote or a line's end."""
-    return '"' + text.replace('"', '""') + '"' if any(sign in text for sign in ',"\n\r') else text
+    """Records with quotes where a field needs them, a line each."""
+    return "".join(record_text(row) + "\n" for row in rows)

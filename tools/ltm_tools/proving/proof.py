@@ -19,11 +19,13 @@ import tempfile
 import time
 from collections.abc import Callable, Iterable, Iterator, Sequence
 from pathlib import Path
+from typing import Protocol
 
 from ..errors import Fault
 from ..files import read_text
-from ..program import BUILT
+from ..program import BUILT, CLONE
 from .plan import PROGRAM, Needs, Plan, costs_of
+from .sums import Sums, write_sums
 
 MEMORY_A_CRATE = 4 << 30  # bytes that the proof of a crate may take
 PARTS = ("src", "specs", "proofs", "args", "stdin", "stdout", "data")
@@ -120,11 +122,21 @@ def kept_in(place: Path, stamps: dict[str, str]) -> set[str]:
         return set()
 
 
+class Told(Protocol):
+    """Who is told how far a run is."""
+
+    def now(self, text: str, is_last: bool) -> None:
+        """How far it is now; the last time that is told in any case."""
+
+    def lines(self, lines: Sequence[str]) -> None:
+        """What stands in the log of a run that failed."""
+
+
 class Proof:
     """A run: what is done, and where its log is."""
 
-    def __init__(self, top: Path, place: Path, needs: Needs, jobs: int, program: str) -> None:
-        self.place, self.needs, self.jobs = place, needs, jobs
+    def __init__(self, top: Path, place: Path, needs: Needs, jobs: int, program: str, told: Told) -> None:
+        self.place, self.needs, self.jobs, self.told = place, needs, jobs, told
         self.plan = Plan(needs, costs_of(top, needs), jobs, program)
         self.stamps = stamps_of(place, needs)
         self.kept = kept_in(place, self.stamps)
@@ -132,8 +144,6 @@ class Proof:
         self.began = time.monotonic()
         self.at = 0.0  # the seconds after which a crate was done last
         self.log = place / "log"
-        self.is_terminal = sys.stderr.isatty()
-        self.told = 0.0
 
     def run(self) -> None:
         """Proves and builds; a Fault where something is not proved."""
@@ -196,29 +206,18 @@ class Proof:
         self.keep(name for name, words in zip(told[1::2], told[2::2]) if name in self.needs and name not in self.done and is_proved(words))
 
     def fail(self, words: list[str], status: int) -> None:
-        self.end_line()
-        for line in self.log.read_text(encoding="utf-8", errors="replace").splitlines()[-20:]:
-            print(f"    {line}", file=sys.stderr)
+        self.told.lines(self.log.read_text(encoding="utf-8", errors="replace").splitlines()[-20:])
         why = f"was killed by signal {-status}, perhaps for want of memory" if status < 0 else f"ended with status {status}"
         raise Fault(f"rt {' '.join(words)} {why}; all that it said is in {self.log}, and a new start goes on from here")
 
     def tell(self, is_last: bool = False) -> None:
-        """How many crates are done and left, and how many minutes that takes: on a terminal in one line, and else once a minute."""
-        now = time.monotonic()
-        if not self.is_terminal and not is_last and self.told and now - self.told < 60:
-            return
-        self.told = now
-        passed, left = now - self.began, len(self.needs) - len(self.done)
+        """How many crates are done and left, and how many minutes that takes."""
+        passed, left = time.monotonic() - self.began, len(self.needs) - len(self.done)
         text = f"{len(self.done)} of {len(self.needs)} crates proved, {left} left, {int(passed // 60)} minutes gone"
         if left:
             seconds = self.plan.seconds_left(self.kept, self.done, self.at, passed)
             text += f", about {max(1, math.ceil(seconds / 60))} more"
-        begin, end = ("\r\033[K", "\n" if is_last else "") if self.is_terminal else ("", "\n")
-        print(f"{begin}ltm: {text}", end=end, file=sys.stderr, flush=True)
-
-    def end_line(self) -> None:
-        if self.is_terminal:
-            print(file=sys.stderr)
+        self.told.now(text, is_last)
 
 
 def lines_of(text: str, names: Sequence[str] | Needs) -> list[str]:
@@ -238,10 +237,10 @@ def only_one(place: Path) -> Iterator[None]:
         yield
 
 
-def install(built: Path, since: float) -> None:
-    """Puts the program into the clone, as old as the sources that it was made of."""
+def put_into_clone(built: Path, sums: Sums) -> None:
+    """Puts the program into the clone, with the sums of what it was made of."""
     BUILT.parent.mkdir(parents=True, exist_ok=True)
     made = BUILT.with_name("ltm.new")
     shutil.copy2(built, made)
-    os.utime(made, (since, since))
     os.replace(made, BUILT)
+    write_sums(CLONE, sums)

@@ -2,16 +2,19 @@
 curves of a path. Times are clock times."""
 from __future__ import annotations
 
+import math
 from collections.abc import Sequence
 from typing import TYPE_CHECKING, Any
 
-from ..case.places import Place, read_places
+from ..case.places import Line, Place, Places, read_places
+from ..errors import Fault
 from ..formats import MINUTE_MS, clock_text
 from ..loading import delay
 from ..loading.counts import Counts, vehicles
 from ..loading.loaded import Loaded
 from ..loading.times import joined
 from . import layout
+from .texts import plain
 
 if TYPE_CHECKING:
     from matplotlib.axes import Axes
@@ -21,6 +24,8 @@ NICE_MINUTES = (1, 2, 5, 10, 15, 30, 60, 120, 180, 360, 720, 1440)
 MOST_NAMED = 40  # nodes, whose names are drawn
 COLOURS = "YlOrRd"
 LEAST_PERCENT = 1  # of a queue that is coloured on a map
+BENT_STEPS = 20
+MOST_MITRE = 2.5  # how far out the corner of a line beside another lies at most, over how far it is beside
 
 
 def clock_axis(axes: "Axes", start: int, last: int) -> None:
@@ -60,7 +65,7 @@ def draw_shares(plot: Any, both: Sequence[Loaded], titles: Sequence[str], names:
             ends.append(ends[-1] + link.length_m / 1000)
         mesh = axes.pcolormesh(times, ends, shares(one, names), cmap=COLOURS, vmin=0, vmax=100, rasterized=True)
         axes.hlines(ends[1:-1], times[0], times[-1], color="white", linewidth=0.8)
-        axes.set_title(title)
+        axes.set_title(plain(title))
         clock_axis(axes, times[0], times[-1])
         by_name = axes.secondary_yaxis("right")
         by_name.set_yticks([(a + b) / 2 for a, b in zip(ends, ends[1:])], [link.name for link in path])
@@ -96,13 +101,16 @@ def draw_map(plot: Any, both: Sequence[Loaded], folders: Sequence[str], titles: 
     """The network at a boundary, each link coloured by its queue in percent of what it stores; two cases side by side."""
     from matplotlib.collections import LineCollection
 
+    if not all(one.case.links for one in both):
+        raise Fault("there is nothing to draw: the case has no link")
     figure, found = plot.subplots(1, len(both), figsize=(2 + 6 * len(both), 6), layout="constrained", squeeze=False)
     for axes, one, folder, title in zip(found[0], both, folders, titles):
-        at, bends = places(one, folder)
+        drawn, bends = places(one, folder)
+        at = drawn.of
         queues = [int(delay.queue(one.curves, link)[min(boundary, one.curves.boundaries - 1)]) for link in one.case.links]
         parts = [100 * queue / link.storage_units for queue, link in zip(queues, one.case.links)]
         size = max(max(x for x, _ in at.values()) - min(x for x, _ in at.values()), max(y for _, y in at.values()) - min(y for _, y in at.values())) or 1.0
-        lines = [beside(at[link.tail], at[link.head], 0.004 * size, bend) for link, bend in zip(one.case.links, bends)]
+        lines = [beside(bent(drawn.line(link), bend), 0.004 * size) for link, bend in zip(one.case.links, bends)]
         axes.add_collection(LineCollection(lines, colors="#c3ccd5", linewidths=1.6, zorder=1))
         order = sorted(range(len(lines)), key=parts.__getitem__)
         shown = LineCollection([lines[k] for k in order], cmap=COLOURS, linewidths=[1.6 + 3 * parts[k] / 100 if parts[k] >= LEAST_PERCENT else 0 for k in order], zorder=2)
@@ -116,29 +124,40 @@ def draw_map(plot: Any, both: Sequence[Loaded], folders: Sequence[str], titles: 
         axes.margins(0.08)
         axes.set_aspect("equal", adjustable="datalim")
         axes.set_axis_off()
-        axes.set_title(f"{title} at {clock_text(start + boundary * one.curves.step_ms)}")
+        axes.set_title(f"{plain(title)} at {clock_text(start + boundary * one.curves.step_ms)}")
     figure.colorbar(shown, ax=list(found[0]), label="queue, in percent of what the link stores", shrink=0.7, pad=0.02)
     return figure
 
 
-def places(one: Loaded, folder: str) -> tuple[dict[str, Place], list[float]]:
-    """Where the nodes are drawn, and how far each link is bent."""
+def places(one: Loaded, folder: str) -> tuple[Places, list[float]]:
+    """Where nodes and links are drawn, and how far each link is bent."""
     known = read_places(folder, one.case)
     if known is not None:
         return known.plane(), [0.0] * len(one.case.links)
     at = layout.places(one.case.nodes, [(link.tail, link.head, float(link.length_m)) for link in one.case.links])
-    return at, layout.bends(at, [(link.tail, link.head) for link in one.case.links])
+    return Places(at), layout.bends(at, [(link.tail, link.head) for link in one.case.links])
 
 
-def beside(one: Place, other: Place, off: float, bend: float) -> list[Place]:
-    """A line to the right of that between two places, so that both directions are seen; bent to the left by so many parts of its length."""
-    east, north = other[0] - one[0], other[1] - one[1]
-    length = (east * east + north * north) ** 0.5 or 1.0
-    right = (north / length, -east / length)
-    steps = 20 if bend else 1
+def bent(line: Line, bend: float) -> Line:
+    """The line between two places, bent to the left by so many parts of its length."""
+    if not bend:
+        return line
+    (x, y), (to_x, to_y) = line[0], line[-1]
+    east, north = to_x - x, to_y - y
+    parts = [step / BENT_STEPS for step in range(BENT_STEPS + 1)]
+    return tuple((x + part * east - 4 * bend * part * (1 - part) * north, y + part * north + 4 * bend * part * (1 - part) * east) for part in parts)
+
+
+def beside(line: Line, off: float) -> list[Place]:
+    """A line so far to the right of another, so that both directions are seen; at a corner where both sides of it meet, or not much farther out."""
+    sides = []
+    for (x, y), (to_x, to_y) in zip(line, line[1:]):
+        length = math.hypot(to_x - x, to_y - y) or 1.0
+        sides.append(((to_y - y) / length, (x - to_x) / length))
     points = []
-    for step in range(steps + 1):
-        part = step / steps
-        aside = off - 4 * bend * length * part * (1 - part)
-        points.append((one[0] + part * east + aside * right[0], one[1] + part * north + aside * right[1]))
+    for (x, y), before, after in zip(line, [sides[0], *sides], [*sides, sides[-1]]):
+        right = before[0] + after[0], before[1] + after[1]
+        square = right[0] ** 2 + right[1] ** 2 or 1e-9
+        far = off * min(2 / square, MOST_MITRE / math.sqrt(square))
+        points.append((x + right[0] * far, y + right[1] * far))
     return points

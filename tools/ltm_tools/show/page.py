@@ -10,7 +10,7 @@ import re
 import sys
 from pathlib import Path
 
-from ..case import Case
+from ..case import Case, Link
 from ..case.places import Places, read_places
 from ..errors import Fault
 from ..files import read_text
@@ -51,25 +51,30 @@ def flows(rows: list[Counts]) -> str:
     return base64.b64encode(packed.tobytes()).decode("ascii")
 
 
-def told_case(one: Loaded, name: str, start: int, least: int, places: dict[str, tuple[float, float]], bent: bool, unit: TimeUnit) -> dict[str, object]:
+def told_case(one: Loaded, name: str, start: int, least: int, places: Places, bent: bool, unit: TimeUnit) -> dict[str, object]:
     """All that the page has to know of a loading."""
     case, curves = one
     number = {node: index for index, node in enumerate(case.nodes)}
-    bends = layout.bends(places, [(link.tail, link.head) for link in case.links]) if bent else [0.0] * len(case.links)
+    bends = layout.bends(places.of, [(link.tail, link.head) for link in case.links]) if bent else [0.0] * len(case.links)
     both = [delay.checked(curves, link) for link in case.links]
     rows = delay.demand_of(case)
     told = delay.report(curves, case)
     return {
         "name": name, "step": curves.step_ms, "slots": curves.boundaries - 1, "start": start,
-        "nodes": [{"name": node, "x": round(places[node][0], 7), "y": round(places[node][1], 7)} for node in case.nodes],
+        "nodes": [{"name": node, "x": round(places.of[node][0], 7), "y": round(places.of[node][1], 7)} for node in case.nodes],
         "links": [{"name": link.name, "tail": number[link.tail], "head": number[link.head], "free": link.free_ms, "storage": link.storage_units,
-                   "length": link.length_m, "bend": bend} for link, bend in zip(case.links, bends)],
+                   "length": link.length_m, "bend": bend, **shape_of(places, link)} for link, bend in zip(case.links, bends)],
         "origins": [{"name": node, "node": number[node], "demand": [[row.from_slot, row.to_slot, row.units] for row in of]} for node, of in rows.items()],
         "entered": flows([up for up, _ in both]), "left": flows([down for _, down in both]),
         "departed": flows([departed(one, node) for node in rows]),
         "queues": [told_queue(queue, unit) for queue in queues(curves, case, least)],
         "totals": totals(one, told, unit),
     }
+
+
+def shape_of(places: Places, link: Link) -> dict[str, object]:
+    """The points of a link that does not run straight."""
+    return {"shape": [[round(x, 7), round(y, 7)] for x, y in places.shapes[link.name]]} if link.name in places.shapes else {}
 
 
 def departed(one: Loaded, node: str) -> Counts:
@@ -93,8 +98,9 @@ def totals(one: Loaded, told: delay.Report, unit: TimeUnit) -> list[tuple[str, s
         ("arrived, vehicles", format(vehicles(arrived), "f"))]
 
 
-def placed(folders: list[str], cases: list[Case]) -> tuple[list[dict[str, tuple[float, float]]], bool]:
-    """The places of each case's nodes, and whether they were laid out: those of nodes.csv where each case has one, else one drawing for all."""
+def placed(folders: list[str], cases: list[Case]) -> tuple[list[Places], bool]:
+    """Where each case's nodes lie and its links run, and whether they were laid out: as nodes.csv says where each case has one, else one drawing
+    for all."""
     known: list[Places | None] = [read_places(folder, case) for folder, case in zip(folders, cases)]
     if known[0] is not None:
         first = known[0].of
@@ -105,7 +111,7 @@ def placed(folders: list[str], cases: list[Case]) -> tuple[list[dict[str, tuple[
         return [read.plane() for read in known if read is not None], False
     nodes = list(dict.fromkeys(node for case in cases for node in case.nodes))
     drawn = layout.places(nodes, [(link.tail, link.head, float(link.length_m)) for case in cases for link in case.links])
-    return [drawn] * len(cases), True
+    return [Places(drawn)] * len(cases), True
 
 
 def busiest(one: Loaded) -> int:

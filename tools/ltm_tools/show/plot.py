@@ -9,6 +9,7 @@ from ..errors import Fault
 from ..formats import MINUTE_MS
 from ..loading.counts import vehicles
 from ..loading.curves import Curves
+from .texts import legend
 
 if TYPE_CHECKING:
     from matplotlib.axes import Axes
@@ -121,16 +122,17 @@ def draw_arrivals(plot: Any, curves: Curves) -> "Figure":
     shown = order if len(order) <= MOST_LINES else order[: MOST_LINES - 1]
     times = minutes(len(arrived[order[0]]), curves)
     figure, axes = plot.subplots(figsize=(8, 5), layout="constrained")
-    for name in shown:
-        axes.plot(times, arrived[name], label=name)
+    lines = [axes.plot(times, arrived[name])[0] for name in shown]
+    names = list(shown)
     if len(shown) < len(order):
         rest = [sum(counts) for counts in zip(*(arrived[name] for name in order[len(shown):]))]
-        axes.plot(times, rest, color=BOUND, label=f"{len(order) - len(shown)} others together")
+        lines += axes.plot(times, rest, color=BOUND)
+        names.append(f"{len(order) - len(shown)} others together")
     axes.set_title("Arrivals")
     axes.set_xlabel("time in minutes")
     axes.set_ylabel("vehicles since the start")
     axes.set_ylim(bottom=0)
     axes.yaxis.set_major_locator(MaxNLocator(integer=True))
-    axes.legend(loc="upper left", frameon=False, title="destination")
+    legend(axes, lines, names, loc="upper left", frameon=False, title="destination")
     frame(axes, times[-1])
     return figure

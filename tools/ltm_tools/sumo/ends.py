@@ -6,10 +6,11 @@ end, is cut a step before its end: one part leads on to the signal, and one as l
 from __future__ import annotations
 
 from collections.abc import Sequence
-from dataclasses import dataclass, field
+from dataclasses import dataclass, field, replace
 from fractions import Fraction
 
 from ..network.fit import free_name, stretched
+from ..network.lines import cut_at
 from ..network.network import Network, Node, Road, diagram
 from ..network.route_splits import Route
 
@@ -51,13 +52,15 @@ def cut_one(network: Network, name: str, end: str, step: int, made: Cut) -> None
     road = network.roads[name]
     node, part = road.head, part_time(road, step)
     middle = free_name(f"{name}_before", network.nodes)
-    network.add_node(Node(middle, network.nodes[node].x, network.nodes[node].y))
+    line = network.line(road)
+    before, behind = cut_at(line, 1 - float(part / road.time)) if len(line) > 1 else ((), ())
+    network.add_node(Node(middle, *(behind[0] if behind else network.nodes[node].place or (None, None))))
     network.move_head(name, middle)
-    network.roads[name] = stretched(road, -part)
+    network.roads[name] = replace(stretched(road, -part), shape=before)
     rest = stretched(road, part - road.time)
     for kind, goal, names in (("exit", node, made.exits), ("stop", end, made.stops)):
         names[name] = free_name(f"{name}_{kind}", network.roads)
-        network.add(Road(names[name], middle, goal, rest.length, rest.time, rest.storage, rest.capacity, rest.kind, (names[name],)))
+        network.add(replace(rest, name=names[name], tail=middle, head=goal, parts=(names[name],), shape=behind))
 
 
 def over_parts(route: Route, cut: Cut) -> Route:

@@ -7,6 +7,7 @@ from __future__ import annotations
 
 import gzip
 import xml.etree.ElementTree as ElementTree
+import zlib
 from collections.abc import Iterator
 from dataclasses import dataclass, field
 from fractions import Fraction
@@ -14,7 +15,11 @@ from pathlib import Path
 from typing import IO
 
 from ..errors import Fault
+from ..files import shown
+from ..formats import LEAST_ABOVE_0, exact_or_none, number_rule, whole_of
 from ..network.network import LEAST_M, Network, Node, road_of
+from ..network.placing import Map
+from .places import map_of, shape_of
 
 INNER = {"internal", "crossing", "walkingarea"}
 
@@ -54,8 +59,12 @@ class Net:
     """Why edges were left out, and how many."""
     shorter: int = 0
     """How many edges are shorter than the least length of a road, and get that."""
+    letters: dict[str, int] = field(default_factory=dict)
+    """Of each signal how many ways it holds, those on foot too: so many letters its phases have."""
     not_fixed: dict[str, str] = field(default_factory=dict)
     """The kind of each program that is not of fixed times."""
+    drawn: Map = Map()
+    """How places of the net become those of the world."""
 
 
 def opened(path: Path) -> IO[bytes]:
@@ -89,8 +98,12 @@ def elements(path: Path, depth: int = 1) -> Iterator[ElementTree.Element]:
                     root.clear() if root is not None and depth == 1 else element.clear()
     except ElementTree.ParseError as error:
         raise Fault(f"{path}: this is no XML file, or it is cut off: {error}") from None
-    except (EOFError, gzip.BadGzipFile, OSError) as error:
+    except (EOFError, gzip.BadGzipFile, zlib.error) as error:
+        raise Fault(f"{path}: the packed file is cut off or damaged: {error}") from None
+    except OSError as error:
         raise Fault(f"{path}: it cannot be read: {error}") from None
+    except (LookupError, ValueError) as error:  # of an encoding that Python's reader of XML does not have
+        raise Fault(f"{path}: it cannot be read: {error}; iconv turns it into UTF-8") from None
 
 
 def root_of(path: Path) -> str:
@@ -101,10 +114,10 @@ def root_of(path: Path) -> str:
 def number(element: ElementTree.Element, name: str, what: str) -> Fraction:
     """A number that an attribute has."""
     text = element.get(name, "")
-    try:
-        return Fraction(text)
-    except (ValueError, ZeroDivisionError):
-        raise Fault(f"{what}: {name} is {text!r}, and a number is wanted") from None
+    found = exact_or_none(text)
+    if found is None:
+        raise Fault(f"{what}: {name} is {shown(text)}, and {number_rule(text)}")
+    return found
 
 
 def whole(element: ElementTree.Element, name: str, default: int) -> int:
@@ -112,14 +125,16 @@ def whole(element: ElementTree.Element, name: str, default: int) -> int:
     text = element.get(name)
     if text is None:
         return default
-    try:
-        return int(text)
-    except ValueError:
-        raise Fault(f"{element.tag} {element.get('id') or element.get('from', '')}: {name} is {text!r}, and a whole number is wanted") from None
+    found = whole_of(text.strip().removeprefix("-"))
+    if found is None:
+        raise Fault(f"{element.tag} {element.get('id') or element.get('from', '')}: {name} is {shown(text)}, and a whole number is wanted")
+    return -found if text.strip().startswith("-") else found
 
 
 def may_use(lane: ElementTree.Element, vehicle_class: str) -> bool:
-    """Whether vehicles of a class may use a lane."""
+    """Whether vehicles of a class may use a lane; those of the class `ignoring` may use each, as in SUMO."""
+    if vehicle_class == "ignoring":
+        return True
     allowed, forbidden = lane.get("allow"), lane.get("disallow")
     if allowed:
         return vehicle_class in allowed.split() or allowed == "all"
@@ -133,22 +148,26 @@ def read_net(path: Path, *, vehicle_class: str, headway: Fraction, spacing: Frac
     stores one every `spacing` metres."""
     net = Net()
     for element in elements(path):
-        if element.tag == "edge":
+        if element.tag == "location":
+            net.drawn = map_of(element)
+        elif element.tag == "edge":
             read_edge(net, element, vehicle_class, headway, spacing)
         elif element.tag == "junction" and element.get("type") != "internal":
-            x, y = (float(number(element, axis, f"junction {element.get('id')}")) if element.get(axis) else None for axis in "xy")
-            net.network.add_node(Node(element.get("id", ""), x, y))
+            x, y = (number(element, axis, f"junction {element.get('id')}") if element.get(axis) else None for axis in "xy")
+            net.network.add_node(Node(element.get("id", ""), None if x is None else float(x), None if y is None else float(y)))
         elif element.tag == "connection":
             read_connection(net, element)
         elif element.tag == "tlLogic":
             read_program(net, element)
-        elif element.tag not in ("net", "location", "type", "request", "roundabout", "param", "prohibition", "junction"):
+        elif element.tag not in ("net", "type", "request", "roundabout", "param", "prohibition", "junction"):
             if element.tag in ("routes", "nodes", "edges", "additional"):
                 raise Fault(f"{path}: this is no net; its root is {element.tag}. Make one by: netconvert -n NODES -e EDGES -o NET")
     if not net.network.roads and not net.left_out:
         raise Fault(f"{path}: no edges; a net of SUMO is wanted, as netconvert writes it")
     if not net.network.roads:
         raise Fault(f"{path}: no edge that a {vehicle_class} may use; --vehicle-class names another")
+    for program in net.programs.values():
+        check_letters(net, program)
     net.connections = [way for way in net.connections if way.edge in net.network.roads and way.after in net.network.roads
                        and way.lane in net.lanes[way.edge]]
     for node in [node for node in net.network.nodes if not net.network.ins[node] and not net.network.outs[node]]:
@@ -176,22 +195,24 @@ def read_edge(net: Net, element: ElementTree.Element, vehicle_class: str, headwa
     what = f"edge {name}"
     metres = sum((number(lane, "length", what) for lane in lanes), Fraction(0)) / len(lanes)
     speed = sum((number(lane, "speed", what) for lane in lanes), Fraction(0)) / len(lanes)
-    if metres <= 0 or speed <= 0:
+    if metres <= 0 or speed < LEAST_ABOVE_0:
         return leave_out(net, "without length or speed")
     net.shorter += metres < LEAST_M
     capacity = len(lanes) * 3600 / (headway + spacing / speed)
     net.network.add(road_of(name, tail, head, metres=metres, kmh=speed * Fraction(18, 5), jam=1000 / spacing * len(lanes),
-                            capacity=capacity, kind=element.get("type") or element.get("function") or ""))
+                            capacity=capacity, kind=element.get("type") or element.get("function") or "", shape=shape_of(element)))
     net.lanes[name] = [whole(lane, "index", place) for place, lane in enumerate(lanes)]
 
 
 def read_connection(net: Net, element: ElementTree.Element) -> None:
     """A way from an edge onto another; those within junctions are passed over."""
-    edge, after = element.get("from", ""), element.get("to", "")
+    edge, after, signal = element.get("from", ""), element.get("to", ""), element.get("tl")
+    lane, index = whole(element, "fromLane", 0), whole(element, "linkIndex", -1)
+    if signal is not None:
+        net.letters[signal] = max(net.letters.get(signal, 0), index + 1)
     if edge.startswith(":") or after.startswith(":"):
         return
-    lane, index = whole(element, "fromLane", 0), whole(element, "linkIndex", -1)
-    net.connections.append(Connection(edge, after, lane, element.get("tl"), index))
+    net.connections.append(Connection(edge, after, lane, signal, index))
 
 
 def read_program(net: Net, element: ElementTree.Element) -> None:
@@ -210,6 +231,16 @@ def read_program(net: Net, element: ElementTree.Element) -> None:
         net.not_fixed[signal] = kind
 
 
+def check_letters(net: Net, program: Program) -> None:
+    """A Fault where the phases of a program have fewer letters than its signal holds ways, or not all the same number: SUMO takes none."""
+    ways, counts = net.letters.get(program.signal, 0), sorted({len(state) for _, state in program.phases})
+    what = f"signal {program.signal}, program {program.name}"
+    if len(counts) > 1:
+        raise Fault(f"{what}: its phases have {' and '.join(map(str, counts))} letters, and all are to have the same number, one for each way")
+    if counts[0] < ways:
+        raise Fault(f"{what}: its phases have {counts[0]} letters, and the signal holds {ways} ways: one for each is wanted")
+
+
 def read_programs(net: Net, path: Path) -> int:
     """The programs of an additional file, over those of the net; how many there are."""
     known = {way.signal for way in net.connections}
@@ -217,6 +248,8 @@ def read_programs(net: Net, path: Path) -> int:
     for element in elements(path):
         if element.tag == "tlLogic":
             read_program(net, element)
+            if (program := net.programs.get(element.get("id", ""))) is not None:
+                check_letters(net, program)
             count += 1
             if element.get("id") not in known:
                 raise Fault(f"{path}: signal {element.get('id')} holds no way of the net; the file belongs to another net")

@@ -11,10 +11,12 @@ from fractions import Fraction
 from pathlib import Path
 
 from ..errors import Fault
-from ..formats import UNITS
+from ..files import shown
+from ..formats import LEAST_ABOVE_0, LONGEST_SECONDS, UNITS, count_text, exact_or_none, number_rule, whole_of
 from .net import elements
 
 NOT_ON_ROADS = {"pedestrian", "bicycle", "rail", "rail_urban", "rail_electric", "rail_fast", "tram", "subway", "ship", "aircraft", "scooter", "cable_car"}
+MOST_DEPARTURES = 3_000_000  # of vehicles, and of parts of flows
 RATE_PART_S = 60
 """A flow with a rate is cut into parts of so many seconds."""
 
@@ -40,6 +42,12 @@ class Found:
     """Of each named route, or distribution of routes, the edges with shares."""
     classes: dict[str, str] = field(default_factory=dict)
     """The class of vehicles of each type."""
+
+    def add(self, vehicles: Vehicles, what: str) -> None:
+        """Adds vehicles that set out together; a Fault where that is too often."""
+        if len(self.vehicles) >= MOST_DEPARTURES:
+            raise Fault(f"{what}: vehicles set out more than {count_text(MOST_DEPARTURES)} times, which is the most; take a part of them")
+        self.vehicles.append(vehicles)
 
     def leave_out(self, why: str, units: int) -> None:
         """Counts vehicles that are left out."""
@@ -92,8 +100,9 @@ def distribution(found: Found, element: ElementTree.Element, place: str) -> list
         routes += [(edges, share * chance) for edges, share in found.routes[name]]
     inner = element.findall("route")
     last = element.get("last")
-    if last is not None and last.isdigit() and int(last) < len(inner):
-        return [(edges_of(inner[int(last)]), Fraction(1))]
+    chosen = None if last is None else whole_of(last)
+    if chosen is not None and chosen < len(inner):
+        return [(edges_of(inner[chosen]), Fraction(1))]
     for route in inner:
         share = exact(route.get("probability", "1"), place)
         if route.get("refId"):
@@ -127,7 +136,7 @@ def read_one(found: Found, element: ElementTree.Element, place: str) -> None:
             part = amount - given if number == len(ways) - 1 else int(amount * share)
             given += part
             if part:
-                found.vehicles.append(Vehicles(edges, whole, depart, part))
+                found.add(Vehicles(edges, whole, depart, part), what)
 
 
 def ways_of(found: Found, element: ElementTree.Element, what: str) -> tuple[list[tuple[tuple[str, ...], Fraction]], bool]:
@@ -162,10 +171,12 @@ def departures_of(element: ElementTree.Element, what: str) -> Iterator[tuple[int
     period, count = element.get("period", ""), element.get("number")
     rate = rate_of(element, period, what)
     end = end_of(element, begin, rate, count, what)
+    if end - begin > LONGEST_SECONDS:
+        raise Fault(f"{what}: it lasts longer than {count_text(LONGEST_SECONDS)} s, and that is the most")
     if count is not None and not (rate is not None and period.startswith("exp")):
-        yield from single(begin, end, whole_number(count, what))
+        yield from single(begin, end, whole_number(count, what), what)
     elif rate is not None and period and not period.startswith("exp"):
-        yield from single(begin, end, -(-(end - begin) * rate.numerator // rate.denominator))
+        yield from single(begin, end, -(-(end - begin) * rate.numerator // rate.denominator), what)
     elif rate is not None:
         yield from by_rate(begin, end, rate)
     else:
@@ -178,7 +189,7 @@ def rate_of(element: ElementTree.Element, period: str, what: str) -> Fraction | 
         if period.startswith("exp"):
             return exact(period.removeprefix("exp").strip("()"), what)
         seconds = exact(period, what)
-        if seconds <= 0:
+        if seconds < LEAST_ABOVE_0:
             raise Fault(f"{what}: a period of {period}; it is above 0")
         return 1 / seconds
     for name in ("vehsPerHour", "perHour"):
@@ -200,8 +211,10 @@ def end_of(element: ElementTree.Element, begin: Fraction, rate: Fraction | None,
     return end
 
 
-def single(begin: Fraction, end: Fraction, count: int) -> Iterator[tuple[int, int]]:
+def single(begin: Fraction, end: Fraction, count: int, what: str) -> Iterator[tuple[int, int]]:
     """Single vehicles at even distances from the beginning on."""
+    if count > MOST_DEPARTURES:
+        raise Fault(f"{what}: {count_text(count)} vehicles, and at most {count_text(MOST_DEPARTURES)} may set out in all")
     for number in range(count):
         yield int((begin + (end - begin) * number / count) * 1000), UNITS
 
@@ -219,10 +232,9 @@ def by_rate(begin: Fraction, end: Fraction, rate: Fraction) -> Iterator[tuple[in
 
 def exact(text: str, what: str) -> Fraction:
     """A number that is 0 or more."""
-    try:
-        value = Fraction(text)
-    except (ValueError, ZeroDivisionError):
-        raise Fault(f"{what}: {text!r} is no number") from None
+    value = exact_or_none(text)
+    if value is None:
+        raise Fault(f"{what}: {shown(text)} is no number: {number_rule(text)}")
     if value < 0:
         raise Fault(f"{what}: {text} is below 0")
     return value
@@ -232,17 +244,15 @@ def whole_number(text: str, what: str) -> int:
     """A whole number that is 0 or more."""
     value = exact(text, what)
     if value.denominator != 1:
-        raise Fault(f"{what}: {text!r} is no whole number")
+        raise Fault(f"{what}: {shown(text)} is no whole number")
     return int(value)
 
 
 def seconds_of(text: str, what: str) -> Fraction:
     """A time of SUMO in seconds: a number, or hours, minutes and seconds, or days before these."""
-    parts = text.split(":")
-    try:
-        values = [Fraction(part) for part in parts]
-        if len(values) == 1 or len(values) in (3, 4):
-            return sum((value * scale for value, scale in zip(reversed(values), (1, 60, 3600, 86_400))), Fraction(0))
-    except (ValueError, ZeroDivisionError):
-        pass
-    raise Fault(f"{what}: {text!r} is no time; seconds, or H:M:S, are wanted")
+    values = [value for part in text.split(":")[:5] if (value := exact_or_none(part)) is not None]
+    if len(values) in (1, 3, 4) and len(values) == text.count(":") + 1:
+        seconds = sum((value * scale for value, scale in zip(reversed(values), (1, 60, 3600, 86_400))), Fraction(0))
+        if abs(seconds) <= LONGEST_SECONDS:
+            return seconds
+    raise Fault(f"{what}: {shown(text)} is no time; seconds, or H:M:S, are wanted, of at most {count_text(LONGEST_SECONDS)} seconds")

@@ -6,20 +6,24 @@ from __future__ import annotations
 
 import json
 import os
-from collections.abc import Iterator, Sequence
+from collections.abc import Iterable, Iterator, Mapping, Sequence
 from typing import NamedTuple
 
 from ..case import Case
 from ..case.edits import Edit
 from ..errors import Fault
 from ..files import read_text, shown
-from ..formats import MOST_EDITS, MOST_LINES, vehicles_text
+from ..formats import MOST_EDITS, MOST_LINE_BYTES, MOST_LINES, count_text, told_units, vehicles_text
 from ..loading.delay import seconds_text
-from ..loading.session import Refused, Session, line_of
+from ..loading.remaining import Remaining
+from ..loading.session import Ended, Refused, Session, line_of
 from .taking_back import Taking
 
-TOTALS = ("generated", "arrived", "on_links", "waiting")
+TOTALS = ("generated", "arrived", "on_links", "waiting", "not_there")
 TIMES = ("spent", "queued", "waited")
+FAILED = "failed: "  # begins the status of a scenario whose session ended, or takes no more lines
+MOST_BATCH_BYTES = MOST_LINE_BYTES - len(line_of({"do": "edit", "edits": []}))  # of the edits of a line
+TRIES = 2  # sessions that are asked about a scenario at which they end
 Row = list[str]
 
 
@@ -29,6 +33,9 @@ class Scenario(NamedTuple):
     number: int
     name: str
     batches: list[list[Edit]]
+
+
+AS_IT_IS = Scenario(0, "", [])  # the case itself, which hours are compared with
 
 
 def read_scenarios(path: str | os.PathLike[str]) -> list[Scenario]:
@@ -68,10 +75,16 @@ def header(links: Sequence[str], delay: bool = False) -> Row:
     return ["line", "name", "status", *TOTALS, *(TIMES if delay else ()), *(f"{word}:{link}" for link in links for word in ("in", "out"))]
 
 
-class Runner:
-    """A session of a case that answers scenarios one after another, each from the case as its files have it."""
+def remaining(row: Row) -> Remaining | None:
+    """Who is not there by the end, as a row of results tells it; None where it has no numbers."""
+    told: Mapping[str, str] = dict(zip(header([]), row))
+    return Remaining(told_units(told["generated"]), told_units(told["not_there"])) if told["status"] == "ok" else None
 
-    MOST_ASKED = MOST_LINES - 5_000  # lines, after which the session is opened anew: it takes no more than 100,000
+
+class Runner:
+    """A session of a case that answers scenarios one after another, each from the case as its files have it. `links` are names of the case."""
+
+    MOST_ASKED = MOST_LINES  # lines that a session takes
 
     def __init__(self, folder: str | os.PathLike[str], program: str | os.PathLike[str] | None, links: Sequence[str] = (), delay: bool = False) -> None:
         self.folder, self.program, self.links, self.delay = folder, program, list(links), delay
@@ -79,20 +92,35 @@ class Runner:
         self.session: Session | None = None
         self.made: list[Edit] = []
         self.asked = self.opened = 0
+        self.stopped = False
 
     def run(self, scenario: Scenario) -> Row:
-        """The row of results of a scenario."""
-        session = self.fresh()
+        """The row of results of a scenario. Where that takes more lines than a session, or its session ends, the row says so."""
+        lines = 1 + len(scenario.batches) + 2 + self.delay + len(self.links)
+        if lines > self.MOST_ASKED:
+            return self.without(scenario, f"{FAILED}it takes {count_text(lines)} lines of a session, which takes {count_text(self.MOST_ASKED)}")
+        for tries in range(TRIES, 0, -1):
+            session = self.fresh(lines)
+            try:
+                return self.told(scenario, session)
+            except Ended as fault:
+                self.session = None
+                if tries == 1:
+                    return self.without(scenario, f"{FAILED}{fault}")
+        raise AssertionError("a scenario is tried at least once")
+
+    def told(self, scenario: Scenario, session: Session) -> Row:
+        """The row of results of a scenario by a session that shows the case."""
         for number, batch in enumerate(scenario.batches, 1):
             self.asked += 1
             try:
                 session.edit(*batch)
             except Refused as refused:
-                front = [str(scenario.number), scenario.name, f"batch {number} {refused}"]
-                return front + [""] * (len(header(self.links, self.delay)) - len(front))
+                return self.without(scenario, f"batch {number} {refused}")
             self.made += batch
         session.settle()
-        told = [vehicles_text(units) for units in session.totals()[1:]]
+        totals = session.totals()
+        told = [vehicles_text(units) for units in (*totals[1:], totals.on_links + totals.waiting)]
         if self.delay:
             told += [seconds_text(time) for time in times(session)]
         for link in self.links:
@@ -100,26 +128,47 @@ class Runner:
         self.asked += 2 + self.delay + len(self.links)
         return [str(scenario.number), scenario.name, "ok", *told]
 
-    def fresh(self) -> Session:
-        """The session with the case's own scenario: as the one before was taken back, or opened anew."""
+    def without(self, scenario: Scenario, status: str) -> Row:
+        """A row without numbers."""
+        return [str(scenario.number), scenario.name, status] + [""] * (len(header(self.links, self.delay)) - 3)
+
+    def fresh(self, lines: int) -> Session:
+        """The session with the case's own scenario, and room for so many lines: as the one before was taken back, or opened anew."""
         back = self.taking.back(self.made)
-        if self.session is not None and (back is None or self.asked + len(back) > self.MOST_ASKED):
+        if self.session is not None and (back is None or self.asked + len(back) + lines > self.MOST_ASKED or not self.take_back(back)):
             self.close()
         if self.session is None:
+            if self.stopped:
+                raise Ended("the scenarios were stopped")
             self.session = Session(self.folder, 0, self.program)
-            self.asked, self.opened = 0, self.opened + 1
-        else:
-            for batch in batches(back or []):
-                self.session.edit(*batch)
-                self.asked += 1
+            self.session.totals()  # whether the program takes the case: if not, no scenario can be run
+            self.asked, self.opened = 1, self.opened + 1
         self.made = []
         return self.session
+
+    def take_back(self, back: Sequence[Edit]) -> bool:
+        """Whether the session makes the edits that set the case again."""
+        assert self.session is not None
+        try:
+            for batch in batches(back):
+                self.asked += 1
+                self.session.edit(*batch)
+        except Fault:
+            return False
+        return True
 
     def close(self) -> None:
         """Ends the session."""
         if self.session is not None:
             session, self.session = self.session, None
             session.close()
+
+    def stop(self) -> None:
+        """Ends the session at once, whatever it does, and opens none again; another thread may be asking it."""
+        self.stopped = True
+        session, self.session = self.session, None
+        if session is not None:
+            session.process.kill()
 
 
 def times(session: Session) -> tuple[int, int, int]:
@@ -131,6 +180,16 @@ def times(session: Session) -> tuple[int, int, int]:
     return spent, queued, waited
 
 
-def batches(made: Sequence[Edit]) -> Iterator[Sequence[Edit]]:
-    """Edits in batches of at most 32."""
-    return (made[place : place + MOST_EDITS] for place in range(0, len(made), MOST_EDITS))
+def batches(made: Iterable[Edit]) -> Iterator[Sequence[Edit]]:
+    """Edits in batches of at most 32, whose lines a session takes unless one edit alone is too long."""
+    batch: list[Edit] = []
+    left = MOST_BATCH_BYTES
+    for edit in made:
+        size = len(json.dumps(edit)) + len(", ")
+        if batch and (len(batch) == MOST_EDITS or size > left):
+            yield batch
+            batch, left = [], MOST_BATCH_BYTES
+        batch.append(edit)
+        left -= size
+    if batch:
+        yield batch

@@ -3,6 +3,7 @@
 (() => {
   const data = JSON.parse(document.getElementById("data").textContent);
   const MOST_ROWS = 300, NEAR = 9, TALL = [190, 130], WIDE = 402, MARGIN = { left: 46, right: 20, top: 8, bottom: 20 };
+  const BENT_STEPS = 16, LEAST_PIXELS = 1.5, MOST_MITRE = 2.5;
   const cases = data.cases.map(read);
   const state = { at: 0, boundary: 0, chosen: null, shown: "queue", order: "delay", down: true, found: "" };
   const here = () => cases[state.at];
@@ -29,8 +30,19 @@
       departed: counts(told.departed, origins.length, slots) };
     one.linkOf = new Map(links.map((link, index) => [link.name, index]));
     one.originOf = new Map(origins.map((origin, index) => [origin.name, index]));
+    one.lines = links.map(link => points(one.nodes, link));
     one.wide = slots + 1;
     return one;
+  }
+
+  // Where a link runs: along its shape, or from node to node, bent to the left where its line would run over another node.
+  function points(nodes, { tail, head, bend, shape }) {
+    if (shape) return shape;
+    const { x, y } = nodes[tail], east = nodes[head].x - x, north = nodes[head].y - y, steps = bend === 0 ? 1 : BENT_STEPS;
+    return d3.range(steps + 1).map(step => {
+      const part = step / steps, aside = 4 * bend * part * (1 - part);
+      return [x + part * east - aside * north, y + part * north + aside * east];
+    });
   }
 
   const up = (one, link, k) => one.up[link * one.wide + k];
@@ -76,28 +88,42 @@
     const box = canvas.getBoundingClientRect(), dense = window.devicePixelRatio || 1;
     canvas.width = Math.round(box.width * dense);
     canvas.height = Math.round(box.height * dense);
-    const places = cases.flatMap(one => one.nodes.map(node => [node.x, node.y])), [left, right] = d3.extent(places, place => place[0]);
+    const places = cases.flatMap(one => [...one.nodes.map(node => [node.x, node.y]), ...one.lines.flat()]), [left, right] = d3.extent(places, place => place[0]);
     const [low, high] = d3.extent(places, place => place[1]), room = 60;
     const scale = Math.min((box.width - 2 * room) / (right - left || 1e-9), (box.height - 2 * room) / (high - low || 1e-9));
     const size = Number.isFinite(scale) && scale < 1e8 ? scale : 1;
     fit = { x: x => box.width / 2 + (x - (left + right) / 2) * size, y: y => box.height / 2 - (y - (low + high) / 2) * size, dense, box };
   }
 
-  // Where a link is drawn: to the right of the line between its nodes, so that both directions are seen.
+  // Where a link is drawn: to the right of where it runs, so that both directions are seen. Points that fall on the one before are passed over.
   function line(one, link, width) {
-    const { tail, head, bend } = one.links[link], a = one.nodes[tail], b = one.nodes[head];
-    const [x1, y1] = view.apply([fit.x(a.x), fit.y(a.y)]), [x2, y2] = view.apply([fit.x(b.x), fit.y(b.y)]);
-    const length = Math.hypot(x2 - x1, y2 - y1) || 1e-9, right = [-(y2 - y1) / length, (x2 - x1) / length], off = 1 + width / 2, curve = bend * length * 2;
-    const from = [x1 + right[0] * off, y1 + right[1] * off], to = [x2 + right[0] * off, y2 + right[1] * off];
-    return { from, to, middle: [(from[0] + to[0]) / 2 - right[0] * curve, (from[1] + to[1]) / 2 - right[1] * curve], curved: bend !== 0 };
+    const places = [], all = one.lines[link];
+    all.forEach(([x, y], index) => {
+      const [east, south] = view.apply([fit.x(x), fit.y(y)]), last = places[places.length - 1];
+      if (!last || index === all.length - 1 || Math.hypot(east - last[0], south - last[1]) >= LEAST_PIXELS) places.push([east, south]);
+    });
+    return beside(places, 1 + width / 2);
+  }
+
+  // A line so far to the right of another; at a corner where both sides of it meet, or not much farther out.
+  function beside(places, off) {
+    const sides = d3.pairs(places, (a, b) => {
+      const length = Math.hypot(b[0] - a[0], b[1] - a[1]) || 1e-9;
+      return [-(b[1] - a[1]) / length, (b[0] - a[0]) / length];
+    });
+    return places.map(([x, y], index) => {
+      const before = sides[Math.max(0, index - 1)], after = sides[Math.min(index, sides.length - 1)];
+      const right = [before[0] + after[0], before[1] + after[1]], square = right[0] * right[0] + right[1] * right[1];
+      const far = off * Math.min(2 / (square || 1e-9), MOST_MITRE / Math.sqrt(square || 1e-9));
+      return [x + right[0] * far, y + right[1] * far];
+    });
   }
 
   function stroke(way, width, colour) {
     pen.lineWidth = width;
     pen.strokeStyle = colour;
     pen.beginPath();
-    pen.moveTo(...way.from);
-    if (way.curved) pen.quadraticCurveTo(...way.middle, ...way.to); else pen.lineTo(...way.to);
+    way.forEach((place, index) => index ? pen.lineTo(...place) : pen.moveTo(...place));
     pen.stroke();
   }
 
@@ -105,7 +131,7 @@
     const one = here(), k = Math.min(state.boundary, one.slots), thick = Math.max(1.2, Math.min(5, 1.1 * Math.sqrt(view.k) * (one.links.length > 600 ? 1.3 : 3)));
     pen.setTransform(fit.dense, 0, 0, fit.dense, 0, 0);
     pen.clearRect(0, 0, fit.box.width, fit.box.height);
-    pen.lineCap = "round";
+    pen.lineCap = pen.lineJoin = "round";
     drawn = one.links.map((_, link) => ({ link, part: Math.max(0, Math.min(1, share(one, link, k))) }));
     for (const each of drawn) each.way = line(one, each.link, thick);
     for (const each of [...drawn].sort((a, b) => a.part - b.part)) {
@@ -144,16 +170,11 @@
   }
 
   function apart(point, way) {
-    let nearest = Infinity, last = way.from;
-    for (let step = 1; step <= (way.curved ? 12 : 1); step++) {
-      const part = step / (way.curved ? 12 : 1), rest = 1 - part;
-      const next = way.curved ? [0, 1].map(i => rest * rest * way.from[i] + 2 * rest * part * way.middle[i] + part * part * way.to[i]) : way.to;
+    return d3.min(d3.pairs(way, (last, next) => {
       const east = next[0] - last[0], south = next[1] - last[1], square = east * east + south * south || 1e-9;
       const along = Math.max(0, Math.min(1, ((point[0] - last[0]) * east + (point[1] - last[1]) * south) / square));
-      nearest = Math.min(nearest, Math.hypot(point[0] - last[0] - along * east, point[1] - last[1] - along * south));
-      last = next;
-    }
-    return nearest;
+      return Math.hypot(point[0] - last[0] - along * east, point[1] - last[1] - along * south);
+    }));
   }
 
   // The name of the link next to a point of the canvas, or of a waiting origin there.
@@ -335,16 +356,24 @@
     window.addEventListener("resize", () => { measure(); drawMap(); });
     drawHead();
     turnTo(0);
+    measure();  // anew, as the numbers above the map have taken room
     goTo(data.boundary);
     // for tests: the numbers as the page works them out, and how long it took to open
-    window.ltm = { state, cases, queue, standing, waiting, middle: name => apartMiddle(name), opened: performance.now() };
+    window.ltm = { state, cases, queue, standing, waiting, way: name => wayInWindow(name), middle: name => middleOf(wayInWindow(name)), opened: performance.now() };
   }
 
-  // The middle of a link as it is drawn, in the window.
-  function apartMiddle(name) {
-    const way = drawn[here().linkOf.get(name)].way, box = canvas.getBoundingClientRect();
-    const at = way.curved ? [0, 1].map(i => (way.from[i] + 2 * way.middle[i] + way.to[i]) / 4) : way.middle;
-    return [at[0] + box.left, at[1] + box.top];
+  // The points of a link as it is drawn, in the window.
+  function wayInWindow(name) {
+    const box = canvas.getBoundingClientRect();
+    return drawn[here().linkOf.get(name)].way.map(([x, y]) => [x + box.left, y + box.top]);
+  }
+
+  function middleOf(way) {
+    const lengths = d3.pairs(way, (a, b) => Math.hypot(b[0] - a[0], b[1] - a[1]));
+    let left = d3.sum(lengths) / 2, index = 0;
+    while (index < lengths.length - 1 && left > lengths[index]) left -= lengths[index++];
+    const part = lengths[index] > 0 ? left / lengths[index] : 0;
+    return [0, 1].map(i => way[index][i] + part * (way[index + 1][i] - way[index][i]));
   }
 
   begin();

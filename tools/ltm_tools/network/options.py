@@ -1,0 +1,49 @@
+"""What is asked of an import, whatever the network comes from."""
+from __future__ import annotations
+
+from dataclasses import dataclass
+from typing import ClassVar
+
+from ..errors import Fault
+from ..formats import MOST_DESTINATIONS_ASKED, MOST_SLOT_UNITS, MOST_STEP_MS, UNITS
+
+
+class BadOption(Fault):
+    """An option that is not within its range."""
+
+    def __init__(self, name: str, rule: str) -> None:
+        self.name, self.rule = name, rule
+        super().__init__(f"{name} {rule}")
+
+
+@dataclass(frozen=True, kw_only=True)
+class Options:
+    """How a network becomes the links of a case. Steps are in ms."""
+
+    fit: int | None = None
+    """The step to which the network is fitted; without it the network is left as it is."""
+    balance: bool = True
+    """With a fit, whether other links are changed so that the times of used routes stay as they were."""
+    step: int | None = None
+    """The step of a network that is left as it is; without it the longest that every link allows."""
+    least_step: int = 1000
+    """The shortest step to propose."""
+    rename: bool = False
+    """Whether names are made for those that a case cannot have."""
+    origin_capacity: int = MOST_SLOT_UNITS // UNITS
+    """The most vehicles that leave an origin in a step."""
+    destinations: int | None = None
+    """How many destinations are kept, those with most vehicles; other trips end at the nearest one."""
+    moves: bool | None = None
+    """Whether what moves through a turn is floored for the turn, and not for each destination; without it, where there are more than 16."""
+
+    RANGES: ClassVar[dict[str, tuple[int, int | None]]] = {
+        "origin_capacity": (1, MOST_SLOT_UNITS // UNITS), "destinations": (1, MOST_DESTINATIONS_ASKED), "fit": (1, MOST_STEP_MS),
+        "step": (1, MOST_STEP_MS), "least_step": (1, MOST_STEP_MS),
+    }
+
+    def __post_init__(self) -> None:
+        for name, (least, most) in self.RANGES.items():
+            value = getattr(self, name)
+            if value is not None and not (least <= value and (most is None or value <= most)):
+                raise BadOption(name, f"is at least {least}" if most is None else f"is {least} to {most}")

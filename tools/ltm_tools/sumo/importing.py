@@ -1,0 +1,90 @@
+"""Makes a case of a network of SUMO, with its vehicles and its fixed-time programs."""
+from __future__ import annotations
+
+from collections.abc import Iterable
+from dataclasses import dataclass
+
+from ..case import Case
+from ..case.sizes import ask_for_sizes
+from ..formats import clock_text, short_vehicles
+from ..network.changes import changes_told
+from ..network.imported import Imported
+from ..network.importing import carried, check_ends
+from ..network.network import Network
+from ..network.placing import places_of
+from ..network.steps import steps_table
+from .ends import Cut
+from .inputs import Inputs, StrPath, end_before_signals, fewer_ends, horizon_ms, read_inputs
+from .net import Connection
+from .options import SumoOptions
+from .rows import case_of
+from .signals import signal_edges
+
+
+@dataclass
+class Asked:
+    """A net with the routes over it, before it is fitted; the edges that signals hold, and those that were cut before one."""
+
+    inputs: Inputs
+    held: dict[str, list[Connection]]
+    cut: Cut
+
+    @property
+    def raw(self) -> Network:
+        """The network as it was read."""
+        return self.inputs.net.network
+
+    def ends(self) -> list[tuple[str, str]]:
+        """The nodes where each route begins and ends."""
+        return [(self.raw.roads[route.links[0]].tail, self.raw.roads[route.links[-1]].head) for route in self.inputs.routes]
+
+
+def import_sumo(net: StrPath, files: Iterable[StrPath] = (), options: SumoOptions = SumoOptions()) -> Imported:
+    """The case of a net, with the vehicles and the programs of signals in files; NotCarried with all that a case cannot have."""
+    asked = read_all(net, files, options, not options.wait_at_ends)
+    inputs = asked.inputs
+    check_ends(dict.fromkeys(asked.ends()))
+    counts: dict[tuple[str, ...], int] = {}
+    for route in inputs.routes:
+        counts[route.links] = counts.get(route.links, 0) + route.units
+    routes = list(counts.items())
+    made = carried(asked.raw, options, routes)
+    case = case_of(made, inputs, asked.held, asked.cut, options)
+    sizes = ask_for_sizes(case, options.moves)
+    places, lost = places_of(made, inputs.net.drawn)
+    told = [*size_told(case, inputs), *left_out_told(inputs), *inputs.notes, *changes_told(made, routes, set(asked.cut.stops.values())), *lost, *sizes]
+    return Imported(case, places, made.source, tuple(made.fit.changes) if made.fit is not None else None, tuple(told))
+
+
+def steps_of_sumo(net: StrPath, files: Iterable[StrPath] = (), options: SumoOptions = SumoOptions()) -> list[str]:
+    """What a fit of a net to each of some steps would change, a line each."""
+    asked = read_all(net, files, options, False)
+    return steps_table(asked.raw, horizon_ms=horizon_ms(asked.inputs, options), ends={end for _, end in asked.ends()})
+
+
+def read_all(net: StrPath, files: Iterable[StrPath], options: SumoOptions, cutting: bool) -> Asked:
+    """The net and the routes, with the edges cut before signals where that is asked for."""
+    inputs = read_inputs(net, files, options)
+    if options.destinations is not None:
+        inputs.routes = fewer_ends(inputs, options.destinations)
+    held = signal_edges(inputs.net) if options.signals else {}
+    asked = Asked(inputs, held, end_before_signals(inputs, held, options) if cutting else Cut())
+    raw = asked.raw
+    raw.signals = {asked.cut.exits.get(name, name) for name in held}
+    raw.ends = {node for ends in asked.ends() for node in ends}
+    return asked
+
+
+def size_told(case: Case, inputs: Inputs) -> list[str]:
+    """How large the case is."""
+    total = sum(row.units for row in case.demand)
+    return [f"{len(case.links)} links, {len(case.nodes)} nodes, {len(case.destinations)} destinations",
+            f"{short_vehicles(total)} vehicles, {case.setup.slots} slots of {case.setup.step_ms} ms from {clock_text(inputs.begin_ms)}"]
+
+
+def left_out_told(inputs: Inputs) -> list[str]:
+    """What was left out of the net and of its vehicles."""
+    told = [f"{count} edges are left out: {why}" for why, count in inputs.net.left_out.items()]
+    if inputs.net.shorter:
+        told.append(f"{inputs.net.shorter} edges are shorter than 1 m and get 1 m")
+    return told + [f"{short_vehicles(count)} vehicles are left out: {why}" for why, count in inputs.found.left_out.items()]

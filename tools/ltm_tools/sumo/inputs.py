@@ -1,0 +1,182 @@
+"""What is read of SUMO: a net, and the route of each vehicle over its edges."""
+from __future__ import annotations
+
+import os
+from collections.abc import Iterable, Mapping, Sequence
+from dataclasses import dataclass, field
+from fractions import Fraction
+
+from ..errors import Fault
+from ..formats import MINUTE_MS, short_vehicles
+from ..network.demand_files import exists, quarter_before
+from ..network.ends import joined, most_used
+from ..network.importing import check_ends
+from ..network.network import Network
+from ..network.route_splits import Route
+from ..network.steps import longest_step
+from .ends import Cut, cut_ends, over_parts
+from .net import Connection, Net, elements, read_net, read_programs
+from .options import SumoOptions
+from .routes import Found, Vehicles, read_vehicles
+from .ways import Leg, Ways
+
+StrPath = str | os.PathLike[str]
+
+
+@dataclass
+class Inputs:
+    """What was read, with the routes of vehicles over edges of the net."""
+
+    net: Net
+    found: Found
+    routes: list[Route] = field(default_factory=list)
+    turns_before: list[Route] = field(default_factory=list)
+    """The routes before edges were cut, where some were."""
+    begin_ms: int = 0
+    notes: list[str] = field(default_factory=list)
+
+
+def end_before_signals(inputs: Inputs, held: dict[str, list[Connection]], options: SumoOptions) -> Cut:
+    """Lets trips end before a signal at the end of their last edge, and tells it."""
+    raw = inputs.net.network
+    step = options.fit or options.step or min(longest_step(raw), MINUTE_MS)
+    cut = cut_ends(raw, inputs.routes, set(held), step)
+    inputs.turns_before = inputs.routes
+    inputs.routes = [over_parts(route, cut) for route in inputs.routes]
+    if cut.exits:
+        inputs.notes.append(f"{len(cut.exits)} edges are cut a step before a signal, so that trips that end there need not wait for it (--wait-at-ends leaves them whole)")
+    if cut.too_short:
+        inputs.notes.append(f"trips that end on {cut.too_short} edges wait for the signal at their end, as these are too short to be cut")
+    return cut
+
+
+def read_inputs(net_file: StrPath, files: Iterable[StrPath], options: SumoOptions) -> Inputs:
+    """Reads all files, and finds the route of each vehicle."""
+    net = read_net(exists(net_file), vehicle_class=options.vehicle_class, headway=options.headway, spacing=options.spacing)
+    vehicles, notes = [], []
+    for path in map(exists, files):
+        tags = {element.tag for element in elements(path)}
+        if "tlLogic" in tags:
+            count = read_programs(net, path)
+            notes.append(f"{path} has {count} programs of signals, which go over those of the net")
+        if tags & {"vehicle", "trip", "flow", "vType", "vTypeDistribution", "route", "routeDistribution"}:
+            vehicles.append(path)
+        elif tags & {"taz", "tazs"}:
+            raise Fault(f"{path}: this has zones (TAZ), and trips between zones need edges first: duarouter -n {net_file} --additional-files"
+                        f" {path} --route-files TRIPS -o ROUTES gives them some, and od2trips makes TRIPS of a matrix; give ROUTES in its place")
+        elif "tlLogic" not in tags:
+            raise Fault(f"{path}: no vehicles, trips, flows, types, routes or programs of signals in it; leave it out")
+    inputs = Inputs(net, read_vehicles(vehicles), notes=notes)
+    set_times(inputs, options)
+    find_routes(inputs, options)
+    return inputs
+
+
+def set_times(inputs: Inputs, options: SumoOptions) -> None:
+    """Sets when slot 0 begins, and leaves out who sets out before it or after the end."""
+    found = inputs.found
+    first = min((one.depart_ms for one in found.vehicles), default=0)
+    inputs.begin_ms = options.begin_ms if options.begin_ms is not None else quarter_before(first)
+    end = options.end_ms
+    kept = []
+    for one in found.vehicles:
+        if one.depart_ms < inputs.begin_ms:
+            found.leave_out("that set out before --begin", one.units)
+        elif end is not None and one.depart_ms >= end:
+            found.leave_out("that set out after --end", one.units)
+        else:
+            kept.append(one)
+    found.vehicles = kept
+
+
+def find_routes(inputs: Inputs, options: SumoOptions) -> None:
+    """The routes of vehicles, those of trips by least free-flow time. What is surely too much for a case is refused before they are sought."""
+    ways, found, net = Ways(inputs.net), inputs.found, inputs.net.network
+    if options.destinations is None:
+        check_ends(sure_ends(found.vehicles, ways, net))
+    trips = [one for one in found.vehicles if not one.whole and all(name in net.roads for name in one.edges)]
+    legs = ways.legs(leg for one in trips for leg in zip(one.edges, one.edges[1:]))
+    routed = 0
+    for one in found.vehicles:
+        edges = one.edges if one.whole else by_legs(one.edges, legs)
+        if not edges or not ways.is_route(edges):
+            missing = [name for name in one.edges if name not in net.roads]
+            found.leave_out("over edges that are not in the net, or not for cars" if missing else "without a route that is connected", one.units)
+        elif net.roads[edges[0]].tail == net.roads[edges[-1]].head:
+            found.leave_out("that end where they begin", one.units)
+        else:
+            routed += 0 if one.whole else one.units
+            inputs.routes.append(Route(edges, one.depart_ms - inputs.begin_ms, one.units))
+    if routed:
+        inputs.notes.append(f"{short_vehicles(routed)} vehicles have no route and take the least one by free-flow time")
+
+
+def by_legs(places: Sequence[str], legs: Mapping[Leg, tuple[str, ...]]) -> tuple[str, ...]:
+    """The route by way of these edges; none where one of its legs has none."""
+    route = list(places[:1])
+    for leg in zip(places, places[1:]):
+        if leg not in legs:
+            return ()
+        route += legs[leg][1:]
+    return tuple(route)
+
+
+def sure_ends(vehicles: Iterable[Vehicles], ways: Ways, net: Network) -> dict[tuple[str, str], None]:
+    """The nodes where vehicles begin and end that surely have a route: whole routes, and trips between edges of a part of the net in which
+    ways lead from each edge to each other."""
+    parts = ways.circling()
+    pairs: dict[tuple[str, str], None] = {}
+    for one in vehicles:
+        part = parts.get(one.edges[0]) if one.edges else None
+        if ways.is_route(one.edges) if one.whole else part is not None and all(parts.get(name) == part for name in one.edges):
+            if one.edges and net.roads[one.edges[0]].tail != net.roads[one.edges[-1]].head:
+                pairs[net.roads[one.edges[0]].tail, net.roads[one.edges[-1]].head] = None
+    return pairs
+
+
+def horizon_ms(inputs: Inputs, options: SumoOptions) -> int:
+    """The horizon as asked for, or 30 minutes after the last vehicle sets out, in fives of minutes."""
+    last = max((route.depart_ms for route in inputs.routes), default=0)
+    return int(options.horizon or -(-(last + 30 * MINUTE_MS) // (5 * MINUTE_MS)) * 5) * MINUTE_MS
+
+
+def fewer_ends(inputs: Inputs, most: int) -> list[Route]:
+    """The routes, those to other than the most used destinations cut short or driven on to the nearest of these."""
+    net, ways = inputs.net.network, Ways(inputs.net)
+    units: dict[str, int] = {}
+    for route in inputs.routes:
+        end = net.roads[route.links[-1]].head
+        units[end] = units.get(end, 0) + route.units
+    kept = set(most_used(units, most))
+    near = joined(net, kept, [end for end in units if end not in kept])
+    made, moved, time, whole = [], 0, Fraction(0), sum(units.values())
+    for route in inputs.routes:
+        end = net.roads[route.links[-1]].head
+        if end in kept:
+            made.append(route)
+            continue
+        links, off = nearer_end(ways, route.links, kept, net.ins[near[end].node] if end in near else ())
+        if not links or net.roads[links[0]].tail == net.roads[links[-1]].head:
+            inputs.found.leave_out("without a way to a destination that is kept", route.units)
+            continue
+        moved += route.units
+        time += off * route.units
+        made.append(Route(links, route.depart_ms, route.units))
+    inputs.notes.append(f"{len(kept)} of {len(units)} destinations are kept; {100 * moved / max(1, whole):.1f} % of the vehicles end elsewhere,"
+                        f" in the mean {float(time / moved) / 1000 if moved else 0:.0f} s from where they would")
+    return made
+
+
+def nearer_end(ways: Ways, links: Sequence[str], kept: set[str], goals: Iterable[str]) -> tuple[tuple[str, ...], Fraction]:
+    """A route cut at the last kept node on its way, or driven on to the end of an edge, whichever is less of a change in ms."""
+    roads = ways.roads
+    lost, place = Fraction(0), len(links)
+    while place and roads[links[place - 1]].head not in kept:
+        place -= 1
+        lost += roads[links[place]].time
+    best = (tuple(links[:place]), lost)
+    for goal in goals:
+        gained = ways.gain(links[-1], goal)
+        if gained is not None and (not best[0] or gained < best[1]):
+            best = (*links[:-1], *ways.leg(links[-1], goal)), gained
+    return best

@@ -1,0 +1,69 @@
+"""Tests of tools/test: what takes too long fails, and with --all what is skipped."""
+import importlib.machinery
+import importlib.util
+import io
+import signal
+import sys
+import time
+import types
+import unittest
+from contextlib import redirect_stdout
+from unittest import mock
+
+from support import TOOLS
+from ltm_tools import libraries
+
+
+def runner() -> types.ModuleType:
+    """The script, under a name that is none of Python's own."""
+    loader = importlib.machinery.SourceFileLoader("tools_test", str(TOOLS / "test"))
+    spec = importlib.util.spec_from_loader("tools_test", loader)
+    assert spec is not None
+    module = importlib.util.module_from_spec(spec)
+    with mock.patch.object(sys, "path", list(sys.path)):
+        loader.exec_module(module)
+    return module
+
+
+def made(**bodies: object) -> type[unittest.TestCase]:
+    return type("Made", (unittest.TestCase,), {f"test_{name}": body for name, body in bodies.items()})
+
+
+class Runs(unittest.TestCase):
+    def run_all(self, case: type[unittest.TestCase], *words: str) -> tuple[int, str]:
+        module = runner()
+        module.LIMITS = tuple((timer, number, 0.3, what) for timer, number, _, what in module.LIMITS)
+        tests = unittest.defaultTestLoader.loadTestsFromTestCase(case)
+        with redirect_stdout(io.StringIO()) as told, mock.patch.object(libraries, "missing", return_value=[]), \
+                mock.patch.object(unittest.TestLoader, "loadTestsFromNames", return_value=tests):
+            status = module.main([*words, "made"])
+        self.assertEqual(signal.getitimer(signal.ITIMER_REAL)[0], 0)
+        return status, told.getvalue()
+
+    def test_what_takes_too_long(self) -> None:
+        """An endless loop and an endless wait, also where every fault is caught; what comes behind them is run."""
+        def loops(_: object) -> None:
+            while True:
+                try:
+                    sum(range(1000))
+                except Exception:
+                    pass
+
+        status, told = self.run_all(made(a_loops=loops, b_waits=lambda _: time.sleep(60), c_is_well=lambda _: None))
+        self.assertEqual((status, told.splitlines()[-1]), (1, "1 passed, 2 failed, 0 skipped"))
+        self.assertIn("it takes more than 0.3 seconds of the clock", told)
+
+    def test_what_is_skipped(self) -> None:
+        def skips(test: unittest.TestCase) -> None:
+            test.skipTest("it is not there")
+
+        case = made(a_is_well=lambda _: None, b_is_skipped=skips)
+        for words, status in (((), 0), (("--all",), 1)):
+            found, told = self.run_all(case, *words)
+            self.assertEqual((found, told.splitlines()[-2:]), (status, [f"skipped: test_b_is_skipped ({case.__module__}.Made.test_b_is_skipped): it is not there",
+                                                                      "1 passed, 0 failed, 1 skipped"]))
+        self.assertEqual(self.run_all(made(a_is_well=lambda _: None), "--all")[0], 0)
+
+
+if __name__ == "__main__":
+    unittest.main()
