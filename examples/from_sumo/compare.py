@@ -1,10 +1,11 @@
 #!/usr/bin/env python3
 """Sets the loading of a case beside SUMO's mesoscopic run of the same vehicles: `compare.py CASE NET ROUTES [PLANS]`.
 
-CASE is what `ltm-tools from-sumo NET ROUTES [PLANS] CASE` made. It tells the vehicle hours of both, vehicles arrived by time, and the links
-with most delay on each side. Delay is what an edge takes beyond its length at its speed limit: of `ltm` by `ltm delay`, of SUMO by its edge
-data and tripinfo. --also runs SUMO again without what its queues let less through, and with all drivers at the limit. It needs SUMO
-(Debian's package sumo), and the program as other commands of ltm-tools do.
+CASE is what `ltm-tools from-sumo NET ROUTES [PLANS] CASE` made. It tells the vehicle hours of both, vehicles arrived by
+time, and the links with most delay on each side. Delay is what an edge takes beyond its length at its speed limit: of
+`ltm` by `ltm delay`, of SUMO by its edge data and tripinfo. --also runs SUMO again without what its queues let less
+through, and with all drivers at the limit. It needs SUMO (Debian's package sumo), and the program as other commands of
+ltm-tools do.
 """
 from __future__ import annotations
 
@@ -39,8 +40,8 @@ DATA = '<additional><edgeData id="whole" file="edges.xml" excludeEmpty="true"/><
 
 @dataclass
 class Run:
-    """A run of SUMO: when vehicles arrived (ms, from its second 0), the vehicle seconds of all and at the start, and those beyond the speed
-    limit by edge; and how many vehicles were moved past a jam."""
+    """A run of SUMO: when vehicles arrived (ms, from its second 0), the vehicle seconds of all and at the start, and
+    those beyond the speed limit by edge; and how many vehicles were moved past a jam."""
 
     first_ms: int = 0
     arrivals: list[int] = field(default_factory=list)
@@ -61,10 +62,14 @@ def run_sumo(net: str, files: list[str], words: list[str], folder: Path) -> None
         raise Fault("sumo is missing: apt-get install sumo")
     (folder / "data.add.xml").write_text(DATA)
     plans = files[1:]
-    done = subprocess.run(["sumo", "--net-file", str(Path(net).resolve()), "--route-files", str(Path(files[0]).resolve()), "--mesosim",
-                           "--additional-files", ",".join([*(str(Path(plan).resolve()) for plan in plans), "data.add.xml"]),
-                           *(["--meso-junction-control"] if plans else []), "--tripinfo-output", "trips.xml", "--statistic-output", "whole.xml",
-                           "--xml-validation", "never", "--xml-validation.net", "never", "--xml-validation.routes", "never",
+    done = subprocess.run(["sumo", "--net-file", str(Path(net).resolve()), "--route-files",
+                           str(Path(files[0]).resolve()), "--mesosim",
+                           "--additional-files",
+                           ",".join([*(str(Path(plan).resolve()) for plan in plans), "data.add.xml"]),
+                           *(["--meso-junction-control"] if plans else []), "--tripinfo-output", "trips.xml",
+                           "--statistic-output", "whole.xml",
+                           "--xml-validation", "never", "--xml-validation.net", "never", "--xml-validation.routes",
+                           "never",
                            "--no-step-log", "--no-warnings", *words], cwd=folder, capture_output=True, text=True)
     if done.returncode:
         said = [line for line in done.stderr.splitlines() if line.startswith("Error")]
@@ -88,12 +93,14 @@ def read_run(folder: Path, net: Net) -> Run:
         if edge.tag == "edge" and name in net.network.roads:
             through = number(edge, "left", name) + number(edge, "arrived", name)
             made.queued[name] = number(edge, "sampledSeconds", name) - through * net.network.roads[name].time / 1000
-    made.moved = sum(int(number(one, "total", "teleports")) for one in elements(folder / "whole.xml") if one.tag == "teleports")
+    made.moved = sum(int(number(one, "total", "teleports")) for one in elements(folder / "whole.xml")
+                     if one.tag == "teleports")
     return made
 
 
 def labels(source: Source, net: Net) -> dict[str, str]:
-    """Of each link of the case the edges of the net that it is made of, or is a part of; a link that was made has its own name."""
+    """Of each link of the case the edges of the net that it is made of, or is a part of; a link that was made has its
+    own name."""
     edges: dict[str, list[str]] = {}
     for name, link in source.links.items():
         edge = name if name in net.network.roads else name.rsplit("_", 1)[0]
@@ -129,8 +136,10 @@ def share(ours: Fraction, theirs: Fraction) -> str:
 
 def totals_table(report: Report, run: Run) -> list[str]:
     """The vehicle hours of both."""
-    rows = [("all", Fraction(report.spent, MILLIONTHS), run.spent), ("at the speed limit", Fraction(report.spent - report.delay, MILLIONTHS), run.spent - run.delay),
-            ("beyond it, on links", Fraction(report.queued, MILLIONTHS), run.delay - run.waited), ("at the start", Fraction(report.waited, MILLIONTHS), run.waited)]
+    rows = [("all", Fraction(report.spent, MILLIONTHS), run.spent),
+            ("at the speed limit", Fraction(report.spent - report.delay, MILLIONTHS), run.spent - run.delay),
+            ("beyond it, on links", Fraction(report.queued, MILLIONTHS), run.delay - run.waited),
+            ("at the start", Fraction(report.waited, MILLIONTHS), run.waited)]
     return ["vehicle hours              ltm      SUMO   difference"] + [
         f"{name:<20}{hours(ours):>10.2f}{hours(theirs):>10.2f}{share(ours, theirs):>13}" for name, ours, theirs in rows]
 
@@ -138,7 +147,8 @@ def totals_table(report: Report, run: Run) -> list[str]:
 def arrivals_table(case: Case, arrived: list[int], run: Run, begin_ms: int, rows: int = 10) -> list[str]:
     """Vehicles arrived by time, over the time in which they arrive; `arrived` in thousandths by boundary."""
     step, whole = case.setup.step_ms, arrived[-1]
-    last = max(next(k for k, count in enumerate(arrived) if count == whole) * step, max(run.arrivals, default=0) - begin_ms)
+    last = max(next(k for k, count in enumerate(arrived) if count == whole) * step,
+               max(run.arrivals, default=0) - begin_ms)
     every = max(1, -(-last // (60_000 * rows))) * 60_000
     told = ["arrived by        ltm    SUMO   difference"]
     for time in range(every, -(-last // every) * every + 1, every):
@@ -159,7 +169,8 @@ def links_table(ours: dict[str, Fraction], theirs: dict[str, Fraction], count: i
         for side in (0, 1):
             name = sides[side][rank]
             other = ranks[1 - side].get(name)
-            parts.append(f"{name[:18]:<18}{hours(ours.get(name, Fraction(0))):>8.2f}{hours(theirs.get(name, Fraction(0))):>7.2f} {'(' + str(other or '-') + ')':>6}")
+            both = (hours(of.get(name, Fraction(0))) for of in (ours, theirs))
+            parts.append("{:<18}{:>8.2f}{:>7.2f} {:>6}".format(name[:18], *both, f"({other or '-'})"))
         told.append(f"{rank + 1:>4} " + "   ".join(parts).rstrip())
     both = len({*sides[0][:count]} & {*sides[1][:count]})
     return told + [f"{both} of them stand on both sides"]
@@ -170,7 +181,8 @@ def parse_args() -> argparse.Namespace:
     parser.add_argument("case")
     parser.add_argument("net")
     parser.add_argument("files", nargs="+", metavar="FILE", help="the vehicles, then the programs of signals")
-    parser.add_argument("--also", action="store_true", help="run SUMO again with other settings, and tell the vehicle hours of each")
+    parser.add_argument("--also", action="store_true",
+                        help="run SUMO again with other settings, and tell the vehicle hours of each")
     parser.add_argument("--sumo", default="", metavar="WORDS", help="more words for SUMO, as '--seed 7'")
     program.add_program_argument(parser)
     return parser.parse_args()
@@ -194,8 +206,10 @@ def compare(args: argparse.Namespace) -> None:
           + (f", which moves {run.moved} past a jam" if run.moved else ""))
     print(*totals_table(report, run), "", sep="\n")
     for name, other in zip(ALSO, runs[1:]):
-        print(f"SUMO with {name}: {hours(other.spent):.2f} vehicle hours, and ltm {share(Fraction(report.spent, MILLIONTHS), other.spent)}")
-    print(*([""] if args.also else []), *arrivals_table(case, arrived, run, quarter_before(run.first_ms)), "", *links_table(ours, theirs), sep="\n")
+        print(f"SUMO with {name}: {hours(other.spent):.2f} vehicle hours, and ltm"
+              f" {share(Fraction(report.spent, MILLIONTHS), other.spent)}")
+    print(*([""] if args.also else []), *arrivals_table(case, arrived, run, quarter_before(run.first_ms)), "",
+          *links_table(ours, theirs), sep="\n")
 
 
 def main() -> int:

@@ -1,12 +1,13 @@
 #!/usr/bin/env python3
-"""Makes a raw network of real size with vehicles on it, by SUMO's own generator: `make.py town FOLDER` or `make.py region FOLDER`.
+"""Makes a raw network of real size with vehicles on it, by SUMO's own generator: `make.py town FOLDER` or `make.py
+region FOLDER`.
 
-    town     a grid of 7 by 7 crossings with fixed-time signals, each with an offset of its own: 224 links, half an hour of vehicles to
-             24 places at its rim
+    town     a grid of 7 by 7 crossings with fixed-time signals, each with an offset of its own: 224 links, half an hour
+             of vehicles to 24 places at its rim
     region   a network of random roads without signals: some 2,000 links, a quarter of an hour of vehicles to 12 places
 
---share 0.1 keeps a tenth of the vehicles, so that nobody holds up another. It needs Debian's package sumo (netgenerate, duarouter). The
-same words make the same vehicles, and with the same release of SUMO the same network and routes.
+--share 0.1 keeps a tenth of the vehicles, so that nobody holds up another. It needs Debian's package sumo (netgenerate,
+duarouter). The same words make the same vehicles, and with the same release of SUMO the same network and routes.
 """
 import argparse
 import random
@@ -17,9 +18,11 @@ import xml.etree.ElementTree as ElementTree
 from pathlib import Path
 
 NETS = {
-    "town": ["--grid", "--grid.number", "7", "--grid.length", "180", "--grid.attach-length", "150", "--default.lanenumber", "2",
+    "town": ["--grid", "--grid.number", "7", "--grid.length", "180", "--grid.attach-length", "150",
+             "--default.lanenumber", "2",
              "--default-junction-type", "traffic_light", "--no-turnarounds"],
-    "region": ["--rand", "--rand.iterations", "700", "--rand.min-distance", "260", "--rand.max-distance", "600", "--rand.connectivity", "0.97",
+    "region": ["--rand", "--rand.iterations", "700", "--rand.min-distance", "260", "--rand.max-distance", "600",
+               "--rand.connectivity", "0.97",
                "--default.speed", "16.67", "--default-junction-type", "priority", "--no-turnarounds", "--seed", "11"],
 }
 MINUTES = {"town": 30, "region": 15}
@@ -42,7 +45,8 @@ def run(words: list[str]) -> None:
         sys.exit(f"make.py: {words[0]} is missing: apt-get install sumo")
     done = subprocess.run(words, capture_output=True, text=True)
     if done.returncode:
-        sys.exit(f"make.py: {words[0]}: {done.stderr.strip().splitlines()[-1] if done.stderr.strip() else done.returncode}")
+        sys.exit(f"make.py: {words[0]}:"
+                 f" {done.stderr.strip().splitlines()[-1] if done.stderr.strip() else done.returncode}")
 
 
 def junctions(net: Path) -> list[tuple[str, float, float]]:
@@ -65,7 +69,8 @@ def offsets(net: Path, plans: Path) -> None:
 
 
 def trips(name: str, nodes: list[tuple[str, float, float]], share: float) -> list[tuple[float, str, str]]:
-    """When vehicles set out, from where and where to: most in the middle of the time, from any junction to some places far enough away."""
+    """When vehicles set out, from where and where to: most in the middle of the time, from any junction to some places
+    far enough away."""
     draw = random.Random(1).random
     places = sorted(nodes[:RIM[name]], key=lambda node: draw())[:PLACES[name]]
     wide = max(node[1] for node in nodes) - min(node[1] for node in nodes)
@@ -89,7 +94,8 @@ def main() -> None:
     lines = [f'  <trip id="{number}" depart="{depart:.2f}" fromJunction="{start}" toJunction="{end}"/>'
              for number, (depart, start, end) in enumerate(trips(args.name, junctions(net), args.share))]
     wishes.write_text("<routes>\n" + "\n".join(lines) + "\n</routes>\n")
-    run(["duarouter", "-n", str(net), "-t", str(wishes), "--junction-taz", "--weights.random-factor", "1.5", "--seed", "1",
+    run(["duarouter", "-n", str(net), "-t", str(wishes), "--junction-taz", "--weights.random-factor", "1.5", "--seed",
+         "1",
          "--ignore-errors", "--no-warnings", "-o", str(routes)])
     edges = sum(edge.get("function") != "internal" for edge in ElementTree.parse(net).getroot().iter("edge"))
     vehicles = sum(1 for _ in ElementTree.parse(routes).getroot().iter("vehicle"))

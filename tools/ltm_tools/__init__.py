@@ -4,8 +4,8 @@
 
 Nothing here is proved. What a case is, and what a loading is, `ltm` decides; these tools read and write its files.
 
-Units: times in milliseconds (`ms`), amounts of traffic in thousandths of a vehicle (`units`), lengths in metres, speeds in
-km/h, jam densities in vehicles/km, slots counted from 0.
+Units: times in milliseconds (`ms`), amounts of traffic in thousandths of a vehicle (`units`), lengths in metres, speeds
+in km/h, jam densities in vehicles/km, slots counted from 0.
 """
 from importlib import import_module
 from typing import TYPE_CHECKING
@@ -17,12 +17,14 @@ if TYPE_CHECKING:
     from .loading.curves import Curves as Curves
     from .loading.session import Refused as Refused, Session as Session
 
-CLASSES = {"Case": "case", "Curves": "loading.curves", "Fault": "errors", "Refused": "loading.session", "Session": "loading.session"}
+CLASSES = {"Case": "case", "Curves": "loading.curves", "Fault": "errors", "Refused": "loading.session",
+           "Session": "loading.session"}
 MODULES = {"delay": "loading.delay", "edits": "case.edits"}
 
 
 def __getattr__(name: str) -> object:
-    """A class, or a module, from its place when it is first asked for: so that a command loads no more than it needs."""
+    """A class, or a module, from its place when it is first asked for: so that a command loads no more than it
+    needs."""
     if name in MODULES:
         return import_module(f".{MODULES[name]}", __name__)
     if name not in CLASSES:

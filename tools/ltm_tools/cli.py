@@ -1,7 +1,8 @@
 """The command line: `ltm-tools COMMAND ..`.
 
-Each command is a module of `commands`, called as it is typed, with NAME, SUMMARY (a line), EXAMPLES (text), `add_arguments(parser)` and
-`run(args) -> int`, which gives the status. It may have NEEDS, the names of libraries beside Python's own without which it cannot run.
+Each command is a module of `commands`, called as it is typed, with NAME, SUMMARY (a line), EXAMPLES (text),
+`add_arguments(parser)` and `run(args) -> int`, which gives the status. It may have NEEDS, the names of libraries beside
+Python's own without which it cannot run.
 """
 import argparse
 import errno
@@ -79,7 +80,8 @@ def run(words: Sequence[str] | None) -> int:
 
 
 def end_by_signals() -> None:
-    """Has the signals that end a run end it as an interrupt does: what it has started ends too, and no file stays half written."""
+    """Has the signals that end a run end it as an interrupt does: what it has started ends too, and no file stays half
+    written."""
     for number in (signal.SIGTERM, signal.SIGHUP):
         if signal.getsignal(number) is not signal.SIG_IGN:
             signal.signal(number, lambda got, _: sys.exit(128 + got))
@@ -146,7 +148,8 @@ class Closed(io.TextIOBase):
 
 
 def standard_streams() -> None:
-    """Puts something in the place of standard streams that are closed, so that no file that is opened later is taken for one of them."""
+    """Puts something in the place of standard streams that are closed, so that no file that is opened later is taken
+    for one of them."""
     for number in range(3):
         try:
             os.fstat(number)

@@ -1,7 +1,7 @@
 """Reading and writing the files of cases and of other tools, with a Fault that names file, row and field.
 
-`records` cuts bytes into records as the program does (the `csv` crate of Rust): bytes are kept as they are. `read_table` reads
-the tables of other tools: UTF-8, fields by the names of a header, in any order.
+`records` cuts bytes into records as the program does (the `csv` crate of Rust): bytes are kept as they are.
+`read_table` reads the tables of other tools: UTF-8, fields by the names of a header, in any order.
 """
 import codecs
 import csv
@@ -66,11 +66,13 @@ def bytes_text(data: bytes) -> str:
 
 def readable(text: str) -> str:
     """A text that can be written: bytes that are no text as \\xfc, as a name of a folder may have them."""
-    return NO_TEXT.sub(lambda found: f"\\x{ord(found[0]) - 0xDC00:02x}" if ord(found[0]) >= 0xDC80 else f"\\u{ord(found[0]):04x}", text)
+    return NO_TEXT.sub(lambda found: f"\\x{ord(found[0]) - 0xDC00:02x}" if ord(found[0]) >= 0xDC80
+                       else f"\\u{ord(found[0]):04x}", text)
 
 
 def shown(text: str) -> str:
-    """A text in double quotes as a person can read it in one line: bytes that are no text as \\xfc, and long ones cut."""
+    """A text in double quotes as a person can read it in one line: bytes that are no text as \\xfc, and long ones
+    cut."""
     parts = []
     for sign in text[:61]:
         code = ord(sign)
@@ -86,8 +88,8 @@ def shown(text: str) -> str:
 def records(data: bytes) -> Iterator[Record]:
     """The records of a file as the program reads them.
 
-    A mark of UTF-8 at the start is taken off; `\\r`, `\\n` and any row of them end a record; quotes stand round a field from its
-    first byte on, a quote in it is written twice, and what comes after the closing quote is kept as it is.
+    A mark of UTF-8 at the start is taken off; `\\r`, `\\n` and any row of them end a record; quotes stand round a field
+    from its first byte on, a quote in it is written twice, and what comes after the closing quote is kept as it is.
     """
     text = bytes_text(data.removeprefix(codecs.BOM_UTF8))
     if '"' not in text:
@@ -177,10 +179,12 @@ def check_fields(record: Sequence[str], header: Sequence[str], place: str, advic
     """A Fault where a row has a text that no field of the header is for, or no text for one of its fields."""
     count, wanted = len(record), len(header)
     if any(text.strip() for text in record[wanted:]):
-        raise Fault(f"{place}: {count} fields, and the header has {wanted}: {shown(record[wanted])} is surplus, and a field with a separator in it"
+        raise Fault(f"{place}: {count} fields, and the header has {wanted}: {shown(record[wanted])} is surplus, and a"
+                    f" field with a separator in it"
                     f" stands in quotes{advice}")
     if any(name.strip() for name in header[count:]):
-        raise Fault(f"{place}: {count} fields, and the header has {wanted}: {' and '.join(header[count:])} is missing{advice}")
+        raise Fault(f"{place}: {count} fields, and the header has {wanted}: {' and '.join(header[count:])} is"
+                    f" missing{advice}")
 
 
 def read_table(path: str | os.PathLike[str], wanted: Sequence[str] = ()) -> list[Row]:

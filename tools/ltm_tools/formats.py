@@ -25,7 +25,8 @@ VEHICLES = re.compile(r"[0-9]+(?:\.[0-9]{1,3})?", re.ASCII)
 VEHICLES_RULE = "digits, or digits, a point and 1 to 3 digits, at most 1000000 vehicles"
 NUMBER = re.compile(r"([+-]?(?:[0-9]+\.?[0-9]*|\.[0-9]+))(?:e([+-]?[0-9]+))?", re.ASCII | re.IGNORECASE)
 RATIO = re.compile(r"[0-9]+/[0-9]+", re.ASCII)
-MOST_NUMBER, MOST_SIGNS, MOST_POWERS = 10**15, 60, range(-400, 61)  # of a number in a table of others, or on the command line
+# of a number in a table of others, or on the command line
+MOST_NUMBER, MOST_SIGNS, MOST_POWERS = 10**15, 60, range(-400, 61)
 LEAST_ABOVE_0 = Fraction(1, 10**30)  # of one that others are divided by
 LONGEST_SECONDS = 10_000_000  # of a time in files of others: some 115 days
 NUMBER_RULE = "a number is wanted, of at most 10^15 and written with at most 60 signs"
@@ -71,7 +72,8 @@ MOST_EDITORS = 8
 
 # the files of a case, in the order in which they are read: the fields of each header
 SETUP = ("step_ms", "slots", "origin_capacity")
-SETUP_MORE = ("signals", "limits", "cells", "rows", "links", "destinations", "moves")  # may stand behind these three, each or not, in this order
+# may stand behind these three, each or not, in this order
+SETUP_MORE = ("signals", "limits", "cells", "rows", "links", "destinations", "moves")
 LINKS = ("link", "from", "to", "length_m", "free_kmh", "wave_kmh", "jam_per_km")
 DEMAND = ("origin", "destination", "from_slot", "to_slot", "vehicles")
 SPLITS = ("node", "destination", "from_slot", "weights")
@@ -82,7 +84,8 @@ QUOTE = '"'  # of a field of CSV, and within it twice
 
 
 def headers_of(file: str) -> list[tuple[str, ...]]:
-    """The headers that a file of a case may have: one, and for `setup` its three fields with each column behind them or not, in order."""
+    """The headers that a file of a case may have: one, and for `setup` its three fields with each column behind them or
+    not, in order."""
     headers: list[tuple[str, ...]] = [HEADERS[file]]
     for column in SETUP_MORE if file == "setup" else ():
         headers += [(*header, column) for header in headers]
@@ -102,8 +105,8 @@ def whole_of(text: str) -> int | None:
 
 
 def exact_or_none(text: str) -> Fraction | None:
-    """The exact number that a text of others tells, as `12`, `-0.5` or `1.2e3`, or None where it tells none, or one of a size with which
-    nothing could be worked out."""
+    """The exact number that a text of others tells, as `12`, `-0.5` or `1.2e3`, or None where it tells none, or one of
+    a size with which nothing could be worked out."""
     found = NUMBER.fullmatch(text.strip())
     if found is None or len(found[0]) > MOST_SIGNS or int(found[2] or 0) not in MOST_POWERS:
         return None
@@ -112,10 +115,11 @@ def exact_or_none(text: str) -> Fraction | None:
 
 
 def above_0_or_none(text: str) -> Fraction | None:
-    """The exact number above 0 that a text tells, which may be two with a `/` between, or None where it tells none, or one so small that
-    nothing can be divided by it."""
+    """The exact number above 0 that a text tells, which may be two with a `/` between, or None where it tells none, or
+    one so small that nothing can be divided by it."""
     number = exact_or_none(text)
-    if number is None and len(text) <= 2 * MOST_SIGNS and RATIO.fullmatch(text.strip()) and text.partition("/")[2].strip("0 "):
+    is_ratio = len(text) <= 2 * MOST_SIGNS and RATIO.fullmatch(text.strip()) is not None
+    if number is None and is_ratio and text.partition("/")[2].strip("0 "):
         number = Fraction(text.strip())
     return number if number is not None and MOST_NUMBER >= number >= LEAST_ABOVE_0 else None
 
@@ -146,7 +150,8 @@ def units_of(text: str) -> int:
 
 
 def exact_units(vehicles: int | str | Decimal | Fraction) -> int:
-    """Vehicles as thousandths, where they are exactly that: `"1.25"`, `Decimal("1.25")` and `Fraction(5, 4)` give 1250."""
+    """Vehicles as thousandths, where they are exactly that: `"1.25"`, `Decimal("1.25")` and `Fraction(5, 4)` give
+    1250."""
     if isinstance(vehicles, str):
         return units_of(vehicles)
     exact = Fraction(vehicles) * UNITS
@@ -185,13 +190,15 @@ def told_units(text: str) -> int:
 
 
 def told_time(text: str) -> int:
-    """Thousandths times milliseconds of a vehicle time as the program prints it, in vehicle seconds with six decimals and of any size."""
+    """Thousandths times milliseconds of a vehicle time as the program prints it, in vehicle seconds with six decimals
+    and of any size."""
     return _told(text, 6)
 
 
 def _told(text: str, decimals: int) -> int:
     whole, _, part = text.partition(".")
-    if not whole or len(part) != decimals or not (whole + part).isdecimal() or not text.isascii() or len(text) > MOST_SIGNS:
+    if not whole or len(part) != decimals or not (whole
+                                                  + part).isdecimal() or not text.isascii() or len(text) > MOST_SIGNS:
         raise Fault(f"{text[:MOST_SIGNS]!r} is no number with {decimals} decimals")
     return int(whole + part)
 
@@ -207,10 +214,11 @@ def weights_text(weights: dict[str, int]) -> str:
 
 
 def record_text(fields: Iterable[object]) -> str:
-    """A record of CSV without its end: fields with commas between, in quotes where one has a comma, a quote or a line's end, or is
-    empty and stands alone."""
+    """A record of CSV without its end: fields with commas between, in quotes where one has a comma, a quote or a line's
+    end, or is empty and stands alone."""
     texts = [str(field) for field in fields]
-    return ",".join(f'"{text.replace(QUOTE, QUOTE + QUOTE)}"' if any(sign in text for sign in ',"\n\r') or texts == [""] else text
+    return ",".join(f'"{text.replace(QUOTE, QUOTE + QUOTE)}"' if any(sign in text for sign in ',"\n\r') or texts == [""]
+                    else text
                     for text in texts)
 
 
@@ -237,7 +245,8 @@ def clock_ms(text: str) -> int:
 
 
 def clock_text(ms: int) -> str:
-    """A moment or a span in milliseconds as a clock tells it: `7:45`, with seconds and thousandths only where there are some."""
+    """A moment or a span in milliseconds as a clock tells it: `7:45`, with seconds and thousandths only where there are
+    some."""
     minutes, rest = divmod(ms, MINUTE_MS)
     text = f"{minutes // 60}:{minutes % 60:02}"
     if rest:

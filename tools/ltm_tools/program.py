@@ -14,14 +14,17 @@ from .errors import Fault
 
 CLONE = Path(__file__).resolve().parents[2]
 BUILT = CLONE / "crates" / "ltm" / "out" / "ltm"
-INSTALLED = Path(__file__).resolve().parents[1] / "ltm"  # where ./ltm --install puts it, beside the folder of this package
-LARGE_PAGES = {"GLIBC_TUNABLES": "glibc.malloc.hugetlb=1"}  # for large tables, where the system gives them to whoever asks: less time
+# where ./ltm --install puts it, beside the folder of this package
+INSTALLED = Path(__file__).resolve().parents[1] / "ltm"
+# for large tables, where the system gives them to whoever asks: less time
+LARGE_PAGES = {"GLIBC_TUNABLES": "glibc.malloc.hugetlb=1"}
 HOW = "./ltm --prove in a clone of the repository makes it, and --program FILE or the variable LTM names one"
 
 
 def find_program(program: str | os.PathLike[str] | None = None) -> Path:
-    """The absolute path of the program: the one named, else that of the variable LTM, else the one built in the clone, else one beside
-    this package or this command, else `ltm` on the path; a Fault that says how to have it where there is none."""
+    """The absolute path of the program: the one named, else that of the variable LTM, else the one built in the clone,
+    else one beside this package or this command, else `ltm` on the path; a Fault that says how to have it where there
+    is none."""
     named = program or os.environ.get("LTM")
     if named:
         path = Path(named).absolute()
@@ -48,7 +51,8 @@ def check_folder(folder: str | os.PathLike[str]) -> None:
 class Running(subprocess.Popen[bytes]):
     """The program while it runs. Where a block that waits for it is left by an exception it is ended."""
 
-    def __exit__(self, kind: type[BaseException] | None, error: BaseException | None, trace: TracebackType | None) -> None:
+    def __exit__(self, kind: type[BaseException] | None, error: BaseException | None,
+                 trace: TracebackType | None) -> None:
         if kind is not None:
             self.kill()
         super().__exit__(kind, error, trace)
@@ -60,13 +64,16 @@ def start(folder: str | os.PathLike[str], words: Sequence[str], program: str | o
     path = find_program(program)
     check_folder(folder)
     try:
-        return Running([str(path), *words], cwd=folder, stdin=stdin, stdout=subprocess.PIPE, env={**LARGE_PAGES, **os.environ})
+        return Running([str(path), *words], cwd=folder, stdin=stdin, stdout=subprocess.PIPE,
+                       env={**LARGE_PAGES, **os.environ})
     except OSError as error:
         raise Fault(f"{path}: {error.strerror or error}") from None
 
 
-def output(folder: str | os.PathLike[str], *words: str, program: str | os.PathLike[str] | None = None, script: bytes | None = None) -> bytes:
-    """What the program writes with these words in a folder, `script` on its standard input; a Fault where its status is not 0."""
+def output(folder: str | os.PathLike[str], *words: str, program: str | os.PathLike[str] | None = None,
+           script: bytes | None = None) -> bytes:
+    """What the program writes with these words in a folder, `script` on its standard input; a Fault where its status is
+    not 0."""
     with start(folder, words, program, subprocess.DEVNULL if script is None else subprocess.PIPE) as process:
         written, _ = process.communicate(script)
     if process.returncode:
@@ -85,7 +92,8 @@ def has_command(word: str, program: str | os.PathLike[str] | None = None) -> boo
 
 @functools.lru_cache(maxsize=None)
 def _commands(path: Path, changed_ns: int) -> frozenset[str]:
-    """The commands of a program, by the usage line that it writes where no word says what to do; asked once of each that has not changed."""
+    """The commands of a program, by the usage line that it writes where no word says what to do; asked once of each
+    that has not changed."""
     asked = subprocess.run([str(path)], stdin=subprocess.DEVNULL, stdout=subprocess.PIPE, stderr=subprocess.DEVNULL)
     told = asked.stdout.decode("ascii", "replace")
     return frozenset(re.findall(r"ltm ([a-z]+)", told)) if told.startswith("usage: ") else frozenset()

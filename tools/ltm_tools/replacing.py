@@ -1,7 +1,7 @@
 """Files that are written whole, or not at all: each beside its place, under a name of its own, and then renamed.
 
-Several that belong together are put in place together. While that is done a case among them has no `setup.csv`, so that what is cut
-there is refused, and never read as another case.
+Several that belong together are put in place together. While that is done a case among them has no `setup.csv`, so that
+what is cut there is refused, and never read as another case.
 """
 from __future__ import annotations
 
@@ -19,7 +19,8 @@ IN_PLACE = ("/dev/fd/", "/dev/std", "/proc/")  # where files are no files of a f
 
 
 class Changes:
-    """Files that are written, and not in their places yet, files to be taken away, and folders that were made for them."""
+    """Files that are written, and not in their places yet, files to be taken away, and folders that were made for
+    them."""
 
     def __init__(self) -> None:
         self.new: dict[str, str | None] = {}
@@ -39,7 +40,8 @@ class Changes:
                 put_one(path, made)
             return
         folders = dict.fromkeys(os.path.dirname(path) for path in self.new)
-        setups = [path for folder in folders if os.path.isfile(path := os.path.join(folder, SETUP_FILE)) and path not in self.new]
+        setups = [path for folder in folders if os.path.isfile(path := os.path.join(folder, SETUP_FILE))
+                  and path not in self.new]
         order = sorted([*setups, *self.new], key=lambda path: os.path.basename(path) != SETUP_FILE)
         aside = {path: beside(path) for path in order if os.path.lexists(path)}
         try:
@@ -81,7 +83,8 @@ open_changes: ContextVar[Changes | None] = ContextVar("open_changes", default=No
 
 @contextlib.contextmanager
 def together() -> Iterator[None]:
-    """What is written within is put in place at its end, all of it, or nothing where something fails. One within another is part of it."""
+    """What is written within is put in place at its end, all of it, or nothing where something fails. One within
+    another is part of it."""
     if open_changes.get() is not None:
         yield
         return
@@ -126,7 +129,8 @@ def take_away(path: str | os.PathLike[str]) -> None:
 
 
 def make_folders(path: str | os.PathLike[str]) -> None:
-    """Makes a folder, and those above it, where they are not there; within `together` they go again where something fails."""
+    """Makes a folder, and those above it, where they are not there; within `together` they go again where something
+    fails."""
     missing, folder = [], os.path.abspath(path)
     while not os.path.exists(folder):
         missing.append(folder)

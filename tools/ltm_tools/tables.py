@@ -1,7 +1,8 @@
 """Reads the tables that other tools write: any usual encoding, separator, and order and writing of field names.
 
-Fields are known by lower-case names; a table of other names for them says which are meant. A file is read line by line: `Stream` gives its
-rows one after the other, so that a large table takes no more memory than what is made of it, and `read` gives all.
+Fields are known by lower-case names; a table of other names for them says which are meant. A file is read line by line:
+`Stream` gives its rows one after the other, so that a large table takes no more memory than what is made of it, and
+`read` gives all.
 """
 from __future__ import annotations
 
@@ -33,8 +34,8 @@ LENIENT = "; --lenient reads the table all the same, without what is surplus, an
 
 @dataclass(frozen=True, slots=True)
 class Reading:
-    """How tables are read: in which encoding, by what a file holds where none is said; and whether rows may have more fields than the
-    header, or fewer, and the header one field twice."""
+    """How tables are read: in which encoding, by what a file holds where none is said; and whether rows may have more
+    fields than the header, or fewer, and the header one field twice."""
 
     encoding: str | None = None
     is_lenient: bool = False
@@ -42,7 +43,8 @@ class Reading:
 
 @dataclass(frozen=True, slots=True)
 class TableRow(Row):
-    """A row whose fields are known by other names than the file has for them; what is wrong is told by the file's names."""
+    """A row whose fields are known by other names than the file has for them; what is wrong is told by the file's
+    names."""
 
     written: Mapping[str, str]
 
@@ -69,8 +71,8 @@ def source_of(path: str | os.PathLike[str]) -> IO[bytes]:
 
 
 def encoding_of(source: IO[bytes], encoding: str | None, path: str | os.PathLike[str]) -> tuple[str, str | None]:
-    """The encoding of bytes, and what it is called where it is neither UTF-8 nor the one that is asked for: that of a mark, UTF-16 by its
-    zeros, else Windows-1252."""
+    """The encoding of bytes, and what it is called where it is neither UTF-8 nor the one that is asked for: that of a
+    mark, UTF-16 by its zeros, else Windows-1252."""
     head = source.read(HEAD_BYTES)
     source.seek(0)
     if encoding is not None:
@@ -90,7 +92,8 @@ def encoding_of(source: IO[bytes], encoding: str | None, path: str | os.PathLike
 
 
 def first_wrong(source: IO[bytes], encoding: str) -> int | None:
-    """The first byte that is no text in an encoding, None where all are; the bytes can then be read from their beginning."""
+    """The first byte that is no text in an encoding, None where all are; the bytes can then be read from their
+    beginning."""
     done = 0
     try:
         "a".encode(encoding)  # which is refused where an encoding is none of text
@@ -119,7 +122,8 @@ def separator_of(line: str) -> str:
 class Stream:
     """A table while it is read: the fields of its header, what was done to read it, and its rows, which come once."""
 
-    def __init__(self, path: str | os.PathLike[str], wanted: Sequence[str] = (), names: Mapping[str, Sequence[str]] | None = None,
+    def __init__(self, path: str | os.PathLike[str], wanted: Sequence[str] = (),
+                 names: Mapping[str, Sequence[str]] | None = None,
                  reading: Reading = Reading()) -> None:
         self.path, self.reading = path, reading
         csv.field_size_limit(MOST_FIELD)
@@ -148,7 +152,8 @@ class Stream:
             (f"{path} is read with {self.separator!r} between fields",) if self.separator != "," else ())
 
     def lines_of(self, source: IO[bytes], encoding: str) -> Iterator[str]:
-        """The lines of bytes with their ends, without a mark before them and without what some systems put behind the last one."""
+        """The lines of bytes with their ends, without a mark before them and without what some systems put behind the
+        last one."""
         try:
             for number, line in enumerate(io.TextIOWrapper(source, encoding, "replace", newline="")):
                 line = line.rstrip(END_MARKS) if line.endswith(tuple(END_MARKS)) else line
@@ -179,7 +184,8 @@ class Stream:
 
 
 def start_of(lines: Iterator[str]) -> tuple[int, str]:
-    """How many lines stand before the first that is neither blank nor a remark, and that line; an empty text where there is none."""
+    """How many lines stand before the first that is neither blank nor a remark, and that line; an empty text where
+    there is none."""
     for before, line in enumerate(lines):
         if line.strip() and not line.lstrip().startswith("# "):
             return before, line
@@ -188,8 +194,8 @@ def start_of(lines: Iterator[str]) -> tuple[int, str]:
 
 def read(path: str | os.PathLike[str], wanted: Sequence[str] = (), names: Mapping[str, Sequence[str]] | None = None,
          reading: Reading = Reading()) -> Table:
-    """The rows of a table with a header. `names` gives other names of a field, the first that is there counts; a wanted field that is
-    missing is a Fault with the names that it may have."""
+    """The rows of a table with a header. `names` gives other names of a field, the first that is there counts; a wanted
+    field that is missing is a Fault with the names that it may have."""
     found = Stream(path, wanted, names, reading)
     return Table(list(found), found.fields, found.notes)
 

@@ -21,7 +21,8 @@ class Browser:
         with socket.socket() as free:
             free.bind(("127.0.0.1", 0))
             port = free.getsockname()[1]
-        self.process = subprocess.Popen([str(DRIVER), f"--port={port}"], stdout=subprocess.DEVNULL, stderr=subprocess.DEVNULL)
+        self.process = subprocess.Popen([str(DRIVER), f"--port={port}"], stdout=subprocess.DEVNULL,
+                                        stderr=subprocess.DEVNULL)
         self.base, self.session = f"http://127.0.0.1:{port}", ""
         try:
             self.begin()
@@ -36,9 +37,11 @@ class Browser:
                 break
             except OSError:
                 time.sleep(0.05)
-        chrome = {"binary": CHROMIUM, "args": ["--headless=new", "--no-sandbox", "--disable-gpu", "--window-size=1400,900"]}
+        chrome = {"binary": CHROMIUM, "args": ["--headless=new", "--no-sandbox", "--disable-gpu",
+                                               "--window-size=1400,900"]}
         wanted = {"browserName": "chrome", "goog:loggingPrefs": {"browser": "ALL"}, "goog:chromeOptions": chrome}
-        self.session = "/session/" + self.call("POST", "/session", {"capabilities": {"alwaysMatch": wanted}})["sessionId"]
+        self.session = "/session/" + self.call("POST", "/session",
+                                               {"capabilities": {"alwaysMatch": wanted}})["sessionId"]
 
     def call(self, method: str, path: str, body: object = None) -> Any:
         data = None if body is None else json.dumps(body).encode()
@@ -58,12 +61,16 @@ class Browser:
 
     def click(self, x: float, y: float) -> None:
         """A click of the mouse at a point of the window."""
-        steps = [{"type": "pointerMove", "duration": 0, "x": round(x), "y": round(y)}, {"type": "pointerDown", "button": 0}, {"type": "pointerUp", "button": 0}]
-        self.call("POST", self.session + "/actions", {"actions": [{"type": "pointer", "id": "mouse", "parameters": {"pointerType": "mouse"}, "actions": steps}]})
+        steps = [{"type": "pointerMove", "duration": 0, "x": round(x), "y": round(y)},
+                 {"type": "pointerDown", "button": 0}, {"type": "pointerUp", "button": 0}]
+        self.call("POST", self.session + "/actions",
+                  {"actions": [{"type": "pointer", "id": "mouse", "parameters": {"pointerType": "mouse"},
+                                "actions": steps}]})
 
     def press(self, selector: str, keys: str) -> None:
         """Keys into an element."""
-        element = next(iter(self.call("POST", self.session + "/element", {"using": "css selector", "value": selector}).values()))
+        element = next(iter(self.call("POST", self.session + "/element",
+                                      {"using": "css selector", "value": selector}).values()))
         self.call("POST", f"{self.session}/element/{element}/value", {"text": keys})
 
     def command(self, name: str, **parameters: object) -> Any:

@@ -1,12 +1,13 @@
-"""Networks made at random, of the kinds that importers find: short and long roads, streets of one way and of two, parallel roads,
-dead ends, signals, and nodes where trips begin and end. A seed makes the same network each time."""
+"""Networks made at random, of the kinds that importers find: short and long roads, streets of one way and of two,
+parallel roads, dead ends, signals, and nodes where trips begin and end. A seed makes the same network each time."""
 import random
 from fractions import Fraction
 
 from ltm_tools.network.network import Network, Road, road_of
 
 LENGTHS = ((1, 12), (5, 60), (40, 400), (300, 2000))
-KINDS = ((36, 150, 1800), (50, 150, 1800), (50, 300, 3600), (30, 133, 900), (120, 250, 4500))  # km/h, vehicles/km, vehicles an hour
+# km/h, vehicles/km, vehicles an hour
+KINDS = ((36, 150, 1800), (50, 150, 1800), (50, 300, 3600), (30, 133, 900), (120, 250, 4500))
 
 
 def made_network(seed: int) -> Network:
@@ -27,4 +28,5 @@ def made_network(seed: int) -> Network:
 
 def made_road(chance: random.Random, name: str, tail: str, head: str) -> Road:
     kmh, jam, capacity = chance.choice(KINDS)
-    return road_of(name, tail, head, metres=Fraction(chance.randint(*chance.choice(LENGTHS))), kmh=Fraction(kmh), jam=Fraction(jam), capacity=Fraction(capacity))
+    return road_of(name, tail, head, metres=Fraction(chance.randint(*chance.choice(LENGTHS))), kmh=Fraction(kmh),
+                   jam=Fraction(jam), capacity=Fraction(capacity))

@@ -1,10 +1,9 @@
-"""A session that is made for the tests of sweeps: what it tells is a sum over the limits that stand, so that a row is right where its
-scenario's edits, and no others, were made. An edit of the link `z` is refused, at one of `end`, and the first of `once`, it ends, one of
-`kill` kills whoever asks it, and after so many lines as it takes it ends."""
+"""A session that is made for the tests of sweeps: what it tells is a sum over the limits that stand, so that a row is
+right where its scenario's edits, and no others, were made. An edit of the link `z` is refused, at one of `end`, and the
+first of `once`, it ends, one of `kill` kills whoever asks it, and after so many lines as it takes it ends."""
 import json
 import zlib
 from collections.abc import Sequence
-from pathlib import Path
 
 from support import FolderTest
 
@@ -47,8 +46,9 @@ for number, line in enumerate(sys.stdin, 1):
     else:
         units = zlib.crc32(repr(sorted(shown.items())).encode()) % 10**6 + {more}
         number = f"{{units // 1000}}.{{units % 1000:03}}"
-        print(f"version {{made}} generated 1.000 arrived {{number}} on_links 0.250 waiting 0.000" if told["do"] == "totals"
-              else f"version {{made}} link a in 1.000 out {{number}}", flush=True)
+        totals = f"generated 1.000 arrived {{number}} on_links 0.250 waiting 0.000"
+        said = totals if told["do"] == "totals" else f"link a in 1.000 out {{number}}"
+        print(f"version {{made}} {{said}}", flush=True)
 print("closed", os.getppid(), file=told_in)
 sys.exit({status})
 """
@@ -72,10 +72,12 @@ REFUSED = "refused edit 1 UnknownName: links.csv has no link z"
 class SweepTest(FolderTest):
     """A test with the smallest case, the made session, and files of scenarios."""
 
-    def session(self, pause: float = 0.0, refuses_links: bool = False, more: int = 0, status: int = 0, most_lines: int = 100_000) -> str:
-        """The made session as a program; it takes so long for each edit, tells so many units more, takes so many lines, and ends with
-        this status."""
-        return str(self.program(SESSION.format(log=str(self.folder / "log"), pause=pause, refuses_links=refuses_links, more=more,
+    def session(self, pause: float = 0.0, refuses_links: bool = False, more: int = 0, status: int = 0,
+                most_lines: int = 100_000) -> str:
+        """The made session as a program; it takes so long for each edit, tells so many units more, takes so many lines,
+        and ends with this status."""
+        return str(self.program(SESSION.format(log=str(self.folder / "log"), pause=pause, refuses_links=refuses_links,
+                                               more=more,
                                                status=status, most_lines=most_lines)))
 
     def log(self) -> list[str]:
@@ -89,14 +91,17 @@ class SweepTest(FolderTest):
     def scenarios(self, *batches: "Sequence[Sequence[Edit]]") -> str:
         """A file of scenarios with these batches."""
         path = self.folder / f"scenarios{len(list(self.folder.glob('*.jsonl')))}.jsonl"
-        path.write_text("".join(json.dumps({"name": f"s, {number}", "batches": one}) + "\n" for number, one in enumerate(batches, 1)))
+        path.write_text("".join(json.dumps({"name": f"s, {number}", "batches": one}) + "\n"
+                                for number, one in enumerate(batches, 1)))
         return str(path)
 
     def many(self, count: int) -> "tuple[str, list[list[str]]]":
-        """A file of so many scenarios, of which each seventh is refused at its second batch, and the rows that belong to them."""
+        """A file of so many scenarios, of which each seventh is refused at its second batch, and the rows that belong
+        to them."""
         all_batches, rows = [], []
         for number in range(1, count + 1):
-            first, second = edits.limit("a", number % 4, 4, number), edits.exit_limit("z" if number % 7 == 0 else "a", 0, 1 + number % 4, 2 * number)
+            first, second = (edits.limit("a", number % 4, 4, number),
+                             edits.exit_limit("z" if number % 7 == 0 else "a", 0, 1 + number % 4, 2 * number))
             all_batches.append([[first], [second]])
             refused = [str(number), f"s, {number}", f"batch 2 {REFUSED}", "", "", "", "", ""]
             rows.append(row_of(number, f"s, {number}", (first, second)) if number % 7 else refused)

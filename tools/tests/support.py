@@ -54,16 +54,21 @@ def takes_splits() -> bool:
     """Whether the program is there, and its sessions answer `state` and take the edit `splits`."""
     if not os.access(BUILT, os.X_OK):
         return False
-    asked = ('{"do": "state", "slot": 0}\n{"do": "edit", "edits": [{"kind": "splits", "node": "n1", "destination": "n2", "rows": [[0, {"a": 1}]]}]}\n')
+    asked = ('{"do": "state", "slot": 0}\n'
+             '{"do": "edit", "edits": [{"kind": "splits", "node": "n1", "destination": "n2", "rows": [[0, {"a":'
+             ' 1}]]}]}\n')
     with tempfile.TemporaryDirectory() as folder:
         for name, text in ROAD.items():
             Path(folder, f"{name}.csv").write_text(text)
-        return b"refused" not in subprocess.run([BUILT, "session", "0"], cwd=folder, input=asked.encode(), capture_output=True).stdout
+        return b"refused" not in subprocess.run([BUILT, "session", "0"], cwd=folder, input=asked.encode(),
+                                                capture_output=True).stdout
 
 
-needs_splits = unittest.skipUnless(takes_splits(), "no program is built whose sessions answer `state` and take `splits`")
+needs_splits = unittest.skipUnless(takes_splits(),
+                                   "no program is built whose sessions answer `state` and take `splits`")
 needs_columns = unittest.skipUnless(takes_columns(), "no program is built that takes the columns limits and cells")
-needs_sizes = unittest.skipUnless(takes_columns("rows,links,destinations,moves", "1,1,1,1"), "no program is built that takes the columns rows to moves")
+needs_sizes = unittest.skipUnless(takes_columns("rows,links,destinations,moves", "1,1,1,1"),
+                                  "no program is built that takes the columns rows to moves")
 
 
 class FolderTest(unittest.TestCase):

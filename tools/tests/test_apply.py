@@ -30,8 +30,11 @@ NAMES = ("closures", "signal", "merge", "incident", "detour", "ramp_meter")
 
 class ByHand(unittest.TestCase):
     def setUp(self) -> None:
-        self.case = Case(Setup(1000, 10, 1000), [Link("a", "n1", "n2", 20, 36, 18, 150), Link("b", "n2", "n3", 20, 36, 18, 150)],
-                         [Demand("n1", "n3", 0, 4, 1000)], [Split("n1", "n3", 0, {"a": 1}), Split("n2", "n3", 0, {"b": 1}), Split("n1", "n2", 0, {"a": 1})])
+        self.case = Case(Setup(1000, 10, 1000), [Link("a", "n1", "n2", 20, 36, 18, 150),
+                                                 Link("b", "n2", "n3", 20, 36, 18, 150)],
+                         [Demand("n1", "n3", 0, 4, 1000)],
+                         [Split("n1", "n3", 0, {"a": 1}), Split("n2", "n3", 0, {"b": 1}),
+                          Split("n1", "n2", 0, {"a": 1})])
 
     def kept(self, *made: edits.Edit) -> Case:
         keeper = Keeper(self.case)
@@ -39,7 +42,8 @@ class ByHand(unittest.TestCase):
         return keeper.kept()
 
     def test_each_kind(self) -> None:
-        made = self.kept(edits.horizon(12), edits.exit_limit("a", 10, 12, 250), edits.diagram("b", 30, 36, 18, 60), edits.demand("n1", "n3", 0, 4, 0), edits.split("n1", "n3", 0, {"a": 2}))
+        made = self.kept(edits.horizon(12), edits.exit_limit("a", 10, 12, 250), edits.diagram("b", 30, 36, 18, 60),
+                         edits.demand("n1", "n3", 0, 4, 0), edits.split("n1", "n3", 0, {"a": 2}))
         self.assertEqual((made.setup.slots, made.setup.signals), (12, True))
         self.assertEqual(made.signals, [Limit("a", 10, 12, 250)])
         self.assertEqual(made.link("b"), Link("b", "n2", "n3", 30, 36, 18, 60))
@@ -48,9 +52,12 @@ class ByHand(unittest.TestCase):
         self.assertEqual(self.case.setup.slots, 10)
 
     def test_all_split_rows_of_a_pair(self) -> None:
-        """Those that stand go, also later ones, those of other pairs stay, and one that comes behind them stands beside the new ones."""
-        made = self.kept(edits.horizon(12), edits.split("n1", "n3", 4, {"a": 3}), edits.splits("n1", "n3", [(0, {"a": 5}), (7, {"a": 6})]), edits.split("n1", "n3", 9, {"a": 7}))
-        self.assertCountEqual(made.splits or [], [Split("n2", "n3", 0, {"b": 1}), Split("n1", "n2", 0, {"a": 1}), Split("n1", "n3", 0, {"a": 5}), Split("n1", "n3", 7, {"a": 6}),
+        """Those that stand go, also later ones, those of other pairs stay, and one that comes behind them stands beside
+        the new ones."""
+        made = self.kept(edits.horizon(12), edits.split("n1", "n3", 4, {"a": 3}),
+                         edits.splits("n1", "n3", [(0, {"a": 5}), (7, {"a": 6})]), edits.split("n1", "n3", 9, {"a": 7}))
+        self.assertCountEqual(made.splits or [], [Split("n2", "n3", 0, {"b": 1}), Split("n1", "n2", 0, {"a": 1}),
+                                                  Split("n1", "n3", 0, {"a": 5}), Split("n1", "n3", 7, {"a": 6}),
                                                   Split("n1", "n3", 9, {"a": 7})])
         self.case.links.append(Link("c", "n2", "n4", 20, 36, 18, 150))
         self.case.splits = (self.case.splits or []) + [Split("n2", "n4", 0, {"c": 1})]
@@ -58,33 +65,42 @@ class ByHand(unittest.TestCase):
         self.assertEqual((made.destinations, len(made.splits or [])), (["n3", "n2", "n4"], 5))
 
     def test_the_order_of_destinations(self) -> None:
-        """n2 is a destination by its split row alone, and one that demand names later comes behind it: in demand.csv it would come before."""
+        """n2 is a destination by its split row alone, and one that demand names later comes behind it: in demand.csv it
+        would come before."""
         self.case.links.append(Link("c", "n2", "n4", 20, 36, 18, 150))
-        made = self.kept(edits.split("n1", "n4", 0, {"a": 1}), edits.split("n2", "n4", 0, {"c": 1}), edits.demand("n1", "n4", 0, 1, 5))
+        made = self.kept(edits.split("n1", "n4", 0, {"a": 1}), edits.split("n2", "n4", 0, {"c": 1}),
+                         edits.demand("n1", "n4", 0, 1, 5))
         self.assertEqual(made.destinations, ["n3", "n2", "n4"])
         self.assertCountEqual(made.standing_demand(), [Demand("n1", "n3", 0, 4, 1000), Demand("n1", "n4", 0, 1, 5)])
 
     def test_entry_limits(self) -> None:
         made = self.kept(edits.limit("a", 3, 5, 100), edits.exit_limit("b", 0, 2, 0))
-        self.assertEqual((made.setup.limits, made.limits, made.setup.signals, made.signals), (True, [Limit("a", 3, 5, 100)], True, [Limit("b", 0, 2, 0)]))
+        self.assertEqual((made.setup.limits, made.limits, made.setup.signals, made.signals),
+                         (True, [Limit("a", 3, 5, 100)], True, [Limit("b", 0, 2, 0)]))
         made = self.kept(edits.limit("a", 3, 5, 100), edits.limit("a", 0, 9))
         self.assertEqual((made.setup.limits, made.limits), (False, []))
 
     def test_limits_over_one_another(self) -> None:
         """A row of which a later one leaves nothing is not kept, and one that takes back what nobody set neither."""
         layers = Layers([])
-        for row, kept in ((Limit("a", 2, 6, 100), 1), (Limit("a", 4, 8, 0), 2), (Limit("b", 0, 9, 32_000), 2), (Limit("a", 5, 6, 40_000), 3), (Limit("a", 4, 8, 7), 2),
-                          (Limit("a", 6, 9, 32_000), 3), (Limit("b", 2, 6, 9), 4), (Limit("a", 0, 9, 5), 2), (Limit("a", 9, 10, 32_000), 2), (Limit("a", 0, 10, 32_000), 1)):
+        for row, kept in ((Limit("a", 2, 6, 100), 1), (Limit("a", 4, 8, 0), 2), (Limit("b", 0, 9, 32_000), 2),
+                          (Limit("a", 5, 6, 40_000), 3), (Limit("a", 4, 8, 7), 2),
+                          (Limit("a", 6, 9, 32_000), 3), (Limit("b", 2, 6, 9), 4), (Limit("a", 0, 9, 5), 2),
+                          (Limit("a", 9, 10, 32_000), 2), (Limit("a", 0, 10, 32_000), 1)):
             layers.lay(row)
             self.assertEqual(len(layers.rows()), kept, row)
 
     def test_many_edits(self) -> None:
-        """Of each kind as many as 640 batches have, in a time that grows as their number does: some 0.3 s of a processor."""
+        """Of each kind as many as 640 batches have, in a time that grows as their number does: some 0.3 s of a
+        processor."""
         count = 20_480
-        case = Case(Setup(1000, 10_000, 1000), [Link(f"a{n}", f"n{n}", f"n{n + 1}", 20, 36, 18, 150) for n in range(1000)], [], [Split("n0", "n1", 0, {"a0": 1})])
+        case = Case(Setup(1000, 10_000, 1000), [Link(f"a{n}", f"n{n}", f"n{n + 1}", 20, 36, 18, 150)
+                                                for n in range(1000)], [], [Split("n0", "n1", 0, {"a0": 1})])
         kinds: list[Callable[[int], edits.Edit]] = [
-            lambda n: edits.demand("n0", "n1", n % 9999, 10_000, 1000), lambda n: edits.split("n0", "n1", n % 9999, {"a0": 1}),
-            lambda n: edits.limit(f"a{n % 1000}", n % 9999, 10_000, 0), lambda n: edits.exit_limit(f"a{n % 1000}", n % 9999, 10_000, 0),
+            lambda n: edits.demand("n0", "n1", n % 9999, 10_000, 1000),
+            lambda n: edits.split("n0", "n1", n % 9999, {"a0": 1}),
+            lambda n: edits.limit(f"a{n % 1000}", n % 9999, 10_000, 0),
+            lambda n: edits.exit_limit(f"a{n % 1000}", n % 9999, 10_000, 0),
             lambda n: edits.diagram(f"a{n % 1000}", 20, 36, 18, 160)]
         for kind in kinds:
             keeper, made, before = Keeper(case), [kind(n) for n in range(count)], time.process_time()
@@ -94,8 +110,10 @@ class ByHand(unittest.TestCase):
 
     def test_rows_that_are_set_again(self) -> None:
         """They stand behind the others, in place of all with their key; other rows with one key stay as they are."""
-        self.case.demand = [Demand("n1", "n3", *span, units) for span, units in (((0, 4), 1), ((1, 2), 2), ((0, 4), 3), ((1, 2), 4), ((3, 4), 5))]
-        made = self.kept(edits.demand("n1", "n3", 0, 4, 6), edits.demand("n1", "n3", 3, 4, 7), edits.demand("n1", "n3", 0, 4, 8))
+        self.case.demand = [Demand("n1", "n3", *span, units)
+                            for span, units in (((0, 4), 1), ((1, 2), 2), ((0, 4), 3), ((1, 2), 4), ((3, 4), 5))]
+        made = self.kept(edits.demand("n1", "n3", 0, 4, 6), edits.demand("n1", "n3", 3, 4, 7),
+                         edits.demand("n1", "n3", 0, 4, 8))
         self.assertEqual([row.units for row in made.demand], [2, 4, 7, 8])
         made.demand[0].units = 0
         self.assertEqual(self.case.demand[1].units, 2)
@@ -114,8 +132,10 @@ class State:
     def __init__(self, case: Case) -> None:
         self.slots, self.ends = case.setup.slots, case.destinations
         self.links = {link.name: (link.length_m, link.free_kmh, link.wave_kmh, link.jam_per_km) for link in case.links}
-        self.demand = {(row.origin, row.destination, row.from_slot, row.to_slot): row.units for row in case.standing_demand()}
-        self.splits = {(row.node, row.destination, row.from_slot): {name: weight for name, weight in row.weights.items() if weight} for row in case.standing_splits()}
+        self.demand = {(row.origin, row.destination, row.from_slot, row.to_slot): row.units
+                       for row in case.standing_demand()}
+        self.splits = {(row.node, row.destination, row.from_slot): {name: weight for name, weight in row.weights.items()
+                                                                    if weight} for row in case.standing_splits()}
         self.limits: dict[tuple[str, str, int], int] = {}
         for kind, rows in (("exit", case.signals), ("limit", case.limits)):
             for row in rows:
@@ -137,11 +157,13 @@ class State:
             if units_of(edit["vehicles"]):
                 self.demand[key] = units_of(edit["vehicles"])
         elif kind == "split":
-            self.splits[edit["node"], edit["destination"], edit["from"]] = {name: weight for name, weight in edit["weights"].items() if weight}
+            self.splits[edit["node"], edit["destination"],
+                        edit["from"]] = ({name: weight for name, weight in edit["weights"].items() if weight})
         elif kind == "splits":
             pair = edit["node"], edit["destination"]
             self.splits = {key: weights for key, weights in self.splits.items() if key[:2] != pair}
-            self.splits |= {(*pair, slot): {name: weight for name, weight in weights.items() if weight} for slot, weights in edit["rows"]}
+            self.splits |= {(*pair, slot): {name: weight for name, weight in weights.items() if weight}
+                            for slot, weights in edit["rows"]}
         elif kind == "diagram":
             self.links[edit["link"]] = edit["length_m"], edit["free_kmh"], edit["wave_kmh"], edit["jam_per_km"]
         else:
@@ -151,12 +173,18 @@ class State:
         """Whether the program surely accepts the edit, which `random_edit` made for the case."""
         kind = edit["kind"]
         if kind in ("split", "splits"):
-            used = {name for split in case.splits or [] if (split.node, split.destination) == (edit["node"], edit["destination"]) for name, weight in split.weights.items() if weight}
+            used = {name for split in case.splits or []
+                    if (split.node, split.destination) == (edit["node"], edit["destination"])
+                    for name, weight in split.weights.items() if weight}
             rows = [weights for _, weights in edit["rows"]] if kind == "splits" else [edit["weights"]]
-            return all(any(weights.values()) and all(name in used for name, weight in weights.items() if weight) for weights in rows)
+            return all(any(weights.values()) and all(name in used for name, weight in weights.items() if weight)
+                       for weights in rows)
         if kind == "diagram":
             try:
-                check_diagram(0, Link("", "", "", *(edit[name] for name in ("length_m", "free_kmh", "wave_kmh", "jam_per_km"))), case.setup.step_ms)
+                check_diagram(0,
+                              Link("", "", "", *(edit[name]
+                                                 for name in ("length_m", "free_kmh", "wave_kmh", "jam_per_km"))),
+                              case.setup.step_ms)
             except BadCase:
                 return False
             return True
@@ -166,20 +194,24 @@ class State:
 
 
 def any_case(pick: random.Random) -> Case:
-    """The case of an example; every other one with limits of entry and a number of cells in its files, which leaves room for some slots more."""
+    """The case of an example; every other one with limits of entry and a number of cells in its files, which leaves
+    room for some slots more."""
     case = Case.read(EXAMPLES / pick.choice(NAMES))
     if pick.random() < 0.5:
         case.setup.limits, case.setup.cells = True, case.cells(case.setup.slots + pick.randrange(0, 4))
         for _ in range(pick.randrange(0, 4)):
             first = pick.randrange(case.setup.slots)
-            case.limits.append(Limit(pick.choice(case.links).name, first, pick.randint(first + 1, case.setup.slots), pick.choice((0, 500, 2000, 32_000))))
+            case.limits.append(Limit(pick.choice(case.links).name, first, pick.randint(first + 1, case.setup.slots),
+                                     pick.choice((0, 500, 2000, 32_000))))
     return case
 
 
 class Files(FolderTest):
     def test_scripts(self) -> None:
-        """Of ten times as many random scripts, of all kinds of edits: the case that is kept, read from its files, is the scenario that they make."""
-        pick, kinds = random.Random(12), dict.fromkeys(("limit", "exit", "demand", "split", "splits", "diagram", "horizon"), 0)
+        """Of ten times as many random scripts, of all kinds of edits: the case that is kept, read from its files, is
+        the scenario that they make."""
+        pick, kinds = random.Random(12), dict.fromkeys(("limit", "exit", "demand", "split", "splits", "diagram",
+                                                        "horizon"), 0)
         for number in range(10 * SCRIPTS):
             case = any_case(pick)
             keeper, state = Keeper(case), State(case)
@@ -213,14 +245,16 @@ class Places(FolderTest):
             session.edit(edits.exit_limit("a", 0, 1, 250))
             session.save(self.folder / "saved")
         for to in (self.folder / "applied", case):
-            self.assertEqual(commands.run("apply", str(case), str(script), str(to), "--program", str(program)), (0, f"{to}: the case after 1 of 1 batches\n", ""))
+            self.assertEqual(commands.run("apply", str(case), str(script), str(to), "--program", str(program)),
+                             (0, f"{to}: the case after 1 of 1 batches\n", ""))
         return [self.folder / "saved", self.folder / "applied", case]
 
     SHAPES = b'points,link\r\n" 11.25 48 ;11.3 48.20;11.5 48.1",a\r\n'
 
     def test_they_are_kept_as_they_are(self) -> None:
         for folder in self.kept(self.case(nodes=self.PLACES, shapes=self.SHAPES)):
-            self.assertEqual(((folder / "nodes.csv").read_bytes(), (folder / "shapes.csv").read_bytes()), (self.PLACES, self.SHAPES))
+            self.assertEqual(((folder / "nodes.csv").read_bytes(), (folder / "shapes.csv").read_bytes()),
+                             (self.PLACES, self.SHAPES))
             case = Case.read(folder)
             self.assertEqual(case.signals, [Limit("a", 0, 1, 250)])
             self.assertEqual(read_places(folder, case), read_places(self.folder / "case", case))
@@ -234,7 +268,8 @@ class Places(FolderTest):
 @needs_splits
 class Random(FolderTest):
     def test_scripts(self) -> None:
-        """Of random scripts: the totals and each link's counts of the case that a session saves are those that the session shows."""
+        """Of random scripts: the totals and each link's counts of the case that a session saves are those that the
+        session shows."""
         pick, limited, raised, told = random.Random(11), 0, 0, 0
         self.accepted: Counter[str] = Counter()
         for number in range(SCRIPTS):
@@ -252,7 +287,8 @@ class Random(FolderTest):
         self.assertGreater(self.accepted["splits"], SCRIPTS // 6)
 
     def one(self, pick: random.Random, folder: Path, to: Path) -> tuple[list[str], list[str]]:
-        """The reports of the case that a session of random edits saves, and what that session shows: totals, delay, and each link's counts."""
+        """The reports of the case that a session of random edits saves, and what that session shows: totals, delay, and
+        each link's counts."""
         case, keeper = Case.read(folder), Keeper(Case.read(folder))
         with Session(folder, program=BUILT) as session:
             for _ in range(pick.randint(1, 6)):
@@ -265,7 +301,9 @@ class Random(FolderTest):
                 self.accepted.update(str(edit["kind"]) for edit in batch)
             session.settle()
             session.save(to)
-            shown = [" ".join(session.ask(do=word)[2:]) for word in ("totals", "delay")] + [" ".join(session.ask(do="link", link=link.name)[2:]) for link in case.links]
+            shown = [" ".join(session.ask(do=word)[2:])
+                     for word in ("totals", "delay")] + [" ".join(session.ask(do="link", link=link.name)[2:])
+                                                         for link in case.links]
         lines = output(to, "load", program=BUILT).decode().splitlines()
         delay = output(to, "delay", program=BUILT).decode().splitlines()[0]
         return [*(line.removeprefix("version 0 ") for line in (lines[0], delay)), *lines[1:]], shown
@@ -274,22 +312,30 @@ class Random(FolderTest):
 @needs_program
 class Command(FolderTest):
     def run_it(self, *words: str) -> "subprocess.CompletedProcess[str]":
-        return subprocess.run([sys.executable, str(TOOLS / "ltm-tools"), "apply", *words], capture_output=True, text=True, env={**os.environ, "LTM": str(BUILT)})
+        return subprocess.run([sys.executable, str(TOOLS / "ltm-tools"), "apply", *words], capture_output=True,
+                              text=True, env={**os.environ, "LTM": str(BUILT)})
 
     def test_spillback(self) -> None:
-        done = self.run_it(str(EXAMPLES / "spillback"), str(EXAMPLES / "spillback" / "script.jsonl"), str(self.folder / "wider"))
+        done = self.run_it(str(EXAMPLES / "spillback"), str(EXAMPLES / "spillback" / "script.jsonl"),
+                           str(self.folder / "wider"))
         self.assertEqual((done.returncode, done.stderr), (0, ""))
         # README.md: what the session shows after the script
         self.assertEqual(output(self.folder / "wider", "load", program=BUILT).decode().splitlines(), [
-            "version 0 generated 7.000 arrived 6.000 on_links 1.000 waiting 0.000", "link a in 7.000 out 7.000", "link b in 7.000 out 6.000"])
+            "version 0 generated 7.000 arrived 6.000 on_links 1.000 waiting 0.000", "link a in 7.000 out 7.000",
+            "link b in 7.000 out 6.000"])
 
     def test_refused_lines(self) -> None:
         script = self.folder / "script.jsonl"
-        script.write_text("\n".join(json.dumps(line) for line in ({"do": "edit", "edits": [edits.exit_limit("z", 0, 1, 0)]}, {"do": "totals"}, {"do": "edit", "edits": [edits.exit_limit("a", 0, 1, 0)]})))
+        script.write_text("\n".join(json.dumps(line)
+                                    for line in ({"do": "edit", "edits": [edits.exit_limit("z", 0, 1, 0)]},
+                                                 {"do": "totals"},
+                                                 {"do": "edit", "edits": [edits.exit_limit("a", 0, 1, 0)]})))
         done = self.run_it(str(EXAMPLES / "spillback"), str(script), str(self.folder / "made"))
-        self.assertEqual((done.returncode, done.stdout), (0, f"{self.folder / 'made'}: the case after 1 of 2 batches\n"))
+        self.assertEqual((done.returncode, done.stdout),
+                         (0, f"{self.folder / 'made'}: the case after 1 of 2 batches\n"))
         self.assertIn("line 1 is refused", done.stderr)
-        self.assertEqual((self.folder / "made" / "signals.csv").read_text(), "link,from_slot,to_slot,vehicles\na,0,1,0\n")
+        self.assertEqual((self.folder / "made" / "signals.csv").read_text(),
+                         "link,from_slot,to_slot,vehicles\na,0,1,0\n")
 
 
 if __name__ == "__main__":

@@ -34,7 +34,8 @@ class Balance(unittest.TestCase):
         route = used(fit, "r0 r1 r2")
         self.assertEqual(off(fit, route), 3000)
         balance(fit, [route])
-        # both long roads take 30 s, the route took 62: with e = 3 + 2 d the least of (e/62)^2 + 0.002 * 2 (d/30)^2 is at d = -1.4936, e = 0.013
+        # both long roads take 30 s, the route took 62: with e = 3 + 2 d the least of (e/62)^2 + 0.002 * 2 (d/30)^2 is
+        # at d = -1.4936, e = 0.013
         self.assertAlmostEqual(float(off(fit, route)), 13, delta=8)
         self.assertEqual(fit.network.roads["r1"].time, 5000)
         self.assertEqual([change.kind for change in fit.changes], ["lengthened", "evened out", "evened out"])
@@ -48,7 +49,8 @@ class Balance(unittest.TestCase):
             self.assertLessEqual(abs(one.time - before[name]), Fraction(MOST_SHARE) * before[name] + 1)
 
     def test_the_route_that_more_drive_counts_more(self) -> None:
-        # one drives over the short r1 as well, one over r0 alone; what the first would have of r0 the other does not want
+        # one drives over the short r1 as well, one over r0 alone; what the first would have of r0 the other does not
+        # want
         for units in (9000, 1000):
             fit = fitted(300, 20)
             long, short = used(fit, "r0 r1", units), used(fit, "r0", 10_000 - units)

@@ -5,7 +5,6 @@ import subprocess
 import sys
 import unittest
 from fractions import Fraction
-from pathlib import Path
 from typing import Any
 
 from support import BUILT, EXAMPLES, FolderTest, needs_program
@@ -29,21 +28,25 @@ def example_script() -> Any:
 compare = example_script()
 
 # two edges of 200 m at 10 m/s, 20 s each
-NET = "".join(f'<edge id="{name}" from="{tail}" to="{head}"><lane id="{name}_0" index="0" speed="10" length="200"/></edge>'
+NET = "".join(f'<edge id="{name}" from="{tail}" to="{head}"><lane id="{name}_0" index="0" speed="10"'
+              f' length="200"/></edge>'
               for name, tail, head in (("in", "A", "B"), ("on", "B", "C")))
 TRIPS = ('<tripinfos><tripinfo id="1" depart="900.00" departDelay="0.00" duration="50.00" arrival="950.00"/>'
          '<tripinfo id="2" depart="910.00" departDelay="4.00" duration="60.00" arrival="970.00"/></tripinfos>')
 DATA = ('<meandata><interval begin="0" end="970" id="whole"><edge id="in" sampledSeconds="70.00" left="2" arrived="0"/>'
-        '<edge id="on" sampledSeconds="40.00" left="0" arrived="2"/><edge id=":B_0" sampledSeconds="9" left="2" arrived="0"/></interval></meandata>')
+        '<edge id="on" sampledSeconds="40.00" left="0" arrived="2"/><edge id=":B_0" sampledSeconds="9" left="2"'
+        ' arrived="0"/></interval></meandata>')
 WHOLE = '<statistics><vehicles loaded="2"/><teleports total="3" jam="3"/></statistics>'
 
 
 class Read(FolderTest):
     def setUp(self) -> None:
         super().setUp()
-        for name, text in (("n.net.xml", f"<net>{NET}</net>"), ("trips.xml", TRIPS), ("edges.xml", DATA), ("whole.xml", WHOLE)):
+        for name, text in (("n.net.xml", f"<net>{NET}</net>"), ("trips.xml", TRIPS), ("edges.xml", DATA),
+                           ("whole.xml", WHOLE)):
             (self.folder / name).write_text(text)
-        self.net = read_net(self.folder / "n.net.xml", vehicle_class="passenger", headway=Fraction(113, 100), spacing=Fraction(15, 2))
+        self.net = read_net(self.folder / "n.net.xml", vehicle_class="passenger", headway=Fraction(113, 100),
+                            spacing=Fraction(15, 2))
         self.run_of = compare.read_run(self.folder, self.net)
 
     def test_what_sumo_wrote(self) -> None:
@@ -53,8 +56,10 @@ class Read(FolderTest):
         self.assertEqual((run.arrivals, run.first_ms, run.moved), ([950_000, 970_000], 900_000, 3))
 
     def test_links_by_the_edges_that_they_are_made_of(self) -> None:
-        source = Source({"in": SourceLink("A", "B", "x"), "on": SourceLink("B", "C", "y"), "on_exit": SourceLink("B", "C", "z")}, {})
-        report = Report({name: Delay(0, seconds * MILLIONTHS, 0, 0) for name, seconds in (("x", 5), ("y", 6), ("z", 7), ("made", 8))}, {})
+        source = Source({"in": SourceLink("A", "B", "x"), "on": SourceLink("B", "C", "y"),
+                         "on_exit": SourceLink("B", "C", "z")}, {})
+        report = Report({name: Delay(0, seconds * MILLIONTHS, 0, 0)
+                         for name, seconds in (("x", 5), ("y", 6), ("z", 7), ("made", 8))}, {})
         ours, theirs = compare.by_label(report, self.run_of, source, self.net)
         self.assertEqual((ours, theirs), ({"in": 5, "on": 13, "made": 8}, {"in": 30, "on": 0}))
         source = Source({"in": SourceLink("A", "B", "x"), "on": SourceLink("B", "C", "x")}, {})
@@ -91,7 +96,8 @@ class Town(FolderTest):
     def test_its_report_without_signals_is_that_of_another_engine(self) -> None:
         tools = EXAMPLES.parent / "tools" / "ltm-tools"
         for words in ([EXAMPLES / "from_sumo" / "make.py", "town", "."],
-                      [tools, "from-sumo", "town.net.xml", "town.rou.xml", "town.add.xml", "case", "--fit", "5s", "--horizon", "75",
+                      [tools, "from-sumo", "town.net.xml", "town.rou.xml", "town.add.xml", "case", "--fit", "5s",
+                       "--horizon", "75",
                        "--moves", "0"]):
             done = subprocess.run([str(word) for word in words], cwd=self.folder, capture_output=True, text=True)
             self.assertEqual((done.returncode, done.stderr), (0, ""))

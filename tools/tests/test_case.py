@@ -18,7 +18,8 @@ class Numbers(unittest.TestCase):
         self.assertEqual(link.longest_step_ms, 2000)
 
     def test_longest_and_least_step(self) -> None:
-        wide = Link("a", "n1", "n2", 1000, 100, 100, 1000)  # 50,000 vehicles an hour: 13.888.. units a ms, 32,000 in 2304 ms
+        # 50,000 vehicles an hour: 13.888.. units a ms, 32,000 in 2304 ms
+        wide = Link("a", "n1", "n2", 1000, 100, 100, 1000)
         self.assertEqual(wide.capacity(wide.longest_step_ms), 32_000)
         self.assertEqual(wide.capacity(wide.longest_step_ms + 1), 32_013)
         narrow = Link("a", "n1", "n2", 1000, 1, 1, 1)  # half a vehicle an hour: a thousandth in 7200 ms
@@ -37,7 +38,8 @@ class Names(unittest.TestCase):
         from ltm_tools import Curves, Fault, Refused, Session, errors
         from ltm_tools.loading import curves, session
 
-        self.assertEqual((ltm_tools.Case, Curves, Fault, Refused, Session), (Case, curves.Curves, errors.Fault, session.Refused, session.Session))
+        self.assertEqual((ltm_tools.Case, Curves, Fault, Refused, Session),
+                         (Case, curves.Curves, errors.Fault, session.Refused, session.Session))
         self.assertFalse(hasattr(ltm_tools, "Nothing"))
 
 
@@ -60,12 +62,14 @@ class Files(FolderTest):
         case = Case.read(self.case(splits=None))
         self.assertIsNone(case.splits)
         case.write(self.folder / "written")
-        self.assertEqual(sorted(path.name for path in (self.folder / "written").iterdir()), ["demand.csv", "links.csv", "setup.csv"])
+        self.assertEqual(sorted(path.name for path in (self.folder / "written").iterdir()),
+                         ["demand.csv", "links.csv", "setup.csv"])
 
     def test_limits_and_cells(self) -> None:
         case = Case(Setup(1000, 4, 1000, cells=2000), Case.read(self.case()).links, limits=[Limit("a", 0, 1, 50)])
         case.write(self.folder / "written")
-        self.assertEqual((self.folder / "written" / "setup.csv").read_text(), "step_ms,slots,origin_capacity,limits,cells\n1000,4,1,1,2000\n")
+        self.assertEqual((self.folder / "written" / "setup.csv").read_text(),
+                         "step_ms,slots,origin_capacity,limits,cells\n1000,4,1,1,2000\n")
         self.assertEqual(Case.read(self.folder / "written").limits, [Limit("a", 0, 1, 50)])
 
     def test_rows_that_replace(self) -> None:

@@ -26,12 +26,14 @@ arr,n2,n2,0 0 0 500 1000
 
 
 def has(*names: str) -> bool:
-    return subprocess.run([libraries.DEBIAN_PYTHON, "-c", libraries.PROBE, *names], capture_output=True).returncode == 0 if os.path.exists(libraries.DEBIAN_PYTHON) else False
+    return subprocess.run([libraries.DEBIAN_PYTHON, "-c", libraries.PROBE, *names],
+                          capture_output=True).returncode == 0 if os.path.exists(libraries.DEBIAN_PYTHON) else False
 
 
 class Command(FolderTest):
     def run_tool(self, *words: "str | Path", **more: object) -> "subprocess.CompletedProcess[str]":
-        return subprocess.run([sys.executable, TOOLS / "ltm-tools", *words], cwd=self.folder, capture_output=True, text=True, timeout=60, **more)  # type: ignore[call-overload, no-any-return]
+        return subprocess.run([sys.executable, TOOLS / "ltm-tools", *words], cwd=self.folder, capture_output=True,
+                              text=True, timeout=60, **more)  # type: ignore[call-overload, no-any-return]
 
     def assertFault(self, done: "subprocess.CompletedProcess[str]", part: str) -> None:
         self.assertEqual((done.returncode, done.stdout), (1, ""), done.stderr)
@@ -60,19 +62,24 @@ class Command(FolderTest):
         self.assertFault(self.run_tool("from-gmns", network, "case"), "link.csv")
         (network / "link.csv").write_bytes(b"")
         self.assertFault(self.run_tool("from-gmns", network, "case"), "link.csv")
-        (network / "link.csv").write_bytes("link_id,from_node_id,to_node_id,length,free_speed,capacity\nStraße,1,2,100,50,900\n".encode("latin-1"))
-        done = self.run_tool("from-gmns", network, "case")  # read as the Latin-1 that it is: it is the name that is wrong
+        (network / "link.csv").write_bytes("link_id,from_node_id,to_node_id,length,free_speed,capacity\n"
+                                           "Straße,1,2,100,50,900\n".encode("latin-1"))
+        # read as the Latin-1 that it is: it is the name that is wrong
+        done = self.run_tool("from-gmns", network, "case")
         self.assertEqual((done.returncode, done.stdout), (1, ""), done.stderr)
         self.assertRegex(done.stderr, r"^cannot be carried: link 'Straße': .*\n.*--rename.*\n$")
 
     def test_a_file_in_latin_1_is_read_and_that_is_told(self) -> None:
         network = self.folder / "network"
         network.mkdir()
-        (network / "link.csv").write_bytes("link_id,name,from_node_id,to_node_id,length,free_speed,capacity\na,Straße,1,2,100,50,900\n".encode("latin-1"))
-        self.assertIn("link.csv is read as Windows-1252 (Latin-1)\n", self.run_tool("from-gmns", network, self.folder / "made").stdout)
+        (network / "link.csv").write_bytes("link_id,name,from_node_id,to_node_id,length,free_speed,capacity\n"
+                                           "a,Straße,1,2,100,50,900\n".encode("latin-1"))
+        self.assertIn("link.csv is read as Windows-1252 (Latin-1)\n",
+                      self.run_tool("from-gmns", network, self.folder / "made").stdout)
 
     def test_a_folder_without_rights(self) -> None:
-        """Asked by nobody where root runs the tests, who may read each folder; what the command imports is there already."""
+        """Asked by nobody where root runs the tests, who may read each folder; what the command imports is there
+        already."""
         folder = self.case()
         self.assertEqual(commands.run("inspect", str(folder))[0], 0)
         folder.chmod(0)
@@ -92,7 +99,8 @@ class Command(FolderTest):
     def inspect_merge(self, stdout: int) -> "subprocess.CompletedProcess[str]":
         """A run that writes little, all at its end."""
         environment = {name: text for name, text in os.environ.items() if name != "PYTHONUNBUFFERED"}
-        return subprocess.run([sys.executable, TOOLS / "ltm-tools", "inspect", EXAMPLES / "merge"], stdout=stdout, stderr=subprocess.PIPE, text=True, env=environment)
+        return subprocess.run([sys.executable, TOOLS / "ltm-tools", "inspect", EXAMPLES / "merge"], stdout=stdout,
+                              stderr=subprocess.PIPE, text=True, env=environment)
 
     def test_a_reader_that_has_gone(self) -> None:
         read, write = os.pipe()
@@ -108,7 +116,9 @@ class Command(FolderTest):
 
     def test_a_signal_ends_what_was_started(self) -> None:
         """The program ends with the command that waits for it."""
-        program = self.program(f"import os, pathlib, time; pathlib.Path({str(self.folder / 'pid')!r}).write_text(f'{{os.getpid()}}\\n'); time.sleep(60)")
+        program = self.program(f"import os, pathlib, time;"
+                               f" pathlib.Path({str(self.folder / 'pid')!r}).write_text(f'{{os.getpid()}}\\n');"
+                               f" time.sleep(60)")
         noted = self.folder / "pid"
         for number in (signal.SIGTERM, signal.SIGHUP, signal.SIGINT):
             words = [sys.executable, TOOLS / "ltm-tools", "queues", self.case(), "--program", program]
@@ -140,18 +150,21 @@ class Command(FolderTest):
 
 class Libraries(unittest.TestCase):
     def test_a_library_that_is_missing_is_named(self) -> None:
-        with mock.patch.object(libraries, "debian_has", return_value=False), self.assertRaisesRegex(Fault, "apt-get install python3-matplotlib"):
+        with mock.patch.object(libraries, "debian_has", return_value=False), \
+                self.assertRaisesRegex(Fault, "apt-get install python3-matplotlib"):
             with mock.patch.object(libraries, "missing", return_value=["matplotlib"]):
                 libraries.need(["matplotlib"])
 
     def test_debian_s_python_runs_what_this_one_cannot(self) -> None:
-        with mock.patch.object(libraries, "missing", return_value=["matplotlib"]), mock.patch.object(libraries, "debian_has", return_value=True), \
-                mock.patch("os.execve") as run, mock.patch.object(sys, "argv", ["ltm-tools", "plot", "link"]), mock.patch.dict(os.environ):
+        with mock.patch.object(libraries, "missing", return_value=["matplotlib"]), \
+                mock.patch.object(libraries, "debian_has", return_value=True), mock.patch("os.execve") as run, \
+                mock.patch.object(sys, "argv", ["ltm-tools", "plot", "link"]), mock.patch.dict(os.environ):
             os.environ.pop(libraries.TRIED, None)
             with self.assertRaises(Fault):  # since execve, which is made for the test, comes back
                 libraries.need(["matplotlib"])
             python, words, environment = run.call_args.args
-            self.assertEqual((python, words[3:], environment[libraries.TRIED]), ("/usr/bin/python3", [str(TOOLS), "plot", "link"], "1"))
+            self.assertEqual((python, words[3:], environment[libraries.TRIED]),
+                             ("/usr/bin/python3", [str(TOOLS), "plot", "link"], "1"))
             os.environ[libraries.TRIED] = "1"
             with self.assertRaises(Fault):
                 libraries.need(["matplotlib"])
@@ -162,10 +175,12 @@ class Libraries(unittest.TestCase):
 class Pictures(FolderTest):
     def test_a_link_whose_name_begins_with_a_dash(self) -> None:
         """By the Python that runs the tests, whichever that is."""
-        case = self.case(links="link,from,to,length_m,free_kmh,wave_kmh,jam_per_km\n-a,n1,n2,20,36,18,150\n", curves=LOADING)
+        case = self.case(links="link,from,to,length_m,free_kmh,wave_kmh,jam_per_km\n-a,n1,n2,20,36,18,150\n",
+                         curves=LOADING)
         picture = self.folder / "link.png"
         for words in (["link", case, "-a", picture], ["path", case, "-a", picture], ["arrivals", case, picture]):
-            done = subprocess.run([sys.executable, TOOLS / "ltm-tools", "plot", words[0], "--", *words[1:]], capture_output=True, text=True, cwd=CLONE)
+            done = subprocess.run([sys.executable, TOOLS / "ltm-tools", "plot", words[0], "--", *words[1:]],
+                                  capture_output=True, text=True, cwd=CLONE)
             self.assertEqual((done.returncode, done.stderr), (0, ""))
             self.assertEqual(picture.read_bytes()[:8], b"\x89PNG\r\n\x1a\n")
             picture.unlink()

@@ -1,8 +1,9 @@
-"""The columns behind the third of `setup.csv`, and `limits.csv`: what a case is refused for, in the program's order and words.
+"""The columns behind the third of `setup.csv`, and `limits.csv`: what a case is refused for, in the program's order and
+words.
 
-`data/faults/cases.json` has for each case the files in which it differs from `data/delay/base`, bytes as Latin-1 and null where a file is
-missing, and by command the status and the line of an engine that was written without this one; `sizes.json` has those with the columns
-`rows`, `links`, `destinations` and `moves`.
+`data/faults/cases.json` has for each case the files in which it differs from `data/delay/base`, bytes as Latin-1 and
+null where a file is missing, and by command the status and the line of an engine that was written without this one;
+`sizes.json` has those with the columns `rows`, `links`, `destinations` and `moves`.
 """
 import json
 import subprocess
@@ -64,7 +65,8 @@ class Faults(ColumnsTest):
             for word in ("load", "routes"):
                 if word in told and told[word][0]:
                     with self.subTest(name, word=word):
-                        self.assertNotEqual(explain(str(self.made(told["files"])), told[word][0], told[word][1], [word]), [])
+                        self.assertNotEqual(explain(str(self.made(told["files"])), told[word][0], told[word][1],
+                                                    [word]), [])
 
     @needs_columns
     def test_the_program_tells_these(self) -> None:
@@ -92,8 +94,10 @@ class Columns(ColumnsTest):
         """Of seven columns each or not, in order: 128 headers."""
         more = [header[len(SETUP):] for header in headers_of("setup")]
         self.assertEqual((len(more), len(set(more))), (128, 128))
-        self.assertTrue({(), ("signals",), ("limits", "cells"), ("cells", "rows"), ("rows", "moves"), ("signals", "links", "destinations"), SETUP_MORE} <= set(more))
-        self.assertTrue(all([SETUP_MORE.index(column) for column in header] == sorted(SETUP_MORE.index(column) for column in header) for header in more))
+        self.assertTrue({(), ("signals",), ("limits", "cells"), ("cells", "rows"), ("rows", "moves"),
+                         ("signals", "links", "destinations"), SETUP_MORE} <= set(more))
+        self.assertTrue(all([SETUP_MORE.index(column) for column in header]
+                            == sorted(SETUP_MORE.index(column) for column in header) for header in more))
 
     def test_both_files_are_fetched_before_either_is_read(self) -> None:
         """signals.csv first: too long beside a missing limits.csv, or missing beside a too long limits.csv."""
@@ -112,13 +116,16 @@ class Columns(ColumnsTest):
 
     def test_what_the_columns_say(self) -> None:
         case = Case.read(self.made({**TOLD["head-signals-limits-cells-good7"]["files"]}))
-        self.assertEqual((case.setup.signals, case.setup.limits, case.setup.cells, case.setup.most_cells), (True, True, 2_000_000_000, 2_000_000_000))
+        self.assertEqual((case.setup.signals, case.setup.limits, case.setup.cells, case.setup.most_cells),
+                         (True, True, 2_000_000_000, 2_000_000_000))
         self.assertTrue(case.signals and case.limits)
         setup = Case.read(self.made({})).setup
-        self.assertEqual((setup.most_cells, setup.most_demand_rows, setup.most_split_rows, setup.most_links, setup.most_destinations, setup.moves),
+        self.assertEqual((setup.most_cells, setup.most_demand_rows, setup.most_split_rows, setup.most_links,
+                          setup.most_destinations, setup.moves),
                          (54_000_000, 10_000, 50_000, 4_000, 64, False))
         setup = Case.read(self.made(SIZES["sizes-signals-limits-cells-rows-links-destinations-moves"]["files"])).setup
-        self.assertEqual((setup.signals, setup.limits, setup.most_cells, setup.most_demand_rows, setup.most_split_rows, setup.most_links, setup.most_destinations, setup.moves),
+        self.assertEqual((setup.signals, setup.limits, setup.most_cells, setup.most_demand_rows, setup.most_split_rows,
+                          setup.most_links, setup.most_destinations, setup.moves),
                          (True, True, 1480, 6, 6, 4, 2, True))
 
     def test_they_are_written(self) -> None:
@@ -133,22 +140,29 @@ class Columns(ColumnsTest):
 
     def test_words(self) -> None:
         for name, parts in {
-            "head-bad-limits-signals": ["exactly step_ms,slots,origin_capacity, and behind it each of signals, limits, cells, rows, links, destinations, moves or not, in this order"],
+            "head-bad-limits-signals": ["exactly step_ms,slots,origin_capacity, and behind it each of signals, limits,"
+                                        " cells, rows, links, destinations, moves or not, in this order"],
             "head-limits-limits-2": ['limits "2"', "1 where there is a limits.csv"],
             "head-signals-limits-cells-cells-0": ['cells "0"', "1 to 4,294,967,295"],
             "sizes-cells-4294967296": ['cells "4294967296"', "below 4294967296"],
-            "rows-rows-500001": ['rows "500001"', "1 to 500,000", "without this column it is 10,000 for demand and 50,000 for splits"],
+            "rows-rows-500001": ['rows "500001"', "1 to 500,000",
+                                 "without this column it is 10,000 for demand and 50,000 for splits"],
             "sizes-links-16001": ['links "16001"', "1 to 16,000", "without this column it is 4,000"],
             "sizes-destinations-257": ['destinations "257"', "1 to 256", "without this column it is 64"],
             "sizes-moves-2": ['moves "2"', "1 where what moves is floored for each turn"],
-            "rows-rows-2": ["there are 2 rows already", "write up to 500000 in the column rows of setup.csv; or gather rows"],
+            "rows-rows-2": ["there are 2 rows already",
+                            "write up to 500000 in the column rows of setup.csv; or gather rows"],
             "rows-rows-5": ["there are 5 rows already"],
-            "sizes-links-3": ["there are 3 links already", "write up to 16000 in the column links of setup.csv; or take a part"],
-            "sizes-destinations-1": ["n4 would be destination 2, and at most 1 may be", "write up to 256 in the column destinations of setup.csv; or gather nearby"],
+            "sizes-links-3": ["there are 3 links already",
+                              "write up to 16000 in the column links of setup.csv; or take a part"],
+            "sizes-destinations-1": ["n4 would be destination 2, and at most 1 may be",
+                                     "write up to 256 in the column destinations of setup.csv; or gather nearby"],
             "head-limits-missing": ["limits.csv is not there", "put 0 in the field limits"],
             "limits-file-slots-over": ["limits.csv, line 2, to_slot", "the horizon has 12 slots"],
             # 1.1 bytes a cell are 1,628, and MB are rounded up
-            "head-cells-cells-1479": ["1,480 cells, and at most 1,479", "write 1000000 in the column cells of setup.csv, which takes about 1 MB for a load",
+            "head-cells-cells-1479": ["1,480 cells, and at most 1,479",
+                                      "write 1000000 in the column cells of setup.csv, which takes about 1 MB for a"
+                                      " load",
                                       "11 of its 12 slots would fit"],
         }.items():
             told = TOLD[name]

@@ -35,7 +35,8 @@ def told_by_the_program(folder: Path) -> dict[tuple[str, str], Decimal]:
 class Totals(unittest.TestCase):
     def test_a_case_with_another(self) -> None:
         both = Comparison(Loaded(*read("base")), Loaded(*read("base_signals")))
-        one, other = ((DATA / name / "delay.out").read_text().split("\n")[0].split() for name in ("base", "base_signals"))
+        one, other = ((DATA / name / "delay.out").read_text().split("\n")[0].split()
+                      for name in ("base", "base_signals"))
         told = {name: tuple(Decimal(time).scaleb(-6) for time in pair) for name, pair in both.times().items()}
         for place, name in ((3, "spent"), (5, "queued"), (7, "waited")):
             self.assertEqual(told[name], (Decimal(one[place]), Decimal(other[place])))
@@ -49,7 +50,8 @@ class Totals(unittest.TestCase):
     def test_with_itself(self) -> None:
         both = Comparison(Loaded(*read("grid")), Loaded(*read("grid")))
         self.assertEqual(most_changed(both.links()), {})
-        self.assertTrue(all(one == other for pairs in (both.times(), both.amounts(), both.arrivals(1000)) for one, other in pairs.values()))
+        self.assertTrue(all(one == other for pairs in (both.times(), both.amounts(), both.arrivals(1000))
+                            for one, other in pairs.values()))
 
     def test_other_networks(self) -> None:
         both = Comparison(Loaded(*read("spillback")), Loaded(*read("road")))
@@ -67,7 +69,8 @@ class Totals(unittest.TestCase):
         self.assertEqual([change(pair) for pair in ((1, 3), (5, 2), (5, None), (None, 4))], [2, -3, -5, 4])
 
     def test_rounded(self) -> None:
-        self.assertEqual([str(rounded(top, 8, 2)) for top in (1, -1, 0, 12, -12)], ["0.13", "-0.13", "0.00", "1.50", "-1.50"])
+        self.assertEqual([str(rounded(top, 8, 2)) for top in (1, -1, 0, 12, -12)],
+                         ["0.13", "-0.13", "0.00", "1.50", "-1.50"])
 
 
 LOADING = """kind,name,destination,counts
@@ -86,10 +89,12 @@ class NotThere(FolderTest):
         case = str(self.case(curves=LOADING.format(last=1000)))
         other = self.folder / "other.csv"
         other.write_text(LOADING.format(last=last))
-        return commands.run("compare", case, case, "--curves", f"{case}/curves.csv", "--other-curves", str(other), *words)
+        return commands.run("compare", case, case, "--curves", f"{case}/curves.csv", "--other-curves", str(other),
+                            *words)
 
     def test_hours_that_are_not_to_be_compared(self) -> None:
-        told = ("hours are not to be compared: 0.000 and 0.002 vehicles are not there by the end, which differ by over 0.1 % of the vehicles; "
+        told = ("hours are not to be compared: 0.000 and 0.002 vehicles are not there by the end, which differ by over"
+                " 0.1 % of the vehicles; "
                 "a longer horizon lets them arrive\n")
         status, out, err = self.compare(998)
         self.assertEqual((status, err), (0, ""))
@@ -122,7 +127,8 @@ class Command(FolderTest):
 
     def run_it(self, *words: str) -> str:
         with redirect_stdout(io.StringIO()) as written:
-            self.assertEqual(cli.run(["compare", str(EXAMPLES / "corridor"), str(self.folder / "wider"), "--program", str(BUILT), *words]), 0)
+            self.assertEqual(cli.run(["compare", str(EXAMPLES / "corridor"), str(self.folder / "wider"), "--program",
+                                      str(BUILT), *words]), 0)
         return written.getvalue()
 
     def test_text(self) -> None:
@@ -138,18 +144,24 @@ class Command(FolderTest):
         links = list(csv.DictReader(io.StringIO(self.run_it("--format", "csv"))))
         self.assertEqual([row["name"] for row in links], [link.name for link in Case.read(EXAMPLES / "corridor").links])
         self.assertEqual([Decimal(row["change"]) for row in links], [Decimal(row["change"]) for row in told["links"]])
-        self.assertEqual(sum(Decimal(row["one"]) for row in links), {row["name"]: row["one"] for row in told["totals"]}["queued_seconds"])
+        self.assertEqual(sum(Decimal(row["one"]) for row in links),
+                         {row["name"]: row["one"] for row in told["totals"]}["queued_seconds"])
 
     def test_delay_is_the_program_s(self) -> None:
-        """Of all, of each link and of each origin what `ltm delay` tells of that case, to the last digit, and their difference."""
+        """Of all, of each link and of each origin what `ltm delay` tells of that case, to the last digit, and their
+        difference."""
         for one, other, apart in (("corridor", self.folder / "wider", 0), ("closures", EXAMPLES / "closures", 0),
                                   ("incident", EXAMPLES / "merge", 1), ("spillback", EXAMPLES / "evening", 1)):
-            status, text, fault = commands.run("compare", str(EXAMPLES / one), str(other), "--program", str(BUILT), "--format", "json")
-            self.assertEqual((status, fault.count("hours are not to be compared"), fault.count("\n")), (0, apart, apart))
-            assert_told(self, json.loads(text, parse_float=Decimal), told_by_the_program(EXAMPLES / one), told_by_the_program(Path(other)))
+            status, text, fault = commands.run("compare", str(EXAMPLES / one), str(other), "--program", str(BUILT),
+                                               "--format", "json")
+            self.assertEqual((status, fault.count("hours are not to be compared"), fault.count("\n")),
+                             (0, apart, apart))
+            assert_told(self, json.loads(text, parse_float=Decimal), told_by_the_program(EXAMPLES / one),
+                        told_by_the_program(Path(other)))
 
 
-def assert_told(test: unittest.TestCase, tables: dict[str, list[dict[str, Decimal]]], one: dict[tuple[str, str], Decimal], other: dict[tuple[str, str], Decimal]) -> None:
+def assert_told(test: unittest.TestCase, tables: dict[str, list[dict[str, Decimal]]],
+                one: dict[tuple[str, str], Decimal], other: dict[tuple[str, str], Decimal]) -> None:
     """That the tables of a comparison have just these times of both, digit by digit, and their differences."""
     found: tuple[dict[tuple[str, str], str], dict[tuple[str, str], str]] = {}, {}
     for table, kind in (("totals", "totals"), ("links", "link"), ("origins", "node")):
@@ -168,7 +180,8 @@ def assert_told(test: unittest.TestCase, tables: dict[str, list[dict[str, Decima
 class Versions(FolderTest):
     """A session that is edited twice: each of its three versions beside the others."""
 
-    made = [[edits.limit("north_east", 60, 90, 0)], [edits.exit_limit("west_south", 30, 70, 100), edits.demand("west", "east", 0, 60, 300_000)]]
+    made = [[edits.limit("north_east", 60, 90, 0)], [edits.exit_limit("west_south", 30, 70, 100),
+                                                     edits.demand("west", "east", 0, 60, 300_000)]]
 
     def test_versions_of_a_session(self) -> None:
         with Session(EXAMPLES / "closures", program=BUILT) as session:
@@ -181,11 +194,14 @@ class Versions(FolderTest):
             for one, other in ((0, 1), (1, 2), (2, 0), (0, None)):
                 found = session.compare(one, other)
                 for place, name in enumerate(("spent", "queued", "waited")):
-                    self.assertEqual(found.times()[name], (times[one][place], times[2 if other is None else other][place]))
+                    self.assertEqual(found.times()[name],
+                                     (times[one][place], times[2 if other is None else other][place]))
                 for place, name in enumerate(("generated", "arrived", "on_links", "waiting")):
-                    self.assertEqual(found.amounts()[name], (totals[one][place], totals[2 if other is None else other][place]))
+                    self.assertEqual(found.amounts()[name],
+                                     (totals[one][place], totals[2 if other is None else other][place]))
                 not_there = [generated - arrived for generated, arrived, *_ in totals]
-                self.assertEqual(found.amounts()["not_there"], (not_there[one], not_there[2 if other is None else other]))
+                self.assertEqual(found.amounts()["not_there"],
+                                 (not_there[one], not_there[2 if other is None else other]))
             self.assertEqual(len(set(times)), 3)
             for version in (0, 1, 2):
                 session.save(self.folder / str(version), version)
@@ -196,25 +212,32 @@ class Versions(FolderTest):
     def test_versions_of_a_script(self) -> None:
         """A batch that is refused makes no version; a line that is no edit neither."""
         script = self.folder / "script.jsonl"
-        lines = [{"do": "edit", "edits": self.made[0]}, {"do": "totals"}, {"do": "edit", "edits": [edits.limit("nowhere", 0, 1, 0)]}, {"do": "edit", "edits": self.made[1]}]
+        lines = [{"do": "edit", "edits": self.made[0]}, {"do": "totals"},
+                 {"do": "edit", "edits": [edits.limit("nowhere", 0, 1, 0)]}, {"do": "edit", "edits": self.made[1]}]
         script.write_text("".join(json.dumps(line) + "\n" for line in lines))
         case = str(EXAMPLES / "closures")
         with Session(case, program=BUILT) as session:
             for version, batch in enumerate(self.made, 1):
                 session.edit(*batch)
                 session.save(self.folder / str(version))
-        for words, one, other in (([], EXAMPLES / "closures", self.folder / "2"), (["--versions", "2", "1"], self.folder / "2", self.folder / "1")):
-            status, text, fault = commands.run("compare", case, "--script", str(script), "--program", str(BUILT), "--format", "json", *words)
+        for words, one, other in (([], EXAMPLES / "closures", self.folder / "2"),
+                                  (["--versions", "2", "1"], self.folder / "2", self.folder / "1")):
+            status, text, fault = commands.run("compare", case, "--script", str(script), "--program", str(BUILT),
+                                               "--format", "json", *words)
             self.assertEqual((status, fault.count("hours are not to be compared"), fault.count("\n")), (0, 1, 1))
-            assert_told(self, json.loads(text, parse_float=Decimal), told_by_the_program(one), told_by_the_program(other))
+            assert_told(self, json.loads(text, parse_float=Decimal), told_by_the_program(one),
+                        told_by_the_program(other))
         told = commands.run("compare", case, "--script", str(script), "--program", str(BUILT))[1]
         self.assertEqual(told.split(";")[0], f"one is version 0 of {case}, other is version 2 of 2")
 
     def test_faults(self) -> None:
         case, script = str(EXAMPLES / "incident"), str(EXAMPLES / "incident" / "script.jsonl")
-        for words, part in (([], "name the folder of another case, or a --script"), ([case, "--versions", "0", "1"], "--versions tells of a --script"),
-                            ([case, "--script", script], "no other case"), (["--script", script, "--curves", "x"], "no curve file"),
-                            (["--script", script, "--versions", "0", "2"], "there is no version 2: 1 batches are accepted")):
+        for words, part in (([], "name the folder of another case, or a --script"),
+                            ([case, "--versions", "0", "1"], "--versions tells of a --script"),
+                            ([case, "--script", script], "no other case"),
+                            (["--script", script, "--curves", "x"], "no curve file"),
+                            (["--script", script, "--versions", "0", "2"],
+                             "there is no version 2: 1 batches are accepted")):
             status, out, fault = commands.run("compare", case, *words, "--program", str(BUILT))
             self.assertEqual((status, out, fault.count("\n")), (1, "", 1), words)
             self.assertIn(part, fault)

@@ -21,17 +21,21 @@ class Reading(FolderTest):
         return found
 
     def test_line_ends_and_quotes(self) -> None:
-        for text in (MORE, MORE.replace("\n", "\r\n"), MORE.replace("\n", "\r"), MORE.rstrip("\n"), MORE.replace("up,a,", 'up,"a",'),
-                     MORE.replace("up,a,n2,0 500 1000 1000 1000", 'up,a,n2,"0 500 1000 1000 1000"'), b"\xef\xbb\xbf" + MORE.encode(), MORE.replace("\n", "\n\n")):
+        for text in (MORE, MORE.replace("\n", "\r\n"), MORE.replace("\n", "\r"), MORE.rstrip("\n"),
+                     MORE.replace("up,a,", 'up,"a",'),
+                     MORE.replace("up,a,n2,0 500 1000 1000 1000", 'up,a,n2,"0 500 1000 1000 1000"'),
+                     b"\xef\xbb\xbf" + MORE.encode(), MORE.replace("\n", "\n\n")):
             with self.subTest(text):
                 self.assertEqual(self.both_ways(text), [0, 501, 1002, 1003, 1004])
 
     def test_counts_that_are_none(self) -> None:
-        for counts in ("0 500  1000 1000", "0 500 1000 1000 ", " 0 500 1000 1000", "0 500 1000 -1000 5", "0 500 1000 1e3 5", "0 500 1000 1000.0 5", "0 1 2 3 281474976710657",
+        for counts in ("0 500  1000 1000", "0 500 1000 1000 ", " 0 500 1000 1000", "0 500 1000 -1000 5",
+                       "0 500 1000 1e3 5", "0 500 1000 1000.0 5", "0 1 2 3 281474976710657",
                        "0 1 2 3 99999999999999999999", "0 1 2 3 +4", "0 1 2 3 4\t"):
             with self.subTest(counts), self.assertRaises(Fault):
                 self.both_ways(LOADING.replace("0 500 1000 1000 1000", counts, 1))
-        self.assertEqual(self.both_ways(LOADING.replace("0 500 1000 1000 1000", "0 1 2 3 281474976710656", 1))[4], 281_474_976_710_656)
+        self.assertEqual(self.both_ways(LOADING.replace("0 500 1000 1000 1000", "0 1 2 3 281474976710656", 1))[4],
+                         281_474_976_710_656)
 
     def test_a_record_twice(self) -> None:
         with self.assertRaisesRegex(Fault, "row 3: `up` of a for n2 stands there twice"):

@@ -40,7 +40,8 @@ class CurveFiles(FolderTest):
     def test_faults(self) -> None:
         for text, fault in (
             ("", "does not begin with kind,name"),
-            (LOADING.replace("500 1000 1000 1000\nd", "500 1000 1000\nd", 1), "row 2: it has 4 counts, and the case has 5 boundaries"),
+            (LOADING.replace("500 1000 1000 1000\nd", "500 1000 1000\nd", 1),
+             "row 2: it has 4 counts, and the case has 5 boundaries"),
             (LOADING.replace("up,a,n2,0 500", "up,a,n2,0 x"), "a count that is no number"),
             (LOADING.replace("up,a", "up,b"), "no `up` of a"),
             (LOADING.replace("up,a", "xx,a"), "row 2: it is no record"),

@@ -1,4 +1,5 @@
-"""Queues and delay: against numbers worked by hand, and against the exact answers of an engine that was written without this one."""
+"""Queues and delay: against numbers worked by hand, and against the exact answers of an engine that was written without
+this one."""
 import unittest
 from pathlib import Path
 from unittest import mock
@@ -49,17 +50,22 @@ class ByHand(unittest.TestCase):
         self.assertEqual(told.links["b"], delay.Delay(5_400_000, 0, 0, 0))
         self.assertEqual(told.origins, {"n1": delay.Wait(29_000_000, 3200, 10)})
         # 80.5 produced less 15.6 arrived, boundary by boundary
-        self.assertEqual((told.spent, told.queued, told.waited, told.delay), (64_900_000, 20_700_000, 29_000_000, 49_700_000))
+        self.assertEqual((told.spent, told.queued, told.waited, told.delay),
+                         (64_900_000, 20_700_000, 29_000_000, 49_700_000))
         self.assertEqual(list(delay.waiting(curves, case, "n1"))[:9], [0, 200, 400, 600, 800, 1000, 1200, 1700, 2200])
         self.assertEqual(list(delay.waiting(curves, case, "n2")), [0] * 17)
         # a(4): 2 slots before, 1000 had entered, and 400 have left
         self.assertEqual(list(delay.queue(curves, case.link("a")))[:5], [0, 0, 0, 300, 600])
 
     def test_one_road(self) -> None:
-        """Of 20 m nobody queues; of 25 m, 2500 ms, with its exit shut in slot 2, 250 are ready at boundary 3 and none has gone."""
-        for metres, down, told in ((20, "0 0 0 500 1000", delay.Delay(2_000_000, 0, 0, 0)), (25, "0 0 0 0 500", delay.Delay(3_000_000, 500_000, 250, 3))):
-            case = Case(Setup(1000, 4, 1000), [Link("a", "n1", "n2", metres, 36, 18, 150)], [Demand("n1", "n2", 0, 2, 1000)])
-            lines = ["kind,name,destination,counts", "up,a,n2,0 500 1000 1000 1000", f"down,a,n2,{down}", "dep,n1,n2,0 500 1000 1000 1000", "dep,n2,n2,0 0 0 0 0", f"arr,n2,n2,{down}"]
+        """Of 20 m nobody queues; of 25 m, 2500 ms, with its exit shut in slot 2, 250 are ready at boundary 3 and none
+        has gone."""
+        for metres, down, told in ((20, "0 0 0 500 1000", delay.Delay(2_000_000, 0, 0, 0)),
+                                   (25, "0 0 0 0 500", delay.Delay(3_000_000, 500_000, 250, 3))):
+            case = Case(Setup(1000, 4, 1000), [Link("a", "n1", "n2", metres, 36, 18, 150)],
+                        [Demand("n1", "n2", 0, 2, 1000)])
+            lines = ["kind,name,destination,counts", "up,a,n2,0 500 1000 1000 1000", f"down,a,n2,{down}",
+                     "dep,n1,n2,0 500 1000 1000 1000", "dep,n2,n2,0 0 0 0 0", f"arr,n2,n2,{down}"]
             found = delay.report(Curves.of_lines([f"{line}\n".encode() for line in lines], "made", 1000, 5), case)
             self.assertEqual((found.links, found.origins), ({"a": told}, {"n1": delay.Wait(0, 0, 0)}))
 
@@ -104,7 +110,8 @@ class Exact(unittest.TestCase):
         self.assertGreaterEqual(asked, 10)
 
     def moment(self, case: Case, curves: Curves, words: list[str]) -> int:
-        """`version 0 link NAME slot N in G out A queue Q`, or `version 0 node NAME slot N produced P left L waiting W`."""
+        """`version 0 link NAME slot N in G out A queue Q`, or `version 0 node NAME slot N produced P left L waiting
+        W`."""
         if words[2] == "link" and words[-2] == "queue":
             counts = delay.queue(curves, case.link(words[3]))
         elif words[2] == "node":
@@ -115,7 +122,8 @@ class Exact(unittest.TestCase):
         return 1
 
     def test_reports_that_are_read(self) -> None:
-        """The lines of 23 reports become numbers, and these the same lines; where the curves are here, they are the numbers worked out from them."""
+        """The lines of 23 reports become numbers, and these the same lines; where the curves are here, they are the
+        numbers worked out from them."""
         reports = [part + "\n" for part in (DATA / "reports.txt").read_text().rstrip("\n").split("\n\n")]
         self.assertEqual(len(reports), 23)
         for text in reports:
@@ -127,22 +135,28 @@ class Exact(unittest.TestCase):
     def test_what_is_no_report(self) -> None:
         text = (DATA / "spillback" / "delay.out").read_text()
         told = delay.read_report(text)
-        self.assertEqual((told.links["a"], told.origins["n1"]), (delay.Delay(30_500_000, 20_700_000, 1800, 8), delay.Wait(29_000_000, 3200, 10)))
-        for old, new, part in (("version 0", "version 1", "first line"), ("64.900000", "64.900001", "first line"), ("queued 20.700000 waited", "queued 20.700001 waited", "first line"),
-                               ("spent 5.400000", "spent 5.40000", "line 3"), ("most 3.200", "most 3.20", "line 4"), ("at 8", "at -8", "line 2"), ("node n1", "node n 1", "line 4"),
-                               ("link b", "Link b", "line 3"), ("most 3.200 at 10\n", "most 3.200 at 10\n\n", "line 5"), (text, "", "first line")):
+        self.assertEqual((told.links["a"], told.origins["n1"]),
+                         (delay.Delay(30_500_000, 20_700_000, 1800, 8), delay.Wait(29_000_000, 3200, 10)))
+        for old, new, part in (("version 0", "version 1", "first line"), ("64.900000", "64.900001", "first line"),
+                               ("queued 20.700000 waited", "queued 20.700001 waited", "first line"),
+                               ("spent 5.400000", "spent 5.40000", "line 3"), ("most 3.200", "most 3.20", "line 4"),
+                               ("at 8", "at -8", "line 2"), ("node n1", "node n 1", "line 4"),
+                               ("link b", "Link b", "line 3"), ("most 3.200 at 10\n", "most 3.200 at 10\n\n", "line 5"),
+                               (text, "", "first line")):
             with self.subTest(new), self.assertRaisesRegex(Fault, part):
                 delay.read_report(text.replace(old, new, 1))
 
     @needs_program
     def test_large(self) -> None:
         for name in LARGE:
-            told = "".join(line + "\n" for line in delay.report(loaded(str(DATA / name), None, str(BUILT)).curves, Case.read(DATA / name)).lines())
+            told = "".join(line + "\n" for line in delay.report(loaded(str(DATA / name), None, str(BUILT)).curves,
+                                                                Case.read(DATA / name)).lines())
             self.assertEqual(told, (DATA / name / "delay.out").read_text())
 
 
 class Told(FolderTest):
-    """A program, made for the test, that has a command `delay` or not, and whose report has 0.1 vehicle seconds more in the queue of `a`."""
+    """A program, made for the test, that has a command `delay` or not, and whose report has 0.1 vehicle seconds more in
+    the queue of `a`."""
 
     def made(self, usage: str) -> str:
         text = (DATA / "spillback" / "delay.out").read_text().replace("20.700000", "20.800000")
@@ -162,20 +176,27 @@ else:
     def test_by_the_program(self) -> None:
         case, named = str(DATA / "spillback"), self.made("usage: ltm load | ltm delay | ltm session N")
         self.assertIn("20.80 in queues of links", commands.run("queues", case, "--program", named)[1])
-        self.assertRegex(commands.run("compare", case, case, "--program", named, "--format", "csv", "--table", "totals")[1], "queued_seconds,20.800000,20.800000,0.000000\n")
-        self.assertEqual((self.folder / "asked.txt").read_text().split("\n"), ["curves", "", "delay", "curves", "curves", "delay", "delay", ""])
+        self.assertRegex(commands.run("compare", case, case, "--program", named, "--format", "csv", "--table",
+                                      "totals")[1], "queued_seconds,20.800000,20.800000,0.000000\n")
+        self.assertEqual((self.folder / "asked.txt").read_text().split("\n"),
+                         ["curves", "", "delay", "curves", "curves", "delay", "delay", ""])
 
     def test_without_the_command(self) -> None:
         case, named = str(DATA / "spillback"), self.made("usage: ltm load | ltm delays | ltm session N")
         self.assertIn("20.70 in queues of links", commands.run("queues", case, "--program", named)[1])
-        self.assertIn("queued_seconds,20.700000,20.700000,0.000000\n", commands.run("compare", case, case, "--program", named, "--format", "csv", "--table", "totals")[1])
+        self.assertIn("queued_seconds,20.700000,20.700000,0.000000\n",
+                      commands.run("compare", case, case, "--program", named, "--format", "csv", "--table",
+                                   "totals")[1])
         self.assertNotIn("delay", (self.folder / "asked.txt").read_text())
 
     def test_by_curves(self) -> None:
-        """What a file tells is not asked of the program; a table for programs has no sum of delays and asks for none."""
+        """What a file tells is not asked of the program; a table for programs has no sum of delays and asks for
+        none."""
         case, named = str(DATA / "spillback"), self.made("usage: ltm delay")
-        self.assertIn("20.70 in queues of links", commands.run("queues", case, "--program", named, "--curves", f"{case}/curves.csv")[1])
-        self.assertIn("link,a,6000,16000,1,1.800,", commands.run("queues", case, "--program", named, "--format", "csv")[1])
+        self.assertIn("20.70 in queues of links", commands.run("queues", case, "--program", named, "--curves",
+                                                               f"{case}/curves.csv")[1])
+        self.assertIn("link,a,6000,16000,1,1.800,", commands.run("queues", case, "--program", named, "--format",
+                                                                 "csv")[1])
         self.assertEqual((self.folder / "asked.txt").read_text(), "curves\n")
 
     def test_no_program(self) -> None:
@@ -194,7 +215,8 @@ class Program(FolderTest):
                 told = delay.report(curves, case)
                 for link in case.links:
                     up, down = curves.up(link.name), curves.down(link.name)
-                    self.assertTrue(all(0 <= q <= on <= link.storage_units for q, on in zip(delay.queue(curves, link), less(up, down))))
+                    self.assertTrue(all(0 <= q <= on <= link.storage_units
+                                        for q, on in zip(delay.queue(curves, link), less(up, down))))
                 generated = delay.produced(case.standing_demand(), curves.boundaries)
                 arrived = total([curves.arrived(end) for end in case.destinations])
                 self.assertEqual(told.spent, delay.whole(less(generated, arrived)) * curves.step_ms)

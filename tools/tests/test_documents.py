@@ -1,5 +1,5 @@
-"""The documents, and the examples that a command's help shows: each command line of the tools has words that its command takes, and a
-folder or file below /tmp is made by one command alone."""
+"""The documents, and the examples that a command's help shows: each command line of the tools has words that its
+command takes, and a folder or file below /tmp is made by one command alone."""
 import contextlib
 import functools
 import io
@@ -15,12 +15,13 @@ DOCUMENTS = sorted([CLONE / "README.md", *(CLONE / "docs").glob("*.md"), *(CLONE
 TOOL = re.compile(r"(?:\$ )?(?:tools/)?ltm-tools (?=[a-z-])")
 OPERATORS = (">", ">>", "<", "|", "&&", ";", "2>", "2>&1")
 NAME = r"(/tmp/[\w.]+)(?![\w./])"
-MADE = tuple(before + NAME for before in (r"cp -r \S+ ", r"ltm-tools (?:apply|from-gmns) \S+(?: \S+)? ", ">", r'write\("', r"make\.py \w+ ", "-o "))
+MADE = tuple(before + NAME for before in (r"cp -r \S+ ", r"ltm-tools (?:apply|from-gmns) \S+(?: \S+)? ", ">",
+                                          r'write\("', r"make\.py \w+ ", "-o "))
 
 
 def command_lines(text: str) -> Iterator[list[str]]:
-    """The words behind `ltm-tools` of each line of a text that is set in and begins with it, up to what is the shell's; a blank-set
-    remark behind them is cut."""
+    """The words behind `ltm-tools` of each line of a text that is set in and begins with it, up to what is the shell's;
+    a blank-set remark behind them is cut."""
     for line in re.sub(r"\\\n\s*", "", text).splitlines():
         found = TOOL.match(line.strip()) if line.startswith("  ") else None
         if found:
@@ -65,7 +66,8 @@ class Words(unittest.TestCase):
             self.assertEqual(fault_of(words), "", (name, words))
 
     def test_a_line_that_is_wrong_is_found(self) -> None:
-        self.assertEqual(list(command_lines("  ltm-tools times a b --links  --x\n text\n    $ tools/ltm-tools queues a >b   note\nltm-tools no\n")),
+        self.assertEqual(list(command_lines("  ltm-tools times a b --links  --x\n text\n"
+                                            "    $ tools/ltm-tools queues a >b   note\nltm-tools no\n")),
                          [["times", "a", "b", "--links", "--x"], ["queues", "a"]])
         self.assertIn("unrecognized arguments: --links", fault_of(["times", "a", "b", "--links"]))
 
@@ -81,7 +83,8 @@ class Folders(unittest.TestCase):
         self.assertEqual({name: lines for name, lines in makers.items() if len(lines) > 1}, {})
 
     def test_what_makes_one(self) -> None:
-        text = "    $ cp -r examples/a /tmp/one\n    tools/ltm-tools apply a b /tmp/two\n    ./ltm a curves >/tmp/three.csv\nfrom-gmns /tmp/no\n"
+        text = ("    $ cp -r examples/a /tmp/one\n    tools/ltm-tools apply a b /tmp/two\n"
+                "    ./ltm a curves >/tmp/three.csv\nfrom-gmns /tmp/no\n")
         self.assertEqual([name for name, _ in made_by(text)], ["/tmp/one", "/tmp/two", "/tmp/three.csv"])
 
 

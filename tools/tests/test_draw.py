@@ -40,7 +40,8 @@ class Numbers(unittest.TestCase):
     def test_right_of_the_line(self) -> None:
         self.assertEqual(beside(((0, 0), (10, 0)), 1), [(0, -1), (10, -1)])
         self.assertEqual(beside(((0, 0), (0, 10)), 1), [(1, 0), (1, 10)])
-        # to the east and then to the north: the corner lies where both sides, moved by 1, meet; a way straight back meets nowhere
+        # to the east and then to the north: the corner lies where both sides, moved by 1, meet; a way straight back
+        # meets nowhere
         self.assertEqual(beside(((0, 0), (10, 0), (10, 10)), 1), [(0, -1), (11, -1), (11, 10)])
         self.assertEqual(beside(((0, 0), (10, 0), (0, 0)), 1), [(0, -1), (10, 0), (0, 1)])
         # from 10 degrees off straight back the corner would lie 11.5 out, and lies 2.5
@@ -65,7 +66,8 @@ class Texts(FolderTest):
 
         with matplotlib.rc_context({"svg.fonttype": "none"}):
             figure.savefig(self.folder / "picture.svg")
-        return [html.unescape(text) for text in re.findall(r"<text[^>]*>([^<]*)</text>", (self.folder / "picture.svg").read_text(encoding="utf-8"))]
+        return [html.unescape(text) for text in re.findall(r"<text[^>]*>([^<]*)</text>",
+                                                           (self.folder / "picture.svg").read_text(encoding="utf-8"))]
 
     def plotter(self) -> Any:
         import matplotlib
@@ -78,11 +80,15 @@ class Texts(FolderTest):
     def test_a_legend_has_every_destination(self) -> None:
         names = ["_", "_end", "a$b$", "$", "-x", "plain"]
         plot = self.plotter()
-        figure = draw_arrivals(plot, Curves(1000, 3, {("arr", name): {name: b"0 1000 %d" % (9000 - place)} for place, name in enumerate(names)}))
+        figure = draw_arrivals(plot,
+                               Curves(1000, 3, {("arr", name): {name: b"0 1000 %d" % (9000 - place)}
+                                                for place, name in enumerate(names)}))
         self.assertEqual(self.texts(figure)[-len(names) - 1:], ["destination", *names])
         lines = figure.axes[0].get_legend().get_lines()
-        self.assertEqual([line.get_color() for line in lines], [line.get_color() for line in figure.axes[0].get_lines()])
-        figure = draw_arrivals(plot, Curves(1000, 3, {("arr", f"_{n}"): {f"_{n}": b"0 0 %d" % n} for n in range(10, 20)}))
+        self.assertEqual([line.get_color() for line in lines],
+                         [line.get_color() for line in figure.axes[0].get_lines()])
+        figure = draw_arrivals(plot,
+                               Curves(1000, 3, {("arr", f"_{n}"): {f"_{n}": b"0 0 %d" % n} for n in range(10, 20)}))
         self.assertEqual(self.texts(figure)[-8:], [*(f"_{n}" for n in range(19, 12, -1)), "3 others together"])
 
     def test_names_above_pictures(self) -> None:
@@ -93,7 +99,8 @@ class Texts(FolderTest):
             other = titles[number - 1]
             told = [text.replace("fl\udcfc\udcdf", r"fl\xfc\xdf") for text in (title, other)]
             drawn = self.texts(draw_map(self.plotter(), [one, one], [folder, folder], [title, other], 8, 0))
-            self.assertEqual([text for text in drawn if text.endswith("at 0:00:08")], [f"{text} at 0:00:08" for text in told])
+            self.assertEqual([text for text in drawn if text.endswith("at 0:00:08")],
+                             [f"{text} at 0:00:08" for text in told])
             drawn = self.texts(draw_shares(self.plotter(), [one, one], [title, other], ["a", "b"], 0))
             self.assertEqual([text for text in told if text not in drawn], [])
 
@@ -101,24 +108,29 @@ class Texts(FolderTest):
 @unittest.skipUnless(has_matplotlib(), "matplotlib is not there: python3-matplotlib")
 class Command(FolderTest):
     def draw(self, *words: str, status: int = 0) -> str:
-        done = subprocess.run([sys.executable, str(TOOLS / "ltm-tools"), "draw", *words], capture_output=True, text=True)
+        done = subprocess.run([sys.executable, str(TOOLS / "ltm-tools"), "draw", *words], capture_output=True,
+                              text=True)
         self.assertEqual(done.returncode, status, done.stderr)
         return done.stderr
 
     def test_pictures(self) -> None:
         case = str(DATA / "spillback")
-        for name, words in (("full.png", ["full", case, "a", "b", "--other", case, "--other-curves", CURVES]), ("map.png", ["map", case, "--at", "0:00:08"]), ("curves.png", ["curves", case, "a", "b"])):
+        for name, words in (("full.png", ["full", case, "a", "b", "--other", case, "--other-curves", CURVES]),
+                            ("map.png", ["map", case, "--at", "0:00:08"]), ("curves.png", ["curves", case, "a", "b"])):
             self.draw(*words, "--curves", CURVES, "-o", str(self.folder / name))
             self.assertEqual((self.folder / name).read_bytes()[:8], b"\x89PNG\r\n\x1a\n")
             self.assertGreater((self.folder / name).stat().st_size, 8000)
 
     def test_a_case_without_links(self) -> None:
         """One line says so; with or without a second that has some."""
-        links, rows = "link,from,to,length_m,free_kmh,wave_kmh,jam_per_km\n", {name: text.split("\n")[0] + "\n" for name, text in ROAD.items() if name in ("demand", "splits")}
+        links, rows = ("link,from,to,length_m,free_kmh,wave_kmh,jam_per_km\n",
+                       {name: text.split("\n")[0] + "\n" for name, text in ROAD.items()
+                        if name in ("demand", "splits")})
         case = str(self.case(links=links, **rows))
         curves = self.folder / "curves.csv"
         curves.write_text("kind,name,destination,counts\n")
-        for words in ([case, "--curves", str(curves)], [case, "--curves", str(curves), "--other", str(DATA / "spillback"), "--other-curves", CURVES]):
+        for words in ([case, "--curves", str(curves)],
+                      [case, "--curves", str(curves), "--other", str(DATA / "spillback"), "--other-curves", CURVES]):
             told = self.draw("map", *words, "--at", "0:00", "-o", str(self.folder / "map.png"), status=1)
             self.assertEqual(told, "ltm-tools draw: there is nothing to draw: the case has no link\n")
 
@@ -127,7 +139,8 @@ class Command(FolderTest):
         told = self.draw("map", case, "--at", "0:01", "--curves", CURVES, "-o", "x.png", status=1)
         self.assertEqual(told, "ltm-tools draw: 0:01 is not within the horizon, from 0:00 to 0:00:16\n")
         for at, status in (("7:00", 0), ("7:00:16", 0), ("7:00:17", 1), ("6:59:59", 1)):
-            self.draw("map", case, "--at", at, "--start", "7:00", "--curves", CURVES, "-o", str(self.folder / "at.png"), status=status)
+            self.draw("map", case, "--at", at, "--start", "7:00", "--curves", CURVES, "-o", str(self.folder / "at.png"),
+                      status=status)
         told = self.draw("curves", case, "a", "--curves", CURVES, "-o", str(self.folder / "x.xyz"), status=1)
         self.assertEqual(told.count("\n"), 1)
 

@@ -1,4 +1,5 @@
-"""A raw network is fitted to a step, and all that changes adds up. Speeds are 36 km/h, so that ten metres take a second."""
+"""A raw network is fitted to a step, and all that changes adds up. Speeds are 36 km/h, so that ten metres take a
+second."""
 import unittest
 from fractions import Fraction
 
@@ -12,7 +13,8 @@ from ltm_tools.network.passages import Roads
 
 
 def road(name: str, tail: str, head: str, metres: int, capacity: int = 1800, jam: int = 150) -> Road:
-    return road_of(name, tail, head, metres=Fraction(metres), kmh=Fraction(36), jam=Fraction(jam), capacity=Fraction(capacity))
+    return road_of(name, tail, head, metres=Fraction(metres), kmh=Fraction(36), jam=Fraction(jam),
+                   capacity=Fraction(capacity))
 
 
 def network(*roads: Road, ends: str = "") -> Network:
@@ -34,7 +36,8 @@ def time_over(fit: Fit, *names: str) -> Fraction:
 class Merged(unittest.TestCase):
     def test_a_short_link_adds_up_with_its_neighbour(self) -> None:
         # b takes 2 s of a step of 5 s; it is like c, which has as many lanes, and not like a
-        fit = Fit(network(road("a", "n1", "n2", 100, 3600, 300), road("b", "n2", "n3", 20), road("c", "n3", "n4", 60), ends="n1 n4"), 5000)
+        fit = Fit(network(road("a", "n1", "n2", 100, 3600, 300), road("b", "n2", "n3", 20), road("c", "n3", "n4", 60),
+                          ends="n1 n4"), 5000)
         made = fit.run()
         self.assertEqual(sorted(made.roads), ["a", "c"])
         both = made.roads["c"]
@@ -49,7 +52,8 @@ class Merged(unittest.TestCase):
         self.assertEqual((both.length, both.time, both.storage, both.capacity), (120, 12_000, 30 + 3, 1800))
 
     def test_both_directions_are_merged_at_once(self) -> None:
-        fit = Fit(network(road("a", "n1", "n2", 100), road("b", "n2", "n3", 20), road("ra", "n2", "n1", 100), road("rb", "n3", "n2", 20),
+        fit = Fit(network(road("a", "n1", "n2", 100), road("b", "n2", "n3", 20), road("ra", "n2", "n1", 100),
+                          road("rb", "n3", "n2", 20),
                           ends="n1 n3"), 5000)
         made = fit.run()
         self.assertEqual({name: (one.tail, one.head, one.parts) for name, one in made.roads.items()},
@@ -68,11 +72,13 @@ class Merged(unittest.TestCase):
 
 class Contracted(unittest.TestCase):
     def test_length_time_and_storage_go_to_the_links_before_it(self) -> None:
-        fit = Fit(network(road("a1", "m1", "u", 100), road("a2", "m2", "u", 100), road("b", "u", "v", 20), road("c1", "v", "w1", 100),
+        fit = Fit(network(road("a1", "m1", "u", 100), road("a2", "m2", "u", 100), road("b", "u", "v", 20),
+                          road("c1", "v", "w1", 100),
                           road("c2", "v", "w2", 100), ends="m1 m2 w1 w2"), 5000)
         made = fit.run()
         self.assertEqual(sorted(made.roads), ["a1", "a2", "c1", "c2"])
-        self.assertEqual([(made.roads[name].length, made.roads[name].time, made.roads[name].storage) for name in ("a1", "a2", "c1")],
+        self.assertEqual([(made.roads[name].length, made.roads[name].time, made.roads[name].storage)
+                          for name in ("a1", "a2", "c1")],
                          [(120, 12_000, Fraction(33, 2)), (120, 12_000, Fraction(33, 2)), (100, 10_000, 15)])
         self.assertEqual(time_over(fit, "a1", "b", "c2"), 22_000)
         self.assertEqual(fit.link_of()["b"], None)
@@ -80,16 +86,19 @@ class Contracted(unittest.TestCase):
 
     def test_no_way_is_opened_that_was_not_there(self) -> None:
         # u has another way out and v another way in: as one node, x would lead to y
-        raw = network(road("a", "m", "u", 100), road("b", "u", "v", 20), road("y", "u", "w", 70), road("x", "k", "v", 70),
+        raw = network(road("a", "m", "u", 100), road("b", "u", "v", 20), road("y", "u", "w", 70),
+                      road("x", "k", "v", 70),
                       road("c", "v", "z", 70), ends="m k w z")
         fit = Fit(raw, 5000)
         made = fit.run()
         self.assertNotIn("k", least_times(made, "w"))
 
     def test_a_short_street_of_two_ways_is_one_node(self) -> None:
-        raw = network(road("b", "u", "v", 10), road("rb", "v", "u", 10), *(road(f"{side}{number}", *ends, 100) for side, node in (("l", "u"), ("r", "v"))
-                      for number, other in enumerate(("p", "q")) for ends in [(f"{side}{other}", node)]),
-                      *(road(f"o{side}", node, f"o{side}", 100) for side, node in (("l", "u"), ("r", "v"))), ends="lp lq rp rq ol or")
+        raw = network(road("b", "u", "v", 10), road("rb", "v", "u", 10),
+                      *(road(f"{side}{number}", *ends, 100) for side, node in (("l", "u"), ("r", "v"))
+                                    for number, other in enumerate(("p", "q")) for ends in [(f"{side}{other}", node)]),
+                      *(road(f"o{side}", node, f"o{side}", 100) for side, node in (("l", "u"), ("r", "v"))),
+                      ends="lp lq rp rq ol or")
         fit = Fit(raw, 5000)
         made = fit.run()
         self.assertNotIn("b", made.roads)
@@ -99,13 +108,15 @@ class Contracted(unittest.TestCase):
 
 class Shifted(unittest.TestCase):
     def test_one_end_is_moved_and_each_route_keeps_its_time(self) -> None:
-        raw = network(road("a", "m", "u", 100), road("b", "u", "v", 20), road("y", "u", "w", 100), road("x", "k", "v", 100),
+        raw = network(road("a", "m", "u", 100), road("b", "u", "v", 20), road("y", "u", "w", 100),
+                      road("x", "k", "v", 100),
                       road("c1", "v", "z1", 100), road("c2", "v", "z2", 100), ends="m k w z1 z2")
         fit = Fit(raw, 5000)
         made = fit.run()
         self.assertEqual([change.kind for change in fit.changes], ["shifted"])
         self.assertEqual([made.roads[name].time for name in ("b", "x", "c1", "c2")], [5000, 13_000, 7000, 7000])
-        self.assertEqual([time_over(fit, *names) for names in (("a", "b", "c1"), ("x", "c2"), ("a", "y"))], [22_000, 20_000, 20_000])
+        self.assertEqual([time_over(fit, *names) for names in (("a", "b", "c1"), ("x", "c2"), ("a", "y"))],
+                         [22_000, 20_000, 20_000])
 
 
 class Lengthened(unittest.TestCase):
@@ -126,7 +137,8 @@ class Lengthened(unittest.TestCase):
 class Split(unittest.TestCase):
     def arms(self, count: int, metres: int) -> Network:
         return network(*(road(f"i{number}", f"a{number}", "n", metres) for number in range(count)),
-                       *(road(f"o{number}", "n", f"a{number}", metres) for number in range(count)), ends=" ".join(f"a{number}" for number in range(count)))
+                       *(road(f"o{number}", "n", f"a{number}", metres) for number in range(count)),
+                       ends=" ".join(f"a{number}" for number in range(count)))
 
     def test_a_node_of_six_arms_keeps_every_way_and_its_time(self) -> None:
         fit = Fit(self.arms(6, 200), 5000)
@@ -145,7 +157,8 @@ class Split(unittest.TestCase):
         self.assertIn("become longer", fit.changes[0].note)
 
     def test_five_arms_in_and_three_out(self) -> None:
-        raw = network(*(road(f"i{number}", f"a{number}", "n", 300) for number in range(5)), *(road(f"o{number}", "n", f"b{number}", 300) for number in range(3)),
+        raw = network(*(road(f"i{number}", f"a{number}", "n", 300) for number in range(5)),
+                      *(road(f"o{number}", "n", f"b{number}", 300) for number in range(3)),
                       ends="a0 a1 a2 a3 a4 b0 b1 b2")
         made = Fit(raw, 5000).run()
         self.assertEqual((len(made.ins["n"]), len(made.outs["n"]), len(made.roads)), (4, 3, 9))
@@ -180,7 +193,8 @@ class Told(unittest.TestCase):
 class Diagram(unittest.TestCase):
     def test_whole_numbers_by_hand(self) -> None:
         # 50 km/h and 150 vehicles/km with 900 an hour: 900 * 50 / (7500 - 900) = 6.8, and 7 km/h gives a top of 921
-        link = diagram(road_of("a", "u", "v", metres=Fraction(8004, 10), kmh=Fraction(50), jam=Fraction(150), capacity=Fraction(900)))
+        link = diagram(road_of("a", "u", "v", metres=Fraction(8004, 10), kmh=Fraction(50), jam=Fraction(150),
+                               capacity=Fraction(900)))
         self.assertEqual((link.length_m, link.free_kmh, link.wave_kmh, link.jam_per_km), (800, 50, 7, 150))
 
 

@@ -21,7 +21,8 @@ def faults(raw: Network, fit: Fit) -> list[str]:
     found += ["too short"] * bool(fit.too_short())
     found += [f"arms of {node}" for node in made.nodes if max(len(made.ins[node]), len(made.outs[node])) > ARMS]
     found += [f"end {node}" for node in raw.ends if fit.node_of(node) != node or node not in made.nodes]
-    found += [f"ways to {node}" for node in raw.ends if set(least_times(raw, node)) & raw.ends != set(least_times(made, node)) & raw.ends]
+    found += [f"ways to {node}" for node in raw.ends if set(least_times(raw, node))
+              & raw.ends != set(least_times(made, node)) & raw.ends]
     found += ["parts"] * (len(parts) != len(set(parts)) or set(raw.roads) - set(parts) != fit.lost)
     found += ["arms of another network"] * (arms(made) != (made.outs, made.ins))
     before, after = totals(raw.roads.values()), totals(made.roads.values())
@@ -52,11 +53,13 @@ class Fitted(unittest.TestCase):
             self.assertEqual(faults(raw, fit), [], f"seed {seed}, step {step}")
 
     def test_a_capacity_that_a_longer_road_could_not_have(self) -> None:
-        """Where one road is contracted onto several their density falls, and with it what they can carry: it is not done then."""
+        """Where one road is contracted onto several their density falls, and with it what they can carry: it is not
+        done then."""
         raw = made_network(272)
         fit = Fit(raw, 5000)
         made = fit.run()
-        self.assertEqual({name: road.capacity for name, road in made.roads.items() if road.capacity != raw.roads[name].capacity}, {})
+        self.assertEqual({name: road.capacity for name, road in made.roads.items()
+                          if road.capacity != raw.roads[name].capacity}, {})
 
 
 class Imported(FolderTest):
@@ -83,11 +86,14 @@ class Imported(FolderTest):
         for seed in range(40):
             raw, chance = made_network(seed), random.Random(seed)
             link = "link_id,from_node_id,to_node_id,length,free_speed,lanes,capacity\n" + "".join(
-                f"{road.name},{road.tail[1:]},{road.head[1:]},{whole(road.length)},{whole(road.kmh)},1,{whole(road.capacity)}\n"
+                f"{road.name},{road.tail[1:]},{road.head[1:]},{whole(road.length)},{whole(road.kmh)},1,"
+                f"{whole(road.capacity)}\n"
                 for road in raw.roads.values())
             ends = sorted(raw.ends)
-            demand = "".join(f"{one[1:]},{other[1:]},{chance.randint(1, 900)}\n" for one in ends for other in ends if one != other)
-            words = ("--fit", str(chance.choice(STEPS)), "--jam", "300", "--horizon", "80", *(["--no-balance"] if chance.random() < 0.3 else []))
+            demand = "".join(f"{one[1:]},{other[1:]},{chance.randint(1, 900)}\n" for one in ends for other in ends
+                             if one != other)
+            words = ("--fit", str(chance.choice(STEPS)), "--jam", "300", "--horizon", "80",
+                     *(["--no-balance"] if chance.random() < 0.3 else []))
             status, _, err = self.imported(link, *words, "--leave-out-unreached", demand=demand)
             self.assertEqual((status, err), (0, ""), f"seed {seed}")
 

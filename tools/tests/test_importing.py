@@ -28,8 +28,11 @@ class Gmns(FolderTest):
 
     def test_the_case_is_given_and_nothing_is_written(self) -> None:
         made = import_gmns(self.net(PLAIN), GmnsOptions(horizon=60))
-        # 1000 m at 60 km/h take a minute; a lane of 150 vehicles/km at 60 km/h with a wave of 8 km/h lets 1000 through: 150 * 480 / 68 = 1058.8, and 7: 940.3
-        self.assertEqual(made.case, Case(Setup(60_000, 60, 32_000), [Link("a", "1", "2", 1000, 60, 8, 150), Link("b", "2", "3", 1000, 60, 8, 150)]))
+        # 1000 m at 60 km/h take a minute; a lane of 150 vehicles/km at 60 km/h with a wave of 8 km/h lets 1000 through:
+        # 150 * 480 / 68 = 1058.8, and 7: 940.3
+        self.assertEqual(made.case, Case(Setup(60_000, 60, 32_000),
+                                         [Link("a", "1", "2", 1000, 60, 8, 150),
+                                          Link("b", "2", "3", 1000, 60, 8, 150)]))
         self.assertIsNone(made.changes)
         self.assertEqual((made.source.nodes, made.source.links["b"].link), ({"1": "1", "2": "2", "3": "3"}, "b"))
         self.assertEqual(made.told[0], "2 links, 3 nodes, 0 destinations")
@@ -50,7 +53,8 @@ class Gmns(FolderTest):
         made = import_gmns(self.net(PLAIN))
         case = self.case()
         (case / "changes.csv").write_text("")
-        self.assertEqual(made.write(case), [f"an older splits.csv stands in {case}: ltm routes, or ltm-tools splits, makes it anew"])
+        self.assertEqual(made.write(case), [f"an older splits.csv stands in {case}: ltm routes, or ltm-tools splits,"
+                                            f" makes it anew"])
         self.assertFalse((case / "changes.csv").exists())
 
     def test_what_cannot_be_carried(self) -> None:
@@ -62,10 +66,13 @@ class Gmns(FolderTest):
         self.assertEqual((caught.exception.lines[0], len(caught.exception.lines)), (first, 2))
         self.assertEqual(str(caught.exception), f"cannot be carried: {first}, and 1 more such faults")
         self.assertIsInstance(caught.exception, Fault)
-        self.assertEqual(caught.exception.told()[2:4][0], "the longest step that changes no link is 59400 ms; --fit STEP fits the network to a step:")
+        self.assertEqual(caught.exception.told()[2:4][0],
+                         "the longest step that changes no link is 59400 ms; --fit STEP fits the network to a step:")
 
     def test_options_out_of_range(self) -> None:
-        for options, told in (({"horizon": 0}, "horizon is at least 1"), ({"origin_capacity": 33}, "origin_capacity is 1 to 32"), ({"fit": 0}, "fit is 1 to 60000")):
+        for options, told in (({"horizon": 0}, "horizon is at least 1"),
+                              ({"origin_capacity": 33}, "origin_capacity is 1 to 32"),
+                              ({"fit": 0}, "fit is 1 to 60000")):
             with self.subTest(told), self.assertRaises(BadOption) as caught:
                 GmnsOptions(**options)
             self.assertEqual(str(caught.exception), told)
@@ -74,14 +81,17 @@ class Gmns(FolderTest):
 
     def test_steps(self) -> None:
         lines = steps_of_gmns(self.net(PLAIN))
-        # two links of a minute fit each step of the table to a minute, and the horizon of two hours in steps of half a second has too many slots
-        self.assertEqual(lines[1].split(), ["500", "2", "0", "0", "0", "0", "0", "+0.00", "%", "+0.00", "%", "14,400", "slots"])
+        # two links of a minute fit each step of the table to a minute, and the horizon of two hours in steps of half a
+        # second has too many slots
+        self.assertEqual(lines[1].split(), ["500", "2", "0", "0", "0", "0", "0", "+0.00", "%", "+0.00", "%", "14,400",
+                                            "slots"])
         self.assertEqual(len(lines), 13)
 
 
 class Sumo(SumoTest):
     def test_the_case_is_given(self) -> None:
-        status, out, _ = self.make("--begin", "0:00", "--horizon", "10", "--fit", "2s", "--headway", "2", "--no-signals",
+        status, out, _ = self.make("--begin", "0:00", "--horizon", "10", "--fit", "2s", "--headway", "2",
+                                   "--no-signals",
                                    routes='<vehicle id="x" depart="7.5"><route edges="in on"/></vehicle>')
         made = import_sumo(self.folder / "net.net.xml", [self.folder / "routes.rou.xml"],
                            SumoOptions(begin_ms=0, horizon=10, fit=2000, headway=Fraction(2), signals=False))
@@ -93,9 +103,11 @@ class Sumo(SumoTest):
 
 # a ladder whose rungs of 20 m are too short for a step of 5 s at 36 km/h
 LADDER = "link_id,from_node_id,to_node_id,length,lanes,free_speed,capacity\n" + "".join(
-    f"{side}{k},{side}_{k},{side}_{k + 1},{length},1,36,800\n" for k in range(8) for side, length in (("u", 150), ("d", 170))) + "".join(
+    f"{side}{k},{side}_{k},{side}_{k + 1},{length},1,36,800\n" for k in range(8)
+    for side, length in (("u", 150), ("d", 170))) + "".join(
     f"r{k},u_{k},d_{k},20,1,36,800\nl{k},d_{k},u_{k},25,1,36,800\n" for k in range(9))
-PAIRS = "o_zone_id,d_zone_id,volume\n" + "".join(f"{one}_{k},{other}_8,{9 + k}\n" for k in range(7) for one in "ud" for other in "ud")
+PAIRS = "o_zone_id,d_zone_id,volume\n" + "".join(f"{one}_{k},{other}_8,{9 + k}\n" for k in range(7) for one in "ud"
+                                                 for other in "ud")
 
 
 class EachRun(FolderTest):
@@ -103,8 +115,10 @@ class EachRun(FolderTest):
         for name, text in (("link", LADDER), ("demand", PAIRS)):
             (self.folder / f"{name}.csv").write_text(text)
         script = ("from ltm_tools.gmns.importing import GmnsOptions, import_gmns; import sys\n"
-                  "made = import_gmns(sys.argv[1], GmnsOptions(fit=5000, rename=True)); print(made.changes, made.case, made.told)")
-        runs = {subprocess.run([sys.executable, "-B", "-c", script, str(self.folder)], cwd=TOOLS, env={"PYTHONHASHSEED": str(seed)},
+                  "made = import_gmns(sys.argv[1], GmnsOptions(fit=5000, rename=True)); print(made.changes, made.case,"
+                  " made.told)")
+        runs = {subprocess.run([sys.executable, "-B", "-c", script, str(self.folder)], cwd=TOOLS,
+                               env={"PYTHONHASHSEED": str(seed)},
                                capture_output=True, check=True).stdout for seed in range(4)}
         self.assertEqual(len(runs), 1)
         self.assertIn(b"evened out", next(iter(runs)))

@@ -1,4 +1,5 @@
-"""Sessions for whose next answer there is no memory: they end, with the answers that were written and a status of their own."""
+"""Sessions for whose next answer there is no memory: they end, with the answers that were written and a status of their
+own."""
 import json
 import resource
 import subprocess
@@ -36,7 +37,8 @@ class Short(FolderTest):
                 resource.setrlimit(resource.RLIMIT_AS, (left, left))
 
         done = subprocess.run(
-            [BUILT, "session", str(workers)], cwd=self.folder, input=script(), capture_output=True, text=True, timeout=60, preexec_fn=shorten
+            [BUILT, "session", str(workers)], cwd=self.folder, input=script(), capture_output=True, text=True,
+            timeout=60, preexec_fn=shorten
         )
         return done.returncode, done.stdout.splitlines()
 

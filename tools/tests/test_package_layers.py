@@ -1,5 +1,5 @@
-"""The layers of the package: a module imports modules of lower layers and of its own package, none in a circle; commands alone know
-`argparse`, and print."""
+"""The layers of the package: a module imports modules of lower layers and of its own package, none in a circle;
+commands alone know `argparse`, and print."""
 import ast
 import unittest
 from graphlib import CycleError, TopologicalSorter
@@ -31,8 +31,8 @@ def name_of(root: Path, path: Path) -> str:
 
 
 def imports_of(root: Path) -> Imports:
-    """Of each module of a package those that it imports, wherever in its text; the first `__init__`, which names what others have, is
-    left out."""
+    """Of each module of a package those that it imports, wherever in its text; the first `__init__`, which names what
+    others have, is left out."""
     modules = {name_of(root, path) for path in root.rglob("*.py")} - {"__init__"}
     return {name: imported(root / f"{name.replace('.', '/')}.py", name, modules) for name in sorted(modules)}
 
@@ -45,7 +45,8 @@ def imported(path: Path, name: str, modules: set[str]) -> set[str]:
             base = name.split(".")[: -node.level] + (node.module or "").split(".") * (node.module is not None)
             for alias in node.names:
                 whole = ".".join([*base, alias.name])
-                found.add(next(it for it in (whole, f"{whole}.__init__", ".".join(base), ".".join([*base, "__init__"])) if it in modules))
+                found.add(next(it for it in (whole, f"{whole}.__init__", ".".join(base), ".".join([*base, "__init__"]))
+                               if it in modules))
     return found
 
 
@@ -75,14 +76,16 @@ class Layers(FolderTest):
         self.assertEqual(faults(imports, LAYERS), [])
 
     def made(self, **texts: str) -> list[str]:
-        for name, text in {"low": "", "pack/__init__": "from .one import it", "pack/one": "", "pack/two": "from . import one", "high": "", **texts}.items():
+        for name, text in {"low": "", "pack/__init__": "from .one import it", "pack/one": "",
+                           "pack/two": "from . import one", "high": "", **texts}.items():
             path = self.folder / f"{name}.py"
             path.parent.mkdir(exist_ok=True)
             path.write_text(text)
         return faults(imports_of(self.folder), (("low",), ("pack",), ("high",)))
 
     def test_what_is_right(self) -> None:
-        self.assertEqual(self.made(**{"pack/one": "from ..low import it", "high": "from . import low\nfrom .pack import it\nfrom .pack.two import it"}), [])
+        self.assertEqual(self.made(**{"pack/one": "from ..low import it",
+                                      "high": "from . import low\nfrom .pack import it\nfrom .pack.two import it"}), [])
 
     def test_an_import_of_a_higher_layer(self) -> None:
         self.assertEqual(self.made(**{"pack/two": "def late():\n    from ..high import it"}), ["pack.two imports high"])
@@ -116,7 +119,8 @@ def words_of_commands(text: str) -> set[str]:
 
 class Commands(unittest.TestCase):
     def test_commands_alone_know_argparse_and_print(self) -> None:
-        found = {name_of(PACKAGE, path): words for path in PACKAGE.rglob("*.py") if (words := words_of_commands(path.read_text(encoding="utf-8")))}
+        found = {name_of(PACKAGE, path): words for path in PACKAGE.rglob("*.py")
+                 if (words := words_of_commands(path.read_text(encoding="utf-8")))}
         self.assertEqual({name: words for name, words in found.items() if unit(name) not in ("commands", "cli")}, {})
         self.assertEqual(found["cli"], {"argparse", "print"})
 

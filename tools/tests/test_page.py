@@ -72,12 +72,14 @@ class Drawing(unittest.TestCase):
         links = [("a", "b", 100.0), ("b", "c", 100.0), ("c", "d", 100.0), ("d", "a", 100.0), ("a", "c", 141.4)]
         at = layout.places("abcd", links)
         for tail, head, length in links:
-            self.assertLess(abs(((at[tail][0] - at[head][0]) ** 2 + (at[tail][1] - at[head][1]) ** 2) ** 0.5 - length), 25)
+            self.assertLess(abs(((at[tail][0] - at[head][0]) ** 2 + (at[tail][1] - at[head][1]) ** 2) ** 0.5 - length),
+                            25)
         self.assertEqual(at, layout.places("abcd", links))
 
     def test_rounds(self) -> None:
         """As many as there may be moves, thirty at most, and never less than three."""
-        for moves, rounds in ((1_500_000, 30), (10 * 24, 10), (0, 3)):  # 24 pairs: 3 from each of 4 pivots, and 12 of neighbours
+        # 24 pairs: 3 from each of 4 pivots, and 12 of neighbours
+        for moves, rounds in ((1_500_000, 30), (10 * 24, 10), (0, 3)):
             with mock.patch.object(layout, "MOST_MOVES", moves), mock.patch.object(layout.random, "Random", Shuffled):
                 Shuffled.count = 0
                 layout.places("abcd", [(one, other, 100.0) for one, other in ("ab", "bc", "cd", "da", "ac", "bd")])
@@ -101,14 +103,17 @@ class Places(FolderTest):
         assert places is not None
         self.assertEqual(places.of, {"n1": (11.25, 48.0), "n2": (11.5, 48.1)})
         told = json.loads(geojson(case, places, {"a": {"most": 1.5}}))
-        self.assertEqual(told["features"][0]["geometry"], {"type": "LineString", "coordinates": [[11.25, 48.0], [11.5, 48.1]]})
+        self.assertEqual(told["features"][0]["geometry"],
+                         {"type": "LineString", "coordinates": [[11.25, 48.0], [11.5, 48.1]]})
         self.assertEqual(told["features"][0]["properties"]["most"], 1.5)
         self.assertNotIn("crs", told)
         self.assertIsNone(read_places(DATA / "spillback", case))
 
     def test_faults(self) -> None:
-        for text, fault in (("name,x,y\nn1,0,0\n", "the node n2 has no place"), ("name,x\n", "no field y"), ("name,x,y\nn1,0,0\nn1,1,1\n", "has a place already"),
-                            ("name,x,y,crs\nn1,0,0,UTM\n", "EPSG:25832"), ("name,x,y,crs\nn1,0,0,EPSG:25832\nn2,0,1,\n", "the same projection")):
+        for text, fault in (("name,x,y\nn1,0,0\n", "the node n2 has no place"), ("name,x\n", "no field y"),
+                            ("name,x,y\nn1,0,0\nn1,1,1\n", "has a place already"),
+                            ("name,x,y,crs\nn1,0,0,UTM\n", "EPSG:25832"),
+                            ("name,x,y,crs\nn1,0,0,EPSG:25832\nn2,0,1,\n", "the same projection")):
             folder = self.case(nodes=text)
             self.assertRaisesRegex(Fault, fault, read_places, folder, Case.read(folder))
 
@@ -118,13 +123,15 @@ class GeoJson(FolderTest):
         folder = self.folder / "case"
         Case.read(DATA / "spillback").write(folder)
         (folder / "nodes.csv").write_text("name,x,y,crs\nn1,0,0,EPSG:25832\nn2,20,0,EPSG:25832\nn3,40,0,EPSG:25832\n")
-        words = ["geojson", str(folder), "--curves", str(DATA / "spillback" / "curves.csv"), "--start", "7:00", "-o", str(folder / "links.json")]
+        words = ["geojson", str(folder), "--curves", str(DATA / "spillback" / "curves.csv"), "--start", "7:00", "-o",
+                 str(folder / "links.json")]
         self.assertEqual(cli.run([*words, "--at", "7:00:08"]), 0)
         told = json.loads((folder / "links.json").read_text())
         self.assertEqual(told["crs"]["properties"]["name"], "urn:ogc:def:crs:EPSG::25832")
         a = told["features"][0]["properties"]
         # docs/MODEL.md: by boundary 8 3400 have entered and 1200 left; 3000 could have left
-        self.assertEqual((a["on_link"], a["queue"], a["entered"], a["left"], a["queued"], a["most_queue_ms"]), (2.2, 1.8, 5.0, 2.8, 20.7, 8000))
+        self.assertEqual((a["on_link"], a["queue"], a["entered"], a["left"], a["queued"], a["most_queue_ms"]),
+                         (2.2, 1.8, 5.0, 2.8, 20.7, 8000))
         self.assertEqual(cli.run([*words, "--at", "6:59"]), 1)
         case, curves = read("spillback")
         self.assertEqual(case.to_geojson(folder, curves, 8), (folder / "links.json").read_text())
@@ -138,17 +145,20 @@ def told_on(page: Path) -> dict[str, Any]:
     return told
 
 
-# two roads from A to C by B, one of them in a bow, and the way back along it; B lies 400 m east of A, and C 300 m north of B
+# two roads from A to C by B, one of them in a bow, and the way back along it; B lies 400 m east of A, and C 300 m north
+# of B
 BOW = ((100.0, 50.0), (150.0, 190.0), (300.0, 250.0), (450.0, 190.0), (500.0, 50.0))
 PLACES = {"A": BOW[0], "B": BOW[-1], "C": (500.0, 350.0)}
 
 
 def imported(folder: Path) -> Path:
     """The page of a net that was imported, without vehicles."""
-    junctions = "".join(f'<junction id="{name}" type="priority" x="{x + 1000}" y="{y - 20}"/>' for name, (x, y) in PLACES.items())
+    junctions = "".join(f'<junction id="{name}" type="priority" x="{x + 1000}" y="{y - 20}"/>'
+                        for name, (x, y) in PLACES.items())
     bow, back = (f'shape="{" ".join(f"{x + 1000},{y - 20}" for x, y in line)}"' for line in (BOW, BOW[::-1]))
     edges = edge("bow", "A", "B", more=bow) + edge("back", "B", "A", more=back) + edge("on", "B", "C")
-    (folder / "net.net.xml").write_text(f'<net><location netOffset="1000.00,-20.00" projParameter="!"/>{junctions}{edges}</net>')
+    (folder / "net.net.xml").write_text(f'<net><location netOffset="1000.00,-20.00"'
+                                        f' projParameter="!"/>{junctions}{edges}</net>')
     assert cli.run(["from-sumo", str(folder / "net.net.xml"), str(folder / "case"), "--horizon", "5"]) == 0
     (folder / "case" / "curves.csv").write_text("kind,name,destination,counts\n")
     return write_page(folder, str(folder / "case"), "--curves", str(folder / "case" / "curves.csv"))
@@ -159,14 +169,17 @@ class Imported(FolderTest):
     def test_the_page_has_the_places_of_the_source(self) -> None:
         told = told_on(imported(self.folder))
         self.assertEqual({node["name"]: (node["x"], node["y"]) for node in told["nodes"]}, PLACES)
-        self.assertEqual({link["name"]: link.get("shape") for link in told["links"]}, {"bow": [list(place) for place in BOW], "back": [list(place) for place in BOW[::-1]], "on": None})
+        self.assertEqual({link["name"]: link.get("shape") for link in told["links"]},
+                         {"bow": [list(place) for place in BOW], "back": [list(place) for place in BOW[::-1]],
+                          "on": None})
 
     def test_two_cases_of_which_one_has_places(self) -> None:
         page = imported(self.folder)
         other = Case.read(self.folder / "case")
         other.write(self.folder / "other")
         curves = str(self.folder / "case" / "curves.csv")
-        page = write_page(self.folder, str(self.folder / "case"), str(self.folder / "other"), "--curves", curves, "--other-curves", curves)
+        page = write_page(self.folder, str(self.folder / "case"), str(self.folder / "other"), "--curves", curves,
+                          "--other-curves", curves)
         both = json.loads(page.read_text().partition('id="data">')[2].partition("</script>")[0])["cases"]
         self.assertEqual(both[0]["links"], both[1]["links"])
         self.assertIn("shape", both[1]["links"][0])
@@ -196,16 +209,21 @@ class InABrowser(FolderTest):
         self.assertEqual(self.text("#clock"), "7:00:10")
         self.browser.click(*self.browser.run("return ltm.middle('a')"))
         self.assertEqual(self.text("#link h2"), "Link a from n1 to n2, 20 m")
-        self.assertEqual(self.browser.run("return document.querySelectorAll('#link svg path[stroke]:not(.domain)').length"), 5)  # four curves, and the storage
-        rows = self.browser.run("return [...document.querySelectorAll('#list tbody tr')].map(row => [...row.cells].map(cell => cell.textContent))")
-        self.assertEqual(rows, [["n1 (origin)", "7:00:01", "…", "3.200", "7:00:10", "", "29.00"], ["a", "7:00:03", "…", "1.800", "7:00:08", "60.0 %", "20.70"]])
+        self.assertEqual(self.browser.run("return document.querySelectorAll('#link svg"
+                                          " path[stroke]:not(.domain)').length"), 5)  # four curves, and the storage
+        rows = self.browser.run("return [...document.querySelectorAll('#list tbody tr')].map(row =>"
+                                " [...row.cells].map(cell => cell.textContent))")
+        self.assertEqual(rows, [["n1 (origin)", "7:00:01", "…", "3.200", "7:00:10", "", "29.00"],
+                                ["a", "7:00:03", "…", "1.800", "7:00:08", "60.0 %", "20.70"]])
         self.browser.run("document.querySelector('#list tbody tr').click()")
         self.assertEqual(self.text("#link h2"), "Origin n1 who has set out, and who has found room on a link")
         self.assertEqual(self.browser.console(), [])
 
     def test_two_cases(self) -> None:
-        self.browser.open(write_page(self.folder, str(DATA / "base"), str(DATA / "base_signals"), *with_curves("base")[1:], *with_curves("base_signals", True)[1:]))
-        self.assertEqual(self.browser.run("return [...document.querySelectorAll('#switch button')].map(each => each.textContent)"), ["base", "base_signals"])
+        self.browser.open(write_page(self.folder, str(DATA / "base"), str(DATA / "base_signals"),
+                                     *with_curves("base")[1:], *with_curves("base_signals", True)[1:]))
+        self.assertEqual(self.browser.run("return [...document.querySelectorAll('#switch button')].map(each =>"
+                                          " each.textContent)"), ["base", "base_signals"])
         shown = []
         for place in (1, 0):
             self.browser.run("document.querySelectorAll('#switch button')[arguments[0]].click()", place)
@@ -220,24 +238,30 @@ class InABrowser(FolderTest):
         for name in ("grid", "cross", "star", "spill_cross", "spillback"):
             case, curves = read(name)
             self.browser.open(write_page(self.folder, *with_curves(name)))
-            told = self.browser.run("const one = ltm.cases[0], ks = d3.range(one.slots + 1), of = (rows, f) => rows.map((_, row) => ks.map(k => f(one, row, k)));"
-                                    "return [of(one.links, ltm.queue), of(one.links, ltm.standing), of(one.origins, ltm.waiting)]")
+            told = self.browser.run("const one = ltm.cases[0], ks = d3.range(one.slots + 1), of = (rows, f) =>"
+                                    " rows.map((_, row) => ks.map(k => f(one, row, k)));"
+                                    "return [of(one.links, ltm.queue), of(one.links, ltm.standing), of(one.origins,"
+                                    " ltm.waiting)]")
             self.assertEqual(told[0], [list(delay.queue(curves, link)) for link in case.links])
             self.assertEqual(told[1], [list(curves.on_link(link.name)) for link in case.links])
             self.assertEqual(told[2], [list(delay.waiting(curves, case, node)) for node in delay.demand_of(case)])
             self.assertEqual(self.browser.console(), [])
 
     def test_links_are_drawn_where_the_source_has_them(self) -> None:
-        """Beside the points of the source as far as a link is wide, on its right, in the scale with which the network fills the map."""
+        """Beside the points of the source as far as a link is wide, on its right, in the scale with which the network
+        fills the map."""
         self.browser.open(imported(self.folder))
-        box = self.browser.run("const box = document.getElementById('network').getBoundingClientRect(); return [box.left, box.top, box.width, box.height]")
+        box = self.browser.run("const box = document.getElementById('network').getBoundingClientRect(); return"
+                               " [box.left, box.top, box.width, box.height]")
         scale = min((box[2] - 120) / 400, (box[3] - 120) / 300)
         ways = {name: self.browser.run("return ltm.way(arguments[0])", name) for name in ("bow", "back", "on")}
         for name, line in (("bow", BOW), ("back", BOW[::-1]), ("on", (PLACES["B"], PLACES["C"]))):
-            drawn = [(box[0] + box[2] / 2 + (x - 300) * scale, box[1] + box[3] / 2 - (y - 200) * scale) for x, y in line]
+            drawn = [(box[0] + box[2] / 2 + (x - 300) * scale, box[1] + box[3] / 2 - (y - 200) * scale)
+                     for x, y in line]
             self.assertEqual(len(ways[name]), len(line))
             for place, (x, y) in enumerate(drawn):
-                # to the right of the way there, which is below it where it leads to the east: a link is 3.3 wide, and its middle 2.65 off
+                # to the right of the way there, which is below it where it leads to the east: a link is 3.3 wide, and
+                # its middle 2.65 off
                 east, south = ways[name][place][0] - x, ways[name][place][1] - y
                 ahead, behind = drawn[min(place + 1, len(drawn) - 1)], drawn[max(place - 1, 0)]
                 way = ahead[0] - behind[0], ahead[1] - behind[1]
@@ -267,8 +291,10 @@ class InABrowser(FolderTest):
 def large(folder: Path) -> list[str]:
     """A ring of 2,000 links with curves of 700 slots, made by chance; they are shown, and are no loading."""
     pick, links, slots = random.Random(3), 2000, 700
-    case = Case(Setup(10_000, slots, 32_000), [Link(f"l{k}", f"n{k}", f"n{(k + 1) % links}", 300, 54, 18, 150) for k in range(links)],
-                [Demand("n0", "n7", 0, 700, 1000)], [Split(f"n{k}", "n7", 0, {f"l{k}": 1}) for k in range(links) if k != 7], [Limit("l0", 0, 1, 500)])
+    case = Case(Setup(10_000, slots, 32_000), [Link(f"l{k}", f"n{k}", f"n{(k + 1) % links}", 300, 54, 18, 150)
+                                               for k in range(links)],
+                [Demand("n0", "n7", 0, 700, 1000)], [Split(f"n{k}", "n7", 0, {f"l{k}": 1}) for k in range(links)
+                                                     if k != 7], [Limit("l0", 0, 1, 500)])
     case.write(folder / "large")
     with open(folder / "large" / "curves.csv", "w", encoding="ascii") as file:
         file.write("kind,name,destination,counts\n")

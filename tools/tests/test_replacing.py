@@ -1,4 +1,5 @@
-"""Files come whole or not at all, and several of a case all or none, also where the disk is full or a run is cut anywhere."""
+"""Files come whole or not at all, and several of a case all or none, also where the disk is full or a run is cut
+anywhere."""
 import contextlib
 import itertools
 import os
@@ -22,7 +23,8 @@ from ltm_tools.replacing import take_away, together
 
 def everything(folder: Path) -> dict[str, bytes]:
     """What stands below a folder."""
-    return {str(path.relative_to(folder)): path.read_bytes() if path.is_file() else b"a folder" for path in sorted(folder.rglob("*"))}
+    return {str(path.relative_to(folder)): path.read_bytes() if path.is_file() else b"a folder"
+            for path in sorted(folder.rglob("*"))}
 
 
 @contextlib.contextmanager
@@ -49,7 +51,8 @@ class One(FolderTest):
     def test_a_file_is_replaced(self) -> None:
         self.path.chmod(0o640)
         write_text(self.path, "as it is\n")
-        self.assertEqual((self.path.read_text(), self.path.stat().st_mode & 0o777, os.listdir(self.folder)), ("as it is\n", 0o640, ["file"]))
+        self.assertEqual((self.path.read_text(), self.path.stat().st_mode & 0o777, os.listdir(self.folder)),
+                         ("as it is\n", 0o640, ["file"]))
         write_bytes(self.folder / "other", b"\xff")
         was = os.umask(0)
         os.umask(was)
@@ -66,10 +69,13 @@ class One(FolderTest):
         self.assertEqual(everything(self.folder), {"file": b"as it was"})
 
     def test_what_cannot_be_replaced(self) -> None:
-        for path, fault in ((self.folder, "Is a directory"), (self.folder / "no" / "file", "No such file or directory"), (self.path / "x", "Not a directory")):
+        for path, fault in ((self.folder, "Is a directory"), (self.folder / "no" / "file", "No such file or directory"),
+                            (self.path / "x", "Not a directory")):
             with self.assertRaisesRegex(Fault, f"{path}: {fault}"):
                 write_text(path, "new")
-        with mock.patch.object(os, "replace", side_effect=PermissionError(13, "Permission denied")), self.assertRaisesRegex(Fault, "file: Permission denied"):
+        denied = PermissionError(13, "Permission denied")
+        with mock.patch.object(os, "replace", side_effect=denied), \
+                self.assertRaisesRegex(Fault, "file: Permission denied"):
             write_text(self.path, "new")
         self.assertEqual(everything(self.folder), {"file": b"as it was"})
 
@@ -112,7 +118,8 @@ class Several(FolderTest):
 
     def test_all_are_put_in_place(self) -> None:
         self.assertEqual(self.after(("setup", "splits"), "links.csv"), {
-            "case": b"a folder", "case/setup.csv": b"new setup", "case/splits.csv": b"new splits", "case/demand.csv": ROAD["demand"].encode()})
+            "case": b"a folder", "case/setup.csv": b"new setup", "case/splits.csv": b"new splits",
+            "case/demand.csv": ROAD["demand"].encode()})
 
     def test_where_one_fails_all_is_as_it_was(self) -> None:
         """At each renaming and at each file that is taken away, and where something else fails before."""
@@ -157,14 +164,17 @@ class Several(FolderTest):
                     with mock.patch.object(replacing.Changes, "put_back"), mock.patch.object(replacing.Changes, "drop"):
                         if not self.fails(call, last, names, away, Cut()):
                             break
-                    left = {name: data for name, data in everything(self.folder).items() if not name.startswith("case/.")}
-                    self.assertTrue(left in (was, whole) or "case/setup.csv" not in left, (names, away, call, last, left))
+                    left = {name: data for name, data in everything(self.folder).items()
+                            if not name.startswith("case/.")}
+                    self.assertTrue(left in (was, whole) or "case/setup.csv" not in left,
+                                    (names, away, call, last, left))
 
     def test_one_within_another_is_part_of_it(self) -> None:
         was = self.fresh()
         with self.assertRaises(Cut), together():
             self.write(("setup",), None)
-            self.assertEqual({name: data for name, data in everything(self.folder).items() if not name.startswith("case/.")}, was)
+            self.assertEqual({name: data for name, data in everything(self.folder).items()
+                              if not name.startswith("case/.")}, was)
             raise Cut
         self.assertEqual(everything(self.folder), was)
 
@@ -197,12 +207,15 @@ class FullDisks(FolderTest):
         return str(self.folder / "table.csv")
 
     def test_importers(self) -> None:
-        self.sizes("from-gmns", str(EXAMPLES / "from_gmns" / "gmns"), str(self.folder / "made" / "case"), "--fit", "30000")
-        self.sizes("from-gmns", str(EXAMPLES / "from_gmns" / "gmns"), str(self.folder / "made" / "case"), "--step", "15000")
+        self.sizes("from-gmns", str(EXAMPLES / "from_gmns" / "gmns"), str(self.folder / "made" / "case"), "--fit",
+                   "30000")
+        self.sizes("from-gmns", str(EXAMPLES / "from_gmns" / "gmns"), str(self.folder / "made" / "case"), "--step",
+                   "15000")
         was = everything(self.folder)
         for words in (("--fit", "30000"), ("--step", "15000")):
             with mock.patch.object(Source, "write", side_effect=Fault("no room for source_links.csv")):
-                self.assertEqual(commands.run("from-gmns", str(EXAMPLES / "from_gmns" / "gmns"), str(self.folder / "made" / "case"), *words)[0], 1)
+                self.assertEqual(commands.run("from-gmns", str(EXAMPLES / "from_gmns" / "gmns"),
+                                              str(self.folder / "made" / "case"), *words)[0], 1)
             self.assertEqual(everything(self.folder), was)
 
     def test_a_case_in_place(self) -> None:
@@ -211,22 +224,27 @@ class FullDisks(FolderTest):
         case = Case.read(self.case())
         case.demand = [Demand("n1", "n2", slot, slot + 1, 1000 + slot) for slot in range(4)]
         case.write(self.folder / "case")
-        self.sizes("demand", str(self.folder / "case"), "--trips", self.table("o_zone_id,d_zone_id,depart,volume\n" + rows * 9), "--slice", "1", most=50)
+        self.sizes("demand", str(self.folder / "case"), "--trips",
+                   self.table("o_zone_id,d_zone_id,depart,volume\n" + rows * 9), "--slice", "1", most=50)
 
     def test_splits_and_demand(self) -> None:
         """The demand fits where the splits do not."""
         network = "".join(f"l{number},m{number},m{number + 1},300,36,18,150\n" for number in range(8))
-        self.case(links="link,from,to,length_m,free_kmh,wave_kmh,jam_per_km\n" + network, demand="origin,destination,from_slot,to_slot,vehicles\nm0,m8,0,1,1\n",
+        self.case(links="link,from,to,length_m,free_kmh,wave_kmh,jam_per_km\n" + network,
+                  demand="origin,destination,from_slot,to_slot,vehicles\nm0,m8,0,1,1\n",
                   setup="step_ms,slots,origin_capacity\n15000,40,8\n", splits=None)
         routes = self.table("links,depart,vehicles\n" + " ".join(f"l{number}" for number in range(8)) + ",0:00,2\n")
-        self.sizes("splits", str(self.folder / "case"), "--routes", routes, "--demand", "--slice", "10", "--start", "0:00", most=100)
+        self.sizes("splits", str(self.folder / "case"), "--routes", routes, "--demand", "--slice", "10", "--start",
+                   "0:00", most=100)
         self.assertLess((self.folder / "case" / "demand.csv").stat().st_size, 100)
 
     def test_signals(self) -> None:
-        self.sizes("signals", str(self.case(setup="step_ms,slots,origin_capacity\n1000,40,1\n")), "--cycles", self.table("link,cycle,green_from,green_to\na,4,0,2\n"))
+        self.sizes("signals", str(self.case(setup="step_ms,slots,origin_capacity\n1000,40,1\n")), "--cycles",
+                   self.table("link,cycle,green_from,green_to\na,4,0,2\n"))
 
     def test_outputs(self) -> None:
-        words = [str(DATA / "spillback"), "--curves", str(DATA / "spillback" / "curves.csv"), "-o", str(self.folder / "out")]
+        words = [str(DATA / "spillback"), "--curves", str(DATA / "spillback" / "curves.csv"), "-o",
+                 str(self.folder / "out")]
         (self.folder / "out").write_text("as it was")
         self.sizes("queues", *words, "--least", "0.001")
         self.sizes("page", *words)
@@ -234,7 +252,8 @@ class FullDisks(FolderTest):
     @needs_program
     def test_apply(self) -> None:
         script = self.folder / "script"
-        script.write_text('{"do": "edit", "edits": [{"kind": "limit", "link": "a", "from": 0, "to": 1, "vehicles": "0.5"}]}\n' * 3)
+        script.write_text('{"do": "edit", "edits": [{"kind": "limit", "link": "a", "from": 0, "to": 1, "vehicles":'
+                          ' "0.5"}]}\n' * 3)
         case = str(self.case(nodes="name,x,y\n" + "n1,0,0\nn2,10,0\n" + " " * 200))
         self.sizes("apply", case, str(script), str(self.folder / "kept"), most=150)
         self.sizes("apply", case, str(script), case, most=150)

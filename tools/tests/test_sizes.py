@@ -1,4 +1,5 @@
-"""What is large, and what is one past a limit: the program takes the one and tells the other. Each limit is that of docs/FORMATS.md."""
+"""What is large, and what is one past a limit: the program takes the one and tells the other. Each limit is that of
+docs/FORMATS.md."""
 import json
 import random
 import subprocess
@@ -34,7 +35,8 @@ def row_of_roads(roads: int) -> list[Link]:
 def long_case() -> Case:
     """A row of roads of which one end sends to the other over the whole horizon, in free flow."""
     end = f"n{ROADS}"
-    return Case(Setup(1000, SLOTS, 1000), row_of_roads(ROADS), [Demand("n0", end, 0, SLOTS, EACH * SLOTS)], [Split(f"n{k}", end, 0, {f"a{k}": 1}) for k in range(ROADS)])
+    return Case(Setup(1000, SLOTS, 1000), row_of_roads(ROADS), [Demand("n0", end, 0, SLOTS, EACH * SLOTS)],
+                [Split(f"n{k}", end, 0, {f"a{k}": 1}) for k in range(ROADS)])
 
 
 def long_curves() -> str:
@@ -68,7 +70,8 @@ class Scripts(FolderTest):
     def test_a_line_past_the_limit(self) -> None:
         for line in self.padded({"do": "totals"}, MOST_LINE_BYTES + 1):
             short = '{"do": "totals"}\n'
-            self.assertEqual(told("session", "0", folder=self.case(), script=short + line + short), (7, self.TOTALS + "too long line 2\n"))
+            self.assertEqual(told("session", "0", folder=self.case(), script=short + line + short),
+                             (7, self.TOTALS + "too long line 2\n"))
 
     def more_demand(self, rows: int) -> dict[str, object]:
         """An edit command with so many rows of 0.1 vehicles, from slot 2 on."""
@@ -78,26 +81,36 @@ class Scripts(FolderTest):
         """One of 32 edits is accepted, in a short line and in the longest, and one of 33 is no command."""
         folder = self.case(setup="step_ms,slots,origin_capacity\n1000,64,1\n")
         over = json.dumps(self.more_demand(MOST_EDITS + 1)) + "\n"
-        for line in (json.dumps(self.more_demand(MOST_EDITS)) + "\n", *self.padded(self.more_demand(MOST_EDITS), MOST_LINE_BYTES)):
-            status, answers = told("session", "0", folder=folder, script=over + line + over + '{"do": "settle"}\n{"do": "totals"}\n')
-            self.assertEqual((status, answers.splitlines()[:3]), (0, ["refused command NotCommand 0", "accepted version 1", "refused command NotCommand 0"]))
-            self.assertEqual(answers.splitlines()[4:], ["version 1 generated 4.200 arrived 4.200 on_links 0.000 waiting 0.000"])
+        for line in (json.dumps(self.more_demand(MOST_EDITS)) + "\n",
+                     *self.padded(self.more_demand(MOST_EDITS), MOST_LINE_BYTES)):
+            status, answers = told("session", "0", folder=folder,
+                                   script=over + line + over + '{"do": "settle"}\n{"do": "totals"}\n')
+            self.assertEqual((status, answers.splitlines()[:3]),
+                             (0, ["refused command NotCommand 0", "accepted version 1",
+                                  "refused command NotCommand 0"]))
+            self.assertEqual(answers.splitlines()[4:],
+                             ["version 1 generated 4.200 arrived 4.200 on_links 0.000 waiting 0.000"])
 
     def test_a_thousand_batches(self) -> None:
         """After each is accepted a settle shows the loading of the case that they make of the files."""
         pick = random.Random(40)
-        case = Case(Setup(1000, 100, 1000), row_of_roads(2), [], [Split("n0", "n2", 0, {"a0": 1}), Split("n1", "n2", 0, {"a1": 1})])
+        case = Case(Setup(1000, 100, 1000), row_of_roads(2), [],
+                    [Split("n0", "n2", 0, {"a0": 1}), Split("n1", "n2", 0, {"a1": 1})])
         case.write(self.folder / "before")
         keeper, script = Keeper(case), ""
         for _ in range(1_000):
             slot = pick.randrange(97)
-            edit = pick.choice((edits.demand("n0", "n2", slot, slot + 1, pick.randrange(400)), edits.limit("a0", slot, slot + 3, pick.randrange(500)),
-                                edits.exit_limit("a1", slot, slot + 3, pick.randrange(500)), edits.diagram("a1", pick.randrange(10, 40), 36, 18, 150)))
+            edit = pick.choice((edits.demand("n0", "n2", slot, slot + 1, pick.randrange(400)),
+                                edits.limit("a0", slot, slot + 3, pick.randrange(500)),
+                                edits.exit_limit("a1", slot, slot + 3, pick.randrange(500)),
+                                edits.diagram("a1", pick.randrange(10, 40), 36, 18, 150)))
             keeper.make([edit])
             script += json.dumps({"do": "edit", "edits": [edit]}) + "\n"
         made = keeper.kept()
         made.write(self.folder / "after")
-        asked = "".join(json.dumps(command) + "\n" for command in ({"do": "settle"}, {"do": "totals"}, {"do": "link", "link": "a0"}, {"do": "link", "link": "a1"}))
+        asked = "".join(json.dumps(command) + "\n" for command in ({"do": "settle"}, {"do": "totals"},
+                                                                   {"do": "link", "link": "a0"},
+                                                                   {"do": "link", "link": "a1"}))
         status, answers = told("session", "0", folder=self.folder / "before", script=script + asked)
         lines = answers.splitlines()
         self.assertEqual((status, lines[:1_000]), (0, [f"accepted version {k}" for k in range(1, 1_001)]))
@@ -112,15 +125,19 @@ class Scripts(FolderTest):
 @needs_program
 class Routes(FolderTest):
     def test_the_most_rows(self) -> None:
-        """Over a ring of 794 nodes 63 destinations have 793 rows each, and the end of a row of roads one for each other node of it."""
+        """Over a ring of 794 nodes 63 destinations have 793 rows each, and the end of a row of roads one for each other
+        node of it."""
         ring, ends = 794, 63
         for roads, status in ((41, 0), (42, 6)):
-            links = [Link(f"r{k}", f"r{k}", f"r{(k + 1) % ring}", 20, 36, 18, 150) for k in range(ring)] + row_of_roads(roads)
+            links = [Link(f"r{k}", f"r{k}", f"r{(k + 1) % ring}", 20, 36, 18, 150)
+                     for k in range(ring)] + row_of_roads(roads)
             demand = [Demand(f"r{k + 1}", f"r{k}", 0, 1, 1) for k in range(ends)] + [Demand("n0", f"n{roads}", 0, 1, 1)]
             Case(Setup(1000, 1, 1000), links, demand).write(self.folder / str(roads))
-            rows = [f"r{node},r{end},0,r{node}=1\n" for end in range(ends) for node in range(ring) if node != end] + [f"n{k},n{roads},0,a{k}=1\n" for k in range(roads)]
+            rows = [f"r{node},r{end},0,r{node}=1\n" for end in range(ends) for node in range(ring)
+                    if node != end] + [f"n{k},n{roads},0,a{k}=1\n" for k in range(roads)]
             self.assertEqual(len(rows) - MOST_SPLIT_ROWS, roads - 41)
-            written = "".join(["node,destination,from_slot,weights\n", *rows]) if status == 0 else "bad case whole row 0 TooManyRows\n"
+            written = "".join(["node,destination,from_slot,weights\n",
+                               *rows]) if status == 0 else "bad case whole row 0 TooManyRows\n"
             self.assertEqual(told("routes", folder=self.folder / str(roads)), (status, written))
 
 
@@ -130,7 +147,8 @@ class CurveFiles(FolderTest):
 
     HEADER = "kind,name,destination,counts\n"
     # docs/FORMATS.md has it
-    LOADING = HEADER + "up,a,n2,0 500 1000 1000 1000\ndown,a,n2,0 0 0 500 1000\ndep,n1,n2,0 500 1000 1000 1000\ndep,n2,n2,0 0 0 0 0\narr,n2,n2,0 0 0 500 1000\n"
+    LOADING = (HEADER + "up,a,n2,0 500 1000 1000 1000\ndown,a,n2,0 0 0 500 1000\ndep,n1,n2,0 500 1000 1000 1000\n"
+               "dep,n2,n2,0 0 0 0 0\narr,n2,n2,0 0 0 500 1000\n")
 
     def test_what_check_tells(self) -> None:
         for old, new, status, line in (
@@ -151,11 +169,14 @@ class CurveFiles(FolderTest):
         ):
             with self.subTest(line, old=old):
                 self.assertIn(old, self.LOADING)
-                self.assertEqual(told("check", folder=self.case(curves=self.LOADING.replace(old, new, 1) if old else self.LOADING)), (status, line + "\n"))
+                self.assertEqual(told("check", folder=self.case(curves=self.LOADING.replace(old, new, 1) if old
+                                                                else self.LOADING)), (status, line + "\n"))
 
     def test_what_curves_writes(self) -> None:
         self.assertEqual(told("curves", folder=self.case()), (0, self.LOADING))
-        self.assertEqual(told("curves", folder=self.case(demand="origin,destination,from_slot,to_slot,vehicles\n", splits="node,destination,from_slot,weights\n")), (0, self.HEADER))
+        self.assertEqual(told("curves", folder=self.case(demand="origin,destination,from_slot,to_slot,vehicles\n",
+                                                         splits="node,destination,from_slot,weights\n")),
+                         (0, self.HEADER))
 
     def test_of_a_case_that_is_refused(self) -> None:
         """Both words tell what is wrong with the case, whatever the curve file is."""
@@ -170,14 +191,17 @@ class CurveFiles(FolderTest):
         text = long_curves()
         self.assertGreater(len(text), 3 * PIECE)
         self.assertTrue(told("curves", folder=self.folder) == (0, text), "the curve file differs")
-        for written, answer in ((text, (0, "loading yes\n")), (text.removesuffix("0\n") + "1\n", (12, f"loading no node n{ROADS} slot {SLOTS - 1}\n"))):
+        for written, answer in ((text, (0, "loading yes\n")),
+                                (text.removesuffix("0\n") + "1\n",
+                                 (12, f"loading no node n{ROADS} slot {SLOTS - 1}\n"))):
             (self.folder / "curves.csv").write_text(written)
             self.assertEqual(told("check", folder=self.folder), answer)
 
 
 @needs_program
 class LongFiles(FolderTest):
-    """Files that are one byte longer than is read, and files that are just as long; what is not written of them takes no room."""
+    """Files that are one byte longer than is read, and files that are just as long; what is not written of them takes
+    no room."""
 
     def lengthen(self, name: str, size: int) -> None:
         with (self.folder / "case" / name).open("r+b") as file:
@@ -185,7 +209,8 @@ class LongFiles(FolderTest):
 
     def test_a_curve_file(self) -> None:
         folder = self.case(curves=CurveFiles.HEADER + "up\n")
-        for size, answer in ((MOST_CURVES_BYTES, (11, "bad curves row 2 Width\n")), (MOST_CURVES_BYTES + 1, (7, "too long curves\n"))):
+        for size, answer in ((MOST_CURVES_BYTES, (11, "bad curves row 2 Width\n")),
+                             (MOST_CURVES_BYTES + 1, (7, "too long curves\n"))):
             self.lengthen("curves.csv", size)
             self.assertEqual(told("check", folder=folder), answer)
 
@@ -199,7 +224,8 @@ class LongFiles(FolderTest):
         folder = self.case()
         for editor in (1, 2):
             (folder / f"edits{editor}.jsonl").write_text("edit\n")
-        for size, answer in ((MOST_FILE_BYTES, (13, "bad script edits1 line 1 NotJson\n")), (MOST_FILE_BYTES + 1, (7, "too long edits2\n"))):
+        for size, answer in ((MOST_FILE_BYTES, (13, "bad script edits1 line 1 NotJson\n")),
+                             (MOST_FILE_BYTES + 1, (7, "too long edits2\n"))):
             self.lengthen("edits2.jsonl", size)
             self.assertEqual(told("editors", "2", folder=folder), answer)
 
@@ -208,16 +234,19 @@ class LongFiles(FolderTest):
 class Limits(FolderTest):
     @needs_columns
     def test_of_many_slots(self) -> None:
-        """A road that is shut for the last tenth: at its exit the row of roads fills up, and at the entry of the first nobody is on his way."""
+        """A road that is shut for the last tenth: at its exit the row of roads fills up, and at the entry of the first
+        nobody is on his way."""
         shut, end = SLOTS * 9 // 10, SLOTS
         starts = EACH * SLOTS
         by_exit, by_entry = EACH * (shut - FREE * ROADS), EACH * shut
-        for edit, arrived, on_links in ((edits.exit_limit(f"a{ROADS - 1}", shut, end, 0), by_exit, JAM * ROADS), (edits.limit("a0", shut, end, 0), by_entry, 0)):
+        for edit, arrived, on_links in ((edits.exit_limit(f"a{ROADS - 1}", shut, end, 0), by_exit, JAM * ROADS),
+                                        (edits.limit("a0", shut, end, 0), by_entry, 0)):
             keeper = Keeper(long_case())
             keeper.make([edit])
             keeper.kept().write(self.folder)
             waiting = starts - arrived - on_links
-            totals = f"generated {vehicles_text(starts)} arrived {vehicles_text(arrived)} on_links {vehicles_text(on_links)} waiting {vehicles_text(waiting)}"
+            totals = (f"generated {vehicles_text(starts)} arrived {vehicles_text(arrived)} on_links"
+                      f" {vehicles_text(on_links)} waiting {vehicles_text(waiting)}")
             status, report = told("load", folder=self.folder)
             self.assertEqual((status, report.splitlines()[:1]), (0, [f"version 0 {totals}"]))
             long_case().write(self.folder)
@@ -228,7 +257,8 @@ class Limits(FolderTest):
     @needs_columns
     def test_of_all_links_and_slots(self) -> None:
         """The most limits that there may be are read before it is seen that nobody says how the demand goes on."""
-        case = Case(Setup(1000, SLOTS, 1000, signals=True, limits=True), row_of_roads(4_000), [Demand("n0", "n1", 0, 1, 1)], [])
+        case = Case(Setup(1000, SLOTS, 1000, signals=True, limits=True), row_of_roads(4_000),
+                    [Demand("n0", "n1", 0, 1, 1)], [])
         keeper = Keeper(case)
         keeper.make([edits.exit_limit("a3999", 0, SLOTS, 0), edits.limit("a3999", 0, SLOTS, 0)])
         keeper.case.write(self.folder)

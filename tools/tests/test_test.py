@@ -60,8 +60,8 @@ class Runs(unittest.TestCase):
         case = made(a_is_well=lambda _: None, b_is_skipped=skips)
         for words, status in (((), 0), (("--all",), 1)):
             found, told = self.run_all(case, *words)
-            self.assertEqual((found, told.splitlines()[-2:]), (status, [f"skipped: test_b_is_skipped ({case.__module__}.Made.test_b_is_skipped): it is not there",
-                                                                      "1 passed, 0 failed, 1 skipped"]))
+            skipped = f"skipped: test_b_is_skipped ({case.__module__}.Made.test_b_is_skipped): it is not there"
+            self.assertEqual((found, told.splitlines()[-2:]), (status, [skipped, "1 passed, 0 failed, 1 skipped"]))
         self.assertEqual(self.run_all(made(a_is_well=lambda _: None), "--all")[0], 0)
 
 

@@ -18,8 +18,10 @@ from ltm_tools.loading.times import Path, Trip, at, first_moment
 class ByHand(unittest.TestCase):
     def test_moments_of_a_curve(self) -> None:
         counts = [0, 0, 100, 103]
-        self.assertEqual([at(counts, 1000, ms) for ms in (0, 1000, 1005, 1500, 2000, 2333, 2334, 3000)], [0, 0, 0, 50, 100, 100, 101, 103])
-        self.assertEqual([first_moment(counts, 1000, count) for count in (0, 1, 50, 100, 101, 103, 104)], [0, 1010, 1500, 2000, 2334, 3000, None])
+        self.assertEqual([at(counts, 1000, ms) for ms in (0, 1000, 1005, 1500, 2000, 2333, 2334, 3000)],
+                         [0, 0, 0, 50, 100, 100, 101, 103])
+        self.assertEqual([first_moment(counts, 1000, count) for count in (0, 1, 50, 100, 101, 103, 104)],
+                         [0, 1010, 1500, 2000, 2334, 3000, None])
 
     def test_corridor(self) -> None:
         case, curves = read("spillback")
@@ -33,7 +35,8 @@ class ByHand(unittest.TestCase):
         self.assertEqual(path.trip(6000), Trip(6000, [6000, None]))
         self.assertEqual(path.trip(9000), Trip(9000, [None]))
         self.assertIsNone(path.trip(9000).total)
-        self.assertEqual(Path(curves, case, ["a", "b"], wait=False).trip(3000), Trip(3000, [0, 6500, 2000]))  # 1500 have left a by 9.5 s
+        # 1500 have left a by 9.5 s
+        self.assertEqual(Path(curves, case, ["a", "b"], wait=False).trip(3000), Trip(3000, [0, 6500, 2000]))
 
     def test_paths_that_are_none(self) -> None:
         case, curves = read("spillback")
@@ -41,7 +44,8 @@ class ByHand(unittest.TestCase):
         self.assertRaisesRegex(Fault, "a begins at n1, and b ends at n3", Path, curves, case, ["b", "a"])
 
     def test_spans(self) -> None:
-        self.assertEqual([span(ms) for ms in (0, 49, 50, 61_000, 59_960, None)], ["0:00", "0:00", "0:00.1", "1:01", "1:00", "none"])
+        self.assertEqual([span(ms) for ms in (0, 49, 50, 61_000, 59_960, None)],
+                         ["0:00", "0:00", "0:00.1", "1:01", "1:00", "none"])
 
 
 class Answers(unittest.TestCase):
@@ -67,7 +71,8 @@ class Answers(unittest.TestCase):
                 for link in case.links:
                     path = Path(curves, case, [link.name], wait=False)
                     for slot in pick.sample(range(case.setup.slots), min(12, case.setup.slots)):
-                        self.assertEqual(path.trip(slot * curves.step_ms).total, session.time(link.name, slot).ms, (name, link.name, slot))
+                        self.assertEqual(path.trip(slot * curves.step_ms).total, session.time(link.name, slot).ms,
+                                         (name, link.name, slot))
 
 
 @needs_program
@@ -85,8 +90,10 @@ class Command(FolderTest):
 
     def test_csv(self) -> None:
         rows = list(csv.DictReader(io.StringIO(self.run_it("a", "b", "--every", "0.05", "--format", "csv"))))
-        self.assertEqual(rows[1], {"departs_ms": "3000", "total_ms": "11500", "delay_ms": "7500", "wait_ms": "1200", "a": "8300", "b": "2000"})
-        self.assertEqual(rows[2], {"departs_ms": "6000", "total_ms": "", "delay_ms": "", "wait_ms": "6000", "a": "", "b": ""})
+        self.assertEqual(rows[1], {"departs_ms": "3000", "total_ms": "11500", "delay_ms": "7500", "wait_ms": "1200",
+                                   "a": "8300", "b": "2000"})
+        self.assertEqual(rows[2], {"departs_ms": "6000", "total_ms": "", "delay_ms": "", "wait_ms": "6000", "a": "",
+                                   "b": ""})
 
 
 if __name__ == "__main__":

@@ -20,14 +20,16 @@ class TellsLinks(Protocol):
 
 
 class Case(Rows):
-    """A case, its rows as they stand in its files and in their order. `splits` is None where there is no `splits.csv`."""
+    """A case, its rows as they stand in its files and in their order. `splits` is None where there is no
+    `splits.csv`."""
 
     __slots__ = ()
 
     @classmethod
     def read(cls, folder: str | os.PathLike[str], *, splits: bool | None = None) -> "Case":
-        """The valid case of a folder, or a Fault with what the program would refuse first. With `splits` True a `splits.csv` is wanted, as by
-        `load`; with False it is not looked at, and routes are asked for, as by `routes`; with None it may be missing."""
+        """The valid case of a folder, or a Fault with what the program would refuse first. With `splits` True a
+        `splits.csv` is wanted, as by `load`; with False it is not looked at, and routes are asked for, as by `routes`;
+        with None it may be missing."""
         return cls.of(read_case(folder, splits=splits))
 
     @classmethod
@@ -41,16 +43,20 @@ class Case(Rows):
         return cls(*(getattr(rows, field.name) for field in fields(rows)))
 
     def write(self, folder: str | os.PathLike[str]) -> None:
-        """Writes the files of the case into a folder, which is made where it is not there. Without splits no `splits.csv` is written."""
+        """Writes the files of the case into a folder, which is made where it is not there. Without splits no
+        `splits.csv` is written."""
         write_rows(self, folder)
 
     def places(self, folder: str | os.PathLike[str]) -> Places | None:
-        """Where its nodes lie and its links run, as the `nodes.csv` and the `shapes.csv` of a folder say; None where there is no `nodes.csv`."""
+        """Where its nodes lie and its links run, as the `nodes.csv` and the `shapes.csv` of a folder say; None where
+        there is no `nodes.csv`."""
         return read_places(folder, self)
 
-    def to_geojson(self, folder: str | os.PathLike[str], curves: TellsLinks | None = None, boundary: int | None = None) -> str:
-        """The links as GeoJSON, with the places that the `nodes.csv` of a folder has, along the shapes of its `shapes.csv`; with the curves of
-        the case's loading also what these tell of each link, and what stands on it at a boundary."""
+    def to_geojson(self, folder: str | os.PathLike[str], curves: TellsLinks | None = None,
+                   boundary: int | None = None) -> str:
+        """The links as GeoJSON, with the places that the `nodes.csv` of a folder has, along the shapes of its
+        `shapes.csv`; with the curves of the case's loading also what these tell of each link, and what stands on it at
+        a boundary."""
         places = self.places(folder)
         if places is None:
             raise Fault(f"{os.fspath(folder)} has no {FILE}, which says where its nodes lie")

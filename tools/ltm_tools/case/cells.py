@@ -1,5 +1,5 @@
-"""Cells of a case that are more than one may have without asking: the number for the column `cells` of `setup.csv`, and the memory that they
-and the table of what origins have produced take."""
+"""Cells of a case that are more than one may have without asking: the number for the column `cells` of `setup.csv`, and
+the memory that they and the table of what origins have produced take."""
 from fractions import Fraction
 
 from ..errors import Fault
@@ -14,13 +14,14 @@ PRODUCED_BYTES = 8  # of a number of such a table
 
 
 def asked_for(cells: int) -> int:
-    """The number that a setup asks for so that it may have these cells: rounded up to millions, at most what may be asked for."""
+    """The number that a setup asks for so that it may have these cells: rounded up to millions, at most what may be
+    asked for."""
     return min(MOST_CELLS_ASKED, -(-cells // ROUNDED_TO) * ROUNDED_TO)
 
 
 def produced_bytes(case: Rows) -> int:
-    """The memory of the table of what origins have produced: of each origin, up to the last slot with demand from there, a number for each
-    destination up to the last that it has in order of numbers, and one for all together."""
+    """The memory of the table of what origins have produced: of each origin, up to the last slot with demand from
+    there, a number for each destination up to the last that it has in order of numbers, and one for all together."""
     number = {node: place for place, node in enumerate(case.destinations)}
     last: dict[str, tuple[int, int]] = {}
     for row in case.standing_demand():
@@ -43,20 +44,23 @@ def memory_text(cells: int, produced: int = 0) -> str:
 
 
 def cells_in(memory: int, produced: int) -> int:
-    """The cells for which a session surely finds so many bytes of memory, beside its tables of what origins have produced."""
+    """The cells for which a session surely finds so many bytes of memory, beside its tables of what origins have
+    produced."""
     return max(0, int((memory - SESSION_TABLES * produced) // SESSION_BYTES[1]))
 
 
 def ask_for_cells(case: Rows) -> str:
-    """The cells of a case in a line; its setup asks for them where they are more than it may have without. A Fault with what would fit
-    where they are more than may be asked for."""
+    """The cells of a case in a line; its setup asks for them where they are more than it may have without. A Fault with
+    what would fit where they are more than may be asked for."""
     cells = case.cells()
     if cells > MOST_CELLS_ASKED:
-        raise Fault(f"{count_text(cells)} cells, and at most {count_text(MOST_CELLS_ASKED)} may be: {cells_advice(case)}")
+        raise Fault(f"{count_text(cells)} cells, and at most {count_text(MOST_CELLS_ASKED)} may be:"
+                    f" {cells_advice(case)}")
     if cells <= MOST_CELLS:
         return f"{count_text(cells)} cells of at most {count_text(MOST_CELLS)}"
     case.setup.cells = asked_for(cells)
-    return (f"{count_text(cells)} cells, so the column cells of setup.csv asks for {count_text(case.setup.cells)}, as without it {count_text(MOST_CELLS)} may be:"
+    return (f"{count_text(cells)} cells, so the column cells of setup.csv asks for {count_text(case.setup.cells)}, as"
+            f" without it {count_text(MOST_CELLS)} may be:"
             f" {memory_text(cells, produced_bytes(case))}")
 
 
@@ -67,7 +71,8 @@ def cells_advice(case: Rows) -> str:
     told = []
     if fitting * step >= MINUTE_MS:
         told.append(f"--horizon {fitting * step // MINUTE_MS} at this step")
-    longer = next((number for number in range(step + 1, MOST_STEP_MS + 1) if MINUTE_MS % number == 0 and -(-slots * step // number) <= fitting), None)
+    longer = next((number for number in range(step + 1, MOST_STEP_MS + 1) if MINUTE_MS % number == 0
+                   and -(-slots * step // number) <= fitting), None)
     if longer:
         told.append(f"--fit {longer} at this horizon")
     ends = len(case.destinations) * fitting // slots

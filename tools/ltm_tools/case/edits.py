@@ -1,4 +1,5 @@
-"""The edits of a session, as objects of its script. Amounts are thousandths of a vehicle; slots go up to, and without, `to_slot`."""
+"""The edits of a session, as objects of its script. Amounts are thousandths of a vehicle; slots go up to, and without,
+`to_slot`."""
 from collections.abc import Iterable, Mapping
 
 from ..formats import MOST_SLOT_UNITS, short_vehicles
@@ -10,7 +11,8 @@ NO_LIMIT = MOST_SLOT_UNITS  # the limit of a link for which none was set
 
 def demand(origin: str, destination: str, from_slot: int, to_slot: int, units: int) -> Edit:
     """Sets a demand row; with 0 units it is taken out."""
-    return {"kind": "demand", "origin": origin, "destination": destination, "from": from_slot, "to": to_slot, "vehicles": short_vehicles(units)}
+    return {"kind": "demand", "origin": origin, "destination": destination, "from": from_slot, "to": to_slot,
+            "vehicles": short_vehicles(units)}
 
 
 def limit(link: str, from_slot: int, to_slot: int, units: int = NO_LIMIT) -> Edit:
@@ -29,13 +31,16 @@ def split(node: str, destination: str, from_slot: int, weights: Mapping[str, int
 
 
 def splits(node: str, destination: str, rows: Iterable[tuple[int, Mapping[str, int]]]) -> Edit:
-    """Sets all split rows of a node for a destination, each the slot from which on it stands, the first 0, and its weights: others go."""
-    return {"kind": "splits", "node": node, "destination": destination, "rows": [[slot, dict(weights)] for slot, weights in rows]}
+    """Sets all split rows of a node for a destination, each the slot from which on it stands, the first 0, and its
+    weights: others go."""
+    return {"kind": "splits", "node": node, "destination": destination,
+            "rows": [[slot, dict(weights)] for slot, weights in rows]}
 
 
 def diagram(link: str, length_m: int, free_kmh: int, wave_kmh: int, jam_per_km: int) -> Edit:
     """Sets the diagram of a link for the whole horizon."""
-    return {"kind": "diagram", "link": link, "length_m": length_m, "free_kmh": free_kmh, "wave_kmh": wave_kmh, "jam_per_km": jam_per_km}
+    return {"kind": "diagram", "link": link, "length_m": length_m, "free_kmh": free_kmh, "wave_kmh": wave_kmh,
+            "jam_per_km": jam_per_km}
 
 
 def horizon(slots: int) -> Edit:

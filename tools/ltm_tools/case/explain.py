@@ -1,7 +1,7 @@
 """What the program has written, in words, with what to do about it.
 
-It reads the files itself, and tells a fault only where it finds the very one that the program has told. Where it finds nothing it
-writes nothing.
+It reads the files itself, and tells a fault only where it finds the very one that the program has told. Where it finds
+nothing it writes nothing.
 """
 import os
 import re
@@ -24,7 +24,8 @@ MOST_TOLD = 5  # lines of a script
 Told = list[str]
 
 
-def explain(folder: str, status: int, line: str, words: Sequence[str] = (), script: str | None = None, command: str | None = None) -> Told:
+def explain(folder: str, status: int, line: str, words: Sequence[str] = (), script: str | None = None,
+            command: str | None = None) -> Told:
     """The lines that explain a run in a folder which ended with this status; none where there is nothing to say."""
     words = list(words) or ["load"]
     told = by_status(folder, status, line, words) if command is None else refused(folder, line, command)
@@ -118,7 +119,9 @@ def file_advice(folder: str, fault: NoFile) -> Told:
         return [*told, f"    ./ltm {folder} routes >{folder}/splits.csv writes one, of the fastest ways on empty roads"]
     if fault.file in ("signals", "limits"):
         return [*told, f"    setup.csv asks for it: write it, or put 0 in the field {fault.file}"]
-    return [*told, f"    a case has setup.csv, links.csv, demand.csv and splits.csv; its first line is {','.join(HEADERS[fault.file])}"]
+    return [*told,
+            f"    a case has setup.csv, links.csv, demand.csv and splits.csv; its first line is"
+            f" {','.join(HEADERS[fault.file])}"]
 
 
 def _names_in(folder: str) -> list[str]:
@@ -164,7 +167,8 @@ def too_much(folder: str, status: int, line: str, words: list[str]) -> Told:
         return [f"the script has more than {lines} lines, and that is the most: the first {lines} are answered"]
     number = re.fullmatch(r"too long line ([0-9]+)", line.strip())
     if number:
-        return [f"line {number[1]} of the script has more than {count_text(MOST_LINE_BYTES)} bytes, and that is the most",
+        return [f"line {number[1]} of the script has more than {count_text(MOST_LINE_BYTES)} bytes, and that is the"
+                f" most",
                 "    cut the batch into several: a batch has at most 32 edits"]
     if not line.strip() and words[0] in ("session", "view"):
         return [f"a line of the script has more than {count_text(MOST_LINE_BYTES)} bytes, and that is the most"]
@@ -175,7 +179,8 @@ def too_much(folder: str, status: int, line: str, words: list[str]) -> Told:
     path = os.path.join(folder, name + (".jsonl" if name.startswith("edits") else ".csv"))
     if not os.path.isfile(path) or os.path.getsize(path) <= most:
         return []
-    return [f"{os.path.basename(path)} has {count_text(os.path.getsize(path))} bytes, and at most {count_text(most)} are read"]
+    return [f"{os.path.basename(path)} has {count_text(os.path.getsize(path))} bytes, and at most {count_text(most)}"
+            f" are read"]
 
 
 def no_memory(folder: str, words: list[str]) -> Told:
@@ -185,7 +190,8 @@ def no_memory(folder: str, words: list[str]) -> Told:
     except Fault:
         return ["memory was not found"]
     cells = case.cells()
-    return [f"memory was not found; the case has {count_text(cells)} cells, {memory_text(cells, produced_bytes(case))}", "    take fewer slots, or end other programs"]
+    return [f"memory was not found; the case has {count_text(cells)} cells, {memory_text(cells, produced_bytes(case))}",
+            "    take fewer slots, or end other programs"]
 
 
 def bad_curves(folder: str, line: str) -> Told:
@@ -216,12 +222,14 @@ def not_loading(folder: str, line: str) -> Told:
     into, out = ([link.name for link in links] for links in (case.in_links(node), case.out_links(node)))
     when = f"slot {slot}, which is {clock_text(begin)} to {clock_text(end)} of the horizon"
     return [f"the counts at the end of {when}, are not what the node {node} makes of those before",
-            f"    links into it: {', '.join(into) or 'none'}; out of it: {', '.join(out) or 'none'}; docs/MODEL.md has the rules of a node step"]
+            f"    links into it: {', '.join(into) or 'none'}; out of it: {', '.join(out) or 'none'}; docs/MODEL.md has"
+            f" the rules of a node step"]
 
 
 def bad_script(folder: str, line: str) -> Told:
     """Why a line of a file of edits is no edit."""
-    found = re.fullmatch(r"bad script edits([1-8]) line ([0-9]{1,10}) (NotEdit|NotJson|NotCommand [0-9]+)", line.strip())
+    found = re.fullmatch(r"bad script edits([1-8]) line ([0-9]{1,10}) (NotEdit|NotJson|NotCommand [0-9]+)",
+                         line.strip())
     if found is None:
         return []
     name, number = f"edits{found[1]}.jsonl", int(found[2])

@@ -8,12 +8,14 @@ from ..formats import count_text, counted
 from .rows import Rows
 
 UNITS_EACH = 20
-"""Thousandths of a vehicle that a link passes in a slot for each destination that uses it, with which flooring takes little."""
+"""Thousandths of a vehicle that a link passes in a slot for each destination that uses it, with which flooring takes
+little."""
 
 
 @dataclass(frozen=True, slots=True)
 class Narrow:
-    """A link that passes less in a slot, in thousandths of a vehicle, than flooring for so many destinations asks for."""
+    """A link that passes less in a slot, in thousandths of a vehicle, than flooring for so many destinations asks
+    for."""
 
     name: str
     units: int
@@ -21,9 +23,11 @@ class Narrow:
 
 
 def narrow_links(case: Rows) -> list[Narrow]:
-    """The links that pass less than `UNITS_EACH` in a slot for each destination that uses them, the worst first; none without splits."""
+    """The links that pass less than `UNITS_EACH` in a slot for each destination that uses them, the worst first; none
+    without splits."""
     users = uses(case)
-    found = [Narrow(link.name, link.capacity(case.setup.step_ms), users[link.name]) for link in case.links if link.name in users]
+    found = [Narrow(link.name, link.capacity(case.setup.step_ms), users[link.name]) for link in case.links
+             if link.name in users]
     found = [link for link in found if link.units < UNITS_EACH * link.destinations]
     return sorted(found, key=lambda link: (link.units / link.destinations, link.name))
 
@@ -63,7 +67,11 @@ def flooring_lines(case: Rows) -> list[str]:
     if not narrow:
         return []
     worst, whole = narrow[0], case.setup.moves
-    takes = "what passes is shared over the destinations in coarse parts" if whole else "flooring takes a part of what could pass"
-    return [f"flooring    {counted(len(narrow), 'link')} with less than {UNITS_EACH} thousandths of a vehicle in a slot for each destination that uses it: {takes}",
-            f"            the worst is {worst.name}: {count_text(worst.units)} thousandths in a slot, and {counted(worst.destinations, 'destination')}",
-            f"            {'' if whole else 'write 1 in the column moves of setup.csv, or '}take longer steps or fewer destinations"]
+    takes = ("what passes is shared over the destinations in coarse parts" if whole else "flooring takes a part of what"
+             " could pass")
+    return [f"flooring    {counted(len(narrow), 'link')} with less than {UNITS_EACH} thousandths of a vehicle in a slot"
+            f" for each destination that uses it: {takes}",
+            f"            the worst is {worst.name}: {count_text(worst.units)} thousandths in a slot, and"
+            f" {counted(worst.destinations, 'destination')}",
+            f"            {'' if whole else 'write 1 in the column moves of setup.csv, or '}take longer steps or fewer"
+            f" destinations"]

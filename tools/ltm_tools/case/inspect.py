@@ -92,11 +92,15 @@ def size_lines(case: Case) -> list[str]:
     cells, fits = case.cells(), case.slots_that_fit()
     produced = produced_bytes(case)
     in_memory = min(fits, case.slots_that_fit(cells_in(free_memory(), produced)))
-    asking = f"; the column cells of setup.csv may ask for {asked_for(cells)}" if setup.most_cells < cells <= MOST_CELLS_ASKED else ""
+    asking = (f"; the column cells of setup.csv may ask for {asked_for(cells)}"
+              if setup.most_cells < cells <= MOST_CELLS_ASKED else "")
     return [
-        f"network     {counted(len(case.links), 'link')}, {counted(len(case.nodes), 'node')}, {counted(len(case.destinations), 'destination')}",
-        f"demand      {vehicles_text(sum(row.units for row in demand))} vehicles in {counted(len(demand), 'row')}{span}",
-        f"splits      {'none: ltm routes writes them' if case.splits is None else counted(len(case.standing_splits()), 'row')}",
+        f"network     {counted(len(case.links), 'link')}, {counted(len(case.nodes), 'node')},"
+        f" {counted(len(case.destinations), 'destination')}",
+        f"demand      {vehicles_text(sum(row.units for row in demand))} vehicles in {counted(len(demand), 'row')}"
+        + span,
+        "splits      "
+        + ("none: ltm routes writes them" if case.splits is None else counted(len(case.standing_splits()), "row")),
         f"horizon     {clock_text(setup.horizon_ms)}, {counted(setup.slots, 'slot')} of {setup.step_ms} ms",
         f"cells       {count_text(cells)} of at most {count_text(setup.most_cells)}; up to {count_text(fits)} slots fit"
         + (", the most there may be" if fits == MOST_SLOTS else "") + asking,
@@ -125,7 +129,8 @@ def step_lines(case: Case) -> list[str]:
     told = [f"step        {case.setup.step_ms} ms; the links allow {least} ms at most"]
     told += [f"            {link.name} allows {link.longest_step_ms} ms: {why(link)}" for link in links[:3]]
     over = sum(link.longest_step_ms < case.setup.step_ms for link in links)
-    return told + ([f"            {counted(over, 'link')} may not have the step of {case.setup.step_ms} ms"] if over else [])
+    return told + ([f"            {counted(over, 'link')} may not have the step of {case.setup.step_ms} ms"] if over
+                   else [])
 
 
 def why(link: Link) -> str:
@@ -145,7 +150,8 @@ def circle_lines(case: Case) -> list[str]:
     circles = find_circles(case)
     if not circles:
         return ["circles     none in the splits"]
-    told = [f"circles     in the splits of {len(circles)} of {counted(len(case.destinations), 'destination')}: traffic that is sent round"]
+    told = [f"circles     in the splits of {len(circles)} of {counted(len(case.destinations), 'destination')}: traffic"
+            f" that is sent round"]
     for circle in circles[:MOST_TOLD]:
         since = f" from {clock_text(circle.from_slot * case.setup.step_ms)} on" if circle.from_slot else ""
         more = f" and {counted(len(circle.links) - MOST_LINKS, 'more link')}" if len(circle.links) > MOST_LINKS else ""
@@ -159,7 +165,8 @@ def more_line(count: int) -> list[str]:
 
 @dataclass(slots=True)
 class Origin:
-    """The most that the demand of an origin asks for in a slot, the slot where that begins, and what the origin can send in one."""
+    """The most that the demand of an origin asks for in a slot, the slot where that begins, and what the origin can
+    send in one."""
 
     name: str
     asked: Fraction
@@ -173,11 +180,13 @@ def origin_lines(case: Case) -> list[str]:
     over = sorted(overloaded(case), key=lambda origin: origin.sends / origin.asked)
     if not over:
         return ["origins     none with more demand in a slot than can be sent"]
-    told = [f"origins     {counted(len(over), 'origin')} with more demand in a slot than can be sent, so that vehicles wait there"]
+    told = [f"origins     {counted(len(over), 'origin')} with more demand in a slot than can be sent, so that vehicles"
+            f" wait there"]
     for origin in over[:MOST_TOLD]:
         step_ms = case.setup.step_ms
         asked, sends = hourly(origin.asked, step_ms), hourly(Fraction(origin.sends), step_ms)
-        told.append(f"            {origin.name}: {asked} vehicles an hour from {clock_text(origin.slot * step_ms)} on, and {origin.by} {sends} at most")
+        told.append(f"            {origin.name}: {asked} vehicles an hour from {clock_text(origin.slot * step_ms)} on,"
+                    f" and {origin.by} {sends} at most")
     return told + more_line(len(over))
 
 
@@ -187,7 +196,8 @@ def hourly(units: Fraction, step_ms: int) -> str:
 
 
 def links_used(case: Case) -> set[str] | None:
-    """The links over which splits send what sets out at their tails, whenever that is; None where there are no splits."""
+    """The links over which splits send what sets out at their tails, whenever that is; None where there are no
+    splits."""
     if case.splits is None:
         return None
     pairs = {(row.origin, row.destination) for row in case.standing_demand()}
@@ -196,7 +206,8 @@ def links_used(case: Case) -> set[str] | None:
 
 
 def overloaded(case: Case) -> list[Origin]:
-    """The origins whose demand asks, in some slot, for more than the origin capacity, or than the links over which it is sent take."""
+    """The origins whose demand asks, in some slot, for more than the origin capacity, or than the links over which it
+    is sent take."""
     changes: dict[str, dict[int, Fraction]] = {}
     for row in case.standing_demand():
         pace = Fraction(row.units, row.to_slot - row.from_slot)
@@ -227,5 +238,6 @@ def link_lines(folder: str) -> list[str]:
     case = read_loosely(folder)
     told = [TABLE.format("link", "length_m", "free_ms", "wave_ms", "most_step", "storage")]
     for link in case.links:
-        told.append(TABLE.format(link.name, link.length_m, link.free_ms, link.wave_ms, link.longest_step_ms, short_vehicles(link.storage_units)))
+        told.append(TABLE.format(link.name, link.length_m, link.free_ms, link.wave_ms, link.longest_step_ms,
+                                 short_vehicles(link.storage_units)))
     return told

@@ -1,7 +1,8 @@
 """A scenario as a case: the edits of accepted batches made in the files of the case that they were made of.
 
-What is kept loads as the session shows it, to the last thousandth. The numbers of destinations decide how shares are rounded: so where the
-order of the files would be another, rows of demand with 0 vehicles stand first and name the destinations in theirs.
+What is kept loads as the session shows it, to the last thousandth. The numbers of destinations decide how shares are
+rounded: so where the order of the files would be another, rows of demand with 0 vehicles stand first and name the
+destinations in theirs.
 """
 from __future__ import annotations
 
@@ -69,10 +70,13 @@ class Layers:
         self.count += 1
 
     def lay(self, row: Limit) -> None:
-        """Adds a row over the others, and takes out those of which it leaves nothing; it is left out where it takes nothing back."""
+        """Adds a row over the others, and takes out those of which it leaves nothing; it is left out where it takes
+        nothing back."""
         under = self.of.get(row.link, {})
-        self.of[row.link] = {place: other for place, other in under.items() if other.from_slot < row.from_slot or other.to_slot > row.to_slot}
-        over = any(other.from_slot < row.to_slot and other.to_slot > row.from_slot for other in self.of[row.link].values())
+        self.of[row.link] = {place: other for place, other in under.items() if other.from_slot < row.from_slot
+                             or other.to_slot > row.to_slot}
+        over = any(other.from_slot < row.to_slot and other.to_slot > row.from_slot
+                   for other in self.of[row.link].values())
         if over or row.units < MOST_SLOT_UNITS:
             self.add(row)
 
@@ -88,8 +92,10 @@ class Keeper:
         self.case = copy.deepcopy(case)
         self.destinations = dict.fromkeys(case.destinations)
         self.links = {link.name: link for link in self.case.links}
-        self.demand: ByKey[Demand] = ByKey(self.case.demand, lambda row: (row.origin, row.destination, row.from_slot, row.to_slot))
-        self.splits: ByKey[Split] = ByKey(self.case.splits or (), lambda row: (row.node, row.destination, row.from_slot))
+        self.demand: ByKey[Demand] = ByKey(self.case.demand,
+                                           lambda row: (row.origin, row.destination, row.from_slot, row.to_slot))
+        self.splits: ByKey[Split] = ByKey(self.case.splits or (),
+                                          lambda row: (row.node, row.destination, row.from_slot))
         self.slots: dict[tuple[str, str], set[int]] = {}  # at which the rows of each pair begin
         for row in self.splits.rows.values():
             self.slots.setdefault((row.node, row.destination), set()).add(row.from_slot)
@@ -110,7 +116,8 @@ class Keeper:
         kind = edit["kind"]
         if kind == "demand":
             self.destinations.setdefault(str(edit["destination"]))
-            self.demand.put(Demand(str(edit["origin"]), str(edit["destination"]), whole(edit["from"]), whole(edit["to"]), units_of(str(edit["vehicles"]))))
+            self.demand.put(Demand(str(edit["origin"]), str(edit["destination"]), whole(edit["from"]),
+                                   whole(edit["to"]), units_of(str(edit["vehicles"]))))
         elif kind == "split":
             self.destinations.setdefault(str(edit["destination"]))
             weights = edit["weights"]
@@ -126,17 +133,22 @@ class Keeper:
                 self.put_split(Split(*pair, whole(slot), dict(of)))
         elif kind in ("limit", "exit"):
             layers = self.limits if kind == "limit" else self.signals
-            layers.lay(Limit(str(edit["link"]), whole(edit["from"]), whole(edit["to"]), units_of(str(edit["vehicles"]))))
+            layers.lay(Limit(str(edit["link"]), whole(edit["from"]), whole(edit["to"]),
+                             units_of(str(edit["vehicles"]))))
         elif kind == "diagram":
             link = self.links[str(edit["link"])]
-            link.length_m, link.free_kmh, link.wave_kmh, link.jam_per_km = (whole(edit[name]) for name in ("length_m", "free_kmh", "wave_kmh", "jam_per_km"))
+            link.length_m, link.free_kmh, link.wave_kmh, link.jam_per_km = ((whole(edit[name])
+                                                                             for name in ("length_m", "free_kmh",
+                                                                                          "wave_kmh", "jam_per_km")))
         else:
             self.case.setup.slots = whole(edit["slots"])
 
     def kept(self) -> Case:
         """The case of the scenario."""
-        demand, splits = list(self.demand.rows.values()), None if self.case.splits is None else list(self.splits.rows.values())
-        case = copy.deepcopy(replace(self.case, demand=demand, splits=splits, limits=self.limits.rows(), signals=self.signals.rows()))
+        demand, splits = (list(self.demand.rows.values()),
+                          None if self.case.splits is None else list(self.splits.rows.values()))
+        case = copy.deepcopy(replace(self.case, demand=demand, splits=splits, limits=self.limits.rows(),
+                                     signals=self.signals.rows()))
         case.setup.signals = case.setup.signals or bool(case.signals)
         case.setup.limits = case.setup.limits or bool(case.limits)
         if case.destinations != list(self.destinations):
@@ -166,8 +178,10 @@ def case_of(folder: str | os.PathLike[str], made: Sequence[Sequence[Edit]], vers
     return keeper.kept()
 
 
-def keep(folder: str | os.PathLike[str], made: Sequence[Sequence[Edit]], to: str | os.PathLike[str], version: int | None = None) -> None:
-    """Writes that case into another folder, with the places of nodes and the shapes of links as they are where the first folder has them."""
+def keep(folder: str | os.PathLike[str], made: Sequence[Sequence[Edit]], to: str | os.PathLike[str],
+         version: int | None = None) -> None:
+    """Writes that case into another folder, with the places of nodes and the shapes of links as they are where the
+    first folder has them."""
     kept = {name: read_bytes(path) for name in FILES if os.path.exists(path := os.path.join(folder, name))}
     case = case_of(folder, made, version)
     with together():
@@ -177,7 +191,8 @@ def keep(folder: str | os.PathLike[str], made: Sequence[Sequence[Edit]], to: str
 
 
 class Batch(NamedTuple):
-    """A line of a script that is an `edit` command: its number, counted from 1, its text, its edits, and whether it is accepted."""
+    """A line of a script that is an `edit` command: its number, counted from 1, its text, its edits, and whether it is
+    accepted."""
 
     number: int
     line: bytes
@@ -185,10 +200,13 @@ class Batch(NamedTuple):
     accepted: bool
 
 
-def batches_of(folder: str | os.PathLike[str], script: str | os.PathLike[str], program: str | os.PathLike[str] | None) -> list[Batch]:
+def batches_of(folder: str | os.PathLike[str], script: str | os.PathLike[str],
+               program: str | os.PathLike[str] | None) -> list[Batch]:
     """The batches of a script; which of them are accepted the program says."""
-    found = [(number, line, edits) for number, line in enumerate(read_script(script), 1) if (edits := edits_of(line)) is not None]
-    return [Batch(*batch, good) for batch, good in zip(found, accepted(folder, [line for _, line, _ in found], program))]
+    found = [(number, line, edits) for number, line in enumerate(read_script(script), 1)
+             if (edits := edits_of(line)) is not None]
+    return [Batch(*batch, good) for batch, good in zip(found,
+                                                       accepted(folder, [line for _, line, _ in found], program))]
 
 
 def edits_of(line: bytes) -> list[Edit] | None:
@@ -202,9 +220,11 @@ def edits_of(line: bytes) -> list[Edit] | None:
     return list(told["edits"])
 
 
-def accepted(folder: str | os.PathLike[str], lines: Sequence[bytes], program: str | os.PathLike[str] | None) -> list[bool]:
+def accepted(folder: str | os.PathLike[str], lines: Sequence[bytes],
+             program: str | os.PathLike[str] | None) -> list[bool]:
     """Which of these lines of edits the program accepts, one after the other."""
-    answers = output(folder, "session", "0", program=program, script=b"".join(line + b"\n" for line in lines)).decode("utf-8", "backslashreplace").splitlines()
+    answers = output(folder, "session", "0", program=program,
+                     script=b"".join(line + b"\n" for line in lines)).decode("utf-8", "backslashreplace").splitlines()
     if len(answers) != len(lines):
         raise Fault(f"{folder}: the session answered {len(answers)} of {len(lines)} lines")
     return [answer.startswith("accepted ") for answer in answers]

@@ -1,9 +1,11 @@
-"""Where the nodes of a case lie and its links run: the files `nodes.csv` and `shapes.csv` beside its files, which the program does not read.
+"""Where the nodes of a case lie and its links run: the files `nodes.csv` and `shapes.csv` beside its files, which the
+program does not read.
 
-The header of `nodes.csv` has `name`, `x` and `y`, and may have `crs`, the same in each row: the projection of x and y as an EPSG code, as
-`EPSG:25832`. With `EPSG:4326` x and y are degrees of longitude and latitude; without a `crs` they are lengths in some unit, x to the
-east and y to the north. That of `shapes.csv` is `link,points`: of each link that does not run straight its points from its first node to
-its last, as `x y;x y;x y`, in the projection of `nodes.csv`. Other columns are passed over, and `shapes.csv` where no `nodes.csv` is.
+The header of `nodes.csv` has `name`, `x` and `y`, and may have `crs`, the same in each row: the projection of x and y
+as an EPSG code, as `EPSG:25832`. With `EPSG:4326` x and y are degrees of longitude and latitude; without a `crs` they
+are lengths in some unit, x to the east and y to the north. That of `shapes.csv` is `link,points`: of each link that
+does not run straight its points from its first node to its last, as `x y;x y;x y`, in the projection of `nodes.csv`.
+Other columns are passed over, and `shapes.csv` where no `nodes.csv` is.
 """
 from __future__ import annotations
 
@@ -28,7 +30,8 @@ Line = tuple[Place, ...]
 
 @dataclass(slots=True)
 class Places:
-    """The place of each node, their projection where it is known, and the points of each link that does not run straight."""
+    """The place of each node, their projection where it is known, and the points of each link that does not run
+    straight."""
 
     of: dict[str, Place]
     crs: str | None = None
@@ -39,7 +42,8 @@ class Places:
         return self.shapes.get(link.name) or (self.of[link.tail], self.of[link.head])
 
     def plane(self) -> Places:
-        """The places in a plane with one scale in all directions, for a picture: degrees are shortened by the latitude of the middle."""
+        """The places in a plane with one scale in all directions, for a picture: degrees are shortened by the latitude
+        of the middle."""
         if self.crs != DEGREES or not self.of:
             return self
         latitudes = [y for _, y in self.of.values()]
@@ -81,7 +85,8 @@ def points_of(text: str) -> Line | None:
 
 
 def read_places(folder: str | os.PathLike[str], case: Rows) -> Places | None:
-    """The places of all nodes of a case, and the shapes of its links, where its folder has the files; a Fault where a node has none."""
+    """The places of all nodes of a case, and the shapes of its links, where its folder has the files; a Fault where a
+    node has none."""
     path = os.path.join(folder, FILE)
     if not os.path.exists(path):
         return None

@@ -7,8 +7,10 @@ import os
 from collections.abc import Callable, Iterable
 
 from ..files import records
-from ..formats import (HEADERS, MOST_CELLS_ASKED, MOST_DESTINATIONS_ASKED, MOST_IN, MOST_JAM_PER_KM, MOST_KMH, MOST_LENGTH_M,
-                       MOST_LINKS_ASKED, MOST_OUT, MOST_ROWS_ASKED, MOST_SLOTS, MOST_SLOT_UNITS, MOST_STEP_MS, weights_or_none)
+from ..formats import (HEADERS, MOST_CELLS_ASKED, MOST_DESTINATIONS_ASKED, MOST_IN, MOST_JAM_PER_KM, MOST_KMH,
+                       MOST_LENGTH_M,
+                       MOST_LINKS_ASKED, MOST_OUT, MOST_ROWS_ASKED, MOST_SLOTS, MOST_SLOT_UNITS, MOST_STEP_MS,
+                       weights_or_none)
 from . import bad_case
 from .bad_case import NoFile
 from .fields import check_width, fetch, name_in, read_header, units_in, whole_in
@@ -16,15 +18,16 @@ from .rows import Demand, Limit, Link, Rows, Setup, Split
 from .valid import check_cells, check_routes, check_splits
 
 MOST_DIAGRAM = (MOST_LENGTH_M, MOST_KMH, MOST_KMH, MOST_JAM_PER_KM)
-RANGES = {"step_ms": (1, MOST_STEP_MS), "slots": (1, MOST_SLOTS), "origin_capacity": (1, MOST_SLOT_UNITS), "signals": (0, 1), "limits": (0, 1),
+RANGES = {"step_ms": (1, MOST_STEP_MS), "slots": (1, MOST_SLOTS), "origin_capacity": (1, MOST_SLOT_UNITS),
+          "signals": (0, 1), "limits": (0, 1),
           "cells": (1, MOST_CELLS_ASKED), "rows": (1, MOST_ROWS_ASKED), "links": (1, MOST_LINKS_ASKED),
           "destinations": (1, MOST_DESTINATIONS_ASKED), "moves": (0, 1)}
 """Of each field of `setup.csv` the least and the most."""
 
 
 def read_case(folder: str | os.PathLike[str], *, splits: bool | None = None) -> Rows:
-    """The valid case of a folder, or the first fault. With `splits` True a `splits.csv` is wanted, as by `load`; with False it is not
-    looked at, and routes are asked for, as by `routes`; with None it may be missing."""
+    """The valid case of a folder, or the first fault. With `splits` True a `splits.csv` is wanted, as by `load`; with
+    False it is not looked at, and routes are asked for, as by `routes`; with None it may be missing."""
     texts = {file: fetch(folder, file) for file in ("setup", "links", "demand")}
     if splits is not False:
         try:
@@ -83,7 +86,8 @@ def read_setup(data: bytes) -> Setup:
             raise bad_case.setup_range(place, name, fields[place - 1])
     if len(found) > 2:
         raise bad_case.second_setup_record()
-    return Setup(step_ms, slots, values[2], named.get("signals") == 1, named.get("limits") == 1, named.get("cells"), named.get("rows"),
+    return Setup(step_ms, slots, values[2], named.get("signals") == 1, named.get("limits") == 1, named.get("cells"),
+                 named.get("rows"),
                  named.get("links"), named.get("destinations"), named.get("moves") == 1)
 
 
@@ -222,7 +226,8 @@ def check_diagram(row: int, link: Link, step_ms: int) -> None:
             raise bad_case.over(row, place, name, most)
     if step_ms > min(link.free_ms, link.wave_ms):
         speeds = (link.free_kmh, link.wave_kmh)
-        raise bad_case.step_too_long(row, (link.free_ms, link.wave_ms), step_ms, (step_ms - 1) * max(speeds) // 3600 + 1, speeds)
+        raise bad_case.step_too_long(row, (link.free_ms, link.wave_ms), step_ms,
+                                     (step_ms - 1) * max(speeds) // 3600 + 1, speeds)
     capacity = link.capacity(step_ms)
     if capacity == 0:
         raise bad_case.no_capacity(row, step_ms, link.least_step_ms)

@@ -1,7 +1,8 @@
-"""Why a session refuses a command, in words: what its answer says, by the command and by the case that the session began with.
+"""Why a session refuses a command, in words: what its answer says, by the command and by the case that the session
+began with.
 
-The links, nodes and destinations of a session never change, and its step neither; its slots and rows may, so of these the rule alone
-is told.
+The links, nodes and destinations of a session never change, and its step neither; its slots and rows may, so of these
+the rule alone is told.
 """
 from collections.abc import Mapping
 
@@ -22,7 +23,10 @@ def why_refused(case: Case, command: Members, answer: str) -> str:
         return of_question(case, command, words[2])
     place = whole_of(words[2]) if words[:2] == ["refused", "edit"] and len(words) > 3 else None
     edits = command.get("edits")
-    if place is None or not isinstance(edits, (list, tuple)) or not 1 <= place <= len(edits) or not isinstance(edits[place - 1], Mapping):
+    if place is None or not isinstance(edits,
+                                       (list, tuple)) or not 1 <= place <= len(edits) or not isinstance(edits[place
+                                                                                                              - 1],
+                                                                                                        Mapping):
         return ""
     return of_edit(case, edits[place - 1], words[3:])
 
@@ -31,7 +35,8 @@ def of_question(case: Case, command: Members, cause: str) -> str:
     if cause == "UnknownName":
         return unknown(case, command)
     where = "not below" if command.get("do") == "time" else "past"
-    return f"slot {command.get('slot')} is {where} the horizon of the loading that is shown" if cause == "BadSlots" else ""
+    return (f"slot {command.get('slot')} is {where} the horizon of the loading that is shown" if cause == "BadSlots"
+            else "")
 
 
 def of_edit(case: Case, edit: Members, cause: list[str]) -> str:
@@ -49,13 +54,15 @@ def of_edit(case: Case, edit: Members, cause: list[str]) -> str:
     if cause[0] == "BadSlots":
         return bad_slots(edit)
     if cause[0] == "ZeroWeight":
-        zero = next((f" of row {number}" for number, (_, weights) in enumerate(rows_of(edit), 1) if not any(weights.values())), "")
+        zero = next((f" of row {number}" for number, (_, weights) in enumerate(rows_of(edit), 1)
+                     if not any(weights.values())), "")
         return f"all weights{zero} are 0"
     if cause[0] == "OpenSplit":
         return open_split(edit)
     if cause[0] == "TooManyRows":
         most = case.setup.most_demand_rows if kind == "demand" else case.setup.most_split_rows
-        return f"there {f'would be more than {count_text(most)} rows' if kind == 'splits' else f'are {count_text(most)} rows already'}, which is the most"
+        there = f"would be more than {count_text(most)}" if kind == "splits" else f"are {count_text(most)}"
+        return f"there {there} rows{'' if kind == 'splits' else ' already'}, which is the most"
     if cause[0] == "CellsOver" and len(cause) == 2 and (cells := told_or_none(cause[1])) is not None:
         return f"the case would have {count_text(cells)} cells, and at most {count_text(case.setup.most_cells)} may be"
     return diagram(case, edit, " ".join(cause)) if kind == "diagram" else ""
@@ -79,7 +86,8 @@ def rows_of(edit: Members) -> list[tuple[int, Members]]:
     """The rows of an edit `splits`, each a slot and weights; none of another."""
     rows = edit.get("rows")
     pairs = rows if isinstance(rows, (list, tuple)) and edit.get("kind") == "splits" else ()
-    return [(row[0], row[1]) for row in pairs if isinstance(row, (list, tuple)) and len(row) == 2 and isinstance(row[0], int)]
+    return [(row[0], row[1]) for row in pairs if isinstance(row, (list, tuple)) and len(row) == 2
+            and isinstance(row[0], int)]
 
 
 def bad_rows(edit: Members) -> str:
@@ -99,10 +107,12 @@ def bad_slots(edit: Members) -> str:
         return bad_rows(edit)
     first, end = edit.get("from"), edit.get("to")
     if edit.get("kind") == "horizon":
-        return f"a horizon of {edit.get('slots')} slots is no longer than the one before, or above {count_text(MOST_SLOTS)}"
+        return (f"a horizon of {edit.get('slots')} slots is no longer than the one before, or above"
+                f" {count_text(MOST_SLOTS)}")
     if isinstance(first, int) and isinstance(end, int) and first >= end:
         return f"from slot {first} up to, and without, slot {end} there is none"
-    return f"slots from {first} on go past the horizon" if end is None else f"slots up to, and without, {end} go past the horizon"
+    return (f"slots from {first} on go past the horizon" if end is None else f"slots up to, and without, {end} go past"
+            f" the horizon")
 
 
 def open_split(edit: Members) -> str:
@@ -110,7 +120,8 @@ def open_split(edit: Members) -> str:
         return f"no split row says how traffic for {edit.get('destination')} goes on from {edit.get('origin')}"
     if edit.get("kind") == "splits":
         return "a weight leads to a node where no split row says how it goes on"
-    return (f"the row would be the first of {edit.get('node')} for {edit.get('destination')} and begin after slot 0, or a weight leads to "
+    return (f"the row would be the first of {edit.get('node')} for {edit.get('destination')} and begin after slot 0, or"
+            f" a weight leads to "
             "a node where no split row says how it goes on")
 
 

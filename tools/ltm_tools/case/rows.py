@@ -1,16 +1,19 @@
-"""The rows of a case: its setup, links, demand, splits and limits, with the numbers that the program makes of them (docs/MODEL.md)."""
+"""The rows of a case: its setup, links, demand, splits and limits, with the numbers that the program makes of them
+(docs/MODEL.md)."""
 from collections.abc import Iterator
 from dataclasses import dataclass, field
 
-from ..formats import (MOST_CELLS, MOST_DEMAND_ROWS, MOST_DESTINATIONS, MOST_LINKS, MOST_SLOTS, MOST_SLOT_UNITS, MOST_SPLIT_ROWS,
+from ..formats import (MOST_CELLS, MOST_DEMAND_ROWS, MOST_DESTINATIONS, MOST_LINKS, MOST_SLOTS, MOST_SLOT_UNITS,
+                       MOST_SPLIT_ROWS,
                        MOST_STEP_MS)
 
 
 @dataclass(slots=True)
 class Setup:
-    """The file `setup.csv`: the step in ms, the number of slots, what an origin can send in a slot in thousandths of a vehicle; whether
-    there are a `signals.csv` and a `limits.csv`; the most cells, rows of demand and as many of splits, links and destinations, each None
-    where the column is not there; and whether what moves through a turn is floored for the turn, and not for each destination."""
+    """The file `setup.csv`: the step in ms, the number of slots, what an origin can send in a slot in thousandths of a
+    vehicle; whether there are a `signals.csv` and a `limits.csv`; the most cells, rows of demand and as many of splits,
+    links and destinations, each None where the column is not there; and whether what moves through a turn is floored
+    for the turn, and not for each destination."""
 
     step_ms: int
     slots: int
@@ -98,7 +101,8 @@ class Link:
 
     @property
     def longest_step_ms(self) -> int:
-        """The longest step at which the program takes the link: both times are at least a step, and no more than 32 vehicles pass in it."""
+        """The longest step at which the program takes the link: both times are at least a step, and no more than 32
+        vehicles pass in it."""
         return min(self.free_ms, self.wave_ms, self.passing_step_ms, MOST_STEP_MS)
 
 
@@ -125,7 +129,8 @@ class Split:
 
 @dataclass(slots=True)
 class Limit:
-    """A row of `signals.csv` (what may leave a link in each slot) or of `limits.csv` (what may enter it), in thousandths of a vehicle."""
+    """A row of `signals.csv` (what may leave a link in each slot) or of `limits.csv` (what may enter it), in
+    thousandths of a vehicle."""
 
     link: str
     from_slot: int
@@ -135,7 +140,8 @@ class Limit:
 
 @dataclass(slots=True)
 class Rows:
-    """The rows of a case, as they stand in its files and in their order. `splits` is None where there is no `splits.csv`."""
+    """The rows of a case, as they stand in its files and in their order. `splits` is None where there is no
+    `splits.csv`."""
 
     setup: Setup
     links: list[Link] = field(default_factory=list)
@@ -202,7 +208,8 @@ class Rows:
         return boundary, widths + boundary + 2 * len(self.links)
 
     def slots_that_fit(self, most_cells: int | None = None) -> int:
-        """The most slots with which the cells are within the limit of the setup, or this one; 0 where not one fits, and at most 10,000."""
+        """The most slots with which the cells are within the limit of the setup, or this one; 0 where not one fits, and
+        at most 10,000."""
         fixed, each = self.cells_by_slot()
         if each == 0:
             return MOST_SLOTS

@@ -14,8 +14,8 @@ STRING = re.compile(r'"(?:[^"\\]|\\.)*"')
 
 @dataclass(slots=True)
 class Line:
-    """What a line of a script is. `cause` is None for a command, and else `NotJson` or `NotCommand P`; `reason` says why, and `passed_over`
-    names members that the program does not look at."""
+    """What a line of a script is. `cause` is None for a command, and else `NotJson` or `NotCommand P`; `reason` says
+    why, and `passed_over` names members that the program does not look at."""
 
     command: str | None = None
     cause: str | None = None
@@ -54,7 +54,8 @@ def parsed(data: bytes) -> object:
     if not text.strip(" \t\r\n"):
         raise ValueError("the line is empty")
     try:
-        value: object = json.loads(text, parse_constant=_no_constant, parse_int=_whole, parse_float=_finite, object_pairs_hook=_object)
+        value: object = json.loads(text, parse_constant=_no_constant, parse_int=_whole, parse_float=_finite,
+                                   object_pairs_hook=_object)
     except json.JSONDecodeError as error:
         what, place = error.msg[0].lower() + error.msg[1:], error.pos
         raise ValueError(f"{what}, at character {place + 1}: {shown(text[place:place + 20])}") from None
@@ -191,7 +192,8 @@ EDITS: dict[str, Members] = {
 
 
 def looked_up(value: object, chooser: str, tables: dict[str, Members]) -> tuple[str, list[str]]:
-    """The word of the member that chooses, and the members that nothing looks at, once all that the word asks for are there."""
+    """The word of the member that chooses, and the members that nothing looks at, once all that the word asks for are
+    there."""
     word = wanted(value, chooser, *TEXT)
     assert isinstance(word, str) and isinstance(value, dict)
     if word not in tables:
@@ -245,7 +247,8 @@ def check_rows(value: object) -> None:
         raise NotThat("the member rows is empty, and has a row or more, as [[0, {\"a\": 1}]]")
     for number, row in enumerate(rows, 1):
         if not isinstance(row, list) or len(row) != 2:
-            raise NotThat(f"row {number} of the member rows is {told(row)}, and a slot and weights are wanted, as [0, {{\"a\": 1}}]")
+            raise NotThat(f"row {number} of the member rows is {told(row)}, and a slot and weights are wanted, as [0,"
+                          f" {{\"a\": 1}}]")
         try:
             pair = {"slot": row[0], "weights": row[1]}
             wanted(pair, "slot", *WHOLE)

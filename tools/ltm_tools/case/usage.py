@@ -40,7 +40,8 @@ def usage_fault(words: Sequence[str]) -> str:
     if first == "try":
         found = re.fullmatch("([0-9]{1,20}) ([0-9]{1,3})", " ".join(rest), re.ASCII) if len(rest) == 2 else None
         fits = found is not None and int(found[1]) < 2**64 and 4 <= int(found[2]) <= 400
-        return "" if fits else "try takes two numbers: START, 1 to 20 digits with a value below 2 to the 64, and NODES, 4 to 400"
+        return ("" if fits else "try takes two numbers: START, 1 to 20 digits with a value below 2 to the 64, and"
+                " NODES, 4 to 400")
     if first == "routes" and rest == ["times"]:
         return ""
     return f"{first} takes no more words, and here follows {rest[0]!r}" if rest else ""

@@ -1,4 +1,5 @@
-"""What the whole of a case has to meet: a split row wherever traffic may come, or a route, and no more cells than may be."""
+"""What the whole of a case has to meet: a split row wherever traffic may come, or a route, and no more cells than may
+be."""
 from collections.abc import Iterable, Mapping
 
 from . import bad_case
@@ -16,7 +17,8 @@ def check_splits(case: Rows) -> None:
     for split in splits:
         pair = split.node, split.destination
         begins[pair] = min(split.from_slot, begins.get(pair, split.from_slot))
-    for pair in sorted({(row.origin, row.destination) for row in case.standing_demand()}, key=lambda pair: (nodes[pair[0]], ends[pair[1]])):
+    for pair in sorted({(row.origin, row.destination) for row in case.standing_demand()},
+                       key=lambda pair: (nodes[pair[0]], ends[pair[1]])):
         if pair not in begins:
             raise no_row(case, pair[0], pair[1], f"vehicles set out from {pair[0]} for {pair[1]}")
     by_node = _out_links(case)
@@ -47,7 +49,8 @@ def no_row(case: Rows, node: str, destination: str, reason: str) -> BadCase:
     links = [name for name, _ in _out_links(case)[node]]
     if not links:
         return bad_case.no_split(node, destination, f"{reason}, and no link leaves {node}", "send it another way")
-    row = f"{node},{destination},0,{links[0]}=1" if len(links) == 1 else f"{node},{destination},0,LINK=1, with LINK one of {', '.join(links)},"
+    row = (f"{node},{destination},0,{links[0]}=1" if len(links) == 1 else f"{node},{destination},0,LINK=1, with LINK"
+           f" one of {', '.join(links)},")
     return bad_case.no_split(node, destination, f"{reason}, and no row of splits.csv says how it goes on from {node}",
                              f"add {row} to splits.csv; ltm routes writes a whole one, of the fastest ways")
 
@@ -55,7 +58,8 @@ def no_row(case: Rows, node: str, destination: str, reason: str) -> BadCase:
 def late_row(node: str, destination: str, first: int) -> BadCase:
     """The fault of a pair whose first row begins after slot 0."""
     return bad_case.no_split(node, destination,
-                             f"the first row of splits.csv for node {node} and destination {destination} begins at slot {first}",
+                             f"the first row of splits.csv for node {node} and destination {destination} begins at slot"
+                             f" {first}",
                              "let it begin at slot 0, or add one that does")
 
 
@@ -79,7 +83,8 @@ def leading(before: Mapping[str, Iterable[str]], node: str) -> set[str]:
 
 
 def rows_of(reach: Mapping[str, set[str]]) -> int:
-    """How many rows the routes to destinations make, by the nodes from which links lead there: one at each other node."""
+    """How many rows the routes to destinations make, by the nodes from which links lead there: one at each other
+    node."""
     return sum(len(found) - 1 for found in reach.values())
 
 
@@ -107,4 +112,5 @@ def check_cells(case: Rows) -> None:
     """Whether the cells are within the limit of the setup."""
     cells = case.cells()
     if cells > case.setup.most_cells:
-        raise bad_case.cells_over(cells, case.setup.most_cells, case.slots_that_fit(), case.setup.slots, produced_bytes(case))
+        raise bad_case.cells_over(cells, case.setup.most_cells, case.slots_that_fit(), case.setup.slots,
+                                  produced_bytes(case))

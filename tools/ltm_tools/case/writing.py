@@ -35,7 +35,8 @@ def write_rows(case: Rows, folder: str | os.PathLike[str]) -> None:
     if setup.moves:
         more["moves"] = 1
     rows: dict[str, Iterable[Sequence[object]]] = {
-        "links": ([link.name, link.tail, link.head, link.length_m, link.free_kmh, link.wave_kmh, link.jam_per_km] for link in case.links),
+        "links": ([link.name, link.tail, link.head, link.length_m, link.free_kmh, link.wave_kmh, link.jam_per_km]
+                  for link in case.links),
         "demand": demand_records(case),
     }
     if case.splits is not None:

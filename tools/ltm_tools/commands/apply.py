@@ -16,8 +16,9 @@ EXAMPLES = """\
     ltm-tools apply examples/spillback examples/spillback/script.jsonl /tmp/wider
     ltm /tmp/wider load
 
-Lines of the script that are no edits are passed over. Which batches are accepted the program says; those that it refuses are told on the
-standard error, and make nothing. Entry limits (edits `limit`) go to limits.csv, and exit limits to signals.csv.
+Lines of the script that are no edits are passed over. Which batches are accepted the program says; those that it
+refuses are told on the standard error, and make nothing. Entry limits (edits `limit`) go to limits.csv, and exit
+limits to signals.csv.
 """
 
 
@@ -34,7 +35,8 @@ def run(args: argparse.Namespace) -> int:
     batches = batches_of(args.case, args.script, args.program)
     for batch in batches:
         if not batch.accepted:
-            print(f"line {batch.number} is refused, and makes nothing: {shown(batch.line.decode('utf-8', 'surrogateescape'))}", file=sys.stderr)
+            print(f"line {batch.number} is refused, and makes nothing:"
+                  f" {shown(batch.line.decode('utf-8', 'surrogateescape'))}", file=sys.stderr)
     made = [batch.edits for batch in batches if batch.accepted]
     keep(args.case, made, args.folder)
     print(f"{args.folder}: the case after {len(made)} of {len(batches)} batches")

@@ -21,7 +21,8 @@ WHOLE_WORD = re.compile(r"-?[0-9]{1,9}", re.ASCII)
 
 def add_program_argument(parser: argparse.ArgumentParser) -> None:
     """The option `--program`, for commands that run the program."""
-    parser.add_argument("--program", metavar="FILE", help="the program ltm (else $LTM, the one built in the clone, or ltm on the path)")
+    parser.add_argument("--program", metavar="FILE", help="the program ltm (else $LTM, the one built in the clone, or"
+                        " ltm on the path)")
 
 
 def add_case_arguments(parser: argparse.ArgumentParser) -> None:
@@ -32,24 +33,30 @@ def add_case_arguments(parser: argparse.ArgumentParser) -> None:
 
 def add_curves_arguments(parser: argparse.ArgumentParser) -> None:
     """The options `--curves` and `--program`."""
-    parser.add_argument("--curves", metavar="FILE", help="a curve file of the case, or - for the standard input (else the program makes it)")
+    parser.add_argument("--curves", metavar="FILE", help="a curve file of the case, or - for the standard input (else"
+                        " the program makes it)")
     add_program_argument(parser)
 
 
 def add_start_argument(parser: argparse.ArgumentParser) -> None:
     """The option `--start`."""
-    parser.add_argument("--start", metavar="CLOCK", type=clock, default=0, help="the clock time at which slot 0 begins, as 6:30 (else 0:00)")
+    parser.add_argument("--start", metavar="CLOCK", type=clock, default=0,
+                        help="the clock time at which slot 0 begins, as 6:30 (else 0:00)")
 
 
 def add_format_arguments(parser: argparse.ArgumentParser) -> None:
     """The options `--format` and `--output`, for commands that write a table."""
-    parser.add_argument("--format", choices=FORMATS, default="text", help="text for people (the default), csv or json for programs")
-    parser.add_argument("-o", "--output", metavar="FILE", default="-", help="the file to write (else the standard output)")
+    parser.add_argument("--format", choices=FORMATS, default="text",
+                        help="text for people (the default), csv or json for programs")
+    parser.add_argument("-o", "--output", metavar="FILE", default="-",
+                        help="the file to write (else the standard output)")
 
 
-def add_reading_arguments(parser: argparse.ArgumentParser, files: Mapping[str, str], start: str, counted: str) -> "argparse._MutuallyExclusiveGroup":
-    """The case, and options: one of these with a file, as they are told here; `--start`, with what slot 0 is where nothing is said; `--slice`,
-    with what its minutes are; and how tables are read. The options of which one is given can be added to."""
+def add_reading_arguments(parser: argparse.ArgumentParser, files: Mapping[str, str], start: str,
+                          counted: str) -> "argparse._MutuallyExclusiveGroup":
+    """The case, and options: one of these with a file, as they are told here; `--start`, with what slot 0 is where
+    nothing is said; `--slice`, with what its minutes are; and how tables are read. The options of which one is given
+    can be added to."""
     parser.add_argument("case", help="the folder of the case")
     kind = parser.add_mutually_exclusive_group(required=True)
     for name, told in files.items():
@@ -63,7 +70,8 @@ def add_reading_arguments(parser: argparse.ArgumentParser, files: Mapping[str, s
 def add_table_arguments(parser: "argparse._ActionsContainer") -> None:
     """The options `--encoding` and `--lenient`, for commands that read tables of other tools."""
     parser.add_argument("--encoding", help="the encoding of the files (UTF-8, else by what they hold)")
-    parser.add_argument("--lenient", action="store_true", help="take rows with more fields than the header, and leave these out, and rows with fewer")
+    parser.add_argument("--lenient", action="store_true",
+                        help="take rows with more fields than the header, and leave these out, and rows with fewer")
 
 
 def reading_of(args: argparse.Namespace) -> Reading:
@@ -101,11 +109,13 @@ def check_every(every_ms: int, case: Case) -> None:
     """A Fault where a line at every so many ms of the horizon would be too many."""
     lines = case.setup.horizon_ms // every_ms
     if lines > MOST_TOLD:
-        raise Fault(f"--every gives {count_text(lines)} lines for a horizon of {clock_text(case.setup.horizon_ms)}, and at most {count_text(MOST_TOLD)} are told")
+        raise Fault(f"--every gives {count_text(lines)} lines for a horizon of {clock_text(case.setup.horizon_ms)}, and"
+                    f" at most {count_text(MOST_TOLD)} are told")
 
 
 def write_picture(figure: Any, path: str) -> None:
-    """Writes a figure of matplotlib, in the form that the file's name says; as a PNG, with that behind its name, where it says none."""
+    """Writes a figure of matplotlib, in the form that the file's name says; as a PNG, with that behind its name, where
+    it says none."""
     name, ending = os.path.splitext(path)
     form = ending.removeprefix(".") or "png"
     made = io.BytesIO()
@@ -117,7 +127,8 @@ def write_picture(figure: Any, path: str) -> None:
 
 
 def write_table(args: argparse.Namespace, header: Sequence[str], rows: Sequence[Sequence[Cell]], text: str) -> None:
-    """Writes a table in the form that `args.format` asks for, to the file `args.output`: `text` for people, else header and rows."""
+    """Writes a table in the form that `args.format` asks for, to the file `args.output`: `text` for people, else header
+    and rows."""
     if args.format == "csv":
         write_text(args.output, csv_text(header, rows))
     elif args.format == "json":

@@ -16,17 +16,19 @@ from ..loading.remaining import told_apart
 from .arguments import add_format_arguments, add_program_argument, add_start_argument, check_every, minutes, whole
 
 NAME = "compare"
-SUMMARY = "tell what two cases, or two versions of one, differ in: vehicle time, delay by link, arrivals by time, the links that changed most"
+SUMMARY = ("tell what two cases, or two versions of one, differ in: vehicle time, delay by link, arrivals by time, the"
+           " links that changed most")
 EXAMPLES = """\
     ltm-tools compare examples/corridor WIDER --start 7:00
     ltm-tools compare examples/corridor WIDER --format csv --table links -o links.csv
     ltm-tools compare examples/incident --script examples/incident/script.jsonl --versions 0 1
 
-Version V is the case after the first V batches of the script that the program accepts; version 0 is the case as it is.
-Each change is the second case's number less the first's. Times are vehicle time: 2.5 vehicle hours are one vehicle for two and a
-half hours, or five for half an hour. `spent` is all time on links and at origins; `queued` is the part of it in queues of links,
-and `waited` that at origins; together they are the delay. `not_there` is who is on a link or waits at the end: where that differs by over
-0.1 % of the vehicles, hours are not to be compared, which is told. CSV has one table, and JSON all; their times are vehicle seconds.
+Version V is the case after the first V batches of the script that the program accepts; version 0 is the case as it
+is. Each change is the second case's number less the first's. Times are vehicle time: 2.5 vehicle hours are one
+vehicle for two and a half hours, or five for half an hour. `spent` is all time on links and at origins; `queued` is
+the part of it in queues of links, and `waited` that at origins; together they are the delay. `not_there` is who is
+on a link or waits at the end: where that differs by over 0.1 % of the vehicles, hours are not to be compared, which
+is told. CSV has one table, and JSON all; their times are vehicle seconds.
 """
 TABLES = ("totals", "links", "origins", "arrivals")
 
@@ -34,14 +36,18 @@ TABLES = ("totals", "links", "origins", "arrivals")
 def add_arguments(parser: argparse.ArgumentParser) -> None:
     parser.add_argument("case", metavar="CASE", help="the folder of a case")
     parser.add_argument("other", metavar="OTHER", nargs="?", help="the folder of another, as with some works")
-    parser.add_argument("--script", metavar="SCRIPT", help="in place of OTHER a script of edits of CASE, as a session takes it, or - for the standard input")
-    parser.add_argument("--versions", metavar="V", type=whole, nargs=2, help="after how many accepted batches of the script each is (0, and all)")
+    parser.add_argument("--script", metavar="SCRIPT", help="in place of OTHER a script of edits of CASE, as a session"
+                        " takes it, or - for the standard input")
+    parser.add_argument("--versions", metavar="V", type=whole, nargs=2,
+                        help="after how many accepted batches of the script each is (0, and all)")
     for name, text in (("curves", "CASE"), ("other-curves", "OTHER")):
         parser.add_argument(f"--{name}", metavar="FILE", help=f"a curve file of {text} (else the program makes it)")
     add_program_argument(parser)
     add_start_argument(parser)
-    parser.add_argument("--every", metavar="MINUTES", type=minutes, default=5 * MINUTE_MS, help="arrivals every so many minutes (5)")
-    parser.add_argument("--links", metavar="N", type=whole, default=10, help="in text, how many links that changed most (10)")
+    parser.add_argument("--every", metavar="MINUTES", type=minutes, default=5 * MINUTE_MS,
+                        help="arrivals every so many minutes (5)")
+    parser.add_argument("--links", metavar="N", type=whole, default=10,
+                        help="in text, how many links that changed most (10)")
     parser.add_argument("--table", choices=TABLES, default="links", help="which table in CSV (links)")
     add_format_arguments(parser)
 
@@ -69,7 +75,8 @@ def run(args: argparse.Namespace) -> int:
 def by_folders(args: argparse.Namespace) -> tuple[Comparison, tuple[str, str]]:
     """Two cases side by side, and what they are called."""
     if args.other is None or args.versions is not None:
-        raise Fault("there is nothing to compare: name the folder of another case, or a --script of which --versions tells" if args.other is None
+        raise Fault("there is nothing to compare: name the folder of another case, or a --script of which --versions"
+                    " tells" if args.other is None
                     else "--versions tells of a --script")
     asked = ((args.case, args.curves, args.program), (args.other, args.other_curves, args.program))
     one, other = (loaded(*of) for of in asked)
@@ -79,10 +86,12 @@ def by_folders(args: argparse.Namespace) -> tuple[Comparison, tuple[str, str]]:
 def by_script(args: argparse.Namespace) -> tuple[Comparison, tuple[str, str]]:
     """Two versions of a case side by side, and what they are called."""
     if (args.other, args.curves, args.other_curves) != (None, None, None):
-        raise Fault("with --script both are versions of one case, whose loadings the program makes: no other case, and no curve file")
+        raise Fault("with --script both are versions of one case, whose loadings the program makes: no other case, and"
+                    " no curve file")
     made = [batch.edits for batch in batches_of(args.case, args.script, args.program) if batch.accepted]
     one, other = args.versions or (0, len(made))
-    return of_versions(args.case, made, one, other, args.program), (f"version {one} of {args.case}", f"version {other} of {len(made)}")
+    return of_versions(args.case, made, one, other, args.program), (f"version {one} of {args.case}",
+                                                                    f"version {other} of {len(made)}")
 
 
 def exact(name: str, pair: tuple[int | None, int | None], shown: Callable[[int], Cell]) -> list[Cell]:
@@ -91,11 +100,13 @@ def exact(name: str, pair: tuple[int | None, int | None], shown: Callable[[int],
 
 
 def all_tables(found: Comparison, args: argparse.Namespace) -> list[tuple[str, list[str], list[list[Cell]]]]:
-    """The tables for programs, each with its name and header: times in vehicle seconds, amounts in vehicles, moments in ms."""
+    """The tables for programs, each with its name and header: times in vehicle seconds, amounts in vehicles, moments in
+    ms."""
     header = ["name", "one", "other", "change"]
     totals = [exact(f"{name}_seconds", pair, seconds) for name, pair in found.times().items()]
     totals += [exact(name, pair, vehicles) for name, pair in found.amounts().items()]
-    moments: list[list[Cell]] = [[args.start + moment, *exact("", pair, vehicles)[1:]] for moment, pair in found.arrivals(args.every).items()]
+    moments: list[list[Cell]] = [[args.start + moment, *exact("", pair, vehicles)[1:]]
+                                 for moment, pair in found.arrivals(args.every).items()]
     return [("totals", header, totals),
             ("links", header, [exact(name, pair, seconds) for name, pair in found.links().items()]),
             ("origins", header, [exact(name, pair, seconds) for name, pair in found.origins().items()]),
@@ -114,7 +125,8 @@ def text(found: Comparison, names: tuple[str, str], args: argparse.Namespace) ->
         lines.append(f"{told_apart(*found.remaining())}\n")
     lines += pieces("queued on links", found.links(), args.links, unit, "link")
     lines += pieces("waited at origins", found.origins(), args.links, unit, "origin")
-    moments = [[clock_text(args.start + moment), *exact("", pair, vehicles)[1:]] for moment, pair in found.arrivals(args.every).items()]
+    moments = [[clock_text(args.start + moment), *exact("", pair, vehicles)[1:]]
+               for moment, pair in found.arrivals(args.every).items()]
     lines.append("\narrived by\n" + text_table(["clock", *header[1:]], moments))
     return "".join(lines)
 
@@ -124,5 +136,7 @@ def pieces(title: str, pairs: Pairs, count: int, unit: TimeUnit, what: str) -> l
     changed, shown = most_changed(pairs), most_changed(pairs, count)
     if not changed:
         return [f"\n{title}: no change\n"]
-    told = f"the {len(shown)} of {len(changed)} that changed most" if len(shown) < len(changed) else f"{len(changed)} changed"
-    return [f"\n{title}: {told}\n", text_table([what, "one", "other", "change"], [exact(name, pair, unit.show) for name, pair in shown.items()])]
+    told = (f"the {len(shown)} of {len(changed)} that changed most" if len(shown) < len(changed) else f"{len(changed)}"
+            f" changed")
+    return [f"\n{title}: {told}\n", text_table([what, "one", "other", "change"],
+                                               [exact(name, pair, unit.show) for name, pair in shown.items()])]

@@ -26,16 +26,21 @@ EXAMPLES = """\
   od.csv        origin,destination,vehicles; or a matrix, with origins down and destinations across
   morning.csv   from,to,share as 7:00,7:15,0.2; shares or counts, in any unit, of which the sum is all
   trips.csv     origin,destination,depart as A,B,7:04:30, and vehicles where it is not 1
-Nodes are those of the case, or of the source that it was made of. demand.csv is written anew; the old splits.csv may then lack rows."""
+Nodes are those of the case, or of the source that it was made of. demand.csv is written anew; the old splits.csv
+may then lack rows."""
 
 
 def add_arguments(parser: argparse.ArgumentParser) -> None:
     """The arguments of the command."""
-    add_reading_arguments(parser, {"--table": "vehicles by origin and destination", "--trips": "trips, each with its time"},
-                          "the first time of the profile, or the quarter of an hour before the first trip", "over which trips are counted together")
+    add_reading_arguments(parser, {"--table": "vehicles by origin and destination",
+                                   "--trips": "trips, each with its time"},
+                          "the first time of the profile, or the quarter of an hour before the first trip",
+                          "over which trips are counted together")
     parser.add_argument("--profile", metavar="FILE", help="when the vehicles of the table set out")
-    parser.add_argument("--period", type=whole, metavar="MINUTES", help="set out evenly over so many minutes, in place of a profile (all slots)")
-    parser.add_argument("--leave-out-unreached", action="store_true", help="leave out demand to which no way leads, and tell how much")
+    parser.add_argument("--period", type=whole, metavar="MINUTES",
+                        help="set out evenly over so many minutes, in place of a profile (all slots)")
+    parser.add_argument("--leave-out-unreached", action="store_true",
+                        help="leave out demand to which no way leads, and tell how much")
 
 
 def run(args: argparse.Namespace) -> int:
@@ -48,7 +53,9 @@ def run(args: argparse.Namespace) -> int:
     else:
         rows, notes = rows_of_trips(case, source, args)
     rows = checked(rows, roads, case.setup.most_destinations, args.leave_out_unreached, notes)
-    write_records(Path(args.case) / "demand.csv", DEMAND, ([row.origin, row.destination, row.from_slot, row.to_slot, short_vehicles(row.units)] for row in rows))
+    write_records(Path(args.case) / "demand.csv", DEMAND,
+                  ([row.origin, row.destination, row.from_slot, row.to_slot, short_vehicles(row.units)]
+                   for row in rows))
     ends = {row.destination for row in rows}
     total = sum(row.units for row in rows)
     print(f"{short_vehicles(total)} vehicles to {len(ends)} destinations in {len(rows)} rows")
@@ -74,14 +81,16 @@ def rows_of_table(case: Case, source: Source, args: argparse.Namespace) -> tuple
             units[ends] = units.get(ends, Fraction(0)) + volume
     if amounts.inner:
         notes.append(f"{float(amounts.inner):g} vehicles stay within a node and are left out")
-    return by_profile({ends: whole_units(volume, f"demand from {ends[0]} to {ends[1]}") for ends, volume in units.items()}, parts, case.setup.most_demand_rows), notes
+    return by_profile({ends: whole_units(volume, f"demand from {ends[0]} to {ends[1]}")
+                       for ends, volume in units.items()}, parts, case.setup.most_demand_rows), notes
 
 
 def parts_of(case: Case, args: argparse.Namespace, notes: list[str]) -> list[Part]:
     """The parts of a profile, or one for a period."""
     if args.profile is not None:
         start = clock_ms(args.start) if args.start is not None else None
-        parts, begun, told = read_profile(exists(args.profile), start_ms=start, step_ms=case.setup.step_ms, reading=reading_of(args))
+        parts, begun, told = read_profile(exists(args.profile), start_ms=start, step_ms=case.setup.step_ms,
+                                          reading=reading_of(args))
         notes += [*told, f"slot 0 begins at {clock_text(begun)}"]
         return parts
     slots = case.setup.slots if args.period is None else args.period * MINUTE_MS // case.setup.step_ms
@@ -99,29 +108,35 @@ def rows_of_trips(case: Case, source: Source, args: argparse.Namespace) -> tuple
         raise Fault("--slice is at least 1")
     start = clock_ms(args.start) if args.start is not None else quarter_before(min(trip.time_ms for trip in trips))
     early = sum(trip.units for trip in trips if trip.time_ms < start)
-    inner = sum(trip.units for trip in trips if trip.time_ms >= start and source.node(trip.origin) == source.node(trip.destination))
+    inner = sum(trip.units for trip in trips if trip.time_ms >= start
+                and source.node(trip.origin) == source.node(trip.destination))
     counted = [Trip(source.node(trip.origin), source.node(trip.destination), trip.time_ms - start, trip.units)
                for trip in trips if trip.time_ms >= start and source.node(trip.origin) != source.node(trip.destination)]
-    rows, late = by_trips(counted, step_ms=case.setup.step_ms, slots=case.setup.slots, slice_slots=max(1, args.slice * MINUTE_MS // case.setup.step_ms),
+    rows, late = by_trips(counted, step_ms=case.setup.step_ms, slots=case.setup.slots,
+                          slice_slots=max(1, args.slice * MINUTE_MS // case.setup.step_ms),
                           most=case.setup.most_demand_rows)
     notes = [f"slot 0 begins at {clock_text(start)}"]
     notes += [f"{short_vehicles(units)} vehicles {why} and are left out" for units, why in
-              ((early, "set out before it"), (late, "set out after the last slot"), (inner, "stay within a node")) if units]
+              ((early, "set out before it"), (late, "set out after the last slot"), (inner, "stay within a node"))
+              if units]
     return rows, notes
 
 
-def checked(rows: Iterable[Demand], roads: Roads, most_destinations: int, leave_out: bool, notes: list[str]) -> list[Demand]:
-    """The rows to whose destination a way leads; a Fault, or a note, where there is none. A Fault before ways are sought where there are too
-    many destinations."""
+def checked(rows: Iterable[Demand], roads: Roads, most_destinations: int, leave_out: bool,
+            notes: list[str]) -> list[Demand]:
+    """The rows to whose destination a way leads; a Fault, or a note, where there is none. A Fault before ways are
+    sought where there are too many destinations."""
     listed = list(rows)
     ends = {row.destination for row in listed}
     if len(ends) > most_destinations:
-        raise Fault(f"there are {len(ends)} destinations, and at most {most_destinations} may be; join zones in the table, or ask for up to"
+        raise Fault(f"there are {len(ends)} destinations, and at most {most_destinations} may be; join zones in the"
+                    f" table, or ask for up to"
                     f" {MOST_DESTINATIONS_ASKED} in the column destinations of setup.csv")
     reached = {destination: roads.least_times(destination) for destination in ends}
     lost = [row for row in listed if row.origin not in reached[row.destination]]
     if lost and not leave_out:
-        raise Fault(f"no route leads from node {lost[0].origin} to node {lost[0].destination}, and so for {short_vehicles(sum(row.units for row in lost))} vehicles;"
+        raise Fault(f"no route leads from node {lost[0].origin} to node {lost[0].destination}, and so for"
+                    f" {short_vehicles(sum(row.units for row in lost))} vehicles;"
                     " --leave-out-unreached leaves them out")
     if lost:
         notes.append(f"{short_vehicles(sum(row.units for row in lost))} vehicles have no route and are left out")

@@ -1,4 +1,5 @@
-"""`ltm-tools draw`: pictures for a report, in clock time: how full a path was, a map at a moment, the cumulative curves of a path."""
+"""`ltm-tools draw`: pictures for a report, in clock time: how full a path was, a map at a moment, the cumulative curves
+of a path."""
 from __future__ import annotations
 
 import argparse
@@ -9,7 +10,8 @@ from ..show.draw import draw_map, draw_newell, draw_shares
 from .arguments import add_curves_arguments, add_start_argument, clock, write_picture
 
 NAME = "draw"
-SUMMARY = "draw how full a path was, a map at a moment, or the cumulative curves of a path, in clock time; two cases side by side"
+SUMMARY = ("draw how full a path was, a map at a moment, or the cumulative curves of a path, in clock time; two cases"
+           " side by side")
 EXAMPLES = """\
     ltm-tools draw full examples/corridor r1 r2 r3 r4 r5 r6 r7 r8 works r9 -o full.png --start 7:00 --other WIDER
     ltm-tools draw map examples/closures -o map.png --start 7:00 --at 7:15
@@ -20,14 +22,16 @@ NEEDS = ("matplotlib",)
 
 def add_arguments(parser: argparse.ArgumentParser) -> None:
     what = parser.add_subparsers(dest="what", metavar="full|map|curves", required=True)
-    full = what.add_parser("full", help="vehicles on each link of a path, over time and along the way, in percent of what the link stores")
+    full = what.add_parser("full", help="vehicles on each link of a path, over time and along the way, in percent of"
+                           " what the link stores")
     over = what.add_parser("map", help="the network at a moment, coloured by queues")
     curves = what.add_parser("curves", help="how many vehicles have passed each point of a path")
     for one in (full, over, curves):
         one.add_argument("case", metavar="CASE", help="the folder of a case")
         if one is not over:
             one.add_argument("names", metavar="LINK", nargs="+", help="the links of the path, in order")
-        one.add_argument("-o", "--output", metavar="PICTURE", required=True, help="the file to draw into; its ending says its kind, as queue.png or queue.svg")
+        one.add_argument("-o", "--output", metavar="PICTURE", required=True,
+                         help="the file to draw into; its ending says its kind, as queue.png or queue.svg")
         add_curves_arguments(one)
         add_start_argument(one)
     for one in (full, over):

@@ -12,8 +12,9 @@ EXAMPLES = """examples:
   ltm-tools explain CASE 0 "" session 0 --script script.jsonl
   ltm-tools explain CASE 0 "refused link UnknownName" --command '{"do": "link", "link": "z"}'
 
-LINE is the last line that the program wrote, and WORD .. are the words it was given (load, where there are none). With --script the
-lines of a script that are no commands are explained, and members that are passed over are named; with --command a line `refused ..` is."""
+LINE is the last line that the program wrote, and WORD .. are the words it was given (load, where there are none).
+With --script the lines of a script that are no commands are explained, and members that are passed over are named;
+with --command a line `refused ..` is."""
 
 
 def add_arguments(parser: argparse.ArgumentParser) -> None:
@@ -21,7 +22,8 @@ def add_arguments(parser: argparse.ArgumentParser) -> None:
     parser.add_argument("status", type=whole, help="the exit status of ltm")
     parser.add_argument("line", help="the last line that it wrote")
     parser.add_argument("words", nargs="*", metavar="WORD", help="the words that it was given")
-    parser.add_argument("--command", metavar="COMMAND", dest="asked", help="the line of a script that was answered by LINE")
+    parser.add_argument("--command", metavar="COMMAND", dest="asked",
+                        help="the line of a script that was answered by LINE")
     parser.add_argument("--script", metavar="FILE", help="the script that it was given on its standard input")
 
 

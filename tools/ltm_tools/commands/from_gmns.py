@@ -1,17 +1,18 @@
 """`ltm-tools from-gmns`: makes a case of a network in the General Modeling Network Specification (GMNS).
 
-NETWORK is a folder with `link.csv`, and `node.csv`, `demand.csv`, `config.csv` and `geometry.csv` where they are there. CASE is a
-folder, made where it is not there; `setup.csv`, `links.csv` and `demand.csv` are written into it, and what has become of each link
-and node of the network. What the case cannot carry is named, a line each, on the error output, with what to do; then nothing is
-written and the status is 1. `ltm routes`, or `ltm-tools splits`, gives the case its `splits.csv`.
+NETWORK is a folder with `link.csv`, and `node.csv`, `demand.csv`, `config.csv` and `geometry.csv` where they are there.
+CASE is a folder, made where it is not there; `setup.csv`, `links.csv` and `demand.csv` are written into it, and what
+has become of each link and node of the network. What the case cannot carry is named, a line each, on the error output,
+with what to do; then nothing is written and the status is 1. `ltm routes`, or `ltm-tools splits`, gives the case its
+`splits.csv`.
 
-    link.csv     link_id, from_node_id, to_node_id, and length, lanes, free_speed, capacity, facility_type where they are there;
-                 a link whose field `directed` is 0 or false is a road in both directions
+    link.csv     link_id, from_node_id, to_node_id, and length, lanes, free_speed, capacity, facility_type where they
+                 are there; a link whose field `directed` is 0 or false is a road in both directions
     node.csv     node_id, zone_id; the first node of a zone stands for it (--zone-nodes)
     demand.csv   o_zone_id, d_zone_id, volume: vehicles of the whole period, spread over it evenly, or over a --profile
 
-Each link gets a triangular diagram: the free speed in whole km/h, the jam density of its lanes, and the wave speed, in whole km/h,
-with which the top of the triangle is nearest to the capacity.
+Each link gets a triangular diagram: the free speed in whole km/h, the jam density of its lanes, and the wave speed, in
+whole km/h, with which the top of the triangle is nearest to the capacity.
 """
 from __future__ import annotations
 
@@ -45,22 +46,32 @@ def add_arguments(parser: argparse.ArgumentParser) -> None:
     reading.add_argument("--jam", type=above_0, default=Fraction(150), help="jam density of a lane, vehicles/km (150)")
     reading.add_argument("--length-unit", choices=METRES, help="the unit of length (m, or what config.csv says)")
     reading.add_argument("--speed-unit", choices=KMH, help="the unit of free_speed (kmh, or what config.csv says)")
-    reading.add_argument("--places", choices=UNITS, help="the unit of places, for links without a length (degrees where they can be)")
-    reading.add_argument("--crs", type=str.upper, metavar="EPSG:CODE", help="the projection of places, as EPSG:25832 (what config.csv says, else"
+    reading.add_argument("--places", choices=UNITS, help="the unit of places, for links without a length (degrees where"
+                         " they can be)")
+    reading.add_argument("--crs", type=str.upper, metavar="EPSG:CODE",
+                         help="the projection of places, as EPSG:25832 (what config.csv says, else"
                          " EPSG:4326 where they are degrees); it goes into nodes.csv")
     reading.add_argument("--capacity", choices=["lane", "link"], default="lane",
-                         help="whether capacity is that of a lane or of all lanes of a link, in vehicles an hour (lane)")
+                         help="whether capacity is that of a lane or of all lanes of a link, in vehicles an hour"
+                         " (lane)")
     add_table_arguments(reading)
     demand = parser.add_argument_group("demand")
-    demand.add_argument("--demand", metavar="FILE", help="the table of origins and destinations (demand.csv of the network, where it is there)")
-    demand.add_argument("--period", type=whole, default=60, metavar="MINUTES", help="the minutes over which the demand sets out evenly (60)")
-    demand.add_argument("--profile", metavar="FILE", help="from,to,share: when the demand sets out, in place of --period")
+    demand.add_argument("--demand", metavar="FILE", help="the table of origins and destinations (demand.csv of the"
+                        " network, where it is there)")
+    demand.add_argument("--period", type=whole, default=60, metavar="MINUTES",
+                        help="the minutes over which the demand sets out evenly (60)")
+    demand.add_argument("--profile", metavar="FILE", help="from,to,share: when the demand sets out, in place of"
+                        " --period")
     demand.add_argument("--start", metavar="CLOCK", help="the clock time of slot 0, as 7:00 (the profile's first)")
-    demand.add_argument("--horizon", type=whole, default=120, metavar="MINUTES", help="the minutes that are loaded (120)")
+    demand.add_argument("--horizon", type=whole, default=120, metavar="MINUTES",
+                        help="the minutes that are loaded (120)")
     demand.add_argument("--zone-nodes", choices=["first", "even"], default="first",
-                        help="of a zone with several nodes: the first stands for it, or all in even parts, or in parts by a field zone_share (first)")
-    demand.add_argument("--destinations", type=whole, metavar="N", help="keep the N destinations with most vehicles, and let other trips end at the nearest one")
-    demand.add_argument("--leave-out-unreached", action="store_true", help="leave out demand to which no way leads, and tell how much")
+                        help="of a zone with several nodes: the first stands for it, or all in even parts, or in parts"
+                        " by a field zone_share (first)")
+    demand.add_argument("--destinations", type=whole, metavar="N",
+                        help="keep the N destinations with most vehicles, and let other trips end at the nearest one")
+    demand.add_argument("--leave-out-unreached", action="store_true",
+                        help="leave out demand to which no way leads, and tell how much")
 
 
 def run(args: argparse.Namespace) -> int:
@@ -71,6 +82,8 @@ def run(args: argparse.Namespace) -> int:
 def options_of(args: argparse.Namespace) -> GmnsOptions:
     """What the words of the command ask for."""
     start = clock_ms(args.start) if args.start is not None and args.profile is not None else None
-    return GmnsOptions(**network_options(args), jam=args.jam, length_unit=args.length_unit, speed_unit=args.speed_unit, places=args.places, crs=args.crs,
-                       capacity=args.capacity, reading=reading_of(args), demand=args.demand, period=args.period, profile=args.profile, start_ms=start,
+    return GmnsOptions(**network_options(args), jam=args.jam, length_unit=args.length_unit, speed_unit=args.speed_unit,
+                       places=args.places, crs=args.crs,
+                       capacity=args.capacity, reading=reading_of(args), demand=args.demand, period=args.period,
+                       profile=args.profile, start_ms=start,
                        horizon=args.horizon, zone_nodes=args.zone_nodes, leave_out_unreached=args.leave_out_unreached)

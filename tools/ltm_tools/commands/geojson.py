@@ -21,7 +21,8 @@ def add_arguments(parser: argparse.ArgumentParser) -> None:
     add_case_arguments(parser)
     add_start_argument(parser)
     parser.add_argument("--at", metavar="CLOCK", type=clock, help="tell also what stands on each link at this moment")
-    parser.add_argument("-o", "--output", metavar="FILE", default="-", help="the file to write (else the standard output)")
+    parser.add_argument("-o", "--output", metavar="FILE", default="-",
+                        help="the file to write (else the standard output)")
 
 
 def run(args: argparse.Namespace) -> int:

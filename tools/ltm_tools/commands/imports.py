@@ -1,4 +1,5 @@
-"""What the commands that import a network have in common: arguments on the step, the fit and the names, and how a refusal is told."""
+"""What the commands that import a network have in common: arguments on the step, the fit and the names, and how a
+refusal is told."""
 from __future__ import annotations
 
 import argparse
@@ -19,7 +20,8 @@ Asked = TypeVar("Asked", bound=Options)
 
 def step_argument(text: str) -> int:
     """A step in ms, as `5000`, or in seconds, as `5s`."""
-    number, unit = (text.removesuffix("ms"), 1) if text.endswith("ms") or not text.endswith("s") else (text.removesuffix("s"), 1000)
+    number, unit = (text.removesuffix("ms"),
+                    1) if text.endswith("ms") or not text.endswith("s") else (text.removesuffix("s"), 1000)
     step = (above_0_or_none(number) or Fraction(0)) * unit
     if step.denominator != 1 or not 1 <= step <= MOST_STEP_MS:
         raise argparse.ArgumentTypeError(f"{text!r} is no step; as 5000 or 5s, at most {MOST_STEP_MS} ms")
@@ -37,25 +39,40 @@ def above_0(text: str) -> Fraction:
 def add_network_arguments(parser: argparse.ArgumentParser) -> None:
     """The arguments on the step, the fit and the names."""
     group = parser.add_argument_group("step and fit")
-    group.add_argument("--fit", type=step_argument, metavar="STEP", help="fit the network to a step, as 5000 (ms) or 5s: merge, contract, shift and lengthen links that"
-                       " are too short, and split nodes of more than 4 links on a side; all is told, and listed in changes.csv")
-    group.add_argument("--no-balance", action="store_true", help="with --fit: do not change other links so that the times of used routes stay as they were")
-    group.add_argument("--step", type=step_argument, help="the step, of a network that is left as it is; without it the longest that every link allows")
-    group.add_argument("--least-step", type=step_argument, default=1000, metavar="STEP", help="the shortest step to propose (1000)")
-    group.add_argument("--steps", action="store_true", help="tell what a fit to each of some steps would change, and write nothing")
-    group.add_argument("--rename", action="store_true", help="make names for those that a case cannot have; source_links.csv and source_nodes.csv have both")
-    group.add_argument("--origin-capacity", type=whole, default=MOST_SLOT_UNITS // UNITS, metavar="N", help="the most vehicles that leave an origin in a step (32)")
-    group.add_argument("--moves", type=int, choices=(0, 1), help="1: what moves through a turn is floored for the turn, 0: for each destination, which takes a part of"
+    group.add_argument("--fit", type=step_argument, metavar="STEP",
+                       help="fit the network to a step, as 5000 (ms) or 5s: merge, contract, shift and lengthen links"
+                       " that"
+                       " are too short, and split nodes of more than 4 links on a side; all is told, and listed in"
+                       " changes.csv")
+    group.add_argument("--no-balance", action="store_true",
+                       help="with --fit: do not change other links so that the times of used routes stay as they were")
+    group.add_argument("--step", type=step_argument, help="the step, of a network that is left as it is; without it the"
+                       " longest that every link allows")
+    group.add_argument("--least-step", type=step_argument, default=1000, metavar="STEP",
+                       help="the shortest step to propose (1000)")
+    group.add_argument("--steps", action="store_true",
+                       help="tell what a fit to each of some steps would change, and write nothing")
+    group.add_argument("--rename", action="store_true",
+                       help="make names for those that a case cannot have; source_links.csv and source_nodes.csv have"
+                       " both")
+    group.add_argument("--origin-capacity", type=whole, default=MOST_SLOT_UNITS // UNITS, metavar="N",
+                       help="the most vehicles that leave an origin in a step (32)")
+    group.add_argument("--moves", type=int, choices=(0, 1),
+                       help="1: what moves through a turn is floored for the turn, 0: for each destination, which takes"
+                       " a part of"
                        " what can pass where they are many (1 where there are more than 16)")
 
 
 def network_options(args: argparse.Namespace) -> dict[str, Any]:
     """What these arguments ask for, by the names of options."""
-    return {"fit": args.fit, "balance": not args.no_balance, "step": args.step, "least_step": args.least_step, "rename": args.rename,
-            "origin_capacity": args.origin_capacity, "destinations": args.destinations, "moves": None if args.moves is None else args.moves == 1}
+    return {"fit": args.fit, "balance": not args.no_balance, "step": args.step, "least_step": args.least_step,
+            "rename": args.rename,
+            "origin_capacity": args.origin_capacity, "destinations": args.destinations,
+            "moves": None if args.moves is None else args.moves == 1}
 
 
-def run_import(args: argparse.Namespace, options_of: Callable[[argparse.Namespace], Asked], make: Callable[[Asked], Imported],
+def run_import(args: argparse.Namespace, options_of: Callable[[argparse.Namespace], Asked],
+               make: Callable[[Asked], Imported],
                steps: Callable[[Asked], list[str]]) -> int:
     """Makes a case and writes it, or tells what steps would change; tells what was made, or what cannot be carried."""
     try:

@@ -16,7 +16,8 @@ Where a record is wrong, what is told of the case leaves it out."""
 def add_arguments(parser: argparse.ArgumentParser) -> None:
     parser.add_argument("folder", help="the folder of the case")
     parser.add_argument("--links", action="store_true",
-                        help="a table of all links: length, times, the longest step it allows in ms, storage in vehicles")
+                        help="a table of all links: length, times, the longest step it allows in ms, storage in"
+                        " vehicles")
 
 
 def run(args: argparse.Namespace) -> int:

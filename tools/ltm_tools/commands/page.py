@@ -17,8 +17,9 @@ EXAMPLES = """\
     ltm-tools page examples/corridor --start 7:00 -o corridor.html
     ltm-tools page examples/corridor WIDER --names before after -o both.html
 
-The file opens in any browser with nothing else. Nodes lie where nodes.csv in the folder says (name,x,y); without it they are laid out by
-the lengths of the links. The library d3 is put into the file; it is found where Debian's package node-d3 has it, or by --d3 FILE.
+The file opens in any browser with nothing else. Nodes lie where nodes.csv in the folder says (name,x,y); without it
+they are laid out by the lengths of the links. The library d3 is put into the file; it is found where Debian's
+package node-d3 has it, or by --d3 FILE.
 """
 
 
@@ -29,17 +30,20 @@ def add_arguments(parser: argparse.ArgumentParser) -> None:
     add_curves_arguments(parser)
     parser.add_argument("--other-curves", metavar="FILE", help="a curve file of OTHER")
     add_start_argument(parser)
-    parser.add_argument("--least", metavar="VEHICLES", default="1", help="how many vehicles make a queue in the table (1)")
+    parser.add_argument("--least", metavar="VEHICLES", default="1",
+                        help="how many vehicles make a queue in the table (1)")
     parser.add_argument("--names", metavar="NAME", nargs=2, help="what the two cases are called on the switch")
     parser.add_argument("--title", help="the title (else the folder's name)")
-    parser.add_argument("--d3", metavar="FILE", help="the library d3 (else $LTM_D3, or that of Debian's package node-d3)")
+    parser.add_argument("--d3", metavar="FILE", help="the library d3 (else $LTM_D3, or that of Debian's package"
+                        " node-d3)")
 
 
 def run(args: argparse.Namespace) -> int:
     library = find_d3(args.d3)
     asked = [(args.case, args.curves)] + ([(args.other, args.other_curves)] if args.other is not None else [])
     folders = [folder for folder, _ in asked]
-    both = [Loaded(one.case, Summed(one.curves)) for one in (loaded(folder, curves, args.program) for folder, curves in asked)]
+    both = [Loaded(one.case, Summed(one.curves)) for one in (loaded(folder, curves, args.program)
+                                                             for folder, curves in asked)]
     called = [os.path.basename(os.path.abspath(folder)) for folder in folders]
     names = [readable(name) for name in args.names or called]
     title = readable(args.title or called[0])

@@ -20,7 +20,8 @@ NEEDS = ("matplotlib",)
 def add_arguments(parser: argparse.ArgumentParser) -> None:
     what = parser.add_subparsers(dest="what", metavar="link|path|arrivals", required=True)
     link = what.add_parser("link", help="what has entered a link and has left it, and what stands between")
-    path = what.add_parser("path", help="the vehicles per kilometre on each link of a path, over time and along the way")
+    path = what.add_parser("path",
+                           help="the vehicles per kilometre on each link of a path, over time and along the way")
     arrivals = what.add_parser("arrivals", help="how many vehicles have arrived at each destination")
     for one in (link, path, arrivals):
         one.add_argument("case", help="the folder of the case, for the length of a slot and the links")

@@ -48,9 +48,11 @@ class Screen:
 
 
 def add_arguments(parser: argparse.ArgumentParser) -> None:
-    parser.add_argument("--jobs", type=whole, default=None, help="how many crates at a time (one a processor that has 4 GB of free memory)")
+    parser.add_argument("--jobs", type=whole, default=None,
+                        help="how many crates at a time (one a processor that has 4 GB of free memory)")
     parser.add_argument("--crate", default=PROGRAM, help="a crate in place of the program")
-    parser.add_argument("--check", action="store_true", help="prove nothing, but say why the program is not proved as all stands; nothing if it is")
+    parser.add_argument("--check", action="store_true",
+                        help="prove nothing, but say why the program is not proved as all stands; nothing if it is")
 
 
 def run(args: argparse.Namespace) -> int:

@@ -16,9 +16,10 @@ EXAMPLES = """\
     ltm-tools queues examples/corridor --start 7:00
     ltm-tools queues examples/corridor --least 10 --format csv -o queues.csv
 
-A queue of a link is who could have left it in free flow and has not; of an origin, who has set out and waits. Each line is a time
-through which at least LEAST vehicles stand there: from the first moment with so many to the last, `...` where the horizon ends
-first. `share` is the worst queue in percent of what the link stores. `delay` is the vehicle time in that queue.
+A queue of a link is who could have left it in free flow and has not; of an origin, who has set out and waits. Each
+line is a time through which at least LEAST vehicles stand there: from the first moment with so many to the last,
+`...` where the horizon ends first. `share` is the worst queue in percent of what the link stores. `delay` is the
+vehicle time in that queue.
 """
 HEADER = ("kind", "name", "from", "to", "worst", "at", "share", "delay")
 FIELDS = ("kind", "name", "from_ms", "to_ms", "lasts", "worst", "worst_ms", "storage", "delay")
@@ -27,12 +28,15 @@ FIELDS = ("kind", "name", "from_ms", "to_ms", "lasts", "worst", "worst_ms", "sto
 def add_arguments(parser: argparse.ArgumentParser) -> None:
     add_case_arguments(parser)
     add_start_argument(parser)
-    parser.add_argument("--least", metavar="VEHICLES", default="1", help="how many vehicles make a queue (1; with 0.001 every queue is told)")
-    parser.add_argument("--sort", choices=("delay", "worst", "from", "case"), default="delay", help="the order of lines (delay)")
+    parser.add_argument("--least", metavar="VEHICLES", default="1",
+                        help="how many vehicles make a queue (1; with 0.001 every queue is told)")
+    parser.add_argument("--sort", choices=("delay", "worst", "from", "case"), default="delay",
+                        help="the order of lines (delay)")
     add_format_arguments(parser)
 
 
-ORDERS = {"delay": lambda queue: -queue.delay, "worst": lambda queue: -queue.worst, "from": lambda queue: queue.first, "case": lambda queue: 0}
+ORDERS = {"delay": lambda queue: -queue.delay, "worst": lambda queue: -queue.worst, "from": lambda queue: queue.first,
+          "case": lambda queue: 0}
 
 
 def run(args: argparse.Namespace) -> int:
@@ -48,8 +52,10 @@ def run(args: argparse.Namespace) -> int:
 
 def fields(queue: Queue, step_ms: int, start: int) -> list[Cell]:
     """A queue for programs: times in ms since midnight, amounts in vehicles, the delay in vehicle seconds."""
-    return [queue.kind, queue.name, start + queue.first * step_ms, start + queue.last * step_ms, int(queue.lasts), vehicles(queue.worst),
-            start + queue.at * step_ms, None if queue.storage is None else vehicles(queue.storage), seconds(queue.delay)]
+    return [queue.kind, queue.name, start + queue.first * step_ms, start + queue.last * step_ms, int(queue.lasts),
+            vehicles(queue.worst),
+            start + queue.at * step_ms, None if queue.storage is None else vehicles(queue.storage),
+            seconds(queue.delay)]
 
 
 def text(found: list[Queue], told: Report, step_ms: int, start: int, least: int) -> str:
@@ -58,8 +64,10 @@ def text(found: list[Queue], told: Report, step_ms: int, start: int, least: int)
         return clock_text(start + k * step_ms)
 
     unit = time_unit(told.delay)
-    rows: list[list[Cell]] = [[queue.kind, queue.name, when(queue.first), "..." if queue.lasts else when(queue.last), vehicles(queue.worst), when(queue.at),
-             None if queue.storage is None else f"{percent(queue.worst, queue.storage)} %", unit.show(queue.delay)] for queue in found]
+    rows: list[list[Cell]] = [[queue.kind, queue.name, when(queue.first), "..." if queue.lasts else when(queue.last),
+                               vehicles(queue.worst), when(queue.at),
+             None if queue.storage is None else f"{percent(queue.worst, queue.storage)} %", unit.show(queue.delay)]
+                              for queue in found]
     lines = [f"queues of at least {vehicles(least)} vehicles: {len(found)}; the delay is in {unit.name}\n",
              text_table(HEADER, rows) if rows else "",
              f"delay of these {unit.show(sum(queue.delay for queue in found))}, of all {unit.show(told.delay)}: "

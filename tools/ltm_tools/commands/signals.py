@@ -24,12 +24,15 @@ EXAMPLES = """\
   ltm-tools signals CASE --cycles greens.csv --even
 
   greens.csv   link,cycle,green_from,green_to,offset,start,end as main,90,0,42,10,7:00,9:00
-The cycle, its green and its offset are in seconds; a cycle begins at the offset after the start of the case. start and end are clock
-times, or seconds after the start of the case; where they are empty the plan runs always. A link with several greens has a row for each.
-A field to names the link onto which a green lets: such a plan by turn becomes one limit of the link, in which each green counts for
-the share of its turn, by a field share, else by the demand and splits of the case. signals.csv is written anew."""
-NAMES = {"link": ("from_link", "in_link", "edge"), "cycle": ("cycle_s", "cycle_time", "cycle_length"), "green_from": ("green_start", "from"),
-         "green_to": ("green_end",), "to": ("to_link", "out_link", "turn"), "start": ("start_time",), "end": ("end_time",)}
+The cycle, its green and its offset are in seconds; a cycle begins at the offset after the start of the case. start
+and end are clock times, or seconds after the start of the case; where they are empty the plan runs always. A link
+with several greens has a row for each. A field to names the link onto which a green lets: such a plan by turn
+becomes one limit of the link, in which each green counts for the share of its turn, by a field share, else by the
+demand and splits of the case. signals.csv is written anew."""
+NAMES = {"link": ("from_link", "in_link", "edge"), "cycle": ("cycle_s", "cycle_time", "cycle_length"),
+         "green_from": ("green_start", "from"),
+         "green_to": ("green_end",), "to": ("to_link", "out_link", "turn"), "start": ("start_time",),
+         "end": ("end_time",)}
 
 
 @dataclass(frozen=True, slots=True)
@@ -48,8 +51,10 @@ def add_arguments(parser: argparse.ArgumentParser) -> None:
     """The arguments of the command."""
     parser.add_argument("case", help="the folder of the case")
     parser.add_argument("--cycles", required=True, metavar="FILE", help="the greens")
-    parser.add_argument("--clock", metavar="CLOCK", help="the clock time of slot 0, where start and end are clock times")
-    parser.add_argument("--even", action="store_true", help="one limit for each link, the mean of its cycle: fewer records, and no platoons")
+    parser.add_argument("--clock", metavar="CLOCK",
+                        help="the clock time of slot 0, where start and end are clock times")
+    parser.add_argument("--even", action="store_true",
+                        help="one limit for each link, the mean of its cycle: fewer records, and no platoons")
     add_table_arguments(parser)
 
 
@@ -65,7 +70,8 @@ def run(args: argparse.Namespace) -> int:
     limits = limits_of(plans, case, args.even)
     size = sum(len(f"{limit.link},{limit.from_slot},{limit.to_slot},{limit.units / 1000:.3f}\n") for limit in limits)
     if size > MOST_FILE_BYTES:
-        raise Fault(f"{count_text(len(limits))} records of signals have {count_text(size)} bytes, and a file may have {count_text(MOST_FILE_BYTES)};"
+        raise Fault(f"{count_text(len(limits))} records of signals have {count_text(size)} bytes, and a file may have"
+                    f" {count_text(MOST_FILE_BYTES)};"
                     " --even needs one record for a plan")
     notes += arriving(plans, case)
     case.signals, case.setup.signals = limits, True
@@ -80,24 +86,30 @@ def arriving(plans: list[Plan], case: Case) -> list[str]:
     heads = {link.name: link.head for link in case.links}
     ends = set(case.destinations)
     some = [plan.link for plan in plans if heads[plan.link] in ends]
-    return [f"{len(set(some))} of the links end at a destination: who arrives there waits for green as well, as the limit holds all that leave the link"] if some else []
+    return [f"{len(set(some))} of the links end at a destination: who arrives there waits for green as well, as the"
+            f" limit holds all that leave the link"] if some else []
 
 
 def record_of(row: Row, source: Source, case: Case, clock: int) -> Record:
     """A row of the file."""
     link, turn = (case_link(row, source, field) for field in ("link", "to"))
     if link is None:
-        raise row.fault("link", "this link was contracted, so that it can have no signal; give its green to the one before it")
-    cycle, start, end, offset = (int(row.number(field, default) * 1000) for field, default in (("cycle", None), ("green_from", None), ("green_to", None), ("offset", 0)))
+        raise row.fault("link",
+                        "this link was contracted, so that it can have no signal; give its green to the one before it")
+    cycle, start, end, offset = (int(row.number(field, default) * 1000)
+                                 for field, default in (("cycle", None), ("green_from", None), ("green_to", None),
+                                                        ("offset", 0)))
     green = Green(cycle, start, end, offset)
     check_green(link, green)
     share = row.number("share") if row.text("share", "") else None
     times = [time_of(row, field, clock) for field in ("start", "end")]
-    return Record(link, turn or "", share, green, times[0] or 0, case.setup.horizon_ms if times[1] is None else times[1])
+    return Record(link, turn or "", share, green, times[0] or 0,
+                  case.setup.horizon_ms if times[1] is None else times[1])
 
 
 def case_link(row: Row, source: Source, field: str) -> str | None:
-    """The link of the case for a link of the source; an empty text where there is none in the field, none where it was contracted."""
+    """The link of the case for a link of the source; an empty text where there is none in the field, none where it was
+    contracted."""
     name = row.text(field, "" if field == "to" else None)
     if name and name not in source.links:
         raise row.fault(field, "it is no link of the case, nor of its source")
@@ -132,7 +144,8 @@ def plans_of(records: list[Record], case: Case) -> tuple[list[Plan], list[str]]:
             turns = turn_shares(case.links, case.demand, case.splits or [])
         plans.append(Plan(link, greens_of_turns(link, group, (turns or {}).get(link, {})), start, end))
         turned += 1
-    notes = [f"{turned} plans have greens by turn: the limit of a link counts each green for the share of its turn"] if turned else []
+    notes = ([f"{turned} plans have greens by turn: the limit of a link counts each green for the share of its turn"]
+             if turned else [])
     overlapping(plans)
     return plans, notes
 
@@ -143,7 +156,8 @@ def overlapping(plans: list[Plan]) -> None:
     for plan in sorted(plans, key=lambda plan: (plan.link, plan.start_ms)):
         before = last.get(plan.link)
         if before is not None and before.end_ms > plan.start_ms:
-            raise Fault(f"link {plan.link}: a plan begins at {plan.start_ms / 1000:g} s, while one runs until {before.end_ms / 1000:g} s; give each an end")
+            raise Fault(f"link {plan.link}: a plan begins at {plan.start_ms / 1000:g} s, while one runs until"
+                        f" {before.end_ms / 1000:g} s; give each an end")
         last[plan.link] = plan
 
 
@@ -155,7 +169,8 @@ def greens_of_turns(link: str, group: list[Record], flows: dict[str, float]) -> 
         if not record.turn:
             raise Fault(f"link {link}: some of its greens name a turn and some do not; name all, or none")
         greens.setdefault(record.turn, []).append(record.green)
-        shares[record.turn] = record.share if record.share is not None else Fraction(flows.get(record.turn, 0.0)).limit_denominator(1_000_000)
+        shares[record.turn] = (record.share if record.share is not None
+                               else Fraction(flows.get(record.turn, 0.0)).limit_denominator(1_000_000))
     return by_turn(greens, shares)
 
 
@@ -165,7 +180,8 @@ def limits_of(plans: list[Plan], case: Case, even: bool) -> list[Limit]:
     make = even_limits if even else exit_limits
     limits: list[Limit] = []
     for plan in plans:
-        limits += make(plan, capacity=links[plan.link].capacity(case.setup.step_ms), step_ms=case.setup.step_ms, slots=case.setup.slots)
+        limits += make(plan, capacity=links[plan.link].capacity(case.setup.step_ms), step_ms=case.setup.step_ms,
+                       slots=case.setup.slots)
     return limits
 
 

@@ -27,21 +27,25 @@ EXAMPLES = """\
   ltm-tools splits CASE --turns counts.csv
   ltm-tools splits CASE --least
 
-  counted.csv   depart,vehicles,links as 7:03,2,a b c: the links of the case, or of the source that it was made of, in order, with blanks or
-                semicolons between; or nodes in place of links
+  counted.csv   depart,vehicles,links as 7:03,2,a b c: the links of the case, or of the source that it was made of,
+                in order, with blanks or semicolons between; or nodes in place of links
   counts.csv    from_link,to_link,vehicles; or node,to_link,vehicles where it is not known by which link they came
-With --routes, vehicles count in the slice in which they come to a node if nothing holds them up. Passages on a circle that lead away from
-their destination are cut, and told in per cent. Where nothing is known vehicles go by the least time. splits.csv is written anew, and with
---demand demand.csv, which else stays."""
-ROUTE_NAMES = {"links": ("link_sequence", "edges", "link_ids", "path", "route", "links_sequence"), "nodes": ("node_sequence", "node_ids", "path_nodes"),
-               "depart": ("departure", "departure_time", "depart_time", "time", "start", "begin"), "vehicles": ("volume", "count", "number", "flow", "trips")}
-TURN_NAMES = {"from_link": ("link", "in_link", "from", "ib_link_id", "from_edge"), "to_link": ("out_link", "to", "ob_link_id", "to_edge"),
+With --routes, vehicles count in the slice in which they come to a node if nothing holds them up. Passages on a
+circle that lead away from their destination are cut, and told in per cent. Where nothing is known vehicles go by
+the least time. splits.csv is written anew, and with --demand demand.csv, which else stays."""
+ROUTE_NAMES = {"links": ("link_sequence", "edges", "link_ids", "path", "route", "links_sequence"),
+               "nodes": ("node_sequence", "node_ids", "path_nodes"),
+               "depart": ("departure", "departure_time", "depart_time", "time", "start", "begin"),
+               "vehicles": ("volume", "count", "number", "flow", "trips")}
+TURN_NAMES = {"from_link": ("link", "in_link", "from", "ib_link_id", "from_edge"),
+              "to_link": ("out_link", "to", "ob_link_id", "to_edge"),
               "vehicles": ("volume", "count", "number", "flow", "turns"), "node": ("node_id",)}
 
 
 def add_arguments(parser: argparse.ArgumentParser) -> None:
     """The arguments of the command."""
-    kind = add_reading_arguments(parser, {"--routes": "counted routes", "--turns": "turning counts; the case needs its demand"},
+    kind = add_reading_arguments(parser, {"--routes": "counted routes",
+                                          "--turns": "turning counts; the case needs its demand"},
                                  "the quarter of an hour before the first route", "of a row of splits")
     kind.add_argument("--least", action="store_true", help="the least routes by free-flow time, by `ltm routes`")
     parser.add_argument("--demand", action="store_true", help="write the demand of the routes as well")
@@ -60,11 +64,13 @@ def run(args: argparse.Namespace) -> int:
     with together():
         rows, notes = (of_routes if args.routes is not None else of_turns)(case, roads, source, args)
         if len(rows) > case.setup.most_split_rows:
-            raise Fault(f"{len(rows)} rows of splits, and at most {case.setup.most_split_rows} may be; give a longer --slice than {args.slice}, or ask for up to"
+            raise Fault(f"{len(rows)} rows of splits, and at most {case.setup.most_split_rows} may be; give a longer"
+                        f" --slice than {args.slice}, or ask for up to"
                         f" {MOST_ROWS_ASKED} in the column rows of setup.csv")
         if circles(case.links, rows):
             raise Fault("a destination has a circle, which is a fault of this tool")
-        write_records(Path(args.case) / "splits.csv", SPLITS, ([row.node, row.destination, row.from_slot, weights_text(row.weights)] for row in rows))
+        write_records(Path(args.case) / "splits.csv", SPLITS,
+                      ([row.node, row.destination, row.from_slot, weights_text(row.weights)] for row in rows))
     print(f"{len(rows)} rows of splits for {len({row.destination for row in rows})} destinations; none has a circle")
     print(*notes, sep="\n")
     return 0
@@ -104,17 +110,22 @@ def of_routes(case: Case, roads: Roads, source: Source, args: argparse.Namespace
     if args.demand:
         case.demand = demand_of(case, roads, routes, args, notes)
     slice_slots = max(1, args.slice * MINUTE_MS // case.setup.step_ms)
-    rows, cuts = from_routes(case.links, routes, case.demand, step_ms=case.setup.step_ms, slots=case.setup.slots, slice_slots=slice_slots)
+    rows, cuts = from_routes(case.links, routes, case.demand, step_ms=case.setup.step_ms, slots=case.setup.slots,
+                             slice_slots=slice_slots)
     return rows, [*notes, *cuts.lines()]
 
 
-def demand_of(case: Case, roads: Roads, routes: list[Route], args: argparse.Namespace, notes: list[str]) -> list[Demand]:
+def demand_of(case: Case, roads: Roads, routes: list[Route], args: argparse.Namespace,
+              notes: list[str]) -> list[Demand]:
     """The demand of routes by slices, which is written."""
-    trips = [Trip(roads.links[route.links[0]].tail, roads.links[route.links[-1]].head, route.depart_ms, route.units) for route in routes]
-    rows, _ = by_trips(trips, step_ms=case.setup.step_ms, slots=case.setup.slots, slice_slots=max(1, args.slice * MINUTE_MS // case.setup.step_ms),
+    trips = [Trip(roads.links[route.links[0]].tail, roads.links[route.links[-1]].head, route.depart_ms, route.units)
+             for route in routes]
+    rows, _ = by_trips(trips, step_ms=case.setup.step_ms, slots=case.setup.slots,
+                       slice_slots=max(1, args.slice * MINUTE_MS // case.setup.step_ms),
                         most=case.setup.most_demand_rows)
     write_records(Path(args.case) / "demand.csv", DEMAND,
-                  ([row.origin, row.destination, row.from_slot, row.to_slot, short_vehicles(row.units)] for row in rows))
+                  ([row.origin, row.destination, row.from_slot, row.to_slot, short_vehicles(row.units)]
+                   for row in rows))
     notes.append(f"{short_vehicles(sum(row.units for row in rows))} vehicles of demand in {len(rows)} rows")
     return rows
 
@@ -153,7 +164,8 @@ def of_turns(case: Case, roads: Roads, source: Source, args: argparse.Namespace)
     turns, gone = [], 0
     for row in table.rows:
         after = link_in(row, "to_link", source)
-        came = [link_in(row, "from_link", source)] if row.text("from_link", "") else list(roads.ins.get(roads.links[after].tail, ())) if after else []
+        came = ([link_in(row, "from_link", source)] if row.text("from_link", "")
+                else list(roads.ins.get(roads.links[after].tail, ())) if after else [])
         count = float(row.number("vehicles"))
         if count < 0:
             raise row.fault("vehicles", "a count is 0 or more")
@@ -162,7 +174,8 @@ def of_turns(case: Case, roads: Roads, source: Source, args: argparse.Namespace)
         else:
             turns += [Turn(name, after, count) for name in came if name is not None]
     fitted = from_turns(case.links, case.demand, turns)
-    notes = [*table.notes, f"{fitted.rounds} rounds of fitting; counted shares are met within {100 * fitted.off:.2f} % in the mean"]
+    notes = [*table.notes,
+             f"{fitted.rounds} rounds of fitting; counted shares are met within {100 * fitted.off:.2f} % in the mean"]
     notes += [f"{gone} counts are of links that were contracted, and are left out"] if gone else []
     return fitted.splits, notes
 

@@ -25,9 +25,10 @@ EXAMPLES = """\
     ltm-tools sweep examples/closures closures.jsonl -o results.csv
     ltm-tools sweep examples/closures closures.jsonl -o results.csv --scheduler tcp://10.0.0.7:8786
 
-A line of the file of scenarios is {"name": .., "batches": [[EDIT, ..], ..]}, or {"edits": [EDIT, ..]} for one batch. Results come in the order
-of the file: the totals at the end of the horizon, or the batch and edit that is refused. On a cluster every worker needs the program, at
-the same path or as its $LTM; Python's package `distributed` is all else that it needs.
+A line of the file of scenarios is {"name": .., "batches": [[EDIT, ..], ..]}, or {"edits": [EDIT, ..]} for one
+batch. Results come in the order of the file: the totals at the end of the horizon, or the batch and edit that is
+refused. On a cluster every worker needs the program, at the same path or as its $LTM; Python's package
+`distributed` is all else that it needs.
 """
 BAR = 30
 
@@ -45,7 +46,8 @@ class Progress:
             self.told = now
             filled = BAR * self.done // self.count
             pace = self.done / max(now - self.began, 1e-9)
-            print(f"\r[{'#' * filled}{' ' * (BAR - filled)}] {self.done} of {self.count}, {pace:.0f} a second ", end="", file=sys.stderr, flush=True)
+            print(f"\r[{'#' * filled}{' ' * (BAR - filled)}] {self.done} of {self.count}, {pace:.0f} a second ", end="",
+                  file=sys.stderr, flush=True)
 
     def end(self) -> None:
         if self.shown:
@@ -54,14 +56,20 @@ class Progress:
 
 def add_arguments(parser: argparse.ArgumentParser) -> None:
     parser.add_argument("case", metavar="CASE", help="the folder of a case")
-    parser.add_argument("scenarios", metavar="SCENARIOS", help="a file of scenarios, a JSON object a line, or - for the standard input")
-    parser.add_argument("-o", "--output", metavar="FILE", default="-", help="the CSV file to write (else the standard output)")
+    parser.add_argument("scenarios", metavar="SCENARIOS",
+                        help="a file of scenarios, a JSON object a line, or - for the standard input")
+    parser.add_argument("-o", "--output", metavar="FILE", default="-",
+                        help="the CSV file to write (else the standard output)")
     parser.add_argument("--links", metavar="NAME", nargs="+", action="extend", default=[],
                         help="tell also what has entered and left these links; one that begins with - as in --links=-a")
-    parser.add_argument("--delay", action="store_true", help="tell also the vehicle time spent, queued and waited, in vehicle seconds")
-    parser.add_argument("--sessions", metavar="N", type=whole, default=os.cpu_count() or 1, help="how many sessions run here at once (one a processor)")
-    parser.add_argument("--scheduler", metavar="ADDRESS", help="the scheduler of a cluster of Dask, as tcp://10.0.0.7:8786")
-    parser.add_argument("--progress", action="store_true", help="show how far it is, also where the standard error is no terminal")
+    parser.add_argument("--delay", action="store_true",
+                        help="tell also the vehicle time spent, queued and waited, in vehicle seconds")
+    parser.add_argument("--sessions", metavar="N", type=whole, default=os.cpu_count() or 1,
+                        help="how many sessions run here at once (one a processor)")
+    parser.add_argument("--scheduler", metavar="ADDRESS",
+                        help="the scheduler of a cluster of Dask, as tcp://10.0.0.7:8786")
+    parser.add_argument("--progress", action="store_true",
+                        help="show how far it is, also where the standard error is no terminal")
     add_program_argument(parser)
 
 
@@ -91,22 +99,26 @@ def pieces(args: argparse.Namespace, found: Sequence[Scenario]) -> Iterable[list
     if args.delay and parts:
         parts = [[AS_IT_IS, *parts[0]], *parts[1:]]
     if args.scheduler is None:
-        return here(args.case, str(find_program(args.program)), args.links, args.delay, parts, min(args.sessions, max(1, len(parts))))
+        return here(args.case, str(find_program(args.program)), args.links, args.delay, parts,
+                    min(args.sessions, max(1, len(parts))))
     from ..sweep.cluster import there
 
     return there(args.scheduler, args.case, args.program, args.links, args.delay, parts)
 
 
 def told_after(rows: Sequence[Row], first: Row | None) -> Iterator[str]:
-    """What is to be known of the rows: how many failed, and of how many the hours cannot be compared with those of the case as it is."""
+    """What is to be known of the rows: how many failed, and of how many the hours cannot be compared with those of the
+    case as it is."""
     failed = sum(row[2].startswith(FAILED) for row in rows)
     if failed:
         yield f"{counted(failed, 'scenario')} of {count_text(len(rows))} failed: their rows say why"
     base = remaining(first) if first is not None else None
     ends = [end for row in rows if (end := remaining(row)) is not None]
     if base is not None and (apart := sum(not end.comparable(base) for end in ends)):
-        yield (f"the hours of {count_text(apart)} of {counted(len(rows), 'scenario')} are not to be compared with those of the case as it is:"
-               f" of that {vehicles_text(base.not_there)} vehicles are not there by the end, and of each of these over {TOLD_APART} of the"
+        yield (f"the hours of {count_text(apart)} of {counted(len(rows), 'scenario')} are not to be compared with those"
+               f" of the case as it is:"
+               f" of that {vehicles_text(base.not_there)} vehicles are not there by the end, and of each of these over"
+               f" {TOLD_APART} of the"
                " vehicles more or fewer (not_there); a longer horizon lets them arrive")
 
 

@@ -15,9 +15,9 @@ EXAMPLES = """\
     ltm-tools times examples/corridor r1 r2 r3 r4 r5 r6 r7 r8 works r9 --every 5 --start 7:00
     ltm-tools times examples/incident west east --by-link --every 2
 
-Whoever departs waits at the path's first node until all have left that were produced there before, and leaves each link once all
-have left that entered before, in no less than its free-flow time. `none` stands where that is not before the end of the horizon. The
-time of one link without the wait (--no-wait) is the program's answer to `time`.
+Whoever departs waits at the path's first node until all have left that were produced there before, and leaves each
+link once all have left that entered before, in no less than its free-flow time. `none` stands where that is not
+before the end of the horizon. The time of one link without the wait (--no-wait) is the program's answer to `time`.
 """
 
 
@@ -26,8 +26,10 @@ def add_arguments(parser: argparse.ArgumentParser) -> None:
     parser.add_argument("links", metavar="LINK", nargs="+", help="the links of the path, in order")
     add_curves_arguments(parser)
     add_start_argument(parser)
-    parser.add_argument("--every", metavar="MINUTES", type=minutes, default=5 * MINUTE_MS, help="a departure every so many minutes (5)")
-    parser.add_argument("--no-wait", action="store_true", help="begin at the first link's entry, without the wait at the origin")
+    parser.add_argument("--every", metavar="MINUTES", type=minutes, default=5 * MINUTE_MS,
+                        help="a departure every so many minutes (5)")
+    parser.add_argument("--no-wait", action="store_true",
+                        help="begin at the first link's entry, without the wait at the origin")
     parser.add_argument("--by-link", action="store_true", help="a column for each link, in text too")
     add_format_arguments(parser)
 
@@ -39,7 +41,8 @@ def run(args: argparse.Namespace) -> int:
     trips = list(path.trips(args.every))
     names = [link.name for link in path.links]
     header = ["departs_ms", "total_ms", "delay_ms", "wait_ms", *names]
-    write_table(args, header, [fields(path, trip, args.start) for trip in trips], text(path, trips, args.start, args.by_link))
+    write_table(args, header, [fields(path, trip, args.start) for trip in trips],
+                text(path, trips, args.start, args.by_link))
     return 0
 
 
@@ -55,9 +58,11 @@ def text(path: Path, trips: list[Trip], start: int, by_link: bool) -> str:
     rows: list[list[Cell]] = []
     for trip in trips:
         parts = [*map(span, trip.parts), *[""] * (1 + len(path.links) - len(trip.parts))]
-        arrives = "none" if trip.total is None else clock_text(to_seconds(start + trip.departs + trip.total, path.free_ms))
+        arrives = ("none" if trip.total is None
+                   else clock_text(to_seconds(start + trip.departs + trip.total, path.free_ms)))
         late = None if trip.total is None else trip.total - path.free_ms
-        rows.append([clock_text(start + trip.departs), arrives, span(trip.total), span(late), *(parts if by_link else parts[:1])])
+        rows.append([clock_text(start + trip.departs), arrives, span(trip.total), span(late),
+                     *(parts if by_link else parts[:1])])
     ends = f"from {path.links[0].tail} to {path.links[-1].head}, {len(path.links)} link{'s' * (len(path.links) != 1)}"
     return f"{ends}, {span(path.free_ms)} on empty roads; times in minutes and seconds\n" + text_table(header, rows)
 

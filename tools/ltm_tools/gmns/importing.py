@@ -38,7 +38,8 @@ class GmnsOptions(Options):
     places: str | None = None
     """The unit of places, for links without a length."""
     crs: str | None = None
-    """The projection of places as an EPSG code, as `EPSG:25832`; without it that of `config.csv`, or degrees where they are such."""
+    """The projection of places as an EPSG code, as `EPSG:25832`; without it that of `config.csv`, or degrees where they
+    are such."""
     capacity: Literal["lane", "link"] = "lane"
     reading: Reading = Reading()
     """How the files are read."""
@@ -81,12 +82,14 @@ def import_gmns(folder: str | os.PathLike[str], options: GmnsOptions = GmnsOptio
     asked = read_all(Path(folder), options)
     read, raw = asked.read, asked.raw
     check_ends(asked.volumes)
-    routes = least_routes(raw, [(*ends, whole_units(volume, "demand")) for ends, volume in asked.volumes.items()]) if options.fit else []
+    routes = least_routes(raw, [(*ends, whole_units(volume, "demand"))
+                                for ends, volume in asked.volumes.items()]) if options.fit else []
     made = carried(raw, options, routes)
     case, last = case_of(made, asked.volumes, options, read)
     sizes = ask_for_sizes(case, options.moves)
     places, lost = places_of(made, Map(crs=read.units.crs or (DEGREES if read.units.places == "degrees" else None)))
-    told = [*size_told(made, case, last), *inner_told(asked.amounts.inner), *read.told(), *asked.amounts.notes, *changes_told(made, routes), *lost, *sizes]
+    told = [*size_told(made, case, last), *inner_told(asked.amounts.inner), *read.told(), *asked.amounts.notes,
+            *changes_told(made, routes), *lost, *sizes]
     return Imported(case, places, made.source, tuple(made.fit.changes) if made.fit is not None else None, tuple(told))
 
 
@@ -98,7 +101,8 @@ def steps_of_gmns(folder: str | os.PathLike[str], options: GmnsOptions = GmnsOpt
 
 def read_all(folder: Path, options: GmnsOptions) -> Asked:
     """The network and its demand."""
-    read = read_gmns(folder, Units(options.length_unit, options.speed_unit, options.places, options.capacity, options.jam, options.reading, options.rename, options.crs))
+    read = read_gmns(folder, Units(options.length_unit, options.speed_unit, options.places, options.capacity,
+                                   options.jam, options.reading, options.rename, options.crs))
     if read.faults:
         raise NotCarried(read.faults)
     place_zones(read, options.zone_nodes)
@@ -118,43 +122,51 @@ def amounts_of(folder: Path, options: GmnsOptions) -> Amounts:
     if options.demand is not None:
         path = exists(options.demand)
     elif not path.exists():
-        return Amounts({}, Fraction(0), ("there is no demand.csv: demand.csv of the case has no rows; ltm-tools demand gives it some",))
+        return Amounts({}, Fraction(0), ("there is no demand.csv: demand.csv of the case has no rows; ltm-tools demand"
+                                         " gives it some",))
     return read_amounts(path, options.reading)
 
 
-def case_of(made: Carried, volumes: dict[tuple[str, str], Fraction], options: GmnsOptions, read: Read) -> tuple[Case, int]:
+def case_of(made: Carried, volumes: dict[tuple[str, str], Fraction], options: GmnsOptions,
+            read: Read) -> tuple[Case, int]:
     """The case, and the slot with which its demand ends."""
     slots = slots_of(options.horizon * MINUTE_MS, made.step)
     parts = parts_of(options, made.step, read)
     if parts[-1].to_slot > slots:
-        raise Fault(f"the demand's period of {parts[-1].to_slot * made.step // MINUTE_MS} minutes is longer than the horizon of {options.horizon};"
+        raise Fault(f"the demand's period of {parts[-1].to_slot * made.step // MINUTE_MS} minutes is longer than the"
+                    f" horizon of {options.horizon};"
                     f" give --horizon {-(-parts[-1].to_slot * made.step // MINUTE_MS)} or more")
     setup = Setup(made.step, slots, options.origin_capacity * UNITS)
     for (start, end), volume in volumes.items():
         whole_units(volume, f"demand from node {start} to node {end}")
     amounts = zip(volumes, summed_units(volumes.values()))
     units = {(made.node(start), made.node(end)): amount for (start, end), amount in amounts}
-    rows: Iterable[Demand] = by_profile({ends: amount for ends, amount in units.items() if amount}, parts, MOST_ROWS_ASKED)
+    rows: Iterable[Demand] = by_profile({ends: amount for ends, amount in units.items() if amount}, parts,
+                                        MOST_ROWS_ASKED)
     return Case(setup, made.links, list(rows)), parts[-1].to_slot
 
 
 def parts_of(options: GmnsOptions, step: int, read: Read) -> list[Part]:
     """When demand sets out: by the profile, or evenly over the period."""
     if options.profile is not None:
-        parts, _, notes = read_profile(exists(options.profile), start_ms=options.start_ms, step_ms=step, reading=options.reading)
+        parts, _, notes = read_profile(exists(options.profile), start_ms=options.start_ms, step_ms=step,
+                                       reading=options.reading)
         read.notes += notes
         return sorted(parts, key=lambda part: part.to_slot)
     if options.period > options.horizon:
-        raise Fault(f"the demand's period of {options.period} minutes is longer than the horizon of {options.horizon}; give --horizon {options.period} or more")
+        raise Fault(f"the demand's period of {options.period} minutes is longer than the horizon of {options.horizon};"
+                    f" give --horizon {options.period} or more")
     return [Part(0, max(1, options.period * MINUTE_MS // step), Fraction(1))]
 
 
 def size_told(made: Carried, case: Case, last: int) -> list[str]:
     """How large the case is, and how near its capacities are to those of the network."""
     total = sum(row.units for row in case.demand)
-    off = max((abs(top(link) / road.capacity - 1) for link, road in zip(made.links, made.network.roads.values())), default=Fraction(0))
+    off = max((abs(top(link) / road.capacity - 1) for link, road in zip(made.links, made.network.roads.values())),
+              default=Fraction(0))
     return [f"{len(case.links)} links, {len(case.nodes)} nodes, {len(case.destinations)} destinations",
-            f"{short_vehicles(total)} vehicles over {last * made.step // MINUTE_MS} minutes, {case.setup.slots} slots of {made.step} ms",
+            f"{short_vehicles(total)} vehicles over {last * made.step // MINUTE_MS} minutes, {case.setup.slots} slots"
+            f" of {made.step} ms",
             f"capacities are kept within {float(off * 100):.1f} percent"]
 
 

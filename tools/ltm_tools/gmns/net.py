@@ -1,4 +1,5 @@
-"""Reads a network in the General Modeling Network Specification (GMNS): `link.csv`, and `node.csv` and `config.csv` where they are.
+"""Reads a network in the General Modeling Network Specification (GMNS): `link.csv`, and `node.csv` and `config.csv`
+where they are.
 
 A link needs its ends, and a length or places to work it out. What else is missing is set by its kind, and that is told.
 """
@@ -68,7 +69,8 @@ def read_gmns(folder: Path, units: Units) -> Read:
     table = read(path, ("from_node_id", "to_node_id"), LINK_NAMES, units.reading)
     made.notes += table.notes
     if file_of(folder, "movement.csv").exists():
-        made.notes.append("movement.csv is not read: from each link traffic may go on by each link that leaves its end node, except where splits do not send it")
+        made.notes.append("movement.csv is not read: from each link traffic may go on by each link that leaves its end"
+                          " node, except where splits do not send it")
     whole_numbers(table.rows, ("link_id", "from_node_id", "to_node_id"))
     if "link_id" not in table.fields:
         made.notes.append("link.csv has no link_id; links are named by their ends")
@@ -89,19 +91,22 @@ def read_gmns(folder: Path, units: Units) -> Read:
 def file_of(folder: Path, name: str) -> Path:
     """The file of a name in a folder, in small or in capital letters; the path of that name where there is none."""
     path = folder / name
-    others = sorted(one for one in folder.iterdir() if one.name.lower() == name) if folder.is_dir() and not path.exists() else []
+    others = sorted(one for one in folder.iterdir() if one.name.lower()
+                    == name) if folder.is_dir() and not path.exists() else []
     return others[0] if others else path
 
 
 def instead(folder: Path) -> str:
     """What to do with a folder, or a file, that has no link.csv."""
     if not folder.is_dir():
-        return "a folder with link.csv and node.csv is wanted" + (", and this is a file" if folder.exists() else ", and there is none of this name")
+        return "a folder with link.csv and node.csv is wanted" + (", and this is a file" if folder.exists() else ", and"
+                                                                  " there is none of this name")
     near = sorted(found.name for found in folder.iterdir())
     packed = next((name for name in near if name.lower().endswith((".zip", ".gz", ".tar", ".7z"))), None)
     links = next((name for name in near if name.lower().endswith((".csv", ".txt")) and "link" in name.lower()), None)
     if links or packed:
-        return f"if {links} has the links, call it link.csv" if links else f"unpack {packed}, and name the folder of its link.csv"
+        return (f"if {links} has the links, call it link.csv" if links else f"unpack {packed}, and name the folder of"
+                f" its link.csv")
     return f"it has {', '.join(near[:8])}" if near else "a folder with link.csv and node.csv is wanted, and it is empty"
 
 
@@ -114,7 +119,8 @@ def read_config(folder: Path, made: Read) -> None:
     fields = rows[0].fields if rows else {}
     said = {name: fields.get(name, "").strip().lower() for name in ("long_length", "speed")}
     length, speed = LENGTH_WORDS.get(said["long_length"]), SPEED_WORDS.get(said["speed"])
-    for name, known, option, asked in (("long_length", length, "--length-unit", made.units.length), ("speed", speed, "--speed-unit", made.units.speed)):
+    for name, known, option, asked in (("long_length", length, "--length-unit", made.units.length),
+                                       ("speed", speed, "--speed-unit", made.units.speed)):
         if said[name] and not known and not asked:
             raise Fault(f"config.csv: {name} is {said[name]!r}, a unit that is not known; give {option}")
     made.units.crs = made.units.crs or crs_of(fields.get("crs", ""))
@@ -171,7 +177,8 @@ def line_of(row: Row, made: Read, shapes: dict[str, str]) -> list[Point]:
     if points:
         return points[::-1] if isinstance(row, TurnedRow) else points
     ends = [made.network.nodes.get(row.text(name, "")) for name in ("from_node_id", "to_node_id")]
-    return [(node.x, node.y) for node in ends if node is not None and node.x is not None and node.y is not None] if None not in ends else []
+    return [(node.x, node.y) for node in ends if node is not None and node.x is not None
+            and node.y is not None] if None not in ends else []
 
 
 def check_units(rows: Sequence[Row], lines: Sequence[list[Point]], made: Read) -> None:
@@ -195,7 +202,8 @@ def check_units(rows: Sequence[Row], lines: Sequence[list[Point]], made: Read) -
                 made.units.length = other
                 return
         if not 0.2 < middle < 5:
-            made.notes.append(f"lengths are {middle:.3g} times what the places of nodes and lines say: look at --length-unit and --places")
+            made.notes.append(f"lengths are {middle:.3g} times what the places of nodes and lines say: look at"
+                              f" --length-unit and --places")
 
 
 def number(row: Row, name: str, default: Fraction | None, what: str, made: Read) -> Fraction | None:
@@ -205,7 +213,8 @@ def number(row: Row, name: str, default: Fraction | None, what: str, made: Read)
         return default
     found = fraction_or_none(row, name)
     if found is None:
-        made.faults.append(f"{what}: {name} is {text!r}, and a number above 0 is wanted" + ("; left empty it is set by the link's kind" if default is not None else ""))
+        made.faults.append(f"{what}: {name} is {text!r}, and a number above 0 is wanted"
+                           + ("; left empty it is set by the link's kind" if default is not None else ""))
     return found
 
 
@@ -276,7 +285,8 @@ def road_of_row(row: Row, name: str, ends: tuple[str, str], line: list[Point], w
         return None
     tail, head = (made.network.nodes[end].place if end in made.network.nodes else None for end in ends)
     return road_of(name, *ends, metres=length, kmh=speed * KMH[units.speed or "kmh"], jam=units.jam * lanes,
-                   capacity=capacity if whole else capacity * lanes, kind=kind, shape=towards(line, tail, head) if len(line) > 1 else ())
+                   capacity=capacity if whole else capacity * lanes, kind=kind,
+                   shape=towards(line, tail, head) if len(line) > 1 else ())
 
 
 def length_of(row: Row, line: list[Point], what: str, made: Read) -> Fraction | None:
@@ -290,7 +300,8 @@ def length_of(row: Row, line: list[Point], what: str, made: Read) -> Fraction | 
         made.count("get their length by their places")
         length = drawn
     else:
-        made.faults.append(f"{what}: no length, and no geometry or places of its nodes to work it out; give the field length")
+        made.faults.append(f"{what}: no length, and no geometry or places of its nodes to work it out; give the field"
+                           f" length")
         return None
     if length is not None and length < LEAST_M:
         made.count("are shorter than 1 m and get 1 m")

@@ -1,5 +1,6 @@
-"""The answers of a session as numbers. Amounts are thousandths of a vehicle, vehicle times thousandths of a vehicle times ms, and boundaries
-are counted from 0, the beginning of slot 0, up to the number of slots of the loading that is shown."""
+"""The answers of a session as numbers. Amounts are thousandths of a vehicle, vehicle times thousandths of a vehicle
+times ms, and boundaries are counted from 0, the beginning of slot 0, up to the number of slots of the loading that is
+shown."""
 from __future__ import annotations
 
 from collections.abc import Mapping, Sequence
@@ -47,7 +48,8 @@ class LinkTime(NamedTuple):
 
 
 class Delays(NamedTuple):
-    """Vehicle time in thousandths of a vehicle times ms: of all, in queues of links, and waited at origins (see the module `delay`)."""
+    """Vehicle time in thousandths of a vehicle times ms: of all, in queues of links, and waited at origins (see the
+    module `delay`)."""
 
     version: int
     spent: int
@@ -65,7 +67,8 @@ class LinkQueue(NamedTuple):
 
 
 class OriginQueue(NamedTuple):
-    """What the demand of a node has produced by a boundary, what has left it, and what waits then, in thousandths of a vehicle."""
+    """What the demand of a node has produced by a boundary, what has left it, and what waits then, in thousandths of a
+    vehicle."""
 
     version: int
     produced: int
@@ -74,8 +77,9 @@ class OriginQueue(NamedTuple):
 
 
 class State(NamedTuple):
-    """All links and origins at a boundary, in thousandths of a vehicle: of each link, in the order of `links.csv`, what has entered and left it
-    and its queue; of each node, in order of number, what waits there, 0 where it is no origin."""
+    """All links and origins at a boundary, in thousandths of a vehicle: of each link, in the order of `links.csv`, what
+    has entered and left it and its queue; of each node, in order of number, what waits there, 0 where it is no
+    origin."""
 
     version: int
     slot: int
@@ -94,7 +98,8 @@ class LinkCurve(NamedTuple):
 
 
 class OriginCurve(NamedTuple):
-    """What the demand of a node has produced by each boundary and what has left it, in thousandths of a vehicle; 0 where it is no origin."""
+    """What the demand of a node has produced by each boundary and what has left it, in thousandths of a vehicle; 0
+    where it is no origin."""
 
     version: int
     produced: Sequence[int]
@@ -102,8 +107,8 @@ class OriginCurve(NamedTuple):
 
 
 class AllDelays(NamedTuple):
-    """Vehicle times as of `Delays`, and with them those of each link, in the order of `links.csv`, and of each node, in order of number; a node
-    that is no origin has a wait of 0."""
+    """Vehicle times as of `Delays`, and with them those of each link, in the order of `links.csv`, and of each node, in
+    order of number; a node that is no origin has a wait of 0."""
 
     version: int
     spent: int
@@ -123,7 +128,8 @@ class Names(NamedTuple):
 def state_of(words: Sequence[str], names: Names) -> State:
     """The answer to `state`."""
     entered, left, queue, waiting = (list(map(int, part)) for part in parts(words, 4, "in", "out", "queue", "waiting"))
-    return State(int(words[1]), int(words[3]), named(names.links, entered), named(names.links, left), named(names.links, queue),
+    return State(int(words[1]), int(words[3]), named(names.links, entered), named(names.links, left),
+                 named(names.links, queue),
                  named(names.nodes, waiting))
 
 
@@ -144,7 +150,8 @@ def all_delays_of(words: Sequence[str], names: Names) -> AllDelays:
     from .delay import Delay, Wait
 
     links, nodes = parts(words, 8, "links", "nodes")
-    delays = [Delay(told_time(spent), told_time(queued), told_units(most), int(at)) for spent, queued, most, at in in_groups(links, 4)]
+    delays = [Delay(told_time(spent), told_time(queued), told_units(most), int(at))
+              for spent, queued, most, at in in_groups(links, 4)]
     waits = [Wait(told_time(waited), told_units(most), int(at)) for waited, most, at in in_groups(nodes, 3)]
     spent, queued, waited = (told_time(words[place]) for place in (3, 5, 7))
     return AllDelays(int(words[1]), spent, queued, waited, named(names.links, delays), named(names.nodes, waits))
@@ -166,7 +173,8 @@ def parts(words: Sequence[str], place: int, *names: str) -> list[Sequence[str]]:
 def named(names: Sequence[str], values: Sequence[Value]) -> dict[str, Value]:
     """A value for each name; a Fault where they are not as many."""
     if len(names) != len(values):
-        raise Fault(f"the answer tells of {len(values)}, and the case has {len(names)}: its files are no longer those the session began with")
+        raise Fault(f"the answer tells of {len(values)}, and the case has {len(names)}: its files are no longer those"
+                    f" the session began with")
     return dict(zip(names, values))
 
 

@@ -26,7 +26,8 @@ class Comparison:
 
     def times(self) -> Pairs:
         """Vehicle times of all, in units times ms."""
-        return {name: (getattr(self.reports[0], name), getattr(self.reports[1], name)) for name in ("spent", "delay", "queued", "waited")}
+        return {name: (getattr(self.reports[0], name), getattr(self.reports[1], name))
+                for name in ("spent", "delay", "queued", "waited")}
 
     def amounts(self) -> Pairs:
         """Totals at the end of the horizon, in units."""
@@ -62,12 +63,14 @@ class Comparison:
 
 def of_versions(folder: str | os.PathLike[str], made: Sequence[Sequence[Edit]], one: int = 0, other: int | None = None,
                 program: str | os.PathLike[str] | None = None) -> Comparison:
-    """Two versions of a case side by side: after the first so many of these accepted batches, `other` after all where it is None."""
+    """Two versions of a case side by side: after the first so many of these accepted batches, `other` after all where
+    it is None."""
     both = [of_version(folder, made, version, program) for version in (one, other)]
     return Comparison(both[0][0], both[1][0], (both[0][1], both[1][1]))
 
 
-def of_version(folder: str | os.PathLike[str], made: Sequence[Sequence[Edit]], version: int | None, program: str | os.PathLike[str] | None) -> tuple[Loaded, Report]:
+def of_version(folder: str | os.PathLike[str], made: Sequence[Sequence[Edit]], version: int | None,
+               program: str | os.PathLike[str] | None) -> tuple[Loaded, Report]:
     """The loading of a version by the program, and its delay."""
     named = None if program is None else os.fspath(program)
     with tempfile.TemporaryDirectory() as kept:
@@ -84,12 +87,14 @@ def arrivals(loading: Loaded) -> list[int]:
 
 
 def end_totals(loading: Loaded, arrived: Sequence[int]) -> dict[str, int]:
-    """The totals at the end of the horizon, as `ltm load` tells them, and who is not there then: on a link or waiting."""
+    """The totals at the end of the horizon, as `ltm load` tells them, and who is not there then: on a link or
+    waiting."""
     case, curves = loading
     generated = sum(row.units for row in case.standing_demand())
     on_links = sum(last(curves.up(link.name)) - last(curves.down(link.name)) for link in case.links)
     return {"generated": generated, "arrived": arrived[-1], "on_links": on_links,
-            "waiting": generated - sum(last(curves.departed(node)) for node in case.nodes), "not_there": generated - arrived[-1]}
+            "waiting": generated - sum(last(curves.departed(node)) for node in case.nodes),
+            "not_there": generated - arrived[-1]}
 
 
 def last(counts: Counts) -> int:

@@ -1,8 +1,8 @@
 """Curve files, as `ltm curves` writes them: cumulative counts by link, node, destination and boundary.
 
-Counts are thousandths of a vehicle at each boundary, the first before slot 0. They are numpy arrays of int64 where numpy is
-installed, and else lists of int. The text of each record is kept as it was read, and becomes numbers when it is asked for: so
-a file takes about its own size in memory, and one link of a large file costs next to nothing.
+Counts are thousandths of a vehicle at each boundary, the first before slot 0. They are numpy arrays of int64 where
+numpy is installed, and else lists of int. The text of each record is kept as it was read, and becomes numbers when it
+is asked for: so a file takes about its own size in memory, and one link of a large file costs next to nothing.
 """
 from __future__ import annotations
 
@@ -37,7 +37,8 @@ class Curves:
 
     @classmethod
     def of_case(cls, folder: str | os.PathLike[str], path: str | os.PathLike[str] | None = None) -> "Curves":
-        """The curves of a case: of `curves.csv` in its folder, of another file, or of the standard input where the path is `-`."""
+        """The curves of a case: of `curves.csv` in its folder, of another file, or of the standard input where the path
+        is `-`."""
         setup = read_setup(fetch(folder, "setup"))
         return cls.read(os.path.join(folder, "curves.csv") if path is None else path, setup.step_ms, setup.slots + 1)
 
@@ -108,25 +109,30 @@ class Curves:
         return counts
 
     def told_of_links(self, case: Case, boundary: int | None = None) -> dict[str, dict[str, object]]:
-        """What they tell of each link of their case, in vehicles and vehicle seconds; and what stands on it at a boundary."""
+        """What they tell of each link of their case, in vehicles and vehicle seconds; and what stands on it at a
+        boundary."""
         told: dict[str, dict[str, object]] = {}
         report = delay.report(self, case)
         for link in case.links:
             up, down, late = self.up(link.name), self.down(link.name), report.links[link.name]
-            told[link.name] = {"entered": number(int(up[-1])), "left": number(int(down[-1])), "storage": number(link.storage_units),
+            told[link.name] = {"entered": number(int(up[-1])), "left": number(int(down[-1])),
+                               "storage": number(link.storage_units),
                                "most_queue": number(late.most), "most_queue_ms": late.at * self.step_ms,
-                               "spent": float(json_cell(seconds(late.spent))), "queued": float(json_cell(seconds(late.queued)))}
+                               "spent": float(json_cell(seconds(late.spent))),
+                               "queued": float(json_cell(seconds(late.queued)))}
             if boundary is not None:
-                told[link.name].update(on_link=number(int(up[boundary] - down[boundary])), queue=number(int(delay.queue(self, link)[boundary])))
+                told[link.name].update(on_link=number(int(up[boundary] - down[boundary])),
+                                       queue=number(int(delay.queue(self, link)[boundary])))
         return told
 
     def to_pandas(self, kinds: Sequence[str] = KINDS, by_destination: bool = False) -> "pandas.DataFrame":
-        """A table of the counts, in thousandths of a vehicle: a row for each boundary, its index the milliseconds since the
-        start; a column for each kind and name, and for each destination where that is asked for."""
+        """A table of the counts, in thousandths of a vehicle: a row for each boundary, its index the milliseconds since
+        the start; a column for each kind and name, and for each destination where that is asked for."""
         try:
             import pandas
         except ImportError:
-            raise Fault("this needs pandas for Python: apt-get install python3-pandas, which /usr/bin/python3 has then") from None
+            raise Fault("this needs pandas for Python: apt-get install python3-pandas, which /usr/bin/python3 has"
+                        " then") from None
         columns: dict[tuple[str, ...], Counts] = {}
         for (kind, name), texts in self._texts.items():
             if kind not in kinds:
@@ -135,14 +141,16 @@ class Curves:
                 columns.update({(kind, name, end): self.counts(kind, name, end) for end in texts})
             else:
                 columns[kind, name] = self.counts(kind, name)
-        frame = pandas.DataFrame(columns, index=pandas.RangeIndex(0, self.boundaries * self.step_ms, self.step_ms, name="ms"))
+        frame = pandas.DataFrame(columns, index=pandas.RangeIndex(0, self.boundaries * self.step_ms, self.step_ms,
+                                                                  name="ms"))
         if columns:
             frame.columns.names = ["kind", "name", "destination"][: 2 + by_destination]
         return frame
 
 
 class Summed(Curves):
-    """Curves that keep each sum over destinations, for whom asks for all of them several times; nobody is to change one."""
+    """Curves that keep each sum over destinations, for whom asks for all of them several times; nobody is to change
+    one."""
 
     def __init__(self, of: Curves) -> None:
         super().__init__(of.step_ms, of.boundaries, of._texts)
@@ -162,7 +170,8 @@ def number(units: int) -> float:
 
 
 def _fields(lines: Iterable[bytes], place: str) -> Iterator[list[bytes]]:
-    """The fields of each record. Where there are quotes, or line ends other than a newline, the general reader cuts them."""
+    """The fields of each record. Where there are quotes, or line ends other than a newline, the general reader cuts
+    them."""
     kept = list(lines)
     if any(b'"' in line or b"\r" in line for line in kept):
         for record in records(b"".join(kept)):
@@ -187,7 +196,8 @@ def _texts_of(rows: Iterator[list[bytes]], place: str, boundaries: int) -> dict[
             raise Fault(f"{place} row {number}: it is no record of a curve file")
         kind, name, destination = map(bytes_text, row[:3])
         if row[3].count(b" ") + 1 != boundaries:
-            raise Fault(f"{place} row {number}: it has {row[3].count(b' ') + 1} counts, and the case has {boundaries} boundaries")
+            raise Fault(f"{place} row {number}: it has {row[3].count(b' ') + 1} counts, and the case has {boundaries}"
+                        f" boundaries")
         group = texts.setdefault((kind, name), {})
         if destination in group:
             raise Fault(f"{place} row {number}: `{kind}` of {name} for {destination} stands there twice")

@@ -1,13 +1,15 @@
 """Queues and delay of a loading, worked out from its curves in whole numbers. Every command takes them from here.
 
-Counts are thousandths of a vehicle (units), totals over destinations; `h` is the step in ms; boundaries k run from 0 to T.
+Counts are thousandths of a vehicle (units), totals over destinations; `h` is the step in ms; boundaries k run from 0 to
+T.
 
-    ready of a link at k     how many may have left it by then in free flow: what had entered it by the moment k*h - free-flow time,
-                             interpolated between boundaries and rounded down; 0 where that moment is not above 0
-    queue of a link at k     ready less what has left it: those who could have left and have not (Newell's vertical queue)
-    waiting of a node at k   what its demand has produced less what has left its origin
-    spent                    vehicle time on a link: the sum over k = 1..T of what is on it at k, times h
-    queued, waited           the sums over k = 1..T of the queue, of those waiting, times h; together they are the delay
+    ready of a link at k     how many may have left it by then in free flow: what had entered it by the moment k*h -
+                             free-flow time, interpolated between boundaries and rounded down; 0 where that moment is
+                             not above 0
+    queue of a link at k     ready less what has left it: those who could have left and have not (Newell's vertical
+    queue) waiting of a node at k   what its demand has produced less what has left its origin spent
+    vehicle time on a link: the sum over k = 1..T of what is on it at k, times h queued, waited           the sums over
+    k = 1..T of the queue, of those waiting, times h; together they are the delay
 
 Times are units times milliseconds: whole numbers of millionths of a vehicle second.
 """
@@ -49,7 +51,8 @@ class HasCounts(Protocol):
 
 @dataclass(slots=True)
 class Delay:
-    """Of a link: its vehicle time, the part of it in the queue, the greatest queue in units, and the first boundary that has it."""
+    """Of a link: its vehicle time, the part of it in the queue, the greatest queue in units, and the first boundary
+    that has it."""
 
     spent: int
     queued: int
@@ -59,7 +62,8 @@ class Delay:
 
 @dataclass(slots=True)
 class Wait:
-    """Of an origin: the vehicle time that was waited there, the most that waited in units, and the first boundary that has it."""
+    """Of an origin: the vehicle time that was waited there, the most that waited in units, and the first boundary that
+    has it."""
 
     waited: int
     most: int
@@ -95,9 +99,11 @@ class Report:
 
     def lines(self) -> Iterator[str]:
         """The report, a line each, with times in vehicle seconds and amounts in vehicles."""
-        yield f"version 0 spent {seconds_text(self.spent)} queued {seconds_text(self.queued)} waited {seconds_text(self.waited)}"
+        yield (f"version 0 spent {seconds_text(self.spent)} queued {seconds_text(self.queued)} waited"
+               f" {seconds_text(self.waited)}")
         for name, link in self.links.items():
-            yield f"link {name} spent {seconds_text(link.spent)} queued {seconds_text(link.queued)} most {vehicles_text(link.most)} at {link.at}"
+            yield (f"link {name} spent {seconds_text(link.spent)} queued {seconds_text(link.queued)} most"
+                   f" {vehicles_text(link.most)} at {link.at}")
         for name, node in self.origins.items():
             yield f"node {name} waited {seconds_text(node.waited)} most {vehicles_text(node.most)} at {node.at}"
 
@@ -199,10 +205,12 @@ def report(curves: HasCounts, case: Case) -> Report:
 
 
 def check(counts: Counts, what: str) -> None:
-    """A Fault where a curve of a link cannot be that of a loading: it begins with 0, never falls, and at most 32 vehicles pass in a slot."""
+    """A Fault where a curve of a link cannot be that of a loading: it begins with 0, never falls, and at most 32
+    vehicles pass in a slot."""
     if is_array(counts):
         steps = numpy.diff(counts)
-        fits = counts[0] == 0 and not len(steps) or bool(counts[0] == 0 and steps.min() >= 0 and steps.max() <= MOST_SLOT_UNITS)
+        fits = counts[0] == 0 and not len(steps) or bool(counts[0] == 0 and steps.min() >= 0
+                                                         and steps.max() <= MOST_SLOT_UNITS)
     else:
         fits = counts[0] == 0 and all(0 <= b - a <= MOST_SLOT_UNITS for a, b in zip(counts, counts[1:]))
     if not fits:

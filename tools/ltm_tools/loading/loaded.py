@@ -19,17 +19,19 @@ class Loaded(NamedTuple):
     curves: Curves
 
     def boundary_at(self, moment: int, start: int) -> int:
-        """The last boundary that is not after a clock time, slot 0 beginning at `start`; a Fault where that is not within the horizon."""
+        """The last boundary that is not after a clock time, slot 0 beginning at `start`; a Fault where that is not
+        within the horizon."""
         boundary = (moment - start) // self.curves.step_ms
         if not 0 <= boundary < self.curves.boundaries:
             end = start + (self.curves.boundaries - 1) * self.curves.step_ms
-            raise Fault(f"{clock_text(moment)} is not within the horizon, from {clock_text(start)} to {clock_text(end)}")
+            raise Fault(f"{clock_text(moment)} is not within the horizon, from {clock_text(start)} to"
+                        f" {clock_text(end)}")
         return boundary
 
 
 def loaded(folder: str, curves: str | None, named: str | None) -> Loaded:
-    """The case of a folder, and its curves: of this file, else made by the program, else of `curves.csv` in the folder where the
-    program is nowhere found."""
+    """The case of a folder, and its curves: of this file, else made by the program, else of `curves.csv` in the folder
+    where the program is nowhere found."""
     case = Case.read(folder)
     step, boundaries = case.setup.step_ms, case.setup.slots + 1
     if curves is not None:
@@ -60,8 +62,8 @@ def made(folder: str, named: str | None, step: int, boundaries: int) -> Curves:
 
 
 def told_delay(loading: Loaded, folder: str, curves: str | None, named: str | None) -> delay.Report:
-    """The delay of what `loaded` gave for a folder: as the program tells it where it made the loading and has a command for it, and else
-    worked out from the curves."""
+    """The delay of what `loaded` gave for a folder: as the program tells it where it made the loading and has a command
+    for it, and else worked out from the curves."""
     if curves is None and program.has_command("delay", named):
         return program_delay(folder, named)
     return delay.report(loading.curves, loading.case)
@@ -75,7 +77,8 @@ def program_delay(folder: str, named: str | None) -> delay.Report:
 def of_case(case: Case, curves: Curves) -> Curves:
     """The curves, where they have exactly the links, nodes and destinations of the case."""
     if case.destinations:
-        for kind, wanted, found in (("link", [link.name for link in case.links], curves.links), ("node", case.nodes, curves.nodes),
+        for kind, wanted, found in (("link", [link.name for link in case.links], curves.links),
+                                    ("node", case.nodes, curves.nodes),
                                     ("destination", case.destinations, curves.destinations)):
             if wanted != found:
                 odd = next((name for name in (*wanted, *found) if (name in wanted) != (name in found)), None)

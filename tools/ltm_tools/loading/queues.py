@@ -18,8 +18,9 @@ LEAST_UNITS = 1000
 
 
 class Queue(NamedTuple):
-    """A queue: of a link or of an origin; its first and last boundary; whether it lasts beyond the horizon; its worst in units, with
-    the first boundary that has it; what the link stores, None for an origin; and its delay in units times ms."""
+    """A queue: of a link or of an origin; its first and last boundary; whether it lasts beyond the horizon; its worst
+    in units, with the first boundary that has it; what the link stores, None for an origin; and its delay in units
+    times ms."""
 
     kind: str
     name: str
@@ -33,7 +34,8 @@ class Queue(NamedTuple):
 
 
 def queues(curves: Curves, case: Case, least: int = LEAST_UNITS) -> list[Queue]:
-    """All queues of at least so many units, of links in the order of `links.csv`, and then of origins by node number."""
+    """All queues of at least so many units, of links in the order of `links.csv`, and then of origins by node
+    number."""
     found: list[Queue] = []
     for link in case.links:
         found += _queues("link", link.name, delay.queue(curves, link), least, link.storage_units, curves.step_ms)
@@ -47,7 +49,8 @@ def _queues(kind: str, name: str, counts: Counts, least: int, storage: int | Non
     for first, last in spans(counts, least):
         part = counts[first : last + 1]
         worst, at = delay.most(part)
-        yield Queue(kind, name, first, last, last == len(counts) - 1, worst, first + at, storage, delay.whole(part) * step_ms)
+        yield Queue(kind, name, first, last, last == len(counts) - 1, worst, first + at, storage,
+                    delay.whole(part) * step_ms)
 
 
 def spans(counts: Counts, least: int) -> Iterator[tuple[int, int]]:

@@ -21,7 +21,8 @@ from ..errors import Fault
 from ..files import shown
 from ..formats import MOST_EDITS, MOST_LINE_BYTES, MOST_WORKERS, told_time, told_units, whole_of
 from ..program import start
-from .answers import (AllDelays, Delays, LinkCurve, LinkQueue, LinkTime, Names, OriginCurve, OriginQueue, Passed, Settled, State, Totals,
+from .answers import (AllDelays, Delays, LinkCurve, LinkQueue, LinkTime, Names, OriginCurve, OriginQueue, Passed,
+                      Settled, State, Totals,
                       all_delays_of, link_curve_of, origin_curve_of, state_of)
 
 if TYPE_CHECKING:
@@ -31,8 +32,8 @@ Told = TypeVar("Told")
 
 
 class Refused(Fault):
-    """The session refused a line. `cause` is its word for why, as `UnknownName`; `edit` is the first edit that is refused, counted
-    from 1, and 0 where it is no edit; `reason` says it in words, where the case shows it."""
+    """The session refused a line. `cause` is its word for why, as `UnknownName`; `edit` is the first edit that is
+    refused, counted from 1, and 0 where it is no edit; `reason` says it in words, where the case shows it."""
 
     def __init__(self, answer: str, cause: str, edit: int = 0, reason: str = "") -> None:
         self.cause, self.edit, self.reason = cause, edit, reason
@@ -46,7 +47,8 @@ class Ended(Fault):
 class Session:
     """A session of a case. It is a context manager; `close` ends it, and a Fault tells what went wrong."""
 
-    def __init__(self, folder: str | os.PathLike[str], workers: int = 0, program: str | os.PathLike[str] | None = None) -> None:
+    def __init__(self, folder: str | os.PathLike[str], workers: int = 0,
+                 program: str | os.PathLike[str] | None = None) -> None:
         if not 0 <= workers <= MOST_WORKERS:
             raise Fault(f"a session has 0 to {MOST_WORKERS} workers, and not {workers}")
         self.folder, self.program = folder, program
@@ -58,7 +60,8 @@ class Session:
     def __enter__(self) -> "Session":
         return self
 
-    def __exit__(self, kind: type[BaseException] | None, error: BaseException | None, trace: TracebackType | None) -> None:
+    def __exit__(self, kind: type[BaseException] | None, error: BaseException | None,
+                 trace: TracebackType | None) -> None:
         if kind is None:
             self.close()
             return
@@ -79,7 +82,8 @@ class Session:
         status = self.process.wait()
         self._let_go()
         if status:
-            raise Fault(f"{self.folder}: ltm {' '.join(self.words)} ended with status {status}" + (f": {rest}" if rest else ""))
+            raise Fault(f"{self.folder}: ltm {' '.join(self.words)} ended with status {status}"
+                        + (f": {rest}" if rest else ""))
 
     def _let_go(self) -> None:
         """Closes both pipes, at which the program ends, and waits for that."""
@@ -106,7 +110,8 @@ class Session:
         words = answer.split()
         if not words or words[:2] in (["bad", "case"], ["too", "long"], ["too", "many"]):
             self._let_go()
-            raise Ended(f"{self.folder}: ltm {' '.join(self.words)} ended with status {self.process.returncode}: {answer or 'no answer'}")
+            raise Ended(f"{self.folder}: ltm {' '.join(self.words)} ended with status {self.process.returncode}:"
+                        f" {answer or 'no answer'}")
         if words[0] == "refused":
             raise _refused(answer, words, self._reason(command, answer))
         return words
@@ -117,7 +122,8 @@ class Session:
         try:
             return read(words)
         except (Fault, IndexError, ValueError):
-            raise Fault(f"{self.folder}: ltm {' '.join(self.words)} answers {shown(' '.join(words))} to {command['do']}, which is no answer to it") from None
+            raise Fault(f"{self.folder}: ltm {' '.join(self.words)} answers {shown(' '.join(words))} to"
+                        f" {command['do']}, which is no answer to it") from None
 
     def _reason(self, command: dict[str, object], answer: str) -> str:
         """Why the session refused a command, by the files of the case."""
@@ -135,8 +141,9 @@ class Session:
         return version
 
     def save(self, folder: str | os.PathLike[str], version: int | None = None) -> None:
-        """Writes the case that all accepted batches leave, or the first `version` of them, in a folder: what `load` tells there the session
-        shows once it has settled them, and the files `nodes.csv` and `shapes.csv` where the session's folder has them."""
+        """Writes the case that all accepted batches leave, or the first `version` of them, in a folder: what `load`
+        tells there the session shows once it has settled them, and the files `nodes.csv` and `shapes.csv` where the
+        session's folder has them."""
         from ..case.keeping import keep
 
         keep(self.folder, self.made, folder, version)
@@ -153,33 +160,39 @@ class Session:
 
     def totals(self) -> Totals:
         """The totals of the loading that is shown."""
-        return self._told(lambda words: Totals(int(words[1]), *(told_units(words[place]) for place in (3, 5, 7, 9))), do="totals")
+        return self._told(lambda words: Totals(int(words[1]), *(told_units(words[place]) for place in (3, 5, 7, 9))),
+                          do="totals")
 
     def link(self, name: str) -> Passed:
         """What has entered and left a link in the loading that is shown."""
-        return self._told(lambda words: Passed(int(words[1]), told_units(words[5]), told_units(words[7])), do="link", link=name)
+        return self._told(lambda words: Passed(int(words[1]), told_units(words[5]), told_units(words[7])), do="link",
+                          link=name)
 
     def time(self, name: str, slot: int) -> LinkTime:
         """How long a link takes whoever enters it in a slot, in the loading that is shown."""
-        return self._told(lambda words: LinkTime(int(words[1]), None if words[7] == "none" else int(words[7])), do="time", link=name, slot=slot)
+        return self._told(lambda words: LinkTime(int(words[1]), None if words[7] == "none" else int(words[7])),
+                          do="time", link=name, slot=slot)
 
     def delay(self) -> Delays:
         """The vehicle time of the loading that is shown, and the delay in it."""
-        return self._told(lambda words: Delays(int(words[1]), *(told_time(words[place]) for place in (3, 5, 7))), do="delay")
+        return self._told(lambda words: Delays(int(words[1]), *(told_time(words[place]) for place in (3, 5, 7))),
+                          do="delay")
 
     def queue(self, name: str, slot: int) -> LinkQueue:
-        """What has entered and left a link by the beginning of a slot, and its queue, in the loading that is shown. The slot may be the
-        first behind the horizon."""
-        return self._told(lambda words: LinkQueue(int(words[1]), *(told_units(words[place]) for place in (7, 9, 11))), do="queue", link=name, slot=slot)
+        """What has entered and left a link by the beginning of a slot, and its queue, in the loading that is shown. The
+        slot may be the first behind the horizon."""
+        return self._told(lambda words: LinkQueue(int(words[1]), *(told_units(words[place]) for place in (7, 9, 11))),
+                          do="queue", link=name, slot=slot)
 
     def origin(self, name: str, slot: int) -> OriginQueue:
-        """What the demand of a node has produced by the beginning of a slot, what has left it, and how many wait there, in the loading that
-        is shown. The slot may be the first behind the horizon."""
-        return self._told(lambda words: OriginQueue(int(words[1]), *(told_units(words[place]) for place in (7, 9, 11))), do="origin", node=name, slot=slot)
+        """What the demand of a node has produced by the beginning of a slot, what has left it, and how many wait there,
+        in the loading that is shown. The slot may be the first behind the horizon."""
+        return self._told(lambda words: OriginQueue(int(words[1]), *(told_units(words[place]) for place in (7, 9, 11))),
+                          do="origin", node=name, slot=slot)
 
     def state(self, slot: int) -> State:
-        """What has entered and left each link by the beginning of a slot, its queue, and who waits at each node, in the loading that is
-        shown. The slot may be the first behind the horizon."""
+        """What has entered and left each link by the beginning of a slot, its queue, and who waits at each node, in the
+        loading that is shown. The slot may be the first behind the horizon."""
         return state_of(self.ask(do="state", slot=slot), self.names())
 
     def curve(self, name: str) -> LinkCurve:
@@ -187,11 +200,13 @@ class Session:
         return link_curve_of(self.ask(do="curve", link=name))
 
     def departures(self, name: str) -> OriginCurve:
-        """What the demand of a node has produced by each boundary and what has left it, in the loading that is shown."""
+        """What the demand of a node has produced by each boundary and what has left it, in the loading that is
+        shown."""
         return origin_curve_of(self.ask(do="departures", node=name))
 
     def delays(self) -> AllDelays:
-        """The vehicle time of the loading that is shown and the delay in it, of all and of each link and node, as `ltm delay` tells it."""
+        """The vehicle time of the loading that is shown and the delay in it, of all and of each link and node, as `ltm
+        delay` tells it."""
         return all_delays_of(self.ask(do="delays"), self.names())
 
     def names(self) -> Names:

@@ -12,8 +12,8 @@ from .counts import as_list
 from .curves import Curves
 
 class Trip(NamedTuple):
-    """A departure, in ms since the start of slot 0; the wait at the origin and the time on each link in ms, up to the first that is
-    not left by the end of the horizon, which is None."""
+    """A departure, in ms since the start of slot 0; the wait at the origin and the time on each link in ms, up to the
+    first that is not left by the end of the horizon, which is None."""
 
     departs: int
     parts: list[int | None]

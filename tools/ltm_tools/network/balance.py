@@ -1,9 +1,11 @@
-"""Evens out a fitted network: roads that can be are made a little shorter or longer, so that used routes take the time they took.
+"""Evens out a fitted network: roads that can be are made a little shorter or longer, so that used routes take the time
+they took.
 
-Where a fit makes some roads longer, or takes some away, the routes over them take longer or less. The roads beside them are changed at
-their own speed and density, each by at most a share of its length and never below what the step asks for, so that over the routes
-the squares of what is still off, as shares of their times, and of what the roads are changed by, as shares of theirs, are least.
-The search is by coordinates in floating point; what it finds is rounded to milliseconds, and the network stays exact.
+Where a fit makes some roads longer, or takes some away, the routes over them take longer or less. The roads beside them
+are changed at their own speed and density, each by at most a share of its length and never below what the step asks
+for, so that over the routes the squares of what is still off, as shares of their times, and of what the roads are
+changed by, as shares of theirs, are least. The search is by coordinates in floating point; what it finds is rounded to
+milliseconds, and the network stays exact.
 """
 from __future__ import annotations
 
@@ -30,8 +32,10 @@ class Used:
 
 def balance(fit: Fit, routes: Iterable[Used]) -> None:
     """Changes the roads of a fitted network for its most used routes, and notes each change."""
-    chosen = sorted((route for route in routes if route.roads and route.time), key=lambda route: (-route.units, route.roads))[:MOST_ROUTES]
-    off = [float(sum((fit.network.roads[name].time for name in route.roads), Fraction(0)) - route.time) for route in chosen]
+    chosen = sorted((route for route in routes if route.roads and route.time),
+                    key=lambda route: (-route.units, route.roads))[:MOST_ROUTES]
+    off = [float(sum((fit.network.roads[name].time for name in route.roads), Fraction(0)) - route.time)
+           for route in chosen]
     if not any(abs(error) > 1 for error in off):
         return
     for name, change in search(fit, chosen, off).items():
@@ -60,7 +64,8 @@ def search(fit: Fit, routes: Sequence[Used], off: list[float]) -> dict[str, floa
     weights = [route.units / whole / float(route.time) ** 2 for route in routes]
     times = {name: float(fit.network.roads[name].time) for name in users}
     limits = {name: bounds(fit, name) for name in users}
-    holds = {name: HOLD * sum(weights[number] * float(routes[number].time) ** 2 for number in numbers) / times[name] ** 2 for name, numbers in users.items()}
+    holds = {name: HOLD * sum(weights[number] * float(routes[number].time) ** 2 for number in numbers)
+             / times[name] ** 2 for name, numbers in users.items()}
     changes = dict.fromkeys(users, 0.0)
     for _ in range(ROUNDS):
         most = 0.0

@@ -11,14 +11,17 @@ from .steps import longest_step, signed
 
 
 def changes_told(made: Carried, routes: Iterable[tuple[tuple[str, ...], int]], added: Container[str] = ()) -> list[str]:
-    """What was changed: the step and the network, the most used routes with it, and names. `added` are roads that the source does not have."""
-    told = [*changes_table(made, added), *routes_table(made, routes)] if made.fit is not None else [f"the longest step that changes nothing is {longest_step(made.raw)} ms"]
+    """What was changed: the step and the network, the most used routes with it, and names. `added` are roads that the
+    source does not have."""
+    told = ([*changes_table(made, added), *routes_table(made, routes)] if made.fit is not None
+            else [f"the longest step that changes nothing is {longest_step(made.raw)} ms"])
     renamed = sum(name != source for names in (made.link_names, made.node_names) for source, name in names.items())
     return told + ([f"{renamed} names are made, and stand in source_links.csv and source_nodes.csv"] if renamed else [])
 
 
 def changes_table(made: Carried, added: Container[str] = ()) -> list[str]:
-    """What a fit changed: for each kind of change how many, how many metres and seconds, and the one that moves most."""
+    """What a fit changed: for each kind of change how many, how many metres and seconds, and the one that moves
+    most."""
     if made.fit is None:
         return []
     told = [f"a fit to {made.step} ms changes:"]
@@ -27,17 +30,22 @@ def changes_table(made: Carried, added: Container[str] = ()) -> list[str]:
         some = [change for change in made.fit.changes if change.kind == kind]
         moved, time = sum(abs(change.metres) for change in some), sum((change.time for change in some), Fraction(0))
         worst = max(some, key=lambda change: abs(change.metres))
-        told.append(f"  {kind:<17}{len(some):>6}  {metres_text(Fraction(moved)):>9} m  {float(time) / 1000:>+9.1f} s  most: {worst.name}, {worst.note}")
+        told.append(f"  {kind:<17}{len(some):>6}  {metres_text(Fraction(moved)):>9} m  {float(time) / 1000:>+9.1f} s "
+                    f" most: {worst.name}, {worst.note}")
     if not kinds:
         told.append("  nothing")
-    before, after = totals(road for name, road in made.raw.roads.items() if name not in added), totals(made.network.roads.values())
-    told.append(f"  length {float(before[0]) / 1000:.1f} km becomes {float(after[0]) / 1000:.1f} km ({signed(after[0] / before[0] - 1)}),"
-                f" free-flow times {float(before[1]) / 1000:.0f} s become {float(after[1]) / 1000:.0f} s ({signed(after[1] / before[1] - 1)})")
+    before, after = totals(road for name, road in made.raw.roads.items()
+                           if name not in added), totals(made.network.roads.values())
+    told.append(f"  length {float(before[0]) / 1000:.1f} km becomes {float(after[0]) / 1000:.1f} km"
+                f" ({signed(after[0] / before[0] - 1)}),"
+                f" free-flow times {float(before[1]) / 1000:.0f} s become {float(after[1]) / 1000:.0f} s"
+                f" ({signed(after[1] / before[1] - 1)})")
     return told
 
 
 def routes_table(made: Carried, routes: Iterable[tuple[tuple[str, ...], int]], count: int = 20) -> list[str]:
-    """How the free-flow times of the most used routes, told by roads of the source and how many drive them, have moved."""
+    """How the free-flow times of the most used routes, told by roads of the source and how many drive them, have
+    moved."""
     most = sorted(routes, key=lambda item: (-item[1], item[0]))[:count]
     roads, moved = made.roads, []
     for names, _ in most:
@@ -48,5 +56,6 @@ def routes_table(made: Carried, routes: Iterable[tuple[tuple[str, ...], int]], c
         return []
     mean = sum((share for share, *_ in moved), Fraction(0)) / len(moved)
     worst = max(moved, key=lambda item: abs(item[0]))
-    return [f"free-flow times of the {len(moved)} most used routes: {signed(mean)} in the mean, at worst {signed(worst[0])}"
+    return [f"free-flow times of the {len(moved)} most used routes: {signed(mean)} in the mean, at worst"
+            f" {signed(worst[0])}"
             f" ({worst[1][0]} to {worst[1][-1]}, {float(worst[2]) / 1000:.1f} s becomes {worst[3] / 1000:.1f} s)"]

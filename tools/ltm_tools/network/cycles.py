@@ -1,7 +1,7 @@
 """Signals: greens that come round in a cycle, as exit limits of links slot by slot.
 
-A link may leave its capacity while it is green, and nothing while it is not. A slot that is green in part takes that part.
-What is rounded off is carried on, so that over any time a link loses less than a thousandth of a vehicle.
+A link may leave its capacity while it is green, and nothing while it is not. A slot that is green in part takes that
+part. What is rounded off is carried on, so that over any time a link loses less than a thousandth of a vehicle.
 """
 from __future__ import annotations
 
@@ -15,8 +15,8 @@ from ..formats import MOST_SLOT_UNITS
 
 @dataclass(frozen=True, slots=True)
 class Green:
-    """A green that comes round: within each cycle from one time up to another (ms), the cycle beginning at the offset; it counts
-    for a share of the link's traffic, as that of a turn."""
+    """A green that comes round: within each cycle from one time up to another (ms), the cycle beginning at the offset;
+    it counts for a share of the link's traffic, as that of a turn."""
 
     cycle_ms: int
     from_ms: int
@@ -51,8 +51,8 @@ def check_green(link: str, green: Green) -> None:
 
 
 def exit_limits(plan: Plan, *, capacity: int, step_ms: int, slots: int) -> list[Limit]:
-    """The exit limits of a plan, for a link that takes a capacity (thousandths) in a slot; spans of slots with the same limit are
-    one. A slot that is green as a whole has none."""
+    """The exit limits of a plan, for a link that takes a capacity (thousandths) in a slot; spans of slots with the same
+    limit are one. A slot that is green as a whole has none."""
     first, last = max(0, plan.start_ms // step_ms), min(slots, -(-plan.end_ms // step_ms))
     limits: list[Limit] = []
     for slot in range(first, last):
@@ -61,7 +61,8 @@ def exit_limits(plan: Plan, *, capacity: int, step_ms: int, slots: int) -> list[
         green = green_between(plan.greens, start, end) + off
         if green >= step_ms:
             continue
-        units = min(MOST_SLOT_UNITS, let_by(plan, capacity, step_ms, end) - let_by(plan, capacity, step_ms, start) + capacity * off // step_ms)
+        units = min(MOST_SLOT_UNITS, let_by(plan, capacity, step_ms, end) - let_by(plan, capacity, step_ms, start)
+                    + capacity * off // step_ms)
         if limits and limits[-1].to_slot == slot and limits[-1].units == units:
             limits[-1] = Limit(plan.link, limits[-1].from_slot, slot + 1, units)
         else:
@@ -83,9 +84,12 @@ def green_between(greens: Iterable[Green], start: int, end: int) -> Fraction:
 def even_limits(plan: Plan, *, capacity: int, step_ms: int, slots: int) -> list[Limit]:
     """One limit for the whole plan, the mean of its cycle."""
     first, last = max(0, plan.start_ms // step_ms), min(slots, -(-plan.end_ms // step_ms))
-    share = min(sum((green.share * Fraction(green.to_ms - green.from_ms, green.cycle_ms) for green in plan.greens), Fraction(0)), Fraction(1))
+    share = min(sum((green.share * Fraction(green.to_ms - green.from_ms, green.cycle_ms) for green in plan.greens),
+                    Fraction(0)), Fraction(1))
     exact = capacity * share
-    return [Limit(plan.link, first, last, min(MOST_SLOT_UNITS, exact.numerator // exact.denominator))] if first < last and share < 1 else []
+    return [Limit(plan.link, first, last, min(MOST_SLOT_UNITS,
+                                              exact.numerator
+                                              // exact.denominator))] if first < last and share < 1 else []
 
 
 def by_turn(greens: Mapping[str, Sequence[Green]], shares: Mapping[str, Fraction]) -> tuple[Green, ...]:

@@ -17,17 +17,23 @@ from ..formats import CLOCK, MINUTE_MS, LONGEST_SECONDS, MOST_UNITS, clock_ms, c
 from ..tables import Reading, Stream, read, whole_names
 from .profiles import Part
 
-TABLE_NAMES = {"o_zone_id": ("origin", "o", "orig", "from_zone", "o_zone", "from", "o_node_id", "origin_zone_id", "origin_id", "from_zone_id", "orig_taz",
+TABLE_NAMES = {"o_zone_id": ("origin", "o", "orig", "from_zone", "o_zone", "from", "o_node_id", "origin_zone_id",
+                             "origin_id", "from_zone_id", "orig_taz",
                              "origin_taz", "o_taz", "from_taz", "origin_zone", "from_node_id", "i"),
-               "d_zone_id": ("destination", "d", "dest", "to_zone", "d_zone", "to", "d_node_id", "destination_zone_id", "destination_id", "to_zone_id", "dest_taz",
+               "d_zone_id": ("destination", "d", "dest", "to_zone", "d_zone", "to", "d_node_id", "destination_zone_id",
+                             "destination_id", "to_zone_id", "dest_taz",
                              "destination_taz", "d_taz", "to_taz", "destination_zone", "to_node_id", "j"),
-               "volume": ("vehicles", "trips", "demand", "count", "flow", "value", "total", "vol", "volumes", "amount", "number", "weight")}
-SORTS = ("time_period", "demand_period", "period", "agent_type", "mode", "user_class", "vehicle_type", "purpose", "scenario")
+               "volume": ("vehicles", "trips", "demand", "count", "flow", "value", "total", "vol", "volumes", "amount",
+                          "number", "weight")}
+SORTS = ("time_period", "demand_period", "period", "agent_type", "mode", "user_class", "vehicle_type", "purpose",
+         "scenario")
 """Fields by which the rows of a table are often told apart."""
 MOST_TOLD = 1000  # values of such a field
-TRIP_NAMES = {**{name: others for name, others in TABLE_NAMES.items() if name != "volume"}, "volume": ("vehicles", "count", "number"),
+TRIP_NAMES = {**{name: others for name, others in TABLE_NAMES.items() if name != "volume"},
+              "volume": ("vehicles", "count", "number"),
               "depart": ("departure", "departure_time", "depart_time", "start_time", "time", "start", "begin")}
-PROFILE_NAMES = {"from": ("begin", "start", "time", "from_time", "interval"), "to": ("end", "to_time"), "share": ("vehicles", "count", "value", "weight", "percent")}
+PROFILE_NAMES = {"from": ("begin", "start", "time", "from_time", "interval"), "to": ("end", "to_time"),
+                 "share": ("vehicles", "count", "value", "weight", "percent")}
 
 
 @dataclass
@@ -86,9 +92,10 @@ def read_amounts(path: str | os.PathLike[str], reading: Reading = Reading()) -> 
     return made
 
 
-def summed(cells: Iterable[tuple[str, str, Fraction]], zones: tuple[set[str], set[str]]) -> dict[tuple[str, str], Fraction]:
-    """The volumes by pair, in the order in which pairs come first, without pairs of none; the names of origins and of destinations are
-    noted."""
+def summed(cells: Iterable[tuple[str, str, Fraction]],
+           zones: tuple[set[str], set[str]]) -> dict[tuple[str, str], Fraction]:
+    """The volumes by pair, in the order in which pairs come first, without pairs of none; the names of origins and of
+    destinations are noted."""
     volumes: dict[tuple[str, str], Fraction] = {}
     for origin, destination, volume in cells:
         pair = sys.intern(origin), sys.intern(destination)
@@ -115,12 +122,14 @@ def volume_field(fields: Sequence[str], path: str | os.PathLike[str]) -> str:
     others = [name for name in fields if name and name not in ("o_zone_id", "d_zone_id", *SORTS)]
     if len(others) == 1:
         return others[0]
-    raise Fault(f"{path}: no field volume in the header" + (f"; call one of {', '.join(others)} volume" if others else ""))
+    raise Fault(f"{path}: no field volume in the header"
+                + (f"; call one of {', '.join(others)} volume" if others else ""))
 
 
 def sorts_told(sorts: dict[str, set[str]], path: str | os.PathLike[str]) -> list[str]:
     """A line for each field that tells rows apart by more than one value, as all rows are added."""
-    counts = {name: f"over {MOST_TOLD}" if len(values) > MOST_TOLD else str(len(values)) for name, values in sorts.items() if len(values) > 1}
+    counts = {name: f"over {MOST_TOLD}" if len(values) > MOST_TOLD else str(len(values))
+              for name, values in sorts.items() if len(values) > 1}
     return [f"{path} has {count} values of {name}, and the vehicles of all are added" for name, count in counts.items()]
 
 
@@ -148,9 +157,10 @@ def read_trips(path: str | os.PathLike[str], reading: Reading = Reading()) -> li
             for row in Stream(path, ("o_zone_id", "d_zone_id", "depart"), TRIP_NAMES, reading)]
 
 
-def read_profile(path: str | os.PathLike[str], *, start_ms: int | None, step_ms: int, reading: Reading = Reading()) -> tuple[list[Part], int, tuple[str, ...]]:
-    """The parts of a profile in slots, the time in ms at which slot 0 begins, and what is to be told. Without a start that is the
-    profile's first time."""
+def read_profile(path: str | os.PathLike[str], *, start_ms: int | None, step_ms: int,
+                 reading: Reading = Reading()) -> tuple[list[Part], int, tuple[str, ...]]:
+    """The parts of a profile in slots, the time in ms at which slot 0 begins, and what is to be told. Without a start
+    that is the profile's first time."""
     table = read(path, ("from", "share"), PROFILE_NAMES, reading)
     if not table.rows:
         raise Fault(f"{path}: a profile without rows; as from,to,share and 7:00,7:15,0.2")
@@ -161,19 +171,22 @@ def read_profile(path: str | os.PathLike[str], *, start_ms: int | None, step_ms:
     for row, begin, end in zip(table.rows, begins, ends):
         share = row.number("share")
         if share < 0 or end <= begin or begin < start:
-            why = "a share is 0 or more" if share < 0 else "it ends before it begins" if end <= begin else f"it begins before {clock_text(start)}, when the case does"
+            why = ("a share is 0 or more" if share < 0 else "it ends before it begins" if end <= begin else f"it begins"
+                   f" before {clock_text(start)}, when the case does")
             raise Fault(f"{row.place}: {why}")
         slots = [(time - start + step_ms // 2) // step_ms for time in (begin, end)]
         moved = max(moved, *(abs(slot * step_ms - (time - start)) for slot, time in zip(slots, (begin, end))))
         if slots[0] == slots[1]:
             raise Fault(f"{row.place}: it is shorter than a step of {step_ms} ms; take longer parts")
         parts.append(Part(slots[0], slots[1], share))
-    notes = (*table.notes, *((f"times of the profile are moved by up to {moved / 1000:g} s, to whole steps",) if moved else ()))
+    notes = (*table.notes, *((f"times of the profile are moved by up to {moved / 1000:g} s, to whole steps",) if moved
+                             else ()))
     return parts, start, notes
 
 
 def ends_of(begins: list[int], path: str | os.PathLike[str]) -> list[int]:
-    """Where each part ends that is only told by its beginning: where the next one begins, the last as long as the one before."""
+    """Where each part ends that is only told by its beginning: where the next one begins, the last as long as the one
+    before."""
     if len(begins) < 2:
         raise Fault(f"{path}: one part without a field to; give its end as to")
     return [*begins[1:], 2 * begins[-1] - begins[-2]]

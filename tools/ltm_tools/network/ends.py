@@ -1,4 +1,5 @@
-"""Fewer destinations: those with most vehicles stay, and each other one is joined to the nearest of them by free-flow time."""
+"""Fewer destinations: those with most vehicles stay, and each other one is joined to the nearest of them by free-flow
+time."""
 from __future__ import annotations
 
 import heapq
@@ -23,7 +24,8 @@ def most_used(units: Mapping[str, int], most: int) -> list[str]:
 
 
 def joined(network: Network, kept: Iterable[str], others: Iterable[str]) -> dict[str, Joined]:
-    """For each other node the nearest of those that are kept, driven to it or from it; none where no way leads either way."""
+    """For each other node the nearest of those that are kept, driven to it or from it; none where no way leads either
+    way."""
     listed = list(kept)
     onward, back = nearest_of(network, listed, True), nearest_of(network, listed, False)
     made = {}

@@ -1,16 +1,17 @@
 """Fits a raw network to a step and to the arms that a node may have, and tells all that it changes.
 
-A road is too short for a step where a vehicle drives through it, or a queue's front runs back through it, in less than the
-step. In this order a road that is too short is
+A road is too short for a step where a vehicle drives through it, or a queue's front runs back through it, in less than
+the step. In this order a road that is too short is
 
-1. merged with the next one in series: lengths, free-flow times and storage add up, the capacity is the lesser one;
-2. contracted, so that its ends become one node, where this opens no way that was not there: its length, time and storage go to
-   the roads before it or behind it where every route over it takes one of them, and else are lost;
-3. shifted longer at one end, as much as all roads beyond that end become shorter, so that every route takes the time it took;
-4. lengthened at its own speed and density.
+1. merged with the next one in series: lengths, free-flow times and storage add up, the capacity is the lesser one; 2.
+contracted, so that its ends become one node, where this opens no way that was not there: its length, time and storage
+go to
+   the roads before it or behind it where every route over it takes one of them, and else are lost; 3. shifted longer at
+one end, as much as all roads beyond that end become shorter, so that every route takes the time it took; 4. lengthened
+at its own speed and density.
 
-A node with too many roads on a side gets a node of its own for some of them, and a connector to it, which is taken from their
-lengths where they have it.
+A node with too many roads on a side gets a node of its own for some of them, and a connector to it, which is taken from
+their lengths where they have it.
 """
 from __future__ import annotations
 
@@ -29,7 +30,8 @@ ARMS = min(MOST_IN, MOST_OUT)
 
 @dataclass(frozen=True, slots=True)
 class Change:
-    """One thing that was changed, with what it adds to the length (metres) and the free-flow time (ms) of the network."""
+    """One thing that was changed, with what it adds to the length (metres) and the free-flow time (ms) of the
+    network."""
 
     kind: str
     name: str
@@ -41,7 +43,8 @@ class Change:
 def stretched(road: Road, time: Fraction) -> Road:
     """The road made longer by a free-flow time in ms, at its speed and density; shorter where the time is below 0."""
     metres = time * road.kmh / 3600
-    return replace(road, length=road.length + metres, time=road.time + time, storage=road.storage + metres * road.jam / 1000)
+    return replace(road, length=road.length + metres, time=road.time + time,
+                   storage=road.storage + metres * road.jam / 1000)
 
 
 def longest_step(road: Road, step: int | None = None) -> int:
@@ -98,7 +101,8 @@ class Fit:
 
     def too_short(self) -> list[str]:
         """The roads that are too short, the shortest first."""
-        return [road.name for road in sorted(self.network.roads.values(), key=lambda road: (road.time, road.name)) if self.short(road)]
+        return [road.name for road in sorted(self.network.roads.values(), key=lambda road: (road.time, road.name))
+                if self.short(road)]
 
     def tell(self, kind: str, name: str, before: Iterable[Road], after: Iterable[Road], note: str = "") -> None:
         """Notes a change from some roads to others."""
@@ -136,11 +140,13 @@ class Fit:
         return done
 
     def pairs_at(self, node: str) -> list[tuple[Road, Road]]:
-        """Each road into a node with the road on which it goes on, where these are roads of one street; none where that is open."""
+        """Each road into a node with the road on which it goes on, where these are roads of one street; none where that
+        is open."""
         ins = [self.network.roads[name] for name in self.network.ins[node]]
         outs = [self.network.roads[name] for name in self.network.outs[node]]
         sides = {road.tail for road in ins} | {road.head for road in outs}
-        if len(ins) != len(outs) or len({road.tail for road in ins}) != len(ins) or len({road.head for road in outs}) != len(outs) or len(sides) != 2:
+        apart = len({road.tail for road in ins}) == len(ins) and len({road.head for road in outs}) == len(outs)
+        if len(ins) != len(outs) or not apart or len(sides) != 2:
             return []
         return [(road, after) for road in ins for after in outs if after.head != road.tail]
 
@@ -160,7 +166,8 @@ class Fit:
         for first, second in self.pairs_at(node):
             longer = first if first.length >= second.length else second
             made = Road(longer.name, first.tail, second.head, first.length + second.length, first.time + second.time,
-                        first.storage + second.storage, min(first.capacity, second.capacity), longer.kind, first.parts + second.parts,
+                        first.storage + second.storage, min(first.capacity, second.capacity), longer.kind,
+                        first.parts + second.parts,
                         joined([self.network.line(first), self.network.line(second)]))
             shorter = second if longer is first else first
             self.network.remove(first.name)
@@ -177,7 +184,8 @@ class Fit:
     # -- contracting
 
     def contract_some(self) -> bool:
-        """Contracts each road that is too short, where that opens no new way and is less of a change than to lengthen it."""
+        """Contracts each road that is too short, where that opens no new way and is less of a change than to lengthen
+        it."""
         done = False
         for name in self.too_short():
             road = self.network.roads.get(name)
@@ -220,11 +228,14 @@ class Fit:
         return self.network.ins[road.head] == [road.name] and road.head not in self.network.ends
 
     def heirs(self, road: Road) -> list[tuple[Road, Road]]:
-        """The roads to which the length, the time and the storage of a contracted road go, as they are and as they become."""
+        """The roads to which the length, the time and the storage of a contracted road go, as they are and as they
+        become."""
         gone = self.between(road)
-        names = self.network.ins[road.tail] if self.only_before(road) else self.network.outs[road.head] if self.only_behind(road) else []
+        names = (self.network.ins[road.tail] if self.only_before(road) else self.network.outs[road.head]
+                 if self.only_behind(road) else [])
         were = [self.network.roads[name] for name in names if name not in gone]
-        return [(heir, replace(heir, length=heir.length + road.length, time=heir.time + road.time, storage=heir.storage + road.storage / len(were)))
+        return [(heir, replace(heir, length=heir.length + road.length, time=heir.time + road.time,
+                               storage=heir.storage + road.storage / len(were)))
                 for heir in were]
 
     def comes_back(self, road: Road) -> bool:
@@ -265,27 +276,32 @@ class Fit:
         made = Road(road.name, road.tail, road.head, Fraction(metres), Fraction(metres * 3600) / road.kmh,
                     road.jam * metres / 1000, road.capacity, road.kind, road.parts)
         if link.passing_step_ms < self.step:
-            raise Fault(f"link {road.name}: with {link.jam_per_km} vehicles/km more than 32 vehicles pass in {self.step} ms at any wave speed;"
+            raise Fault(f"link {road.name}: with {link.jam_per_km} vehicles/km more than 32 vehicles pass in"
+                        f" {self.step} ms at any wave speed;"
                         " take a shorter step")
         while self.short(made):
             made = stretched(made, 3600 / road.kmh)
         return made.time - road.time
 
     def shift(self, name: str) -> bool:
-        """Moves one end of a road away from it, so that the roads beyond become as much shorter; whether that could be."""
+        """Moves one end of a road away from it, so that the roads beyond become as much shorter; whether that could
+        be."""
         road = self.network.roads[name]
         missing = self.missing(road)
-        for node, longer, shorter in ((road.head, self.network.ins, self.network.outs), (road.tail, self.network.outs, self.network.ins)):
+        for node, longer, shorter in ((road.head, self.network.ins, self.network.outs),
+                                      (road.tail, self.network.outs, self.network.ins)):
             if node in self.network.ends or not shorter[node]:
                 continue
             grown = [self.network.roads[other] for other in longer[node]]
             cut = [self.network.roads[other] for other in shorter[node]]
-            if any(other.time <= 2 * missing or self.short(stretched(other, -missing)) for other in cut) or set(longer[node]) & set(shorter[node]):
+            if any(other.time <= 2 * missing or self.short(stretched(other, -missing))
+                   for other in cut) or set(longer[node]) & set(shorter[node]):
                 continue
             made = [stretched(other, missing) for other in grown] + [stretched(other, -missing) for other in cut]
             for other in made:
                 self.put(other)
-            self.tell("shifted", name, [*grown, *cut], made, f"longer by {seconds(missing)} s, as roads beyond {node} are shorter")
+            self.tell("shifted", name, [*grown, *cut], made,
+                      f"longer by {seconds(missing)} s, as roads beyond {node} are shorter")
             return True
         return False
 
@@ -294,12 +310,14 @@ class Fit:
         road = self.network.roads[name]
         made = stretched(road, self.missing(road))
         self.put(made)
-        self.tell("lengthened", name, [road], [made], f"from {metres_text(road.length)} to {metres_text(made.length)} m")
+        self.tell("lengthened", name, [road], [made],
+                  f"from {metres_text(road.length)} to {metres_text(made.length)} m")
 
     # -- nodes of many arms
 
     def split_node(self, node: str) -> None:
-        """Lets some of the roads on a side of a node end at a node of their own, until the node has no more than it may."""
+        """Lets some of the roads on a side of a node end at a node of their own, until the node has no more than it
+        may."""
         for side, word in ((self.network.ins, "in"), (self.network.outs, "out")):
             number = 0
             while len(side[node]) > ARMS:
@@ -310,11 +328,14 @@ class Fit:
         """Gives at most four roads on one side of a node a connector in common."""
         network, side = self.network, self.network.ins if word == "in" else self.network.outs
         count = min(ARMS, len(side[node]) - ARMS + 1)
-        chosen = sorted((network.roads[name] for name in side[node]), key=lambda road: (road.time < 3 * self.step, road.capacity, road.name))[:count]
+        chosen = sorted((network.roads[name] for name in side[node]),
+                        key=lambda road: (road.time < 3 * self.step, road.capacity, road.name))[:count]
         made = self.connector(node, word, number, chosen)
         inner = made.tail if word == "in" else made.head
         shapes = [self.cut_shape(road, word, made) for road in chosen]
-        network.add_node(Node(inner, *self.middle(node, [shape[-1] if word == "in" else shape[0] for shape in shapes if shape])))
+        network.add_node(Node(inner, *self.middle(node,
+                                                  [shape[-1] if word == "in" else shape[0] for shape in shapes
+                                                   if shape])))
         after = []
         for road, shape in zip(chosen, shapes):
             cut = stretched(road, -made.time) if road.time > 2 * made.time else road
@@ -323,11 +344,13 @@ class Fit:
             (network.move_head if word == "in" else network.move_tail)(road.name, inner)
         network.add(made)
         kept = sum(new.time == old.time for old, new in zip(chosen, after))
-        note = f"{' '.join(road.name for road in chosen)} by {made.name}" + (f"; {kept} of them become longer by it" if kept else "")
+        note = (f"{' '.join(road.name for road in chosen)} by {made.name}"
+                + (f"; {kept} of them become longer by it" if kept else ""))
         self.tell("node split", node, chosen, [*after, made], note)
 
     def cut_shape(self, road: Road, word: str, made: Road) -> Line:
-        """The points of a road without those along a connector at its end, or at its beginning; none where its places are not known."""
+        """The points of a road without those along a connector at its end, or at its beginning; none where its places
+        are not known."""
         line = self.network.line(road)
         if len(line) < 2:
             return ()

@@ -17,8 +17,8 @@ CHANGES_FILE = "changes.csv"
 
 @dataclass(frozen=True)
 class Imported:
-    """A case that was made of a network; `places` is None where its nodes have none, `changes` where it was not fitted, and `told` has what was
-    read, set, left out and changed, a line each."""
+    """A case that was made of a network; `places` is None where its nodes have none, `changes` where it was not fitted,
+    and `told` has what was read, set, left out and changed, a line each."""
 
     case: Case
     places: Places | None
@@ -27,8 +27,9 @@ class Imported:
     told: tuple[str, ...]
 
     def write(self, folder: str | os.PathLike[str]) -> list[str]:
-        """Writes the case into a folder, and beside it `source_links.csv`, `source_nodes.csv`, `nodes.csv` and `shapes.csv` where places are known,
-        and of a fitted network `changes.csv`. Gives what is to be told of older files there, a line each."""
+        """Writes the case into a folder, and beside it `source_links.csv`, `source_nodes.csv`, `nodes.csv` and
+        `shapes.csv` where places are known, and of a fitted network `changes.csv`. Gives what is to be told of older
+        files there, a line each."""
         with together():
             self.case.write(folder)
             self.source.write(folder)
@@ -36,7 +37,8 @@ class Imported:
                 self.places.write(folder)
             path = Path(folder) / CHANGES_FILE
             if self.changes is not None:
-                rows = [(change.kind, change.name, f"{float(change.metres):.3f}", f"{float(change.time):.0f}", change.note) for change in self.changes]
+                rows = [(change.kind, change.name, f"{float(change.metres):.3f}", f"{float(change.time):.0f}",
+                         change.note) for change in self.changes]
                 write_text(path, lines_of([("change", "name", "metres", "ms", "note"), *rows]))
             else:
                 take_away(path)
@@ -48,5 +50,6 @@ class Imported:
         if self.case.splits is None and os.path.exists(os.path.join(folder, "splits.csv")):
             told.append(f"an older splits.csv stands in {folder}: ltm routes, or ltm-tools splits, makes it anew")
         if self.places is None:
-            told += [f"an older {name} stands in {folder}, and the network says no places: take it away" for name in FILES if os.path.exists(os.path.join(folder, name))]
+            told += [f"an older {name} stands in {folder}, and the network says no places: take it away"
+                     for name in FILES if os.path.exists(os.path.join(folder, name))]
         return told

@@ -1,4 +1,5 @@
-"""From a raw network to the links of a case: the step, the fit and the names; what `from-gmns` and `from-sumo` share."""
+"""From a raw network to the links of a case: the step, the fit and the names; what `from-gmns` and `from-sumo`
+share."""
 from __future__ import annotations
 
 from collections.abc import Collection, Iterable, Iterator, Sequence
@@ -7,7 +8,8 @@ from fractions import Fraction
 
 from ..case import Link
 from ..errors import Fault
-from ..formats import (MINUTE_MS, MOST_DESTINATIONS_ASKED, MOST_LINKS_ASKED, MOST_ROWS_ASKED, MOST_SLOTS, MOST_STEP_MS, NAME_RULE,
+from ..formats import (MINUTE_MS, MOST_DESTINATIONS_ASKED, MOST_LINKS_ASKED, MOST_ROWS_ASKED, MOST_SLOTS, MOST_STEP_MS,
+                       NAME_RULE,
                        count_text)
 from .balance import MOST_ROUTES, Used, balance
 from .fit import ARMS, Fit
@@ -39,7 +41,8 @@ class NotCarried(Fault):
             counts[kind] = counts.get(kind, 0) + 1
             if counts[kind] <= MOST_TOLD:
                 told.append(line)
-        told += [f"{count - MOST_TOLD} more such faults of {kind.rstrip(':')}s" for kind, count in counts.items() if count > MOST_TOLD]
+        told += [f"{count - MOST_TOLD} more such faults of {kind.rstrip(':')}s" for kind, count in counts.items()
+                 if count > MOST_TOLD]
         return [f"cannot be carried: {line}" for line in told] + self.advice
 
 
@@ -67,8 +70,8 @@ class Carried:
 
 
 def carried(raw: Network, options: Options, routes: Iterable[tuple[tuple[str, ...], int]] = ()) -> Carried:
-    """The network as a case can carry it; NotCarried with all that is wrong, and what to do. With a fit the times of used routes, told by
-    roads of the source and how many drive them, are kept as near as may be."""
+    """The network as a case can carry it; NotCarried with all that is wrong, and what to do. With a fit the times of
+    used routes, told by roads of the source and how many drive them, are kept as near as may be."""
     if not raw.roads:
         raise Fault("the network has no links")
     step, fit = (options.fit, Fit(raw, options.fit)) if options.fit else (step_of(raw, options), None)
@@ -77,7 +80,8 @@ def carried(raw: Network, options: Options, routes: Iterable[tuple[tuple[str, ..
         balance(fit, used_routes(fit, routes))
     faults = arm_faults(network)
     if len(network.roads) > MOST_LINKS_ASKED:
-        faults.append(f"there are {len(network.roads)} links, and at most {MOST_LINKS_ASKED} may be: cut out a smaller area, or leave out small roads")
+        faults.append(f"there are {len(network.roads)} links, and at most {MOST_LINKS_ASKED} may be: cut out a smaller"
+                      f" area, or leave out small roads")
     link_names, node_names = names_for(network.roads, options.rename), names_for(network.used_nodes(), options.rename)
     named = name_faults(network, link_names, node_names)
     if faults or named:
@@ -86,8 +90,10 @@ def carried(raw: Network, options: Options, routes: Iterable[tuple[tuple[str, ..
     links = []
     for road in network.roads.values():
         link = diagram(road, step if fit else None)
-        links.append(Link(link_names[road.name], node_names[road.tail], node_names[road.head], link.length_m, link.free_kmh, link.wave_kmh, link.jam_per_km))
-    return Carried(network, raw, links, step, fit, source_of(raw, network, fit, link_names, node_names), link_names, node_names)
+        links.append(Link(link_names[road.name], node_names[road.tail], node_names[road.head], link.length_m,
+                          link.free_kmh, link.wave_kmh, link.jam_per_km))
+    return Carried(network, raw, links, step, fit, source_of(raw, network, fit, link_names, node_names), link_names,
+                   node_names)
 
 
 def used_routes(fit: Fit, routes: Iterable[tuple[tuple[str, ...], int]]) -> Iterator[Used]:
@@ -99,28 +105,34 @@ def used_routes(fit: Fit, routes: Iterable[tuple[tuple[str, ...], int]]) -> Iter
         yield Used(source.route(names, roads), sum((fit.raw.roads[name].time for name in names), Fraction(0)), units)
 
 
-def source_of(raw: Network, network: Network, fit: Fit | None, link_names: dict[str, str], node_names: dict[str, str]) -> Source:
+def source_of(raw: Network, network: Network, fit: Fit | None, link_names: dict[str, str],
+              node_names: dict[str, str]) -> Source:
     """What the links and nodes of a raw network have become."""
     parts = fit.link_of() if fit else {name: name for name in raw.roads}
-    links = {name: SourceLink(road.tail, road.head, link_names[part] if (part := parts[name]) is not None else None) for name, road in raw.roads.items()}
+    links = {name: SourceLink(road.tail, road.head, link_names[part] if (part := parts[name]) is not None else None)
+             for name, road in raw.roads.items()}
     now = {name: fit.node_of(name) if fit else name for name in raw.nodes}
     return Source(links, {name: node_names[node] for name, node in now.items() if node in node_names})
 
 
 def name_faults(network: Network, link_names: dict[str, str], node_names: dict[str, str]) -> list[str]:
     """A line for each name that a case cannot have."""
-    return [f"{kind} {name!r}: a name is {NAME_RULE}" for kind, names, given in (("link", network.roads, link_names), ("node", network.used_nodes(), node_names))
+    return [f"{kind} {name!r}: a name is {NAME_RULE}" for kind, names, given in (("link", network.roads, link_names),
+                                                                                 ("node", network.used_nodes(),
+                                                                                  node_names))
             for name in names if name not in given]
 
 
 def arm_faults(network: Network) -> list[str]:
     """A line for each node with too many links on a side."""
     return [f"node {node}: {len(names)} links lead {word} it, and at most {ARMS} may: {', '.join(names)}"
-            for word, side in (("out of", network.outs), ("into", network.ins)) for node, names in side.items() if len(names) > ARMS]
+            for word, side in (("out of", network.outs), ("into", network.ins)) for node, names in side.items()
+            if len(names) > ARMS]
 
 
 def step_of(raw: Network, options: Options) -> int:
-    """The step of a network that is left as it is: as asked for, or the longest that every link allows and that divides a minute."""
+    """The step of a network that is left as it is: as asked for, or the longest that every link allows and that divides
+    a minute."""
     faults, longest = [], MOST_STEP_MS
     least = options.step or options.least_step
     for name, road in raw.roads.items():
@@ -131,14 +143,16 @@ def step_of(raw: Network, options: Options) -> int:
             continue
         longest = min(longest, link.longest_step_ms)
         if link.longest_step_ms < least:
-            faults.append(f"link {name}: {link.length_m} m at {link.free_kmh} and {link.wave_kmh} km/h allow a step of at most"
+            faults.append(f"link {name}: {link.length_m} m at {link.free_kmh} and {link.wave_kmh} km/h allow a step of"
+                          f" at most"
                           f" {link.longest_step_ms} ms, and {least} ms are asked for")
     if faults:
         raise NotCarried(faults + arm_faults(raw), fit_advice(raw))
     return options.step or max(number for number in range(1, longest + 1) if MINUTE_MS % number == 0)
 
 
-def least_routes(raw: Network, pairs: Iterable[tuple[str, str, int]], count: int = MOST_ROUTES) -> list[tuple[tuple[str, ...], int]]:
+def least_routes(raw: Network, pairs: Iterable[tuple[str, str, int]],
+                 count: int = MOST_ROUTES) -> list[tuple[tuple[str, ...], int]]:
     """The least routes of the pairs of nodes with most demand."""
     times: dict[str, dict[str, Fraction | int]] = {}
     routes = []
@@ -155,7 +169,8 @@ def slots_of(horizon_ms: int, step: int) -> int:
     """The slots of a horizon; a Fault where they are too many."""
     slots = -(-horizon_ms // step)
     if slots > MOST_SLOTS:
-        raise Fault(f"a horizon of {horizon_ms // MINUTE_MS} minutes has {slots} slots of {step} ms, and at most {MOST_SLOTS} may be;"
+        raise Fault(f"a horizon of {horizon_ms // MINUTE_MS} minutes has {slots} slots of {step} ms, and at most"
+                    f" {MOST_SLOTS} may be;"
                     f" take --horizon {MOST_SLOTS * step // MINUTE_MS}, or a longer step by --fit")
     return max(1, slots)
 
@@ -164,14 +179,18 @@ def check_destinations(nodes: Iterable[str]) -> None:
     """A Fault where destinations are too many."""
     ends = list(dict.fromkeys(nodes))
     if len(ends) > MOST_DESTINATIONS_ASKED:
-        raise Fault(f"there are {len(ends)} destinations, and at most {MOST_DESTINATIONS_ASKED} may be: give --destinations {MOST_DESTINATIONS_ASKED},"
-                    f" which keeps those with most vehicles, and lets the other trips end at the nearest of them; past these are the nodes"
+        raise Fault(f"there are {len(ends)} destinations, and at most {MOST_DESTINATIONS_ASKED} may be: give"
+                    f" --destinations {MOST_DESTINATIONS_ASKED},"
+                    f" which keeps those with most vehicles, and lets the other trips end at the nearest of them; past"
+                    f" these are the nodes"
                     f" {', '.join(ends[MOST_DESTINATIONS_ASKED:MOST_DESTINATIONS_ASKED + 10])}")
 
 
 def check_ends(pairs: Collection[tuple[str, str]]) -> None:
-    """A Fault where the destinations of these pairs of origin and destination are too many, or the pairs, each of which has a row of demand."""
+    """A Fault where the destinations of these pairs of origin and destination are too many, or the pairs, each of which
+    has a row of demand."""
     check_destinations(end for _, end in pairs)
     if len(pairs) > MOST_ROWS_ASKED:
-        raise Fault(f"there are {count_text(len(pairs))} pairs of origin and destination, and at most {count_text(MOST_ROWS_ASKED)} rows of demand may"
+        raise Fault(f"there are {count_text(len(pairs))} pairs of origin and destination, and at most"
+                    f" {count_text(MOST_ROWS_ASKED)} rows of demand may"
                     " be: give fewer --destinations, or join nodes where trips begin")

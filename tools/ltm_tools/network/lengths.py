@@ -1,7 +1,7 @@
 """Lengths from places: of lines by their points, of links by their nodes, in metres, to the millimetre.
 
-Places are degrees of longitude and latitude, or lengths in some unit. Where some links have a length of their own, the unit is
-the one with which most of their lines are as long as they say.
+Places are degrees of longitude and latitude, or lengths in some unit. Where some links have a length of their own, the
+unit is the one with which most of their lines are as long as they say.
 """
 from __future__ import annotations
 
@@ -18,7 +18,8 @@ NUMBER = re.compile(r"[-+]?(?:[0-9]+\.?[0-9]*|\.[0-9]+)(?:[eE][-+]?[0-9]+)?")
 
 
 def points_of(text: str) -> list[Point]:
-    """The points of a LINESTRING in well-known text (the first part of a MULTILINESTRING); none where it is no such line."""
+    """The points of a LINESTRING in well-known text (the first part of a MULTILINESTRING); none where it is no such
+    line."""
     head, _, rest = text.partition("(")
     if "LINESTRING" not in head.upper():
         return []
@@ -34,14 +35,16 @@ def points_of(text: str) -> list[Point]:
 def metres(points: Sequence[Point], unit: str) -> Fraction:
     """The length of a line in metres."""
     scale = UNITS[unit]
-    length = sum((degrees_apart(a, b) if scale is None else math.dist(a, b) * scale) for a, b in zip(points, points[1:]))
+    length = sum((degrees_apart(a, b) if scale is None else math.dist(a, b) * scale)
+                 for a, b in zip(points, points[1:]))
     return Fraction(round(length * 1000), 1000)
 
 
 def degrees_apart(a: Point, b: Point) -> float:
     """The metres between two places in degrees, on a sphere (the haversine formula)."""
     east, north = math.radians(b[0] - a[0]), math.radians(b[1] - a[1])
-    half = math.sin(north / 2) ** 2 + math.cos(math.radians(a[1])) * math.cos(math.radians(b[1])) * math.sin(east / 2) ** 2
+    half = (math.sin(north / 2) ** 2 + math.cos(math.radians(a[1])) * math.cos(math.radians(b[1]))
+            * math.sin(east / 2) ** 2)
     return 2 * EARTH_M * math.asin(min(1.0, math.sqrt(half)))
 
 
@@ -51,7 +54,8 @@ def unit_by_range(points: Iterable[Point]) -> str:
 
 
 def unit_by_lengths(lines: Sequence[tuple[Sequence[Point], Fraction]]) -> tuple[str, float]:
-    """The unit of places with which lines are nearest to lengths in metres, and the middle ratio of a length to its line."""
+    """The unit of places with which lines are nearest to lengths in metres, and the middle ratio of a length to its
+    line."""
     best = ("degrees", 0.0)
     for unit in UNITS:
         ratios = sorted(float(length / line) for points, length in lines if (line := metres(points, unit)) > 0)

@@ -12,7 +12,8 @@ def joined(lines: Iterable[Sequence[Point]]) -> Line:
     """Lines one after the other as one, without a point that stands twice in a row."""
     points: list[Point] = []
     for line in lines:
-        points += [point for place, point in enumerate(line) if point != (line[place - 1] if place else points[-1] if points else None)]
+        points += [point for place, point in enumerate(line)
+                   if point != (line[place - 1] if place else points[-1] if points else None)]
     return tuple(points)
 
 
@@ -30,7 +31,8 @@ def cut_at(line: Sequence[Point], share: float) -> tuple[Line, Line]:
 
 
 def towards(line: Sequence[Point], start: Point | None, end: Point | None) -> Line:
-    """A line so turned that it leads from one place to another, as near as may be; as it is where these are not known."""
+    """A line so turned that it leads from one place to another, as near as may be; as it is where these are not
+    known."""
     if start is None or end is None or not line:
         return tuple(line)
     here = math.dist(start, line[0]) + math.dist(line[-1], end)

@@ -10,7 +10,8 @@ MOST = 32
 
 
 def names_for(sources: Iterable[str], rename: bool) -> dict[str, str]:
-    """A name for each name of a source: itself where it can be one; else, with `rename`, one as near to it as can be."""
+    """A name for each name of a source: itself where it can be one; else, with `rename`, one as near to it as can
+    be."""
     listed = list(dict.fromkeys(sources))
     made = {source: source for source in listed if is_name(source)}
     if not rename:

@@ -73,7 +73,8 @@ class Road:
 
 def road_of(name: str, tail: str, head: str, *, metres: Fraction, kmh: Fraction, jam: Fraction, capacity: Fraction,
             kind: str = "", shape: Line = ()) -> Road:
-    """The road of a length in metres, a free speed in km/h, a jam density in vehicles/km and a capacity an hour; one that is shorter has LEAST_M."""
+    """The road of a length in metres, a free speed in km/h, a jam density in vehicles/km and a capacity an hour; one
+    that is shorter has LEAST_M."""
     metres = max(metres, LEAST_M)
     return Road(name, tail, head, metres, metres * 3600 / kmh, metres * jam / 1000, capacity, kind, (name,), shape)
 
@@ -84,8 +85,8 @@ def top(link: Link) -> Fraction:
 
 
 def wave_of(capacity: Fraction, free: int, jam: int, most: Fraction | None = None) -> int | None:
-    """The whole wave speed with which the triangle's top is nearest to a capacity and not above `most`; none where no top
-    is so high."""
+    """The whole wave speed with which the triangle's top is nearest to a capacity and not above `most`; none where no
+    top is so high."""
     if capacity >= free * jam:
         return None
     exact = capacity * free / (free * jam - capacity)
@@ -96,9 +97,9 @@ def wave_of(capacity: Fraction, free: int, jam: int, most: Fraction | None = Non
 
 
 def diagram(road: Road, step: int | None = None) -> Link:
-    """The road in the whole numbers of `links.csv`: the nearest length, the speed with the nearest free-flow time, the jam
-    density with the nearest storage, and the wave speed with the nearest capacity. With a step in ms the capacity is
-    kept to what may pass in a slot."""
+    """The road in the whole numbers of `links.csv`: the nearest length, the speed with the nearest free-flow time, the
+    jam density with the nearest storage, and the wave speed with the nearest capacity. With a step in ms the capacity
+    is kept to what may pass in a slot."""
     metres = nearest(road.length)
     exact = metres * 3600 / road.time
     below = max(1, exact.numerator // exact.denominator)
@@ -107,10 +108,12 @@ def diagram(road: Road, step: int | None = None) -> Link:
     most = None if step is None else most_capacity(step)
     wave = wave_of(road.capacity, free, jam, most)
     if wave is None or wave > MOST_KMH:
-        raise Fault(f"link {road.name}: a capacity of {float(road.capacity):g} an hour is too much for {free} km/h and {jam} vehicles/km;"
+        raise Fault(f"link {road.name}: a capacity of {float(road.capacity):g} an hour is too much for {free} km/h and"
+                    f" {jam} vehicles/km;"
                     " give a greater --jam, or --fit, which lowers it")
     if metres > MOST_LENGTH_M or free > MOST_KMH or jam > MOST_JAM_PER_KM:
-        raise Fault(f"link {road.name}: {metres} m, {free} km/h and {jam} vehicles/km, and at most {MOST_LENGTH_M}, {MOST_KMH} and {MOST_JAM_PER_KM}"
+        raise Fault(f"link {road.name}: {metres} m, {free} km/h and {jam} vehicles/km, and at most {MOST_LENGTH_M},"
+                    f" {MOST_KMH} and {MOST_JAM_PER_KM}"
                     " are allowed; look at the units of lengths and speeds")
     return Link(road.name, road.tail, road.head, metres, free, wave, jam)
 
@@ -140,7 +143,8 @@ class Network:
     def copy(self) -> Network:
         """A network of its own, with the same nodes and roads."""
         made = Network(dict(self.nodes), {}, {zone: dict(shares) for zone, shares in self.origins.items()},
-                       {zone: dict(shares) for zone, shares in self.destinations.items()}, set(self.ends), set(self.signals))
+                       {zone: dict(shares) for zone, shares in self.destinations.items()}, set(self.ends),
+                       set(self.signals))
         for node in self.nodes:
             made.outs.setdefault(node, [])
             made.ins.setdefault(node, [])
@@ -200,7 +204,8 @@ class Network:
         return list(dict.fromkeys(end for road in self.roads.values() for end in (road.tail, road.head)))
 
 
-def least_times(network: Network, destination: str, cost: Callable[[Road], Fraction | int] | None = None) -> dict[str, Fraction | int]:
+def least_times(network: Network, destination: str, cost: Callable[[Road], Fraction | int]
+                | None = None) -> dict[str, Fraction | int]:
     """The least free-flow time in ms from each node that has a route to the destination."""
     cost = cost or (lambda road: road.time)
     times: dict[str, Fraction | int] = {}

@@ -35,10 +35,12 @@ class Options:
     destinations: int | None = None
     """How many destinations are kept, those with most vehicles; other trips end at the nearest one."""
     moves: bool | None = None
-    """Whether what moves through a turn is floored for the turn, and not for each destination; without it, where there are more than 16."""
+    """Whether what moves through a turn is floored for the turn, and not for each destination; without it, where there
+    are more than 16."""
 
     RANGES: ClassVar[dict[str, tuple[int, int | None]]] = {
-        "origin_capacity": (1, MOST_SLOT_UNITS // UNITS), "destinations": (1, MOST_DESTINATIONS_ASKED), "fit": (1, MOST_STEP_MS),
+        "origin_capacity": (1, MOST_SLOT_UNITS // UNITS), "destinations": (1, MOST_DESTINATIONS_ASKED),
+        "fit": (1, MOST_STEP_MS),
         "step": (1, MOST_STEP_MS), "least_step": (1, MOST_STEP_MS),
     }
 

@@ -1,8 +1,9 @@
 """Passages toward a destination, without circles.
 
-The passages of a destination are counts by link: how many vehicles that want there go on by the link. Where they make a circle,
-vehicles may go round in it for ever, since a split knows a node and a destination and not where a vehicle came from. `without`
-cuts passages of links that are part of a circle and lead no nearer to the destination, the lightest ones, and no others.
+The passages of a destination are counts by link: how many vehicles that want there go on by the link. Where they make a
+circle, vehicles may go round in it for ever, since a split knows a node and a destination and not where a vehicle came
+from. `without` cuts passages of links that are part of a circle and lead no nearer to the destination, the lightest
+ones, and no others.
 """
 from __future__ import annotations
 
@@ -91,7 +92,8 @@ class Passages:
     def __init__(self, roads: Roads, destination: str, counts: Mapping[str, int], origins: Iterable[str]) -> None:
         self.roads, self.destination = roads, destination
         self.times = roads.least_times(destination)
-        self.counts = {name: count for name, count in counts.items() if count > 0 and roads.links[name].tail != destination}
+        self.counts = {name: count for name, count in counts.items() if count > 0
+                       and roads.links[name].tail != destination}
         self.origins = [origin for origin in origins if origin != destination]
         self.cut: dict[str, int] = {}
         self.filled: set[str] = set()
@@ -138,7 +140,8 @@ class Passages:
     def least_link(self, node: str) -> str:
         """The first link of a least route from a node."""
         if node not in self.times:
-            raise Fault(f"no route leads from node {node} to node {self.destination}; leave that demand out, or add a link")
+            raise Fault(f"no route leads from node {node} to node {self.destination}; leave that demand out, or add a"
+                        f" link")
         leading = [name for name in self.roads.outs[node] if self.roads.links[name].head in self.times]
         return min(leading, key=lambda name: self.roads.links[name].free_ms + self.times[self.roads.links[name].head])
 
@@ -149,7 +152,8 @@ class Passages:
 
     def cut_in(self, part: set[str]) -> None:
         """Cuts links that lead away within a set, and takes back the heaviest ones that close no circle."""
-        inner = [name for name in self.counts if self.roads.links[name].tail in part and self.roads.links[name].head in part]
+        inner = [name for name in self.counts if self.roads.links[name].tail in part
+                 and self.roads.links[name].head in part]
         away = sorted((name for name in inner if self.leads_away(name)), key=lambda name: (-self.counts[name], name))
         taken = {name: self.counts.pop(name) for name in away}
         after = self.after()

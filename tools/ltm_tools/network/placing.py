@@ -13,8 +13,8 @@ MOST_TOLD = 5
 
 @dataclass(frozen=True, slots=True)
 class Map:
-    """How places of a source become those of `nodes.csv`: what was added to them is taken off, then a projection is undone, where there is one;
-    and the `crs` that they have then."""
+    """How places of a source become those of `nodes.csv`: what was added to them is taken off, then a projection is
+    undone, where there is one; and the `crs` that they have then."""
 
     added: tuple[Fraction, Fraction] = (Fraction(0), Fraction(0))
     projection: TransverseMercator | None = None
@@ -22,7 +22,8 @@ class Map:
 
     def place(self, place: Place) -> Place:
         """The place as `nodes.csv` has it."""
-        x, y = (float(Fraction(repr(number)) - added) for number, added in zip(place, self.added))  # exact, as the file has the numbers
+        # exact, as the file has the numbers
+        x, y = (float(Fraction(repr(number)) - added) for number, added in zip(place, self.added))
         return (x, y) if self.projection is None else self.projection.degrees((x, y))
 
     def line(self, line: Line) -> Line:
@@ -31,7 +32,8 @@ class Map:
 
 
 def places_of(made: Carried, drawn: Map) -> tuple[Places | None, list[str]]:
-    """The places of all nodes of a case and the shapes of its links; none where a node has none, and what is to be told then."""
+    """The places of all nodes of a case and the shapes of its links; none where a node has none, and what is to be told
+    then."""
     network = made.network
     found: dict[str, Place] = {}
     for node in network.used_nodes():
@@ -41,7 +43,8 @@ def places_of(made: Carried, drawn: Map) -> tuple[Places | None, list[str]]:
     missing = [made.node_names[node] for node in network.used_nodes() if node not in found]
     if missing:
         more = f" and {len(missing) - MOST_TOLD} more" if len(missing) > MOST_TOLD else ""
-        told = [f"nodes.csv is not written, as nodes have no place: {', '.join(missing[:MOST_TOLD])}{more}"] if found else []
+        told = ([f"nodes.csv is not written, as nodes have no place: {', '.join(missing[:MOST_TOLD])}{more}"] if found
+                else [])
         return None, told
     places = Places({made.node_names[node]: drawn.place(place) for node, place in found.items()}, drawn.crs)
     for road in network.roads.values():

@@ -1,4 +1,5 @@
-"""Demand in time: amounts spread over a profile so that they add up to the last thousandth, and trips counted by slices."""
+"""Demand in time: amounts spread over a profile so that they add up to the last thousandth, and trips counted by
+slices."""
 from __future__ import annotations
 
 from collections.abc import Iterable, Sequence
@@ -29,7 +30,8 @@ class Trip:
 
 
 def spread(units: int, shares: Sequence[Fraction]) -> list[int]:
-    """An amount cut by shares into whole parts that add up to it; the parts most cut off get what is left, the first first."""
+    """An amount cut by shares into whole parts that add up to it; the parts most cut off get what is left, the first
+    first."""
     whole = sum(shares, Fraction(0))
     if whole <= 0:
         raise Fault("a profile's shares sum to 0; give at least one share above 0")
@@ -41,7 +43,8 @@ def spread(units: int, shares: Sequence[Fraction]) -> list[int]:
     return parts
 
 
-def by_profile(amounts: dict[tuple[str, str], int], parts: Sequence[Part], most: int = MOST_DEMAND_ROWS) -> list[Demand]:
+def by_profile(amounts: dict[tuple[str, str], int], parts: Sequence[Part],
+               most: int = MOST_DEMAND_ROWS) -> list[Demand]:
     """Demand rows of amounts (thousandths) from an origin to a destination, spread over a profile, at most so many."""
     if not parts:
         raise Fault("a profile without parts; give at least one")
@@ -56,8 +59,10 @@ def by_profile(amounts: dict[tuple[str, str], int], parts: Sequence[Part], most:
     return checked(joined(rows), len(parts), most)
 
 
-def by_trips(trips: Iterable[Trip], *, step_ms: int, slots: int, slice_slots: int, most: int = MOST_DEMAND_ROWS) -> tuple[list[Demand], int]:
-    """Demand rows of trips counted by slices, at most so many, and the thousandths of vehicles that set out past the horizon and are left out."""
+def by_trips(trips: Iterable[Trip], *, step_ms: int, slots: int, slice_slots: int,
+             most: int = MOST_DEMAND_ROWS) -> tuple[list[Demand], int]:
+    """Demand rows of trips counted by slices, at most so many, and the thousandths of vehicles that set out past the
+    horizon and are left out."""
     counted: dict[tuple[str, str, int], int] = {}
     late = 0
     for trip in trips:
@@ -87,11 +92,13 @@ def checked(rows: list[Demand], slices: int, most: int) -> list[Demand]:
         raise too_many(str(len(rows)), len({(row.origin, row.destination) for row in rows}), slices, most)
     for row in rows:
         if row.units > MOST_UNITS:
-            raise Fault(f"demand from {row.origin} to {row.destination}: more than 1000000 vehicles in a row; take shorter slices")
+            raise Fault(f"demand from {row.origin} to {row.destination}: more than 1000000 vehicles in a row; take"
+                        f" shorter slices")
     return rows
 
 
 def too_many(rows: str, pairs: int, slices: int, most: int) -> Fault:
     """The Fault of more rows than may be."""
-    return Fault(f"{rows} rows of demand, of {pairs} pairs of origin and destination in {slices} slices, and at most {most}"
+    return Fault(f"{rows} rows of demand, of {pairs} pairs of origin and destination in {slices} slices, and at most"
+                 f" {most}"
                  " may be; take longer slices, or join zones")

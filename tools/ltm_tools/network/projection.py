@@ -1,7 +1,7 @@
 """Projections undone: the degrees of places that a transverse Mercator projection, as UTM, has made metres of.
 
-By Krüger's series to the sixth order (Krüger 1912; Karney 2011, equations 7 to 21 and 36), which within some thousand kilometres of the
-meridian are right to less than a thousandth of a millimetre.
+By Krüger's series to the sixth order (Krüger 1912; Karney 2011, equations 7 to 21 and 36), which within some thousand
+kilometres of the meridian are right to less than a thousandth of a millimetre.
 """
 from __future__ import annotations
 
@@ -19,8 +19,8 @@ STEPS = 5  # of Newton's method, of which three are enough
 
 @dataclass(frozen=True, slots=True)
 class TransverseMercator:
-    """An ellipsoid by its greater half axis in metres and its flattening; the meridian in the middle in degrees, the scale on it, and what was
-    added to metres east of it and north of the equator."""
+    """An ellipsoid by its greater half axis in metres and its flattening; the meridian in the middle in degrees, the
+    scale on it, and what was added to metres east of it and north of the equator."""
 
     ellipsoid: tuple[float, float]
     meridian: float
@@ -34,8 +34,10 @@ class TransverseMercator:
         n = flattening / (2 - flattening)
         radius = self.scale * axis / (1 + n) * (1 + n**2 / 4 + n**4 / 64 + n**6 / 256)
         up, right = (place[1] - self.north) / radius, (place[0] - self.east) / radius
-        up, right = (up - sum(beta * math.sin(2 * j * up) * math.cosh(2 * j * right) for j, beta in enumerate(series(n), 1)),
-                     right - sum(beta * math.cos(2 * j * up) * math.sinh(2 * j * right) for j, beta in enumerate(series(n), 1)))
+        up, right = (up - sum(beta * math.sin(2 * j * up) * math.cosh(2 * j * right)
+                              for j, beta in enumerate(series(n), 1)),
+                     right - sum(beta * math.cos(2 * j * up) * math.sinh(2 * j * right)
+                                 for j, beta in enumerate(series(n), 1)))
         conformal = math.sin(up) / math.hypot(math.sinh(right), math.cos(up))
         longitude = math.degrees(math.atan2(math.sinh(right), math.cos(up)))
         return self.meridian + longitude, math.degrees(math.atan(tangent(conformal, flattening)))
@@ -66,12 +68,13 @@ def tangent(conformal: float, flattening: float) -> float:
 
 
 def projection_of(text: str) -> TransverseMercator | None:
-    """The projection that words of PROJ tell, where it is UTM on an ellipsoid as that of GPS, as `+proj=utm +zone=32 +ellps=WGS84`; None for
-    any other."""
+    """The projection that words of PROJ tell, where it is UTM on an ellipsoid as that of GPS, as `+proj=utm +zone=32
+    +ellps=WGS84`; None for any other."""
     words = dict(word.lstrip("+").partition("=")[::2] for word in text.split())
     ellipsoid = ELLIPSOIDS.get(words.get("ellps", words.get("datum", "")))
     zone = int(words["zone"]) if words.get("zone", "").isdecimal() else 0
     shifted = words.get("towgs84", "").strip("-0.,") != ""
-    if words.get("proj") != "utm" or ellipsoid is None or not 1 <= zone <= 60 or shifted or words.get("units", "m") != "m":
+    if words.get("proj") != "utm" or ellipsoid is None or not 1 <= zone <= 60 or shifted or words.get("units",
+                                                                                                      "m") != "m":
         return None
     return TransverseMercator(ellipsoid, 6.0 * zone - 183, UTM_SCALE, UTM_EAST, UTM_SOUTH if "south" in words else 0.0)

@@ -14,7 +14,8 @@ MOST_WEIGHT = WHOLE_BELOW - 1
 
 @dataclass(frozen=True, slots=True)
 class Route:
-    """Vehicles that set out together: the links they drive, when they begin (ms after slot 0), and how many (thousandths)."""
+    """Vehicles that set out together: the links they drive, when they begin (ms after slot 0), and how many
+    (thousandths)."""
 
     links: tuple[str, ...]
     depart_ms: int
@@ -34,12 +35,15 @@ class Cuts:
 
     def lines(self) -> list[str]:
         """What was cut, in per cent."""
-        told = [f"{per_cent(self.cut, self.passages)} of all passages are cut, as they close a circle and lead away from their destination"]
+        told = [f"{per_cent(self.cut, self.passages)} of all passages are cut, as they close a circle and lead away"
+                f" from their destination"]
         worst = sorted(self.by_destination.items(), key=lambda item: -item[1][0] / max(1, item[1][1]))[:3]
         if self.cut:
-            told.append("most by destination: " + ", ".join(f"{name} {per_cent(*counts)}" for name, counts in worst if counts[0]))
+            told.append("most by destination: " + ", ".join(f"{name} {per_cent(*counts)}" for name, counts in worst
+                                                            if counts[0]))
         if self.filled:
-            told.append(f"at {self.filled} nodes, by destination, nothing was counted; there vehicles go by the least time")
+            told.append(f"at {self.filled} nodes, by destination, nothing was counted; there vehicles go by the least"
+                        f" time")
         return told
 
 
@@ -50,8 +54,8 @@ def per_cent(part: int, whole: int) -> str:
 
 def from_routes(links: Sequence[Link], routes: Iterable[Route], demand: Iterable[Demand], *, step_ms: int, slots: int,
                 slice_slots: int) -> tuple[list[Split], Cuts]:
-    """The splits of counted routes by slices of time; a vehicle counts in the slice in which it comes to the node if nothing
-    holds it up."""
+    """The splits of counted routes by slices of time; a vehicle counts in the slice in which it comes to the node if
+    nothing holds it up."""
     roads = Roads.of(links)
     counted = count(roads, routes, step_ms, slots, slice_slots)
     origins: dict[str, list[str]] = {}
@@ -60,7 +64,8 @@ def from_routes(links: Sequence[Link], routes: Iterable[Route], demand: Iterable
             origins.setdefault(row.destination, []).append(row.origin)
     cuts, rows = Cuts(), []
     for destination in sorted({*counted, *origins}):
-        made, some = of_destination(roads, destination, counted.get(destination, {}), origins.get(destination, []), slice_slots)
+        made, some = of_destination(roads, destination, counted.get(destination, {}), origins.get(destination, []),
+                                    slice_slots)
         rows += made
         passages = sum(sum(by_slice.values()) for by_slice in counted.get(destination, {}).values())
         cut = sum(some.cut.values())
@@ -71,7 +76,8 @@ def from_routes(links: Sequence[Link], routes: Iterable[Route], demand: Iterable
     return rows, cuts
 
 
-def count(roads: Roads, routes: Iterable[Route], step_ms: int, slots: int, slice_slots: int) -> dict[str, dict[str, dict[int, int]]]:
+def count(roads: Roads, routes: Iterable[Route], step_ms: int, slots: int,
+          slice_slots: int) -> dict[str, dict[str, dict[int, int]]]:
     """Of each destination and link the thousandths of vehicles that go on by the link, by slice."""
     counted: dict[str, dict[str, dict[int, int]]] = {}
     for route in routes:
@@ -101,7 +107,8 @@ def of_destination(roads: Roads, destination: str, counted: dict[str, dict[int, 
         slices = sorted({part for name in names for part in counted.get(name, {})})
         before: dict[str, int] | None = None
         for part in slices or [0]:
-            weights = {name: counted.get(name, {}).get(part, 0) for name in names if name in left} if slices else {name: 1 for name in names}
+            weights = {name: counted.get(name, {}).get(part, 0) for name in names
+                       if name in left} if slices else {name: 1 for name in names}
             weights = whole_weights({name: units for name, units in weights.items() if units})
             if weights and weights != before:
                 rows.append(Split(node, destination, 0 if before is None else part * slice_slots, weights))

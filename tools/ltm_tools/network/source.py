@@ -1,4 +1,5 @@
-"""What has become of the links and nodes of a source in a case: the files `source_links.csv` and `source_nodes.csv` beside a case.
+"""What has become of the links and nodes of a source in a case: the files `source_links.csv` and `source_nodes.csv`
+beside a case.
 
 Later steps, as splits of counted routes or plans of signals, may so name links as their source does.
 """
@@ -20,8 +21,8 @@ LINKS_FILE, NODES_FILE = "source_links.csv", "source_nodes.csv"
 
 @dataclass(frozen=True, slots=True)
 class SourceLink:
-    """A link of the source: the nodes of the source where it begins and ends, and the link of the case that it is part of; none
-    where it was contracted."""
+    """A link of the source: the nodes of the source where it begins and ends, and the link of the case that it is part
+    of; none where it was contracted."""
 
     tail: str
     head: str
@@ -46,7 +47,8 @@ class Source:
         if (path / LINKS_FILE).exists():
             told = cls()
             for row in read_table(path / LINKS_FILE, ("source", "from", "to", "link")):
-                told.links[row.text("source")] = SourceLink(row.text("from"), row.text("to"), row.text("link", "") or None)
+                told.links[row.text("source")] = SourceLink(row.text("from"), row.text("to"),
+                                                            row.text("link", "") or None)
             for row in read_table(path / NODES_FILE, ("source", "node")):
                 told.nodes[row.text("source")] = row.text("node")
             made.links = {**{name: link for name, link in made.links.items()}, **told.links}
@@ -55,7 +57,8 @@ class Source:
 
     def write(self, folder: str | os.PathLike[str]) -> None:
         """Writes the two files beside a case."""
-        links = [("source", "from", "to", "link"), *((name, link.tail, link.head, link.link or "") for name, link in self.links.items())]
+        links = [("source", "from", "to", "link"), *((name, link.tail, link.head, link.link or "")
+                                                     for name, link in self.links.items())]
         write_text(Path(folder) / LINKS_FILE, lines_of(links))
         write_text(Path(folder) / NODES_FILE, lines_of([("source", "node"), *self.nodes.items()]))
 
@@ -66,7 +69,8 @@ class Source:
         return self.nodes[name]
 
     def route(self, names: Sequence[str], roads: Roads) -> tuple[str, ...]:
-        """The links of the case on a route over links of the source, with the connectors between; a Fault where it is none."""
+        """The links of the case on a route over links of the source, with the connectors between; a Fault where it is
+        none."""
         if not names:
             return ()
         for name in names:

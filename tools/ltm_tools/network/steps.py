@@ -25,14 +25,17 @@ def fit_advice(raw: Network) -> list[str]:
         told = [f"the longest step that changes no link is {longest} ms; --fit STEP fits the network to a step:"]
     except Fault:
         longest, told = 0, ["--fit STEP fits the network to a step:"]
-    first = max(0, sum(step <= longest for step in STEPS) - 2)  # from the step before the longest one on, as a node that is split asks for more
+    # from the step before the longest one on, as a node that is split asks for more
+    first = max(0, sum(step <= longest for step in STEPS) - 2)
     return told + steps_table(raw, STEPS[first:first + 8])
 
 
-def steps_table(raw: Network, steps: Iterable[int] = STEPS, horizon_ms: int | None = None, ends: Iterable[str] = ()) -> list[str]:
-    """What a fit to each of some steps would change, a line each; with a horizon and the nodes where trips end also about how many cells
-    the case would have."""
-    told = ["  --fit    links   merged  contracted  shifted  lengthened  nodes split  length   free-flow times" + "     about cells" * (horizon_ms is not None)]
+def steps_table(raw: Network, steps: Iterable[int] = STEPS, horizon_ms: int | None = None,
+                ends: Iterable[str] = ()) -> list[str]:
+    """What a fit to each of some steps would change, a line each; with a horizon and the nodes where trips end also
+    about how many cells the case would have."""
+    told = ["  --fit    links   merged  contracted  shifted  lengthened  nodes split  length   free-flow times" + "    "
+            " about cells" * (horizon_ms is not None)]
     ends = list(ends)
     metres, time, _ = totals(raw.roads.values())
     for step in steps:
@@ -42,10 +45,12 @@ def steps_table(raw: Network, steps: Iterable[int] = STEPS, horizon_ms: int | No
         except Fault as fault:
             told.append(f"  {step:<7} {fault}")
             continue
-        counts = [sum(change.kind == kind for change in fit.changes) for kind in ("merged", "contracted", "shifted", "lengthened", "node split")]
+        counts = [sum(change.kind == kind for change in fit.changes)
+                  for kind in ("merged", "contracted", "shifted", "lengthened", "node split")]
         now = totals(network.roads.values())
-        told.append(f"  {step:<7}{len(network.roads):>7}{counts[0]:>9}{counts[1]:>12}{counts[2]:>9}{counts[3]:>12}{counts[4]:>13}"
-                    f"{signed(now[0] / metres - 1):>9}{signed(now[1] / time - 1):>12}" + ("" if horizon_ms is None else f"{cells_told(fit, horizon_ms, ends):>22}"))
+        cells = "" if horizon_ms is None else f"{cells_told(fit, horizon_ms, ends):>22}"
+        told.append(f"  {step:<7}{len(network.roads):>7}{counts[0]:>9}{counts[1]:>12}{counts[2]:>9}{counts[3]:>12}"
+                    f"{counts[4]:>13}{signed(now[0] / metres - 1):>9}{signed(now[1] / time - 1):>12}{cells}")
     return told
 
 

@@ -1,9 +1,9 @@
 """Splits from turning counts, by iterative proportional fitting over nodes.
 
-Counts say how many vehicles go on from a link by each link, and not where they want to go. Vehicles of each destination begin with
-shares that fall off with what a link costs them over the least route, on links that lead nearer to the destination alone, so that no
-circle can come about. In each round the flows are worked out, and at each counted node the shares of every destination are
-scaled by what was counted over what flows, link by link of those it comes by.
+Counts say how many vehicles go on from a link by each link, and not where they want to go. Vehicles of each destination
+begin with shares that fall off with what a link costs them over the least route, on links that lead nearer to the
+destination alone, so that no circle can come about. In each round the flows are worked out, and at each counted node
+the shares of every destination are scaled by what was counted over what flows, link by link of those it comes by.
 """
 from __future__ import annotations
 
@@ -83,7 +83,8 @@ def from_turns(links: Sequence[Link], demand: Iterable[Demand], turns: Sequence[
     for destination, of in amounts.items():
         for origin in of:
             if origin not in shares[destination]:
-                raise Fault(f"no route leads from node {origin} to node {destination}; leave that demand out, or add a link")
+                raise Fault(f"no route leads from node {origin} to node {destination}; leave that demand out, or add a"
+                            f" link")
     heads = {link.name: link.head for link in links}
     state = State(roads, amounts, shares, {destination: node_order(heads, of) for destination, of in shares.items()})
     counted = shares_counted(turns)
@@ -110,7 +111,8 @@ def shares_counted(turns: Iterable[Turn]) -> dict[str, dict[str, float]]:
     for turn in turns:
         of = counts.setdefault(turn.link, {})
         of[turn.after] = of.get(turn.after, 0.0) + turn.vehicles
-    return {name: {after: value / sum(of.values()) for after, value in of.items()} for name, of in counts.items() if sum(of.values()) > 0}
+    return {name: {after: value / sum(of.values()) for after, value in of.items()} for name, of in counts.items()
+            if sum(of.values()) > 0}
 
 
 def turn_flows(state: State, flows: Mapping[str, Mapping[str, float]], link: str) -> dict[str, float]:
@@ -132,15 +134,18 @@ def adjust(state: State, counted: Mapping[str, Mapping[str, float]]) -> float:
         flowing = turn_flows(state, flows, link)
         whole = sum(flowing.values())
         if whole > 0:
-            factors[link] = {after: wanted.get(after, 0.0) * whole / flow for after, flow in flowing.items() if flow > 0}
+            factors[link] = {after: wanted.get(after, 0.0) * whole / flow for after, flow in flowing.items()
+                             if flow > 0}
     change = 0.0
     for destination, shares in state.shares.items():
         for node, at in shares.items():
-            coming = [(name, flows[destination].get(name, 0.0)) for name in state.roads.ins.get(node, ()) if name in factors]
+            coming = [(name, flows[destination].get(name, 0.0)) for name in state.roads.ins.get(node, ())
+                      if name in factors]
             whole = sum(flow for _, flow in coming)
             if whole <= 0 or len(at) < 2:
                 continue
-            scaled = {after: share * max(1e-6, sum(flow * factors[name].get(after, 1.0) for name, flow in coming) / whole)
+            scaled = {after: share * max(1e-6, sum(flow * factors[name].get(after, 1.0) for name, flow in coming)
+                                         / whole)
                       for after, share in at.items()}
             total = sum(scaled.values())
             for after in at:

@@ -1,7 +1,7 @@
 """The proved program and these tools, copied into a folder.
 
-Nothing is destroyed. What stands there under one of the three names is replaced only where it is what was installed, by the sums that
-were written with it; the new is written beside it, under a name of its own, and then renamed.
+Nothing is destroyed. What stands there under one of the three names is replaced only where it is what was installed, by
+the sums that were written with it; the new is written beside it, under a name of its own, and then renamed.
 """
 import contextlib
 import fcntl
@@ -15,7 +15,8 @@ from ..errors import Fault
 from .sums import program_of, read_sums, sum_of, sums_text
 
 PROGRAM, COMMAND, PACKAGE = "ltm", "ltm-tools", "ltm_tools"
-MARK = "installed.sums"  # in the package's folder: what was installed, and what was there before it, which a cut installation leaves
+# in the package's folder: what was installed, and what was there before it, which a cut installation leaves
+MARK = "installed.sums"
 CACHE = "__pycache__"
 
 
@@ -26,7 +27,8 @@ def files_of(path: Path) -> Iterator[Path]:
         return
     for folder, folders, names in os.walk(path):
         folders[:] = [name for name in folders if name != CACHE]
-        yield from (Path(folder, name) for name in [*names, *(name for name in folders if Path(folder, name).is_symlink())])
+        yield from (Path(folder, name) for name in [*names,
+                                                    *(name for name in folders if Path(folder, name).is_symlink())])
 
 
 def check_place(top: Path, into: Path) -> None:
@@ -47,11 +49,13 @@ def installed_in(into: Path) -> list[tuple[str, str]]:
         if not os.path.lexists(into / name):
             continue
         if (into / name).is_dir() and (name != PACKAGE or not mark.is_file()):
-            raise Fault(f"{into / name} is no copy that was installed here, so nothing is: move it away, or name another folder")
+            raise Fault(f"{into / name} is no copy that was installed here, so nothing is: move it away, or name"
+                        f" another folder")
         for path in files_of(into / name):
             entry = (path.relative_to(into).as_posix(), "" if path.is_symlink() or not path.is_file() else sum_of(path))
             if path != mark and entry not in marked:
-                raise Fault(f"{path} is not as it was installed here, so nothing is: move it away, or name another folder")
+                raise Fault(f"{path} is not as it was installed here, so nothing is: move it away, or name another"
+                            f" folder")
             found.append(entry)
     return found
 
@@ -69,7 +73,8 @@ def make_copy(top: Path, made: Path, before: list[tuple[str, str]]) -> None:
             mode = target.stat().st_mode
             target.chmod(mode | (mode & 0o444) >> 2)
     sums = {(name, sum_of(made / name)) for _, name in sources}
-    (made / PACKAGE / MARK).write_text(sums_text(sums | {entry for entry in before if entry[0] in (PROGRAM, COMMAND)}), encoding="utf-8")
+    (made / PACKAGE / MARK).write_text(sums_text(sums | {entry for entry in before if entry[0] in (PROGRAM, COMMAND)}),
+                                       encoding="utf-8")
 
 
 def put(new: Path, old: Path) -> None:

@@ -1,7 +1,7 @@
 """What a proof of the program has to do: its crates, what each costs, and how long they take side by side.
 
-Crates and what they stand on are read from `crates.txt`, their costs from the table in CONTRIBUTING.md. No crate but the program's own
-is named here.
+Crates and what they stand on are read from `crates.txt`, their costs from the table in CONTRIBUTING.md. No crate but
+the program's own is named here.
 """
 import heapq
 import re
@@ -50,8 +50,8 @@ def stands_on(needs: Needs, program: str = PROGRAM) -> Needs:
 
 
 def read_costs(text: str) -> dict[str, int]:
-    """The processor seconds of each crate's proof, by the tables of a CONTRIBUTING.md: cells in groups of four, of which the first
-    names a crate and the second is its proof."""
+    """The processor seconds of each crate's proof, by the tables of a CONTRIBUTING.md: cells in groups of four, of
+    which the first names a crate and the second is its proof."""
     costs: dict[str, int] = {}
     for line in text.splitlines():
         if not line.startswith("|"):
@@ -123,13 +123,14 @@ def schedule(needs: Needs, costs: Mapping[str, float], lanes: int, done: Iterabl
 
 
 def speed(lanes: int) -> float:
-    """How much faster a crate is taken to be proved on all processors than on one: half as many times, and twice at most."""
+    """How much faster a crate is taken to be proved on all processors than on one: half as many times, and twice at
+    most."""
     return max(1.0, min(2.0, lanes / 2))
 
 
 def tail_of(needs: Needs, costs: Mapping[str, float], lanes: int, program: str = PROGRAM) -> list[str]:
-    """The last crates, in order, that are proved one by one on all processors: the program, and those before it for which that takes
-    less time than side by side, since they stand on one another."""
+    """The last crates, in order, that are proved one by one on all processors: the program, and those before it for
+    which that takes less time than side by side, since they stand on one another."""
     made = schedule(needs, costs, lanes)
     order = sorted((name for name in needs if name != program), key=lambda name: (-made.begins[name], -made.ends[name]))
     tail, best, work = [program], [program], costs[program]
@@ -160,8 +161,9 @@ class Plan:
         return schedule(self.side_by_side, self.costs, self.lanes, done).length + alone / speed(self.lanes)
 
     def scale(self, kept: Iterable[str], done: Iterable[str], at: float, passed: float) -> float:
-        """How many times slower than the table this machine has shown to be. A run began with the crates `kept`; those of `done` are
-        proved since `at` seconds, and `passed` seconds are gone. It is 1 at first, and is shown by what is done, or late."""
+        """How many times slower than the table this machine has shown to be. A run began with the crates `kept`; those
+        of `done` are proved since `at` seconds, and `passed` seconds are gone. It is 1 at first, and is shown by what
+        is done, or late."""
         kept, done = set(kept), set(done)
         gone = self.length(kept) - self.length(done)
         ready = [name for name, lower in self.needs.items() if name not in done and done.issuperset(lower)]

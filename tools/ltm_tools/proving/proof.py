@@ -1,8 +1,8 @@
 """Proves the crates that the program stands on, and builds it.
 
-It works in a copy of those crates, outside the clone, that `rt` keeps its work in: so what is changed meanwhile is not read half, an
-interrupted run goes on where it was, and no crate is proved that the program does not need. First all crates side by side, by `rt all
-check`; then the last ones, which stand on one another, one by one on all processors.
+It works in a copy of those crates, outside the clone, that `rt` keeps its work in: so what is changed meanwhile is not
+read half, an interrupted run goes on where it was, and no crate is proved that the program does not need. First all
+crates side by side, by `rt all check`; then the last ones, which stand on one another, one by one on all processors.
 """
 import contextlib
 import fcntl
@@ -14,7 +14,6 @@ import re
 import shutil
 import signal
 import subprocess
-import sys
 import tempfile
 import time
 from collections.abc import Callable, Iterable, Iterator, Sequence
@@ -29,7 +28,8 @@ from .sums import Sums, write_sums
 
 MEMORY_A_CRATE = 4 << 30  # bytes that the proof of a crate may take
 PARTS = ("src", "specs", "proofs", "args", "stdin", "stdout", "data")
-NO_RT = ("the command rt of the Rattle kit is not on the path. The kit has the compiler and the prover: without it nothing can be "
+NO_RT = ("the command rt of the Rattle kit is not on the path. The kit has the compiler and the prover: without it"
+         " nothing can be "
          "built here, proved or not, and ltm has to come from a machine that has it (./ltm --install DIR)")
 
 
@@ -43,12 +43,14 @@ def lanes() -> int:
 
 def workplace(top: Path) -> Path:
     """The folder, outside the clone, of the copy that is proved."""
-    cache = os.environ.get("XDG_CACHE_HOME") or (os.path.join(os.environ["HOME"], ".cache") if os.environ.get("HOME") else tempfile.gettempdir())
+    cache = os.environ.get("XDG_CACHE_HOME") or (os.path.join(os.environ["HOME"], ".cache") if os.environ.get("HOME")
+                                                 else tempfile.gettempdir())
     return Path(cache) / "ltm-prove" / hashlib.sha256(os.fsencode(top)).hexdigest()[:12]
 
 
 def copy_crates(top: Path, place: Path, needs: Needs) -> None:
-    """Brings the copy to what the clone has: texts that differ are written, and what is gone is removed. What `rt` keeps stays."""
+    """Brings the copy to what the clone has: texts that differ are written, and what is gone is removed. What `rt`
+    keeps stays."""
     for name in needs:
         for part in PARTS:
             _copy(top / "crates" / name / part, place / "tree" / "crates" / name / part)
@@ -157,7 +159,8 @@ class Proof:
             put_back(self.place)
         self.list_crates(self.needs)
         for name in self.plan.tail:
-            words = ["run", "--jobs", str(self.jobs), "--", "try", "1", "4"] if name == PROGRAM else ["lib", "--jobs", str(self.jobs)]
+            words = (["run", "--jobs", str(self.jobs), "--", "try", "1", "4"] if name == PROGRAM
+                     else ["lib", "--jobs", str(self.jobs)])
             self.rt(words, self.place / "tree" / "crates" / name)
             self.keep([name])
         self.tell(is_last=True)
@@ -180,7 +183,8 @@ class Proof:
         """Runs rt in a folder, and tells meanwhile how far it is."""
         try:
             with open(self.log, "ab") as log:
-                process = subprocess.Popen(["rt", *words], cwd=folder, stdin=subprocess.DEVNULL, stdout=log, stderr=log, start_new_session=True)
+                process = subprocess.Popen(["rt", *words], cwd=folder, stdin=subprocess.DEVNULL, stdout=log, stderr=log,
+                                           start_new_session=True)
         except OSError:
             raise Fault(NO_RT) from None
         try:
@@ -203,11 +207,13 @@ class Proof:
         """The crates that rt has told of so far: a line `== NAME` stands before what it says of each."""
         said = self.log.read_text(encoding="utf-8", errors="replace")
         told = re.split(r"(?m)^== (\w+)$", said)
-        self.keep(name for name, words in zip(told[1::2], told[2::2]) if name in self.needs and name not in self.done and is_proved(words))
+        self.keep(name for name, words in zip(told[1::2], told[2::2]) if name in self.needs and name not in self.done
+                  and is_proved(words))
 
     def fail(self, words: list[str], status: int) -> None:
         self.told.lines(self.log.read_text(encoding="utf-8", errors="replace").splitlines()[-20:])
-        why = f"was killed by signal {-status}, perhaps for want of memory" if status < 0 else f"ended with status {status}"
+        why = (f"was killed by signal {-status}, perhaps for want of memory" if status < 0 else f"ended with status"
+               f" {status}")
         raise Fault(f"rt {' '.join(words)} {why}; all that it said is in {self.log}, and a new start goes on from here")
 
     def tell(self, is_last: bool = False) -> None:

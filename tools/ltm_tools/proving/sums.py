@@ -1,8 +1,9 @@
-"""What was proved, told by sums: beside the program stands `ltm.sums`, with the sum of the program and of each text that its proof
-rests on, as `sha256sum` writes them.
+"""What was proved, told by sums: beside the program stands `ltm.sums`, with the sum of the program and of each text
+that its proof rests on, as `sha256sum` writes them.
 
-A program that `rt` itself has built has no such file. It is taken as proved where `rt` left what it leaves of a proved build, and no text
-was touched since, by the times at which files were last changed, which nobody can set. Its sums are then written, and they count.
+A program that `rt` itself has built has no such file. It is taken as proved where `rt` left what it leaves of a proved
+build, and no text was touched since, by the times at which files were last changed, which nobody can set. Its sums are
+then written, and they count.
 """
 import hashlib
 import os
@@ -101,7 +102,8 @@ def is_left_by_rt(top: Path, crates: Iterable[str], sum_: str) -> bool:
     crates = list(crates)
     try:
         limit = when_run(top, sum_) or when_passed(top, crates)
-        folders: list[str | Path] = [folder for crate in crates for part in PARTS for folder, _, _ in os.walk(top / "crates" / crate / part)]
+        folders: list[str | Path] = [folder for crate in crates for part in PARTS
+                                     for folder, _, _ in os.walk(top / "crates" / crate / part)]
         if any(os.stat(path).st_ctime_ns >= limit for path in [*folders, *texts(top, crates)]):
             return False
         return all(is_whole(top / "crates" / crate, limit) for crate in crates)
@@ -110,13 +112,15 @@ def is_left_by_rt(top: Path, crates: Iterable[str], sum_: str) -> bool:
 
 
 def is_whole(crate: Path, limit: int) -> bool:
-    """Whether none of a crate's folders can have been taken out: it was touched last when `rt` made its `out` folder."""
+    """Whether none of a crate's folders can have been taken out: it was touched last when `rt` made its `out`
+    folder."""
     out = crate / "out"
     return crate.stat().st_ctime_ns < max(limit, out.stat().st_mtime_ns + 1 if out.is_dir() else 0)
 
 
 def when_run(top: Path, sum_: str) -> int:
-    """When `rt run` had built a program with this sum, by the stamp that it leaves where no text changed meanwhile; else 0."""
+    """When `rt run` had built a program with this sum, by the stamp that it leaves where no text changed meanwhile;
+    else 0."""
     stamp = program_of(top).with_name(f"{PROGRAM}.stamp")
     if not stamp.is_file() or not stamp.read_bytes().endswith(sum_.encode()):
         return 0
@@ -124,8 +128,9 @@ def when_run(top: Path, sum_: str) -> int:
 
 
 def when_passed(top: Path, crates: Iterable[str]) -> int:
-    """When `rt ci` began, or soon after, if it has built the program and has run it since; else 0. It takes all `out` folders away
-    first, makes each anew with the crate's proof, and at last writes there what the program has written."""
+    """When `rt ci` began, or soon after, if it has built the program and has run it since; else 0. It takes all `out`
+    folders away first, makes each anew with the crate's proof, and at last writes there what the program has
+    written."""
     program, wrote = program_of(top), program_of(top).with_name("stdout")
     if not wrote.is_file() or wrote.stat().st_mtime_ns < program.stat().st_ctime_ns:
         return 0

@@ -1,5 +1,5 @@
-"""Pictures of a network, and of two cases side by side, by matplotlib: a path by share of storage, a map at a time, the cumulative
-curves of a path. Times are clock times."""
+"""Pictures of a network, and of two cases side by side, by matplotlib: a path by share of storage, a map at a time, the
+cumulative curves of a path. Times are clock times."""
 from __future__ import annotations
 
 import math
@@ -33,7 +33,8 @@ def clock_axis(axes: "Axes", start: int, last: int) -> None:
     from matplotlib.ticker import FuncFormatter, MultipleLocator
 
     axes.set_xlim(start, last)
-    every = next((each for each in NICE_MINUTES if (last - start) / (each * MINUTE_MS) <= 8), NICE_MINUTES[-1]) * MINUTE_MS
+    every = next((each for each in NICE_MINUTES if (last - start) / (each * MINUTE_MS) <= 8),
+                 NICE_MINUTES[-1]) * MINUTE_MS
     if last - start < 2 * MINUTE_MS:
         every = max(1, (last - start) // 4)
     axes.xaxis.set_major_locator(MultipleLocator(every))
@@ -47,7 +48,8 @@ def moments(one: Loaded, start: int) -> list[int]:
 
 
 def shares(one: Loaded, names: Sequence[str]) -> list[list[float]]:
-    """For each link and slot the mean of what stands there at the slot's beginning and at its end, in percent of what the link stores."""
+    """For each link and slot the mean of what stands there at the slot's beginning and at its end, in percent of what
+    the link stores."""
     rows = []
     for link in joined(one.case, names):
         on = [int(count) for count in one.curves.on_link(link.name)]
@@ -56,8 +58,10 @@ def shares(one: Loaded, names: Sequence[str]) -> list[list[float]]:
 
 
 def draw_shares(plot: Any, both: Sequence[Loaded], titles: Sequence[str], names: Sequence[str], start: int) -> "Figure":
-    """Time to the right, the way upwards, and as colour how full each link is; two cases side by side with one scale."""
-    figure, found = plot.subplots(1, len(both), figsize=(2 + 6.5 * len(both), 5.5), layout="constrained", squeeze=False, sharey=True)
+    """Time to the right, the way upwards, and as colour how full each link is; two cases side by side with one
+    scale."""
+    figure, found = plot.subplots(1, len(both), figsize=(2 + 6.5 * len(both), 5.5), layout="constrained", squeeze=False,
+                                  sharey=True)
     for axes, one, title in zip(found[0], both, titles):
         path, times = joined(one.case, names), moments(one, start)
         ends = [0.0]
@@ -76,13 +80,14 @@ def draw_shares(plot: Any, both: Sequence[Loaded], titles: Sequence[str], names:
 
 
 def draw_newell(plot: Any, one: Loaded, names: Sequence[str], start: int) -> "Figure":
-    """How many vehicles have passed each point of a path: sideways between two curves is the time between the points, upwards what is
-    between them. What was produced at the path's origin stands above."""
+    """How many vehicles have passed each point of a path: sideways between two curves is the time between the points,
+    upwards what is between them. What was produced at the path's origin stands above."""
     path, times = joined(one.case, names), moments(one, start)
     figure, axes = plot.subplots(figsize=(9, 6), layout="constrained")
     rows = delay.demand_of(one.case).get(path[0].tail)
     if rows:
-        axes.plot(times, vehicles(delay.produced(rows, one.curves.boundaries)), color="#7a1fa2", linestyle="--", label=f"produced at {path[0].tail}")
+        axes.plot(times, vehicles(delay.produced(rows, one.curves.boundaries)), color="#7a1fa2", linestyle="--",
+                  label=f"produced at {path[0].tail}")
     points: list[tuple[str, Counts]] = [(f"entered {path[0].name}", one.curves.up(path[0].name))]
     points += [(f"left {link.name}", one.curves.down(link.name)) for link in path]
     colours = plot.get_cmap("viridis")
@@ -97,8 +102,10 @@ def draw_newell(plot: Any, one: Loaded, names: Sequence[str], start: int) -> "Fi
     return figure
 
 
-def draw_map(plot: Any, both: Sequence[Loaded], folders: Sequence[str], titles: Sequence[str], boundary: int, start: int) -> "Figure":
-    """The network at a boundary, each link coloured by its queue in percent of what it stores; two cases side by side."""
+def draw_map(plot: Any, both: Sequence[Loaded], folders: Sequence[str], titles: Sequence[str], boundary: int,
+             start: int) -> "Figure":
+    """The network at a boundary, each link coloured by its queue in percent of what it stores; two cases side by
+    side."""
     from matplotlib.collections import LineCollection
 
     if not all(one.case.links for one in both):
@@ -107,13 +114,17 @@ def draw_map(plot: Any, both: Sequence[Loaded], folders: Sequence[str], titles: 
     for axes, one, folder, title in zip(found[0], both, folders, titles):
         drawn, bends = places(one, folder)
         at = drawn.of
-        queues = [int(delay.queue(one.curves, link)[min(boundary, one.curves.boundaries - 1)]) for link in one.case.links]
+        queues = [int(delay.queue(one.curves, link)[min(boundary, one.curves.boundaries - 1)])
+                  for link in one.case.links]
         parts = [100 * queue / link.storage_units for queue, link in zip(queues, one.case.links)]
-        size = max(max(x for x, _ in at.values()) - min(x for x, _ in at.values()), max(y for _, y in at.values()) - min(y for _, y in at.values())) or 1.0
+        size = max(max(x for x, _ in at.values()) - min(x for x, _ in at.values()),
+                   max(y for _, y in at.values()) - min(y for _, y in at.values())) or 1.0
         lines = [beside(bent(drawn.line(link), bend), 0.004 * size) for link, bend in zip(one.case.links, bends)]
         axes.add_collection(LineCollection(lines, colors="#c3ccd5", linewidths=1.6, zorder=1))
         order = sorted(range(len(lines)), key=parts.__getitem__)
-        shown = LineCollection([lines[k] for k in order], cmap=COLOURS, linewidths=[1.6 + 3 * parts[k] / 100 if parts[k] >= LEAST_PERCENT else 0 for k in order], zorder=2)
+        shown = LineCollection([lines[k] for k in order], cmap=COLOURS,
+                               linewidths=[1.6 + 3 * parts[k] / 100 if parts[k] >= LEAST_PERCENT else 0 for k in order],
+                               zorder=2)
         shown.set_array([parts[k] for k in order])
         shown.set_clim(0, 100)
         axes.add_collection(shown)
@@ -145,11 +156,13 @@ def bent(line: Line, bend: float) -> Line:
     (x, y), (to_x, to_y) = line[0], line[-1]
     east, north = to_x - x, to_y - y
     parts = [step / BENT_STEPS for step in range(BENT_STEPS + 1)]
-    return tuple((x + part * east - 4 * bend * part * (1 - part) * north, y + part * north + 4 * bend * part * (1 - part) * east) for part in parts)
+    return tuple((x + part * east - 4 * bend * part * (1 - part) * north,
+                  y + part * north + 4 * bend * part * (1 - part) * east) for part in parts)
 
 
 def beside(line: Line, off: float) -> list[Place]:
-    """A line so far to the right of another, so that both directions are seen; at a corner where both sides of it meet, or not much farther out."""
+    """A line so far to the right of another, so that both directions are seen; at a corner where both sides of it meet,
+    or not much farther out."""
     sides = []
     for (x, y), (to_x, to_y) in zip(line, line[1:]):
         length = math.hypot(to_x - x, to_y - y) or 1.0

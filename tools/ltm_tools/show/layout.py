@@ -1,8 +1,8 @@
 """Places for nodes that have none: a drawing in which nodes are about as far apart as the roads between them are long.
 
-First the distances to some nodes far from one another are drawn in two directions (pivot multidimensional scaling: Brandes and Pich
-2007), then each node is moved a little towards its distances, with less and less force (stochastic gradient descent on stress: Zheng,
-Pawar and Goodman 2018). The same network gives the same drawing.
+First the distances to some nodes far from one another are drawn in two directions (pivot multidimensional scaling:
+Brandes and Pich 2007), then each node is moved a little towards its distances, with less and less force (stochastic
+gradient descent on stress: Zheng, Pawar and Goodman 2018). The same network gives the same drawing.
 """
 from __future__ import annotations
 
@@ -20,7 +20,8 @@ TURNS = 60  # of the power iteration
 
 
 def places(nodes: Sequence[str], links: Iterable[tuple[str, str, float]]) -> dict[str, Place]:
-    """A place for each node; links are given by their ends and length. Parts of the network that do not hang together stand side by side."""
+    """A place for each node; links are given by their ends and length. Parts of the network that do not hang together
+    stand side by side."""
     near: Neighbours = {node: {} for node in nodes}
     for tail, head, length in links:
         shortest = min(length, near[tail].get(head, math.inf))
@@ -92,7 +93,8 @@ def scaled(rows: list[list[float]]) -> tuple[list[float], list[float]]:
     by_row = [sum(row) / len(row) for row in squares]
     by_pivot = [sum(column) / len(column) for column in zip(*squares)]
     middle = sum(by_row) / len(by_row)
-    centred = [[(of_row + of_pivot - square - middle) / 2 for square, of_pivot in zip(row, by_pivot)] for row, of_row in zip(squares, by_row)]
+    centred = [[(of_row + of_pivot - square - middle) / 2 for square, of_pivot in zip(row, by_pivot)]
+               for row, of_row in zip(squares, by_row)]
     columns = list(zip(*centred))
     products = [[sum(map(float.__mul__, one, other)) for other in columns] for one in columns]
     found: list[list[float]] = []
@@ -121,8 +123,10 @@ def greatest(matrix: list[list[float]]) -> tuple[list[float], float]:
 
 def settle(at: dict[str, list[float]], far: dict[str, dict[str, float]], near: Neighbours) -> None:
     """Moves nodes towards their distances from the pivots and from their neighbours."""
-    pairs = [(at[pivot], at[node], length) for pivot, row in far.items() for node, length in row.items() if node != pivot]
-    pairs += [(at[node], at[other], length) for node, row in near.items() if node in at for other, length in row.items()]
+    pairs = [(at[pivot], at[node], length) for pivot, row in far.items() for node, length in row.items()
+             if node != pivot]
+    pairs += [(at[node], at[other], length) for node, row in near.items() if node in at
+              for other, length in row.items()]
     longest, shortest = max(pair[2] for pair in pairs), min(pair[2] for pair in pairs)
     rounds = max(3, min(ROUNDS, MOST_MOVES // len(pairs)))
     cooling = math.log(max(longest / shortest, 10.0) ** 2) / max(1, rounds - 1)
@@ -145,11 +149,12 @@ CLEAR = 0.06
 
 
 def bends(at: dict[str, Place], ends: Sequence[tuple[str, str]]) -> list[float]:
-    """How far each link is to be bent to the left, in parts of its length: 0.12 where its line would run over a node that is not an
-    end of it, and else 0."""
+    """How far each link is to be bent to the left, in parts of its length: 0.12 where its line would run over a node
+    that is not an end of it, and else 0."""
     if len(ends) > BENT_LINKS:
         return [0.0] * len(ends)
-    return [0.12 if any(over(at[tail], at[head], at[node]) for node in at if node not in (tail, head)) else 0.0 for tail, head in ends]
+    return [0.12 if any(over(at[tail], at[head], at[node]) for node in at if node not in (tail, head)) else 0.0
+            for tail, head in ends]
 
 
 def over(one: Place, other: Place, point: Place) -> bool:

@@ -22,7 +22,8 @@ from ..loading.queues import Queue, queues
 from . import layout
 
 WEB = Path(__file__).resolve().parent / "web"
-D3_PLACES = ("/usr/share/nodejs/d3/dist/d3.min.js", "/usr/share/javascript/d3/d3.min.js", "/usr/lib/node_modules/d3/dist/d3.min.js")
+D3_PLACES = ("/usr/share/nodejs/d3/dist/d3.min.js", "/usr/share/javascript/d3/d3.min.js",
+             "/usr/lib/node_modules/d3/dist/d3.min.js")
 D3_VERSION = re.compile(r"d3js\.org v([0-9]+)")
 D3_FITS = range(5, 8)
 
@@ -41,7 +42,8 @@ def find_d3(named: str | None = None) -> str:
 
 
 def flows(rows: list[Counts]) -> str:
-    """What passes in each slot, row by row, two bytes each, in base 64. In a loading no more than 32,000 units pass in a slot."""
+    """What passes in each slot, row by row, two bytes each, in base 64. In a loading no more than 32,000 units pass in
+    a slot."""
     packed = array.array("H")
     for counts in rows:
         found = as_list(counts)
@@ -51,20 +53,26 @@ def flows(rows: list[Counts]) -> str:
     return base64.b64encode(packed.tobytes()).decode("ascii")
 
 
-def told_case(one: Loaded, name: str, start: int, least: int, places: Places, bent: bool, unit: TimeUnit) -> dict[str, object]:
+def told_case(one: Loaded, name: str, start: int, least: int, places: Places, bent: bool,
+              unit: TimeUnit) -> dict[str, object]:
     """All that the page has to know of a loading."""
     case, curves = one
     number = {node: index for index, node in enumerate(case.nodes)}
-    bends = layout.bends(places.of, [(link.tail, link.head) for link in case.links]) if bent else [0.0] * len(case.links)
+    bends = layout.bends(places.of, [(link.tail, link.head)
+                                     for link in case.links]) if bent else [0.0] * len(case.links)
     both = [delay.checked(curves, link) for link in case.links]
     rows = delay.demand_of(case)
     told = delay.report(curves, case)
     return {
         "name": name, "step": curves.step_ms, "slots": curves.boundaries - 1, "start": start,
-        "nodes": [{"name": node, "x": round(places.of[node][0], 7), "y": round(places.of[node][1], 7)} for node in case.nodes],
-        "links": [{"name": link.name, "tail": number[link.tail], "head": number[link.head], "free": link.free_ms, "storage": link.storage_units,
-                   "length": link.length_m, "bend": bend, **shape_of(places, link)} for link, bend in zip(case.links, bends)],
-        "origins": [{"name": node, "node": number[node], "demand": [[row.from_slot, row.to_slot, row.units] for row in of]} for node, of in rows.items()],
+        "nodes": [{"name": node, "x": round(places.of[node][0], 7), "y": round(places.of[node][1], 7)}
+                  for node in case.nodes],
+        "links": [{"name": link.name, "tail": number[link.tail], "head": number[link.head], "free": link.free_ms,
+                   "storage": link.storage_units,
+                   "length": link.length_m, "bend": bend, **shape_of(places, link)}
+                  for link, bend in zip(case.links, bends)],
+        "origins": [{"name": node, "node": number[node],
+                     "demand": [[row.from_slot, row.to_slot, row.units] for row in of]} for node, of in rows.items()],
         "entered": flows([up for up, _ in both]), "left": flows([down for _, down in both]),
         "departed": flows([departed(one, node) for node in rows]),
         "queues": [told_queue(queue, unit) for queue in queues(curves, case, least)],
@@ -74,7 +82,8 @@ def told_case(one: Loaded, name: str, start: int, least: int, places: Places, be
 
 def shape_of(places: Places, link: Link) -> dict[str, object]:
     """The points of a link that does not run straight."""
-    return {"shape": [[round(x, 7), round(y, 7)] for x, y in places.shapes[link.name]]} if link.name in places.shapes else {}
+    return {"shape": [[round(x, 7), round(y, 7)]
+                      for x, y in places.shapes[link.name]]} if link.name in places.shapes else {}
 
 
 def departed(one: Loaded, node: str) -> Counts:
@@ -87,20 +96,22 @@ def departed(one: Loaded, node: str) -> Counts:
 def told_queue(queue: Queue, unit: TimeUnit) -> dict[str, object]:
     """A queue for the page's table."""
     share = None if queue.storage is None else float(percent(queue.worst, queue.storage))
-    return {"kind": queue.kind, "name": queue.name, "first": queue.first, "last": queue.last, "lasts": queue.lasts, "worst": queue.worst, "at": queue.at,
+    return {"kind": queue.kind, "name": queue.name, "first": queue.first, "last": queue.last, "lasts": queue.lasts,
+            "worst": queue.worst, "at": queue.at,
             "share": share, "delay": queue.delay, "told": format(unit.show(queue.delay), "f")}
 
 
 def totals(one: Loaded, told: delay.Report, unit: TimeUnit) -> list[tuple[str, str]]:
     """The numbers above the map."""
     arrived = sum(int(one.curves.arrived(end)[-1]) for end in one.case.destinations)
-    return [(f"{name}, {unit.name}", format(unit.show(time), "f")) for name, time in (("spent", told.spent), ("queued", told.queued), ("waited", told.waited))] + [
-        ("arrived, vehicles", format(vehicles(arrived), "f"))]
+    return [(f"{name}, {unit.name}", format(unit.show(time), "f"))
+            for name, time in (("spent", told.spent), ("queued", told.queued), ("waited", told.waited))] + [
+                ("arrived, vehicles", format(vehicles(arrived), "f"))]
 
 
 def placed(folders: list[str], cases: list[Case]) -> tuple[list[Places], bool]:
-    """Where each case's nodes lie and its links run, and whether they were laid out: as nodes.csv says where each case has one, else one drawing
-    for all."""
+    """Where each case's nodes lie and its links run, and whether they were laid out: as nodes.csv says where each case
+    has one, else one drawing for all."""
     known: list[Places | None] = [read_places(folder, case) for folder, case in zip(folders, cases)]
     if known[0] is not None:
         first = known[0].of
@@ -110,7 +121,8 @@ def placed(folders: list[str], cases: list[Case]) -> tuple[list[Places], bool]:
     if all(read is not None for read in known):
         return [read.plane() for read in known if read is not None], False
     nodes = list(dict.fromkeys(node for case in cases for node in case.nodes))
-    drawn = layout.places(nodes, [(link.tail, link.head, float(link.length_m)) for case in cases for link in case.links])
+    drawn = layout.places(nodes, [(link.tail, link.head, float(link.length_m)) for case in cases
+                                  for link in case.links])
     return [Places(drawn)] * len(cases), True
 
 
@@ -120,13 +132,16 @@ def busiest(one: Loaded) -> int:
     return delay.most(total(counts))[1] if counts else 0
 
 
-def page(both: list[Loaded], folders: list[str], names: list[str], start: int, least: int, title: str, library: str) -> str:
+def page(both: list[Loaded], folders: list[str], names: list[str], start: int, least: int, title: str,
+         library: str) -> str:
     """The text of the page."""
     places, bent = placed(folders, [one.case for one in both])
     reports = [delay.report(one.curves, one.case) for one in both]
     unit = time_unit(*(report.spent for report in reports))
     told = {"title": title, "least": format(vehicles(least), "f"), "unit": unit.name, "boundary": busiest(both[0]),
-            "cases": [told_case(one, name, start, least, places[index], bent, unit) for index, (one, name) in enumerate(zip(both, names))]}
-    parts = {"TITLE": html.escape(title), "STYLE": read_text(WEB / "page.css"), "DATA": json.dumps(told, separators=(",", ":")).replace("<", "\\u003c"),
+            "cases": [told_case(one, name, start, least, places[index], bent, unit)
+                      for index, (one, name) in enumerate(zip(both, names))]}
+    parts = {"TITLE": html.escape(title), "STYLE": read_text(WEB / "page.css"),
+             "DATA": json.dumps(told, separators=(",", ":")).replace("<", "\\u003c"),
              "LIBRARY": library.replace("</script", "<\\/script"), "SCRIPT": read_text(WEB / "page.js")}
     return re.sub("@([A-Z]+)@", lambda found: parts[found[1]], read_text(WEB / "page.html"))

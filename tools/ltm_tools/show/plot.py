@@ -49,7 +49,8 @@ def draw_link(plot: Any, curves: Curves, links: dict[str, Link], name: str) -> "
     link = link_of(links, name)
     entered, left, between = (vehicles(counts) for counts in (curves.up(name), curves.down(name), curves.on_link(name)))
     times, storage = minutes(len(entered), curves), link.storage_units / 1000
-    figure, (upper, lower) = plot.subplots(2, 1, figsize=(8, 6), sharex=True, height_ratios=(2, 1), layout="constrained")
+    figure, (upper, lower) = plot.subplots(2, 1, figsize=(8, 6), sharex=True, height_ratios=(2, 1),
+                                           layout="constrained")
     figure.suptitle(f"Link {name}, from {link.tail} to {link.head}, {kilometres(link):g} km")
     upper.fill_between(times, left, entered, color=ENTERED, alpha=0.12, linewidth=0)
     upper.plot(times, entered, color=ENTERED, label="entered")
@@ -86,8 +87,8 @@ def ends_of(path: list[Link]) -> list[float]:
 
 
 def draw_path(plot: Any, curves: Curves, links: dict[str, Link], names: list[str]) -> "Figure":
-    """Time to the right, the way upwards, and how dense traffic stands as colour: for each slot and link the mean of what
-    stands there at the slot's beginning and at its end."""
+    """Time to the right, the way upwards, and how dense traffic stands as colour: for each slot and link the mean of
+    what stands there at the slot's beginning and at its end."""
     path = joined(links, names)
     ends = ends_of(path)
     rows = []

@@ -1,4 +1,5 @@
-"""Texts in pictures as they are: matplotlib reads what stands between two `$` as a formula, and leaves out of a legend what begins with `_`."""
+"""Texts in pictures as they are: matplotlib reads what stands between two `$` as a formula, and leaves out of a legend
+what begins with `_`."""
 from __future__ import annotations
 
 from collections.abc import Sequence

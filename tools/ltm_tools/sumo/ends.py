@@ -1,7 +1,9 @@
-"""Trips that end before a signal: a vehicle of SUMO ends at the end of its last edge, and does not wait for the signal there.
+"""Trips that end before a signal: a vehicle of SUMO ends at the end of its last edge, and does not wait for the signal
+there.
 
-An exit limit holds all that leave a link, those included that are where they want to be. So an edge with a signal, at whose end trips
-end, is cut a step before its end: one part leads on to the signal, and one as long to a node of its own, where the trips end.
+An exit limit holds all that leave a link, those included that are where they want to be. So an edge with a signal, at
+whose end trips end, is cut a step before its end: one part leads on to the signal, and one as long to a node of its
+own, where the trips end.
 """
 from __future__ import annotations
 
@@ -17,7 +19,8 @@ from ..network.route_splits import Route
 
 @dataclass
 class Cut:
-    """The parts of edges that were cut: that to the signal, and that to where trips end; and the edges that were too short."""
+    """The parts of edges that were cut: that to the signal, and that to where trips end; and the edges that were too
+    short."""
 
     exits: dict[str, str] = field(default_factory=dict)
     stops: dict[str, str] = field(default_factory=dict)

@@ -23,7 +23,8 @@ from .signals import signal_edges
 
 @dataclass
 class Asked:
-    """A net with the routes over it, before it is fitted; the edges that signals hold, and those that were cut before one."""
+    """A net with the routes over it, before it is fitted; the edges that signals hold, and those that were cut before
+    one."""
 
     inputs: Inputs
     held: dict[str, list[Connection]]
@@ -36,11 +37,13 @@ class Asked:
 
     def ends(self) -> list[tuple[str, str]]:
         """The nodes where each route begins and ends."""
-        return [(self.raw.roads[route.links[0]].tail, self.raw.roads[route.links[-1]].head) for route in self.inputs.routes]
+        return [(self.raw.roads[route.links[0]].tail, self.raw.roads[route.links[-1]].head)
+                for route in self.inputs.routes]
 
 
 def import_sumo(net: StrPath, files: Iterable[StrPath] = (), options: SumoOptions = SumoOptions()) -> Imported:
-    """The case of a net, with the vehicles and the programs of signals in files; NotCarried with all that a case cannot have."""
+    """The case of a net, with the vehicles and the programs of signals in files; NotCarried with all that a case cannot
+    have."""
     asked = read_all(net, files, options, not options.wait_at_ends)
     inputs = asked.inputs
     check_ends(dict.fromkeys(asked.ends()))
@@ -52,7 +55,8 @@ def import_sumo(net: StrPath, files: Iterable[StrPath] = (), options: SumoOption
     case = case_of(made, inputs, asked.held, asked.cut, options)
     sizes = ask_for_sizes(case, options.moves)
     places, lost = places_of(made, inputs.net.drawn)
-    told = [*size_told(case, inputs), *left_out_told(inputs), *inputs.notes, *changes_told(made, routes, set(asked.cut.stops.values())), *lost, *sizes]
+    told = [*size_told(case, inputs), *left_out_told(inputs), *inputs.notes,
+            *changes_told(made, routes, set(asked.cut.stops.values())), *lost, *sizes]
     return Imported(case, places, made.source, tuple(made.fit.changes) if made.fit is not None else None, tuple(told))
 
 
@@ -79,7 +83,8 @@ def size_told(case: Case, inputs: Inputs) -> list[str]:
     """How large the case is."""
     total = sum(row.units for row in case.demand)
     return [f"{len(case.links)} links, {len(case.nodes)} nodes, {len(case.destinations)} destinations",
-            f"{short_vehicles(total)} vehicles, {case.setup.slots} slots of {case.setup.step_ms} ms from {clock_text(inputs.begin_ms)}"]
+            f"{short_vehicles(total)} vehicles, {case.setup.slots} slots of {case.setup.step_ms} ms from"
+            f" {clock_text(inputs.begin_ms)}"]
 
 
 def left_out_told(inputs: Inputs) -> list[str]:
@@ -87,4 +92,5 @@ def left_out_told(inputs: Inputs) -> list[str]:
     told = [f"{count} edges are left out: {why}" for why, count in inputs.net.left_out.items()]
     if inputs.net.shorter:
         told.append(f"{inputs.net.shorter} edges are shorter than 1 m and get 1 m")
-    return told + [f"{short_vehicles(count)} vehicles are left out: {why}" for why, count in inputs.found.left_out.items()]
+    return told + [f"{short_vehicles(count)} vehicles are left out: {why}"
+                   for why, count in inputs.found.left_out.items()]

@@ -44,15 +44,18 @@ def end_before_signals(inputs: Inputs, held: dict[str, list[Connection]], option
     inputs.turns_before = inputs.routes
     inputs.routes = [over_parts(route, cut) for route in inputs.routes]
     if cut.exits:
-        inputs.notes.append(f"{len(cut.exits)} edges are cut a step before a signal, so that trips that end there need not wait for it (--wait-at-ends leaves them whole)")
+        inputs.notes.append(f"{len(cut.exits)} edges are cut a step before a signal, so that trips that end there need"
+                            f" not wait for it (--wait-at-ends leaves them whole)")
     if cut.too_short:
-        inputs.notes.append(f"trips that end on {cut.too_short} edges wait for the signal at their end, as these are too short to be cut")
+        inputs.notes.append(f"trips that end on {cut.too_short} edges wait for the signal at their end, as these are"
+                            f" too short to be cut")
     return cut
 
 
 def read_inputs(net_file: StrPath, files: Iterable[StrPath], options: SumoOptions) -> Inputs:
     """Reads all files, and finds the route of each vehicle."""
-    net = read_net(exists(net_file), vehicle_class=options.vehicle_class, headway=options.headway, spacing=options.spacing)
+    net = read_net(exists(net_file), vehicle_class=options.vehicle_class, headway=options.headway,
+                   spacing=options.spacing)
     vehicles, notes = [], []
     for path in map(exists, files):
         tags = {element.tag for element in elements(path)}
@@ -62,8 +65,10 @@ def read_inputs(net_file: StrPath, files: Iterable[StrPath], options: SumoOption
         if tags & {"vehicle", "trip", "flow", "vType", "vTypeDistribution", "route", "routeDistribution"}:
             vehicles.append(path)
         elif tags & {"taz", "tazs"}:
-            raise Fault(f"{path}: this has zones (TAZ), and trips between zones need edges first: duarouter -n {net_file} --additional-files"
-                        f" {path} --route-files TRIPS -o ROUTES gives them some, and od2trips makes TRIPS of a matrix; give ROUTES in its place")
+            raise Fault(f"{path}: this has zones (TAZ), and trips between zones need edges first: duarouter -n"
+                        f" {net_file} --additional-files"
+                        f" {path} --route-files TRIPS -o ROUTES gives them some, and od2trips makes TRIPS of a matrix;"
+                        f" give ROUTES in its place")
         elif "tlLogic" not in tags:
             raise Fault(f"{path}: no vehicles, trips, flows, types, routes or programs of signals in it; leave it out")
     inputs = Inputs(net, read_vehicles(vehicles), notes=notes)
@@ -90,7 +95,8 @@ def set_times(inputs: Inputs, options: SumoOptions) -> None:
 
 
 def find_routes(inputs: Inputs, options: SumoOptions) -> None:
-    """The routes of vehicles, those of trips by least free-flow time. What is surely too much for a case is refused before they are sought."""
+    """The routes of vehicles, those of trips by least free-flow time. What is surely too much for a case is refused
+    before they are sought."""
     ways, found, net = Ways(inputs.net), inputs.found, inputs.net.network
     if options.destinations is None:
         check_ends(sure_ends(found.vehicles, ways, net))
@@ -101,7 +107,8 @@ def find_routes(inputs: Inputs, options: SumoOptions) -> None:
         edges = one.edges if one.whole else by_legs(one.edges, legs)
         if not edges or not ways.is_route(edges):
             missing = [name for name in one.edges if name not in net.roads]
-            found.leave_out("over edges that are not in the net, or not for cars" if missing else "without a route that is connected", one.units)
+            found.leave_out("over edges that are not in the net, or not for cars" if missing else "without a route that"
+                            " is connected", one.units)
         elif net.roads[edges[0]].tail == net.roads[edges[-1]].head:
             found.leave_out("that end where they begin", one.units)
         else:
@@ -122,13 +129,14 @@ def by_legs(places: Sequence[str], legs: Mapping[Leg, tuple[str, ...]]) -> tuple
 
 
 def sure_ends(vehicles: Iterable[Vehicles], ways: Ways, net: Network) -> dict[tuple[str, str], None]:
-    """The nodes where vehicles begin and end that surely have a route: whole routes, and trips between edges of a part of the net in which
-    ways lead from each edge to each other."""
+    """The nodes where vehicles begin and end that surely have a route: whole routes, and trips between edges of a part
+    of the net in which ways lead from each edge to each other."""
     parts = ways.circling()
     pairs: dict[tuple[str, str], None] = {}
     for one in vehicles:
         part = parts.get(one.edges[0]) if one.edges else None
-        if ways.is_route(one.edges) if one.whole else part is not None and all(parts.get(name) == part for name in one.edges):
+        if ways.is_route(one.edges) if one.whole else part is not None and all(parts.get(name) == part
+                                                                               for name in one.edges):
             if one.edges and net.roads[one.edges[0]].tail != net.roads[one.edges[-1]].head:
                 pairs[net.roads[one.edges[0]].tail, net.roads[one.edges[-1]].head] = None
     return pairs
@@ -162,13 +170,16 @@ def fewer_ends(inputs: Inputs, most: int) -> list[Route]:
         moved += route.units
         time += off * route.units
         made.append(Route(links, route.depart_ms, route.units))
-    inputs.notes.append(f"{len(kept)} of {len(units)} destinations are kept; {100 * moved / max(1, whole):.1f} % of the vehicles end elsewhere,"
+    inputs.notes.append(f"{len(kept)} of {len(units)} destinations are kept; {100 * moved / max(1, whole):.1f} % of the"
+                        f" vehicles end elsewhere,"
                         f" in the mean {float(time / moved) / 1000 if moved else 0:.0f} s from where they would")
     return made
 
 
-def nearer_end(ways: Ways, links: Sequence[str], kept: set[str], goals: Iterable[str]) -> tuple[tuple[str, ...], Fraction]:
-    """A route cut at the last kept node on its way, or driven on to the end of an edge, whichever is less of a change in ms."""
+def nearer_end(ways: Ways, links: Sequence[str], kept: set[str],
+               goals: Iterable[str]) -> tuple[tuple[str, ...], Fraction]:
+    """A route cut at the last kept node on its way, or driven on to the end of an edge, whichever is less of a change
+    in ms."""
     roads = ways.roads
     lost, place = Fraction(0), len(links)
     while place and roads[links[place - 1]].head not in kept:

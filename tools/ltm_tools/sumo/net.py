@@ -1,7 +1,7 @@
 """Reads a network of SUMO (`.net.xml`) and its fixed-time programs.
 
-An edge that cars may use becomes a road: its length and speed are those of its lanes. Inner edges of junctions are passed over,
-as SUMO's mesoscopic run passes over them.
+An edge that cars may use becomes a road: its length and speed are those of its lanes. Inner edges of junctions are
+passed over, as SUMO's mesoscopic run passes over them.
 """
 from __future__ import annotations
 
@@ -79,8 +79,8 @@ def opened(path: Path) -> IO[bytes]:
 
 
 def elements(path: Path, depth: int = 1) -> Iterator[ElementTree.Element]:
-    """The elements at a depth below the root, each whole, with the memory of those before given back; the root's start comes first,
-    without what is in it."""
+    """The elements at a depth below the root, each whole, with the memory of those before given back; the root's start
+    comes first, without what is in it."""
     level = 0
     root: ElementTree.Element | None = None
     try:
@@ -127,7 +127,8 @@ def whole(element: ElementTree.Element, name: str, default: int) -> int:
         return default
     found = whole_of(text.strip().removeprefix("-"))
     if found is None:
-        raise Fault(f"{element.tag} {element.get('id') or element.get('from', '')}: {name} is {shown(text)}, and a whole number is wanted")
+        raise Fault(f"{element.tag} {element.get('id') or element.get('from', '')}: {name} is {shown(text)}, and a"
+                    f" whole number is wanted")
     return -found if text.strip().startswith("-") else found
 
 
@@ -144,8 +145,8 @@ def may_use(lane: ElementTree.Element, vehicle_class: str) -> bool:
 
 
 def read_net(path: Path, *, vehicle_class: str, headway: Fraction, spacing: Fraction) -> Net:
-    """The network in a net file. A lane takes a vehicle every `headway` seconds and the time to drive `spacing` metres, and
-    stores one every `spacing` metres."""
+    """The network in a net file. A lane takes a vehicle every `headway` seconds and the time to drive `spacing` metres,
+    and stores one every `spacing` metres."""
     net = Net()
     for element in elements(path):
         if element.tag == "location":
@@ -153,22 +154,26 @@ def read_net(path: Path, *, vehicle_class: str, headway: Fraction, spacing: Frac
         elif element.tag == "edge":
             read_edge(net, element, vehicle_class, headway, spacing)
         elif element.tag == "junction" and element.get("type") != "internal":
-            x, y = (number(element, axis, f"junction {element.get('id')}") if element.get(axis) else None for axis in "xy")
-            net.network.add_node(Node(element.get("id", ""), None if x is None else float(x), None if y is None else float(y)))
+            x, y = (number(element, axis, f"junction {element.get('id')}") if element.get(axis) else None
+                    for axis in "xy")
+            net.network.add_node(Node(element.get("id", ""), None if x is None else float(x),
+                                      None if y is None else float(y)))
         elif element.tag == "connection":
             read_connection(net, element)
         elif element.tag == "tlLogic":
             read_program(net, element)
         elif element.tag not in ("net", "type", "request", "roundabout", "param", "prohibition", "junction"):
             if element.tag in ("routes", "nodes", "edges", "additional"):
-                raise Fault(f"{path}: this is no net; its root is {element.tag}. Make one by: netconvert -n NODES -e EDGES -o NET")
+                raise Fault(f"{path}: this is no net; its root is {element.tag}. Make one by: netconvert -n NODES -e"
+                            f" EDGES -o NET")
     if not net.network.roads and not net.left_out:
         raise Fault(f"{path}: no edges; a net of SUMO is wanted, as netconvert writes it")
     if not net.network.roads:
         raise Fault(f"{path}: no edge that a {vehicle_class} may use; --vehicle-class names another")
     for program in net.programs.values():
         check_letters(net, program)
-    net.connections = [way for way in net.connections if way.edge in net.network.roads and way.after in net.network.roads
+    net.connections = [way for way in net.connections if way.edge in net.network.roads
+                       and way.after in net.network.roads
                        and way.lane in net.lanes[way.edge]]
     for node in [node for node in net.network.nodes if not net.network.ins[node] and not net.network.outs[node]]:
         net.network.drop_node(node)
@@ -199,8 +204,10 @@ def read_edge(net: Net, element: ElementTree.Element, vehicle_class: str, headwa
         return leave_out(net, "without length or speed")
     net.shorter += metres < LEAST_M
     capacity = len(lanes) * 3600 / (headway + spacing / speed)
-    net.network.add(road_of(name, tail, head, metres=metres, kmh=speed * Fraction(18, 5), jam=1000 / spacing * len(lanes),
-                            capacity=capacity, kind=element.get("type") or element.get("function") or "", shape=shape_of(element)))
+    net.network.add(road_of(name, tail, head, metres=metres, kmh=speed * Fraction(18, 5),
+                            jam=1000 / spacing * len(lanes),
+                            capacity=capacity, kind=element.get("type") or element.get("function") or "",
+                            shape=shape_of(element)))
     net.lanes[name] = [whole(lane, "index", place) for place, lane in enumerate(lanes)]
 
 
@@ -221,7 +228,8 @@ def read_program(net: Net, element: ElementTree.Element) -> None:
     if element.get("programID") == "off" or not element.findall("phase"):
         return
     what = f"signal {signal}"
-    phases = tuple((nearest_ms(number(phase, "duration", what)), phase.get("state", "")) for phase in element.findall("phase"))
+    phases = tuple((nearest_ms(number(phase, "duration", what)), phase.get("state", ""))
+                   for phase in element.findall("phase"))
     if any(length < 0 for length, _ in phases):
         raise Fault(f"{what}: a phase of {min(length for length, _ in phases) / 1000:g} s; a duration is 0 or more")
     offset = nearest_ms(number(element, "offset", what)) if element.get("offset") else 0
@@ -232,13 +240,16 @@ def read_program(net: Net, element: ElementTree.Element) -> None:
 
 
 def check_letters(net: Net, program: Program) -> None:
-    """A Fault where the phases of a program have fewer letters than its signal holds ways, or not all the same number: SUMO takes none."""
+    """A Fault where the phases of a program have fewer letters than its signal holds ways, or not all the same number:
+    SUMO takes none."""
     ways, counts = net.letters.get(program.signal, 0), sorted({len(state) for _, state in program.phases})
     what = f"signal {program.signal}, program {program.name}"
     if len(counts) > 1:
-        raise Fault(f"{what}: its phases have {' and '.join(map(str, counts))} letters, and all are to have the same number, one for each way")
+        raise Fault(f"{what}: its phases have {' and '.join(map(str, counts))} letters, and all are to have the same"
+                    f" number, one for each way")
     if counts[0] < ways:
-        raise Fault(f"{what}: its phases have {counts[0]} letters, and the signal holds {ways} ways: one for each is wanted")
+        raise Fault(f"{what}: its phases have {counts[0]} letters, and the signal holds {ways} ways: one for each is"
+                    f" wanted")
 
 
 def read_programs(net: Net, path: Path) -> int:
@@ -252,7 +263,8 @@ def read_programs(net: Net, path: Path) -> int:
                 check_letters(net, program)
             count += 1
             if element.get("id") not in known:
-                raise Fault(f"{path}: signal {element.get('id')} holds no way of the net; the file belongs to another net")
+                raise Fault(f"{path}: signal {element.get('id')} holds no way of the net; the file belongs to another"
+                            f" net")
     return count
 
 

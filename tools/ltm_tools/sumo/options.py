@@ -10,7 +10,8 @@ from ..network.options import Options
 
 @dataclass(frozen=True, kw_only=True)
 class SumoOptions(Options):
-    """What is read of a net and its vehicles. Moments are in ms, as vehicles have them; names are made unless it is said otherwise."""
+    """What is read of a net and its vehicles. Moments are in ms, as vehicles have them; names are made unless it is
+    said otherwise."""
 
     rename: bool = True
     begin_ms: int | None = None
@@ -35,4 +36,5 @@ class SumoOptions(Options):
     spacing: Fraction = Fraction(15, 2)
     """Metres of a standing vehicle."""
 
-    RANGES: ClassVar[dict[str, tuple[int, int | None]]] = {"horizon": (1, None), "slice": (1, None), "demand_slice": (1, None), **Options.RANGES}
+    RANGES: ClassVar[dict[str, tuple[int, int | None]]] = {"horizon": (1, None), "slice": (1, None),
+                                                           "demand_slice": (1, None), **Options.RANGES}

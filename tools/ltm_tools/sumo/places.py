@@ -13,8 +13,8 @@ NO_PROJECTION = "!"
 
 
 def map_of(location: ElementTree.Element) -> Map:
-    """How places of a net become those of the world: what was added to them is taken off, and degrees are made of them, where its projection is
-    UTM or none. Else they stay metres of the net."""
+    """How places of a net become those of the world: what was added to them is taken off, and degrees are made of them,
+    where its projection is UTM or none. Else they stay metres of the net."""
     told = location.get("projParameter", NO_PROJECTION)
     projection = projection_of(told)
     try:

@@ -1,6 +1,8 @@
-"""Reads vehicles of SUMO (`.rou.xml`, `.trips.xml`, `.flows.xml`): their edges or their ends, when they set out, and how many.
+"""Reads vehicles of SUMO (`.rou.xml`, `.trips.xml`, `.flows.xml`): their edges or their ends, when they set out, and
+how many.
 
-A flow with a rate is spread over its time in thousandths of a vehicle; one with a number sets out as its single vehicles do.
+A flow with a rate is spread over its time in thousandths of a vehicle; one with a number sets out as its single
+vehicles do.
 """
 from __future__ import annotations
 
@@ -15,7 +17,8 @@ from ..files import shown
 from ..formats import LEAST_ABOVE_0, LONGEST_SECONDS, UNITS, count_text, exact_or_none, number_rule, whole_of
 from .net import elements
 
-NOT_ON_ROADS = {"pedestrian", "bicycle", "rail", "rail_urban", "rail_electric", "rail_fast", "tram", "subway", "ship", "aircraft", "scooter", "cable_car"}
+NOT_ON_ROADS = {"pedestrian", "bicycle", "rail", "rail_urban", "rail_electric", "rail_fast", "tram", "subway", "ship",
+                "aircraft", "scooter", "cable_car"}
 MOST_DEPARTURES = 3_000_000  # of vehicles, and of parts of flows
 RATE_PART_S = 60
 """A flow with a rate is cut into parts of so many seconds."""
@@ -23,7 +26,8 @@ RATE_PART_S = 60
 
 @dataclass(frozen=True, slots=True)
 class Vehicles:
-    """Vehicles (thousandths) that set out at a time in ms over edges; where these are not known, by way of these alone."""
+    """Vehicles (thousandths) that set out at a time in ms over edges; where these are not known, by way of these
+    alone."""
 
     edges: tuple[str, ...]
     whole: bool
@@ -46,7 +50,8 @@ class Found:
     def add(self, vehicles: Vehicles, what: str) -> None:
         """Adds vehicles that set out together; a Fault where that is too often."""
         if len(self.vehicles) >= MOST_DEPARTURES:
-            raise Fault(f"{what}: vehicles set out more than {count_text(MOST_DEPARTURES)} times, which is the most; take a part of them")
+            raise Fault(f"{what}: vehicles set out more than {count_text(MOST_DEPARTURES)} times, which is the most;"
+                        f" take a part of them")
         self.vehicles.append(vehicles)
 
     def leave_out(self, why: str, units: int) -> None:
@@ -90,7 +95,8 @@ def edges_of(element: ElementTree.Element) -> tuple[str, ...]:
 
 
 def distribution(found: Found, element: ElementTree.Element, place: str) -> list[tuple[tuple[str, ...], Fraction]]:
-    """The routes of a distribution with shares that sum to 1; that of the one that was chosen last, where that is said."""
+    """The routes of a distribution with shares that sum to 1; that of the one that was chosen last, where that is
+    said."""
     routes: list[tuple[tuple[str, ...], Fraction]] = []
     names, chances = element.get("routes", "").split(), element.get("probabilities", "").split()
     for position, name in enumerate(names):
@@ -139,7 +145,8 @@ def read_one(found: Found, element: ElementTree.Element, place: str) -> None:
                 found.add(Vehicles(edges, whole, depart, part), what)
 
 
-def ways_of(found: Found, element: ElementTree.Element, what: str) -> tuple[list[tuple[tuple[str, ...], Fraction]], bool]:
+def ways_of(found: Found, element: ElementTree.Element,
+            what: str) -> tuple[list[tuple[tuple[str, ...], Fraction]], bool]:
     """The edges with shares, and whether they are whole routes; none where its ends are no edges."""
     inner, several = element.find("route"), element.find("routeDistribution")
     if inner is not None:
@@ -198,7 +205,8 @@ def rate_of(element: ElementTree.Element, period: str, what: str) -> Fraction | 
     return exact(element.get("probability", ""), what) if element.get("probability") else None
 
 
-def end_of(element: ElementTree.Element, begin: Fraction, rate: Fraction | None, count: str | None, what: str) -> Fraction:
+def end_of(element: ElementTree.Element, begin: Fraction, rate: Fraction | None, count: str | None,
+           what: str) -> Fraction:
     """The end of a flow in seconds."""
     if element.get("end"):
         end = seconds_of(element.get("end", ""), what)
@@ -214,7 +222,8 @@ def end_of(element: ElementTree.Element, begin: Fraction, rate: Fraction | None,
 def single(begin: Fraction, end: Fraction, count: int, what: str) -> Iterator[tuple[int, int]]:
     """Single vehicles at even distances from the beginning on."""
     if count > MOST_DEPARTURES:
-        raise Fault(f"{what}: {count_text(count)} vehicles, and at most {count_text(MOST_DEPARTURES)} may set out in all")
+        raise Fault(f"{what}: {count_text(count)} vehicles, and at most {count_text(MOST_DEPARTURES)} may set out in"
+                    f" all")
     for number in range(count):
         yield int((begin + (end - begin) * number / count) * 1000), UNITS
 
@@ -255,4 +264,5 @@ def seconds_of(text: str, what: str) -> Fraction:
         seconds = sum((value * scale for value, scale in zip(reversed(values), (1, 60, 3600, 86_400))), Fraction(0))
         if abs(seconds) <= LONGEST_SECONDS:
             return seconds
-    raise Fault(f"{what}: {shown(text)} is no time; seconds, or H:M:S, are wanted, of at most {count_text(LONGEST_SECONDS)} seconds")
+    raise Fault(f"{what}: {shown(text)} is no time; seconds, or H:M:S, are wanted, of at most"
+                f" {count_text(LONGEST_SECONDS)} seconds")

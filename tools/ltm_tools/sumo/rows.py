@@ -16,8 +16,8 @@ from .options import SumoOptions
 from .signals import greens_of
 
 SLICES = (1, 2, 3, 5, 10, 15, 20, 30, 60, 120)
-"""Minutes of a slice, from which the first is taken with which the rows are not too many: of the shorter ones with which a case may have
-them without asking, else of all with which it may by asking for them."""
+"""Minutes of a slice, from which the first is taken with which the rows are not too many: of the shorter ones with
+which a case may have them without asking, else of all with which it may by asking for them."""
 LONGEST_FREE = {"demand": 15, "splits": 30}
 """The longest of these shorter ones."""
 
@@ -44,11 +44,13 @@ def case_of(made: Carried, inputs: Inputs, held: dict[str, list[Connection]], cu
 def demand_of(routes: list[Route], case: Case, inputs: Inputs, options: SumoOptions) -> list[Demand]:
     """The demand by slices, the shortest with which the rows are not too many."""
     links = {link.name: link for link in case.links}
-    trips = [Trip(links[route.links[0]].tail, links[route.links[-1]].head, route.depart_ms, route.units) for route in routes if route.links]
+    trips = [Trip(links[route.links[0]].tail, links[route.links[-1]].head, route.depart_ms, route.units)
+             for route in routes if route.links]
     fault: Fault | None = None
     for minutes, most in slices_tried("demand", options.demand_slice, MOST_DEMAND_ROWS):
         try:
-            rows, late = by_trips(trips, step_ms=case.setup.step_ms, slots=case.setup.slots, slice_slots=max(1, minutes * MINUTE_MS // case.setup.step_ms), most=most)
+            rows, late = by_trips(trips, step_ms=case.setup.step_ms, slots=case.setup.slots,
+                                  slice_slots=max(1, minutes * MINUTE_MS // case.setup.step_ms), most=most)
         except Fault as found:
             fault = found
             continue
@@ -66,25 +68,30 @@ def splits_of(routes: list[Route], case: Case, inputs: Inputs, options: SumoOpti
     most = MOST_SPLIT_ROWS
     for minutes, most in slices_tried("splits", options.slice, MOST_SPLIT_ROWS):
         if minutes not in made:
-            made[minutes] = from_routes(case.links, routes, case.demand, step_ms=case.setup.step_ms, slots=case.setup.slots,
+            made[minutes] = from_routes(case.links, routes, case.demand, step_ms=case.setup.step_ms,
+                                        slots=case.setup.slots,
                                         slice_slots=max(1, minutes * MINUTE_MS // case.setup.step_ms))
         rows, cuts = made[minutes]
         if len(rows) <= most:
-            inputs.notes += [f"{len(rows)} rows of splits in slices of {minutes} minutes, of at most {most}", *cuts.lines()]
+            inputs.notes += [f"{len(rows)} rows of splits in slices of {minutes} minutes, of at most {most}",
+                             *cuts.lines()]
             if circles(case.links, rows):
                 raise Fault("a destination has a circle, which is a fault of this tool")
             return rows
-    raise Fault(f"{len(rows)} rows of splits, and at most {most} may be; give a longer --slice, or fewer --destinations")
+    raise Fault(f"{len(rows)} rows of splits, and at most {most} may be; give a longer --slice, or fewer"
+                " --destinations")
 
 
 def slices_tried(what: str, asked: int | None, most: int) -> list[tuple[int, int]]:
-    """The minutes of slices to try, in order, and how many rows there may be with each: without asking, and by asking for more."""
+    """The minutes of slices to try, in order, and how many rows there may be with each: without asking, and by asking
+    for more."""
     sizes = (asked,) if asked else tuple(size for size in SLICES if what == "demand" or size >= 15)
     free = [size for size in sizes if asked or size <= LONGEST_FREE[what]]
     return [*((size, most) for size in free), *((size, MOST_ROWS_ASKED) for size in sizes)]
 
 
-def signals_of(made: Carried, inputs: Inputs, held: dict[str, list[Connection]], cut: Cut, case: Case, options: SumoOptions) -> list[Limit]:
+def signals_of(made: Carried, inputs: Inputs, held: dict[str, list[Connection]], cut: Cut, case: Case,
+               options: SumoOptions) -> list[Limit]:
     """The exit limits of edges with signals, by the shares of their turns in the routes."""
     turns: dict[str, dict[str, int]] = {}
     for route in inputs.turns_before or inputs.routes:
@@ -96,16 +103,20 @@ def signals_of(made: Carried, inputs: Inputs, held: dict[str, list[Connection]],
     by_turn = 0
     links = {link.name: link for link in case.links}
     for edge, ways in held.items():
-        greens = greens_of(inputs.net, ways, turns.get(edge, {}), inputs.begin_ms, len(inputs.net.lanes[edge]), options.yellow)
+        greens = greens_of(inputs.net, ways, turns.get(edge, {}), inputs.begin_ms, len(inputs.net.lanes[edge]),
+                           options.yellow)
         name = made.source.links[cut.exits.get(edge, edge)].link
         if greens and name is not None:
             by_turn += len({(green.from_ms, green.to_ms) for green in greens}) > 1
             plan = Plan(name, greens, 0, case.setup.horizon_ms)
-            limits += exit_limits(plan, capacity=links[name].capacity(case.setup.step_ms), step_ms=case.setup.step_ms, slots=case.setup.slots)
+            limits += exit_limits(plan, capacity=links[name].capacity(case.setup.step_ms), step_ms=case.setup.step_ms,
+                                  slots=case.setup.slots)
     if limits:
         kinds = sorted(set(inputs.net.not_fixed.values()))
-        inputs.notes.append(f"{len(limits)} records of signals, of {len({limit.link for limit in limits})} links; on {by_turn} of them turns have greens"
+        inputs.notes.append(f"{len(limits)} records of signals, of {len({limit.link for limit in limits})} links; on"
+                            f" {by_turn} of them turns have greens"
                             " of their own, and a link's limit is theirs by the share of each turn in the routes")
         if kinds:
-            inputs.notes.append(f"{len(inputs.net.not_fixed)} programs are {' or '.join(kinds)} and not of fixed times; the times of their phases are taken as fixed")
+            inputs.notes.append(f"{len(inputs.net.not_fixed)} programs are {' or '.join(kinds)} and not of fixed times;"
+                                f" the times of their phases are taken as fixed")
     return limits

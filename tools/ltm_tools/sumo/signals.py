@@ -1,7 +1,8 @@
 """Fixed-time programs of SUMO as greens of edges.
 
-A program has a letter for each way from a lane onto an edge. A link of a case has one exit, so its green at a moment is the share
-of its vehicles that may go then; where the lanes of an edge are used unevenly, that much less passes in a cycle.
+A program has a letter for each way from a lane onto an edge. A link of a case has one exit, so its green at a moment is
+the share of its vehicles that may go then; where the lanes of an edge are used unevenly, that much less passes in a
+cycle.
 """
 from __future__ import annotations
 
@@ -44,8 +45,8 @@ def signal_edges(net: Net) -> dict[str, list[Connection]]:
 
 
 def shares_of(ways: Iterable[Connection], turns: Mapping[str, int]) -> dict[Connection, Fraction]:
-    """The share of an edge's vehicles on each way: by counted turns, else evenly; the vehicles of a turn take the lanes with least
-    on them, turns with fewest lanes first."""
+    """The share of an edge's vehicles on each way: by counted turns, else evenly; the vehicles of a turn take the lanes
+    with least on them, turns with fewest lanes first."""
     listed = list(ways)
     counted = {after: Fraction(turns.get(after, 0)) for after in {way.after for way in listed}}
     if not sum(counted.values()):
@@ -71,7 +72,8 @@ def filled(amount: Fraction, loads: dict[int, Fraction]) -> dict[int, Fraction]:
     return {lane: Fraction(0) for lane in order}
 
 
-def greens_of(net: Net, ways: list[Connection], turns: Mapping[str, int], begin_ms: int, lanes: int, yellow: bool) -> tuple[Green, ...]:
+def greens_of(net: Net, ways: list[Connection], turns: Mapping[str, int], begin_ms: int, lanes: int,
+              yellow: bool) -> tuple[Green, ...]:
     """The greens of an edge by the share of each way; none where it is always green."""
     shares = shares_of(ways, turns)
     spans: dict[Connection, list[tuple[int, int]]] = {}
@@ -92,13 +94,16 @@ def greens_of(net: Net, ways: list[Connection], turns: Mapping[str, int], begin_
     return tuple(Green(cycle, start, end, offset, share) for (start, end), share in merged.items() if share)
 
 
-def lane_factor(shares: Mapping[Connection, Fraction], spans: Mapping[Connection, list[tuple[int, int]]], cycle: int, lanes: int) -> Fraction:
-    """By how much less passes in a cycle than the greens by share let, as the first lane to be full holds the others back."""
+def lane_factor(shares: Mapping[Connection, Fraction], spans: Mapping[Connection, list[tuple[int, int]]], cycle: int,
+                lanes: int) -> Fraction:
+    """By how much less passes in a cycle than the greens by share let, as the first lane to be full holds the others
+    back."""
     green = {way: Fraction(sum(end - start for start, end in some), cycle) for way, some in spans.items()}
     by_share = sum((shares[way] * green[way] for way in shares), Fraction(0))
     passing: list[Fraction] = []
     for lane in {way.lane for way in shares}:
         load = sum((shares[way] for way in shares if way.lane == lane), Fraction(0))
         if load:
-            passing.append(sum((shares[way] * green[way] for way in shares if way.lane == lane), Fraction(0)) / load / lanes / load)
+            passing.append(sum((shares[way] * green[way] for way in shares if way.lane == lane), Fraction(0)) / load
+                           / lanes / load)
     return min(Fraction(1), min(passing) / by_share) if by_share else Fraction(1)

@@ -1,7 +1,7 @@
 """Ways over a net of SUMO: whether edges are a route, and the least routes between edges by the turns that are allowed.
 
-Of least routes that take the same time that one is taken which, from its beginning on, has the edge of the least name. Times are whole
-numbers in parts of a millisecond, so that they are compared exactly.
+Of least routes that take the same time that one is taken which, from its beginning on, has the edge of the least name.
+Times are whole numbers in parts of a millisecond, so that they are compared exactly.
 """
 from __future__ import annotations
 
@@ -17,7 +17,8 @@ Leg = tuple[str, str]
 
 
 class Ways:
-    """The turns that are allowed in a net; all turns where the net says none. Edges have numbers in the order of their names."""
+    """The turns that are allowed in a net; all turns where the net says none. Edges have numbers in the order of their
+    names."""
 
     def __init__(self, net: Net) -> None:
         self.roads = net.network.roads
@@ -30,7 +31,8 @@ class Ways:
         self.after: list[list[int]] = [[] for _ in self.names]
         pairs = {(self.number[way.edge], self.number[way.after]) for way in net.connections}
         if not pairs:
-            pairs = {(self.number[name], self.number[after]) for name, road in self.roads.items() for after in net.network.outs[road.head]}
+            pairs = {(self.number[name], self.number[after]) for name, road in self.roads.items()
+                     for after in net.network.outs[road.head]}
         for edge, after in sorted(pairs):
             self.before[after].append(edge)
             self.after[edge].append(after)
@@ -42,14 +44,15 @@ class Ways:
             self.roads[name].head == self.roads[after].tail for name, after in zip(edges, edges[1:]))
 
     def circling(self) -> dict[str, int]:
-        """Of each edge from which a way leads back to it the number of its part: from each edge of a part ways lead to all others of it."""
+        """Of each edge from which a way leads back to it the number of its part: from each edge of a part ways lead to
+        all others of it."""
         names = [str(number) for number in range(len(self.names))]
         found = strong_parts(names, {name: [names[after] for after in self.after[int(name)]] for name in names})
         return {self.names[int(name)]: part for part, of_part in enumerate(found) for name in of_part}
 
     def legs(self, wanted: Iterable[Leg]) -> dict[Leg, tuple[str, ...]]:
-        """The least routes between these pairs of edges, both ends included, of those that have one; by one search for each edge where some
-        begin, or for each where some end, whichever are fewer."""
+        """The least routes between these pairs of edges, both ends included, of those that have one; by one search for
+        each edge where some begin, or for each where some end, whichever are fewer."""
         pairs = list(dict.fromkeys((self.number[start], self.number[end]) for start, end in wanted))
         starts, ends = {start for start, _ in pairs}, {end for _, end in pairs}
         onward = len(starts) < len(ends)
@@ -66,8 +69,8 @@ class Ways:
         return found
 
     def search(self, root: int, following: Sequence[Sequence[int]], goals: Iterable[int]) -> dict[int, int]:
-        """The least times between an edge and others, in the direction of `following`, that of both with them; all those that lie no farther
-        than the goals, or all that there are without goals."""
+        """The least times between an edge and others, in the direction of `following`, that of both with them; all
+        those that lie no farther than the goals, or all that there are without goals."""
         left = set(goals)
         every, times, least = not left, self.times, {root: self.times[root]}
         found: dict[int, int] = {}
@@ -94,7 +97,8 @@ class Ways:
         return route
 
     def onward(self, start: int, end: int, times: Mapping[int, int]) -> list[int]:
-        """The same, by the times from the beginning of the first to the end of each: of the edges by which a least route comes."""
+        """The same, by the times from the beginning of the first to the end of each: of the edges by which a least
+        route comes."""
         coming, queue = {end}, [end]
         while queue:
             number = queue.pop()
@@ -105,18 +109,21 @@ class Ways:
         route = [start]
         while route[-1] != end:
             at = times[route[-1]]
-            route.append(next(number for number in self.after[route[-1]] if number in coming and at + self.times[number] == times[number]))
+            route.append(next(number for number in self.after[route[-1]] if number in coming
+                              and at + self.times[number] == times[number]))
         return route
 
     def gain(self, start: str, end: str) -> Fraction | None:
-        """The least time in ms to drive on from the end of an edge to the end of another; none where no way leads there."""
+        """The least time in ms to drive on from the end of an edge to the end of another; none where no way leads
+        there."""
         time = self.times_to(end).get(self.number[start])
         return None if time is None else Fraction(time - self.times[self.number[start]], self.parts)
 
     def leg(self, start: str, end: str) -> list[str]:
         """The least route between two edges, both included."""
         times = self.times_to(end)
-        return [self.names[number] for number in self.back(self.number[start], self.number[end], times)] if self.number[start] in times else []
+        return [self.names[number] for number in self.back(self.number[start], self.number[end],
+                                                           times)] if self.number[start] in times else []
 
     def times_to(self, end: str) -> dict[int, int]:
         """The least times from the beginning of each edge to the end of one, kept for the next call."""

@@ -1,4 +1,5 @@
-"""Scenarios on a cluster of Dask: each worker keeps a session of the case open, and a lost worker's scenarios run again elsewhere."""
+"""Scenarios on a cluster of Dask: each worker keeps a session of the case open, and a lost worker's scenarios run again
+elsewhere."""
 from __future__ import annotations
 
 import asyncio
@@ -20,7 +21,8 @@ from ..program import find_program
 from .scenarios import Row, Runner, Scenario
 
 PACKAGE = Path(__file__).resolve().parents[1]
-TRIES = 3  # how often a piece is run again where it went wrong, as without memory; where its worker is lost the scheduler does so
+# how often a piece is run again where it went wrong, as without memory; where its worker is lost the scheduler does so
+TRIES = 3
 QUIET = ("asyncio", "distributed.client")  # loggers
 
 Place = tuple[str, str, int]  # a case with what is asked of it; the program, and when it was written
@@ -33,18 +35,22 @@ _lock = threading.Lock()
 def case_bytes(folder: str) -> dict[str, bytes]:
     """The files of a case."""
     setup = Case.read(folder).setup
-    files = ["setup", "links", "demand", "splits", *(["signals"] if setup.signals else []), *(["limits"] if setup.limits else [])]
+    files = ["setup", "links", "demand", "splits", *(["signals"] if setup.signals else []),
+             *(["limits"] if setup.limits else [])]
     return {file: fetch(folder, file) for file in files}
 
 
 def keep(files: dict[str, bytes]) -> dict[str, bytes]:
-    """The files of the case, as a worker gets them: a task, so that they are sent again where the worker that has them is lost."""
+    """The files of the case, as a worker gets them: a task, so that they are sent again where the worker that has them
+    is lost."""
     return files
 
 
-def run_piece(piece: Sequence[tuple[int, str, list[list[dict[str, object]]]]], files: dict[str, bytes], key: str, program: str, links: Sequence[str],
+def run_piece(piece: Sequence[tuple[int, str, list[list[dict[str, object]]]]], files: dict[str, bytes], key: str,
+              program: str, links: Sequence[str],
               delay: bool) -> list[Row]:
-    """In a worker: the rows of results of a piece, by the session that is open there. Whatever is wrong is a plain Fault, which can be sent."""
+    """In a worker: the rows of results of a piece, by the session that is open there. Whatever is wrong is a plain
+    Fault, which can be sent."""
     try:
         runner = runner_of(files, key, program, links, delay)
         return [runner.run(Scenario(*scenario)) for scenario in piece]
@@ -52,7 +58,8 @@ def run_piece(piece: Sequence[tuple[int, str, list[list[dict[str, object]]]]], f
         end_session()  # the next piece opens one anew
         if not isinstance(error, Exception):
             raise
-        raise Fault(str(error) if isinstance(error, Fault) else f"a worker failed: {type(error).__name__}: {error}") from None
+        raise Fault(str(error) if isinstance(error, Fault)
+                    else f"a worker failed: {type(error).__name__}: {error}") from None
 
 
 def runner_of(files: dict[str, bytes], key: str, program: str, links: Sequence[str], delay: bool) -> Runner:
@@ -96,7 +103,8 @@ def package_zip(folder: str) -> str:
     return path
 
 
-def there(address: str, folder: str, named: str | None, links: Sequence[str], delay: bool, pieces: Sequence[Sequence[Scenario]]) -> Iterator[list[Row]]:
+def there(address: str, folder: str, named: str | None, links: Sequence[str], delay: bool,
+          pieces: Sequence[Sequence[Scenario]]) -> Iterator[list[Row]]:
     """The rows of results of each piece, in order, by the workers of a cluster."""
     import distributed
 
@@ -110,7 +118,8 @@ def there(address: str, folder: str, named: str | None, links: Sequence[str], de
             program = str(find_program(named))
         except Fault:
             program = named or ""
-        futures = [client.submit(run_piece, [tuple(scenario) for scenario in piece], held, key, program, list(links), delay, pure=False, retries=TRIES, priority=-place)
+        futures = [client.submit(run_piece, [tuple(scenario) for scenario in piece], held, key, program, list(links),
+                                 delay, pure=False, retries=TRIES, priority=-place)
                    for place, piece in enumerate(pieces)]
         for future in futures:
             try:
@@ -131,4 +140,5 @@ def client_of(library: Any, address: str) -> Any:
         library.comm.resolve_address(address)
         return library.Client(address, timeout=10, set_as_default=False)
     except (OSError, ValueError, asyncio.TimeoutError) as error:
-        raise Fault(f"the scheduler {address} does not answer: {(str(error).splitlines() or ['it took too long'])[0]}") from None
+        why = (str(error).splitlines() or ["it took too long"])[0]
+        raise Fault(f"the scheduler {address} does not answer: {why}") from None

@@ -1,6 +1,8 @@
-"""Scenarios: lines of a file, each with batches of edits, and a runner that has a session answer them one after another.
+"""Scenarios: lines of a file, each with batches of edits, and a runner that has a session answer them one after
+another.
 
-A line is a JSON object with `batches`, an array of arrays of edits as a script has them, or `edits`, one batch; it may have a `name`.
+A line is a JSON object with `batches`, an array of arrays of edits as a script has them, or `edits`, one batch; it may
+have a `name`.
 """
 from __future__ import annotations
 
@@ -56,7 +58,8 @@ def scenario_of(line: str, number: int, place: str) -> Scenario:
     if not isinstance(told, dict) or ("batches" in told) == ("edits" in told):
         raise Fault(f"{place}: a scenario is an object with `batches`, or with `edits`, and a `name` or none")
     batches = told["batches"] if "batches" in told else [told["edits"]]
-    fits = isinstance(batches, list) and all(isinstance(batch, list) and all(isinstance(edit, dict) for edit in batch) for batch in batches)
+    fits = isinstance(batches, list) and all(isinstance(batch, list) and all(isinstance(edit, dict) for edit in batch)
+                                             for batch in batches)
     if not fits or not all(1 <= len(batch) <= MOST_EDITS for batch in batches):
         raise Fault(f"{place}: `batches` is an array of batches, and a batch an array of 1 to {MOST_EDITS} edits")
     name = str(told.get("name", ""))
@@ -72,7 +75,8 @@ def scenario_of(line: str, number: int, place: str) -> Scenario:
 
 def header(links: Sequence[str], delay: bool = False) -> Row:
     """The fields of a row of results, with vehicle times or not."""
-    return ["line", "name", "status", *TOTALS, *(TIMES if delay else ()), *(f"{word}:{link}" for link in links for word in ("in", "out"))]
+    return ["line", "name", "status", *TOTALS, *(TIMES if delay else ()),
+            *(f"{word}:{link}" for link in links for word in ("in", "out"))]
 
 
 def remaining(row: Row) -> Remaining | None:
@@ -82,11 +86,13 @@ def remaining(row: Row) -> Remaining | None:
 
 
 class Runner:
-    """A session of a case that answers scenarios one after another, each from the case as its files have it. `links` are names of the case."""
+    """A session of a case that answers scenarios one after another, each from the case as its files have it. `links`
+    are names of the case."""
 
     MOST_ASKED = MOST_LINES  # lines that a session takes
 
-    def __init__(self, folder: str | os.PathLike[str], program: str | os.PathLike[str] | None, links: Sequence[str] = (), delay: bool = False) -> None:
+    def __init__(self, folder: str | os.PathLike[str], program: str | os.PathLike[str] | None,
+                 links: Sequence[str] = (), delay: bool = False) -> None:
         self.folder, self.program, self.links, self.delay = folder, program, list(links), delay
         self.taking = Taking(Case.read(folder))
         self.session: Session | None = None
@@ -95,10 +101,13 @@ class Runner:
         self.stopped = False
 
     def run(self, scenario: Scenario) -> Row:
-        """The row of results of a scenario. Where that takes more lines than a session, or its session ends, the row says so."""
+        """The row of results of a scenario. Where that takes more lines than a session, or its session ends, the row
+        says so."""
         lines = 1 + len(scenario.batches) + 2 + self.delay + len(self.links)
         if lines > self.MOST_ASKED:
-            return self.without(scenario, f"{FAILED}it takes {count_text(lines)} lines of a session, which takes {count_text(self.MOST_ASKED)}")
+            return self.without(scenario,
+                                f"{FAILED}it takes {count_text(lines)} lines of a session, which takes"
+                                f" {count_text(self.MOST_ASKED)}")
         for tries in range(TRIES, 0, -1):
             session = self.fresh(lines)
             try:
@@ -133,9 +142,11 @@ class Runner:
         return [str(scenario.number), scenario.name, status] + [""] * (len(header(self.links, self.delay)) - 3)
 
     def fresh(self, lines: int) -> Session:
-        """The session with the case's own scenario, and room for so many lines: as the one before was taken back, or opened anew."""
+        """The session with the case's own scenario, and room for so many lines: as the one before was taken back, or
+        opened anew."""
         back = self.taking.back(self.made)
-        if self.session is not None and (back is None or self.asked + len(back) + lines > self.MOST_ASKED or not self.take_back(back)):
+        if self.session is not None and (back is None or self.asked + len(back) + lines > self.MOST_ASKED
+                                         or not self.take_back(back)):
             self.close()
         if self.session is None:
             if self.stopped:

@@ -13,7 +13,8 @@ class Taking:
 
     def __init__(self, case: Case) -> None:
         self.slots = case.setup.slots
-        self.demand = {(row.origin, row.destination, row.from_slot, row.to_slot): row.units for row in case.standing_demand()}
+        self.demand = {(row.origin, row.destination, row.from_slot, row.to_slot): row.units
+                       for row in case.standing_demand()}
         self.splits: dict[tuple[str, str], dict[int, dict[str, int]]] = {}
         for row in case.standing_splits():
             self.splits.setdefault((row.node, row.destination), {})[row.from_slot] = row.weights
@@ -22,22 +23,26 @@ class Taking:
         self.limits = {"limit": rows_by_link(case.limits), "exit": rows_by_link(case.signals)}
 
     def back(self, made: Iterable[Edit]) -> list[Edit] | None:
-        """Edits after which the session's loading is that of the case again, where these were made; None where no edits do that: the
-        horizon never falls, a new destination stays, and the first split rows of a node for a destination too. Rows of demand that go come
-        before those that come back, so that there are never more than may be."""
+        """Edits after which the session's loading is that of the case again, where these were made; None where no edits
+        do that: the horizon never falls, a new destination stays, and the first split rows of a node for a destination
+        too. Rows of demand that go come before those that come back, so that there are never more than may be."""
         found: dict[object, Edit] = {}
         for edit in made:
             kind = edit["kind"]
             if kind in ("limit", "exit"):
-                for one in self.limits_again(str(kind), str(edit["link"]), edit["from"], edit["to"]):  # type: ignore[arg-type]
+                # type: ignore[arg-type]
+                for one in self.limits_again(str(kind), str(edit["link"]), edit["from"], edit["to"]):
                     found[kind, edit["link"], one["from"], one["to"]] = one
             elif kind == "diagram":
                 link = self.links[str(edit["link"])]
-                found[kind, link.name] = edits.diagram(link.name, link.length_m, link.free_kmh, link.wave_kmh, link.jam_per_km)
+                found[kind, link.name] = edits.diagram(link.name, link.length_m, link.free_kmh, link.wave_kmh,
+                                                       link.jam_per_km)
             elif kind == "demand" and edit["destination"] in self.destinations:
                 key = (edit["origin"], edit["destination"], edit["from"], edit["to"])
                 found[kind, key] = edits.demand(*key, self.demand.get(key, 0))  # type: ignore[arg-type]
-            elif kind in ("split", "splits") and (rows := self.splits.get((str(edit["node"]), str(edit["destination"])))) is not None:
+            elif kind in ("split",
+                          "splits") and (rows := self.splits.get((str(edit["node"]),
+                                                                  str(edit["destination"])))) is not None:
                 one = split_again(edit, rows)
                 found[one["kind"], one["node"], one["destination"], one.get("from")] = one
             else:
@@ -60,7 +65,8 @@ class Taking:
 
 
 def split_again(edit: Edit, rows: Mapping[int, Mapping[str, int]]) -> Edit:
-    """What sets the split rows of a node for a destination to these again: the one that was set, where it is of these, and else all."""
+    """What sets the split rows of a node for a destination to these again: the one that was set, where it is of these,
+    and else all."""
     node, destination, slot = str(edit["node"]), str(edit["destination"]), edit.get("from")
     if isinstance(slot, int) and slot in rows:
         return edits.split(node, destination, slot, rows[slot])
