@@ -94,7 +94,7 @@ def encoding_of(source: IO[bytes], encoding: str | None, path: str | os.PathLike
 def first_wrong(source: IO[bytes], encoding: str) -> int | None:
     """The first byte that is no text in an encoding, None where all are; the bytes can then be read from their
     beginning."""
-    done = 0
+    done, before = 0, b""
     try:
         "a".encode(encoding)  # which is refused where an encoding is none of text
         decoder = codecs.getincrementaldecoder(encoding)("strict")

@@ -30,8 +30,8 @@ class Taking:
         for edit in made:
             kind = edit["kind"]
             if kind in ("limit", "exit"):
-                # type: ignore[arg-type]
-                for one in self.limits_again(str(kind), str(edit["link"]), edit["from"], edit["to"]):
+                name, begin, end = str(edit["link"]), edit["from"], edit["to"]
+                for one in self.limits_again(str(kind), name, begin, end):  # type: ignore[arg-type]
                     found[kind, edit["link"], one["from"], one["to"]] = one
             elif kind == "diagram":
                 link = self.links[str(edit["link"])]
