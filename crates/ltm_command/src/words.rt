@@ -1,5 +1,5 @@
 //! The words of the command line.
-ghost use Rattle.std.specs.Prelude.{◌≡◌, ◌≤◌, ◌<◌, ◌^◌, ℕ, List, map, string_bytes, option_map, codes, IfSome, Some, None};
+ghost use Rattle.std.specs.Prelude.{◌≡◌, ◌≤◌, ◌<◌, ℕ, List, map, string_bytes, option_map, codes, IfSome, Some, None};
 ghost use Rattle.ltm_try_command.specs.Words.{start_of, nodes_of};
 ghost use Rattle.ltm_command.specs.declared.words.Command.{Command};
 ghost use Rattle.ltm_command.specs.Words as says;

@@ -1,5 +1,5 @@
 //! Curves with one destination, with two and with several, told apart once for many totals.
-ghost use Rattle.std.specs.Prelude.{◌≡◌, ◌==◌, ℕ, ◌^◌, ◌<◌, ◌≤◌, IsTrue};
+ghost use Rattle.std.specs.Prelude.{◌≡◌, ◌==◌, ℕ, ◌<◌, ◌≤◌, IsTrue};
 ghost use Rattle.ltm_curve.specs.Table.{groups_of, slots_of, destinations_of, total_of};
 ghost use Rattle.ltm_curve.specs.Totals.{most_total};
 

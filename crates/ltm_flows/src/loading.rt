@@ -1,5 +1,5 @@
 //! A finished loading, as others read it.
-ghost use Rattle.std.specs.Prelude.{◌≡◌, ◌≤◌, ◌<◌, ◌+◌, ◌*◌, ◌^◌, ℕ, length, IfOk, OnOk};
+ghost use Rattle.std.specs.Prelude.{◌≡◌, ◌≤◌, ◌<◌, ◌+◌, ◌*◌, ℕ, length, IfOk, OnOk};
 ghost use Rattle.ltm_curve.specs.Cells.{HasCells};
 ghost use Rattle.ltm_curve.specs.Counts.{Counts};
 ghost use Rattle.ltm_curve.specs.Table.{counts_of};

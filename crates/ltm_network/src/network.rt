@@ -1,5 +1,5 @@
 //! The network.
-ghost use Rattle.std.specs.Prelude.{◌≡◌, ◌≢◌, ℕ, ◌+◌, ◌<◌, ◌≤◌, ◌^◌, List, [], ◌∷◌, ◌++◌, length, map, All, Contains, IsNone, ◌↔◌, take, OnOk, OnErr, IfOk, IfErr, IfSome, Ok, Err, None, vec_len, vec_capacity};
+ghost use Rattle.std.specs.Prelude.{◌≡◌, ◌≢◌, ℕ, ◌+◌, ◌<◌, ◌≤◌, List, [], ◌∷◌, ◌++◌, length, map, All, Contains, IsNone, ◌↔◌, take, OnOk, OnErr, IfOk, IfErr, IfSome, Ok, Err, None, vec_len, vec_capacity};
 ghost use Rattle.ltm_units.specs.Bounds as bounds;
 
 use crate::ends::Ends;

@@ -1,5 +1,5 @@
 //! The nodes of a network: their names, and which links leave and enter each.
-ghost use Rattle.std.specs.Prelude.{◌≡◌, ℕ, ◌+◌, ◌<◌, ◌≤◌, ◌^◌, List, [], ◌∷◌, ◌++◌, length, map, slice_get, slice_index_or, slice_set, take, Some, OnOk, OnErr, IfOk, vec_len, vec_capacity};
+ghost use Rattle.std.specs.Prelude.{◌≡◌, ℕ, ◌+◌, ◌<◌, ◌≤◌, List, [], ◌∷◌, ◌++◌, length, map, slice_get, slice_index_or, slice_set, take, Some, OnOk, OnErr, IfOk, vec_len, vec_capacity};
 ghost use Rattle.ltm_network.specs.Names.{place_of, with_name, number_of};
 ghost use Rattle.ltm_units.specs.Bounds.{most_nodes};
 

@@ -1,5 +1,5 @@
 //! The counts that a node step gives.
-ghost use Rattle.std.specs.Prelude.{◌≡◌, ℕ, ◌<◌, ◌≤◌, ◌*◌, ◌+◌, ◌^◌, max, take, drop, length, IfOk, IsTrue, slice_index};
+ghost use Rattle.std.specs.Prelude.{◌≡◌, ℕ, ◌<◌, ◌≤◌, ◌*◌, ◌+◌, max, take, drop, length, IfOk, IsTrue, slice_index};
 ghost use Rattle.ltm_node.specs.Shape.{counts_width, no_shape};
 ghost use Rattle.ltm_node.specs.Outputs.{
   cleared_outputs,

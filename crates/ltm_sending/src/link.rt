@@ -1,5 +1,5 @@
 //! What a link sends and what it can take.
-ghost use Rattle.std.specs.Prelude.{◌≡◌, ℕ, ◌+◌, ◌*◌, ◌^◌, ◌≤◌, length, slice_index};
+ghost use Rattle.std.specs.Prelude.{◌≡◌, ℕ, ◌+◌, ◌*◌, ◌≤◌, length, slice_index};
 ghost use Rattle.ltm_curve.specs.Table.{destinations_of, counts_of};
 ghost use Rattle.ltm_loading.specs.Flows.{position, link_sending, receiving};
 ghost use Rattle.ltm_setting.specs.Setting.{setting_of};

@@ -1,5 +1,5 @@
 //! The lines that editors write.
-ghost use Rattle.std.specs.Prelude.{◌≡◌, ◌++◌, ◌+◌, ◌≤◌, ◌<◌, ◌^◌, IfOk, OnOk, length, codes};
+ghost use Rattle.std.specs.Prelude.{◌≡◌, ◌++◌, ◌+◌, ◌≤◌, ◌<◌, IfOk, OnOk, length, codes};
 ghost use Rattle.ltm_units.specs.Texts.{number_piece};
 ghost use Rattle.ltm_report.specs.Pieces.{newline};
 ghost use Rattle.ltm_session_editors.specs.Lines.{place_piece, verdict_line, call_line, call_lines, cause_words, long_edits_line, bad_script_line};

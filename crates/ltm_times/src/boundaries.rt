@@ -1,5 +1,5 @@
 //! The first moment at which a curve has so many units.
-ghost use Rattle.std.specs.Prelude.{◌≡◌, ◌↔◌, ℕ, ◌+◌, ◌-◌, ◌*◌, ◌/◌, ◌<◌, ◌≤◌, ◌^◌, None, option_map};
+ghost use Rattle.std.specs.Prelude.{◌≡◌, ◌↔◌, ℕ, ◌+◌, ◌-◌, ◌*◌, ◌/◌, ◌<◌, ◌≤◌, None, option_map};
 ghost use Rattle.ltm_curve.specs.Counts.{Rises};
 ghost use Rattle.ltm_curve.specs.TotalCurves.{total_groups, total_slots, total_at};
 ghost use Rattle.ltm_curve.specs.Totals.{most_total};

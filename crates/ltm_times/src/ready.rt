@@ -1,5 +1,5 @@
 //! Who could have left a link by a boundary, and who stands in its queue.
-ghost use Rattle.std.specs.Prelude.{◌≡◌, ◌+◌, ◌-◌, ◌*◌, ◌<◌, ◌≤◌, ◌^◌};
+ghost use Rattle.std.specs.Prelude.{◌≡◌, ◌+◌, ◌-◌, ◌*◌, ◌<◌, ◌≤◌};
 ghost use Rattle.ltm_curve.specs.Counts.{Rises, interpolated};
 ghost use Rattle.ltm_curve.specs.TotalCurves.{total_groups, total_slots, total_at};
 ghost use Rattle.ltm_curve.specs.Totals.{most_total};

@@ -1,5 +1,5 @@
 //! Totals over all destinations.
-ghost use Rattle.std.specs.Prelude.{◌≡◌, ◌^◌, ◌<◌, ◌≤◌};
+ghost use Rattle.std.specs.Prelude.{◌≡◌, ◌<◌, ◌≤◌};
 ghost use Rattle.ltm_curve.specs.Totals.{most_total};
 
 use super::Curves;

@@ -1,5 +1,5 @@
 //! What a finished loading tells of origins, links and all together, at a boundary or at the last one.
-ghost use Rattle.std.specs.Prelude.{◌≡◌, ◌≤◌, ◌<◌, ◌^◌, ℕ};
+ghost use Rattle.std.specs.Prelude.{◌≡◌, ◌≤◌, ◌<◌, ℕ};
 ghost use Rattle.ltm_curve.specs.Counts.{Counts};
 ghost use Rattle.ltm_curve.specs.Totals.{most_total};
 ghost use Rattle.ltm_loading.specs.Setting.{Setting};
