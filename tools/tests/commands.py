@@ -2,8 +2,6 @@
 import contextlib
 import io
 
-from support import FolderTest  # noqa: F401  (its module puts the package on the path)
-
 from ltm_tools import cli
 
 

@@ -2,8 +2,6 @@
 import unittest
 from fractions import Fraction
 
-from support import FolderTest  # noqa: F401  (puts the package on the path)
-
 from test_fit import network, road
 
 from ltm_tools.network.balance import MOST_SHARE, Used, balance

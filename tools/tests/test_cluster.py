@@ -56,7 +56,7 @@ class ClusterTest(SweepTest):
                    for name in map("w{}".format, range(count))]
         return address, scheduler, workers
 
-    def words(self, scenarios: str, address: str, program: str, case: "Path | None" = None) -> list[str]:
+    def words(self, scenarios: str, address: str, program: str, case: Path | None = None) -> list[str]:
         """The words of a sweep; its rows go to a file, of which an older one is taken away."""
         (self.folder / "rows.csv").unlink(missing_ok=True)
         return ["sweep", str(case or self.case(**WITH_LIMITS)), scenarios, "--scheduler", address, "--program", program,

@@ -4,6 +4,7 @@ from unittest import mock
 
 from support import FolderTest
 from test_curves import LOADING
+from ltm_tools import libraries
 from ltm_tools.errors import Fault
 from ltm_tools.loading import counts as module
 from ltm_tools.loading.curves import Curves
@@ -42,9 +43,7 @@ class Reading(FolderTest):
             self.both_ways(LOADING.replace("down,a", "up,a"))
 
     def test_pandas(self) -> None:
-        try:
-            import pandas  # noqa: F401
-        except ImportError:
+        if libraries.missing(["pandas"]):
             self.skipTest("pandas is not there: python3-pandas")
         curves = Curves.of_case(self.case(curves=MORE))
         frame = curves.to_pandas(["up", "arr"])

@@ -3,8 +3,6 @@ second."""
 import unittest
 from fractions import Fraction
 
-from support import FolderTest  # noqa: F401  (puts the package on the path)
-
 from ltm_tools.network.fit import Fit
 from ltm_tools.network.importing import source_of
 from ltm_tools.network.names import names_for

@@ -136,11 +136,11 @@ class Gmns(GmnsTest):
     def test_nodes_without_a_place(self) -> None:
         links = LINK + "a,1,2,1000,1,60,1,\nb,2,3,1000,1,60,1,\n"
         self.net(links)
-        status, out, _ = self.make()
+        _, out, _ = self.make()
         self.assertNotIn("nodes.csv", out)
         self.assertFalse((self.folder / "case" / "nodes.csv").exists())
         self.net(links, NODE.replace("2,13.41,52.51", "2,,"))
-        status, out, _ = self.make()
+        _, out, _ = self.make()
         self.assertIn("nodes.csv is not written, as nodes have no place: 2\n", out)
         self.assertFalse((self.folder / "case" / "nodes.csv").exists())
         (self.folder / "case" / "nodes.csv").write_text(NODES)

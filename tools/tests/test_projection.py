@@ -5,7 +5,6 @@ import xml.etree.ElementTree as ElementTree
 from fractions import Fraction
 from pathlib import Path
 
-from support import FolderTest  # noqa: F401  (its module puts the package on the path)
 from ltm_tools.network.lines import cut_at, joined, towards
 from ltm_tools.network.projection import GRS80, TransverseMercator, projection_of
 from ltm_tools.sumo.net import read_net

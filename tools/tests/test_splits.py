@@ -1,5 +1,6 @@
 """Splits of counted routes, of turning counts: no destination has a circle, and what was cut is told."""
 import unittest
+from collections.abc import Sequence
 from pathlib import Path
 
 import commands
@@ -19,12 +20,11 @@ def link(name: str, tail: str, head: str, metres: int = 100) -> Link:
 
 
 # a square u v w x, driven both ways round, from which a road leads to z at w
-SQUARE = [link("uv", "u", "v"), link("vu", "v", "u"), link("vw", "v", "w"), link("wv", "w", "v"), link("wx", "w", "x"),
-          link("xw", "x", "w"),
-          link("xu", "x", "u"), link("ux", "u", "x"), link("in", "o", "u"), link("out", "w", "z")]
+SQUARE = (link("uv", "u", "v"), link("vu", "v", "u"), link("vw", "v", "w"), link("wv", "w", "v"), link("wx", "w", "x"),
+          link("xw", "x", "w"), link("xu", "x", "u"), link("ux", "u", "x"), link("in", "o", "u"), link("out", "w", "z"))
 
 
-def splits(routes: list[tuple[str, int, int]], links: list[Link] = SQUARE, demand: list[Demand] | None = None,
+def splits(routes: list[tuple[str, int, int]], links: Sequence[Link] = SQUARE, demand: list[Demand] | None = None,
            slice_slots: int = 60,
            slots: int = 600) -> tuple[dict[tuple[str, str, int], dict[str, int]], str]:
     """The rows of routes, each as links, when it sets out (s) and vehicles; and what is told."""
@@ -185,7 +185,7 @@ class Command(FolderTest):
     def square(self, **files: str) -> Path:
         """The square as a case in a folder."""
         folder = self.folder / "case"
-        Case(Setup(STEP, 3600, 1000), SQUARE, [Demand("o", "z", 0, 60, 4000)]).write(folder)
+        Case(Setup(STEP, 3600, 1000), [*SQUARE], [Demand("o", "z", 0, 60, 4000)]).write(folder)
         for name, text in files.items():
             (self.folder / f"{name}.csv").write_text(text)
         return folder

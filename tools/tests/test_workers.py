@@ -63,7 +63,7 @@ class Wide(FolderTest):
         """Nobody settles: what a batch changes is shown because workers claimed its pairs, worked on them and committed
         them."""
         ring().write(self.folder)
-        batch, settled, totals = script().splitlines(keepends=True)[:3]
+        batch, _, totals = script().splitlines(keepends=True)[:3]
         repaired = self.served(0)[2]
         with subprocess.Popen([BUILT, "session", "2"], cwd=self.folder, stdin=subprocess.PIPE, stdout=subprocess.PIPE,
                               text=True, bufsize=1) as session:
