@@ -252,9 +252,13 @@ class Places(FolderTest):
     SHAPES = b'points,link\r\n" 11.25 48 ;11.3 48.20;11.5 48.1",a\r\n'
 
     def test_they_are_kept_as_they_are(self) -> None:
-        for folder in self.kept(self.case(nodes=self.PLACES, shapes=self.SHAPES)):
-            self.assertEqual(((folder / "nodes.csv").read_bytes(), (folder / "shapes.csv").read_bytes()),
-                             (self.PLACES, self.SHAPES))
+        beside = {"nodes.csv": self.PLACES, "shapes.csv": self.SHAPES, "clock.txt": b"07:00",
+                  "source_links.csv": b"source,from,to,link\r\n1,2,3,a\n", "source_nodes.csv": b"source,node\n2,n1\n"}
+        first = self.case()
+        for name, data in beside.items():
+            (first / name).write_bytes(data)
+        for folder in self.kept(first):
+            self.assertEqual({name: (folder / name).read_bytes() for name in beside}, beside)
             case = Case.read(folder)
             self.assertEqual(case.signals, [Limit("a", 0, 1, 250)])
             self.assertEqual(read_places(folder, case), read_places(self.folder / "case", case))

@@ -2,6 +2,7 @@
 import json
 import random
 import re
+import shutil
 import unittest
 from pathlib import Path
 from typing import Any
@@ -27,7 +28,7 @@ try:
 except Fault as fault:
     NO_D3 = str(fault)
 needs_d3 = unittest.skipIf(NO_D3, NO_D3)
-RIGHT = "\ue014"  # the key in WebDriver
+RIGHT, ENTER = "\ue014", "\ue007"  # the keys in WebDriver
 
 
 def write_page(folder: Path, *words: str) -> Path:
@@ -218,6 +219,17 @@ class InABrowser(FolderTest):
         self.browser.run("document.querySelector('#list tbody tr').click()")
         self.assertEqual(self.text("#link h2"), "Origin n1 who has set out, and who has found room on a link")
         self.assertEqual(self.browser.console(), [])
+
+    def test_a_link_is_found_by_its_name_in_the_source(self) -> None:
+        case = self.folder / "case"
+        shutil.copytree(DATA / "spillback", case)
+        (case / "source_links.csv").write_text("source,from,to,link\nWest#1,1,2,a\nWest#2,2,3,a\nb,3,4,b\n")
+        (case / "source_nodes.csv").write_text("source,node\n1,n1\n3,n2\n4,n3\n")
+        self.browser.open(write_page(self.folder, str(case), "--curves", str(case / "curves.csv"), "--least", "0.001"))
+        self.browser.press("#search", "West#2" + ENTER)
+        self.assertEqual(self.text("#link h2"), "Link a from n1 to n2, 20 m")
+        rows = "return [...document.querySelectorAll('#list tbody tr')].map(row => row.cells[0].textContent)"
+        self.assertEqual(self.browser.run(rows), ["a"])
 
     def test_two_cases(self) -> None:
         self.browser.open(write_page(self.folder, str(DATA / "base"), str(DATA / "base_signals"),

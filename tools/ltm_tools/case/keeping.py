@@ -18,9 +18,9 @@ from ..files import read_bytes, write_bytes
 from ..formats import MOST_SLOT_UNITS, units_of
 from ..program import output
 from ..replacing import together
+from .beside import BESIDE
 from .case import Case
 from .edits import Edit
-from .places import FILES
 from .rows import Demand, Limit, Split
 
 
@@ -180,9 +180,9 @@ def case_of(folder: str | os.PathLike[str], made: Sequence[Sequence[Edit]], vers
 
 def keep(folder: str | os.PathLike[str], made: Sequence[Sequence[Edit]], to: str | os.PathLike[str],
          version: int | None = None) -> None:
-    """Writes that case into another folder, with the places of nodes and the shapes of links as they are where the
-    first folder has them."""
-    kept = {name: read_bytes(path) for name in FILES if os.path.exists(path := os.path.join(folder, name))}
+    """Writes that case into another folder, with the files beside it as they are where the first folder has them:
+    places, shapes, the clock, and names of a source."""
+    kept = {name: read_bytes(path) for name in BESIDE if os.path.exists(path := os.path.join(folder, name))}
     case = case_of(folder, made, version)
     with together():
         case.write(to)

@@ -40,8 +40,8 @@ def add_curves_arguments(parser: argparse.ArgumentParser) -> None:
 
 def add_start_argument(parser: argparse.ArgumentParser) -> None:
     """The option `--start`."""
-    parser.add_argument("--start", metavar="CLOCK", type=clock, default=0,
-                        help="the clock time at which slot 0 begins, as 6:30 (else 0:00)")
+    parser.add_argument("--start", metavar="CLOCK", type=clock,
+                        help="the clock time at which slot 0 begins, as 6:30 (else as clock.txt says, or 0:00)")
 
 
 def add_format_arguments(parser: argparse.ArgumentParser) -> None:
@@ -61,7 +61,8 @@ def add_reading_arguments(parser: argparse.ArgumentParser, files: Mapping[str, s
     kind = parser.add_mutually_exclusive_group(required=True)
     for name, told in files.items():
         kind.add_argument(name, metavar="FILE", help=told)
-    parser.add_argument("--start", metavar="CLOCK", help=f"the clock time of slot 0 ({start})")
+    parser.add_argument("--start", metavar="CLOCK", type=clock,
+                        help=f"the clock time of slot 0, which goes into clock.txt (what that says, else {start})")
     parser.add_argument("--slice", type=whole, default=15, metavar="MINUTES", help=f"the minutes {counted} (15)")
     add_table_arguments(parser)
     return kind

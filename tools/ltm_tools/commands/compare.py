@@ -5,6 +5,7 @@ import argparse
 import sys
 from collections.abc import Callable
 
+from ..case.clock import start_of
 from ..case.keeping import batches_of
 from ..errors import Fault
 from ..files import write_text
@@ -55,6 +56,7 @@ def add_arguments(parser: argparse.ArgumentParser) -> None:
 def run(args: argparse.Namespace) -> int:
     if args.links < 0:
         raise Fault("--links is 0 or more")
+    args.start = start_of(args.start, *(folder for folder in (args.case, args.other) if folder is not None))
     found, names = by_script(args) if args.script is not None else by_folders(args)
     for one in found.both:
         check_every(args.every, one.case)

@@ -7,13 +7,15 @@ from fractions import Fraction
 from pathlib import Path
 
 from ..case import Case, Demand
+from ..case.clock import read_clock, write_clock
 from ..errors import Fault
 from ..files import write_records
-from ..formats import DEMAND, MINUTE_MS, MOST_DESTINATIONS_ASKED, clock_ms, clock_text, short_vehicles
+from ..formats import DEMAND, MINUTE_MS, MOST_DESTINATIONS_ASKED, clock_text, short_vehicles
 from ..network.demand_files import exists, quarter_before, read_amounts, read_profile, read_trips, whole_units
 from ..network.passages import Roads
 from ..network.profiles import Part, Trip, by_profile, by_trips
 from ..network.source import Source
+from ..replacing import together
 from .arguments import add_reading_arguments, reading_of, whole
 
 NAME = "demand"
@@ -49,13 +51,16 @@ def run(args: argparse.Namespace) -> int:
     roads = Roads.of(case.links)
     source = Source.read(args.case, roads)
     if args.table is not None:
-        rows, notes = rows_of_table(case, source, args)
+        rows, notes, start = rows_of_table(case, source, args)
     else:
-        rows, notes = rows_of_trips(case, source, args)
+        rows, notes, start = rows_of_trips(case, source, args)
     rows = checked(rows, roads, case.setup.most_destinations, args.leave_out_unreached, notes)
-    write_records(Path(args.case) / "demand.csv", DEMAND,
-                  ([row.origin, row.destination, row.from_slot, row.to_slot, short_vehicles(row.units)]
-                   for row in rows))
+    with together():
+        write_records(Path(args.case) / "demand.csv", DEMAND,
+                      ([row.origin, row.destination, row.from_slot, row.to_slot, short_vehicles(row.units)]
+                       for row in rows))
+        if start is not None:
+            write_clock(args.case, start)
     ends = {row.destination for row in rows}
     total = sum(row.units for row in rows)
     print(f"{short_vehicles(total)} vehicles to {len(ends)} destinations in {len(rows)} rows")
@@ -63,11 +68,12 @@ def run(args: argparse.Namespace) -> int:
     return 0
 
 
-def rows_of_table(case: Case, source: Source, args: argparse.Namespace) -> tuple[list[Demand], list[str]]:
-    """The rows of a table, spread over a profile or a period."""
+def rows_of_table(case: Case, source: Source, args: argparse.Namespace) -> tuple[list[Demand], list[str], int | None]:
+    """The rows of a table, spread over a profile or a period; what is to be told; and the clock time of slot 0, where
+    it is known."""
     amounts = read_amounts(exists(args.table), reading_of(args))
     notes = list(amounts.notes)
-    parts = parts_of(case, args, notes)
+    parts, start = parts_of(case, args, notes)
     last = max(part.to_slot for part in parts)
     if last > case.setup.slots:
         raise Fault(f"the demand ends {last * case.setup.step_ms // MINUTE_MS} minutes after the start, and the case"
@@ -82,31 +88,37 @@ def rows_of_table(case: Case, source: Source, args: argparse.Namespace) -> tuple
     if amounts.inner:
         notes.append(f"{float(amounts.inner):g} vehicles stay within a node and are left out")
     return by_profile({ends: whole_units(volume, f"demand from {ends[0]} to {ends[1]}")
-                       for ends, volume in units.items()}, parts, case.setup.most_demand_rows), notes
+                       for ends, volume in units.items()}, parts, case.setup.most_demand_rows), notes, start
 
 
-def parts_of(case: Case, args: argparse.Namespace, notes: list[str]) -> list[Part]:
-    """The parts of a profile, or one for a period."""
+def start_of(args: argparse.Namespace) -> int | None:
+    """The clock time of slot 0, as it is asked for or as the case has it."""
+    return read_clock(args.case) if args.start is None else int(args.start)
+
+
+def parts_of(case: Case, args: argparse.Namespace, notes: list[str]) -> tuple[list[Part], int | None]:
+    """The parts of a profile, or one for a period; and the clock time of slot 0, where it is known."""
+    start = start_of(args)
     if args.profile is not None:
-        start = clock_ms(args.start) if args.start is not None else None
         parts, begun, told = read_profile(exists(args.profile), start_ms=start, step_ms=case.setup.step_ms,
                                           reading=reading_of(args))
         notes += [*told, f"slot 0 begins at {clock_text(begun)}"]
-        return parts
+        return parts, begun
     slots = case.setup.slots if args.period is None else args.period * MINUTE_MS // case.setup.step_ms
     if slots < 1:
         raise Fault("--period is shorter than a step; give a longer one")
-    return [Part(0, slots, Fraction(1))]
+    return [Part(0, slots, Fraction(1))], start
 
 
-def rows_of_trips(case: Case, source: Source, args: argparse.Namespace) -> tuple[list[Demand], list[str]]:
-    """The rows of trips, counted by slices."""
+def rows_of_trips(case: Case, source: Source, args: argparse.Namespace) -> tuple[list[Demand], list[str], int]:
+    """The rows of trips, counted by slices; what is to be told; and the clock time of slot 0."""
     trips = read_trips(exists(args.trips), reading_of(args))
     if not trips:
         raise Fault(f"{args.trips}: no trips")
     if args.slice < 1:
         raise Fault("--slice is at least 1")
-    start = clock_ms(args.start) if args.start is not None else quarter_before(min(trip.time_ms for trip in trips))
+    told = start_of(args)
+    start = quarter_before(min(trip.time_ms for trip in trips)) if told is None else told
     early = sum(trip.units for trip in trips if trip.time_ms < start)
     inner = sum(trip.units for trip in trips if trip.time_ms >= start
                 and source.node(trip.origin) == source.node(trip.destination))
@@ -119,7 +131,7 @@ def rows_of_trips(case: Case, source: Source, args: argparse.Namespace) -> tuple
     notes += [f"{short_vehicles(units)} vehicles {why} and are left out" for units, why in
               ((early, "set out before it"), (late, "set out after the last slot"), (inner, "stay within a node"))
               if units]
-    return rows, notes
+    return rows, notes, start
 
 
 def checked(rows: Iterable[Demand], roads: Roads, most_destinations: int, leave_out: bool,

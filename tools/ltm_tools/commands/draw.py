@@ -5,7 +5,9 @@ from __future__ import annotations
 import argparse
 import os
 
+from ..case.clock import start_of
 from ..loading.loaded import loaded
+from ..network.source import path_named
 from ..show.draw import draw_map, draw_newell, draw_shares
 from .arguments import add_curves_arguments, add_start_argument, clock, write_picture
 
@@ -51,12 +53,13 @@ def run(args: argparse.Namespace) -> int:
     if getattr(args, "other", None) is not None:
         both.append(loaded(args.other, args.other_curves, args.program))
         folders.append(args.other)
+    start = start_of(args.start, *folders)
     titles = getattr(args, "titles", None) or [os.path.basename(os.path.abspath(folder)) for folder in folders]
     if args.what == "full":
-        figure = draw_shares(plot, both, titles, args.names, args.start)
+        figure = draw_shares(plot, both, titles, path_named(args.case, both[0].case.links, args.names), start)
     elif args.what == "curves":
-        figure = draw_newell(plot, both[0], args.names, args.start)
+        figure = draw_newell(plot, both[0], path_named(args.case, both[0].case.links, args.names), start)
     else:
-        figure = draw_map(plot, both, folders, titles, both[0].boundary_at(args.at, args.start), args.start)
+        figure = draw_map(plot, both, folders, titles, both[0].boundary_at(args.at, start), start)
     write_picture(figure, args.output)
     return 0

@@ -62,7 +62,8 @@ def add_arguments(parser: argparse.ArgumentParser) -> None:
                         help="the minutes over which the demand sets out evenly (60)")
     demand.add_argument("--profile", metavar="FILE", help="from,to,share: when the demand sets out, in place of"
                         " --period")
-    demand.add_argument("--start", metavar="CLOCK", help="the clock time of slot 0, as 7:00 (the profile's first)")
+    demand.add_argument("--start", metavar="CLOCK",
+                        help="the clock time of slot 0, as 7:00 (the profile's first); it goes into clock.txt")
     demand.add_argument("--horizon", type=whole, default=120, metavar="MINUTES",
                         help="the minutes that are loaded (120)")
     demand.add_argument("--zone-nodes", choices=["first", "even"], default="first",
@@ -81,7 +82,7 @@ def run(args: argparse.Namespace) -> int:
 
 def options_of(args: argparse.Namespace) -> GmnsOptions:
     """What the words of the command ask for."""
-    start = clock_ms(args.start) if args.start is not None and args.profile is not None else None
+    start = clock_ms(args.start) if args.start is not None else None
     return GmnsOptions(**network_options(args), jam=args.jam, length_unit=args.length_unit, speed_unit=args.speed_unit,
                        places=args.places, crs=args.crs,
                        capacity=args.capacity, reading=reading_of(args), demand=args.demand, period=args.period,

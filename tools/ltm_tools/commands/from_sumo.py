@@ -35,7 +35,7 @@ def add_arguments(parser: argparse.ArgumentParser) -> None:
     parser.set_defaults(rename=True)
     group = parser.add_argument_group("what is read")
     group.add_argument("--begin", metavar="TIME", help="when slot 0 begins, as 7:00 or in seconds (the quarter of an"
-                       " hour before the first vehicle)")
+                       " hour before the first vehicle); it goes into clock.txt")
     group.add_argument("--end", metavar="TIME", help="vehicles that set out from then on are left out")
     group.add_argument("--horizon", type=whole, metavar="MINUTES",
                        help="the minutes that are loaded (30 after the last vehicle sets out)")

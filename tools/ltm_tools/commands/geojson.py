@@ -3,6 +3,7 @@ from __future__ import annotations
 
 import argparse
 
+from ..case.clock import start_of
 from ..files import write_text
 from ..loading.loaded import loaded
 from .arguments import add_case_arguments, add_start_argument, clock
@@ -26,7 +27,8 @@ def add_arguments(parser: argparse.ArgumentParser) -> None:
 
 
 def run(args: argparse.Namespace) -> int:
+    start = start_of(args.start, args.case)
     one = loaded(args.case, args.curves, args.program)
-    boundary = None if args.at is None else one.boundary_at(args.at, args.start)
+    boundary = None if args.at is None else one.boundary_at(args.at, start)
     write_text(args.output, one.case.to_geojson(args.case, one.curves, boundary))
     return 0

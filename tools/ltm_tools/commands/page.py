@@ -4,6 +4,7 @@ from __future__ import annotations
 import argparse
 import os
 
+from ..case.clock import start_of
 from ..files import readable, write_text
 from ..formats import units_of
 from ..loading.curves import Summed
@@ -42,10 +43,11 @@ def run(args: argparse.Namespace) -> int:
     library = find_d3(args.d3)
     asked = [(args.case, args.curves)] + ([(args.other, args.other_curves)] if args.other is not None else [])
     folders = [folder for folder, _ in asked]
+    start = start_of(args.start, *folders)
     both = [Loaded(one.case, Summed(one.curves)) for one in (loaded(folder, curves, args.program)
                                                              for folder, curves in asked)]
     called = [os.path.basename(os.path.abspath(folder)) for folder in folders]
     names = [readable(name) for name in args.names or called]
     title = readable(args.title or called[0])
-    write_text(args.output, page(both, folders, names, args.start, max(1, units_of(args.least)), title, library))
+    write_text(args.output, page(both, folders, names, start, max(1, units_of(args.least)), title, library))
     return 0

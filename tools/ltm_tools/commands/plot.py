@@ -5,6 +5,7 @@ import argparse
 
 from ..case import Case
 from ..loading.curves import Curves
+from ..network.source import links_named, path_named
 from ..show.plot import draw_arrivals, draw_link, draw_path
 from .arguments import write_picture
 
@@ -41,9 +42,9 @@ def run(args: argparse.Namespace) -> int:
     links = {link.name: link for link in Case.read_network(args.case).links}
     curves = Curves.of_case(args.case, args.curves)
     if args.what == "link":
-        figure = draw_link(plot, curves, links, args.name)
+        figure = draw_link(plot, curves, links, *links_named(args.case, links.values(), [args.name]))
     elif args.what == "path":
-        figure = draw_path(plot, curves, links, args.names)
+        figure = draw_path(plot, curves, links, path_named(args.case, links.values(), args.names))
     else:
         figure = draw_arrivals(plot, curves)
     write_picture(figure, args.picture)

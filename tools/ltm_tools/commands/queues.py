@@ -3,6 +3,7 @@ from __future__ import annotations
 
 import argparse
 
+from ..case.clock import start_of
 from ..formats import clock_text, units_of
 from ..listing import Cell, percent, seconds, text_table, time_unit, vehicles
 from ..loading.delay import Report
@@ -41,12 +42,13 @@ ORDERS = {"delay": lambda queue: -queue.delay, "worst": lambda queue: -queue.wor
 
 def run(args: argparse.Namespace) -> int:
     least = max(1, units_of(args.least))
+    start = start_of(args.start, args.case)
     loading = loaded(args.case, args.curves, args.program)
     found = sorted(queues(loading.curves, loading.case, least), key=ORDERS[args.sort])
     step_ms, told = loading.curves.step_ms, ""
     if args.format == "text":
-        told = text(found, told_delay(loading, args.case, args.curves, args.program), step_ms, args.start, least)
-    write_table(args, FIELDS, [fields(queue, step_ms, args.start) for queue in found], told)
+        told = text(found, told_delay(loading, args.case, args.curves, args.program), step_ms, start, least)
+    write_table(args, FIELDS, [fields(queue, step_ms, start) for queue in found], told)
     return 0
 
 

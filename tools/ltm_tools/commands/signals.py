@@ -6,16 +6,18 @@ from dataclasses import dataclass
 from fractions import Fraction
 
 from ..case import Case, Limit
+from ..case.clock import read_clock, write_clock
 from ..errors import Fault
 from ..files import Row
-from ..formats import MOST_FILE_BYTES, clock_ms, clock_text, count_text
+from ..formats import MOST_FILE_BYTES, clock_text, count_text
 from ..network.cycles import Green, Plan, by_turn, check_green, even_limits, exit_limits
 from ..network.demand_files import exists, moment_ms
 from ..network.flows import turn_shares
 from ..network.passages import Roads
 from ..network.source import Source
+from ..replacing import together
 from ..tables import read
-from .arguments import add_table_arguments, reading_of
+from .arguments import add_table_arguments, clock, reading_of
 
 NAME = "signals"
 SUMMARY = "give a case its signals, of cycles with greens"
@@ -51,8 +53,8 @@ def add_arguments(parser: argparse.ArgumentParser) -> None:
     """The arguments of the command."""
     parser.add_argument("case", help="the folder of the case")
     parser.add_argument("--cycles", required=True, metavar="FILE", help="the greens")
-    parser.add_argument("--clock", metavar="CLOCK",
-                        help="the clock time of slot 0, where start and end are clock times")
+    parser.add_argument("--clock", metavar="CLOCK", type=clock,
+                        help="the clock time of slot 0, which goes into clock.txt (what that says, else 0:00)")
     parser.add_argument("--even", action="store_true",
                         help="one limit for each link, the mean of its cycle: fewer records, and no platoons")
     add_table_arguments(parser)
@@ -64,8 +66,8 @@ def run(args: argparse.Namespace) -> int:
     roads = Roads.of(case.links)
     source = Source.read(args.case, roads)
     table = read(exists(args.cycles), ("link", "cycle", "green_from", "green_to"), NAMES, reading_of(args))
-    clock = clock_ms(args.clock) if args.clock is not None else 0
-    records = [record_of(row, source, case, clock) for row in table.rows]
+    begins = args.clock if args.clock is not None else read_clock(args.case) or 0
+    records = [record_of(row, source, case, begins) for row in table.rows]
     plans, notes = plans_of(records, case)
     limits = limits_of(plans, case, args.even)
     size = sum(len(f"{limit.link},{limit.from_slot},{limit.to_slot},{limit.units / 1000:.3f}\n") for limit in limits)
@@ -75,7 +77,10 @@ def run(args: argparse.Namespace) -> int:
                     " --even needs one record for a plan")
     notes += arriving(plans, case)
     case.signals, case.setup.signals = limits, True
-    case.write(args.case)
+    with together():
+        case.write(args.case)
+        if args.clock is not None:
+            write_clock(args.case, begins)
     print(f"{len(limits)} records of signals, of {len({plan.link for plan in plans})} links")
     print(*table.notes, *notes, sep="\n", end="\n" if notes or table.notes else "")
     return 0

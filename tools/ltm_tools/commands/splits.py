@@ -6,9 +6,10 @@ import os
 from pathlib import Path
 
 from ..case import Case, Demand, Split
+from ..case.clock import read_clock, write_clock
 from ..errors import Fault
 from ..files import Row, write_bytes, write_records
-from ..formats import DEMAND, MINUTE_MS, MOST_ROWS_ASKED, SPLITS, clock_ms, clock_text, short_vehicles, weights_text
+from ..formats import DEMAND, MINUTE_MS, MOST_ROWS_ASKED, SPLITS, clock_text, short_vehicles, weights_text
 from ..network.demand_files import exists, moment_ms, quarter_before, whole_units
 from ..network.passages import Roads
 from ..network.profiles import Trip, by_trips
@@ -90,7 +91,8 @@ def of_routes(case: Case, roads: Roads, source: Source, args: argparse.Namespace
     if not {"links", "nodes"} & set(table.fields):
         raise Fault(f"{args.routes}: no field links or nodes in the header; it has {', '.join(table.fields)}")
     times = [moment_ms(row, "depart") if row.text("depart", "") else 0 for row in table.rows]
-    start = clock_ms(args.start) if args.start is not None else quarter_before(min(times, default=0))
+    told = read_clock(args.case) if args.start is None else args.start
+    start = quarter_before(min(times, default=0)) if told is None else told
     by_nodes = links_by_nodes(source)
     routes, early, inner = [], 0, 0
     for row, time in zip(table.rows, times):
@@ -107,6 +109,7 @@ def of_routes(case: Case, roads: Roads, source: Source, args: argparse.Namespace
               ((early, "set out before it, or after the last slot,"), (inner, "end where they begin")) if units]
     if not routes:
         raise Fault(f"{args.routes}: no route that sets out within the slots of the case; look at --start")
+    write_clock(args.case, start)
     if args.demand:
         case.demand = demand_of(case, roads, routes, args, notes)
     slice_slots = max(1, args.slice * MINUTE_MS // case.setup.step_ms)

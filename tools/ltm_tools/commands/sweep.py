@@ -14,6 +14,7 @@ from ..files import write_text
 from ..formats import count_text, counted, vehicles_text
 from ..listing import csv_text
 from ..loading.remaining import TOLD_APART
+from ..network.source import links_named
 from ..program import find_program
 from ..sweep.here import chunks, here
 from ..sweep.scenarios import AS_IT_IS, FAILED, Row, Scenario, header, read_scenarios, remaining
@@ -80,6 +81,7 @@ def run(args: argparse.Namespace) -> int:
         raise Fault(f"{args.sessions} sessions cannot run")
     case = Case.read(args.case)
     names = {link.name for link in case.links}
+    args.links = links_named(args.case, case.links, args.links)
     for name in args.links:
         if name not in names:
             raise Fault(f"the case has no link {name}")

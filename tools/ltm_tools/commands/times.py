@@ -3,10 +3,12 @@ from __future__ import annotations
 
 import argparse
 
+from ..case.clock import start_of
 from ..formats import MINUTE_MS, clock_text
 from ..listing import Cell, text_table
 from ..loading.loaded import loaded
 from ..loading.times import Path, Trip
+from ..network.source import path_named
 from .arguments import add_curves_arguments, add_format_arguments, add_start_argument, check_every, minutes, write_table
 
 NAME = "times"
@@ -35,14 +37,15 @@ def add_arguments(parser: argparse.ArgumentParser) -> None:
 
 
 def run(args: argparse.Namespace) -> int:
+    start = start_of(args.start, args.case)
     case, curves = loaded(args.case, args.curves, args.program)
     check_every(args.every, case)
-    path = Path(curves, case, args.links, not args.no_wait)
+    path = Path(curves, case, path_named(args.case, case.links, args.links), not args.no_wait)
     trips = list(path.trips(args.every))
     names = [link.name for link in path.links]
     header = ["departs_ms", "total_ms", "delay_ms", "wait_ms", *names]
-    write_table(args, header, [fields(path, trip, args.start) for trip in trips],
-                text(path, trips, args.start, args.by_link))
+    write_table(args, header, [fields(path, trip, start) for trip in trips],
+                text(path, trips, start, args.by_link))
     return 0
 
 

@@ -49,7 +49,7 @@ class GmnsOptions(Options):
     """The minutes over which the demand sets out evenly, where there is no profile."""
     profile: str | os.PathLike[str] | None = None
     start_ms: int | None = None
-    """The clock time of slot 0, with a profile; without it the profile's first."""
+    """The clock time of slot 0; without it the profile's first, where there is a profile."""
     horizon: int = 120
     """The minutes that are loaded."""
     zone_nodes: Literal["first", "even"] = "first"
@@ -85,12 +85,14 @@ def import_gmns(folder: str | os.PathLike[str], options: GmnsOptions = GmnsOptio
     routes = least_routes(raw, [(*ends, whole_units(volume, "demand"))
                                 for ends, volume in asked.volumes.items()]) if options.fit else []
     made = carried(raw, options, routes)
-    case, last = case_of(made, asked.volumes, options, read)
+    parts, clock = parts_of(options, made.step, read)
+    case, last = case_of(made, asked.volumes, options, parts)
     sizes = ask_for_sizes(case, options.moves)
     places, lost = places_of(made, Map(crs=read.units.crs or (DEGREES if read.units.places == "degrees" else None)))
     told = [*size_told(made, case, last), *inner_told(asked.amounts.inner), *read.told(), *asked.amounts.notes,
             *changes_told(made, routes), *lost, *sizes]
-    return Imported(case, places, made.source, tuple(made.fit.changes) if made.fit is not None else None, tuple(told))
+    return Imported(case, places, made.source, tuple(made.fit.changes) if made.fit is not None else None, tuple(told),
+                    clock)
 
 
 def steps_of_gmns(folder: str | os.PathLike[str], options: GmnsOptions = GmnsOptions()) -> list[str]:
@@ -128,10 +130,9 @@ def amounts_of(folder: Path, options: GmnsOptions) -> Amounts:
 
 
 def case_of(made: Carried, volumes: dict[tuple[str, str], Fraction], options: GmnsOptions,
-            read: Read) -> tuple[Case, int]:
+            parts: list[Part]) -> tuple[Case, int]:
     """The case, and the slot with which its demand ends."""
     slots = slots_of(options.horizon * MINUTE_MS, made.step)
-    parts = parts_of(options, made.step, read)
     if parts[-1].to_slot > slots:
         raise Fault(f"the demand's period of {parts[-1].to_slot * made.step // MINUTE_MS} minutes is longer than the"
                     f" horizon of {options.horizon};"
@@ -146,17 +147,18 @@ def case_of(made: Carried, volumes: dict[tuple[str, str], Fraction], options: Gm
     return Case(setup, made.links, list(rows)), parts[-1].to_slot
 
 
-def parts_of(options: GmnsOptions, step: int, read: Read) -> list[Part]:
-    """When demand sets out: by the profile, or evenly over the period."""
+def parts_of(options: GmnsOptions, step: int, read: Read) -> tuple[list[Part], int | None]:
+    """When demand sets out, by the profile, or evenly over the period; and the clock time of slot 0, where it is
+    known."""
     if options.profile is not None:
-        parts, _, notes = read_profile(exists(options.profile), start_ms=options.start_ms, step_ms=step,
+        parts, start, notes = read_profile(exists(options.profile), start_ms=options.start_ms, step_ms=step,
                                        reading=options.reading)
         read.notes += notes
-        return sorted(parts, key=lambda part: part.to_slot)
+        return sorted(parts, key=lambda part: part.to_slot), start
     if options.period > options.horizon:
         raise Fault(f"the demand's period of {options.period} minutes is longer than the horizon of {options.horizon};"
                     f" give --horizon {options.period} or more")
-    return [Part(0, max(1, options.period * MINUTE_MS // step), Fraction(1))]
+    return [Part(0, max(1, options.period * MINUTE_MS // step), Fraction(1))], options.start_ms
 
 
 def size_told(made: Carried, case: Case, last: int) -> list[str]:

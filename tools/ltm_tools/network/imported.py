@@ -6,6 +6,7 @@ from dataclasses import dataclass
 from pathlib import Path
 
 from ..case import Case
+from ..case.clock import FILE as CLOCK_FILE, write_clock
 from ..case.places import FILES, Places
 from ..files import write_text
 from ..replacing import take_away, together
@@ -18,23 +19,27 @@ CHANGES_FILE = "changes.csv"
 @dataclass(frozen=True)
 class Imported:
     """A case that was made of a network; `places` is None where its nodes have none, `changes` where it was not fitted,
-    and `told` has what was read, set, left out and changed, a line each."""
+    `clock` (ms since midnight) where nothing says when slot 0 begins, and `told` has what was read, set, left out and
+    changed, a line each."""
 
     case: Case
     places: Places | None
     source: Source
     changes: tuple[Change, ...] | None
     told: tuple[str, ...]
+    clock: int | None = None
 
     def write(self, folder: str | os.PathLike[str]) -> list[str]:
         """Writes the case into a folder, and beside it `source_links.csv`, `source_nodes.csv`, `nodes.csv` and
-        `shapes.csv` where places are known, and of a fitted network `changes.csv`. Gives what is to be told of older
-        files there, a line each."""
+        `shapes.csv` where places are known, `clock.txt` where the clock is, and of a fitted network `changes.csv`.
+        Gives what is to be told of older files there, a line each."""
         with together():
             self.case.write(folder)
             self.source.write(folder)
             if self.places is not None:
                 self.places.write(folder)
+            if self.clock is not None:
+                write_clock(folder, self.clock)
             path = Path(folder) / CHANGES_FILE
             if self.changes is not None:
                 rows = [(change.kind, change.name, f"{float(change.metres):.3f}", f"{float(change.time):.0f}",
@@ -52,4 +57,7 @@ class Imported:
         if self.places is None:
             told += [f"an older {name} stands in {folder}, and the network says no places: take it away"
                      for name in FILES if os.path.exists(os.path.join(folder, name))]
+        if self.clock is None and os.path.exists(os.path.join(folder, CLOCK_FILE)):
+            told.append(f"an older {CLOCK_FILE} stands in {folder}, and nothing says when this case begins: take it"
+                        f" away, or give a start")
         return told

@@ -11,12 +11,12 @@ from collections.abc import Iterable, Sequence
 from dataclasses import dataclass, field
 from pathlib import Path
 
+from ..case import Link
+from ..case.beside import LINKS_FILE, NODES_FILE
 from ..errors import Fault
 from ..files import read_table, write_text
 from ..formats import record_text
 from .passages import Roads
-
-LINKS_FILE, NODES_FILE = "source_links.csv", "source_nodes.csv"
 
 
 @dataclass(frozen=True, slots=True)
@@ -51,7 +51,9 @@ class Source:
                                                             row.text("link", "") or None)
             for row in read_table(path / NODES_FILE, ("source", "node")):
                 told.nodes[row.text("source")] = row.text("node")
-            made.links = {**{name: link for name, link in made.links.items()}, **told.links}
+            own = {name: link for name, link in made.links.items()
+                   if name in told.links and told.links[name].link != name}  # a name that is both is the case's own
+            made.links = {**made.links, **told.links, **own}
             made.nodes = {**made.nodes, **told.nodes}
         return made
 
@@ -68,25 +70,49 @@ class Source:
             raise Fault(f"{name} is no node of the case, nor of its source")
         return self.nodes[name]
 
+    def known(self, name: str) -> SourceLink:
+        """What has become of a link of the source, or of the case."""
+        if name not in self.links:
+            raise Fault(f"{name} is no link of the case, nor of its source")
+        return self.links[name]
+
+    def link(self, name: str) -> str:
+        """The link of the case for a link of the source, or of the case."""
+        link = self.known(name).link
+        if link is None:
+            raise Fault(f"link {name} of the source was contracted, so that it is no part of a link of the case")
+        return link
+
+    def joined(self, one: SourceLink, after: SourceLink) -> bool:
+        """Whether a link begins where another ends, by the nodes of the source, or where one of them is told by those
+        of the case by these."""
+        return one.head == after.tail or self.nodes.get(one.head, "") == self.nodes.get(after.tail)
+
     def route(self, names: Sequence[str], roads: Roads) -> tuple[str, ...]:
         """The links of the case on a route over links of the source, with the connectors between; a Fault where it is
         none."""
         if not names:
             return ()
+        start, end = self.node(self.known(names[0]).tail), self.node(self.known(names[-1]).head)
+        route = self.over(names, roads, start)
+        return (*route, *self.connectors(roads.links[route[-1]].head if route else start, end, roads))
+
+    def over(self, names: Sequence[str], roads: Roads, place: str | None = None) -> list[str]:
+        """The links of the case over links of the source, with the connectors between, and those from a node on where
+        one is told; a Fault where one of the source does not begin where the one before ends."""
         for name in names:
-            if name not in self.links:
-                raise Fault(f"{name} is no link of the case, nor of its source")
+            self.known(name)
         for name, after in zip(names, names[1:]):
-            if self.links[name].head != self.links[after].tail:
+            if not self.joined(self.links[name], self.links[after]):
                 raise Fault(f"link {after} does not begin where link {name} ends")
         route: list[str] = []
-        place = self.node(self.links[names[0]].tail)
         for name in names:
             link = self.links[name].link
             if link is not None and not (route and route[-1] == link):
-                route += [*self.connectors(place, roads.links[link].tail, roads), link]
+                between = self.connectors(place, roads.links[link].tail, roads) if place is not None else []
+                route += [*between, link]
                 place = roads.links[link].head
-        return (*route, *self.connectors(place, self.node(self.links[names[-1]].head), roads))
+        return route
 
     def connectors(self, start: str, end: str, roads: Roads) -> list[str]:
         """The fewest links from a node to another; in a fitted case these are connectors that split a node."""
@@ -101,6 +127,41 @@ class Source:
                     came[roads.links[name].head] = [*came[node], name]
                     queue.append(roads.links[name].head)
         raise Fault(f"no way leads from node {start} to node {end}, where a route goes on")
+
+
+def links_named(folder: str | os.PathLike[str], links: Iterable[Link], names: Sequence[str]) -> list[str]:
+    """The links of a case by these names, its own or those of its source."""
+    own = {link.name: link for link in links}
+    if all(name in own for name in names) or not has_source(folder):
+        return list(names)
+    source = Source.read(folder, Roads.of(own.values()))
+    return [source.link(name) for name in names]
+
+
+def path_named(folder: str | os.PathLike[str], links: Iterable[Link], names: Sequence[str]) -> list[str]:
+    """The links of a case on a path by these names, its own or those of its source, which may have become parts of one
+    link, or none; and the connectors between."""
+    roads = Roads.of(links)
+    if all(name in roads.links for name in names) or not has_source(folder):
+        return list(names)
+    path = Source.read(folder, roads).over(names, roads)
+    if not path:
+        raise Fault(f"{' '.join(names)}: these links of the source were contracted, and nothing is left of the path")
+    return path
+
+
+def parts_of(folder: str | os.PathLike[str], links: Iterable[Link]) -> dict[str, list[str]]:
+    """The links of the source, called otherwise, that have become part of each link of a case."""
+    parts: dict[str, list[str]] = {}
+    for name, link in Source.read(folder, Roads.of(links)).links.items() if has_source(folder) else ():
+        if link.link is not None and link.link != name:
+            parts.setdefault(link.link, []).append(name)
+    return parts
+
+
+def has_source(folder: str | os.PathLike[str]) -> bool:
+    """Whether the folder of a case says what has become of a source's links."""
+    return os.path.exists(os.path.join(folder, LINKS_FILE))
 
 
 def lines_of(rows: Iterable[Sequence[str]]) -> str:

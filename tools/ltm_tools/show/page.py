@@ -19,6 +19,7 @@ from ..loading import delay
 from ..loading.counts import Counts, as_list, total
 from ..loading.loaded import Loaded
 from ..loading.queues import Queue, queues
+from ..network.source import parts_of
 from . import layout
 
 WEB = Path(__file__).resolve().parent / "web"
@@ -53,7 +54,7 @@ def flows(rows: list[Counts]) -> str:
     return base64.b64encode(packed.tobytes()).decode("ascii")
 
 
-def told_case(one: Loaded, name: str, start: int, least: int, places: Places, bent: bool,
+def told_case(one: Loaded, folder: str, name: str, start: int, least: int, places: Places, bent: bool,
               unit: TimeUnit) -> dict[str, object]:
     """All that the page has to know of a loading."""
     case, curves = one
@@ -62,14 +63,15 @@ def told_case(one: Loaded, name: str, start: int, least: int, places: Places, be
                                      for link in case.links]) if bent else [0.0] * len(case.links)
     both = [delay.checked(curves, link) for link in case.links]
     rows = delay.demand_of(case)
-    told = delay.report(curves, case)
+    told, parts = delay.report(curves, case), parts_of(folder, case.links)
     return {
         "name": name, "step": curves.step_ms, "slots": curves.boundaries - 1, "start": start,
         "nodes": [{"name": node, "x": round(places.of[node][0], 7), "y": round(places.of[node][1], 7)}
                   for node in case.nodes],
         "links": [{"name": link.name, "tail": number[link.tail], "head": number[link.head], "free": link.free_ms,
                    "storage": link.storage_units,
-                   "length": link.length_m, "bend": bend, **shape_of(places, link)}
+                   "length": link.length_m, "bend": bend, **shape_of(places, link),
+                   **({"source": parts[link.name]} if link.name in parts else {})}
                   for link, bend in zip(case.links, bends)],
         "origins": [{"name": node, "node": number[node],
                      "demand": [[row.from_slot, row.to_slot, row.units] for row in of]} for node, of in rows.items()],
@@ -139,7 +141,7 @@ def page(both: list[Loaded], folders: list[str], names: list[str], start: int, l
     reports = [delay.report(one.curves, one.case) for one in both]
     unit = time_unit(*(report.spent for report in reports))
     told = {"title": title, "least": format(vehicles(least), "f"), "unit": unit.name, "boundary": busiest(both[0]),
-            "cases": [told_case(one, name, start, least, places[index], bent, unit)
+            "cases": [told_case(one, folders[index], name, start, least, places[index], bent, unit)
                       for index, (one, name) in enumerate(zip(both, names))]}
     parts = {"TITLE": html.escape(title), "STYLE": read_text(WEB / "page.css"),
              "DATA": json.dumps(told, separators=(",", ":")).replace("<", "\\u003c"),

@@ -57,7 +57,8 @@ def import_sumo(net: StrPath, files: Iterable[StrPath] = (), options: SumoOption
     places, lost = places_of(made, inputs.net.drawn)
     told = [*size_told(case, inputs), *left_out_told(inputs), *inputs.notes,
             *changes_told(made, routes, set(asked.cut.stops.values())), *lost, *sizes]
-    return Imported(case, places, made.source, tuple(made.fit.changes) if made.fit is not None else None, tuple(told))
+    return Imported(case, places, made.source, tuple(made.fit.changes) if made.fit is not None else None, tuple(told),
+                    inputs.begin_ms if inputs.found.vehicles or options.begin_ms is not None else None)
 
 
 def steps_of_sumo(net: StrPath, files: Iterable[StrPath] = (), options: SumoOptions = SumoOptions()) -> list[str]:

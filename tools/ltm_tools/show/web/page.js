@@ -29,6 +29,8 @@
     const one = { ...told, up: counts(told.entered, links.length, slots), down: counts(told.left, links.length, slots),
       departed: counts(told.departed, origins.length, slots) };
     one.linkOf = new Map(links.map((link, index) => [link.name, index]));
+    one.partOf = new Map(links.flatMap(link => (link.source || []).map(name => [name, link.name])));
+    one.called = new Map(links.map(link => [link.name, [link.name, ...(link.source || [])].join(" ").toLowerCase()]));
     one.originOf = new Map(origins.map((origin, index) => [origin.name, index]));
     one.lines = links.map(link => points(one.nodes, link));
     one.wide = slots + 1;
@@ -275,7 +277,7 @@
 
   function drawTable() {
     const one = here(), of = COLUMNS.find(column => column[0] === state.order)[2], words = state.found.toLowerCase();
-    const rows = one.queues.filter(row => row.name.toLowerCase().includes(words)).sort((a, b) => (state.down ? d3.descending : d3.ascending)(of(a), of(b)));
+    const rows = one.queues.filter(row => (row.kind === "origin" ? row.name.toLowerCase() : one.called.get(row.name)).includes(words)).sort((a, b) => (state.down ? d3.descending : d3.ascending)(of(a), of(b)));
     document.getElementById("count").textContent = `${rows.length} of at least ${data.least} vehicles; delay in ${data.unit}` + (rows.length > MOST_ROWS ? `; the first ${MOST_ROWS}` : "");
     d3.selectAll("#list th").text(column => column[1] + (column[0] === state.order ? (state.down ? " ▾" : " ▴") : ""));
     const lines = d3.select("#list tbody").selectAll("tr").data(rows.slice(0, MOST_ROWS)).join("tr").classed("chosen", row => row.name === state.chosen)
@@ -343,8 +345,8 @@
     document.getElementById("shown").addEventListener("change", event => { state.shown = event.target.value; drawMap(); });
     document.getElementById("search").addEventListener("input", event => { state.found = event.target.value; drawTable(); });
     document.getElementById("search").addEventListener("keydown", event => {
-      const name = event.target.value;
-      if (event.key === "Enter" && (here().linkOf.has(name) || here().originOf.has(name))) choose(name);
+      const one = here(), name = event.target.value, found = one.linkOf.has(name) || one.originOf.has(name) ? name : one.partOf.get(name);
+      if (event.key === "Enter" && found !== undefined) choose(found);
     });
     document.getElementById("play").addEventListener("click", play);
     measure();
