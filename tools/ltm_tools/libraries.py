@@ -21,6 +21,7 @@ PACKAGES = {
     "pandas": "python3-pandas",
     "pyproj": "python3-pyproj",
     "scipy": "python3-scipy",
+    "tornado": "python3-tornado",
 }
 TRIED = "LTM_TOOLS_RUN_AGAIN"  # set in the environment of a run by the other Python, so that there is no third
 PROBE = ("import importlib.util as u, sys; sys.exit(sys.version_info < (3, 10) or any(u.find_spec(n) is None for n in"

@@ -18,6 +18,7 @@ LAYERS = (
     ("case",),
     ("network", "loading", "proving"),
     ("gmns", "sumo", "show", "sweep"),
+    ("live",),
     ("commands",),
     ("cli",),
     ("__main__",),

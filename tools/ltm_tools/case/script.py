@@ -189,6 +189,8 @@ EDITS: dict[str, Members] = {
     "diagram": {"link": NAME, "length_m": WHOLE, "free_kmh": WHOLE, "wave_kmh": WHOLE, "jam_per_km": WHOLE},
     "horizon": {"slots": WHOLE},
 }
+# members that are looked at elsewhere: `change` by `ltm-tools live`, which writes it
+MORE = {"edit": {"edits", "change"}, "totals": {"change"}, "split": {"weights"}, "splits": {"rows"}}
 
 
 def looked_up(value: object, chooser: str, tables: dict[str, Members]) -> tuple[str, list[str]]:
@@ -200,7 +202,7 @@ def looked_up(value: object, chooser: str, tables: dict[str, Members]) -> tuple[
         raise NotThat(f"the member {chooser} is {told(word)}, and it is one of {', '.join(tables)}")
     for name, kind in tables[word].items():
         wanted(value, name, *kind)
-    looked = {chooser, *tables[word]} | {"edit": {"edits"}, "split": {"weights"}, "splits": {"rows"}}.get(word, set())
+    looked = {chooser, *tables[word]} | MORE.get(word, set())
     return word, [name for name in value if name not in looked]
 
 

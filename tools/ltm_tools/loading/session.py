@@ -69,6 +69,11 @@ class Session:
             self.process.kill()
         self._let_go()
 
+    def kill(self) -> None:
+        """Ends the session at once, whatever it does."""
+        self.process.kill()
+        self._let_go()
+
     def close(self) -> None:
         """Ends the session; a Fault where the program tells one. Nothing where it has ended."""
         assert self.process.stdin is not None and self.process.stdout is not None
@@ -106,9 +111,10 @@ class Session:
             self.process.stdin.flush()
         except BrokenPipeError:
             pass  # it has ended, and its last line says why
-        answer = self.process.stdout.readline().decode("utf-8", "backslashreplace").strip()
+        told = self.process.stdout.readline()
+        answer = told.decode("utf-8", "backslashreplace").strip()
         words = answer.split()
-        if not words or words[:2] in (["bad", "case"], ["too", "long"], ["too", "many"]):
+        if not told.endswith(b"\n") or words[:2] in ([], ["bad", "case"], ["too", "long"], ["too", "many"]):
             self._let_go()
             raise Ended(f"{self.folder}: ltm {' '.join(self.words)} ended with status {self.process.returncode}:"
                         f" {answer or 'no answer'}")

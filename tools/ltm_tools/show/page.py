@@ -10,8 +10,7 @@ import re
 import sys
 from pathlib import Path
 
-from ..case import Case, Link
-from ..case.places import Places, read_places
+from ..case.places import Places
 from ..errors import Fault
 from ..files import read_text
 from ..listing import TimeUnit, percent, time_unit, vehicles
@@ -19,8 +18,7 @@ from ..loading import delay
 from ..loading.counts import Counts, as_list, total
 from ..loading.loaded import Loaded
 from ..loading.queues import Queue, queues
-from ..network.source import parts_of
-from . import layout
+from .network import placed, told_network
 
 WEB = Path(__file__).resolve().parent / "web"
 D3_PLACES = ("/usr/share/nodejs/d3/dist/d3.min.js", "/usr/share/javascript/d3/d3.min.js",
@@ -59,20 +57,12 @@ def told_case(one: Loaded, folder: str, name: str, start: int, least: int, place
     """All that the page has to know of a loading."""
     case, curves = one
     number = {node: index for index, node in enumerate(case.nodes)}
-    bends = layout.bends(places.of, [(link.tail, link.head)
-                                     for link in case.links]) if bent else [0.0] * len(case.links)
     both = [delay.checked(curves, link) for link in case.links]
     rows = delay.demand_of(case)
-    told, parts = delay.report(curves, case), parts_of(folder, case.links)
+    told = delay.report(curves, case)
     return {
         "name": name, "step": curves.step_ms, "slots": curves.boundaries - 1, "start": start,
-        "nodes": [{"name": node, "x": round(places.of[node][0], 7), "y": round(places.of[node][1], 7)}
-                  for node in case.nodes],
-        "links": [{"name": link.name, "tail": number[link.tail], "head": number[link.head], "free": link.free_ms,
-                   "storage": link.storage_units,
-                   "length": link.length_m, "bend": bend, **shape_of(places, link),
-                   **({"source": parts[link.name]} if link.name in parts else {})}
-                  for link, bend in zip(case.links, bends)],
+        **told_network(folder, case, places, bent),
         "origins": [{"name": node, "node": number[node],
                      "demand": [[row.from_slot, row.to_slot, row.units] for row in of]} for node, of in rows.items()],
         "entered": flows([up for up, _ in both]), "left": flows([down for _, down in both]),
@@ -80,12 +70,6 @@ def told_case(one: Loaded, folder: str, name: str, start: int, least: int, place
         "queues": [told_queue(queue, unit) for queue in queues(curves, case, least)],
         "totals": totals(one, told, unit),
     }
-
-
-def shape_of(places: Places, link: Link) -> dict[str, object]:
-    """The points of a link that does not run straight."""
-    return {"shape": [[round(x, 7), round(y, 7)]
-                      for x, y in places.shapes[link.name]]} if link.name in places.shapes else {}
 
 
 def departed(one: Loaded, node: str) -> Counts:
@@ -109,23 +93,6 @@ def totals(one: Loaded, told: delay.Report, unit: TimeUnit) -> list[tuple[str, s
     return [(f"{name}, {unit.name}", format(unit.show(time), "f"))
             for name, time in (("spent", told.spent), ("queued", told.queued), ("waited", told.waited))] + [
                 ("arrived, vehicles", format(vehicles(arrived), "f"))]
-
-
-def placed(folders: list[str], cases: list[Case]) -> tuple[list[Places], bool]:
-    """Where each case's nodes lie and its links run, and whether they were laid out: as nodes.csv says where each case
-    has one, else one drawing for all."""
-    known: list[Places | None] = [read_places(folder, case) for folder, case in zip(folders, cases)]
-    if known[0] is not None:
-        first = known[0].of
-        for place, (case, read) in enumerate(zip(cases, known)):
-            if read is None and all(node in first for node in case.nodes):
-                known[place] = known[0]
-    if all(read is not None for read in known):
-        return [read.plane() for read in known if read is not None], False
-    nodes = list(dict.fromkeys(node for case in cases for node in case.nodes))
-    drawn = layout.places(nodes, [(link.tail, link.head, float(link.length_m)) for case in cases
-                                  for link in case.links])
-    return [Places(drawn)] * len(cases), True
 
 
 def busiest(one: Loaded) -> int:

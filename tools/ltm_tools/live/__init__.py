@@ -1,0 +1,1 @@
+"""A case in one running session, looked at and edited in browsers."""

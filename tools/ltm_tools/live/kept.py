@@ -1,0 +1,166 @@
+"""A scenario that is kept: as a script, as the files of a case, and as a page that needs no server.
+
+A line of the script may have a member `change` beside those that a session looks at: what was asked for, so that the
+list comes back as it was. An entry that is off stands as the question `totals`, which changes nothing.
+"""
+from __future__ import annotations
+
+import io
+import json
+import os
+import tempfile
+import zipfile
+from collections.abc import Iterable, Sequence
+from pathlib import Path
+
+from ..case.edits import Edit
+from ..case.keeping import edits_of, keep, read_script
+from ..case.script import read_line
+from ..errors import Fault
+from ..files import readable, write_bytes
+from ..formats import UNITS
+from ..loading.curves import Summed
+from ..loading.loaded import Loaded, loaded
+from ..show.page import find_d3, page
+from .entries import Batch, Entry
+from .messages import Told
+from .scenario import Scenario
+
+
+def lines_of(entry: Entry) -> list[bytes]:
+    """The lines of a script for an entry: the one that it was read from, where it was."""
+    if entry.source is not None and entry.on:
+        return [entry.source]
+    told: Told = {"by": entry.by, **(entry.ask.members() if entry.ask else {"text": entry.text})}
+    if not entry.on:
+        more: Told = {} if entry.line is None else {"edits": entry.line}
+        told.update(more, on=False)
+        return [line_text({"do": "totals", "change": told})]
+    lines: list[Told] = [{"do": "edit", "edits": batch} for batch in entry.batches]
+    if lines:
+        told["batches"] = len(lines)
+        lines[0]["change"] = told
+    return [line_text(line) for line in lines]
+
+
+def line_text(told: object) -> bytes:
+    return json.dumps(told).encode("ascii")
+
+
+def text_of(lines: Iterable[bytes]) -> bytes:
+    """Lines as a file."""
+    return b"".join(line + b"\n" for line in lines)
+
+
+def script_of(entries: Sequence[Entry]) -> bytes:
+    """The list as a script."""
+    return text_of(line for entry in entries for line in lines_of(entry))
+
+
+class Script:
+    """A file that has the list of a scenario, written whole at each change of it. Lines that it had and that are no
+    edits stay where they are, and those that are edits as long as the list has them."""
+
+    def __init__(self, path: str | os.PathLike[str]) -> None:
+        self.path = path
+        self.lines: list[bytes | int] = []  # those that were there, or the numbers of their entries
+
+    def read(self, scenario: Scenario) -> None:
+        """Puts what the file has into the list; a Fault that names the first line that is refused."""
+        left = 0  # lines that belong to the entry before
+        for number, line in enumerate(read_script(self.path) if os.path.exists(self.path) else (), 1):
+            if left:
+                left -= 1
+                continue
+            try:
+                entry = entry_of(scenario, line, f"line {number} of {os.path.basename(self.path)}")
+            except Fault as fault:
+                raise Fault(f"{self.path}, line {number}: {fault}") from None
+            self.lines.append(line if entry is None else entry.number)
+            left = 0 if entry is None else batches_in(change_of(line) or {}) - 1
+
+    def write(self, entries: Sequence[Entry]) -> None:
+        """Writes the file; a Fault where that cannot be done."""
+        standing = {entry.number: entry for entry in entries}
+        there = {number for number in self.lines if isinstance(number, int)}
+        lines = [line for item in self.lines for line in ([item] if isinstance(item, bytes) else
+                                                          lines_of(standing[item]) if item in standing else [])]
+        write_bytes(self.path, text_of(lines + [line for entry in entries if entry.number not in there
+                                                for line in lines_of(entry)]))
+
+
+def entry_of(scenario: Scenario, line: bytes, place: str) -> Entry | None:
+    """The entry that a line of a script adds to the list; None where it is no edit."""
+    told, change = edits_of(line), change_of(line)
+    if change is not None and (told is not None or change.get("on") is False):
+        return add_change(scenario, change, told)
+    if told is None:
+        return None
+    said = read_line(line)
+    if said.cause is not None:
+        raise Fault(f"{said.cause}: {said.reason}")
+    return scenario.add_line(place, words_of(told), told, line)
+
+
+def change_of(line: bytes) -> dict[str, object] | None:
+    """The member `change` of a line, if it has one."""
+    try:
+        told = json.loads(line)
+    except (ValueError, RecursionError):
+        return None
+    change = told.get("change") if isinstance(told, dict) else None
+    return change if isinstance(change, dict) else None
+
+
+def batches_in(change: dict[str, object]) -> int:
+    """How many lines an entry has."""
+    count = change.get("batches", 1)
+    return count if type(count) is int and count > 0 else 1
+
+
+def add_change(scenario: Scenario, change: dict[str, object], told: Batch | None) -> Entry:
+    """Adds an entry as a line of a script tells it."""
+    by = change.get("by")
+    who = by if isinstance(by, str) else "script"
+    if "kind" in change:
+        entry = scenario.add(who, change)
+    else:
+        edits = told if told is not None else change.get("edits")
+        if not isinstance(edits, list):
+            raise Fault("the change has no edits")
+        entry = scenario.add_line(who, str(change.get("text", words_of(edits))), edits)
+    if change.get("on") is False:
+        scenario.switch(entry.number, False)
+    return entry
+
+
+def words_of(batch: Sequence[Edit]) -> str:
+    """The edits of a line in a few words."""
+    first = batch[0]
+    name = first.get("link") or first.get("origin") or first.get("node") or ""
+    more = f" and {len(batch) - 1} more" if len(batch) > 1 else ""
+    return readable(f"{first.get('kind')} {name}{more}")
+
+
+def case_zip(scenario: Scenario) -> bytes:
+    """The files of the case of a scenario, as a zip archive."""
+    data = io.BytesIO()
+    with tempfile.TemporaryDirectory() as folder, zipfile.ZipFile(data, "w", zipfile.ZIP_DEFLATED) as archive:
+        scenario.unchanged()
+        keep(scenario.folder, scenario.batches(), folder)
+        for path in sorted(Path(folder).iterdir()):
+            archive.writestr(path.name, path.read_bytes())
+    return data.getvalue()
+
+
+def page_of(scenario: Scenario) -> bytes:
+    """The base and the scenario as one page that needs no server."""
+    name = os.path.basename(os.path.abspath(scenario.folder))
+    with tempfile.TemporaryDirectory() as folder:
+        scenario.unchanged()
+        keep(scenario.folder, scenario.batches(), folder)
+        both = [loaded(where, None, os.fspath(scenario.program) if scenario.program else None)
+                for where in (scenario.folder, folder)]
+        text = page([Loaded(one.case, Summed(one.curves)) for one in both], [scenario.folder, folder],
+                    ["base", "now"], scenario.start, UNITS, readable(name), find_d3())
+    return text.encode("utf-8")

@@ -1,0 +1,50 @@
+"""The network of a case, as the maps in a browser are told it."""
+from __future__ import annotations
+
+from collections.abc import Sequence
+
+from ..case import Case, Link
+from ..case.places import Places, read_places
+from ..network.source import parts_of
+from . import layout
+
+
+def placed(folders: Sequence[str], cases: Sequence[Case]) -> tuple[list[Places], bool]:
+    """Where each case's nodes lie and its links run, and whether they were laid out: as nodes.csv says where each case
+    has one, else one drawing for all."""
+    known: list[Places | None] = [read_places(folder, case) for folder, case in zip(folders, cases)]
+    if known[0] is not None:
+        first = known[0].of
+        for place, (case, read) in enumerate(zip(cases, known)):
+            if read is None and all(node in first for node in case.nodes):
+                known[place] = known[0]
+    if all(read is not None for read in known):
+        return [read.plane() for read in known if read is not None], False
+    nodes = list(dict.fromkeys(node for case in cases for node in case.nodes))
+    drawn = layout.places(nodes, [(link.tail, link.head, float(link.length_m)) for case in cases
+                                  for link in case.links])
+    return [Places(drawn)] * len(cases), True
+
+
+def told_network(folder: str, case: Case, places: Places, bent: bool) -> dict[str, object]:
+    """The nodes with their places, and the links: ends by the numbers of nodes, the free-flow time in ms, what the link
+    stores in thousandths of a vehicle, its length in m, how it runs, and the links of a source that are part of it."""
+    parts = parts_of(folder, case.links)
+    number = {node: index for index, node in enumerate(case.nodes)}
+    bends = layout.bends(places.of, [(link.tail, link.head)
+                                     for link in case.links]) if bent else [0.0] * len(case.links)
+    return {
+        "nodes": [{"name": node, "x": round(places.of[node][0], 7), "y": round(places.of[node][1], 7)}
+                  for node in case.nodes],
+        "links": [{"name": link.name, "tail": number[link.tail], "head": number[link.head], "free": link.free_ms,
+                   "storage": link.storage_units,
+                   "length": link.length_m, "bend": bend, **shape_of(places, link),
+                   **({"source": parts[link.name]} if link.name in parts else {})}
+                  for link, bend in zip(case.links, bends)],
+    }
+
+
+def shape_of(places: Places, link: Link) -> dict[str, object]:
+    """The points of a link that does not run straight."""
+    return {"shape": [[round(x, 7), round(y, 7)]
+                      for x, y in places.shapes[link.name]]} if link.name in places.shapes else {}
