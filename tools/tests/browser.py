@@ -11,6 +11,8 @@ import urllib.request
 from typing import Any
 
 CHROMIUM, DRIVER = shutil.which("chromium"), shutil.which("chromedriver")
+NULL, SHIFT, CTRL, TAB, ENTER, RIGHT = "\ue000", "\ue008", "\ue009", "\ue004", "\ue007", "\ue014"  # in WebDriver
+HELD = (SHIFT, CTRL)
 needs_browser = unittest.skipUnless(CHROMIUM and DRIVER, "chromium and chromium-driver are not there")
 
 
@@ -53,7 +55,37 @@ class Browser:
             raise AssertionError(json.load(error)["value"]["message"]) from None
 
     def open(self, path: object) -> None:
-        self.call("POST", self.session + "/url", {"url": f"file://{path}"})
+        self.visit(f"file://{path}")
+
+    def visit(self, address: str) -> None:
+        self.call("POST", self.session + "/url", {"url": address})
+
+    def size(self, width: int, height: int) -> None:
+        """Makes the window so large."""
+        self.command("Emulation.setDeviceMetricsOverride", width=width, height=height, deviceScaleFactor=1,
+                     mobile=False)
+
+    def until(self, script: str, *args: object) -> None:
+        """Waits until a script returns what is true."""
+        for _ in range(2_000):
+            if self.run(script, *args):
+                return
+            time.sleep(0.02)
+        raise AssertionError(f"waited in vain: {script}")
+
+    def type(self, keys: str) -> None:
+        """Keys for whatever has the focus, one after the other; Shift or Ctrl holds until the key NULL."""
+        steps, held = [], []
+        for key in keys:
+            if key == NULL:
+                steps += [{"type": "keyUp", "value": one} for one in held]
+                held = []
+            elif key in HELD:
+                steps.append({"type": "keyDown", "value": key})
+                held.append(key)
+            else:
+                steps += [{"type": "keyDown", "value": key}, {"type": "keyUp", "value": key}]
+        self.call("POST", self.session + "/actions", {"actions": [{"type": "key", "id": "keys", "actions": steps}]})
 
     def run(self, script: str, *args: object) -> Any:
         """What a script returns."""

@@ -38,7 +38,8 @@ def span(kind: str, first: int, end: int, **more: object) -> dict[str, object]:
 class Edits(unittest.TestCase):
     def test_links(self) -> None:
         self.assertEqual(made(span("close", 3, 9, link="b"), span("let_in", 3, 9, link="b", per_hour=900),
-                              span("let_out", 3, 9, link="c", per_hour=100_000), {"kind": "speed", "link": "d", "kmh": 30}),
+                              span("let_out", 3, 9, link="c", per_hour=100_000),
+                              {"kind": "speed", "link": "d", "kmh": 30}),
                          [[edits.limit("b", 3, 9, 0)], [edits.limit("b", 3, 9, 1_250)],
                           [edits.exit_limit("c", 3, 9, 32_000)], [edits.diagram("d", 200, 30, 20, 140)]])
 
@@ -97,7 +98,8 @@ class Edits(unittest.TestCase):
         told = [span("close", 5, 9, link="b"), span("let_in", 4, 7, link="b", per_hour=60),
                 span("let_in", 7, 12, link="b", per_hour=60), span("signal", 5, 9, link="b", green=5, cycle=9),
                 {"kind": "speed", "link": "b", "kmh": 30}, {"kind": "speed", "link": "b", "kmh": 40},
-                span("share", 0, 9, node="n2", link="b", percent=4), span("share", 0, 9, node="n2", link="c", percent=4)]
+                span("share", 0, 9, node="n2", link="b", percent=4),
+                span("share", 0, 9, node="n2", link="c", percent=4)]
         entries = [entry(number, one) for number, one in enumerate(told)]
         self.assertEqual(covered(entries, 60), [True, False, False, False, True, False, False, False])
         entries[2].on = False
@@ -115,8 +117,10 @@ class Asked(unittest.TestCase):
                 ({**good, "from": "3"}, "from 0 to 59"), ({**good, "from": 3.0}, "from 0 to 59"),
                 ({**good, "from": True}, "from 0 to 59"), ({**good, "kind": "x" * 1000}, "one of close"),
                 ({**good, "kind": ["close"]}, "one of close"), ({}, "one of close"),
-                (span("let_in", 3, 9, link="b"), "per_hour"), (span("signal", 3, 9, link="b", green=9, cycle=5), "longer"),
-                ({"kind": "speed", "link": "b", "kmh": 0}, "from 1 to"), (span("demand", 3, 9, node="<b>"), "no such node"),
+                (span("let_in", 3, 9, link="b"), "per_hour"),
+                (span("signal", 3, 9, link="b", green=9, cycle=5), "longer"),
+                ({"kind": "speed", "link": "b", "kmh": 0}, "from 1 to"),
+                (span("demand", 3, 9, node="<b>"), "no such node"),
                 (span("share", 3, 9, node="n3", link="a", percent=5), "no link out of n3"),
                 (span("share", 3, 9, node="n2", link="b", percent=101), "at most 100")):
             with self.assertRaisesRegex(Fault, why, msg=str(told)):

@@ -52,9 +52,9 @@ class Strangers(LiveTest):
 
         await self.start()
         port = int(self.origin.rpartition(":")[2])
-        for headers in ({}, *({"Origin": origin} for origin in ("http://evil.example", "null", self.origin + ".evil.example",
-                                                                f"http://127.0.0.1:{port + 1}",
-                                                                f"https://127.0.0.1:{port}"))):
+        origins = ("http://evil.example", "null", f"{self.origin}.evil.example", f"http://127.0.0.1:{port + 1}",
+                   f"https://127.0.0.1:{port}")
+        for headers in ({}, *({"Origin": origin} for origin in origins)):
             with self.assertRaisesRegex(HTTPClientError, "403", msg=str(headers)):
                 await websocket_connect(HTTPRequest(self.base.replace("http", "ws") + "ws", headers=headers))
         wrong = await self.client("wrong")
@@ -82,7 +82,8 @@ class Careless(LiveTest):
         self.assertEqual(await first.change({"edit": SHUT}), "")
 
     async def test_strange_values(self) -> None:
-        """Each change that is none is refused and changes nothing; other messages that mean nothing are passed over."""
+        """Each change that is none is refused and changes nothing; other messages that mean nothing are passed
+        over."""
         await self.start()
         client = await self.client()
         for told in ({**SHUT, "link": {"a": 1}}, {**SHUT, "from": 10**30}, {**SHUT, "link": "<img src=x onerror=1>"}, {},

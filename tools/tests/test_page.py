@@ -8,7 +8,7 @@ from pathlib import Path
 from typing import Any
 from unittest import mock
 
-from browser import Browser, needs_browser
+from browser import ENTER, RIGHT, Browser, needs_browser
 from support import FolderTest
 from test_delay import DATA, read
 from test_from_sumo import edge
@@ -28,7 +28,6 @@ try:
 except Fault as fault:
     NO_D3 = str(fault)
 needs_d3 = unittest.skipIf(NO_D3, NO_D3)
-RIGHT, ENTER = "\ue014", "\ue007"  # the keys in WebDriver
 
 
 def write_page(folder: Path, *words: str) -> Path:

@@ -19,7 +19,7 @@ import tornado.websocket
 from ..errors import Fault
 from ..files import read_text, readable
 from ..show.network import placed, told_network
-from ..show.page import WEB as SHARED, find_d3
+from ..show.page import SHARED_SCRIPTS, WEB as SHARED, find_d3
 from .desk import Desk
 from .guard import ADDRESS, MOST_BROWSERS, MOST_MESSAGE, MOST_PENDING, SECONDS_FOR_TOKEN, Guard
 from .kept import case_zip, page_of, script_of
@@ -29,7 +29,6 @@ from .scenario import Scenario
 WEB = Path(__file__).resolve().parent / "web"
 FILES = {"/": "live.html", "/live.css": "live.css"}
 SCRIPTS = ("edits.js", "tables.js", "live.js")
-SHARED_SCRIPTS = ("numbers.js", "map.js", "chart.js", "table.js", "play.js")
 KINDS = {"html": "text/html", "css": "text/css", "js": "text/javascript"}
 PAUSE = 20  # seconds between pings
 

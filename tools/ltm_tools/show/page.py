@@ -21,6 +21,7 @@ from ..loading.queues import Queue, queues
 from .network import placed, told_network
 
 WEB = Path(__file__).resolve().parent / "web"
+SHARED_SCRIPTS = ("numbers.js", "names.js", "map.js", "chart.js", "table.js", "play.js")  # of every page, in this order
 D3_PLACES = ("/usr/share/nodejs/d3/dist/d3.min.js", "/usr/share/javascript/d3/d3.min.js",
              "/usr/lib/node_modules/d3/dist/d3.min.js")
 D3_VERSION = re.compile(r"d3js\.org v([0-9]+)")
@@ -110,7 +111,9 @@ def page(both: list[Loaded], folders: list[str], names: list[str], start: int, l
     told = {"title": title, "least": format(vehicles(least), "f"), "unit": unit.name, "boundary": busiest(both[0]),
             "cases": [told_case(one, folders[index], name, start, least, places[index], bent, unit)
                       for index, (one, name) in enumerate(zip(both, names))]}
-    parts = {"TITLE": html.escape(title), "STYLE": read_text(WEB / "page.css"),
+    styles, scripts = ("".join(read_text(WEB / name) for name in names)
+                       for names in (("shared.css", "page.css"), (*SHARED_SCRIPTS, "page.js")))
+    parts = {"TITLE": html.escape(title), "STYLE": styles,
              "DATA": json.dumps(told, separators=(",", ":")).replace("<", "\\u003c"),
-             "LIBRARY": library.replace("</script", "<\\/script"), "SCRIPT": read_text(WEB / "page.js")}
+             "LIBRARY": library.replace("</script", "<\\/script"), "SCRIPT": scripts}
     return re.sub("@([A-Z]+)@", lambda found: parts[found[1]], read_text(WEB / "page.html"))

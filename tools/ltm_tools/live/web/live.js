@@ -1,0 +1,281 @@
+"use strict";
+// The page of `ltm-tools live`: what the server tells is shown, and what a user does is told to it. Counts are thousandths of a vehicle, times
+// milliseconds, vehicle times their product.
+(() => {
+  const $ = id => document.getElementById(id), { vehicles, clockOf } = ltmNumbers, AGAIN = 1000, TALL = [120, 112];
+  const token = location.hash.slice(1) || sessionStorage.getItem("token") || "";
+  sessionStorage.setItem("token", token);
+  history.replaceState(null, "", location.pathname);
+  const state = { net: null, frame: null, costs: null, list: [], you: "", revision: 0, picked: {}, found: "", shown: "queue", ready: false };
+  const times = [];  // for tests: of each change when it was asked for, drawn, painted and counted
+  let socket = null, asked = null, flying = false, unit = ltmNumbers.unitOf(0);
+
+  // ---- to and from the server
+
+  function connect() {
+    socket = new WebSocket(`ws://${location.host}/ws`);
+    socket.binaryType = "arraybuffer";
+    socket.onopen = () => send({ token });
+    socket.onmessage = event => typeof event.data === "string" ? hear(JSON.parse(event.data)) : show(new Float64Array(event.data));
+    socket.onclose = event => {
+      flying = false;
+      const again = event.code !== 1008 && event.code !== 1013;
+      say(`not connected: ${event.reason || "the server is gone"}${again ? "; tried again" : ""}`, true);
+      if (again) setTimeout(connect, AGAIN);
+    };
+  }
+
+  const send = told => socket !== null && socket.readyState === 1 && socket.send(JSON.stringify(told));
+
+  function say(text, bad = false) {
+    $("notice").textContent = text;
+    $("notice").className = bad ? "bad" : "";
+    $("notice").title = text;
+  }
+
+  // Asks for a change of the list.
+  function ask(told) {
+    times.push({ asked: performance.now() });
+    say("");
+    send({ ...told, at: times.length - 1 });
+  }
+
+  function hear(told) {
+    if (told.hello !== undefined) begin(told.hello);
+    if (told.list !== undefined) showList(told);
+    if (told.refused !== undefined) refused(told);
+    if (told.notice !== undefined) say(told.notice, true);
+    if (told.costs !== undefined) showCosts(told);
+    if (told.curve !== undefined) drawCurves(told);
+  }
+
+  function refused(told) {
+    say(told.refused, true);
+    if (times[told.at]) times[told.at].refused = told.refused;
+    listing.draw(state.list, state.you);  // boxes as they are
+  }
+
+  // ---- what is shown of a boundary
+
+  // One question is on its way at a time, and the last that was asked for is the next.
+  function see(k) {
+    asked = k;
+    if (!flying && socket !== null && socket.readyState === 1) { flying = true; send({ see: k }); }
+  }
+
+  function show(words) {
+    const links = state.net.links.length, nodes = state.net.nodes.length, fresh = state.frame === null || state.frame.revision !== words[0];
+    let at = 2;
+    const part = size => words.subarray(at, at += size), of = () => ({ queue: part(links), standing: part(links), waiting: part(nodes) });
+    state.frame = { revision: words[0], k: words[1], now: of(), base: of() };
+    if (state.frame.k === asked) flying = false;
+    else { flying = true; send({ see: asked }); }
+    map.draw();
+    const one = times[times.length - 1];
+    if (fresh && one && one.drawn === undefined) { one.drawn = performance.now(); behindPaint(() => { one.painted = performance.now(); }); }
+  }
+
+  // Calls once the browser has painted: behind the next frame.
+  function behindPaint(then) {
+    requestAnimationFrame(() => {
+      const channel = new MessageChannel();
+      channel.port1.onmessage = then;
+      channel.port2.postMessage(0);
+    });
+  }
+
+  // ---- the map
+
+  const value = link => {
+    const { now, base } = state.frame;
+    return state.shown === "change" ? now.queue[link] - base.queue[link] : now[state.shown][link];
+  };
+  const shown = () => state.frame !== null;
+  const network = () => state.net;
+  const map = ltmMap.create($("network"), $("tip"), {
+    get networks() { return [state.net]; }, network, scale: () => state.shown === "change" ? "both" : "warm",
+    part: link => shown() ? value(link) / state.net.links[link].storage : 0,
+    waiting: node => shown() ? state.frame.now.waiting[node] : 0,
+    chosen: () => state.picked,
+    label: link => shown() && Math.abs(value(link)) >= 500 && state.net.links.length <= 80 ? (state.shown === "change" && value(link) > 0 ? "+" : "") + vehicles(value(link), 1) : "",
+    nodeFirst: (node, event) => Boolean(event && event.shiftKey),
+    tell: told,
+    choose: what => pick(what),
+  });
+
+  function told(what) {
+    if (!shown()) return "";
+    const { now, base } = state.frame;
+    if (what.link !== undefined) {
+      const line = state.net.links[what.link];
+      return `${line.name}: ${vehicles(now.queue[what.link])} in the queue, base ${vehicles(base.queue[what.link])}; ${vehicles(now.standing[what.link])} on it of ${vehicles(line.storage)}`;
+    }
+    return what.node === undefined ? "" : `node ${state.net.nodes[what.node].name}` + (state.net.isOrigin.has(what.node) ? `: ${vehicles(now.waiting[what.node])} wait, base ${vehicles(base.waiting[what.node])}` : "");
+  }
+
+  function begin(net) {
+    const first = state.net === null;
+    state.net = net;
+    state.you = net.you;
+    state.frame = null;
+    Object.assign(net, ltmNames.of(net));
+    net.isOrigin = new Set(net.origins);
+    document.title = `${net.name} live`;
+    $("title").textContent = net.name;
+    map.measure();
+    flying = false;
+    if (first) { player.show(Math.round(net.slots / 3)); pick({}); legend(); say(""); }
+    else { see(player.here()); tellPick(); say(""); }
+  }
+
+  function legend() {
+    const both = state.shown === "change";
+    document.querySelector("#scale i").style.background = ltmMap.gradient(both ? "both" : "warm");
+    const [left, , right] = document.querySelectorAll("#scale span");
+    left.textContent = both ? "−100" : "0";
+    right.textContent = both ? "+100" : "100";
+  }
+
+  // ---- what is picked
+
+  const clock = k => clockOf(state.net.start + k * state.net.step);
+
+  // The boundary of a clock time; null where it is not within the horizon.
+  function slotOf(text) {
+    const moment = ltmNumbers.momentOf(text);
+    const k = moment === null ? -1 : Math.round((moment - state.net.start) / state.net.step);
+    return k >= 0 && k <= state.net.slots ? k : null;
+  }
+
+  const panel = ltmEdits.panel(d3.select("#edit"), { clockOf: clock, slotOf, step: () => state.net.step, slots: () => state.net.slots, here: () => player.here(), say,
+    edit: what => ask({ edit: what }), pick: what => pick({ node: state.net.nodeOf.get(what.node) }, what.share) });
+
+  // Curves are asked for of a road, or of a node where some set out.
+  function tellPick() {
+    const { net, picked } = state;
+    send({ pick: picked.link !== undefined ? { link: net.links[picked.link].name } : net.isOrigin.has(picked.node) ? { node: net.nodes[picked.node].name } : null });
+  }
+
+  function pick(what, share) {
+    state.picked = what;
+    $("curves").hidden = true;
+    panel.draw(described(what, share));
+    tellPick();
+    table.mark();
+    map.draw();
+  }
+
+  function described(what, share) {
+    const { net } = state, choicesAt = node => net.choices[net.nodes[node].name] || [];
+    if (what.link !== undefined) {
+      const link = net.links[what.link], capacity = Math.floor(net.capacity[what.link] / 1000), tail = net.nodes[link.tail].name;
+      return { road: true, name: link.name, under: `${link.length} m, ${net.kmh[what.link]} km/h, ${capacity}/h,`, tail, head: net.nodes[link.head].name, kmh: net.kmh[what.link], capacity,
+        kinds: ltmEdits.kindsOfRoads, choicesAtTail: choicesAt(link.tail).includes(link.name) };
+    }
+    if (what.node === undefined) return null;
+    const choices = choicesAt(what.node), isOrigin = net.isOrigin.has(what.node);
+    return { road: false, name: net.nodes[what.node].name, under: isOrigin ? "an origin" : "", choices, shareOf: share, kinds: [...(isOrigin && !share ? ["demand"] : []), ...(choices.length ? ["share"] : []), ...(isOrigin && share ? ["demand"] : [])] };
+  }
+
+  function drawCurves(curve) {
+    const box = d3.select("#curves").html(""), { net, picked } = state;
+    const isOf = curve.kind === "link" ? net.linkOf.get(curve.curve) === picked.link : net.nodeOf.get(curve.curve) === picked.node;
+    $("curves").hidden = !isOf;
+    if (!isOf) return;
+    const link = net.linkOf.get(curve.curve), road = curve.kind === "link", storage = road ? net.links[link].storage : null;
+    const on = ([up, down]) => up.map((count, k) => count - down[k]), queue = ([up, down], free) => ltmNumbers.queues(up, down, net.step, free);
+    const names = road ? ["entered", "left"] : ["produced", "departed"];
+    const counts = [["now", false], ["base", true]].flatMap(([of, thin]) => names.map((_, at) => line(curve[of][at], at ? "var(--left)" : "var(--entered)", thin)));
+    const below = [["now", false, 0], ["base", true, 1]].flatMap(([of, thin, at]) => road
+      ? [line(on(curve[of]), "var(--standing)", thin), line(queue(curve[of], curve.free[at]), "var(--queue)", thin)] : [line(on(curve[of]), "var(--queue)", thin)]);
+    const last = net.start + net.slots * net.step;
+    ltmChart.draw(box, { lines: below, bound: storage, label: "vehicles", tall: TALL[1], first: net.start, last });
+    ltmChart.draw(box.append("div").attr("class", "counts"), { lines: counts, bound: null, label: "vehicles since the start", tall: TALL[0], first: net.start, last });
+    const key = road ? [["on the road", "var(--standing)"], ["queue", "var(--queue)"], ["storage", null]] : [["waiting", "var(--queue)"]];
+    ltmChart.key(box, key, "thin: base");
+    ltmChart.key(d3.select("#curves .counts"), names.map((name, at) => [name, at ? "var(--left)" : "var(--entered)"]));
+    drawNow();
+  }
+
+  const line = (values, colour, thin) => ({ values, colour, thin, start: state.net.start, step: state.net.step });
+  const drawNow = () => ltmChart.now(d3.select("#curves"), state.net.start + player.here() * state.net.step);
+
+  // ---- the list, and what it costs
+
+  const undo = id => ask({ undo: id });
+  const listing = ltmEdits.list(d3.select("#list"), { undo, switch: (id, on) => ask({ switch: id, on }), pickOf: entry => pickName(entry.node && !state.net.linkOf.has(entry.link) ? entry.node : entry.link || entry.node) });
+
+  function showList(told) {
+    state.list = told.list;
+    state.ready = told.ready;
+    state.revision = told.revision;
+    listing.draw(told.list, state.you);
+    $("count").textContent = !told.ready ? "the base is being fetched" : told.list.length || "";
+    for (const id of ["script", "case", "page"]) $(id).disabled = !told.ready;
+    $("undo").disabled = !told.list.length;
+    if (told.recomputed !== undefined) say(`settled in ${Math.round(told.ms)} ms: ${told.recomputed} pairs of node and slot anew`);
+    if (state.frame !== null && state.frame.revision !== told.revision && !flying) see(player.here());
+  }
+
+  function showCosts(told) {
+    state.costs = told.costs;
+    unit = ltmTables.drawSums(d3.select("#sums"), told.costs);
+    if (!told.costs.comparable) say("Hours are not to be compared: over 0.1 % of the vehicles more or fewer are not there by the end.", true);
+    drawRoads();
+    const one = times[times.length - 1];
+    if (one && one.counted === undefined && one.drawn !== undefined) one.counted = performance.now();
+  }
+
+  const table = ltmTables.roads(d3.select("#roads table"), { clockOf: clock, unit: () => unit, pick: row => { player.show(row.when); pickRow(row); },
+    isChosen: row => (row.kind === "links" ? state.picked.link : state.picked.node) === row.at });
+
+  function pickRow(row) {
+    const what = row.kind === "links" ? { link: row.at } : { node: row.at };
+    pick(what);
+    map.bring(what);
+  }
+
+  function pickName(name) {
+    const link = state.net.linkNamed(name), node = state.net.nodeOf.get(name), what = link !== undefined ? { link } : node !== undefined ? { node } : null;
+    if (what === null) return say(`there is no road or node ${name}`, true);
+    pick(what);
+    map.bring(what);
+  }
+
+  function drawRoads() {
+    if (state.costs === null) return;
+    const words = state.found.toLowerCase(), rows = ltmTables.rowsOf(state.net, state.costs).filter(row => row.kind === "links" ? state.net.isCalled(row.at, words) : row.name.toLowerCase().includes(words));
+    $("unit").textContent = `in ${unit.name}; ${rows.length} with any` + (rows.length > table.most ? `, the first ${table.most}` : "");
+    table.show(rows);
+  }
+
+  // ---- what a user does
+
+  const player = ltmPlay.create({ time: $("time"), button: $("play"), clock: $("clock") },
+    { slots: () => state.net.slots, clockOf: clock, goTo: k => { see(k); panel.preset(); drawNow(); } });
+
+  async function keep(name) {
+    const got = await fetch(`/${name}`, { method: "POST", headers: { "X-Token": token } });
+    if (!got.ok) return say(`${name}: ${await got.text() || got.status}`, true);
+    const link = document.createElement("a");
+    link.href = URL.createObjectURL(await got.blob());
+    link.download = `${state.net.name}-${name}`;
+    link.click();
+    setTimeout(() => URL.revokeObjectURL(link.href), AGAIN);
+  }
+
+  for (const [id, name] of [["script", "script.jsonl"], ["case", "case.zip"], ["page", "page.html"]]) $(id).addEventListener("click", () => keep(name));
+  const undoLast = () => state.list.length && undo(state.list[state.list.length - 1].id);
+  $("undo").addEventListener("click", undoLast);
+  document.addEventListener("keydown", event => {
+    const writes = event.target.matches("input:not([type=range]):not([type=checkbox])");
+    if (event.key === "z" && (event.ctrlKey || event.metaKey) && !event.shiftKey && !writes) { event.preventDefault(); undoLast(); }
+  });
+  $("shown").addEventListener("change", () => { state.shown = $("shown").value; legend(); map.draw(); });
+  $("search").addEventListener("input", () => { state.found = $("search").value.trim(); drawRoads(); });
+  $("search").addEventListener("keydown", event => { if (event.key === "Enter" && state.found) pickName(state.found); });
+
+  const wayOf = name => map.wayInWindow(state.net.linkOf.get(name));
+  window.live = { state, times, send, middle: name => ltmMap.middleOf(wayOf(name)), nodeAt: name => map.nodeInWindow(state.net.nodeOf.get(name)), pick: pickName };
+  connect();
+})();
