@@ -86,8 +86,8 @@ class Careless(LiveTest):
         over."""
         await self.start()
         client = await self.client()
-        for told in ({**SHUT, "link": {"a": 1}}, {**SHUT, "from": 10**30}, {**SHUT, "link": "<img src=x onerror=1>"}, {},
-                     {"kind": "speed", "link": "north_east", "kmh": 900}):
+        for told in ({**SHUT, "link": {"a": 1}}, {**SHUT, "from": 10**30}, {**SHUT, "link": "<img src=x onerror=1>"},
+                     {}, {"kind": "speed", "link": "north_east", "kmh": 900}):
             self.assertNotEqual(await client.change({"edit": told}), "", told)
         self.assertIn("StepTooLong", client.all("refused")[-1])
         for told in ({"see": 10**9}, {"see": -1}, {"see": "x"}, {"see": True}, {"pick": 5}, {"pick": {"link": ["a"]}},
