@@ -6,6 +6,7 @@ from ltm_tools.case.edits import Edit
 from ltm_tools.errors import Fault
 from ltm_tools.live.asks import ask_of
 from ltm_tools.live.entries import Entry, batches_of, covered, in_batches
+from ltm_tools.live.standing import Own
 
 
 def case() -> Case:
@@ -27,7 +28,7 @@ def entry(number: int, told: dict[str, object], on: bool = True) -> Entry:
 
 def made(*told: dict[str, object]) -> list[list[Edit]]:
     """The edits of each of these changes."""
-    found = batches_of(case(), [entry(number, one) for number, one in enumerate(told)])
+    found = batches_of(case(), Own(case()), [entry(number, one) for number, one in enumerate(told)])
     return [[edit for batch in batches for edit in batch] for batches in found]
 
 
@@ -78,13 +79,13 @@ class Edits(unittest.TestCase):
         """Edits are worked out anew of what is left: without the half from 20 to 30 none is cut there."""
         one = entry(1, span("demand", 20, 30, node="n1", percent=50), on=False)
         other = entry(2, span("demand", 40, 60, node="n1", percent=0))
-        (_, (batch,)) = batches_of(case(), [one, other])
+        (_, (batch,)) = batches_of(case(), Own(case()), [one, other])
         self.assertEqual(batch[-1], edits.demand("n1", "n4", 0, 40, 60_000))
 
     def test_after_lines_of_a_script(self) -> None:
         """A percentage counts from what lines before it leave."""
         line = Entry(1, "me", "", line=[edits.demand("n2", "n4", 0, 60, 50_000)])
-        found = batches_of(case(), [line, entry(2, span("demand", 0, 60, node="n2", percent=10))])
+        found = batches_of(case(), Own(case()), [line, entry(2, span("demand", 0, 60, node="n2", percent=10))])
         self.assertEqual(found[1], [[edits.demand("n2", "n4", 0, 60, 5_000)]])
 
     def test_batches(self) -> None:

@@ -48,6 +48,7 @@ class Desk:
         self.browsers: set[Browser] = set()
         self.thread = ThreadPoolExecutor(1, "scenario")
         self.costs: Told = {}
+        self.base: Told = {}
         self.ready, self.stale = False, False  # whether the base is there; whether the list is not settled yet
 
     async def call(self, work: Callable[[], Done]) -> Done:
@@ -200,7 +201,8 @@ class Desk:
         """Asks what it all costs, and tells it."""
         scenario = self.scenario
         delays, totals = await self.call(lambda: (scenario.delays(), scenario.totals()))
-        costs: Told = {"base": told_delays(scenario.base_delays), "now": told_delays(delays)}
+        self.base = self.base or told_delays(scenario.base_delays)
+        costs: Told = {"base": self.base, "now": told_delays(delays)}
         self.costs = {"costs": {**costs, **told_totals(scenario.base_totals, totals)}, "revision": scenario.revision}
         self.tell(self.costs)
 

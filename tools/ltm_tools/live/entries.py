@@ -11,7 +11,7 @@ from ..errors import Fault
 from ..formats import HOUR_MS, MOST_EDITS, MOST_LINE_BYTES, MOST_SLOT_UNITS, UNITS
 from ..network.cycles import Green, Plan, exit_limits
 from .asks import Ask
-from .standing import Change, Standing
+from .standing import Change, Own, Standing
 
 Batch = list[Edit]
 ROOM = 1_000  # bytes of a line that its edits leave for the rest
@@ -32,9 +32,9 @@ class Entry:
     batches: list[Batch] = field(default_factory=list)
 
 
-def batches_of(case: Case, entries: Sequence[Entry]) -> list[list[Batch]]:
-    """The batches of each entry, those of one that is off none; a Fault where one changes nothing."""
-    standing = Standing(case)
+def batches_of(case: Case, own: Own, entries: Sequence[Entry]) -> list[list[Batch]]:
+    """The batches of each entry of a list over a case, whose own rows these are; of one that is off none."""
+    standing = Standing(own)
     found: list[list[Batch]] = []
     for entry in entries:
         if not entry.on:

@@ -19,6 +19,7 @@ from ..sweep.taking_back import Taking
 from .asks import Members, ask_of
 from .entries import Batch, Entry, batches_of, in_batches
 from .frames import Base, Boundary, Kept, boundary_of, frame
+from .standing import Own
 
 ROOM = 5_000  # lines that a session has left when it is opened anew, or a quarter of all where that is less
 PIECE = 50  # boundaries of the base that are asked for at a time
@@ -34,7 +35,7 @@ class Scenario:
         self.folder, self.program, self.start = os.fspath(folder), program, start
         self.last_line = most_lines - min(ROOM, most_lines // 4)
         self.case = Case.read(folder)
-        self.taking = Taking(self.case)
+        self.taking, self.own = Taking(self.case), Own(self.case)
         self.slots, self.step = self.case.setup.slots, self.case.setup.step_ms
         self.links = {link.name: place for place, link in enumerate(self.case.links)}
         self.nodes = {node: place for place, node in enumerate(self.case.nodes)}
@@ -157,7 +158,7 @@ class Scenario:
 
     def change(self, entries: list[Entry]) -> None:
         """Makes another list the scenario's; where a batch is refused, a Fault, and the list stays as it was."""
-        found = batches_of(self.case, entries)
+        found = batches_of(self.case, self.own, entries)
         made = [replace(entry, batches=batches) for entry, batches in zip(entries, found)]
         last = made[-1] if len(made) > len(self.entries) else None
         if last is not None and not last.batches and last.on:

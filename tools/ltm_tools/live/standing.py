@@ -29,21 +29,28 @@ class Change(NamedTuple):
     link: str = ""
 
 
-class Standing:
-    """The rows of demand by origin and those of splits by node that stand, and the changes made of them."""
+class Own:
+    """The rows that a case itself has: of demand by origin, and of splits by node and destination."""
 
     def __init__(self, case: Case) -> None:
         self.slots = case.setup.slots
         self.demand: dict[str, dict[Key, int]] = {}
         self.splits: dict[str, dict[str, SplitRows]] = {}
-        self.demand_changes: dict[str, list[Change]] = {}
-        self.share_changes: dict[str, list[Change]] = {}
         for row in case.standing_demand():
             self.demand.setdefault(row.origin, {})[row.origin, row.destination, row.from_slot, row.to_slot] = row.units
-        for split in case.standing_splits():
+        for split in sorted(case.standing_splits(), key=lambda row: row.from_slot):
             rows = self.splits.setdefault(split.node, {}).setdefault(split.destination, [])
             rows.append((split.from_slot, split.weights))
-            rows.sort(key=lambda row: row[0])
+
+
+class Standing:
+    """The rows of demand by origin and those of splits by node that stand, and the changes made of them."""
+
+    def __init__(self, own: Own) -> None:
+        self.slots = own.slots
+        self.demand, self.splits = dict(own.demand), dict(own.splits)  # of which none is changed, but replaced
+        self.demand_changes: dict[str, list[Change]] = {}
+        self.share_changes: dict[str, list[Change]] = {}
 
     def change_demand(self, origin: str, change: Change) -> list[Edit]:
         """The edits that set the demand of an origin to a percentage; none where nothing sets out then."""
