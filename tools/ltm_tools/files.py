@@ -19,6 +19,7 @@ from .formats import exact_or_none, number_rule
 from .replacing import make_folders, replace
 
 
+NEW_LINE = b"\n"
 NO_TEXT = re.compile("[\ud800-\udfff]")  # halves of pairs, by which a byte that is no text is kept
 
 
@@ -44,10 +45,13 @@ def decoded(data: bytes, path: str | os.PathLike[str]) -> str:
     """The text of bytes in UTF-8, with or without its mark; a Fault with advice for any other encoding."""
     if data.startswith((codecs.BOM_UTF16_LE, codecs.BOM_UTF16_BE)):
         raise Fault(f"{path}: this is UTF-16 and not UTF-8: iconv -f utf-16 -t utf-8 {path} >NEW turns it into UTF-8")
+    zero = data.find(b"\0")
+    if zero >= 0:
+        raise Fault(f"{path}: line {data.count(NEW_LINE, 0, zero) + 1} has a byte 0, so that this is no text")
     try:
         return data.decode("utf-8-sig")
     except UnicodeDecodeError as error:
-        line = data.count(b"\n", 0, error.start) + 1
+        line = data.count(NEW_LINE, 0, error.start) + 1
         raise Fault(
             f"{path}: line {line} has the byte 0x{data[error.start]:02x}, which is not UTF-8 and may be Latin-1: "
             f"iconv -f latin1 -t utf-8 {path} >NEW turns it into UTF-8"

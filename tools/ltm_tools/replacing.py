@@ -8,6 +8,7 @@ from __future__ import annotations
 import contextlib
 import os
 import secrets
+import signal
 import stat
 from collections.abc import Iterator
 from contextvars import ContextVar
@@ -28,16 +29,25 @@ class Changes:
 
     def write(self, path: str, data: bytes) -> None:
         """Writes a file beside its place."""
-        made, was = written_beside(path, data), self.new.get(path)
+        was, made = self.new.get(path), beside(path)
+        self.new[path] = made  # known before it is there, so that it goes wherever this is interrupted
         if was is not None:
             os.unlink(was)
-        self.new[path] = made
+        write_beside(path, made, data)
 
     def put(self) -> None:
+        """Puts all in place, which no signal interrupts; what was there comes back where one cannot be."""
+        with uninterrupted():
+            self.put_all()
+
+    def put_all(self) -> None:
         """Puts all in place; what was there comes back where one cannot be."""
         if len(self.new) == 1:
             for path, made in self.new.items():
-                put_one(path, made)
+                if made is None:
+                    os.unlink(path)
+                else:
+                    os.replace(made, path)
             return
         folders = dict.fromkeys(os.path.dirname(path) for path in self.new)
         setups = [path for folder in folders if os.path.isfile(path := os.path.join(folder, SETUP_FILE))
@@ -113,8 +123,15 @@ def replace(path: str | os.PathLike[str], data: bytes) -> None:
     changes, place = open_changes.get(), os.path.realpath(name)
     if changes is not None:
         changes.write(place, data)
-    else:
-        put_one(place, written_beside(place, data))
+        return
+    made = beside(place)
+    try:
+        write_beside(place, made, data)
+        os.replace(made, place)
+    except BaseException:
+        with contextlib.suppress(OSError):
+            os.unlink(made)
+        raise
 
 
 def take_away(path: str | os.PathLike[str]) -> None:
@@ -135,10 +152,10 @@ def make_folders(path: str | os.PathLike[str]) -> None:
     while not os.path.exists(folder):
         missing.append(folder)
         folder = os.path.dirname(folder)
-    os.makedirs(path, exist_ok=True)
     changes = open_changes.get()
     if changes is not None:
         changes.folders += reversed(missing)
+    os.makedirs(path, exist_ok=True)
 
 
 def is_no_file(name: str) -> bool:
@@ -155,30 +172,21 @@ def beside(path: str) -> str:
     return os.path.join(folder, f".{name[:40]}.{secrets.token_hex(6)}.new")
 
 
-def written_beside(path: str, data: bytes) -> str:
-    """The name of a new file beside the place of another, with its rights and its owner where it is there."""
-    made = beside(path)
-    file = os.open(made, os.O_WRONLY | os.O_CREAT | os.O_EXCL, 0o666)
-    try:
+def write_beside(path: str, made: str, data: bytes) -> None:
+    """Writes a new file beside the place of another, with its rights and its owner where it is there."""
+    with open(made, "xb") as file:
         with contextlib.suppress(OSError):
             was = os.stat(path)
-            os.fchmod(file, stat.S_IMODE(was.st_mode))
-            os.fchown(file, was.st_uid, was.st_gid)
-        with open(file, "wb") as opened:
-            opened.write(data)
-    except BaseException:
-        os.unlink(made)
-        raise
-    return made
+            os.fchmod(file.fileno(), stat.S_IMODE(was.st_mode))
+            os.fchown(file.fileno(), was.st_uid, was.st_gid)
+        file.write(data)
 
 
-def put_one(path: str, made: str | None) -> None:
-    """Puts a file in its place, or takes the one that is there away."""
-    if made is None:
-        os.unlink(path)
-        return
+@contextlib.contextmanager
+def uninterrupted() -> Iterator[None]:
+    """Signals that come within are heeded at its end."""
+    were = signal.pthread_sigmask(signal.SIG_BLOCK, signal.valid_signals())
     try:
-        os.replace(made, path)
-    except BaseException:
-        os.unlink(made)
-        raise
+        yield
+    finally:
+        signal.pthread_sigmask(signal.SIG_SETMASK, were)

@@ -40,6 +40,12 @@ class Names(SourceTest):
         for name, told in (("r", "r of the source was contracted"), ("z", "z is no link of the case, nor of its")):
             self.assertRaisesRegex(Fault, told, links_named, self.made, self.links, [name])
 
+    def test_of_links_that_the_case_has_no_longer(self) -> None:
+        (self.made / "source_links.csv").write_text(LINKS + "t,4,5,gone\n")
+        (self.made / "source_nodes.csv").write_text(NODES + "6,gone\n")
+        self.assertEqual(links_named(self.made, self.links, ["s"]), ["b"])
+        self.assertRaisesRegex(Fault, "t is no link of the case, nor of its", links_named, self.made, self.links, ["t"])
+
     def test_of_paths(self) -> None:
         for words in ("p q r s", "q s", "a s", "p q b", "a b"):
             self.assertEqual(path_named(self.made, self.links, words.split()), ["a", "b"], words)

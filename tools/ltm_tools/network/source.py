@@ -38,7 +38,8 @@ class Source:
 
     @classmethod
     def read(cls, folder: str | os.PathLike[str], roads: Roads) -> Source:
-        """The source of a case; that of the case itself, name by name, where the files are not there."""
+        """The source of a case; that of the case itself, name by name, where the files are not there. What has become
+        of links and nodes that the case has no longer is passed over."""
         made = cls()
         for link in roads.links.values():
             made.links[link.name] = SourceLink(link.tail, link.head, link.name)
@@ -47,10 +48,12 @@ class Source:
         if (path / LINKS_FILE).exists():
             told = cls()
             for row in read_table(path / LINKS_FILE, ("source", "from", "to", "link")):
-                told.links[row.text("source")] = SourceLink(row.text("from"), row.text("to"),
-                                                            row.text("link", "") or None)
+                part = row.text("link", "") or None
+                if part is None or part in roads.links:
+                    told.links[row.text("source")] = SourceLink(row.text("from"), row.text("to"), part)
             for row in read_table(path / NODES_FILE, ("source", "node")):
-                told.nodes[row.text("source")] = row.text("node")
+                if row.text("node") in made.nodes:
+                    told.nodes[row.text("source")] = row.text("node")
             own = {name: link for name, link in made.links.items()
                    if name in told.links and told.links[name].link != name}  # a name that is both is the case's own
             made.links = {**made.links, **told.links, **own}
