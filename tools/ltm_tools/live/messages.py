@@ -77,8 +77,7 @@ def picked_of(told: object, scenario: Scenario) -> tuple[str, str] | None:
 def told_list(entries: Sequence[Entry], slots: int) -> list[Told]:
     """The list, for browsers."""
     return [{"id": entry.number, "by": entry.by, "text": entry.text, "on": entry.on, "covered": over,
-             "link": entry.ask.link if entry.ask else "", "node": entry.ask.node if entry.ask else ""}
-            for entry, over in zip(entries, covered(entries, slots))]
+             "ask": entry.ask.members() if entry.ask else {}} for entry, over in zip(entries, covered(entries, slots))]
 
 
 def told_delays(delays: AllDelays) -> Told:

@@ -36,7 +36,7 @@
   // Asks for a change of the list.
   function ask(told) {
     times.push({ asked: performance.now() });
-    say("");
+    say("being worked out");
     send({ ...told, at: times.length - 1 });
   }
 
@@ -98,10 +98,18 @@
     waiting: node => shown() ? state.frame.now.waiting[node] : 0,
     chosen: () => state.picked,
     label: link => shown() && Math.abs(value(link)) >= 500 && state.net.links.length <= 80 ? (state.shown === "change" && value(link) > 0 ? "+" : "") + vehicles(value(link), 1) : "",
+    marks,
     nodeFirst: (node, event) => Boolean(event && event.shiftKey),
     tell: told,
     choose: what => pick(what),
   });
+
+  // Of each road that is shut at the boundary that is shown a cross, and of one where something else is changed a point.
+  function marks() {
+    const k = shown() ? state.frame.k : 0, now = state.list.filter(({ on, ask }) => on && ask.link !== undefined && ask.node === undefined && (ask.from === undefined || ask.from <= k && k < ask.to));
+    const shut = now.filter(({ ask }) => ask.kind === "close"), signs = [...now.map(one => [one, "•"]), ...shut.map(one => [one, "✕"])];
+    return new Map(signs.map(([{ ask }, sign]) => [state.net.linkOf.get(ask.link), sign]));
+  }
 
   function told(what) {
     if (!shown()) return "";
@@ -203,7 +211,7 @@
   // ---- the list, and what it costs
 
   const undo = id => ask({ undo: id });
-  const listing = ltmEdits.list(d3.select("#list"), { undo, switch: (id, on) => ask({ switch: id, on }), pickOf: entry => pickName(entry.node && !state.net.linkOf.has(entry.link) ? entry.node : entry.link || entry.node) });
+  const listing = ltmEdits.list(d3.select("#list"), { undo, switch: (id, on) => ask({ switch: id, on }), pickOf: ({ ask: { link, node } }) => (link || node) && picked(node === undefined ? { link: state.net.linkOf.get(link) } : { node: state.net.nodeOf.get(node) }) });
 
   function showList(told) {
     state.list = told.list;
@@ -226,11 +234,11 @@
     if (one && one.counted === undefined && one.drawn !== undefined) one.counted = performance.now();
   }
 
-  const table = ltmTables.roads(d3.select("#roads table"), { clockOf: clock, unit: () => unit, pick: row => { player.show(row.when); pickRow(row); },
+  const table = ltmTables.roads(d3.select("#roads table"), { clockOf: clock, unit: () => unit, pick: row => { player.show(row.when); picked(row.kind === "links" ? { link: row.at } : { node: row.at }); },
     isChosen: row => (row.kind === "links" ? state.picked.link : state.picked.node) === row.at });
 
-  function pickRow(row) {
-    const what = row.kind === "links" ? { link: row.at } : { node: row.at };
+  // Picks, and has it in sight.
+  function picked(what) {
     pick(what);
     map.bring(what);
   }
@@ -238,8 +246,7 @@
   function pickName(name) {
     const link = state.net.linkNamed(name), node = state.net.nodeOf.get(name), what = link !== undefined ? { link } : node !== undefined ? { node } : null;
     if (what === null) return say(`there is no road or node ${name}`, true);
-    pick(what);
-    map.bring(what);
+    picked(what);
   }
 
   function drawRoads() {

@@ -57,7 +57,7 @@ const ltmMap = (() => {
 
   // A map on a canvas. `shows` tells what it shows: `network()` with nodes and links, `networks` that all have room on it, `part(link)` of
   // what a link stores from -1 to 1, `scale()` of the colours, `waiting(node)`, `chosen()` and `nodeFirst(node, event)`; it has `tell(what)`
-  // for the text beside the mouse, `choose(what, event)`, and may have `label(link)`.
+  // for the text beside the mouse, `choose(what, event)`, and may have `label(link)`, and `marks()` by link.
   function create(canvas, tip, shows) {
     const pen = canvas.getContext("2d");
     let view = d3.zoomIdentity, fit = null, ways = null, lines = null, of = null;
@@ -113,6 +113,7 @@ const ltmMap = (() => {
         stroke(all[chosen.link], thick * 1.6, colour(Math.max(-1, Math.min(1, shows.part(chosen.link))), scale));
       }
       if (shows.label) drawLabels(all);
+      if (shows.marks) drawMarks(all, shows.marks());
       drawNodes(network, chosen);
     }
 
@@ -158,6 +159,21 @@ const ltmMap = (() => {
         pen.fillStyle = INK;
         pen.fillText(text, x, y);
       });
+      pen.textAlign = "start";
+      pen.textBaseline = "alphabetic";
+    }
+
+    // Signs in discs on the middles of links.
+    function drawMarks(all, marks) {
+      pen.font = "bold 11px system-ui, sans-serif";
+      pen.textAlign = "center";
+      pen.textBaseline = "middle";
+      for (const [link, sign] of marks) {
+        const [x, y] = middleOf(all[link]);
+        disc(x, y, 8, INK);
+        pen.fillStyle = "#fff";
+        pen.fillText(sign, x, y + 0.5);
+      }
       pen.textAlign = "start";
       pen.textBaseline = "alphabetic";
     }
