@@ -219,6 +219,26 @@ class InABrowser(FolderTest):
         self.assertEqual(self.text("#link h2"), "Origin n1 who has set out, and who has found room on a link")
         self.assertEqual(self.browser.console(), [])
 
+    def test_the_table_fits(self) -> None:
+        """At 1,300 pixels the column by which it is sorted is in sight, with long names and times."""
+        case = Case.read(DATA / "spillback")
+        case.links[0].name = case.links[0].name * 32
+        case.splits = [Split(row.node, row.destination, row.from_slot, {name * 32 if name == "a" else name: weight
+                                                                        for name, weight in row.weights.items()})
+                       for row in case.splits or ()]
+        case.write(self.folder / "case")
+        curves = (DATA / "spillback" / "curves.csv").read_text().replace(",a,", f",{'a' * 32},")
+        (self.folder / "case" / "curves.csv").write_text(curves)
+        self.browser.open(write_page(self.folder, str(self.folder / "case"), "--curves",
+                                     str(self.folder / "case" / "curves.csv"), "--start", "17:00", "--least", "0.001"))
+        self.browser.size(1300, 800)
+        told = self.browser.run("const boxes = [...document.querySelectorAll('#list th, #list td')].map(each =>"
+                                " each.getBoundingClientRect().right), scroll = document.querySelector('.scroll');"
+                                "return [boxes.length, Math.max(...boxes), scroll.scrollWidth - scroll.clientWidth]")
+        self.browser.size(1400, 900)
+        self.assertEqual((told[0], told[2]), (21, 0))
+        self.assertLess(told[1], 1300)
+
     def test_a_link_is_found_by_its_name_in_the_source(self) -> None:
         case = self.folder / "case"
         shutil.copytree(DATA / "spillback", case)

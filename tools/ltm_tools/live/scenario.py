@@ -28,7 +28,7 @@ OLD = "the program's sessions do not answer `state`, `curve` and `delays`: a new
 
 
 class Scenario:
-    """A scenario of a case, and the loading that it has."""
+    """A scenario of a case, and the loading that it has. It is a context manager that ends its session."""
 
     def __init__(self, folder: str | os.PathLike[str], program: str | os.PathLike[str] | None = None, start: int = 0,
                  most_lines: int = MOST_LINES) -> None:
@@ -51,6 +51,12 @@ class Scenario:
         except Refused:
             self.close()
             raise Fault(OLD) from None
+
+    def __enter__(self) -> "Scenario":
+        return self
+
+    def __exit__(self, *_: object) -> None:
+        self.close()
 
     def close(self) -> None:
         """Ends the session."""
