@@ -13,6 +13,7 @@ from pathlib import Path
 
 from made_live import Client, LiveTest, needs_live
 from support import BUILT, CLONE, needs_splits
+from ltm_tools.errors import Fault
 from ltm_tools.formats import told_time, told_units
 
 SHUT = {"kind": "close", "link": "north_east", "from": 60, "to": 90}
@@ -173,10 +174,17 @@ class NothingIsLost(LiveTest):
         self.assertEqual(client.list, [])
 
     async def test_a_script_that_is_refused(self) -> None:
-        (self.folder / "wrong.jsonl").write_text('{"do":"edit","edits":[{"kind":"limit","link":"no","from":0,"to":9,'
-                                                 '"vehicles":"1"}]}\n')
-        with self.assertRaisesRegex(Exception, "wrong.jsonl, line 1: refused edit 1 UnknownName.*no link no"):
-            await self.start("wrong.jsonl")
+        """The first line that the program would refuse is told; others, whatever they are, stand in the file."""
+        limit = '{"kind":"limit","link":"%s","from":0,"to":9,"vehicles":"1"}'
+        for line, why in ((f'{{"do":"edit","edits":[{limit % "no"}]}}', "refused edit 1 UnknownName.*no link no"),
+                          ('{"do":"edit","edits":[1]}', "NotCommand 1"), ('{"do":"edit","edits":[]}', "NotCommand 0"),
+                          ('{"do":"edit","edits":[1],"change":{}}', "NotCommand 1"),
+                          ('{"do":"totals","change":{"on":false,"edits":5}}', "NotCommand 0"),
+                          ('{"do":"edit","edits":[1],"change":{"kind":["close"]}}', "one of close"),
+                          ('{"do":"edit","edits":[{"kind":"horizon","slots":900}]}', "setup.csv")):
+            (self.folder / "wrong.jsonl").write_text(f"\n\x00\u00e9\n{line}\n")
+            with self.assertRaisesRegex(Fault, f"wrong.jsonl, line 3: .*{why}", msg=line):
+                await self.start("wrong.jsonl")
 
     async def test_the_program_is_killed(self) -> None:
         """Idle, and in the middle of what it does: it is opened anew with the same list."""

@@ -96,10 +96,15 @@ def entry_of(scenario: Scenario, line: bytes, place: str) -> Entry | None:
         return add_change(scenario, change, told)
     if told is None:
         return None
-    said = read_line(line)
+    check_edits(told)
+    return scenario.add_line(place, words_of(told), told, line)
+
+
+def check_edits(edits: object) -> None:
+    """A Fault where the program would not read these as the edits of a line."""
+    said = read_line(line_text({"do": "edit", "edits": edits}))
     if said.cause is not None:
         raise Fault(f"{said.cause}: {said.reason}")
-    return scenario.add_line(place, words_of(told), told, line)
 
 
 def change_of(line: bytes) -> dict[str, object] | None:
@@ -126,8 +131,8 @@ def add_change(scenario: Scenario, change: dict[str, object], told: Batch | None
         entry = scenario.add(who, change)
     else:
         edits = told if told is not None else change.get("edits")
-        if not isinstance(edits, list):
-            raise Fault("the change has no edits")
+        check_edits(edits)
+        assert isinstance(edits, list)
         entry = scenario.add_line(who, str(change.get("text", words_of(edits))), edits)
     if change.get("on") is False:
         scenario.switch(entry.number, False)
