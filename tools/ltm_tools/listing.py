@@ -71,6 +71,7 @@ def json_text(header: Sequence[str], rows: Sequence[Sequence[Cell]]) -> str:
 
 
 def json_cell(cell: Cell) -> str:
+    """A cell as JSON; a decimal number as it is, with all its places."""
     return format(cell, "f") if isinstance(cell, Decimal) else json.dumps(cell)
 
 

@@ -94,7 +94,7 @@ RUNS = (
     Run("demand case --table table.csv --profile short.csv --start 7:00",
         ("case/setup.csv", "case/links.csv", "table.csv", "short.csv"), ("case/demand.csv", "case/clock.txt")),
     Run("demand case --table matrix.csv --leave-out-unreached", ("case/setup.csv", "case/links.csv", "matrix.csv"),
-        ("case/demand.csv",)),
+        ("case/demand.csv", "case/clock.txt")),
     Run("demand case --trips trips.csv --slice 1", ("case/setup.csv", "case/links.csv", "trips.csv", *SOURCE),
         ("case/demand.csv", "case/clock.txt")),
     Run("splits case --routes counted.csv --demand", (*CASE[:3], "counted.csv", *SOURCE),

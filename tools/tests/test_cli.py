@@ -12,6 +12,7 @@ from unittest import mock
 
 import commands
 from support import CLONE, EXAMPLES, FolderTest, TOOLS
+from test_delay import DATA
 from ltm_tools import cli, libraries
 from ltm_tools.errors import Fault
 
@@ -113,6 +114,23 @@ class Command(FolderTest):
         with open("/dev/full", "wb") as full:
             done = self.inspect_merge(full.fileno())
         self.assertEqual((done.returncode, done.stderr), (1, "ltm-tools: No space left on device\n"))
+
+    def test_a_closed_output(self) -> None:
+        for words, told in ((["inspect", EXAMPLES / "merge"], "ltm-tools: the standard output: it is closed\n"),
+                            (["inspect", "nowhere"], "ltm-tools inspect: nowhere is no folder\n")):
+            done = subprocess.run(["bash", "-c", '"$@" >&-', "run", sys.executable, TOOLS / "ltm-tools", *words],
+                                  stderr=subprocess.PIPE, text=True)
+            self.assertEqual((done.returncode, done.stderr), (1, told))
+
+    def test_a_folder_whose_name_is_no_text(self) -> None:
+        case = os.fsdecode(os.fsencode(self.folder) + b"/\xff")
+        shutil.copytree(DATA / "spillback", case)
+        curves, out = ["--curves", f"{case}/curves.csv"], str(self.folder / "out")
+        (self.folder / "d3.min.js").write_text("// https://d3js.org v7.0.0\n")
+        for words in (["page", case, *curves, "--d3", str(self.folder / "d3.min.js"), "-o", out],
+                      ["compare", case, case, *curves, "--other-curves", f"{case}/curves.csv", "-o", out]):
+            self.assertEqual(commands.run(*words), (0, "", ""))
+            self.assertIn("\\xff", Path(out).read_text(encoding="utf-8"))
 
     def test_a_signal_ends_what_was_started(self) -> None:
         """The program ends with the command that waits for it."""

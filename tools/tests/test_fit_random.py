@@ -7,7 +7,8 @@ import commands
 from support import FolderTest
 
 from made_network import made_network
-from ltm_tools.network.fit import ARMS, Fit
+from ltm_tools.network.arms import ARMS
+from ltm_tools.network.fit import Fit
 from ltm_tools.network.network import Network, least_times, totals
 
 STEPS = (500, 1000, 2000, 5000, 10_000, 20_000)

@@ -4,6 +4,8 @@ import unittest
 
 from test_from_gmns import PLAIN, GmnsTest
 
+from ltm_tools.network.lengths import metres
+
 LINK = "link_id,from_node_id,to_node_id,length,lanes,free_speed,capacity"
 DEMAND = "o_zone_id,d_zone_id,volume\n"
 
@@ -52,6 +54,15 @@ class Fields(GmnsTest):
     def test_places_that_are_none(self) -> None:
         self.net("link_id,from_node_id,to_node_id\na,1,2\n", "node_id,x_coord,y_coord\n1,inf,nan\n2,1e300,-1e300\n")
         self.assertEqual(self.refused().count("no length, and no geometry or places"), 1)
+
+    def test_lines_that_are_none(self) -> None:
+        for line in ("1 1, 1e308 2", "-1e308 1, 1e308 2", "1 1, 2 1e400"):
+            self.net(f'link_id,from_node_id,to_node_id,geometry\na,1,2,"LINESTRING ({line})"\n')
+            self.assertEqual(self.refused().count("no length, and no geometry or places"), 1, line)
+
+    def test_places_past_the_poles(self) -> None:
+        # over the pole and many times round the earth to the same place
+        self.assertEqual(metres([(0.0, 51.228), (180.0, 180 - 51.228 + 360 * 2_254_258)], "degrees"), 0)
 
     def test_a_unit_that_is_not_known(self) -> None:
         self.net(PLAIN, config="long_length,speed\nfurlong,mph\n")

@@ -1,9 +1,11 @@
 """Tables of other tools: rows that do not fit their header are told, with file and line, and read where that is asked
 for."""
+import subprocess
+import sys
 import unittest
 
 import commands
-from support import FolderTest
+from support import FolderTest, TOOLS
 
 from ltm_tools.errors import Fault
 from ltm_tools.files import read_table
@@ -56,6 +58,22 @@ class Rows(FolderTest):
             path.write_text(text)
             with self.assertRaisesRegex(Fault, told):
                 read_table(path, ("name",))
+
+
+class Large(FolderTest):
+    """The program of a table of twelve megabytes may have no more than 160 MB of memory, of which the Python and its
+    modules take some 40."""
+
+    RUN = ("import resource, sys; resource.setrlimit(resource.RLIMIT_AS, (160 << 20, 160 << 20));"
+           " from ltm_tools.network.demand_files import read_amounts;"
+           " print(sum(read_amounts(sys.argv[1]).volumes.values()))")
+
+    def test_a_list_of_many_rows(self) -> None:
+        path = self.folder / "table.csv"
+        rows = [f"zone{number % 40},place{number // 40},0.5\n" for number in range(1600)]
+        path.write_text("origin,destination,vehicles\n" + "".join(rows) * 375)
+        done = subprocess.run([sys.executable, "-c", self.RUN, path], cwd=TOOLS, capture_output=True, text=True)
+        self.assertEqual((done.stdout, done.stderr), ("300000\n", ""))
 
 
 class Commands(FolderTest):

@@ -22,6 +22,7 @@ class CurveFault:
     text: str = ""
 
     def line(self) -> str:
+        """The line that the program writes."""
         return f"bad curves row {self.row} {self.cause}"
 
 
@@ -55,6 +56,7 @@ def find_fault(case: Case, data: bytes) -> CurveFault | None:
 
 
 def wrong_record(row: int, record: Record, words: tuple[str, str, str], boundaries: int) -> CurveFault | None:
+    """What is wrong with a record; None where nothing is."""
     fields = record.fields
     if len(fields) != len(CURVES):
         return CurveFault(row, "Width", f"the record has {len(fields)} fields, and {len(CURVES)} are due")

@@ -33,6 +33,7 @@ def explain(folder: str, status: int, line: str, words: Sequence[str] = (), scri
 
 
 def by_status(folder: str, status: int, line: str, words: list[str]) -> Told:
+    """What a run is to be told of that ended with a status and a line."""
     if status == 2:
         return [fault] if (fault := usage_fault(words)) else []
     if status == 3:
@@ -108,6 +109,7 @@ def files_beside(words: list[str]) -> list[str]:
 
 
 def file_advice(folder: str, fault: NoFile) -> Told:
+    """What to do about a file that is missing, or cannot be read."""
     name = f"{fault.file}.csv"
     if not fault.missing:
         return [f"{name} cannot be read: {fault}"]

@@ -31,11 +31,13 @@ def read_header(file: str, found: list[Record]) -> int:
 
 
 def check_width(file: str, row: int, fields: list[str], width: int) -> None:
+    """A BadCase where a record has not as many fields as its header."""
     if len(fields) != width:
         raise bad_case.width(file, row, len(fields), width)
 
 
 def name_in(file: str, row: int, fields: list[str], place: int) -> str:
+    """The name that a field tells, counted from 1; a BadCase where it tells none."""
     text = fields[place - 1]
     if not is_name(text):
         raise bad_case.field(file, row, place, "name", text)
@@ -43,6 +45,7 @@ def name_in(file: str, row: int, fields: list[str], place: int) -> str:
 
 
 def whole_in(file: str, row: int, fields: list[str], place: int) -> int:
+    """The whole number that a field tells."""
     number = whole_of(fields[place - 1])
     if number is None:
         raise bad_case.field(file, row, place, "whole", fields[place - 1])
@@ -50,6 +53,7 @@ def whole_in(file: str, row: int, fields: list[str], place: int) -> int:
 
 
 def units_in(file: str, row: int, fields: list[str], place: int) -> int:
+    """The amount that a field tells, in thousandths of a vehicle."""
     units = units_or_none(fields[place - 1])
     if units is None:
         raise bad_case.field(file, row, place, "vehicles", fields[place - 1])

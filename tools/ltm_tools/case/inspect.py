@@ -76,6 +76,7 @@ def inspect(folder: str) -> list[str]:
 
 
 def refusal_lines(folder: str, refusal: Fault | None) -> list[str]:
+    """What the program would refuse first."""
     if refusal is None:
         return ["load        takes the case"]
     line = f"{refusal.line()}: " if isinstance(refusal, BadCase) else ""
@@ -160,6 +161,7 @@ def circle_lines(case: Case) -> list[str]:
 
 
 def more_line(count: int) -> list[str]:
+    """How many are not told, where there are some."""
     return [f"            and {count_text(count - MOST_TOLD)} more"] if count > MOST_TOLD else []
 
 

@@ -112,6 +112,7 @@ class Reader:
         }
 
     def add_link(self, row: int, fields: list[str]) -> None:
+        """Adds a record of links."""
         name, tail, head = (name_in("links", row, fields, place) for place in (1, 2, 3))
         link = Link(name, tail, head, *(whole_in("links", row, fields, place) for place in (4, 5, 6, 7)))
         self.check_place(row, link)
@@ -142,16 +143,19 @@ class Reader:
         check_diagram(row, link, self.case.setup.step_ms)
 
     def check_node(self, file: str, row: int, place: int, name: str) -> None:
+        """Whether the case has a node that a record names."""
         if name not in self.out:
             raise bad_case.unknown(file, row, place, "node", name, nearest(name, self.out))
 
     def add_destination(self, file: str, row: int, node: str) -> None:
+        """Adds the destination that a record names, where it is new and there is room."""
         most = self.case.setup.most_destinations
         if node not in self.destinations and len(self.destinations) >= most:
             raise bad_case.too_many_destinations(file, row, node, most)
         self.destinations.add(node)
 
     def add_demand(self, row: int, fields: list[str]) -> None:
+        """Adds a record of demand."""
         origin, destination = name_in("demand", row, fields, 1), name_in("demand", row, fields, 2)
         first, end = whole_in("demand", row, fields, 3), whole_in("demand", row, fields, 4)
         units = units_in("demand", row, fields, 5)
@@ -171,10 +175,12 @@ class Reader:
         self.case.demand.append(Demand(*key, units))
 
     def check_slots(self, file: str, row: int, first: int, end: int) -> None:
+        """Whether slots from one to before another are slots of the case."""
         if not first < end <= self.case.setup.slots:
             raise bad_case.bad_slots(file, row, first, end, self.case.setup.slots)
 
     def add_split(self, row: int, fields: list[str]) -> None:
+        """Adds a record of splits."""
         node, destination = name_in("splits", row, fields, 1), name_in("splits", row, fields, 2)
         first, weights = whole_in("splits", row, fields, 3), weights_or_none(fields[3])
         if weights is None:
@@ -201,6 +207,7 @@ class Reader:
         self.case.splits.append(Split(*key, weights))
 
     def add_limit(self, file: str, row: int, fields: list[str]) -> None:
+        """Adds a record of signals or of limits."""
         name = name_in(file, row, fields, 1)
         first, end = whole_in(file, row, fields, 2), whole_in(file, row, fields, 3)
         units = units_in(file, row, fields, 4)

@@ -32,6 +32,7 @@ def why_refused(case: Case, command: Members, answer: str) -> str:
 
 
 def of_question(case: Case, command: Members, cause: str) -> str:
+    """Why a question about the loading is refused."""
     if cause == "UnknownName":
         return unknown(case, command)
     where = "not below" if command.get("do") == "time" else "past"

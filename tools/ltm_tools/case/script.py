@@ -136,6 +136,7 @@ def hint(value: object, is_kind: Callable[[object], bool]) -> str:
 
 
 def is_text(value: object) -> bool:
+    """Whether a member of a command is a text; so for the kinds below."""
     return isinstance(value, str)
 
 
@@ -207,6 +208,7 @@ def looked_up(value: object, chooser: str, tables: dict[str, Members]) -> tuple[
 
 
 def command_of(value: object) -> tuple[str, list[str]]:
+    """The command of a line and the members of it that are passed over."""
     return looked_up(value, "do", COMMANDS)
 
 

@@ -40,6 +40,7 @@ def _out_links(case: Rows) -> dict[str, list[tuple[str, str]]]:
 
 
 def told(split: Split) -> str:
+    """The splits of a row in words."""
     since = f" from slot {split.from_slot} on" if split.from_slot else ""
     return f"traffic for {split.destination} is sent from {split.node}{since}"
 

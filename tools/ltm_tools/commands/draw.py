@@ -4,12 +4,16 @@ from __future__ import annotations
 
 import argparse
 import os
+from typing import TYPE_CHECKING, Any
 
 from ..case.clock import start_of
-from ..loading.loaded import loaded
+from ..loading.loaded import Loaded, loaded
 from ..network.source import path_named
 from ..show.draw import draw_map, draw_newell, draw_shares
 from .arguments import add_curves_arguments, add_start_argument, clock, write_picture
+
+if TYPE_CHECKING:
+    from matplotlib.figure import Figure
 
 NAME = "draw"
 SUMMARY = ("draw how full a path was, a map at a moment, or the cumulative curves of a path, in clock time; two cases"
@@ -53,13 +57,19 @@ def run(args: argparse.Namespace) -> int:
     if getattr(args, "other", None) is not None:
         both.append(loaded(args.other, args.other_curves, args.program))
         folders.append(args.other)
+    try:
+        write_picture(picture(plot, args, both, folders), args.output)
+    finally:
+        plot.close("all")
+    return 0
+
+
+def picture(plot: Any, args: argparse.Namespace, both: list[Loaded], folders: list[str]) -> "Figure":
+    """The picture that is asked for, of one loading or of two."""
     start = start_of(args.start, *folders)
     titles = getattr(args, "titles", None) or [os.path.basename(os.path.abspath(folder)) for folder in folders]
     if args.what == "full":
-        figure = draw_shares(plot, both, titles, path_named(args.case, both[0].case.links, args.names), start)
-    elif args.what == "curves":
-        figure = draw_newell(plot, both[0], path_named(args.case, both[0].case.links, args.names), start)
-    else:
-        figure = draw_map(plot, both, folders, titles, both[0].boundary_at(args.at, start), start)
-    write_picture(figure, args.output)
-    return 0
+        return draw_shares(plot, both, titles, path_named(args.case, both[0].case.links, args.names), start)
+    if args.what == "curves":
+        return draw_newell(plot, both[0], path_named(args.case, both[0].case.links, args.names), start)
+    return draw_map(plot, both, folders, titles, both[0].boundary_at(args.at, start), start)

@@ -2,12 +2,16 @@
 from __future__ import annotations
 
 import argparse
+from typing import TYPE_CHECKING, Any
 
-from ..case import Case
+from ..case import Case, Link
 from ..loading.curves import Curves
 from ..network.source import links_named, path_named
 from ..show.plot import draw_arrivals, draw_link, draw_path
 from .arguments import write_picture
+
+if TYPE_CHECKING:
+    from matplotlib.figure import Figure
 
 NAME = "plot"
 SUMMARY = "draw a link, a path or the arrivals from a curve file"
@@ -41,11 +45,17 @@ def run(args: argparse.Namespace) -> int:
 
     links = {link.name: link for link in Case.read_network(args.case).links}
     curves = Curves.of_case(args.case, args.curves)
-    if args.what == "link":
-        figure = draw_link(plot, curves, links, *links_named(args.case, links.values(), [args.name]))
-    elif args.what == "path":
-        figure = draw_path(plot, curves, links, path_named(args.case, links.values(), args.names))
-    else:
-        figure = draw_arrivals(plot, curves)
-    write_picture(figure, args.picture)
+    try:
+        write_picture(picture(plot, args, links, curves), args.picture)
+    finally:
+        plot.close("all")
     return 0
+
+
+def picture(plot: Any, args: argparse.Namespace, links: dict[str, Link], curves: Curves) -> "Figure":
+    """The picture that is asked for."""
+    if args.what == "link":
+        return draw_link(plot, curves, links, *links_named(args.case, links.values(), [args.name]))
+    if args.what == "path":
+        return draw_path(plot, curves, links, path_named(args.case, links.values(), args.names))
+    return draw_arrivals(plot, curves)

@@ -41,6 +41,7 @@ class Progress:
         self.count, self.shown, self.done, self.began, self.told = count, shown, 0, time.monotonic(), 0.0
 
     def add(self, more: int) -> None:
+        """Tells that so many more are done."""
         self.done += more
         now = time.monotonic()
         if self.shown and (now - self.told > 0.2 or self.done == self.count):
@@ -51,6 +52,7 @@ class Progress:
                   file=sys.stderr, flush=True)
 
     def end(self) -> None:
+        """Ends the line of the bar."""
         if self.shown:
             print(file=sys.stderr)
 

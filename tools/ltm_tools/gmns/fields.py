@@ -9,6 +9,7 @@ from fractions import Fraction
 
 from ..files import Row
 from ..formats import above_0_or_none, exact_or_none
+from ..network.lengths import MOST_PLACE
 
 METRES = {"m": Fraction(1), "km": Fraction(1000), "mi": Fraction(1609344, 1000), "ft": Fraction(3048, 10000)}
 KMH = {"kmh": Fraction(1), "mph": Fraction(1609344, 1000000), "ms": Fraction(18, 5)}
@@ -60,8 +61,6 @@ OTHER_KIND = 1700, 50, 1
 NOT_FOR_CARS = ("footway", "path", "pedestrian", "cycleway", "steps", "rail", "tram", "subway", "bridleway", "ferry",
                 "walk", "bike")
 CAR_USES = ("auto", "car", "all", "motor", "vehicle", "truck", "hov", "sov", "drive", "passenger")
-MOST_PLACE = 1e10
-"""A coordinate beyond it is none."""
 YES, NO = ("1", "true", "t", "yes", "y"), ("0", "false", "f", "no", "n")
 
 

@@ -43,6 +43,7 @@ class Guard:
     def headers(self) -> dict[str, str]:
         """The headers of every answer: its scripts and styles are ours, and it talks to nobody else."""
         sockets = " ".join(f"ws://{host}" for host in sorted(self.hosts))
-        policy = (f"default-src 'none'; script-src 'self'; style-src 'self'; img-src data:; connect-src 'self' {sockets};"
+        policy = (f"default-src 'none'; script-src 'self'; style-src 'self'; img-src data:;"
+                  f" connect-src 'self' {sockets};"
                   " frame-ancestors 'none'; base-uri 'none'; form-action 'none'")
         return {**HEADERS, "Content-Security-Policy": policy}

@@ -104,8 +104,8 @@ class KeptFile(Guarded):
         if not (guard.knows(self.request.headers.get("X-Token")) and guard.is_ours(self.request.headers.get("Origin"))):
             self.refuse()
             return
-        make: Callable[[Scenario], bytes] = {"script.jsonl": lambda scenario: script_of(scenario.entries), "case.zip": case_zip,
-                "page.html": page_of}[name]
+        make: Callable[[Scenario], bytes] = {"script.jsonl": lambda scenario: script_of(scenario.entries),
+                                             "case.zip": case_zip, "page.html": page_of}[name]
         try:
             made = await desk.call(partial(make, desk.scenario))
         except (Fault, OSError) as fault:

@@ -60,14 +60,17 @@ class Curves:
 
     @property
     def links(self) -> list[str]:
+        """The names of the links, in the order of the case."""
         return [name for kind, name in self._texts if kind == "up"]
 
     @property
     def nodes(self) -> list[str]:
+        """The names of the nodes, in the order of the case."""
         return [name for kind, name in self._texts if kind == "dep"]
 
     @property
     def destinations(self) -> list[str]:
+        """The names of the destinations, in the order of the case."""
         return [name for kind, name in self._texts if kind == "arr"]
 
     def up(self, link: str, destination: str | None = None) -> Counts:

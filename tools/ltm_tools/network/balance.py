@@ -13,7 +13,8 @@ from collections.abc import Iterable, Sequence
 from dataclasses import dataclass
 from fractions import Fraction
 
-from .fit import Change, Fit, metres_text, stretched
+from .fit import Fit, metres_text
+from .fitting import Change, stretched
 
 MOST_ROUTES = 5000
 ROUNDS = 40

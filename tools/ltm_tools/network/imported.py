@@ -10,7 +10,7 @@ from ..case.clock import FILE as CLOCK_FILE, write_clock
 from ..case.places import FILES, Places
 from ..files import write_text
 from ..replacing import take_away, together
-from .fit import Change
+from .fitting import Change
 from .source import Source, lines_of
 
 CHANGES_FILE = "changes.csv"

@@ -11,8 +11,9 @@ from ..errors import Fault
 from ..formats import (MINUTE_MS, MOST_DESTINATIONS_ASKED, MOST_LINKS_ASKED, MOST_ROWS_ASKED, MOST_SLOTS, MOST_STEP_MS,
                        NAME_RULE,
                        count_text)
+from .arms import ARMS
 from .balance import MOST_ROUTES, Used, balance
-from .fit import ARMS, Fit
+from .fit import Fit
 from .names import names_for
 from .network import Network, diagram, least_route, least_times
 from .options import Options

@@ -13,13 +13,14 @@ from fractions import Fraction
 from .lines import Point
 
 EARTH_M = 6_371_008.8
+MOST_PLACE = 1e10  # a coordinate beyond it is none
 UNITS = {"degrees": None, "m": 1.0, "km": 1000.0, "ft": 0.3048, "mi": 1609.344}
 NUMBER = re.compile(r"[-+]?(?:[0-9]+\.?[0-9]*|\.[0-9]+)(?:[eE][-+]?[0-9]+)?")
 
 
 def points_of(text: str) -> list[Point]:
     """The points of a LINESTRING in well-known text (the first part of a MULTILINESTRING); none where it is no such
-    line."""
+    line, or one of its numbers can be no place."""
     head, _, rest = text.partition("(")
     if "LINESTRING" not in head.upper():
         return []
@@ -29,7 +30,7 @@ def points_of(text: str) -> list[Point]:
         if len(numbers) < 2:
             return []
         points.append((float(numbers[0]), float(numbers[1])))
-    return points if len(points) > 1 else []
+    return points if len(points) > 1 and all(abs(number) < MOST_PLACE for point in points for number in point) else []
 
 
 def metres(points: Sequence[Point], unit: str) -> Fraction:
@@ -45,7 +46,7 @@ def degrees_apart(a: Point, b: Point) -> float:
     east, north = math.radians(b[0] - a[0]), math.radians(b[1] - a[1])
     half = (math.sin(north / 2) ** 2 + math.cos(math.radians(a[1])) * math.cos(math.radians(b[1]))
             * math.sin(east / 2) ** 2)
-    return 2 * EARTH_M * math.asin(min(1.0, math.sqrt(half)))
+    return 2 * EARTH_M * math.asin(math.sqrt(min(1.0, max(0.0, half))))  # below 0 past the poles
 
 
 def unit_by_range(points: Iterable[Point]) -> str:

@@ -90,6 +90,7 @@ class Schedule:
 
     @property
     def length(self) -> float:
+        """How long the whole schedule takes."""
         return max(self.ends.values(), default=0.0)
 
 

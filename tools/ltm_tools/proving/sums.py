@@ -22,10 +22,12 @@ Sums = dict[str, str]  # of each file, by its name from the top of the clone
 
 
 def program_of(top: Path) -> Path:
+    """Where the program of a clone lies."""
     return top / "crates" / PROGRAM / "out" / PROGRAM
 
 
 def sum_of(path: Path) -> str:
+    """The SHA-256 of a file, in hexadecimal digits; a Fault where it cannot be read."""
     try:
         return hashlib.sha256(path.read_bytes()).hexdigest()
     except OSError as error:

@@ -20,12 +20,14 @@ MOST_LINES = 8
 
 
 def link_of(links: dict[str, Link], name: str) -> Link:
+    """The link of a name; a Fault where there is none."""
     if name not in links:
         raise Fault(f"the case has no link {name}")
     return links[name]
 
 
 def kilometres(link: Link) -> float:
+    """The length of a link in km."""
     return link.length_m / 1000
 
 
@@ -35,6 +37,7 @@ def minutes(count: int, curves: Curves) -> list[float]:
 
 
 def frame(axes: "Axes", last: float) -> None:
+    """Axes of time in minutes up to the last, with a grid."""
     from matplotlib.ticker import MaxNLocator
 
     axes.set_xlim(0, last)

@@ -11,7 +11,8 @@ from collections.abc import Sequence
 from dataclasses import dataclass, field, replace
 from fractions import Fraction
 
-from ..network.fit import free_name, stretched
+from ..network.arms import free_name
+from ..network.fitting import stretched
 from ..network.lines import cut_at
 from ..network.network import Network, Node, Road, diagram
 from ..network.route_splits import Route
