@@ -98,7 +98,7 @@ class Town(FolderTest):
         for words in ([EXAMPLES / "from_sumo" / "make.py", "town", "."],
                       [tools, "from-sumo", "town.net.xml", "town.rou.xml", "town.add.xml", "case", "--fit", "5s",
                        "--horizon", "75",
-                       "--moves", "0"]):
+                       "--moves", "0", "--turns", "none"]):
             done = subprocess.run([str(word) for word in words], cwd=self.folder, capture_output=True, text=True)
             self.assertEqual((done.returncode, done.stderr), (0, ""))
         setup = self.folder / "case" / "setup.csv"

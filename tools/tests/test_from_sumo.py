@@ -37,7 +37,8 @@ class SumoTest(FolderTest):
 
     def make(self, *words: str, net: str = EDGES + WAYS, routes: str | None = None,
              more: str | None = None) -> tuple[int, str, str]:
-        """Makes a case of a net, of vehicles, and of another file."""
+        """Makes a case of a net, of vehicles, and of another file; of links that are not parted by turns, unless that
+        is said."""
         files = []
         for name, text, root in (("net.net.xml", net, "net"), ("more.add.xml", more, "additional"),
                                  ("routes.rou.xml", routes, "routes")):
@@ -45,7 +46,8 @@ class SumoTest(FolderTest):
                 (self.folder / name).write_text(f'<?xml version="1.0" encoding="UTF-8"?>\n<!-- made -->\n'
                                                 f'<{root} version="1.9">{text}</{root}>')
                 files.append(str(self.folder / name))
-        return commands.run("from-sumo", *files, str(self.folder / "case"), *words)
+        turns = () if "--turns" in words else ("--turns", "none")
+        return commands.run("from-sumo", *files, str(self.folder / "case"), *words, *turns)
 
     def made(self, *words: str, **files: str) -> Case:
         status, self.out, err = self.make(*words, **files)  # type: ignore[arg-type]

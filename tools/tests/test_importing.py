@@ -11,7 +11,7 @@ from ltm_tools.case import Case, Demand, Link, Setup
 from ltm_tools.errors import Fault
 from ltm_tools.gmns.importing import GmnsOptions, import_gmns, steps_of_gmns
 from ltm_tools.network.importing import NotCarried
-from ltm_tools.network.options import BadOption
+from ltm_tools.network.bad_option import BadOption
 from ltm_tools.sumo.importing import import_sumo
 from ltm_tools.sumo.options import SumoOptions
 from test_from_sumo import SumoTest

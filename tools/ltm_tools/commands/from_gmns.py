@@ -25,7 +25,7 @@ from ..gmns.fields import KMH, METRES
 from ..gmns.importing import GmnsOptions, import_gmns, steps_of_gmns
 from ..network.lengths import UNITS
 from .arguments import add_table_arguments, reading_of, whole
-from .imports import above_0, add_network_arguments, network_options, run_import
+from .imports import above_0, add_crossing_arguments, add_network_arguments, network_options, run_import
 
 NAME = "from-gmns"
 SUMMARY = "make a case of a GMNS network"
@@ -42,6 +42,7 @@ def add_arguments(parser: argparse.ArgumentParser) -> None:
     parser.add_argument("network", help="the folder of link.csv and node.csv")
     parser.add_argument("case", help="the folder to write the case into")
     add_network_arguments(parser)
+    add_crossing_arguments(parser)
     reading = parser.add_argument_group("what the network's fields mean")
     reading.add_argument("--jam", type=above_0, default=Fraction(150), help="jam density of a lane, vehicles/km (150)")
     reading.add_argument("--length-unit", choices=METRES, help="the unit of length (m, or what config.csv says)")

@@ -12,7 +12,10 @@ from ..errors import Fault
 from ..formats import above_0_or_none, MOST_SLOT_UNITS, MOST_STEP_MS, UNITS
 from ..network.imported import Imported
 from ..network.importing import NotCarried
-from ..network.options import BadOption, Options
+from ..network.bad_option import BadOption
+from ..network.crossings.options import CrossingOptions, Gap
+from ..network.crossings.turns_file import gap_or_none
+from ..network.options import Options
 from .arguments import whole
 
 Asked = TypeVar("Asked", bound=Options)
@@ -63,12 +66,64 @@ def add_network_arguments(parser: argparse.ArgumentParser) -> None:
                        " what can pass where they are many (1 where there are more than 16)")
 
 
+def add_crossing_arguments(parser: argparse.ArgumentParser) -> argparse._ArgumentGroup:
+    """The arguments on crossings, whose turns may be links of their own."""
+    group = parser.add_argument_group("crossings")
+    group.add_argument("--turns", default="signals", metavar="WHICH",
+                       help="where each allowed turn is a link of its own: signals (where a signal holds a link, or a"
+                       " turn is forbidden), all (wherever a link leads on to several), none, or names of nodes with"
+                       " commas between (signals)")
+    group.add_argument("--turn-length", type=whole, default=CrossingOptions.length_m, metavar="M",
+                       help="the metres before a crossing on which a turn has lanes of its own (98)")
+    group.add_argument("--lanes", choices=("full", "counted"), default="full",
+                       help="whether a turn has all lanes that serve it, or of each the part that its vehicles take by"
+                       " the counted routes, which then must not change (full)")
+    group.add_argument("--permissive", type=permissive_argument, metavar="HOW",
+                       help="how much of its green a turn gets that yields in it: gaps, a share as 0.5, or free (gaps)")
+    group.add_argument("--gap", type=gap_argument, metavar="TC,TF,N",
+                       help="for gaps: the critical gap and the follow-up time in seconds, and how many of a lane go"
+                       " when the green ends (4.5,2.2,1)")
+    group.add_argument("--origins", choices=("edge", "node"), default="edge",
+                       help="whether trips begin on the first link of their route, or at its node, where they may take"
+                       " each link (edge)")
+    return group
+
+
+def permissive_argument(text: str) -> Fraction | None:
+    """A share of the green, 1 where it is free; none for gaps."""
+    if text in ("gaps", "free"):
+        return Fraction(1) if text == "free" else None
+    share = above_0(text)
+    if share > 1:
+        raise argparse.ArgumentTypeError(f"{text!r} is neither gaps, free nor a share of at most 1")
+    return share
+
+
+def gap_argument(text: str) -> Gap:
+    """A gap as its three numbers with commas between."""
+    gap = gap_or_none(text.split(","))
+    if gap is None:
+        raise argparse.ArgumentTypeError(f"{text!r} is no gap; as 4.5,2.2,1: two times in seconds above 0, and a number"
+                                         " of vehicles")
+    return gap
+
+
+def crossing_options(args: argparse.Namespace) -> CrossingOptions:
+    """What these arguments ask for."""
+    if args.gap is not None and args.permissive is not None:
+        raise Fault("--gap goes with --permissive gaps alone")
+    words = {"signals", "all", "none"}
+    names = tuple(name for name in args.turns.split(",") if name)
+    return CrossingOptions(turns=args.turns if args.turns in words else names, length_m=args.turn_length,
+                           lanes=args.lanes, permissive=args.permissive or args.gap or Gap(), origins=args.origins)
+
+
 def network_options(args: argparse.Namespace) -> dict[str, Any]:
     """What these arguments ask for, by the names of options."""
     return {"fit": args.fit, "balance": not args.no_balance, "step": args.step, "least_step": args.least_step,
             "rename": args.rename,
             "origin_capacity": args.origin_capacity, "destinations": args.destinations,
-            "moves": None if args.moves is None else args.moves == 1}
+            "crossings": crossing_options(args), "moves": None if args.moves is None else args.moves == 1}
 
 
 def run_import(args: argparse.Namespace, options_of: Callable[[argparse.Namespace], Asked],

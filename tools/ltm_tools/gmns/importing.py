@@ -18,7 +18,8 @@ from ..network.demand_files import Amounts, exists, read_amounts, read_profile, 
 from ..network.imported import Imported
 from ..network.importing import Carried, NotCarried, carried, check_ends, least_routes, slots_of
 from ..network.network import Network, top
-from ..network.options import BadOption, Options
+from ..network.bad_option import BadOption
+from ..network.options import Options
 from ..network.placing import Map, places_of
 from ..network.profiles import Part, by_profile
 from ..network.steps import steps_table

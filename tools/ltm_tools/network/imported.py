@@ -10,6 +10,8 @@ from ..case.clock import FILE as CLOCK_FILE, write_clock
 from ..case.places import FILES, Places
 from ..files import write_text
 from ..replacing import take_away, together
+from .crossings.turns_file import FILE as TURNS_FILE
+from .crossings.turns_file import Turns
 from .fitting import Change
 from .source import Source, lines_of
 
@@ -28,10 +30,13 @@ class Imported:
     changes: tuple[Change, ...] | None
     told: tuple[str, ...]
     clock: int | None = None
+    turns: Turns | None = None
+    """The turns of its crossings, where these are links."""
 
     def write(self, folder: str | os.PathLike[str]) -> list[str]:
         """Writes the case into a folder, and beside it `source_links.csv`, `source_nodes.csv`, `nodes.csv` and
-        `shapes.csv` where places are known, `clock.txt` where the clock is, and of a fitted network `changes.csv`.
+        `shapes.csv` where places are known, `clock.txt` where the clock is, of a fitted network `changes.csv`, and
+        `turns.csv` where turns are links.
         Gives what is to be told of older files there, a line each."""
         with together():
             self.case.write(folder)
@@ -40,6 +45,10 @@ class Imported:
                 self.places.write(folder)
             if self.clock is not None:
                 write_clock(folder, self.clock)
+            if self.turns is not None:
+                self.turns.write(folder)
+            else:
+                take_away(Path(folder) / TURNS_FILE)
             path = Path(folder) / CHANGES_FILE
             if self.changes is not None:
                 rows = [(change.kind, change.name, f"{float(change.metres):.3f}", f"{float(change.time):.0f}",

@@ -4,16 +4,9 @@ from __future__ import annotations
 from dataclasses import dataclass
 from typing import ClassVar
 
-from ..errors import Fault
 from ..formats import MOST_DESTINATIONS_ASKED, MOST_SLOT_UNITS, MOST_STEP_MS, UNITS
-
-
-class BadOption(Fault):
-    """An option that is not within its range."""
-
-    def __init__(self, name: str, rule: str) -> None:
-        self.name, self.rule = name, rule
-        super().__init__(f"{name} {rule}")
+from .bad_option import BadOption
+from .crossings.options import CrossingOptions
 
 
 @dataclass(frozen=True, kw_only=True)
@@ -37,6 +30,9 @@ class Options:
     moves: bool | None = None
     """Whether what moves through a turn is floored for the turn, and not for each destination; without it, where there
     are more than 16."""
+
+    crossings: CrossingOptions = CrossingOptions()
+    """Which crossings have their turns as links, and how."""
 
     RANGES: ClassVar[dict[str, tuple[int, int | None]]] = {
         "origin_capacity": (1, MOST_SLOT_UNITS // UNITS), "destinations": (1, MOST_DESTINATIONS_ASKED),

@@ -8,7 +8,7 @@ from __future__ import annotations
 import os
 from collections import deque
 from collections.abc import Iterable, Sequence
-from dataclasses import dataclass, field
+from dataclasses import dataclass, field, replace
 from pathlib import Path
 
 from ..case import Link
@@ -21,12 +21,18 @@ from .passages import Roads
 
 @dataclass(frozen=True, slots=True)
 class SourceLink:
-    """A link of the source: the nodes of the source where it begins and ends, and the link of the case that it is part
-    of; none where it was contracted."""
+    """A link of the source: the nodes of the source where it begins and ends, the link of the case that it is part of,
+    none where it was contracted, and the links of its turns, where it was cut before a crossing."""
 
     tail: str
     head: str
     link: str | None
+    turns: tuple[str, ...] = ()
+
+    @property
+    def all_links(self) -> tuple[str, ...]:
+        """The links of the case that are parts of it or that it is part of."""
+        return (() if self.link is None else (self.link,)) + self.turns
 
 
 @dataclass
@@ -35,6 +41,8 @@ class Source:
 
     links: dict[str, SourceLink] = field(default_factory=dict)
     nodes: dict[str, str] = field(default_factory=dict)
+    between: frozenset[str] | None = None
+    """The links of the case that lie between those of the source: connectors and turns; None for all."""
 
     @classmethod
     def read(cls, folder: str | os.PathLike[str], roads: Roads) -> Source:
@@ -46,24 +54,19 @@ class Source:
             made.nodes[link.tail], made.nodes[link.head] = link.tail, link.head
         path = Path(folder)
         if (path / LINKS_FILE).exists():
-            told = cls()
-            for row in read_table(path / LINKS_FILE, ("source", "from", "to", "link")):
-                part = row.text("link", "") or None
-                if part is None or part in roads.links:
-                    told.links[row.text("source")] = SourceLink(row.text("from"), row.text("to"), part)
-            for row in read_table(path / NODES_FILE, ("source", "node")):
-                if row.text("node") in made.nodes:
-                    told.nodes[row.text("source")] = row.text("node")
+            told = read_links(path / LINKS_FILE, roads)
             own = {name: link for name, link in made.links.items()
-                   if name in told.links and told.links[name].link != name}  # a name that is both is the case's own
-            made.links = {**made.links, **told.links, **own}
-            made.nodes = {**made.nodes, **told.nodes}
+                   if name in told and told[name].link != name}  # a name that is both is the case's own
+            made.between = frozenset(made.links).difference(own, (link.link or "" for link in told.values()))
+            made.links = {**made.links, **told, **own}
+            made.nodes |= {row.text("source"): node for row in read_table(path / NODES_FILE, ("source", "node"))
+                           if (node := row.text("node")) in made.nodes}
         return made
 
     def write(self, folder: str | os.PathLike[str]) -> None:
-        """Writes the two files beside a case."""
-        links = [("source", "from", "to", "link"), *((name, link.tail, link.head, link.link or "")
-                                                     for name, link in self.links.items())]
+        """Writes the two files beside a case; a link with turns has a row for each, behind its own."""
+        links = [("source", "from", "to", "link"), *((name, link.tail, link.head, part) for name, link
+                                                     in self.links.items() for part in (link.link or "", *link.turns))]
         write_text(Path(folder) / LINKS_FILE, lines_of(links))
         write_text(Path(folder) / NODES_FILE, lines_of([("source", "node"), *self.nodes.items()]))
 
@@ -96,9 +99,10 @@ class Source:
         none."""
         if not names:
             return ()
-        start, end = self.node(self.known(names[0]).tail), self.node(self.known(names[-1]).head)
+        start, end = self.nodes.get(self.known(names[0]).tail), self.nodes.get(self.known(names[-1]).head)
         route = self.over(names, roads, start)
-        return (*route, *self.connectors(roads.links[route[-1]].head if route else start, end, roads))
+        place = roads.links[route[-1]].head if route else start
+        return (*route, *(self.connectors(place, end, roads) or () if place is not None and end is not None else ()))
 
     def over(self, names: Sequence[str], roads: Roads, place: str | None = None) -> list[str]:
         """The links of the case over links of the source, with the connectors between, and those from a node on where
@@ -112,13 +116,17 @@ class Source:
         for name in names:
             link = self.links[name].link
             if link is not None and not (route and route[-1] == link):
-                between = self.connectors(place, roads.links[link].tail, roads) if place is not None else []
-                route += [*between, link]
+                start = roads.links[link].tail
+                between = None if place is None else self.connectors(place, start, roads)
+                if between is None and route:
+                    raise Fault(f"no way leads from node {place} to node {start}, where a route goes on")
+                route += [*(between or ()), link]
                 place = roads.links[link].head
         return route
 
-    def connectors(self, start: str, end: str, roads: Roads) -> list[str]:
-        """The fewest links from a node to another; in a fitted case these are connectors that split a node."""
+    def connectors(self, start: str, end: str, roads: Roads) -> list[str] | None:
+        """The fewest links from a node to another of those that lie between links of the source; in a fitted case these
+        are connectors that split a node, or turns. None where no way leads there."""
         came: dict[str, list[str]] = {start: []}
         queue = deque([start])
         while queue:
@@ -126,10 +134,27 @@ class Source:
             if node == end:
                 return came[node]
             for name in roads.outs.get(node, ()):
-                if roads.links[name].head not in came:
+                if roads.links[name].head not in came and (self.between is None or name in self.between):
                     came[roads.links[name].head] = [*came[node], name]
                     queue.append(roads.links[name].head)
-        raise Fault(f"no way leads from node {start} to node {end}, where a route goes on")
+        return None
+
+
+def read_links(path: Path, roads: Roads) -> dict[str, SourceLink]:
+    """The links of `source_links.csv`; further rows of a link are its turns. Links that the case does not have are
+    passed over."""
+    links: dict[str, SourceLink] = {}
+    unknown: set[str] = set()
+    for row in read_table(path, ("source", "from", "to", "link")):
+        name, link = row.text("source"), row.text("link", "") or None
+        is_known = link is None or link in roads.links
+        if name in links and link is not None and is_known:
+            links[name] = replace(links[name], turns=(*links[name].turns, link))
+        elif name not in links and name not in unknown and is_known:
+            links[name] = SourceLink(row.text("from"), row.text("to"), link)
+        elif name not in links:
+            unknown.add(name)
+    return links
 
 
 def links_named(folder: str | os.PathLike[str], links: Iterable[Link], names: Sequence[str]) -> list[str]:

@@ -7,28 +7,32 @@ from dataclasses import dataclass
 from ..case import Case
 from ..case.sizes import ask_for_sizes
 from ..formats import clock_text, short_vehicles
+from ..network.crossings.chosen import Chosen
+from ..network.crossings.sources import with_turns
 from ..network.changes import changes_told
 from ..network.imported import Imported
 from ..network.importing import carried, check_ends
 from ..network.network import Network
 from ..network.placing import places_of
 from ..network.steps import steps_table
+from .crossings import Turned, choose, turn
 from .ends import Cut
 from .inputs import Inputs, StrPath, end_before_signals, fewer_ends, horizon_ms, read_inputs
 from .net import Connection
 from .options import SumoOptions
-from .rows import case_of
+from .rows import case_of, over_links, turns_of_case
 from .signals import signal_edges
 
 
 @dataclass
 class Asked:
-    """A net with the routes over it, before it is fitted; the edges that signals hold, and those that were cut before
-    one."""
+    """A net with the routes over it, before it is fitted; the edges that signals hold as a whole, those that were cut
+    before one, and the crossings whose turns are links."""
 
     inputs: Inputs
     held: dict[str, list[Connection]]
     cut: Cut
+    turned: Turned | None = None
 
     @property
     def raw(self) -> Network:
@@ -44,7 +48,7 @@ class Asked:
 def import_sumo(net: StrPath, files: Iterable[StrPath] = (), options: SumoOptions = SumoOptions()) -> Imported:
     """The case of a net, with the vehicles and the programs of signals in files; NotCarried with all that a case cannot
     have."""
-    asked = read_all(net, files, options, not options.wait_at_ends)
+    asked = read_all(net, files, options, True)
     inputs = asked.inputs
     check_ends(dict.fromkeys(asked.ends()))
     counts: dict[tuple[str, ...], int] = {}
@@ -52,13 +56,16 @@ def import_sumo(net: StrPath, files: Iterable[StrPath] = (), options: SumoOption
         counts[route.links] = counts.get(route.links, 0) + route.units
     routes = list(counts.items())
     made = carried(asked.raw, options, routes)
-    case = case_of(made, inputs, asked.held, asked.cut, options)
+    driven = over_links(made, inputs.routes)
+    case = case_of(made, inputs, driven, asked.held, asked.cut, options)
+    turns = None if asked.turned is None else turns_of_case(made, asked.turned, case, driven, inputs, options)
     sizes = ask_for_sizes(case, options.moves)
     places, lost = places_of(made, inputs.net.drawn)
     told = [*size_told(case, inputs), *left_out_told(inputs), *inputs.notes,
             *changes_told(made, routes, set(asked.cut.stops.values())), *lost, *sizes]
-    return Imported(case, places, made.source, tuple(made.fit.changes) if made.fit is not None else None, tuple(told),
-                    inputs.begin_ms if inputs.found.vehicles or options.begin_ms is not None else None)
+    source = made.source if asked.turned is None else with_turns(made.source, asked.turned.expanded)
+    return Imported(case, places, source, tuple(made.fit.changes) if made.fit is not None else None, tuple(told),
+                    inputs.begin_ms if inputs.found.vehicles or options.begin_ms is not None else None, turns)
 
 
 def steps_of_sumo(net: StrPath, files: Iterable[StrPath] = (), options: SumoOptions = SumoOptions()) -> list[str]:
@@ -68,14 +75,22 @@ def steps_of_sumo(net: StrPath, files: Iterable[StrPath] = (), options: SumoOpti
 
 
 def read_all(net: StrPath, files: Iterable[StrPath], options: SumoOptions, cutting: bool) -> Asked:
-    """The net and the routes, with the edges cut before signals where that is asked for."""
+    """The net and the routes; with `cutting` its crossings have turns where that is asked for, and other edges are cut
+    before signals."""
     inputs = read_inputs(net, files, options)
     if options.destinations is not None:
         inputs.routes = fewer_ends(inputs, options.destinations)
-    held = signal_edges(inputs.net) if options.signals else {}
-    asked = Asked(inputs, held, end_before_signals(inputs, held, options) if cutting else Cut())
-    raw = asked.raw
-    raw.signals = {asked.cut.exits.get(name, name) for name in held}
+    raw = inputs.net.network
+    found, picked = choose(inputs, options) if cutting and options.crossings.turns != "none" else (None, Chosen((), ()))
+    held = {name: ways for name, ways in (signal_edges(inputs.net) if options.signals else {}).items()
+            if raw.roads[name].head not in picked.crossings}
+    cut = end_before_signals(inputs, held, options) if cutting and not options.wait_at_ends else Cut()
+    turned = None if found is None or not (picked.crossings or picked.parted) else turn(inputs, found, picked, options)
+    asked = Asked(inputs, held, cut, turned)
+    raw.signals = {cut.exits.get(name, name) for name in held}
+    if turned is not None:
+        raw.signals |= {road for pair, road in turned.expanded.links.items()
+                        if turned.movements.turns[pair].held is not None}
     raw.ends = {node for ends in asked.ends() for node in ends}
     return asked
 

@@ -6,6 +6,7 @@ passed over, as SUMO's mesoscopic run passes over them.
 from __future__ import annotations
 
 import gzip
+import re
 import xml.etree.ElementTree as ElementTree
 import zlib
 from collections.abc import Iterator
@@ -22,6 +23,8 @@ from ..network.placing import Map
 from .places import map_of, shape_of
 
 INNER = {"internal", "crossing", "walkingarea"}
+VIA = re.compile(r":.*_([0-9]{1,6})_([0-9]{1,6})")
+"""The inner lane of a way: its edge has the number of the first way over it, and its lanes count from there."""
 
 
 @dataclass(frozen=True, slots=True)
@@ -33,6 +36,8 @@ class Connection:
     lane: int
     signal: str | None
     index: int
+    request: int = -1
+    """Its number among the ways over its junction, where the net tells it."""
 
 
 @dataclass(frozen=True, slots=True)
@@ -63,6 +68,9 @@ class Net:
     """Of each signal how many ways it holds, those on foot too: so many letters its phases have."""
     not_fixed: dict[str, str] = field(default_factory=dict)
     """The kind of each program that is not of fixed times."""
+    yields: dict[str, dict[int, str]] = field(default_factory=dict)
+    """Of each junction and way over it, by number, a sign for each way: 1 where it yields to that one; the last sign is
+    of way 0."""
     drawn: Map = Map()
     """How places of the net become those of the world."""
 
@@ -158,6 +166,8 @@ def read_net(path: Path, *, vehicle_class: str, headway: Fraction, spacing: Frac
                     for axis in "xy")
             net.network.add_node(Node(element.get("id", ""), None if x is None else float(x),
                                       None if y is None else float(y)))
+            net.yields[element.get("id", "")] = {whole(one, "index", -1): one.get("response", "")
+                                                 for one in element.findall("request")}
         elif element.tag == "connection":
             read_connection(net, element)
         elif element.tag == "tlLogic":
@@ -219,7 +229,9 @@ def read_connection(net: Net, element: ElementTree.Element) -> None:
         net.letters[signal] = max(net.letters.get(signal, 0), index + 1)
     if edge.startswith(":") or after.startswith(":"):
         return
-    net.connections.append(Connection(edge, after, lane, signal, index))
+    via = VIA.fullmatch(element.get("via", ""))
+    request = int(via[1]) + int(via[2]) if via else -1
+    net.connections.append(Connection(edge, after, lane, signal, index, request))
 
 
 def read_program(net: Net, element: ElementTree.Element) -> None:

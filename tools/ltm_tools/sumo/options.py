@@ -1,6 +1,7 @@
 """What is asked of an import of a net of SUMO."""
 from __future__ import annotations
 
+import os
 from dataclasses import dataclass
 from fractions import Fraction
 from typing import ClassVar
@@ -24,6 +25,8 @@ class SumoOptions(Options):
     """The minutes of a row of demand; without it the fewest with not too many rows."""
     slice: int | None = None
     """The minutes of a row of splits; without it 15, or more where there were too many rows."""
+    volumes: str | os.PathLike[str] | None = None
+    """The vehicles by which traffic at crossings is counted; without it those of the case."""
     signals: bool = True
     """Whether programs of signals count."""
     wait_at_ends: bool = False

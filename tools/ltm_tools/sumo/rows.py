@@ -5,10 +5,16 @@ from ..case import Case, Demand, Limit, Setup, Split
 from ..case.cells import ask_for_cells
 from ..errors import Fault
 from ..formats import MINUTE_MS, MOST_DEMAND_ROWS, MOST_ROWS_ASKED, MOST_SPLIT_ROWS, UNITS, short_vehicles
+from ..network.crossings.limits import limits_of
+from ..network.crossings.told import turns_told
+from ..network.crossings.turn import turns_of
+from ..network.crossings.turns_file import Turns
+from ..network.crossings.volumes import volumes_of
 from ..network.cycles import Plan, exit_limits
 from ..network.importing import Carried, slots_of
 from ..network.profiles import Trip, by_trips
 from ..network.route_splits import Cuts, Route, circles, from_routes
+from .crossings import Turned
 from .ends import Cut
 from .inputs import Inputs, horizon_ms
 from .net import Connection
@@ -22,16 +28,22 @@ LONGEST_FREE = {"demand": 15, "splits": 30}
 """The longest of these shorter ones."""
 
 
-def case_of(made: Carried, inputs: Inputs, held: dict[str, list[Connection]], cut: Cut, options: SumoOptions) -> Case:
-    """The case: its links, demand, splits and signals."""
-    slots = slots_of(horizon_ms(inputs, options), made.step)
+def over_links(made: Carried, routes: list[Route]) -> list[Route]:
+    """Routes over edges of the net as routes over links of the case."""
     roads = made.roads
     cache: dict[tuple[str, ...], tuple[str, ...]] = {}
-    routes = []
-    for route in inputs.routes:
+    driven = []
+    for route in routes:
         if route.links not in cache:
             cache[route.links] = made.source.route(route.links, roads)
-        routes.append(Route(cache[route.links], route.depart_ms, route.units))
+        driven.append(Route(cache[route.links], route.depart_ms, route.units))
+    return driven
+
+
+def case_of(made: Carried, inputs: Inputs, routes: list[Route], held: dict[str, list[Connection]], cut: Cut,
+            options: SumoOptions) -> Case:
+    """The case: its links, demand, splits and signals of whole links; the routes are those over its links."""
+    slots = slots_of(horizon_ms(inputs, options), made.step)
     case = Case(Setup(made.step, slots, options.origin_capacity * UNITS), made.links)
     case.demand = demand_of(routes, case, inputs, options)
     ask_for_cells(case)  # before the splits take their time
@@ -120,3 +132,18 @@ def signals_of(made: Carried, inputs: Inputs, held: dict[str, list[Connection]],
             inputs.notes.append(f"{len(inputs.net.not_fixed)} programs are {' or '.join(kinds)} and not of fixed times;"
                                 f" the times of their phases are taken as fixed")
     return limits
+
+
+def turns_of_case(made: Carried, turned: Turned, case: Case, routes: list[Route], inputs: Inputs,
+                  options: SumoOptions) -> Turns:
+    """The turns of the case, whose limits are added to its signals."""
+    asked = options.crossings
+    volumes = volumes_of(routes, made.roads, asked.slice_minutes * MINUTE_MS)
+    turns = turns_of(turned.expanded, turned.movements, made.source, turned.capacities, asked.permissive, turned.lanes)
+    links = {link.name: link for link in case.links}
+    limits = limits_of(turns, volumes, links, case.setup)
+    case.signals += limits
+    case.setup.signals = bool(case.signals)
+    inputs.notes += [f"{len(limits)} records of signals, of {len({limit.link for limit in limits})} turns"]
+    inputs.notes += turns_told(turns, volumes, links, case.setup)
+    return Turns(tuple(turns), volumes)

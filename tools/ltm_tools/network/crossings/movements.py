@@ -1,0 +1,77 @@
+"""The turns that a source allows, and how signals hold them."""
+from __future__ import annotations
+
+from collections.abc import Iterable, Mapping
+from dataclasses import dataclass
+from fractions import Fraction
+
+from ..cycles import Green
+
+Pair = tuple[str, str]
+"""A turn: the link by which it comes to a crossing, its approach, and that on which it goes on, its exit."""
+
+
+@dataclass(frozen=True, slots=True)
+class Held:
+    """How a signal holds a turn. Greens count for the share of its lanes that have them."""
+
+    protected: tuple[Green, ...] = ()
+    """Greens in which it need not yield."""
+    permitted: tuple[Green, ...] = ()
+    """Greens in which it yields to other turns that have green as well."""
+    opposing: tuple[Pair, ...] = ()
+    """These other turns."""
+    opposing_lanes: tuple[tuple[str, int], ...] = ()
+    """Their lanes, each an approach and a number."""
+
+    @property
+    def always(self) -> bool:
+        """Whether it is always green and never yields."""
+        whole = sum((green.share for green in self.protected if green.to_ms - green.from_ms == green.cycle_ms),
+                    Fraction(0))
+        return whole >= 1
+
+
+@dataclass(frozen=True, slots=True)
+class Movement:
+    """A turn that is allowed: the lanes of its approach that serve it, by number, and its signal, where it has one."""
+
+    approach: str
+    exit: str
+    lanes: tuple[int, ...] = ()
+    held: Held | None = None
+
+    @property
+    def pair(self) -> Pair:
+        """Its approach and exit."""
+        return self.approach, self.exit
+
+
+@dataclass(frozen=True)
+class Movements:
+    """The turns of a network by approach and exit; of each approach how many lanes it has, where that is known."""
+
+    turns: Mapping[Pair, Movement]
+    lanes: Mapping[str, int]
+
+    def exits(self) -> dict[str, list[str]]:
+        """Of each approach its exits, in the order of the turns."""
+        made: dict[str, list[str]] = {}
+        for approach, after in self.turns:
+            made.setdefault(approach, []).append(after)
+        return made
+
+    def held(self) -> set[str]:
+        """The approaches with a turn that a signal holds."""
+        return {turn.approach for turn in self.turns.values() if turn.held is not None}
+
+    def share(self, pair: Pair) -> Fraction:
+        """The part of its approach's lanes that serve a turn; all of them where lanes are not known."""
+        count = self.lanes.get(pair[0], 0)
+        served = len(self.turns[pair].lanes)
+        return Fraction(served, count) if count and served else Fraction(1)
+
+
+def movements_of(turns: Iterable[Movement], lanes: Mapping[str, int]) -> Movements:
+    """Turns by approach and exit."""
+    return Movements({turn.pair: turn for turn in turns}, lanes)

@@ -1,0 +1,66 @@
+"""What is told of the turns of a case."""
+from __future__ import annotations
+
+from collections.abc import Mapping, Sequence
+from fractions import Fraction
+
+from ...case import Link, Setup
+from ...formats import HOUR_MS, UNITS, counted
+from .expand import Expanded
+from .turn import Turn
+from .volumes import Volumes
+
+MOST_TOLD = 5
+
+
+def whole_told(count: int) -> list[str]:
+    """How many crossings stay as they are, as a link before them cannot be cut."""
+    return [f"{counted(count, 'crossing')} without turns, as a link before it is too short to be cut: --fit cuts"
+            f" it"] if count else []
+
+
+def crossings_told(made: Expanded, left_out: int) -> list[str]:
+    """How many crossings have their turns as links, and the vehicles that were left out."""
+    turns = sum(len(own) for own in made.own.values()) - len(made.stops)
+    told = [f"{counted(len(made.nodes), 'crossing')} with {counted(turns, 'turn')} as links of their own; turns.csv has"
+            f" their lanes and greens"] if made.nodes else []
+    if made.stops:
+        told.append(f"{counted(len(made.stops), 'link')} for trips that end at a crossing, which no signal holds")
+    if made.short:
+        told.append(f"{counted(made.short, 'link')} before a crossing shorter than two links may be at this step, so"
+                    f" that turns make the way longer")
+    if left_out:
+        told.append(f"{left_out / UNITS:g} vehicles take a turn that is forbidden, and are left out")
+    return told
+
+
+def turns_told(turns: Sequence[Turn], volumes: Volumes, links: Mapping[str, Link], setup: Setup) -> list[str]:
+    """Which turns yield, how little they get of it, and which have more vehicles than they let pass."""
+    yielding = [(min(turn.factors(volumes)), turn.link) for turn in turns if turn.permitted]
+    told = []
+    if yielding:
+        least, link = min(yielding)
+        told.append(f"{counted(len(yielding), 'turn')} that yield in their green, to the traffic of each"
+                    f" {volumes.slice_ms // 60_000} minutes; the least is {float(least):.3f} of what its lanes let pass"
+                    f" ({link})")
+    over = sorted(((load, turn.link) for turn in turns if (load := load_of(turn, volumes, links, setup)) > 1),
+                  reverse=True)
+    if over:
+        more = f" and {len(over) - MOST_TOLD} more" if len(over) > MOST_TOLD else ""
+        told.append(f"{counted(len(over), 'turn')} with more vehicles than pass: "
+                    + ", ".join(f"{link} {float(load):.2f}" for load, link in over[:MOST_TOLD]) + more)
+    return told
+
+
+def load_of(turn: Turn, volumes: Volumes, links: Mapping[str, Link], setup: Setup) -> Fraction:
+    """The vehicles of a turn by what its greens let pass, in the slice where that is most; 0 where it has no signal."""
+    if not turn.protected and not turn.permitted:
+        return Fraction(0)
+    rate = Fraction(links[turn.link].capacity(setup.step_ms) * HOUR_MS, setup.step_ms)
+    factors = turn.factors(volumes) or [Fraction(1)] * volumes.slices
+    greens = [sum((green.share * (green.to_ms - green.from_ms) / green.cycle_ms for green in some), Fraction(0))
+              for some in (turn.protected, turn.permitted)]
+    counts = volumes.counts.get(turn.link, {})
+    return max((Fraction(counts.get(number, 0) * HOUR_MS, volumes.slice_ms) / (rate * share)
+                for number, factor in enumerate(factors) if (share := greens[0] + greens[1] * factor) > 0),
+               default=Fraction(0))

@@ -1,0 +1,76 @@
+"""A turn as a case has it: its link, its lanes and greens, and what it yields to."""
+from __future__ import annotations
+
+from collections.abc import Mapping
+from dataclasses import dataclass, replace
+from fractions import Fraction
+
+from ..cycles import Green
+from ..source import Source
+from . import gaps
+from .expand import Expanded
+from .movements import Movements, Pair
+from .options import Gap
+from .volumes import Volumes
+
+
+@dataclass(frozen=True, kw_only=True)
+class Turn:
+    """A turn by the names of its source, with its link of the case."""
+
+    approach: str
+    exit: str
+    link: str
+    lanes: Fraction
+    """How many lanes of the approach it has."""
+    saturation: Fraction
+    """What a lane of the approach lets pass, in vehicles an hour."""
+    protected: tuple[Green, ...] = ()
+    permitted: tuple[Green, ...] = ()
+    """Greens in which it yields; these and those above are told for the shares of its lanes."""
+    opposing: tuple[str, ...] = ()
+    """The links of the case to which it yields then."""
+    opposing_saturation: Fraction = Fraction(0)
+    """What the lanes of these let pass together, in vehicles an hour."""
+    permissive: Gap | Fraction = Gap()
+    """How it finds its way while it yields: by gaps, or a share of what its lanes let pass."""
+
+    def factor(self, volumes: Volumes, number: int) -> Fraction:
+        """The share of its greens in which it yields that it gets in a slice."""
+        if isinstance(self.permissive, Fraction):
+            return self.permissive
+        green = sum((one.share * (one.to_ms - one.from_ms) for one in self.permitted), Fraction(0))
+        green /= max(one.share for one in self.permitted)
+        return gaps.factor(volumes.flow(self.opposing, number), float(self.opposing_saturation) / 3600,
+                           float(green) / 1000, self.permitted[0].cycle_ms / 1000, float(self.saturation) / 3600,
+                           self.permissive)
+
+    def factors(self, volumes: Volumes) -> list[Fraction]:
+        """The factor of each slice; none for a turn that never yields."""
+        return [self.factor(volumes, number) for number in range(volumes.slices)] if self.permitted else []
+
+
+def turns_of(made: Expanded, movements: Movements, source: Source, capacities: Mapping[str, Fraction],
+             permissive: Gap | Fraction, lanes: Mapping[Pair, Fraction]) -> list[Turn]:
+    """The turns of expanded crossings that have a link of the case; `source` says what the roads there are now have
+    become, `capacities` what approaches let pass in an hour before they were cut."""
+    links = {pair: name for pair, road in made.links.items() if (name := source.links[road].link) is not None}
+    rates = {name: capacity / movements.lanes.get(name, 1) for name, capacity in capacities.items()}
+    turns = []
+    for pair, link in links.items():
+        movement, approach = movements.turns[pair], pair[0]
+        count = lanes.get(pair, Fraction(len(movement.lanes) or movements.lanes.get(approach, 1)))
+        turn = Turn(approach=approach, exit=pair[1], link=link, lanes=thousandths(count),
+                    saturation=thousandths(rates[approach]), permissive=permissive)
+        if (held := movement.held) is not None:
+            opposing = tuple(links[other] for other in held.opposing if other in links)
+            whole = sum((rates[name] for name, _ in set(held.opposing_lanes)), Fraction(0))
+            turn = replace(turn, protected=held.protected, permitted=held.permitted, opposing=opposing,
+                           opposing_saturation=thousandths(whole))
+        turns.append(turn)
+    return turns
+
+
+def thousandths(number: Fraction) -> Fraction:
+    """The nearest thousandth, as `turns.csv` has numbers."""
+    return Fraction(round(number * 1000), 1000)

@@ -1,0 +1,90 @@
+"""The turns of a net of SUMO, and how its programs hold them.
+
+A way yields to another where the junction says so; in a phase with `g` it yields to those of these that have green.
+"""
+from __future__ import annotations
+
+from collections.abc import Iterable, Sequence
+from fractions import Fraction
+
+from ..network.crossings.movements import Held, Movement, Movements, movements_of
+from ..network.cycles import Green
+from .net import Connection, Net, Program
+from .signals import GREEN, OFF, YELLOW, cycle_of
+
+Span = tuple[int, int]
+
+
+def movements(net: Net, *, signals: bool, yellow: bool, begin_ms: int) -> Movements:
+    """The turns of a net; with signals how they are held, the case beginning at a time in ms."""
+    ways: dict[tuple[str, str], list[Connection]] = {}
+    at: dict[str, list[Connection]] = {}
+    roads = net.network.roads
+    for way in net.connections:
+        if roads[way.edge].head == roads[way.after].tail:
+            ways.setdefault((way.edge, way.after), []).append(way)
+            at.setdefault(roads[way.edge].head, []).append(way)
+    made = []
+    for (edge, after), some in ways.items():
+        node = roads[edge].head
+        program = next((net.programs[way.signal] for way in some if way.signal in net.programs), None)
+        held = None
+        if signals and program is not None and cycle_of(program) > 0:
+            held = held_by(net, program, some, at[node], yellow, begin_ms)
+        made.append(Movement(edge, after, tuple(sorted({way.lane for way in some})), held))
+    return movements_of(made, {name: len(lanes) for name, lanes in net.lanes.items()})
+
+
+def priorities(net: Net, way: Connection, others: Iterable[Connection]) -> list[Connection]:
+    """The ways over its junction to which a way yields."""
+    signs = net.yields.get(net.network.roads[way.edge].head, {}).get(way.request, "")[::-1]
+    return [other for other in others if other.edge != way.edge and 0 <= other.request < len(signs)
+            and signs[other.request] == "1"]
+
+
+def held_by(net: Net, program: Program, ways: Sequence[Connection], others: Sequence[Connection], yellow: bool,
+            begin_ms: int) -> Held:
+    """How a program holds a turn: each way of it counts for its part of the turn's lanes."""
+    cycle = cycle_of(program)
+    offset = (program.offset_ms - begin_ms) % cycle
+    shares: dict[bool, dict[Span, Fraction]] = {False: {}, True: {}}
+    against: dict[Connection, None] = {}
+    one_each = list({way.lane: way for way in ways}.values())
+    for way in one_each:
+        yielding = priorities(net, way, others)
+        for start, end, foes in spans(program, way, yielding, yellow):
+            of = shares[bool(foes)]
+            of[start, end] = of.get((start, end), Fraction(0)) + Fraction(1, len(one_each))
+            against |= dict.fromkeys(foes)
+    protected, permitted = (tuple(Green(cycle, start, end, offset, share) for (start, end), share in of.items())
+                            for of in shares.values())
+    return Held(protected, permitted, tuple(dict.fromkeys((foe.edge, foe.after) for foe in against)),
+                tuple(dict.fromkeys((foe.edge, foe.lane) for foe in against)))
+
+
+def spans(program: Program, way: Connection, yielding: Iterable[Connection],
+          yellow: bool) -> list[tuple[int, int, tuple[Connection, ...]]]:
+    """The spans of a cycle (ms) in which a way is green, each with the ways with green to which it yields then; yellow,
+    where vehicles go on it, is part of the green before. A way without a signal is always green."""
+    if way.signal != program.signal:
+        return [(0, cycle_of(program), ())]
+    found: list[tuple[int, int, tuple[Connection, ...]]] = []
+    foes: tuple[Connection, ...] = ()
+    time = 0
+    for length, state in program.phases:
+        letter = state[way.index] if 0 <= way.index < len(state) else "r"
+        if letter in GREEN + OFF:
+            foes = foes_on(program, state, yielding) if letter in "go" else ()
+        if length and letter in GREEN + OFF + (YELLOW if yellow else ""):
+            if found and found[-1][1] == time and bool(found[-1][2]) == bool(foes):
+                found[-1] = found[-1][0], time + length, tuple(dict.fromkeys(found[-1][2] + foes))
+            else:
+                found.append((time, time + length, foes))
+        time += length
+    return found
+
+
+def foes_on(program: Program, state: str, yielding: Iterable[Connection]) -> tuple[Connection, ...]:
+    """Those of some ways that have green in a phase."""
+    return tuple(way for way in yielding if way.signal == program.signal and 0 <= way.index < len(state)
+                 and state[way.index] in GREEN + OFF)

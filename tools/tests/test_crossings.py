@@ -1,0 +1,197 @@
+"""Crossings by hand: their turns as links, what is forbidden, five arms, an approach too short, trips that end, one-way
+streets."""
+import unittest
+from collections.abc import Collection
+from dataclasses import replace
+from fractions import Fraction
+
+from ltm_tools.network.crossings.chosen import Chosen, chosen
+from ltm_tools.network.crossings.expand import Expanded, Form, cut_as_they_are, expand
+from ltm_tools.network.crossings.movements import Held, Movement, Movements, movements_of
+from ltm_tools.network.cycles import Green
+from ltm_tools.network.fit import Fit
+from ltm_tools.network.network import Network, Node, road_of
+from ltm_tools.network.route_splits import Route
+
+PLACES = {"n": (0.0, 300.0), "e": (300.0, 0.0), "s": (0.0, -300.0), "w": (-300.0, 0.0), "c": (0.0, 0.0)}
+HELD = Held((Green(60_000, 0, 30_000),))
+BACK = {"n": "s", "e": "w", "s": "n", "w": "e"}
+
+
+def crossing(arms: str = "nesw", metres: int = 300, lanes: int = 2) -> Network:
+    """Arms around c, each with a road in, as `nc`, and one out, as `cn`: 36 km/h, a lane of 1800 an hour and 150/km."""
+    made = Network()
+    for name, place in PLACES.items():
+        made.add_node(Node(name, *place))
+    for arm in arms:
+        for tail, head in ((arm, "c"), ("c", arm)):
+            made.add(road_of(tail + head, tail, head, metres=Fraction(metres), kmh=Fraction(36),
+                             jam=Fraction(150 * lanes), capacity=Fraction(1800 * lanes)))
+    return made
+
+
+def turns(arms: str = "nesw", without: Collection[tuple[str, str]] = (), held: Held | None = HELD) -> Movements:
+    """All turns but those back and some others: straight on from both lanes, else from one."""
+    pairs = [(one + "c", "c" + other) for one in arms for other in arms if one != other]
+    return movements_of([Movement(*pair, (0, 1) if BACK.get(pair[0][0]) == pair[1][1] else (0,), held)
+                         for pair in pairs if pair not in without], {name: 2 for name in crossing(arms).roads})
+
+
+def form(**words: object) -> Form:
+    return replace(Form(step=5000, length_m=98), **words)  # type: ignore[arg-type]
+
+
+def made(network: Network, movements: Movements, **words: object) -> Expanded:
+    return expand(network, movements, Chosen(("c",), ()), form(**words))
+
+
+class Four(unittest.TestCase):
+    def test_each_turn_is_a_link_of_its_own(self) -> None:
+        network = crossing()
+        expanded = made(network, turns())
+        self.assertEqual(len(network.roads), 8 + 12)
+        roads = network.roads
+        self.assertEqual([(roads[name].tail, roads[name].head) for name in ("nc", "nc__cs", "cs")],
+                         [("n", "nc_A"), ("nc_A", "cs_E"), ("cs_E", "s")])
+        # 300 m: 98 for the turn, 202 before it; straight on has both lanes, to the left one of the two
+        self.assertEqual([(road.length, road.storage, road.capacity) for road in
+                          (roads["nc"], roads["nc__cs"], roads["nc__ce"])],
+                         [(202, Fraction(202 * 300, 1000), 3600), (98, Fraction(98 * 300, 1000), 3600),
+                          (98, Fraction(98 * 150, 1000), 1800)])
+        self.assertEqual({road.kmh for road in roads.values()}, {36})
+        self.assertNotIn("c", network.nodes)
+        self.assertEqual(expanded.own["nc"], ["nc__ce", "nc__cs", "nc__cw"])
+        self.assertEqual((expanded.short, expanded.stops), (0, {}))
+
+    def test_a_turn_that_is_forbidden_is_not_there(self) -> None:
+        network = crossing()
+        expanded = made(network, turns(without=[("nc", "ce")]))
+        self.assertEqual([name for name in network.roads if name.startswith("nc_")], ["nc__cs", "nc__cw"])
+        self.assertIsNone(expanded.route(Route(("nc", "ce"), 0, 1000)))
+        self.assertEqual(expanded.route(Route(("nc", "cw"), 7, 1000)), Route(("nc", "nc__cw", "cw"), 7, 1000))
+
+    def test_an_approach_with_one_exit_leads_to_it_as_it_is(self) -> None:
+        network = crossing()
+        expanded = made(network, turns(without=[("nc", "ce"), ("nc", "cw")]))
+        self.assertEqual((network.roads["nc"].head, network.roads["nc"].length), ("cs_E", 300))
+        self.assertEqual(expanded.links["nc", "cs"], "nc")
+        self.assertEqual(expanded.route(Route(("nc", "cs"), 0, 1)), Route(("nc", "cs"), 0, 1))
+
+    def test_trips_that_end_take_a_link_that_no_signal_holds(self) -> None:
+        network = crossing()
+        expanded = made(network, turns(), ends={"c"})
+        stop = network.roads["nc_stop"]
+        self.assertEqual((stop.tail, stop.head, stop.length, stop.capacity), ("nc_A", "c", 98, 3600))
+        self.assertEqual(network.outs["c"], [])
+        self.assertEqual(expanded.route(Route(("nc",), 0, 1)), Route(("nc", "nc_stop"), 0, 1))
+
+    def test_trips_that_begin_at_the_node_may_take_each_exit_and_none_leads_through(self) -> None:
+        network = crossing()
+        expanded = made(network, turns(), ends={"c"}, begins={"c"})
+        self.assertEqual(expanded.origins, {"c": "c_start"})
+        self.assertEqual((network.ins["c_start"], len(network.outs["c_start"])), ([], 4))
+        # 51 m: what the step asks for
+        self.assertEqual((network.roads["cn_start"].head, network.roads["cn_start"].length), ("cn_E", 51))
+        self.assertEqual(expanded.route(Route(("cn",), 0, 1)), Route(("cn_start", "cn"), 0, 1))
+
+    def test_where_it_lies(self) -> None:
+        network = crossing()
+        made(network, turns())
+        self.assertEqual(network.nodes["nc_A"].place, (0.0, 98.0))
+        self.assertEqual(network.nodes["cs_E"].place, (0.0, -14.0))
+        # southbound: right is west, so the three turns lie from west to east by where they go
+        across = [network.roads[f"nc__c{arm}"].shape[0][0] for arm in "wse"]
+        self.assertEqual(across, sorted(across))
+        self.assertAlmostEqual(across[2] - across[1], 3.2)
+        self.assertEqual(across[1], 0.0)
+
+
+class Forms(unittest.TestCase):
+    def test_five_arms(self) -> None:
+        PLACES["x"] = (200.0, 200.0)
+        self.addCleanup(PLACES.pop, "x")
+        network = crossing("neswx")
+        made(network, turns("neswx"), ends={"c"})
+        self.assertEqual(len(network.outs["nc_A"]), 5)
+        self.assertEqual(max(len(names) for node, names in network.ins.items() if node != "c"), 4)
+        fit = Fit(network, 5000)
+        fitted = fit.run()
+        self.assertEqual(max(len(names) for side in (fitted.ins, fitted.outs) for names in side.values()), 4)
+        self.assertEqual({change.kind for change in fit.changes}, {"node split"})
+
+    def test_an_approach_too_short(self) -> None:
+        # 60 m are less than two of 51: the turn has 51, 9 are left, and a fit gives these to the turns
+        network = crossing(metres=60)
+        self.assertEqual(made(network, turns()).short, 4)
+        self.assertEqual((network.roads["nc"].length, network.roads["nc__cs"].length), (9, 51))
+        network.ends = {"n", "e", "s", "w"}
+        fitted = Fit(network, 5000).run()
+        self.assertNotIn("nc", fitted.roads)
+        self.assertEqual((fitted.roads["nc__cs"].tail, fitted.roads["nc__cs"].length), ("n", 60))
+
+    def test_those_that_can_be_cut_as_they_are(self) -> None:
+        picked = Chosen(("c",), ())
+        self.assertEqual(cut_as_they_are(crossing(metres=60), picked, 5000).crossings, ())
+        # 110 m are enough: 51 before the turn and 59 for it
+        network = crossing(metres=110)
+        self.assertEqual(cut_as_they_are(network, picked, 5000).crossings, ("c",))
+        made(network, turns())
+        self.assertEqual((network.roads["nc"].length, network.roads["nc__cs"].length), (51, 59))
+
+    def test_one_way_streets(self) -> None:
+        # from n and w, to s and e: four turns and no more
+        network = crossing()
+        for name in ("cn", "cw", "sc", "ec"):
+            network.remove(name)
+        movements = movements_of([Movement(one, other, (0, 1)) for one in ("nc", "wc") for other in ("cs", "ce")], {})
+        self.assertEqual(chosen(network, movements, (), "all").crossings, ("c",))
+        made(network, movements)
+        self.assertEqual([name for name in network.roads if "__" in name], ["nc__cs", "nc__ce", "wc__cs", "wc__ce"])
+        self.assertEqual(network.roads["nc__cs"].capacity, 3600)
+
+    def test_names_that_are_taken(self) -> None:
+        network = crossing()
+        network.add(replace(network.roads["nc"], name="nc__cs", tail="n", head="e"))
+        network.add_node(Node("nc_A"))
+        network.add(replace(network.roads["nc"], name="x", tail="n", head="nc_A"))
+        expanded = made(network, turns())
+        self.assertEqual(expanded.links["nc", "cs"], "nc__cs_2")
+        self.assertEqual(network.roads["nc"].head, "nc_A_2")
+
+
+class Choice(unittest.TestCase):
+    def picked(self, movements: Movements, asked: str | tuple[str, ...], ends: Collection[str] = ()) -> list[str]:
+        return list(chosen(crossing(), movements, ends, asked).crossings)
+
+    def test_by_signals_or_all(self) -> None:
+        self.assertEqual(self.picked(turns(), "signals"), ["c"])
+        self.assertEqual(self.picked(turns(held=None), "signals"), [])
+        self.assertEqual(self.picked(turns(held=None), "all"), ["c"])
+        self.assertEqual(self.picked(turns(), "none"), [])
+        self.assertEqual(self.picked(turns(held=None), ("c",)), ["c"])
+
+    def test_a_turn_that_is_forbidden_asks_for_it_and_one_back_does_not(self) -> None:
+        self.assertEqual(self.picked(turns(held=None, without=[("nc", "ce")]), "signals"), ["c"])
+        self.assertNotIn(("nc", "cn"), turns().turns)
+
+    def test_a_signal_before_one_exit_asks_for_it_where_trips_end(self) -> None:
+        network = crossing("ns")
+        movements = turns("ns")
+        self.assertEqual(chosen(network, movements, (), "signals").crossings, ())
+        self.assertEqual(chosen(network, movements, {"c"}, "signals").crossings, ("c",))
+
+    def test_a_dead_end_is_parted_so_that_none_turns_back(self) -> None:
+        network = crossing()
+        picked = chosen(network, turns(), (), "signals")
+        self.assertEqual(picked.parted, ("n", "e", "s", "w"))
+        expanded = expand(network, turns(), picked, form())
+        self.assertEqual((network.roads["cn"].head, network.roads["nc"].tail), ("n", "n_start"))
+        self.assertEqual(expanded.origins, {arm: f"{arm}_start" for arm in "nesw"})
+
+    def test_a_name_that_is_no_node(self) -> None:
+        with self.assertRaisesRegex(Exception, "--turns: d is no node of the network"):
+            self.picked(turns(), ("d",))
+
+
+if __name__ == "__main__":
+    unittest.main()

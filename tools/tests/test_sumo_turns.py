@@ -1,0 +1,132 @@
+"""Turns of a net of SUMO as links, by hand: greens that are protected and permitted, gaps, what is forbidden, a program
+that is broken."""
+import csv
+import math
+import unittest
+from fractions import Fraction
+
+from test_from_sumo import SumoTest, edge, way
+
+from ltm_tools.network.crossings import gaps
+from ltm_tools.network.crossings.options import Gap
+from ltm_tools.network.passages import Roads
+from ltm_tools.network.source import Source
+
+# c has arms n, s and w to come from, and n, s and e to go to; from n to e is a left turn, against those from s to n
+ARMS = "".join(edge(name, name[0], name[1], metres="300.00") for name in ("nc", "sc", "wc", "cn", "cs", "ce"))
+WAYS = (way("nc", "cs", 0, 'tl="c" linkIndex="0" via=":c_0_0"') + way("nc", "ce", 0, 'tl="c" linkIndex="1" via=":c_1_0"')
+        + way("sc", "cn", 0, 'tl="c" linkIndex="2" via=":c_2_0"')
+        + way("wc", "ce", 0, 'tl="c" linkIndex="3" via=":c_3_0"'))
+YIELDS = ('<junction id="c" type="traffic_light" x="0" y="0"><request index="0" response="0000"/>'
+          '<request index="1" response="0100"/><request index="2" response="0000"/>'
+          '<request index="3" response="0000"/></junction>')
+# of 60 s the left turn has 20 in which it yields, then 10 of its own
+PROGRAM = ('<tlLogic id="c" type="static" programID="0" offset="0"><phase duration="20" state="GgGr"/>'
+           '<phase duration="5" state="yryr"/><phase duration="10" state="rGrr"/>'
+           '<phase duration="25" state="rrrG"/></tlLogic>')
+NET = ARMS + WAYS + YIELDS + PROGRAM
+# those from s set out every 10 s and are at the crossing 30 s later: 57 in the first 10 minutes, then 60, and 3
+ROUTES = ('<flow id="s" begin="0" end="1200" number="120" from="sc" to="cn"/>'
+          '<vehicle id="l" depart="0"><route edges="nc ce"/></vehicle>'
+          '<vehicle id="t" depart="0"><route edges="nc cs"/></vehicle>'
+          '<vehicle id="w" depart="0"><route edges="wc ce"/></vehicle>')
+WORDS = ("--turns", "signals", "--step", "5000", "--horizon", "30")
+
+
+class Turns(SumoTest):
+    def rows(self) -> dict[str, dict[str, str]]:
+        with open(self.folder / "case" / "turns.csv", newline="", encoding="utf-8") as file:
+            return {row["link"]: row for row in csv.DictReader(file)}
+
+    def test_a_left_turn_that_is_permitted_and_then_protected(self) -> None:
+        case = self.made(*WORDS, net=NET, routes=ROUTES)
+        row = self.rows()["nc__ce"]
+        self.assertEqual([row[name] for name in ("cycle", "offset", "greens", "permitted", "opposing", "lanes")],
+                         ["60", "0", "25-35", "0-20", "sc", "1"])
+        # a lane lets pass 1914.894 an hour, s = 0.5319 a second. Of q = 57 / 600 = 0.095 a second 40 s of red make a
+        # queue that drives off in 8.697 s; then 0.3285 a second find a gap of 4.5 and 2.2 s, and one goes at the end:
+        # 11.303 * 0.3285 + 1 = 4.713 of 20 * s = 10.638. Of 0.1 a second it is 10.739 * 0.3229 + 1 = 4.467, of 0.005
+        # 19.620 * 0.4469 + 1 = 9.768
+        self.assertEqual((row["saturation"], row["opposing_saturation"], row["factors"]),
+                         ("1914.894", "1914.894", "0.443 0.420 0.918"))
+        # between 10 and 20 minutes a cycle is 4 slots of 0.420 and 2 whole ones
+        capacity = next(link for link in case.links if link.name == "nc__ce").capacity(5000)
+        limits = [limit for limit in case.signals if limit.link == "nc__ce" and 120 <= limit.from_slot < 132]
+        green = [limit for limit in limits if limit.units]
+        self.assertEqual([(limit.from_slot, limit.to_slot) for limit in limits if not limit.units],
+                         [(124, 125), (127, 132)])
+        self.assertEqual(sum((limit.to_slot - limit.from_slot) * limit.units for limit in green),
+                         4 * capacity * 420 // 1000)
+
+    def test_shares_and_free(self) -> None:
+        for how, factors in (("0.5", {"0.500"}), ("free", {"1.000"})):
+            self.made(*WORDS, "--permissive", how, net=NET, routes=ROUTES)
+            self.assertEqual(set(self.rows()["nc__ce"]["factors"].split()), factors)
+        self.assertIn("--gap goes with --permissive gaps", self.refused_new("--permissive", "0.5", "--gap", "4,2,1"))
+
+    def refused_new(self, *words: str) -> str:
+        status, _, err = self.make(*WORDS, *words, net=NET, routes=ROUTES)
+        self.assertEqual((status, err.count("\n")), (1, 1))
+        return err
+
+    def test_what_an_edge_has_become(self) -> None:
+        case = self.made(*WORDS, net=NET, routes=ROUTES)
+        roads = Roads.of(case.links)
+        source = Source.read(self.folder / "case", roads)
+        self.assertEqual(source.links["nc"].all_links, ("nc", "nc__cs", "nc__ce"))
+        self.assertEqual(source.links["sc"].all_links, ("sc",))
+        self.assertEqual(source.route(["nc", "ce"], roads), ("nc", "nc__ce", "ce"))
+        self.assertEqual(source.route(["sc", "cn"], roads), ("sc", "cn"))
+        with self.assertRaisesRegex(Exception, "no way leads from node sc_E|no way leads from node cn_E"):
+            source.route(["sc", "ce"], roads)
+
+    def test_vehicles_that_take_a_forbidden_turn_are_left_out(self) -> None:
+        case = self.made(*WORDS, net=NET, routes=ROUTES + '<vehicle id="b" depart="0"><route edges="wc cn"/></vehicle>')
+        self.assertIn("1 vehicles take a turn that is forbidden, and are left out\n", self.out)
+        self.assertEqual(sum(row.units for row in case.demand), 123_000)
+
+    def test_trips_that_end_at_the_crossing_do_not_wait(self) -> None:
+        case = self.made(*WORDS, net=NET, routes=ROUTES + '<vehicle id="e" depart="0"><route edges="nc"/></vehicle>')
+        stop = next(link for link in case.links if link.name == "nc_stop")
+        self.assertEqual((stop.tail, stop.head, stop.length_m), ("nc_A", "c", 98))
+        self.assertNotIn("nc_stop", {limit.link for limit in case.signals})
+        # as trips end at c, each way to it has such a link
+        self.assertEqual({link.name for link in case.links if link.head == "c"}, {"nc_stop", "sc_stop", "wc_stop"})
+
+    def test_a_broken_program(self) -> None:
+        broken = PROGRAM.replace("rGrr", "rGr")
+        self.assertIn("its phases have 3 and 4 letters", self.refused(*WORDS, net=ARMS + WAYS + YIELDS + broken,
+                                                                      routes=ROUTES))
+        # a way without a number among those of its junction is taken as one that does not yield
+        net = ARMS + WAYS.replace('via=":c_1_0"', "") + YIELDS + PROGRAM
+        self.made(*WORDS, net=net, routes=ROUTES)
+        self.assertEqual(self.rows()["nc__ce"]["permitted"], "")
+        # a way onto an edge that does not begin there is none
+        self.made(*WORDS, net=NET + way("nc", "wc"), routes=ROUTES)
+        self.assertNotIn("nc__wc", self.rows())
+
+    def test_none_leaves_no_trace_of_turns(self) -> None:
+        self.made(*WORDS, net=NET, routes=ROUTES)
+        case = self.made("--turns", "none", *WORDS[2:], net=NET, routes=ROUTES)
+        self.assertEqual([link.name for link in case.links], ["nc", "sc", "wc", "cn", "cs", "ce"])
+        self.assertFalse((self.folder / "case" / "turns.csv").exists())
+
+
+class Gaps(unittest.TestCase):
+    def test_the_manual_s_formula(self) -> None:
+        # the capacity of a turn against 500 vehicles an hour with gaps of 4.1 and 2.2 s
+        flow = 500 / 3600
+        self.assertAlmostEqual(gaps.capacity(flow, Gap(Fraction("4.1"), Fraction("2.2"))) * 3600,
+                               500 * math.exp(-500 * 4.1 / 3600) / (1 - math.exp(-500 * 2.2 / 3600)))
+        self.assertAlmostEqual(gaps.capacity(0.0, Gap()) * 3600, 3600 / 2.2)
+        self.assertAlmostEqual(gaps.capacity(1e-12, Gap()) * 3600, 3600 / 2.2, 5)
+
+    def test_a_turn_is_never_shut_and_never_more_than_free(self) -> None:
+        # the traffic with priority fills the green: what goes at its end is left, 1 of 42 * 0.6, which is 0.040
+        self.assertEqual(gaps.factor(2.0, 1.2, 42, 90, 0.6, Gap()), Fraction(40, 1000))
+        self.assertEqual(gaps.factor(2.0, 1.2, 42, 90, 0.6, Gap(at_end=Fraction(0))), gaps.LEAST_FACTOR)
+        self.assertEqual(gaps.factor(0.0, 1.2, 42, 90, 0.3, Gap()), 1)
+
+
+if __name__ == "__main__":
+    unittest.main()
