@@ -21,7 +21,7 @@ from .errors import Fault
 
 # modules, in the order in which they are told
 COMMANDS = (
-    "inspect", "explain", "from_gmns", "from_sumo", "demand", "splits", "signals",
+    "inspect", "explain", "from_gmns", "from_sumo", "demand", "splits", "signals", "turns",
     "queues", "times", "compare", "page", "live", "geojson", "plot", "draw", "sweep", "apply", "prove", "install",
 )
 

@@ -12,7 +12,7 @@ import commands
 from support import FolderTest, TOOLS
 
 from ltm_tools.case import Case, cells
-from ltm_tools.sumo.signals import filled
+from ltm_tools.network.crossings.lanes import filled
 
 
 def edge(name: str, tail: str, head: str, lanes: int = 1, metres: str = "200.00", speed: str = "10.00", more: str = "",
@@ -37,8 +37,8 @@ class SumoTest(FolderTest):
 
     def make(self, *words: str, net: str = EDGES + WAYS, routes: str | None = None,
              more: str | None = None) -> tuple[int, str, str]:
-        """Makes a case of a net, of vehicles, and of another file; of links that are not parted by turns, unless that
-        is said."""
+        """Makes a case of a net, of vehicles, and of another file; of links that are not parted by turns, and where none
+        goes on yellow, unless that is said."""
         files = []
         for name, text, root in (("net.net.xml", net, "net"), ("more.add.xml", more, "additional"),
                                  ("routes.rou.xml", routes, "routes")):
@@ -47,7 +47,8 @@ class SumoTest(FolderTest):
                                                 f'<{root} version="1.9">{text}</{root}>')
                 files.append(str(self.folder / name))
         turns = () if "--turns" in words else ("--turns", "none")
-        return commands.run("from-sumo", *files, str(self.folder / "case"), *words, *turns)
+        yellow = () if "--yellow" in words else ("--no-yellow",)
+        return commands.run("from-sumo", *files, str(self.folder / "case"), *words, *turns, *yellow)
 
     def made(self, *words: str, **files: str) -> Case:
         status, self.out, err = self.make(*words, **files)  # type: ignore[arg-type]

@@ -5,6 +5,7 @@ import math
 import unittest
 from fractions import Fraction
 
+import commands
 from test_from_sumo import SumoTest, edge, way
 
 from ltm_tools.network.crossings import gaps
@@ -104,6 +105,44 @@ class Turns(SumoTest):
         # a way onto an edge that does not begin there is none
         self.made(*WORDS, net=NET + way("nc", "wc"), routes=ROUTES)
         self.assertNotIn("nc__wc", self.rows())
+
+    def test_volumes_are_counted_anew(self) -> None:
+        routes = ROUTES.replace('from="sc" to="cn"/>', 'route="r"/>').replace("<flow", '<route id="r" edges="sc cn"/><flow')
+        other = routes.replace('number="120"', 'number="60"')
+        self.made(*WORDS, net=NET, routes=routes)
+        folder = self.folder / "case"
+        files = {name: (folder / name).read_bytes() for name in ("signals.csv", "turns.csv", "links.csv", "demand.csv")}
+        (self.folder / "other.xml").write_text(f"<routes>{other}</routes>")
+        status, out, err = commands.run("turns", str(folder), str(self.folder / "other.xml"))
+        self.assertEqual((status, err), (0, ""), out)
+        # every 20 s, 30 s after they set out: 29 and 30 in 10 minutes
+        self.assertEqual((self.rows()["sc"]["vehicles"], self.rows()["nc__ce"]["factors"][:5]), ("60", "0.674"))
+        same = {name for name, data in files.items() if (folder / name).read_bytes() == data}
+        self.assertEqual(same, {"links.csv", "demand.csv"})
+        (self.folder / "counted.csv").write_text("depart,links\n" + "".join(f"{10 * k},sc cn\n" for k in range(120))
+                                                 + "0,nc ce\n0,nc cs\n0,wc ce\n")
+        for path in ("routes.rou.xml", "counted.csv"):
+            status, out, err = commands.run("turns", str(folder), str(self.folder / path))
+            self.assertEqual((status, err), (0, ""))
+            self.assertEqual({name: (folder / name).read_bytes() for name in files}, files)
+        self.made("--turns", "none", *WORDS[2:], net=NET, routes=routes)
+        self.assertIn("turns.csv: there is none", commands.run("turns", str(folder), str(self.folder / "other.xml"))[2])
+
+    def test_other_vehicles_count_at_import(self) -> None:
+        (self.folder / "other.xml").write_text('<routes><flow id="s" begin="0" end="1200" number="120" from="sc"'
+                                               ' to="cn"/></routes>')
+        quiet = ROUTES.replace('number="120"', 'number="1"')
+        self.made(*WORDS, "--volumes", str(self.folder / "other.xml"), net=NET, routes=quiet)
+        self.assertEqual(self.rows()["nc__ce"]["factors"], "0.443 0.420 0.918")
+
+    def test_lanes_by_counts(self) -> None:
+        # n and s have one lane for both ways; of 30 vehicles of n 20 go on and 10 to the left, so that, with 0.9 for
+        # each way beside them, they have 20.9 / 31.8 and 10.9 / 31.8 of its lane where the left turn is free
+        routes = "".join(f'<vehicle id="{k}" depart="0"><route edges="nc {"ce" if k % 3 else "cs"}"/></vehicle>'
+                         for k in range(30)).replace("nc ce", "x").replace("nc cs", "nc ce").replace("x", "nc cs")
+        self.made(*WORDS, "--lanes", "counted", "--permissive", "free", net=NET, routes=routes)
+        self.assertEqual([self.rows()[name]["lanes"] for name in ("nc__cs", "nc__ce")], ["0.657", "0.343"])
+        self.assertIn("take --lanes full", self.out)
 
     def test_none_leaves_no_trace_of_turns(self) -> None:
         self.made(*WORDS, net=NET, routes=ROUTES)

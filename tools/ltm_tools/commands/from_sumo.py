@@ -32,7 +32,9 @@ def add_arguments(parser: argparse.ArgumentParser) -> None:
     parser.add_argument("files", nargs="*", help="vehicles, trips or flows, and programs of signals")
     parser.add_argument("case", help="the folder to write the case into")
     add_network_arguments(parser)
-    add_crossing_arguments(parser)
+    crossings = add_crossing_arguments(parser)
+    crossings.add_argument("--volumes", metavar="ROUTES",
+                           help="the vehicles by which traffic at crossings is counted (those of the case)")
     parser.set_defaults(rename=True)
     group = parser.add_argument_group("what is read")
     group.add_argument("--begin", metavar="TIME", help="when slot 0 begins, as 7:00 or in seconds (the quarter of an"
@@ -49,13 +51,15 @@ def add_arguments(parser: argparse.ArgumentParser) -> None:
     group.add_argument("--no-signals", action="store_true", help="leave the programs of signals out")
     group.add_argument("--wait-at-ends", action="store_true",
                        help="let trips wait for a signal at the end of their last edge, which they need not do in SUMO")
-    group.add_argument("--yellow", action="store_true", help="let vehicles go on yellow (on yellow none goes)")
+    group.add_argument("--yellow", action=argparse.BooleanOptionalAction, default=True,
+                       help="whether vehicles go on yellow, as they do in SUMO (they do)")
     group.add_argument("--vehicle-class", default="passenger", metavar="CLASS", help="whose lanes count (passenger)")
     group.add_argument("--headway", type=above_0, default=Fraction(113, 100), metavar="S",
                        help="seconds between vehicles of a lane, beside the time to drive --spacing (1.13, as SUMO's"
                        " mesoscopic run)")
-    group.add_argument("--spacing", type=above_0, default=Fraction(15, 2), metavar="M",
-                       help="metres of a standing vehicle (7.5)")
+    group.add_argument("--spacing", type=above_0, metavar="M",
+                       help="metres of a standing vehicle (length and minGap of the types of vehicles in the mean, 7.5"
+                       " where they say none)")
 
 
 def run(args: argparse.Namespace) -> int:
@@ -71,7 +75,7 @@ def options_of(args: argparse.Namespace) -> SumoOptions:
     return SumoOptions(**network_options(args), begin_ms=begin, end_ms=end, horizon=args.horizon,
                        demand_slice=args.demand_slice, slice=args.slice,
                        signals=not args.no_signals, wait_at_ends=args.wait_at_ends, yellow=args.yellow,
-                       vehicle_class=args.vehicle_class,
+                       vehicle_class=args.vehicle_class, volumes=args.volumes,
                        headway=args.headway, spacing=args.spacing)
 
 

@@ -9,8 +9,9 @@ from ..case import Case, Demand, Split
 from ..case.clock import read_clock, write_clock
 from ..errors import Fault
 from ..files import Row, write_bytes, write_records
-from ..formats import DEMAND, MINUTE_MS, MOST_ROWS_ASKED, SPLITS, clock_text, short_vehicles, weights_text
-from ..network.demand_files import exists, moment_ms, quarter_before, whole_units
+from ..formats import DEMAND, MINUTE_MS, MOST_ROWS_ASKED, SPLITS, short_vehicles, weights_text
+from ..network.counted_routes import read_counted
+from ..network.demand_files import exists
 from ..network.passages import Roads
 from ..network.profiles import Trip, by_trips
 from ..network.route_splits import Route, circles, from_routes
@@ -34,10 +35,6 @@ EXAMPLES = """\
 With --routes, vehicles count in the slice in which they come to a node if nothing holds them up. Passages on a
 circle that lead away from their destination are cut, and told in per cent. Where nothing is known vehicles go by
 the least time. splits.csv is written anew, and with --demand demand.csv, which else stays."""
-ROUTE_NAMES = {"links": ("link_sequence", "edges", "link_ids", "path", "route", "links_sequence"),
-               "nodes": ("node_sequence", "node_ids", "path_nodes"),
-               "depart": ("departure", "departure_time", "depart_time", "time", "start", "begin"),
-               "vehicles": ("volume", "count", "number", "flow", "trips")}
 TURN_NAMES = {"from_link": ("link", "in_link", "from", "ib_link_id", "from_edge"),
               "to_link": ("out_link", "to", "ob_link_id", "to_edge"),
               "vehicles": ("volume", "count", "number", "flow", "turns"), "node": ("node_id",)}
@@ -87,29 +84,11 @@ def least(args: argparse.Namespace) -> int:
 
 def of_routes(case: Case, roads: Roads, source: Source, args: argparse.Namespace) -> tuple[list[Split], list[str]]:
     """The rows of counted routes."""
-    table = read(exists(args.routes), (), ROUTE_NAMES, reading_of(args))
-    if not {"links", "nodes"} & set(table.fields):
-        raise Fault(f"{args.routes}: no field links or nodes in the header; it has {', '.join(table.fields)}")
-    times = [moment_ms(row, "depart") if row.text("depart", "") else 0 for row in table.rows]
-    told = read_clock(args.case) if args.start is None else args.start
-    start = quarter_before(min(times, default=0)) if told is None else told
-    by_nodes = links_by_nodes(source)
-    routes, early, inner = [], 0, 0
-    for row, time in zip(table.rows, times):
-        units = whole_units(row.number("vehicles", 1), row.place)
-        links = route_of(row, roads, source, by_nodes)
-        if time < start or time - start >= case.setup.horizon_ms:
-            early += units
-        elif not links or roads.links[links[0]].tail == roads.links[links[-1]].head:
-            inner += units
-        else:
-            routes.append(Route(links, time - start, units))
-    notes = [*table.notes, f"slot 0 begins at {clock_text(start)}"]
-    notes += [f"{short_vehicles(units)} vehicles {why} and are left out" for units, why in
-              ((early, "set out before it, or after the last slot,"), (inner, "end where they begin")) if units]
-    if not routes:
-        raise Fault(f"{args.routes}: no route that sets out within the slots of the case; look at --start")
-    write_clock(args.case, start)
+    start = read_clock(args.case) if args.start is None else args.start
+    found = read_counted(args.routes, roads, source, horizon_ms=case.setup.horizon_ms, start_ms=start,
+                         reading=reading_of(args))
+    routes, notes = found.routes, found.notes
+    write_clock(args.case, found.start_ms)
     if args.demand:
         case.demand = demand_of(case, roads, routes, args, notes)
     slice_slots = max(1, args.slice * MINUTE_MS // case.setup.step_ms)
@@ -131,34 +110,6 @@ def demand_of(case: Case, roads: Roads, routes: list[Route], args: argparse.Name
                    for row in rows))
     notes.append(f"{short_vehicles(sum(row.units for row in rows))} vehicles of demand in {len(rows)} rows")
     return rows
-
-
-def links_by_nodes(source: Source) -> dict[tuple[str, str], str]:
-    """The link of the source from a node to another, the first of several."""
-    made: dict[tuple[str, str], str] = {}
-    for name, link in source.links.items():
-        made.setdefault((link.tail, link.head), name)
-    return made
-
-
-def route_of(row: Row, roads: Roads, source: Source, by_nodes: dict[tuple[str, str], str]) -> tuple[str, ...]:
-    """The links of the case on a counted route."""
-    names = words_of(row.text("links", ""))
-    nodes = words_of(row.text("nodes", ""))
-    if not names:
-        for pair in zip(nodes, nodes[1:]):
-            if pair not in by_nodes:
-                raise row.fault("nodes", f"no link leads from {pair[0]} to {pair[1]}")
-            names.append(by_nodes[pair])
-    try:
-        return source.route(names, roads)
-    except Fault as fault:
-        raise Fault(f"{row.place}: {fault}") from None
-
-
-def words_of(text: str) -> list[str]:
-    """Names with blanks, semicolons or commas between."""
-    return text.replace(";", " ").replace(",", " ").split()
 
 
 def of_turns(case: Case, roads: Roads, source: Source, args: argparse.Namespace) -> tuple[list[Split], list[str]]:

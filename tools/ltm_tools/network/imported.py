@@ -6,11 +6,11 @@ from dataclasses import dataclass
 from pathlib import Path
 
 from ..case import Case
+from ..case.beside import TURNS_FILE
 from ..case.clock import FILE as CLOCK_FILE, write_clock
 from ..case.places import FILES, Places
 from ..files import write_text
 from ..replacing import take_away, together
-from .crossings.turns_file import FILE as TURNS_FILE
 from .crossings.turns_file import Turns
 from .fitting import Change
 from .source import Source, lines_of

@@ -170,12 +170,18 @@ def path_named(folder: str | os.PathLike[str], links: Iterable[Link], names: Seq
     """The links of a case on a path by these names, its own or those of its source, which may have become parts of one
     link, or none; and the connectors between."""
     roads = Roads.of(links)
-    if all(name in roads.links for name in names) or not has_source(folder):
+    if is_path(roads, names) or not has_source(folder):
         return list(names)
     path = Source.read(folder, roads).over(names, roads)
     if not path:
         raise Fault(f"{' '.join(names)}: these links of the source were contracted, and nothing is left of the path")
     return path
+
+
+def is_path(roads: Roads, names: Sequence[str]) -> bool:
+    """Whether these are links of a case, each of which begins where the one before it ends."""
+    return all(name in roads.links for name in names) and all(
+        roads.links[name].head == roads.links[after].tail for name, after in zip(names, names[1:]))
 
 
 def parts_of(folder: str | os.PathLike[str], links: Iterable[Link]) -> dict[str, list[str]]:

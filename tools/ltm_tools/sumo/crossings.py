@@ -7,25 +7,29 @@ from fractions import Fraction
 from ..formats import MINUTE_MS
 from ..network.crossings.chosen import Chosen, chosen
 from ..network.crossings.expand import Expanded, Form, cut_as_they_are, expand
+from ..network.crossings.lanes import counted_lanes
 from ..network.crossings.movements import Movements, Pair
 from ..network.crossings.told import crossings_told, whole_told
+from ..network.crossings.turn import turns_of
+from ..network.crossings.volumes import turns_counted
 from ..network.route_splits import Route
 from ..network.steps import longest_step
-from .inputs import Inputs
+from .inputs import Inputs, counted_routes
 from .movements import movements
 from .options import SumoOptions
 
 
 @dataclass
 class Turned:
-    """A net with turns as links: the turns that it allows, the crossings that were chosen, and what has become of them;
-    what each approach lets pass in an hour, and the lanes of turns where these are counted."""
+    """A net with turns as links: the turns that it allows, what has become of its crossings, what each approach lets
+    pass in an hour, the lanes of turns where these are counted, and the routes by which traffic is counted, where these
+    are not those of the case."""
 
     movements: Movements
-    chosen: Chosen
     expanded: Expanded
     capacities: dict[str, Fraction]
     lanes: dict[Pair, Fraction]
+    counted: list[Route] | None
 
 
 def choose(inputs: Inputs, options: SumoOptions) -> tuple[Movements, Chosen]:
@@ -49,13 +53,25 @@ def turn(inputs: Inputs, found: Movements, picked: Chosen, options: SumoOptions)
     raw, asked = inputs.net.network, options.crossings
     begins = {raw.roads[route.links[0]].tail for route in inputs.routes} if asked.origins == "node" else set()
     capacities = {name: road.capacity for name, road in raw.roads.items()}
-    lanes: dict[Pair, Fraction] = {}
+    counted = counted_routes(inputs, options)
+    lanes = lanes_by_counts(inputs, counted, found, capacities, options) if asked.lanes == "counted" else {}
     form = Form(step=step_of(inputs, options), length_m=asked.length_m, lanes=lanes, ends=ends_of(inputs),
                 begins=begins)
     made = expand(raw, found, picked, form)
     inputs.routes, left_out = over_turns(inputs.routes, made)
     inputs.notes += crossings_told(made, left_out)
-    return Turned(found, picked, made, capacities, lanes)
+    return Turned(found, made, capacities, lanes, None if options.volumes is None else over_turns(counted, made)[0])
+
+
+def lanes_by_counts(inputs: Inputs, routes: list[Route], found: Movements, capacities: dict[str, Fraction],
+                    options: SumoOptions) -> dict[Pair, Fraction]:
+    """The lanes of turns by the vehicles that take them."""
+    asked, names = options.crossings, {pair: f"{pair[0]} {pair[1]}" for pair in found.turns}
+    volumes = turns_counted(routes, {name: road.time for name, road in inputs.net.network.roads.items()},
+                            asked.slice_minutes * MINUTE_MS, names)
+    inputs.notes.append("turns have lanes by the counted routes (--lanes counted): where vehicles choose others, as in"
+                        " an assignment, take --lanes full")
+    return counted_lanes(turns_of(names, found, capacities, asked.permissive, {}), found, volumes)
 
 
 def step_of(inputs: Inputs, options: SumoOptions) -> int:

@@ -3,11 +3,12 @@ from __future__ import annotations
 
 import os
 from collections.abc import Iterable, Mapping, Sequence
-from dataclasses import dataclass, field
+from dataclasses import dataclass, field, replace
 from fractions import Fraction
+from pathlib import Path
 
 from ..errors import Fault
-from ..formats import MINUTE_MS, short_vehicles
+from ..formats import MINUTE_MS, MOST_DESTINATIONS_ASKED, short_vehicles
 from ..network.demand_files import exists, quarter_before
 from ..network.ends import joined, most_used
 from ..network.importing import check_ends
@@ -17,7 +18,7 @@ from ..network.steps import longest_step
 from .ends import Cut, cut_ends, over_parts
 from .net import Connection, Net, elements, read_net, read_programs
 from .options import SumoOptions
-from .routes import Found, Vehicles, read_vehicles
+from .routes import SPACING, Found, Vehicles, read_vehicles
 from .ways import Leg, Ways
 
 StrPath = str | os.PathLike[str]
@@ -54,14 +55,29 @@ def end_before_signals(inputs: Inputs, held: dict[str, list[Connection]], option
 
 def read_inputs(net_file: StrPath, files: Iterable[StrPath], options: SumoOptions) -> Inputs:
     """Reads all files, and finds the route of each vehicle."""
-    net = read_net(exists(net_file), vehicle_class=options.vehicle_class, headway=options.headway,
-                   spacing=options.spacing)
-    vehicles, notes = [], []
-    for path in map(exists, files):
+    net_path, (vehicles, programs) = exists(net_file), by_kind(net_file, map(exists, files))
+    found = read_vehicles(vehicles)
+    spacing = options.spacing or found.spacing
+    net = read_net(net_path, vehicle_class=options.vehicle_class, headway=options.headway, spacing=spacing)
+    inputs = Inputs(net, found)
+    if options.spacing is None and spacing != SPACING:
+        inputs.notes.append(f"a standing vehicle takes {float(spacing):g} m in the mean, as the types of vehicles say by"
+                            f" length and minGap (--spacing sets it)")
+    for path in programs:
+        inputs.notes.append(f"{path} has {read_programs(net, path)} programs of signals, which go over those of the"
+                            f" net")
+    set_times(inputs, options)
+    find_routes(inputs, options)
+    return inputs
+
+
+def by_kind(net_file: StrPath, files: Iterable[Path]) -> tuple[list[Path], list[Path]]:
+    """The files with vehicles, types or routes, and those with programs of signals; a Fault where one has neither."""
+    vehicles, programs = [], []
+    for path in files:
         tags = {element.tag for element in elements(path)}
         if "tlLogic" in tags:
-            count = read_programs(net, path)
-            notes.append(f"{path} has {count} programs of signals, which go over those of the net")
+            programs.append(path)
         if tags & {"vehicle", "trip", "flow", "vType", "vTypeDistribution", "route", "routeDistribution"}:
             vehicles.append(path)
         elif tags & {"taz", "tazs"}:
@@ -71,10 +87,7 @@ def read_inputs(net_file: StrPath, files: Iterable[StrPath], options: SumoOption
                         f" give ROUTES in its place")
         elif "tlLogic" not in tags:
             raise Fault(f"{path}: no vehicles, trips, flows, types, routes or programs of signals in it; leave it out")
-    inputs = Inputs(net, read_vehicles(vehicles), notes=notes)
-    set_times(inputs, options)
-    find_routes(inputs, options)
-    return inputs
+    return vehicles, programs
 
 
 def set_times(inputs: Inputs, options: SumoOptions) -> None:
@@ -116,6 +129,17 @@ def find_routes(inputs: Inputs, options: SumoOptions) -> None:
             inputs.routes.append(Route(edges, one.depart_ms - inputs.begin_ms, one.units))
     if routed:
         inputs.notes.append(f"{short_vehicles(routed)} vehicles have no route and take the least one by free-flow time")
+
+
+def counted_routes(inputs: Inputs, options: SumoOptions) -> list[Route]:
+    """The routes by which traffic at crossings is counted: those of the case, or of other vehicles."""
+    if options.volumes is None:
+        return inputs.routes
+    other = Inputs(inputs.net, read_vehicles([exists(options.volumes)]), begin_ms=inputs.begin_ms)
+    other.found.vehicles = [one for one in other.found.vehicles if one.depart_ms >= inputs.begin_ms]
+    find_routes(other, replace(options, destinations=options.destinations or MOST_DESTINATIONS_ASKED))
+    inputs.notes += [f"traffic at crossings is counted by {options.volumes}: {len(other.routes)} routes"]
+    return other.routes
 
 
 def by_legs(places: Sequence[str], legs: Mapping[Leg, tuple[str, ...]]) -> tuple[str, ...]:

@@ -31,13 +31,13 @@ class SumoOptions(Options):
     """Whether programs of signals count."""
     wait_at_ends: bool = False
     """Whether trips wait for a signal at the end of their last edge, which they need not do in SUMO."""
-    yellow: bool = False
-    """Whether vehicles go on yellow."""
+    yellow: bool = True
+    """Whether vehicles go on yellow, as in SUMO."""
     vehicle_class: str = "passenger"
     headway: Fraction = Fraction(113, 100)
     """Seconds between vehicles of a lane, beside the time to drive `spacing`, as in SUMO's mesoscopic run."""
-    spacing: Fraction = Fraction(15, 2)
-    """Metres of a standing vehicle."""
+    spacing: Fraction | None = None
+    """Metres of a standing vehicle; without it the mean of the types of vehicles, 7.5 where they say nothing."""
 
     RANGES: ClassVar[dict[str, tuple[int, int | None]]] = {"horizon": (1, None), "slice": (1, None),
                                                            "demand_slice": (1, None), **Options.RANGES}

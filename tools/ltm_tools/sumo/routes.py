@@ -19,6 +19,9 @@ from .net import elements
 
 NOT_ON_ROADS = {"pedestrian", "bicycle", "rail", "rail_urban", "rail_electric", "rail_fast", "tram", "subway", "ship",
                 "aircraft", "scooter", "cable_car"}
+LENGTH, GAP = Fraction(5), Fraction(5, 2)
+"""The metres of a vehicle, and before it where it stands, of a type that says none, as those of SUMO."""
+SPACING = LENGTH + GAP
 MOST_DEPARTURES = 3_000_000  # of vehicles, and of parts of flows
 RATE_PART_S = 60
 """A flow with a rate is cut into parts of so many seconds."""
@@ -46,6 +49,16 @@ class Found:
     """Of each named route, or distribution of routes, the edges with shares."""
     classes: dict[str, str] = field(default_factory=dict)
     """The class of vehicles of each type."""
+    spacings: dict[str, Fraction] = field(default_factory=dict)
+    """The metres of a standing vehicle of each type."""
+    units: int = 0
+    metres: Fraction = Fraction(0)
+    """The thousandths of vehicles that were read, and the metres that these take standing."""
+
+    @property
+    def spacing(self) -> Fraction:
+        """The mean metres of a standing vehicle, to the millimetre."""
+        return Fraction(round(self.metres / self.units * 1000), 1000) if self.units else SPACING
 
     def add(self, vehicles: Vehicles, what: str) -> None:
         """Adds vehicles that set out together; a Fault where that is too often."""
@@ -73,12 +86,9 @@ def read_element(found: Found, element: ElementTree.Element, place: str) -> None
     tag = element.tag
     if tag == "vType":
         found.classes[element.get("id", "")] = element.get("vClass", "passenger")
+        found.spacings[element.get("id", "")] = spacing_of(element, place)
     elif tag == "vTypeDistribution":
-        for one in element.findall("vType"):
-            read_element(found, one, place)
-        classes = {one.get("vClass", "passenger") for one in element.findall("vType")}
-        if len(classes) == 1:
-            found.classes[element.get("id", "")] = classes.pop()
+        read_types(found, element, place)
     elif tag == "route":
         found.routes[element.get("id", "")] = [(edges_of(element), Fraction(1))]
     elif tag == "routeDistribution":
@@ -87,6 +97,27 @@ def read_element(found: Found, element: ElementTree.Element, place: str) -> None
         read_one(found, element, place)
     elif tag in ("person", "personFlow", "container", "containerFlow"):
         found.leave_out("persons and containers", UNITS)
+
+
+def spacing_of(element: ElementTree.Element, place: str) -> Fraction:
+    """The metres of a standing vehicle of a type."""
+    what = f"{place}: vType {element.get('id', '')}"
+    return sum((exact(element.get(name, ""), what) if element.get(name) else default
+                for name, default in (("length", LENGTH), ("minGap", GAP))), Fraction(0)) or SPACING
+
+
+def read_types(found: Found, element: ElementTree.Element, place: str) -> None:
+    """The types of a distribution, which has a class where all have the same one, and the mean of their spacings."""
+    types = element.findall("vType")
+    for one in types:
+        read_element(found, one, place)
+    classes = {one.get("vClass", "passenger") for one in types}
+    if len(classes) == 1:
+        found.classes[element.get("id", "")] = classes.pop()
+    chances = [exact(one.get("probability", "1"), place) for one in types]
+    if sum(chances, Fraction(0)) > 0:
+        metres = sum((chance * spacing_of(one, place) for chance, one in zip(chances, types)), Fraction(0))
+        found.spacings[element.get("id", "")] = metres / sum(chances, Fraction(0))
 
 
 def edges_of(element: ElementTree.Element) -> tuple[str, ...]:
@@ -136,6 +167,8 @@ def read_one(found: Found, element: ElementTree.Element, place: str) -> None:
     ways, whole = ways_of(found, element, what)
     if not ways:
         return found.leave_out("between zones or junctions (duarouter gives them edges)", units)
+    found.units += units
+    found.metres += units * found.spacings.get(element.get("type", ""), SPACING)
     for depart, amount in departures:
         given = 0
         for number, (edges, share) in enumerate(ways):

@@ -6,6 +6,7 @@ from ..case.cells import ask_for_cells
 from ..errors import Fault
 from ..formats import MINUTE_MS, MOST_DEMAND_ROWS, MOST_ROWS_ASKED, MOST_SPLIT_ROWS, UNITS, short_vehicles
 from ..network.crossings.limits import limits_of
+from ..network.crossings.sources import links_of_turns
 from ..network.crossings.told import turns_told
 from ..network.crossings.turn import turns_of
 from ..network.crossings.turns_file import Turns
@@ -138,8 +139,10 @@ def turns_of_case(made: Carried, turned: Turned, case: Case, routes: list[Route]
                   options: SumoOptions) -> Turns:
     """The turns of the case, whose limits are added to its signals."""
     asked = options.crossings
-    volumes = volumes_of(routes, made.roads, asked.slice_minutes * MINUTE_MS)
-    turns = turns_of(turned.expanded, turned.movements, made.source, turned.capacities, asked.permissive, turned.lanes)
+    counted = routes if turned.counted is None else over_links(made, turned.counted)
+    volumes = volumes_of(counted, made.roads, asked.slice_minutes * MINUTE_MS)
+    turns = turns_of(links_of_turns(made.source, turned.expanded), turned.movements, turned.capacities,
+                     asked.permissive, turned.lanes)
     links = {link.name: link for link in case.links}
     limits = limits_of(turns, volumes, links, case.setup)
     case.signals += limits

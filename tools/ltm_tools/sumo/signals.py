@@ -9,6 +9,7 @@ from __future__ import annotations
 from collections.abc import Iterable, Mapping
 from fractions import Fraction
 
+from ..network.crossings.lanes import filled
 from ..network.cycles import Green
 from .net import Connection, Net, Program
 
@@ -60,16 +61,6 @@ def shares_of(ways: Iterable[Connection], turns: Mapping[str, int]) -> dict[Conn
             loads[lane] += part
             shares[some[lane]] = part
     return shares
-
-
-def filled(amount: Fraction, loads: dict[int, Fraction]) -> dict[int, Fraction]:
-    """An amount over lanes so that the lanes that get some end with the same load."""
-    order = sorted(loads, key=lambda lane: loads[lane])
-    for count in range(len(order), 0, -1):
-        level = (amount + sum((loads[lane] for lane in order[:count]), Fraction(0))) / count
-        if level >= loads[order[count - 1]]:
-            return {lane: level - loads[lane] if place < count else Fraction(0) for place, lane in enumerate(order)}
-    return {lane: Fraction(0) for lane in order}
 
 
 def greens_of(net: Net, ways: list[Connection], turns: Mapping[str, int], begin_ms: int, lanes: int,

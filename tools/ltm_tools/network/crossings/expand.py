@@ -170,7 +170,7 @@ class Crossing:
     def turn(self, rest: Road, name: str, after: str, start: str, line: Line, apart: float) -> Road:
         """The road of a turn."""
         pair = name, after
-        share = self.form.lanes.get(pair, self.movements.share(pair))
+        share = self.movements.share(pair, self.form.lanes.get(pair))
         made = replace(rest, name=free_name(f"{name}__{after}", self.network.roads), tail=start,
                        head=self.network.roads[after].tail, storage=rest.storage * share,
                        capacity=rest.capacity * share, kind="turn")

@@ -65,11 +65,12 @@ class Movements:
         """The approaches with a turn that a signal holds."""
         return {turn.approach for turn in self.turns.values() if turn.held is not None}
 
-    def share(self, pair: Pair) -> Fraction:
-        """The part of its approach's lanes that serve a turn; all of them where lanes are not known."""
+    def share(self, pair: Pair, lanes: Fraction | None = None) -> Fraction:
+        """The part of its approach that a turn has with so many lanes, or with all that serve it; the whole of it where
+        lanes are not known."""
         count = self.lanes.get(pair[0], 0)
-        served = len(self.turns[pair].lanes)
-        return Fraction(served, count) if count and served else Fraction(1)
+        served = Fraction(len(self.turns[pair].lanes)) if lanes is None else lanes
+        return served / count if count and served else Fraction(1)
 
 
 def movements_of(turns: Iterable[Movement], lanes: Mapping[str, int]) -> Movements:

@@ -3,6 +3,13 @@ from __future__ import annotations
 
 from ..source import Source, SourceLink
 from .expand import Expanded
+from .movements import Pair
+
+
+def links_of_turns(source: Source, made: Expanded) -> dict[Pair, str]:
+    """Of each turn its link of the case, by what the roads of an expanded network have become; none for an approach
+    with one exit that was contracted."""
+    return {pair: link for pair, road in made.links.items() if (link := source.links[road].link) is not None}
 
 
 def with_turns(source: Source, made: Expanded) -> Source:

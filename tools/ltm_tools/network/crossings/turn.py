@@ -6,9 +6,7 @@ from dataclasses import dataclass, replace
 from fractions import Fraction
 
 from ..cycles import Green
-from ..source import Source
 from . import gaps
-from .expand import Expanded
 from .movements import Movements, Pair
 from .options import Gap
 from .volumes import Volumes
@@ -49,12 +47,19 @@ class Turn:
         """The factor of each slice; none for a turn that never yields."""
         return [self.factor(volumes, number) for number in range(volumes.slices)] if self.permitted else []
 
+    def part_of_green(self, volumes: Volumes) -> Fraction:
+        """The share of all its greens that it gets in the first slice; 1 for a turn without a signal."""
+        protected, permitted = (sum((green.share * (green.to_ms - green.from_ms) for green in some), Fraction(0))
+                                for some in (self.protected, self.permitted))
+        if not permitted:
+            return Fraction(1)
+        return (protected + permitted * self.factor(volumes, 0)) / (protected + permitted)
 
-def turns_of(made: Expanded, movements: Movements, source: Source, capacities: Mapping[str, Fraction],
+
+def turns_of(links: Mapping[Pair, str], movements: Movements, capacities: Mapping[str, Fraction],
              permissive: Gap | Fraction, lanes: Mapping[Pair, Fraction]) -> list[Turn]:
-    """The turns of expanded crossings that have a link of the case; `source` says what the roads there are now have
-    become, `capacities` what approaches let pass in an hour before they were cut."""
-    links = {pair: name for pair, road in made.links.items() if (name := source.links[road].link) is not None}
+    """The turns that have a link, by `capacities`, what approaches let pass in an hour before they were cut, and the
+    `lanes` of turns that do not have all that serve them."""
     rates = {name: capacity / movements.lanes.get(name, 1) for name, capacity in capacities.items()}
     turns = []
     for pair, link in links.items():

@@ -11,6 +11,7 @@ from fractions import Fraction
 from pathlib import Path
 
 from ...case import Link
+from ...case.beside import TURNS_FILE
 from ...errors import Fault
 from ...files import Row, read_table, write_records
 from ...formats import above_0_or_none, exact_or_none, short_vehicles
@@ -19,7 +20,6 @@ from .options import Gap
 from .turn import Turn
 from .volumes import Volumes
 
-FILE = "turns.csv"
 FIELDS = ("approach", "exit", "link", "vehicles", "lanes", "saturation", "cycle", "offset", "greens", "permitted",
           "opposing", "opposing_saturation", "permissive", "factors")
 
@@ -33,7 +33,7 @@ class Turns:
 
     def write(self, folder: str | os.PathLike[str]) -> None:
         """Writes `turns.csv` beside a case."""
-        write_records(Path(folder) / FILE, FIELDS, (record(turn, self.volumes) for turn in self.turns))
+        write_records(Path(folder) / TURNS_FILE, FIELDS, (record(turn, self.volumes) for turn in self.turns))
 
 
 def record(turn: Turn, volumes: Volumes) -> tuple[str, ...]:
@@ -73,7 +73,7 @@ def permissive_text(permissive: Gap | Fraction) -> str:
 
 def read(folder: str | os.PathLike[str], links: Mapping[str, Link]) -> list[Turn]:
     """The turns of a case; a Fault where it has none."""
-    path = Path(folder) / FILE
+    path = Path(folder) / TURNS_FILE
     if not path.exists():
         raise Fault(f"{path}: there is none; from-sumo and from-gmns write it with --turns signals, all or NODES")
     turns = [turn_of(row, links) for row in read_table(path, FIELDS)]

@@ -3,10 +3,12 @@ from __future__ import annotations
 
 from collections.abc import Iterable, Mapping
 from dataclasses import dataclass, field
+from fractions import Fraction
 
 from ...formats import UNITS
 from ..passages import Roads
 from ..route_splits import Route
+from .movements import Pair
 
 
 @dataclass
@@ -18,10 +20,22 @@ class Volumes:
     slices: int = 1
     """As many as have vehicles."""
 
+    def add(self, link: str, time_ms: int, units: int) -> None:
+        """Counts vehicles that come to the end of a link at a time."""
+        number = time_ms // self.slice_ms
+        of = self.counts.setdefault(link, {})
+        of[number] = of.get(number, 0) + units
+        self.slices = max(self.slices, number + 1)
+
     def flow(self, links: Iterable[str], number: int) -> float:
         """The vehicles a second of some links together in a slice."""
         units = sum(self.counts.get(link, {}).get(number, 0) for link in links)
         return units / UNITS / (self.slice_ms / 1000)
+
+    def busy(self) -> Volumes:
+        """One slice, in which each link has the mean of the two slices in which it has most."""
+        return Volumes(self.slice_ms, {link: {0: sum(most := sorted(of.values())[-2:]) // len(most)}
+                                       for link, of in self.counts.items()})
 
     def whole(self, link: str) -> int:
         """The thousandths of vehicles of a link."""
@@ -40,8 +54,18 @@ def counted(routes: Iterable[Route], times: Mapping[str, int], slice_ms: int) ->
         time = route.depart_ms
         for name in route.links:
             time += times[name]
-            number = time // slice_ms
-            of = made.counts.setdefault(name, {})
-            of[number] = of.get(number, 0) + route.units
-            made.slices = max(made.slices, number + 1)
+            made.add(name, time, route.units)
+    return made
+
+
+def turns_counted(routes: Iterable[Route], times: Mapping[str, Fraction], slice_ms: int,
+                  names: Mapping[Pair, str]) -> Volumes:
+    """The same of turns by the names that they have, of routes over links of a source."""
+    made = Volumes(slice_ms)
+    for route in routes:
+        time = Fraction(route.depart_ms)
+        for pair in zip(route.links, route.links[1:]):
+            time += times[pair[0]]
+            if pair in names:
+                made.add(names[pair], int(time), route.units)
     return made

@@ -1,0 +1,39 @@
+"""Counts the traffic with priority anew, and gives turns that yield to it their part of the green."""
+from __future__ import annotations
+
+from collections.abc import Sequence
+from dataclasses import dataclass, replace
+
+from ...case import Case
+from ...errors import Fault
+from ..passages import Roads
+from ..route_splits import Route
+from .limits import limits_of
+from .options import Gap
+from .turn import Turn
+from .turns_file import Turns
+from .volumes import volumes_of
+
+
+@dataclass(frozen=True)
+class Recounted:
+    """The case with new limits of its turns, and these turns by the new volumes."""
+
+    case: Case
+    turns: Turns
+
+
+def recount(case: Case, turns: Sequence[Turn], routes: Sequence[Route], slice_ms: int,
+            gap: Gap | None = None) -> Recounted:
+    """The limits of turns by routes over links of the case; limits of other links stay as they are. A gap stands for
+    that of each turn that has one."""
+    if gap is not None:
+        turns = [replace(turn, permissive=gap) if isinstance(turn.permissive, Gap) else turn for turn in turns]
+    if not any(turn.permitted and isinstance(turn.permissive, Gap) for turn in turns):
+        raise Fault("turns.csv has no turn that yields by gaps, so that volumes change nothing")
+    volumes = volumes_of(routes, Roads.of(case.links), slice_ms)
+    links = {link.name: link for link in case.links}
+    own = {turn.link for turn in turns if turn.protected or turn.permitted}
+    case.signals = [limit for limit in case.signals if limit.link not in own]
+    case.signals += limits_of(turns, volumes, links, case.setup)
+    return Recounted(case, Turns(tuple(turns), volumes))
