@@ -155,7 +155,7 @@ class Fields(GmnsTest):
 
     def test_movements_are_told_to_be_passed_over(self) -> None:
         self.net(PLAIN, movement="mvmt_id,node_id,ib_link_id,ob_link_id\n1,2,a,b\n")
-        self.assertIn("movement.csv is not read: ", self.make()[1])
+        self.assertIn("movement.csv is not read: ", self.make("--turns", "none")[1])
 
     def test_numbers_of_any_size(self) -> None:
         """Each is a fault that names it, or is read exactly."""

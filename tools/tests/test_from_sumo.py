@@ -37,8 +37,8 @@ class SumoTest(FolderTest):
 
     def make(self, *words: str, net: str = EDGES + WAYS, routes: str | None = None,
              more: str | None = None) -> tuple[int, str, str]:
-        """Makes a case of a net, of vehicles, and of another file; of links that are not parted by turns, and where none
-        goes on yellow, unless that is said."""
+        """Makes a case of a net, of vehicles, and of another file; of links that are not parted by turns, and where
+        none goes on yellow, unless that is said."""
         files = []
         for name, text, root in (("net.net.xml", net, "net"), ("more.add.xml", more, "additional"),
                                  ("routes.rou.xml", routes, "routes")):

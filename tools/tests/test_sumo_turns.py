@@ -15,7 +15,8 @@ from ltm_tools.network.source import Source
 
 # c has arms n, s and w to come from, and n, s and e to go to; from n to e is a left turn, against those from s to n
 ARMS = "".join(edge(name, name[0], name[1], metres="300.00") for name in ("nc", "sc", "wc", "cn", "cs", "ce"))
-WAYS = (way("nc", "cs", 0, 'tl="c" linkIndex="0" via=":c_0_0"') + way("nc", "ce", 0, 'tl="c" linkIndex="1" via=":c_1_0"')
+WAYS = (way("nc", "cs", 0, 'tl="c" linkIndex="0" via=":c_0_0"')
+        + way("nc", "ce", 0, 'tl="c" linkIndex="1" via=":c_1_0"')
         + way("sc", "cn", 0, 'tl="c" linkIndex="2" via=":c_2_0"')
         + way("wc", "ce", 0, 'tl="c" linkIndex="3" via=":c_3_0"'))
 YIELDS = ('<junction id="c" type="traffic_light" x="0" y="0"><request index="0" response="0000"/>'
@@ -107,7 +108,7 @@ class Turns(SumoTest):
         self.assertNotIn("nc__wc", self.rows())
 
     def test_volumes_are_counted_anew(self) -> None:
-        routes = ROUTES.replace('from="sc" to="cn"/>', 'route="r"/>').replace("<flow", '<route id="r" edges="sc cn"/><flow')
+        routes = '<route id="r" edges="sc cn"/>' + ROUTES.replace('from="sc" to="cn"/>', 'route="r"/>')
         other = routes.replace('number="120"', 'number="60"')
         self.made(*WORDS, net=NET, routes=routes)
         folder = self.folder / "case"

@@ -14,6 +14,7 @@ from ..case.sizes import ask_for_sizes
 from ..errors import Fault
 from ..formats import MINUTE_MS, MOST_ROWS_ASKED, UNITS, short_vehicles
 from ..network.changes import changes_told
+from ..network.crossings.sources import with_turns
 from ..network.demand_files import Amounts, exists, read_amounts, read_profile, summed_units, whole_units
 from ..network.imported import Imported
 from ..network.importing import Carried, NotCarried, carried, check_ends, least_routes, slots_of
@@ -24,6 +25,7 @@ from ..network.placing import Map, places_of
 from ..network.profiles import Part, by_profile
 from ..network.steps import steps_table
 from ..tables import Reading
+from .crossings import Turned, turn, turns_of_case
 from .net import Read, Units, file_of, read_gmns
 from .zones import by_node, fewer_ends, pairs_of, place_zones
 
@@ -71,6 +73,7 @@ class Asked:
     read: Read
     amounts: Amounts
     volumes: dict[tuple[str, str], Fraction]
+    turned: Turned | None = None
 
     @property
     def raw(self) -> Network:
@@ -80,7 +83,7 @@ class Asked:
 
 def import_gmns(folder: str | os.PathLike[str], options: GmnsOptions = GmnsOptions()) -> Imported:
     """The case of the network in a folder; NotCarried with all that a case cannot have."""
-    asked = read_all(Path(folder), options)
+    asked = read_all(Path(folder), options, options.crossings.turns != "none")
     read, raw = asked.read, asked.raw
     check_ends(asked.volumes)
     routes = least_routes(raw, [(*ends, whole_units(volume, "demand"))
@@ -88,12 +91,14 @@ def import_gmns(folder: str | os.PathLike[str], options: GmnsOptions = GmnsOptio
     made = carried(raw, options, routes)
     parts, clock = parts_of(options, made.step, read)
     case, last = case_of(made, asked.volumes, options, parts)
+    turns = None if asked.turned is None else turns_of_case(made, asked.turned, case, options.crossings, read)
     sizes = ask_for_sizes(case, options.moves)
     places, lost = places_of(made, Map(crs=read.units.crs or (DEGREES if read.units.places == "degrees" else None)))
     told = [*size_told(made, case, last), *inner_told(asked.amounts.inner), *read.told(), *asked.amounts.notes,
             *changes_told(made, routes), *lost, *sizes]
-    return Imported(case, places, made.source, tuple(made.fit.changes) if made.fit is not None else None, tuple(told),
-                    clock)
+    source = made.source if asked.turned is None else with_turns(made.source, asked.turned.expanded)
+    return Imported(case, places, source, tuple(made.fit.changes) if made.fit is not None else None, tuple(told), clock,
+                    turns)
 
 
 def steps_of_gmns(folder: str | os.PathLike[str], options: GmnsOptions = GmnsOptions()) -> list[str]:
@@ -102,21 +107,28 @@ def steps_of_gmns(folder: str | os.PathLike[str], options: GmnsOptions = GmnsOpt
     return steps_table(asked.raw, horizon_ms=options.horizon * MINUTE_MS, ends={end for _, end in asked.volumes})
 
 
-def read_all(folder: Path, options: GmnsOptions) -> Asked:
-    """The network and its demand."""
+def read_all(folder: Path, options: GmnsOptions, turning: bool = False) -> Asked:
+    """The network and its demand; with `turning` its crossings have turns where that is asked for."""
     read = read_gmns(folder, Units(options.length_unit, options.speed_unit, options.places, options.capacity,
-                                   options.jam, options.reading, options.rename, options.crs))
+                                   options.jam, options.reading, options.rename, options.crs, turning))
     if read.faults:
         raise NotCarried(read.faults)
     place_zones(read, options.zone_nodes)
     amounts = amounts_of(folder, options)
     if options.destinations is None and not options.leave_out_unreached:
         check_ends(pairs_of(read.network, amounts))  # before it is seen where ways lead
+    turned = turn(folder, read, *trip_ends(read.network, amounts), options) if turning else None
     volumes = by_node(read.network, amounts, options.leave_out_unreached, read)
     if options.destinations is not None and volumes:
         volumes = fewer_ends(read.network, volumes, options.destinations, read)
     read.network.ends = {node for ends in volumes for node in ends}
-    return Asked(read, amounts, volumes)
+    return Asked(read, amounts, volumes, turned)
+
+
+def trip_ends(network: Network, amounts: Amounts) -> tuple[set[str], set[str]]:
+    """The nodes where trips begin, and those where they end."""
+    return ({node for zone, _ in amounts.volumes for node in network.origins.get(zone, ())},
+            {node for _, zone in amounts.volumes for node in network.destinations.get(zone, ())})
 
 
 def amounts_of(folder: Path, options: GmnsOptions) -> Amounts:

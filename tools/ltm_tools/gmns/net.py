@@ -36,6 +36,8 @@ class Units:
     """Whether a name that stands twice gets a number."""
     crs: str | None = None
     """The projection of places, where that is not degrees of longitude and latitude."""
+    turns: bool = False
+    """Whether turns are read."""
 
 
 @dataclass
@@ -68,7 +70,7 @@ def read_gmns(folder: Path, units: Units) -> Read:
     made.nodes = read_nodes(folder, made)
     table = read(path, ("from_node_id", "to_node_id"), LINK_NAMES, units.reading)
     made.notes += table.notes
-    if file_of(folder, "movement.csv").exists():
+    if not units.turns and file_of(folder, "movement.csv").exists():
         made.notes.append("movement.csv is not read: from each link traffic may go on by each link that leaves its end"
                           " node, except where splits do not send it")
     whole_numbers(table.rows, ("link_id", "from_node_id", "to_node_id"))

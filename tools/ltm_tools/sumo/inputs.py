@@ -61,8 +61,8 @@ def read_inputs(net_file: StrPath, files: Iterable[StrPath], options: SumoOption
     net = read_net(net_path, vehicle_class=options.vehicle_class, headway=options.headway, spacing=spacing)
     inputs = Inputs(net, found)
     if options.spacing is None and spacing != SPACING:
-        inputs.notes.append(f"a standing vehicle takes {float(spacing):g} m in the mean, as the types of vehicles say by"
-                            f" length and minGap (--spacing sets it)")
+        inputs.notes.append(f"a standing vehicle takes {float(spacing):g} m in the mean, as the types of vehicles say"
+                            f" by length and minGap (--spacing sets it)")
     for path in programs:
         inputs.notes.append(f"{path} has {read_programs(net, path)} programs of signals, which go over those of the"
                             f" net")

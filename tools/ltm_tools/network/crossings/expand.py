@@ -121,7 +121,7 @@ class Crossing:
             self.begin_later(name)
         for name, exits in self.ins.items():
             stops = self.node in self.form.ends
-            if len(exits) == 1 and not stops:
+            if len(exits) == 1 and not stops and self.movements.turns[name, exits[0]].is_plain:
                 self.network.move_head(name, self.network.roads[exits[0]].tail)
                 self.made.links[name, exits[0]] = name
             elif exits:
@@ -169,11 +169,12 @@ class Crossing:
 
     def turn(self, rest: Road, name: str, after: str, start: str, line: Line, apart: float) -> Road:
         """The road of a turn."""
-        pair = name, after
+        pair, movement = (name, after), self.movements.turns[name, after]
         share = self.movements.share(pair, self.form.lanes.get(pair))
         made = replace(rest, name=free_name(f"{name}__{after}", self.network.roads), tail=start,
                        head=self.network.roads[after].tail, storage=rest.storage * share,
-                       capacity=rest.capacity * share, kind="turn")
+                       capacity=min(rest.capacity * share, movement.capacity or rest.capacity * share), kind="turn")
+        made = stretched(made, Fraction(movement.penalty_ms))
         end = self.network.nodes[made.head].place
         made.shape = (drawing.turn_line(line, float(made.length), self.place, end, apart)[1:-1]
                       if self.place is not None and end is not None else ())

@@ -34,17 +34,25 @@ class Held:
 
 @dataclass(frozen=True, slots=True)
 class Movement:
-    """A turn that is allowed: the lanes of its approach that serve it, by number, and its signal, where it has one."""
+    """A turn that is allowed: the lanes of its approach that serve it, by number, and its signal, where it has one; the
+    vehicles that it lets pass in an hour, where that is told, and the time in ms that it takes more than its length."""
 
     approach: str
     exit: str
     lanes: tuple[int, ...] = ()
     held: Held | None = None
+    capacity: Fraction | None = None
+    penalty_ms: int = 0
 
     @property
     def pair(self) -> Pair:
         """Its approach and exit."""
         return self.approach, self.exit
+
+    @property
+    def is_plain(self) -> bool:
+        """Whether it lets pass what its lanes do, in the time of its length."""
+        return self.capacity is None and not self.penalty_ms
 
 
 @dataclass(frozen=True)
