@@ -17,6 +17,7 @@ import tempfile
 from dataclasses import dataclass, field
 from fractions import Fraction
 from pathlib import Path
+from statistics import correlation
 
 sys.dont_write_bytecode = True
 sys.path.insert(0, str(Path(__file__).resolve().parents[2] / "tools"))
@@ -99,13 +100,14 @@ def read_run(folder: Path, net: Net) -> Run:
 
 
 def labels(source: Source, net: Net) -> dict[str, str]:
-    """Of each link of the case the edges of the net that it is made of, or is a part of; a link that was made has its
-    own name."""
+    """Of each link of the case the edges of the net that it is made of, or is a part or a turn of; a link that was made
+    has its own name."""
     edges: dict[str, list[str]] = {}
     for name, link in source.links.items():
         edge = name if name in net.network.roads else name.rsplit("_", 1)[0]
-        if link.link is not None and edge in net.network.roads and edge not in edges.setdefault(link.link, []):
-            edges[link.link].append(edge)
+        for part in link.all_links if edge in net.network.roads else ():
+            if edge not in edges.setdefault(part, []):
+                edges[part].append(edge)
     return {link: " ".join(names) for link, names in edges.items() if names}
 
 
@@ -118,10 +120,16 @@ def by_label(report: Report, run: Run, source: Source, net: Net) -> tuple[dict[s
         ours[label] = ours.get(label, Fraction(0)) + Fraction(link.queued, MILLIONTHS)
     theirs: dict[str, Fraction] = {}
     for edge, seconds in run.queued.items():
-        part = source.links[edge].link if edge in source.links else None
-        label = edge if part is None else known.get(part, part)
+        parts = source.links[edge].all_links if edge in source.links else ()
+        label = known.get(parts[0], parts[0]) if parts else edge
         theirs[label] = theirs.get(label, Fraction(0)) + seconds
     return ours, theirs
+
+
+def likeness(ours: dict[str, Fraction], theirs: dict[str, Fraction]) -> float:
+    """The correlation of delay by edge."""
+    names = sorted({*ours, *theirs})
+    return correlation(*([float(side.get(name, 0)) for name in names] for side in (ours, theirs)))
 
 
 def hours(seconds: Fraction | int) -> float:
@@ -209,7 +217,7 @@ def compare(args: argparse.Namespace) -> None:
         print(f"SUMO with {name}: {hours(other.spent):.2f} vehicle hours, and ltm"
               f" {share(Fraction(report.spent, MILLIONTHS), other.spent)}")
     print(*([""] if args.also else []), *arrivals_table(case, arrived, run, quarter_before(run.first_ms)), "",
-          *links_table(ours, theirs), sep="\n")
+          *links_table(ours, theirs), f"correlation of delay by edge: {likeness(ours, theirs):.3f}", sep="\n")
 
 
 def main() -> int:

@@ -11,6 +11,8 @@ from support import BUILT, EXAMPLES, FolderTest, needs_program
 
 from ltm_tools.case import Case, Demand, Link, Setup
 from ltm_tools.loading.delay import MILLIONTHS, Delay, Report, Wait
+from ltm_tools.loading.loaded import loaded, told_delay
+from ltm_tools.network.passages import Roads
 from ltm_tools.network.source import Source, SourceLink
 from ltm_tools.sumo.net import read_net
 
@@ -62,6 +64,10 @@ class Read(FolderTest):
                          for name, seconds in (("x", 5), ("y", 6), ("z", 7), ("made", 8))}, {})
         ours, theirs = compare.by_label(report, self.run_of, source, self.net)
         self.assertEqual((ours, theirs), ({"in": 5, "on": 13, "made": 8}, {"in": 30, "on": 0}))
+        self.assertEqual(compare.likeness({"a": 1, "b": 2, "c": 3}, {"a": 2, "b": 4, "c": 6}), 1)
+        # a link with turns: those of `in` count for it
+        source = Source({"in": SourceLink("A", "B", "x", ("z",)), "on": SourceLink("B", "C", "y")}, {})
+        self.assertEqual(compare.by_label(report, self.run_of, source, self.net)[0], {"in": 12, "on": 6, "made": 8})
         source = Source({"in": SourceLink("A", "B", "x"), "on": SourceLink("B", "C", "x")}, {})
         self.assertEqual(compare.by_label(report, self.run_of, source, self.net)[1], {"in on": 30})
 
@@ -93,20 +99,39 @@ def release() -> str:
 @needs_program
 @unittest.skipUnless(release().endswith(" 1.15.0"), "SUMO 1.15.0, which made the town of town.out, is not there")
 class Town(FolderTest):
-    def test_its_report_without_signals_is_that_of_another_engine(self) -> None:
+    def make(self, *words: str) -> None:
+        """The town, and the case that is made of it with these words."""
         tools = EXAMPLES.parent / "tools" / "ltm-tools"
-        for words in ([EXAMPLES / "from_sumo" / "make.py", "town", "."],
-                      [tools, "from-sumo", "town.net.xml", "town.rou.xml", "town.add.xml", "case", "--fit", "5s",
-                       "--horizon", "75",
-                       "--moves", "0", "--turns", "none"]):
-            done = subprocess.run([str(word) for word in words], cwd=self.folder, capture_output=True, text=True)
+        for line in ([EXAMPLES / "from_sumo" / "make.py", "town", "."],
+                     [tools, "from-sumo", "town.net.xml", "town.rou.xml", "town.add.xml", "case", "--fit", "5s",
+                      "--horizon", "75", *words]):
+            done = subprocess.run([str(word) for word in line], cwd=self.folder, capture_output=True, text=True)
             self.assertEqual((done.returncode, done.stderr), (0, ""))
+
+    def test_its_report_without_signals_is_that_of_another_engine(self) -> None:
+        self.make("--moves", "0", "--turns", "none")
         setup = self.folder / "case" / "setup.csv"
         header, row = setup.read_text().split()
         self.assertEqual(header.split(",")[3:], ["signals"])
         setup.write_text(header.removesuffix(",signals") + "\n" + row.removesuffix(",1") + "\n")
         told = subprocess.run([str(BUILT), "load"], cwd=self.folder / "case", capture_output=True, text=True)
         self.assertEqual(told.stdout, (EXAMPLES / "from_sumo" / "town.out").read_text())
+
+    def test_with_turns_it_is_near_to_sumo(self) -> None:
+        self.make("--no-yellow", "--lanes", "counted")
+        net = read_net(self.folder / "town.net.xml", vehicle_class="passenger", headway=Fraction(113, 100),
+                       spacing=Fraction(15, 2))
+        ran = self.folder / "run"
+        ran.mkdir()
+        compare.run_sumo(str(self.folder / "town.net.xml"),
+                         [str(self.folder / "town.rou.xml"), str(self.folder / "town.add.xml")], [], ran)
+        run, folder = compare.read_run(ran, net), self.folder / "case"
+        loading = loaded(folder, None, str(BUILT))
+        report = told_delay(loading, folder, None, str(BUILT))
+        source = Source.read(folder, Roads.of(loading.case.links))
+        ours, theirs = compare.by_label(report, run, source, net)
+        self.assertGreater(compare.likeness(ours, theirs), 0.985)
+        self.assertLess(abs(Fraction(report.spent, MILLIONTHS) / run.spent - 1), Fraction(3, 100))
 
 
 if __name__ == "__main__":

@@ -47,6 +47,10 @@ class Totals(unittest.TestCase):
             if words[0] == "link":
                 self.assertEqual(Decimal(links[words[1]][1]).scaleb(-6), Decimal(words[5]))
 
+    def test_a_link_with_its_turns(self) -> None:
+        both = Comparison(Loaded(*read("spillback")), Loaded(*read("spillback")))
+        self.assertEqual(both.links({"x": ("a", "b")}), {"x": both.links()["a"]})
+
     def test_with_itself(self) -> None:
         both = Comparison(Loaded(*read("grid")), Loaded(*read("grid")))
         self.assertEqual(most_changed(both.links()), {})

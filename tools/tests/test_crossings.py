@@ -8,6 +8,7 @@ from fractions import Fraction
 from ltm_tools.network.crossings.chosen import Chosen, chosen
 from ltm_tools.network.crossings.expand import Expanded, Form, cut_as_they_are, expand
 from ltm_tools.network.crossings.movements import Held, Movement, Movements, movements_of
+from ltm_tools.network.crossings.sizes import links_told
 from ltm_tools.network.cycles import Green
 from ltm_tools.network.fit import Fit
 from ltm_tools.network.network import Network, Node, road_of
@@ -99,11 +100,10 @@ class Four(unittest.TestCase):
         made(network, turns())
         self.assertEqual(network.nodes["nc_A"].place, (0.0, 98.0))
         self.assertEqual(network.nodes["cs_E"].place, (0.0, -14.0))
-        # southbound: right is west, so the three turns lie from west to east by where they go
+        # southbound: right is west, so the three turns lie from west to east by where they go, 3.2 m apart
         across = [network.roads[f"nc__c{arm}"].shape[0][0] for arm in "wse"]
-        self.assertEqual(across, sorted(across))
-        self.assertAlmostEqual(across[2] - across[1], 3.2)
-        self.assertEqual(across[1], 0.0)
+        for found, wanted in zip(across, (-8.0, -4.8, -1.6)):
+            self.assertAlmostEqual(found, wanted)
 
 
 class Forms(unittest.TestCase):
@@ -159,6 +159,20 @@ class Forms(unittest.TestCase):
         self.assertEqual(network.roads["nc"].head, "nc_A_2")
 
 
+class Sizes(unittest.TestCase):
+    def test_the_crossings_that_fit(self) -> None:
+        network = crossing()
+        expanded = made(network, turns(), ends={"c"})
+        self.assertEqual(expanded.added, {"c": 12 + 4})
+        # 4010 links, 35 of them of turns: of the 25 that are left b takes 20, a has no room for 10, and c takes 5
+        expanded = Expanded({}, added={"a": 10, "b": 20, "c": 5})
+        vehicles = {"a": 2, "b": 3, "c": 1}
+        self.assertEqual(links_told(expanded, 4010, vehicles)[0].rpartition("--turns ")[2], "b,c")
+        self.assertEqual(links_told(expanded, 4000, vehicles), [])
+        self.assertEqual(links_told(expanded, 4036, vehicles), [])
+        self.assertEqual(links_told(expanded, 16_010, vehicles, True)[0].rpartition("--turns ")[2], "b,c")
+
+
 class Choice(unittest.TestCase):
     def picked(self, movements: Movements, asked: str | tuple[str, ...], ends: Collection[str] = ()) -> list[str]:
         return list(chosen(crossing(), movements, ends, asked).crossings)
@@ -186,7 +200,7 @@ class Choice(unittest.TestCase):
         self.assertEqual(picked.parted, ("n", "e", "s", "w"))
         expanded = expand(network, turns(), picked, form())
         self.assertEqual((network.roads["cn"].head, network.roads["nc"].tail), ("n", "n_start"))
-        self.assertEqual(expanded.origins, {arm: f"{arm}_start" for arm in "nesw"})
+        self.assertEqual((expanded.parted, expanded.origins), (4, {arm: f"{arm}_start" for arm in "nesw"}))
 
     def test_a_name_that_is_no_node(self) -> None:
         with self.assertRaisesRegex(Exception, "--turns: d is no node of the network"):

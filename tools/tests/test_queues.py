@@ -54,6 +54,13 @@ class Spillback(unittest.TestCase):
         self.assertEqual(queues(found, case, 1000)[1], Queue("origin", "n1", 5, 16, True, 3200, 10, None, 27_000_000))
         self.assertEqual([queue.name for queue in queues(found, case, 1801)], ["n1"])
 
+    def test_a_link_with_its_turns(self) -> None:
+        # b stores 20 m of 60 vehicles/km, and has no queue of its own
+        case, found = read("spillback")
+        self.assertEqual(queues(found, case, 1, {"x": ("a", "b"), "y": ("none",)})[0],
+                         Queue("link", "x", 3, 16, True, 1800, 8, 3000 + 1200, 20_700_000))
+        self.assertEqual(queues(found, case, 1, {"a": ("b", "a")})[0].storage, 4200)
+
     def test_text(self) -> None:
         lines = run("--least", "0.001", "--start", "7:00").splitlines()
         self.assertEqual(lines[2].split(), ["origin", "n1", "7:00:01", "...", "3.200", "7:00:10", "29.00"])

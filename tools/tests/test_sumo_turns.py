@@ -11,7 +11,7 @@ from test_from_sumo import SumoTest, edge, way
 from ltm_tools.network.crossings import gaps
 from ltm_tools.network.crossings.options import Gap
 from ltm_tools.network.passages import Roads
-from ltm_tools.network.source import Source
+from ltm_tools.network.source import Source, approaches_of, path_named
 
 # c has arms n, s and w to come from, and n, s and e to go to; from n to e is a left turn, against those from s to n
 ARMS = "".join(edge(name, name[0], name[1], metres="300.00") for name in ("nc", "sc", "wc", "cn", "cs", "ce"))
@@ -77,6 +77,8 @@ class Turns(SumoTest):
         source = Source.read(self.folder / "case", roads)
         self.assertEqual(source.links["nc"].all_links, ("nc", "nc__cs", "nc__ce"))
         self.assertEqual(source.links["sc"].all_links, ("sc",))
+        self.assertEqual(approaches_of(self.folder / "case", case.links), {"nc": ("nc", "nc__cs", "nc__ce")})
+        self.assertEqual(path_named(self.folder / "case", case.links, ["nc", "ce"]), ["nc", "nc__ce", "ce"])
         self.assertEqual(source.route(["nc", "ce"], roads), ("nc", "nc__ce", "ce"))
         self.assertEqual(source.route(["sc", "cn"], roads), ("sc", "cn"))
         with self.assertRaisesRegex(Exception, "no way leads from node sc_E|no way leads from node cn_E"):
@@ -99,6 +101,12 @@ class Turns(SumoTest):
         broken = PROGRAM.replace("rGrr", "rGr")
         self.assertIn("its phases have 3 and 4 letters", self.refused(*WORDS, net=ARMS + WAYS + YIELDS + broken,
                                                                       routes=ROUTES))
+        # a turn that is never green is held all the time, and so is a link
+        never = ARMS + WAYS + YIELDS + PROGRAM.replace("rrrG", "rrrr")
+        for words in (WORDS, ("--turns", "none", *WORDS[2:])):
+            case = self.made(*words, net=never, routes=ROUTES)
+            self.assertEqual([(limit.from_slot, limit.to_slot, limit.units) for limit in case.signals
+                              if limit.link == "wc"], [(0, 360, 0)])
         # a way without a number among those of its junction is taken as one that does not yield
         net = ARMS + WAYS.replace('via=":c_1_0"', "") + YIELDS + PROGRAM
         self.made(*WORDS, net=net, routes=ROUTES)

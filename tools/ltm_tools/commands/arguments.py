@@ -44,6 +44,12 @@ def add_start_argument(parser: argparse.ArgumentParser) -> None:
                         help="the clock time at which slot 0 begins, as 6:30 (else as clock.txt says, or 0:00)")
 
 
+def add_each_link_argument(parser: argparse.ArgumentParser) -> None:
+    """The option `--each-link`."""
+    parser.add_argument("--each-link", action="store_true",
+                        help="tell each link by itself (a link that was cut before a crossing is told with its turns)")
+
+
 def add_format_arguments(parser: argparse.ArgumentParser) -> None:
     """The options `--format` and `--output`, for commands that write a table."""
     parser.add_argument("--format", choices=FORMATS, default="text",

@@ -14,7 +14,9 @@ from ..listing import Cell, TimeUnit, csv_text, json_text, seconds, text_table, 
 from ..loading.compare import Comparison, Pairs, change, most_changed, of_versions
 from ..loading.loaded import loaded, told_delay
 from ..loading.remaining import told_apart
-from .arguments import add_format_arguments, add_program_argument, add_start_argument, check_every, minutes, whole
+from ..network.source import approaches_of
+from .arguments import (add_each_link_argument, add_format_arguments, add_program_argument, add_start_argument,
+                        check_every, minutes, whole)
 
 NAME = "compare"
 SUMMARY = ("tell what two cases, or two versions of one, differ in: vehicle time, delay by link, arrivals by time, the"
@@ -50,6 +52,7 @@ def add_arguments(parser: argparse.ArgumentParser) -> None:
     parser.add_argument("--links", metavar="N", type=whole, default=10,
                         help="in text, how many links that changed most (10)")
     parser.add_argument("--table", choices=TABLES, default="links", help="which table in CSV (links)")
+    add_each_link_argument(parser)
     add_format_arguments(parser)
 
 
@@ -60,6 +63,7 @@ def run(args: argparse.Namespace) -> int:
     found, names = by_script(args) if args.script is not None else by_folders(args)
     for one in found.both:
         check_every(args.every, one.case)
+    args.approaches = {} if args.each_link else approaches(found, args)
     if args.format == "text":
         write_text(args.output, text(found, names, args))
         return 0
@@ -72,6 +76,15 @@ def run(args: argparse.Namespace) -> int:
         parts = [f'"{name}": {json_text(*table).rstrip()}' for name, table in tables.items()]
         write_text(args.output, "{\n" + ",\n".join(parts) + "\n}\n")
     return 0
+
+
+def approaches(found: Comparison, args: argparse.Namespace) -> dict[str, tuple[str, ...]]:
+    """The links of either case that were cut before a crossing, with their turns."""
+    made: dict[str, tuple[str, ...]] = {}
+    for folder, one in zip((args.case, args.other or args.case), found.both):
+        for name, links in approaches_of(folder, one.case.links).items():
+            made[name] = tuple(dict.fromkeys((*made.get(name, ()), *links)))
+    return made
 
 
 def by_folders(args: argparse.Namespace) -> tuple[Comparison, tuple[str, str]]:
@@ -110,7 +123,7 @@ def all_tables(found: Comparison, args: argparse.Namespace) -> list[tuple[str, l
     moments: list[list[Cell]] = [[args.start + moment, *exact("", pair, vehicles)[1:]]
                                  for moment, pair in found.arrivals(args.every).items()]
     return [("totals", header, totals),
-            ("links", header, [exact(name, pair, seconds) for name, pair in found.links().items()]),
+            ("links", header, [exact(name, pair, seconds) for name, pair in found.links(args.approaches).items()]),
             ("origins", header, [exact(name, pair, seconds) for name, pair in found.origins().items()]),
             ("arrivals", ["ms", *header[1:]], moments)]
 
@@ -125,7 +138,7 @@ def text(found: Comparison, names: tuple[str, str], args: argparse.Namespace) ->
     lines.append(text_table(header, rows))
     if not found.comparable():
         lines.append(f"{told_apart(*found.remaining())}\n")
-    lines += pieces("queued on links", found.links(), args.links, unit, "link")
+    lines += pieces("queued on links", found.links(args.approaches), args.links, unit, "link")
     lines += pieces("waited at origins", found.origins(), args.links, unit, "origin")
     moments = [[clock_text(args.start + moment), *exact("", pair, vehicles)[1:]]
                for moment, pair in found.arrivals(args.every).items()]

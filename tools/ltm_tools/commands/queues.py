@@ -9,7 +9,9 @@ from ..listing import Cell, percent, seconds, text_table, time_unit, vehicles
 from ..loading.delay import Report
 from ..loading.loaded import loaded, told_delay
 from ..loading.queues import Queue, queues
-from .arguments import add_case_arguments, add_format_arguments, add_start_argument, write_table
+from ..network.source import approaches_of
+from .arguments import (add_case_arguments, add_each_link_argument, add_format_arguments, add_start_argument,
+                        write_table)
 
 NAME = "queues"
 SUMMARY = "list where queues stand, from when to when, how long they grow and what delay they bring"
@@ -33,6 +35,7 @@ def add_arguments(parser: argparse.ArgumentParser) -> None:
                         help="how many vehicles make a queue (1; with 0.001 every queue is told)")
     parser.add_argument("--sort", choices=("delay", "worst", "from", "case"), default="delay",
                         help="the order of lines (delay)")
+    add_each_link_argument(parser)
     add_format_arguments(parser)
 
 
@@ -44,7 +47,8 @@ def run(args: argparse.Namespace) -> int:
     least = max(1, units_of(args.least))
     start = start_of(args.start, args.case)
     loading = loaded(args.case, args.curves, args.program)
-    found = sorted(queues(loading.curves, loading.case, least), key=ORDERS[args.sort])
+    approaches = {} if args.each_link else approaches_of(args.case, loading.case.links)
+    found = sorted(queues(loading.curves, loading.case, least, approaches), key=ORDERS[args.sort])
     step_ms, told = loading.curves.step_ms, ""
     if args.format == "text":
         told = text(found, told_delay(loading, args.case, args.curves, args.program), step_ms, start, least)

@@ -14,6 +14,7 @@ from ..case.sizes import ask_for_sizes
 from ..errors import Fault
 from ..formats import MINUTE_MS, MOST_ROWS_ASKED, UNITS, short_vehicles
 from ..network.changes import changes_told
+from ..network.crossings.sizes import links_told
 from ..network.crossings.sources import with_turns
 from ..network.demand_files import Amounts, exists, read_amounts, read_profile, summed_units, whole_units
 from ..network.imported import Imported
@@ -88,17 +89,30 @@ def import_gmns(folder: str | os.PathLike[str], options: GmnsOptions = GmnsOptio
     check_ends(asked.volumes)
     routes = least_routes(raw, [(*ends, whole_units(volume, "demand"))
                                 for ends, volume in asked.volumes.items()]) if options.fit else []
-    made = carried(raw, options, routes)
+    try:
+        made = carried(raw, options, routes)
+    except NotCarried as fault:
+        fault.advice += fewer_turns(asked, len(raw.roads), True)
+        raise
     parts, clock = parts_of(options, made.step, read)
     case, last = case_of(made, asked.volumes, options, parts)
     turns = None if asked.turned is None else turns_of_case(made, asked.turned, case, options.crossings, read)
-    sizes = ask_for_sizes(case, options.moves)
+    sizes = [*ask_for_sizes(case, options.moves), *fewer_turns(asked, len(case.links), False)]
     places, lost = places_of(made, Map(crs=read.units.crs or (DEGREES if read.units.places == "degrees" else None)))
     told = [*size_told(made, case, last), *inner_told(asked.amounts.inner), *read.told(), *asked.amounts.notes,
             *changes_told(made, routes), *lost, *sizes]
     source = made.source if asked.turned is None else with_turns(made.source, asked.turned.expanded)
     return Imported(case, places, source, tuple(made.fit.changes) if made.fit is not None else None, tuple(told), clock,
                     turns)
+
+
+def fewer_turns(asked: Asked, links: int, whole: bool) -> list[str]:
+    """Which crossings may have turns, where all have too many: those of most trips, which begin or end there."""
+    vehicles: dict[str, int] = {}
+    for ends, volume in asked.volumes.items():
+        for node in ends:
+            vehicles[node] = vehicles.get(node, 0) + int(volume * UNITS)
+    return [] if asked.turned is None else links_told(asked.turned.expanded, links, vehicles, whole)
 
 
 def steps_of_gmns(folder: str | os.PathLike[str], options: GmnsOptions = GmnsOptions()) -> list[str]:

@@ -7,6 +7,7 @@ from collections.abc import Mapping, Sequence
 
 from ..case.edits import Edit
 from ..case.keeping import case_of
+from .approaches import Approaches, grouped
 from .counts import Counts, as_list, total
 from .delay import Report, report
 from .loaded import Loaded, loaded, told_delay
@@ -45,9 +46,11 @@ class Comparison:
         one, other = self.remaining()
         return one.comparable(other)
 
-    def links(self) -> Pairs:
-        """The delay of each link, in units times ms."""
-        return paired(*({name: link.queued for name, link in report.links.items()} for report in self.reports))
+    def links(self, approaches: Approaches | None = None) -> Pairs:
+        """The delay of each link, in units times ms; that of an approach as one."""
+        return paired(*({name: sum(report.links[one].queued for one in names)
+                         for name, names in grouped(report.links, approaches or {}).items()}
+                        for report in self.reports))
 
     def origins(self) -> Pairs:
         """What was waited at each origin, in units times ms."""

@@ -6,7 +6,8 @@ from typing import NamedTuple
 
 from ..case import Case
 from . import delay
-from .counts import Counts, is_array, less
+from .approaches import Approaches, grouped
+from .counts import Counts, is_array, less, total
 from .curves import Curves
 
 try:
@@ -33,12 +34,14 @@ class Queue(NamedTuple):
     delay: int
 
 
-def queues(curves: Curves, case: Case, least: int = LEAST_UNITS) -> list[Queue]:
-    """All queues of at least so many units, of links in the order of `links.csv`, and then of origins by node
-    number."""
+def queues(curves: Curves, case: Case, least: int = LEAST_UNITS, approaches: Approaches | None = None) -> list[Queue]:
+    """All queues of at least so many units, of links in the order of `links.csv`, those of an approach as one, and then
+    of origins by node number."""
     found: list[Queue] = []
-    for link in case.links:
-        found += _queues("link", link.name, delay.queue(curves, link), least, link.storage_units, curves.step_ms)
+    links = {link.name: link for link in case.links}
+    for name, names in grouped(links, approaches or {}).items():
+        counts = total([delay.queue(curves, links[one]) for one in names])
+        found += _queues("link", name, counts, least, sum(links[one].storage_units for one in names), curves.step_ms)
     for node, rows in delay.demand_of(case).items():
         counts = less(delay.produced(rows, curves.boundaries), curves.departed(node))
         found += _queues("origin", node, counts, least, None, curves.step_ms)

@@ -193,6 +193,13 @@ def parts_of(folder: str | os.PathLike[str], links: Iterable[Link]) -> dict[str,
     return parts
 
 
+def approaches_of(folder: str | os.PathLike[str], links: Iterable[Link]) -> dict[str, tuple[str, ...]]:
+    """The links of the source that were cut before a crossing, each with its links of the case."""
+    if not has_source(folder):
+        return {}
+    return {name: link.all_links for name, link in Source.read(folder, Roads.of(links)).links.items() if link.turns}
+
+
 def has_source(folder: str | os.PathLike[str]) -> bool:
     """Whether the folder of a case says what has become of a source's links."""
     return os.path.exists(os.path.join(folder, LINKS_FILE))

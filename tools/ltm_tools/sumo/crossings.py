@@ -30,6 +30,8 @@ class Turned:
     capacities: dict[str, Fraction]
     lanes: dict[Pair, Fraction]
     counted: list[Route] | None
+    vehicles: dict[str, int]
+    """Of each node the thousandths of vehicles that drive over it."""
 
 
 def choose(inputs: Inputs, options: SumoOptions) -> tuple[Movements, Chosen]:
@@ -58,9 +60,11 @@ def turn(inputs: Inputs, found: Movements, picked: Chosen, options: SumoOptions)
     form = Form(step=step_of(inputs, options), length_m=asked.length_m, lanes=lanes, ends=ends_of(inputs),
                 begins=begins)
     made = expand(raw, found, picked, form)
+    vehicles = by_node(inputs.routes, made)
     inputs.routes, left_out = over_turns(inputs.routes, made)
     inputs.notes += crossings_told(made, left_out)
-    return Turned(found, made, capacities, lanes, None if options.volumes is None else over_turns(counted, made)[0])
+    return Turned(found, made, capacities, lanes, None if options.volumes is None else over_turns(counted, made)[0],
+                  vehicles)
 
 
 def lanes_by_counts(inputs: Inputs, routes: list[Route], found: Movements, capacities: dict[str, Fraction],
@@ -84,3 +88,13 @@ def over_turns(routes: list[Route], made: Expanded) -> tuple[list[Route], int]:
     found = [(route, made.route(route)) for route in routes]
     return ([route for _, route in found if route is not None],
             sum(before.units for before, route in found if route is None))
+
+
+def by_node(routes: list[Route], made: Expanded) -> dict[str, int]:
+    """Of each node of the source the thousandths of vehicles whose routes come to it."""
+    counts: dict[str, int] = {}
+    for route in routes:
+        for name in route.links:
+            node = made.ends[name][1]
+            counts[node] = counts.get(node, 0) + route.units
+    return counts

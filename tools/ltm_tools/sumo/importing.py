@@ -8,10 +8,11 @@ from ..case import Case
 from ..case.sizes import ask_for_sizes
 from ..formats import clock_text, short_vehicles
 from ..network.crossings.chosen import Chosen
+from ..network.crossings.sizes import links_told
 from ..network.crossings.sources import with_turns
 from ..network.changes import changes_told
 from ..network.imported import Imported
-from ..network.importing import carried, check_ends
+from ..network.importing import NotCarried, carried, check_ends
 from ..network.network import Network
 from ..network.placing import places_of
 from ..network.steps import steps_table
@@ -55,17 +56,26 @@ def import_sumo(net: StrPath, files: Iterable[StrPath] = (), options: SumoOption
     for route in inputs.routes:
         counts[route.links] = counts.get(route.links, 0) + route.units
     routes = list(counts.items())
-    made = carried(asked.raw, options, routes)
+    try:
+        made = carried(asked.raw, options, routes)
+    except NotCarried as fault:
+        fault.advice += fewer_turns(asked.turned, len(asked.raw.roads), True)
+        raise
     driven = over_links(made, inputs.routes)
     case = case_of(made, inputs, driven, asked.held, asked.cut, options)
     turns = None if asked.turned is None else turns_of_case(made, asked.turned, case, driven, inputs, options)
-    sizes = ask_for_sizes(case, options.moves)
+    sizes = [*ask_for_sizes(case, options.moves), *fewer_turns(asked.turned, len(case.links), False)]
     places, lost = places_of(made, inputs.net.drawn)
     told = [*size_told(case, inputs), *left_out_told(inputs), *inputs.notes,
             *changes_told(made, routes, set(asked.cut.stops.values())), *lost, *sizes]
     source = made.source if asked.turned is None else with_turns(made.source, asked.turned.expanded)
     return Imported(case, places, source, tuple(made.fit.changes) if made.fit is not None else None, tuple(told),
                     inputs.begin_ms if inputs.found.vehicles or options.begin_ms is not None else None, turns)
+
+
+def fewer_turns(turned: Turned | None, links: int, whole: bool) -> list[str]:
+    """Which crossings may have turns, where all have too many."""
+    return [] if turned is None else links_told(turned.expanded, links, turned.vehicles, whole)
 
 
 def steps_of_sumo(net: StrPath, files: Iterable[StrPath] = (), options: SumoOptions = SumoOptions()) -> list[str]:

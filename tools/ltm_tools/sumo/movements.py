@@ -44,7 +44,8 @@ def priorities(net: Net, way: Connection, others: Iterable[Connection]) -> list[
 
 def held_by(net: Net, program: Program, ways: Sequence[Connection], others: Sequence[Connection], yellow: bool,
             begin_ms: int) -> Held:
-    """How a program holds a turn: each way of it counts for its part of the turn's lanes."""
+    """How a program holds a turn: each way of it counts for its part of the turn's lanes. One that is never green has a
+    green for none of them."""
     cycle = cycle_of(program)
     offset = (program.offset_ms - begin_ms) % cycle
     shares: dict[bool, dict[Span, Fraction]] = {False: {}, True: {}}
@@ -58,6 +59,8 @@ def held_by(net: Net, program: Program, ways: Sequence[Connection], others: Sequ
             against |= dict.fromkeys(foes)
     protected, permitted = (tuple(Green(cycle, start, end, offset, share) for (start, end), share in of.items())
                             for of in shares.values())
+    if not protected and not permitted:
+        protected = (Green(cycle, 0, cycle, offset, Fraction(0)),)
     return Held(protected, permitted, tuple(dict.fromkeys((foe.edge, foe.after) for foe in against)),
                 tuple(dict.fromkeys((foe.edge, foe.lane) for foe in against)))
 

@@ -147,6 +147,7 @@ def turns_of_case(made: Carried, turned: Turned, case: Case, routes: list[Route]
     limits = limits_of(turns, volumes, links, case.setup)
     case.signals += limits
     case.setup.signals = bool(case.signals)
-    inputs.notes += [f"{len(limits)} records of signals, of {len({limit.link for limit in limits})} turns"]
+    if limits:
+        inputs.notes.append(f"{len(limits)} records of signals, of {len({limit.link for limit in limits})} turns")
     inputs.notes += turns_told(turns, volumes, links, case.setup)
     return Turns(tuple(turns), volumes)

@@ -65,7 +65,8 @@ def shares_of(ways: Iterable[Connection], turns: Mapping[str, int]) -> dict[Conn
 
 def greens_of(net: Net, ways: list[Connection], turns: Mapping[str, int], begin_ms: int, lanes: int,
               yellow: bool) -> tuple[Green, ...]:
-    """The greens of an edge by the share of each way; none where it is always green."""
+    """The greens of an edge by the share of each way; none where it is always green, and one that counts for nothing
+    where it never is."""
     shares = shares_of(ways, turns)
     spans: dict[Connection, list[tuple[int, int]]] = {}
     program = next(net.programs[way.signal] for way in ways if way.signal in net.programs)
@@ -82,7 +83,8 @@ def greens_of(net: Net, ways: list[Connection], turns: Mapping[str, int], begin_
     for way, some in spans.items():
         for span in some:
             merged[span] = merged.get(span, Fraction(0)) + shares[way] * factor
-    return tuple(Green(cycle, start, end, offset, share) for (start, end), share in merged.items() if share)
+    greens = tuple(Green(cycle, start, end, offset, share) for (start, end), share in merged.items() if share)
+    return greens or (Green(cycle, 0, cycle, offset, Fraction(0)),)
 
 
 def lane_factor(shares: Mapping[Connection, Fraction], spans: Mapping[Connection, list[tuple[int, int]]], cycle: int,

@@ -1,4 +1,5 @@
-"""Where the turns of a crossing are drawn: side by side on the last metres of their approach, then round the corner."""
+"""Where the turns of a crossing are drawn: side by side to the right of the last metres of their approach, then round
+the corner."""
 from __future__ import annotations
 
 import math
@@ -59,7 +60,7 @@ def corner(start: Point, middle: Point, end: Point) -> Line:
 
 def turn_line(approach: Line, metres: float, node: Point, exit_start: Point, apart: float) -> Line:
     """The line of a turn: along the part of its approach that is its own, of so many metres, so many lanes to the right
-    of its middle, then round the corner to where its exit begins."""
+    of its line, then round the corner to where its exit begins."""
     if len(approach) < 2:
         return ()
     before = cut_at(approach, 1 - min(CORNER_M / metres, 0.5))[0] if metres > 0 else approach

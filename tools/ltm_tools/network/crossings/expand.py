@@ -35,8 +35,10 @@ class Expanded:
     """Of each exit the road from the node where trips begin that may take each."""
     origins: dict[str, str] = field(default_factory=dict)
     """Of each node where trips begin and end the node where they begin now."""
-    nodes: set[str] = field(default_factory=set)
-    """The crossings."""
+    added: dict[str, int] = field(default_factory=dict)
+    """Of each crossing how many roads it has more than before."""
+    parted: int = 0
+    """How many dead ends were parted."""
     short: int = 0
     """How many approaches are shorter than two links that the step allows."""
 
@@ -46,7 +48,7 @@ class Expanded:
         links = [self.starts[route.links[0]]] if route.links[0] in self.starts else []
         for name, after in zip(route.links, route.links[1:]):
             links.append(name)
-            if self.ends[name][1] in self.nodes:
+            if self.ends[name][1] in self.added:
                 if (name, after) not in self.links:
                     return None
                 turn = self.links[name, after]
@@ -100,6 +102,7 @@ def part(network: Network, node: str, made: Expanded) -> None:
     for name in list(network.outs[node]):
         network.move_tail(name, start)
     made.origins[node] = start
+    made.parted += 1
 
 
 class Crossing:
@@ -116,7 +119,7 @@ class Crossing:
 
     def expand(self) -> None:
         """Makes the turns, and the roads of trips that end and begin here."""
-        self.made.nodes.add(self.node)
+        before = len(self.network.roads)
         for name in self.outs:
             self.begin_later(name)
         for name, exits in self.ins.items():
@@ -128,6 +131,7 @@ class Crossing:
                 self.cut(name, exits, stops)
         if self.node in self.form.begins:
             self.begin_here()
+        self.made.added[self.node] = len(self.network.roads) - before
 
     def begin_later(self, name: str) -> None:
         """Lets an exit begin at a node of its own, which lies where turns meet it."""
@@ -162,10 +166,10 @@ class Crossing:
         self.made.own[name] = [one.name for one in roads]
 
     def apart(self, name: str, exits: list[str]) -> dict[str, float]:
-        """Of each exit of an approach how many lanes to the right of its middle the turn is drawn, by where it bears;
-        in the order of the exits."""
-        order = sorted(exits, key=lambda after: drawing.bearing(self.before[name], self.after[after]))
-        return {after: (len(exits) - 1) / 2 - order.index(after) for after in exits}
+        """Of each exit of an approach how many lanes to the right of its line the turn is drawn, by where it bears; in
+        the order of the exits."""
+        order = sorted(exits, key=lambda after: -drawing.bearing(self.before[name], self.after[after]))
+        return {after: order.index(after) + 0.5 for after in exits}
 
     def turn(self, rest: Road, name: str, after: str, start: str, line: Line, apart: float) -> Road:
         """The road of a turn."""

@@ -103,7 +103,7 @@ def greens_of(row: Row, name: str) -> tuple[Green, ...]:
         span, _, share = text.partition("*")
         start, _, end = span.partition("-")
         numbers = [exact_or_none(part) for part in (start, end)]
-        part = share_or_none(share) if share else Fraction(1)
+        part = Fraction(0) if share == "0" else share_or_none(share) if share else Fraction(1)
         if None in numbers or part is None:
             raise row.fault(name, "greens are wanted as 0-42 50-60*1/2, in seconds of the cycle, with the share of the"
                             " lanes that have them")
