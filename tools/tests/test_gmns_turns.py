@@ -92,7 +92,8 @@ class Turns(FolderTest):
         # before the barrier ring 1 has 20 + 5 and 10 + 5 s, ring 2 10 + 5 and 20 + 5; behind it 15 + 5 and 10 + 5
         phases = PHASES.split("\n", maxsplit=1)[0] + "\n" + "".join(
             f"{name},7,{name},{green},{green},5,{ring},{barrier},{place}\n" for name, green, ring, barrier, place in
-            ((1, 20, 1, 1, 1), (2, 10, 1, 1, 2), (5, 10, 2, 1, 1), (6, 20, 2, 1, 2), (3, 15, 1, 2, 3), (7, 10, 2, 2, 3)))
+            ((1, 20, 1, 1, 1), (2, 10, 1, 1, 2), (5, 10, 2, 1, 1), (6, 20, 2, 1, 2), (3, 15, 1, 2, 3),
+             (7, 10, 2, 2, 3)))
         of = "timing_phase_id,mvmt_id,protection\n1,1,protected\n6,2,protected\n2,3,protected\n3,4,protected\n"
         self.made(signal_timing_phase=phases, signal_phase_mvmt=of,
                   signal_coordination="timing_plan_id,coord_phase,coord_ref_to,offset\n7,6,begin_of_yellow,10\n")

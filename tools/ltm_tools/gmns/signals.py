@@ -23,7 +23,8 @@ TURNS, COORDINATION = "signal_phase_mvmt.csv", "signal_coordination.csv"
 IDS = ("timing_phase_id", "timing_plan_id", "controller_id", "mvmt_id", "signal_phase_num", "coord_phase", "ring",
        "barrier", "position")
 NAMES = {"timing_phase_id": ("signal_timing_phase_id", "phase_id"),
-         "timing_plan_id": ("signal_timing_plan_id", "plan_id"), "mvmt_id": ("movement_id",), "max_green": ("green", "split"), "clearance": ("clearance_time",)}
+         "timing_plan_id": ("signal_timing_plan_id", "plan_id"), "mvmt_id": ("movement_id",),
+         "max_green": ("green", "split"), "clearance": ("clearance_time",)}
 PROTECTED, PERMITTED = "protected", "permitted"
 
 

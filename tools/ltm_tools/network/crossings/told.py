@@ -25,8 +25,8 @@ def crossings_told(made: Expanded, left_out: int) -> list[str]:
     told = [f"{counted(len(made.added), 'crossing')} with {counted(turns, 'turn')} as links of their own; turns.csv has"
             f" their lanes and greens"] if made.added else []
     if made.parted:
-        told.append(f"{counted(made.parted, 'dead end')} with a node for links that end and one for those that begin, as"
-                    f" nobody may turn back")
+        told.append(f"{counted(made.parted, 'dead end')} with a node for links that end and one for those that begin,"
+                    f" as nobody may turn back")
     if made.stops:
         told.append(f"{counted(len(made.stops), 'link')} for trips that end at a crossing, which no signal holds")
     if made.short:
