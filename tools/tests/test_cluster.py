@@ -112,8 +112,7 @@ class Made(ClusterTest):
         process = self.start_sweep(*self.words(self.many(205)[0], address, self.session(0.02)))
         _, status, told = self.kill_after(40, process, lambda: scheduler.pid)
         self.assertEqual((status, told.rpartition("\r")[2].splitlines()[1:]),
-                         (1, [f"ltm-tools sweep: the scheduler {address} was lost, and with it the scenarios that were"
-                              f" not done"]))
+                         (1, [f"ltm-tools sweep: the scheduler {address} was lost, and with it what was not done"]))
         self.assertFalse((self.folder / "rows.csv").exists())
 
     def test_no_scheduler(self) -> None:

@@ -102,6 +102,10 @@ class Session:
 
     def ask(self, **command: object) -> list[str]:
         """The words of the answer to a command of a script, as `ask(do="totals")`; Refused where it is refused."""
+        return self.answer(**command).split()
+
+    def answer(self, **command: object) -> str:
+        """The answer to a command of a script, as `answer(do="totals")`; Refused where it is refused."""
         assert self.process.stdin is not None and self.process.stdout is not None
         if self.process.stdout.closed:
             raise Ended(f"{self.folder}: ltm {' '.join(self.words)} has ended")
@@ -113,14 +117,14 @@ class Session:
             pass  # it has ended, and its last line says why
         told = self.process.stdout.readline()
         answer = told.decode("utf-8", "backslashreplace").strip()
-        words = answer.split()
+        words = answer.split(maxsplit=4)
         if not told.endswith(b"\n") or words[:2] in ([], ["bad", "case"], ["too", "long"], ["too", "many"]):
             self._let_go()
             raise Ended(f"{self.folder}: ltm {' '.join(self.words)} ended with status {self.process.returncode}:"
                         f" {answer or 'no answer'}")
         if words[0] == "refused":
-            raise _refused(answer, words, self._reason(command, answer))
-        return words
+            raise _refused(answer, answer.split(), self._reason(command, answer))
+        return answer
 
     def _told(self, read: Callable[[list[str]], Told], **command: object) -> Told:
         """What is read of the answer to a command; a Fault where that is no such answer."""

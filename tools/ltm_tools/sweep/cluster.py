@@ -10,7 +10,7 @@ import os
 import tempfile
 import threading
 import zipfile
-from collections.abc import Iterator, Sequence
+from collections.abc import Callable, Iterator, Sequence
 from pathlib import Path
 from typing import Any
 
@@ -64,13 +64,18 @@ def run_piece(piece: Sequence[tuple[int, str, list[list[dict[str, object]]]]], f
 
 def runner_of(files: dict[str, bytes], key: str, program: str, links: Sequence[str], delay: bool) -> Runner:
     """In a worker: the runner of this thread for a case and a program; one for another is ended."""
-    path = Path(program) if os.access(program, os.X_OK) else find_program()
+    path = program_of(program)
     place = (key, str(path), path.stat().st_mtime_ns)
     kept = _runners.get(threading.get_ident())
     if kept is None or kept[0] != place:
         end_session()
         kept = _runners[threading.get_ident()] = place, Runner(folder_of(files, key), path, links, delay)
     return kept[1]
+
+
+def program_of(program: str) -> Path:
+    """In a worker: the program, at the path that it has on the command's machine, or as this machine has it."""
+    return Path(program) if os.access(program, os.X_OK) else find_program()
 
 
 def end_session() -> None:
@@ -106,11 +111,19 @@ def package_zip(folder: str) -> str:
 def there(address: str, folder: str, named: str | None, links: Sequence[str], delay: bool,
           pieces: Sequence[Sequence[Scenario]]) -> Iterator[list[Row]]:
     """The rows of results of each piece, in order, by the workers of a cluster."""
+    return spread(address, folder, named, run_piece, [[tuple(scenario) for scenario in piece] for piece in pieces],
+                  (list(links), delay))
+
+
+def spread(address: str, folder: str, named: str | None, run: Callable[..., Any], pieces: Sequence[Any],
+           asked: tuple[Any, ...]) -> Iterator[Any]:
+    """What `run` gives of each piece, in order, by the workers of a cluster. It is called with the piece, the files of
+    the case, their key, the program and what else is asked."""
     import distributed
 
     library: Any = distributed  # which has types for some of its calls alone
     files = case_bytes(folder)
-    key = hashlib.sha256(repr((sorted(files.items()), list(links), delay)).encode()).hexdigest()
+    key = hashlib.sha256(repr((sorted(files.items()), asked)).encode()).hexdigest()
     with client_of(library, address) as client, tempfile.TemporaryDirectory() as made:
         client.upload_file(package_zip(made))
         held = client.submit(keep, files, key=f"ltm-case-{key}", retries=TRIES)
@@ -118,18 +131,17 @@ def there(address: str, folder: str, named: str | None, links: Sequence[str], de
             program = str(find_program(named))
         except Fault:
             program = named or ""
-        futures = [client.submit(run_piece, [tuple(scenario) for scenario in piece], held, key, program, list(links),
-                                 delay, pure=False, retries=TRIES, priority=-place)
+        futures = [client.submit(run, piece, held, key, program, *asked, pure=False, retries=TRIES, priority=-place)
                    for place, piece in enumerate(pieces)]
         for future in futures:
             try:
-                rows = future.result()
+                found = future.result()
             except library.KilledWorker:
-                raise Fault("too many workers were lost: a piece of the scenarios was on each of them") from None
+                raise Fault("too many workers were lost: a piece of the work was on each of them") from None
             except (OSError, asyncio.CancelledError, concurrent.futures.CancelledError):
-                raise Fault(f"the scheduler {address} was lost, and with it the scenarios that were not done") from None
+                raise Fault(f"the scheduler {address} was lost, and with it what was not done") from None
             future.release()
-            yield rows
+            yield found
 
 
 def client_of(library: Any, address: str) -> Any:
