@@ -22,7 +22,8 @@ from .errors import Fault
 # modules, in the order in which they are told
 COMMANDS = (
     "inspect", "explain", "from_gmns", "from_sumo", "demand", "splits", "signals", "turns",
-    "queues", "times", "compare", "page", "live", "geojson", "plot", "draw", "sweep", "apply", "prove", "install",
+    "queues", "times", "compare", "page", "live", "geojson", "plot", "draw", "sweep", "assign", "closures",
+    "apply", "prove", "install",
 )
 
 PROGRAM = "ltm-tools"

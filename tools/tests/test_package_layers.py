@@ -18,7 +18,7 @@ LAYERS = (
     ("case",),
     ("network", "loading", "proving"),
     ("gmns", "sumo", "show", "sweep"),
-    ("live",),
+    ("live", "assign"),
     ("commands",),
     ("cli",),
     ("__main__",),

@@ -101,6 +101,14 @@ def whole(text: str) -> int:
     return int(text)
 
 
+def number(text: str) -> float:
+    """A number of the command line that is not below 0, as 2 or 0.5."""
+    exact = exact_or_none(text)
+    if exact is None or exact < 0:
+        raise argparse.ArgumentTypeError(f"{text!r} is no number that is at least 0")
+    return float(exact)
+
+
 def minutes(text: str) -> int:
     """Minutes of the command line, as 5 or 0.5, in ms."""
     number = exact_or_none(text)

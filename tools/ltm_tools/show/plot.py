@@ -1,12 +1,14 @@
-"""Pictures of a curve file, as `ltm curves` writes it, by matplotlib: a link, a path, arrivals.
+"""Pictures of a curve file, as `ltm curves` writes it, by matplotlib: a link, a path, arrivals; and of iterations.
 
 All counts are sums over destinations, in vehicles; times are in minutes.
 """
+from collections.abc import Sequence
 from typing import TYPE_CHECKING, Any
 
 from ..case import Link
 from ..errors import Fault
 from ..formats import MINUTE_MS
+from ..listing import HOURS
 from ..loading.counts import vehicles
 from ..loading.curves import Curves
 from .texts import legend
@@ -17,6 +19,7 @@ if TYPE_CHECKING:
 
 ENTERED, LEFT, BETWEEN, BOUND = "#1f77b4", "#d62728", "#444444", "#999999"
 MOST_LINES = 8
+LEAST_REGRET = 0.001  # per cent that are drawn
 
 
 def link_of(links: dict[str, Link], name: str) -> Link:
@@ -139,4 +142,18 @@ def draw_arrivals(plot: Any, curves: Curves) -> "Figure":
     axes.yaxis.set_major_locator(MaxNLocator(integer=True))
     legend(axes, lines, names, loc="upper left", frameon=False, title="destination")
     frame(axes, times[-1])
+    return figure
+
+
+def draw_iterations(plot: Any, spent: Sequence[int], regret: Sequence[float]) -> "Figure":
+    """Vehicle hours and turn regret by iteration, the regret on a scale of powers of ten; times in thousandths of a
+    vehicle times ms, regret in per cent."""
+    figure, (upper, lower) = plot.subplots(2, 1, figsize=(8, 5), sharex=True, layout="constrained")
+    upper.plot([time / HOURS.size for time in spent], color=ENTERED, marker=".")
+    upper.set_ylabel("vehicle hours")
+    lower.semilogy([max(part, LEAST_REGRET) for part in regret], color=LEFT, marker=".")
+    lower.set_ylabel("turn regret, % of these")
+    lower.set_xlabel("iteration")
+    for axes in (upper, lower):
+        frame(axes, max(1, len(spent) - 1))
     return figure

@@ -11,7 +11,9 @@ from collections.abc import Collection, Mapping
 from dataclasses import dataclass, field, replace
 from fractions import Fraction
 
-from ..fit import free_name, most_top, stretched
+from ..arms import free_name
+from ..fit import most_top
+from ..fitting import stretched
 from ..lines import Line, cut_at
 from ..network import LEAST_M, Network, Node, Road, diagram, most_capacity
 from ..route_splits import Route

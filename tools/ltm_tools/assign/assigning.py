@@ -1,0 +1,150 @@
+"""The loop: shares go over to the best links as a loading shows them, and the next loading has the new shares."""
+from __future__ import annotations
+
+import os
+from collections.abc import Callable, Iterator
+from dataclasses import dataclass
+from typing import NamedTuple
+
+import numpy
+
+from ..case import Case, Split
+from ..errors import Fault
+from ..formats import MINUTE_MS
+from .engine import Engine, case_with
+from .labels import Labels
+from .looking import Look, Looker
+from .net import Net, Real, Whole
+from .shares import check_ways, of_splits, periods_of, rounded, rows_of, with_last
+from .steps import averaged, stepped
+
+SMALLER, LARGER = 0.7, 1.03  # what a step's size is multiplied by
+Step = Callable[[Net, Labels, Whole, float], Real]
+
+
+@dataclass(frozen=True)
+class Options:
+    """How shares are sought: at most so many iterations, until the regret is at most so many per cent; the length of a
+    period; the first step's size, and by which rule (see `METHODS`)."""
+
+    iterations: int = 30
+    until: float = 0.0
+    period_ms: int = 5 * MINUTE_MS
+    size: float = 3.0
+    method: str = "gradient"
+
+    def slots(self, case: Case) -> int:
+        """The slots of a period; a Fault where they are not whole."""
+        slots, rest = divmod(self.period_ms, case.setup.step_ms)
+        if rest or not slots:
+            raise Fault(f"a period of {self.period_ms} ms is no whole number of steps of {case.setup.step_ms} ms")
+        return slots
+
+
+class Iteration(NamedTuple):
+    """A loading of the loop: its number, what it says, and the step's size behind it."""
+
+    number: int
+    look: Look
+    size: float
+
+
+class Sizes:
+    """The size of steps: smaller behind an iteration whose regret is not below that of both before it."""
+
+    def __init__(self, size: float) -> None:
+        self.size, self.before = size, [float("inf")]
+
+    def after(self, regret: float) -> float:
+        """The size behind an iteration with this regret."""
+        if regret >= min(self.before[-2:]):
+            self.size *= SMALLER
+        elif len(self.before) > 1:
+            self.size *= LARGER
+        self.before.append(regret)
+        return self.size
+
+
+class Averages(Sizes):
+    """The size 1 / (n + 1) behind iteration n, counted from 1 (the method of successive averages)."""
+
+    def after(self, regret: float) -> float:
+        self.before.append(regret)
+        return self.size / len(self.before)
+
+
+class SelfRegulating(Sizes):
+    """Averages whose divisor grows fast behind a worse iteration, and slowly behind a better one."""
+
+    FAST, SLOW = 1.5, 0.1
+
+    def __init__(self, size: float) -> None:
+        super().__init__(size)
+        self.divisor = 1.0
+
+    def after(self, regret: float) -> float:
+        self.divisor += self.FAST if regret > self.before[-1] else self.SLOW
+        self.before.append(regret)
+        return self.size / self.divisor
+
+
+METHODS: dict[str, tuple[Step, type[Sizes]]] = {
+    "gradient": (stepped, Sizes), "averages": (averaged, Averages), "self-regulating": (averaged, SelfRegulating)}
+
+
+class Assignment:
+    """The shares of a case, with the best found so far."""
+
+    def __init__(self, case: Case, options: Options, splits: list[Split] | None = None) -> None:
+        """By default from the case's own splits; nodes without one, and a case without any, begin with free-flow
+        routes."""
+        if not case.standing_demand():
+            raise Fault("the case has no demand, so nobody seeks a way")
+        if options.method not in METHODS:
+            raise Fault(f"{options.method!r} is no method: {', '.join(METHODS)} are")
+        self.case, self.options, self.period = case, options, options.slots(case)
+        self.net = Net(case)
+        check_ways(self.net)
+        own = case.standing_splits() if splits is None else splits
+        self.weights = of_splits(self.net, own, periods_of(self.net.slots, self.period), self.period)
+        self.ahead: Whole | None = None
+        self.best = self.weights
+        self.best_one: Iteration | None = None
+
+    def run(self, program: str | os.PathLike[str] | None = None) -> Iterator[Iteration]:
+        """Each iteration as it is done, the first of the shares that it begins with; the last is that behind which no
+        share changes, at the latest."""
+        step, sizes = METHODS[self.options.method][0], METHODS[self.options.method][1](self.options.size)
+        looker = Looker(self.net)
+        with Engine(self.net, rows_of(self.net, self.weights, self.period), program) as engine:
+            for number in range(self.options.iterations + 1):
+                look = looker.look(engine, self.weights, self.period)
+                made = Iteration(number, look, sizes.after(look.regret))
+                if self.best_one is None or look.regret < self.best_one.look.regret:
+                    self.best, self.best_one = self.weights, made
+                yield made
+                if look.per_cent <= self.options.until or number == self.options.iterations:
+                    return
+                self.weights = self._next(step, made)
+                if not engine.tell(rows_of(self.net, self.weights, self.period)):
+                    return
+
+    def _next(self, step: Step, made: Iteration) -> Whole:
+        """The weights behind an iteration. Which links lead on is told by this and earlier loadings, half by the last,
+        so that few links cease to at once."""
+        labels = made.look.labels
+        if self.ahead is not None:
+            labels.ahead = (self.ahead + labels.ahead) // 2
+        self.ahead = labels.ahead
+        weights = rounded(self.net, step(self.net, labels, self.weights, made.size))
+        return with_last(weights, last_period(labels))
+
+    def best_case(self) -> Case:
+        """The case with the best shares."""
+        return case_with(self.case, rows_of(self.net, self.best, self.period))
+
+
+def last_period(labels: Labels) -> int:
+    """The last period in which anything flows at a node."""
+    busy = numpy.flatnonzero(labels.flow.reshape(len(labels.flow), -1).max(axis=1) > 0)
+    return int(busy[-1]) if len(busy) else 0

@@ -1,0 +1,114 @@
+"""Shares of links by destination and period, as whole weights that sum to `WHOLE` at each node.
+
+They are arrays `[periods, L, D]`, links in the order of a `Net`. The rows of a node and a destination say the same for
+a case: one where the weights change.
+"""
+from __future__ import annotations
+
+from collections.abc import Iterable, Mapping
+
+import numpy
+
+from ..case import Split
+from ..errors import Fault
+from .net import FAR, WHOLE, Net, Real, Whole
+
+Pair = tuple[str, str]  # a node and a destination
+PairRows = list[tuple[int, dict[str, int]]]  # the first slot of each row, and its weights
+
+
+def rounded(net: Net, shares: Real) -> Whole:
+    """Shares that sum to 1 at each node with a way, as whole weights: each rounded down, and what is left goes to those
+    with the largest remainders, the first of several. `[.., L, D]`"""
+    wanted = shares * WHOLE
+    down = numpy.floor(wanted + 1e-9)
+    rest = wanted - down
+    whole = down.astype(numpy.int64)
+    left = (WHOLE * net.routed - net.sum_of(whole))[..., net.group, :]
+    rank = numpy.zeros(shares.shape, dtype=numpy.int64)
+    for start, end in zip(net.layers, net.layers[1:]):  # how many links of the node come before this one
+        for other, stop in zip(net.layers, net.layers[1:]):
+            both = min(end - start, stop - other)
+            mine, its = rest[..., start : start + both, :], rest[..., other : other + both, :]
+            rank[..., start : start + both, :] += (its > mine) | ((its == mine) & (other < start))
+    found: Whole = numpy.where(net.leads, whole + (rank < left), 0)
+    return found
+
+
+def free_flow(net: Net) -> Real:
+    """The shares of routes of least free-flow time, equal among several links, `[L, D]`."""
+    fits = (net.free[:, None] + net.free_time[net.head] == net.free_time[net.tail]) & net.leads
+    count = numpy.maximum(net.sum_of(fits.astype(numpy.int64)), 1)[net.group]
+    found: Real = fits / count
+    return found
+
+
+def of_splits(net: Net, splits: Iterable[Split], periods: int, period: int) -> Whole:
+    """The weights of split rows: of each period those in force in its first slot, and of free-flow routes where a node
+    has none. A row counts as far as its links lead to the destination."""
+    found: Whole = numpy.repeat(rounded(net, free_flow(net))[None], periods, axis=0)
+    end = {name: place for place, name in enumerate(net.end_names)}
+    group = dict(zip((net.node_names[node] for node in net.tails.tolist()), range(len(net.tails))))
+    for row in sorted(splits, key=lambda row: row.from_slot):
+        links = net.links_of(group[row.node])
+        shares = numpy.array([row.weights.get(net.names[link], 0) for link in links], dtype=numpy.float64)
+        shares *= net.leads[links, end[row.destination]]
+        if shares.any():
+            first = -(-row.from_slot // period)
+            found[first:, links, end[row.destination]] = in_whole(shares)
+    return found
+
+
+def in_whole(weights: Real) -> Whole:
+    """The weights of one row as whole ones that come to `WHOLE`."""
+    wanted = weights * WHOLE / float(sum(weights.tolist()))
+    whole: Whole = numpy.floor(wanted + 1e-9).astype(numpy.int64)
+    for place in numpy.argsort(whole - wanted, kind="stable")[: WHOLE - int(whole.sum())]:
+        whole[place] += 1
+    return whole
+
+
+def rows_of(net: Net, weights: Whole, period: int) -> dict[Pair, PairRows]:
+    """The split rows of each node with a way to a destination, in the order of destinations."""
+    changes = numpy.ones((len(weights), *net.routed.shape), dtype=bool)
+    changes[1:] = net.some_of(weights[1:] != weights[:-1])
+    found: dict[Pair, PairRows] = {}
+    links = [net.links_of(group) for group in range(len(net.tails))]
+    for end, group, span in numpy.argwhere((changes & net.routed).transpose(2, 1, 0)).tolist():
+        column = weights[span, links[group], end].tolist()
+        row = {net.names[link]: weight for link, weight in zip(links[group], column) if weight}
+        pair = net.node_names[net.tails[group]], net.end_names[end]
+        found.setdefault(pair, []).append((span * period, row))
+    return found
+
+
+def splits_of(rows: dict[Pair, PairRows]) -> list[Split]:
+    """The same as rows of a case."""
+    return [Split(node, end, slot, weights) for (node, end), of_pair in rows.items() for slot, weights in of_pair]
+
+
+def check_ways(net: Net) -> None:
+    """A Fault where no way leads from an origin to one of its destinations."""
+    lost = [f"{net.node_names[node]} to {row.destination}" for node, rows in net.origins.items() for row in rows
+            if net.free_time[node, net.end_names.index(row.destination)] >= FAR]
+    if lost:
+        names = list(dict.fromkeys(lost))
+        more = f" and {len(names) - 3} others" if len(names) > 3 else ""
+        raise Fault(f"no links lead from {', from '.join(names[:3])}{more}: add a link, or take the demand out")
+
+
+def periods_of(slots: int, period: int) -> int:
+    """How many periods of so many slots a horizon has, the last perhaps shorter."""
+    return -(-slots // period)
+
+
+def with_last(weights: Whole, last: int) -> Whole:
+    """The weights with those of a period for all behind it, in which nothing flows."""
+    found = weights.copy()
+    found[last + 1 :] = found[last]
+    return found
+
+
+def total_rows(rows: Mapping[Pair, PairRows]) -> int:
+    """How many rows these are."""
+    return sum(map(len, rows.values()))

@@ -1,0 +1,233 @@
+"""Assignments worked by hand (Wardrop's first principle, Braess's network), link times as the program tells them, and
+the command."""
+import csv
+import unittest
+from pathlib import Path
+from unittest.mock import patch
+
+import commands
+from support import BUILT, EXAMPLES, FolderTest, needs_splits
+from ltm_tools import libraries
+from ltm_tools.case import Case
+from ltm_tools.errors import Fault
+from ltm_tools.loading.session import Session
+
+needs_numpy = unittest.skipIf(libraries.missing(("numpy",)), "the package numpy is not there: python3-numpy")
+if not libraries.missing(("numpy",)):
+    import numpy
+
+    from ltm_tools.assign.assigning import Assignment, Options
+    from ltm_tools.assign.engine import Engine
+    from ltm_tools.assign.exits import Gates, leaving, passed
+    from ltm_tools.assign.net import Net
+    from ltm_tools.assign.result import read_iterations
+
+LINKS = "link,from,to,length_m,free_kmh,wave_kmh,jam_per_km\n"
+SIGNALS = "link,from_slot,to_slot,vehicles\n"
+# A vehicle a second from o to d. By `fast`, 40 s, half a vehicle a second gets through; `slow` takes 100 s. All go by
+# `fast` until its queue costs 60 s, after a minute; then half of them keep it there.
+TWO = {"setup": "step_ms,slots,origin_capacity,signals\n1000,400,32,1\n",
+       "links": LINKS + "fast,o,d,400,36,18,300\nslow,o,d,1000,36,18,300\n",
+       "demand": "origin,destination,from_slot,to_slot,vehicles\no,d,0,180,180\n",
+       "splits": "node,destination,from_slot,weights\no,d,0,slow=1\n",
+       "signals": SIGNALS + "fast,0,400,0.5\n"}
+# `ou` and `vd` take 40 s and let half a vehicle a second through, `ov` and `ud` 120 s, the bridge `uv` 40 s. Without it
+# half go each way, and all take 160 s. With it all take `ou`, `uv`, `vd` for 40 s, until `ou` costs 40 s more; then
+# half take `ov`, so that 80 s later the queue of `vd` grows to 40 s, and from then on nobody takes the bridge: all
+# take 200 s.
+BRAESS = {"setup": "step_ms,slots,origin_capacity,signals\n1000,500,32,1\n",
+          "links": LINKS + "ou,o,u,400,36,18,300\nov,o,v,1200,36,18,300\nud,u,d,1200,36,18,300\nvd,v,d,400,36,18,300\n"
+                           "uv,u,v,400,36,18,300\n",
+          "demand": "origin,destination,from_slot,to_slot,vehicles\no,d,0,160,160\n",
+          "splits": "node,destination,from_slot,weights\no,d,0,ou=1 ov=1\nu,d,0,ud=1\nv,d,0,vd=1\n",
+          "signals": SIGNALS + "ou,0,500,0.5\nvd,0,500,0.5\n"}
+
+
+class Hand(FolderTest):
+    """A test that assigns a case worked by hand."""
+
+    def found(self, files: "dict[str, str]", **options: object) -> "Assignment":
+        made = Assignment(Case.read(self.case(**files)), Options(**options))  # type: ignore[arg-type]
+        self.seconds = [one.look.spent / 10**6 for one in made.run(BUILT)]
+        return made
+
+    def weights(self, made: "Assignment", node: str, periods: int) -> "list[dict[str, int]]":
+        """The weights at a node in the first periods."""
+        links = [link for link in range(len(made.net.names)) if made.net.links[link].tail == node]
+        return [{made.net.names[link]: int(made.best[period, link, 0]) for link in links if made.best[period, link, 0]}
+                for period in range(periods)]
+
+
+@needs_numpy
+@needs_splits
+class ByHand(Hand):
+    def test_two_routes(self) -> None:
+        """Times are equal once both are used, and the shares those worked by hand to the thousandth: 60 vehicles take
+        40 s and 30 in the queue, 120 take 100 s."""
+        made = self.found(TWO, period_ms=60_000, iterations=8, size=2.0)
+        self.assertEqual(self.weights(made, "o", 3), [{"fast": 1000}, *2 * [{"fast": 500, "slow": 500}]])
+        assert made.best_one is not None
+        self.assertEqual(made.best_one.look.spent, 16_200_000_000)
+        self.assertLess(made.best_one.look.regret, 1000)  # a thousandth of a vehicle second
+        made.best_case().write(self.folder / "made")
+        with Session(self.folder / "made", program=BUILT) as session:
+            self.assertEqual([session.time("fast", slot).ms for slot in (0, 30, 60, 61, 120, 179)],
+                             [40_000, 70_000, *4 * [100_000]])
+
+    def test_braess(self) -> None:
+        """The bridge makes all but the first slower: 40 vehicles take 140 s in the mean, 40 take 180, 80 take 200."""
+        made = self.found(BRAESS, period_ms=40_000, iterations=20, size=2.0)
+        for weights, ou in zip(self.weights(made, "o", 4), (1000, 500, 500, 500)):
+            self.assertAlmostEqual(weights["ou"], ou, delta=30)
+        for weights, uv in zip(self.weights(made, "u", 6), (1000, 1000, 1000, 1000, 0, 0)):
+            self.assertAlmostEqual(weights.get("uv", 0), uv, delta=100)
+        self.assertEqual(self.seconds[0], 160 * 160)
+        assert made.best_one is not None
+        self.assertAlmostEqual(made.best_one.look.spent / 10**6, 28_800, delta=60)
+        self.assertLess(made.best_one.look.per_cent, 0.1)
+
+    def test_no_queues(self) -> None:
+        """Where nobody queues, free-flow routes are the answer, and no share changes."""
+        made = self.found({**TWO, "signals": SIGNALS, "splits": TWO["splits"].replace("slow", "fast")}, until=-1.0)
+        self.assertEqual((len(self.seconds), self.seconds[0], made.best_one.look.regret),  # type: ignore[union-attr]
+                         (1, 180 * 40, 0.0))
+
+    def test_swings(self) -> None:
+        """With steps by which all go over to what was the best way it swings, and smaller ones end that."""
+        made = self.found(TWO, period_ms=60_000, iterations=25, size=20.0)
+        # 180 who all take `fast`, 130 s in the mean, and 60 who take it, 70 s, beside 120 by `slow`
+        self.assertEqual(self.seconds[1:5], [23_400, 16_200, 23_400, 16_200])
+        assert made.best_one is not None
+        self.assertLess(made.best_one.look.per_cent, 1)
+
+
+@needs_numpy
+@needs_splits
+class LinkTimes(FolderTest):
+    def test_of_the_program(self) -> None:
+        """Of all links at all slots: what the program answers to `time`."""
+        asked = 0
+        for name in ("incident", "closures", "spillback", "detour", "evening", "merge", "lane_drop"):
+            case = Case.read(EXAMPLES / name)
+            step, boundaries = case.setup.step_ms, numpy.arange(case.setup.slots)
+            with Session(EXAMPLES / name, program=BUILT) as session:
+                for link in case.links:
+                    _, entered, left = session.curve(link.name)
+                    moments = passed(numpy.array(entered), numpy.array(left), link.free_ms, link.capacity(step), step,
+                                     boundaries)
+                    for slot, moment in enumerate(moments.tolist()):
+                        told = session.time(link.name, slot).ms
+                        self.assertEqual(told, moment - slot * step if entered[slot] <= left[-1] else None,
+                                         (name, link.name, slot))
+                        asked += 1
+        self.assertGreater(asked, 3000)
+
+    def test_what_is_shut(self) -> None:
+        """Who comes to a link whose entry is shut in the slots 0 and 1 enters at 2 s, and takes 2 s; who would leave in
+        slot 4, in which the exit is shut, leaves right behind it."""
+        case = Case.read(self.case(setup="step_ms,slots,origin_capacity,signals,limits\n1000,8,32,1,1\n",
+                                   signals=SIGNALS + "a,4,5,0\n", limits=SIGNALS + "a,0,2,0\n"))
+        net = Net(case)
+        entered = numpy.array([0, 0, 0, 500, 1000, 1000, 1000, 1000, 1000])[:, None]
+        left = numpy.array([0, 0, 0, 0, 0, 0, 500, 1000, 1000])[:, None]
+        found = leaving(net, Gates(net.limits(case.limits), net.limits(case.signals)), entered, left)[:, 0]
+        self.assertEqual(found.tolist(), [4000, 4000, 4000, 6000, 7000, 7000, 8000, 9000, 10000])
+
+
+@needs_numpy
+@needs_splits
+class Command(FolderTest):
+    def assign(self, *words: str) -> "tuple[int, str, str]":
+        return commands.run("assign", str(self.folder / "case"), "-o", str(self.folder / "made"), "--program",
+                            str(BUILT), "--period", "1", *words)
+
+    def texts(self, name: str = "made") -> "dict[str, bytes]":
+        return {path.name: path.read_bytes() for path in Path(self.folder, name).iterdir()}
+
+    def test_result(self) -> None:
+        """It tells each iteration, the best is written, and another run, and one in many sessions, write the same."""
+        self.case(**TWO, nodes="name,x,y\no,0,0\nd,100,0\n")
+        status, out, err = self.assign("--iterations", "3")
+        self.assertEqual((status, err, len(out.splitlines())), (0, "", 7), out + err)
+        self.assertEqual(out.splitlines()[0], "2 links, 1 destination, 7 periods of 1 minutes")
+        first = self.texts()
+        rows = list(csv.DictReader(first["iterations.csv"].decode().splitlines()))
+        self.assertEqual([row["iteration"] for row in rows], ["0", "1", "2", "3"])
+        self.assertEqual(rows[0]["spent"], "18000.000000")
+        best = min(rows, key=lambda row: float(row["regret"]))
+        with Session(self.folder / "made", program=BUILT) as session:
+            self.assertEqual(session.delay().spent, round(float(best["spent"]) * 10**6))
+        self.assertIn("nodes.csv", first)
+        with patch.object(Engine, "MOST_ASKED", 9):
+            self.assertEqual(self.assign("--iterations", "3")[0], 0)
+        self.assertEqual(self.texts(), first)
+
+    def test_goes_on_from(self) -> None:
+        """From the shares that were found the first iteration is the best of before."""
+        self.case(**TWO)
+        self.assign("--iterations", "4")
+        before = list(csv.DictReader((self.folder / "made/iterations.csv").read_text().splitlines()))
+        self.assign("--iterations", "0", "--from", str(self.folder / "made"))
+        after = list(csv.DictReader((self.folder / "made/iterations.csv").read_text().splitlines()))
+        self.assertEqual((len(after), after[0]["regret"]), (1, min((row["regret"] for row in before), key=float)))
+
+    def test_stopped(self) -> None:
+        """Where it is interrupted the best so far is kept."""
+        self.case(**TWO)
+        with patch("ltm_tools.commands.assign.time.monotonic", side_effect=[0, 1, 2, KeyboardInterrupt]):
+            status, out, err = self.assign()
+        self.assertEqual((status, err), (0, ""))
+        self.assertIn("stopped: the best so far is kept", out)
+        self.assertEqual(len((self.folder / "made/iterations.csv").read_text().splitlines()), 4)
+
+    def test_picture(self) -> None:
+        """`plot` draws the iterations of an assigned case, and no other."""
+        self.case(**TWO)
+        self.assign("--iterations", "1")
+        words = "plot", "iterations", str(self.folder / "made"), str(self.folder / "made.png")
+        if not libraries.missing(("matplotlib",)):
+            self.assertEqual(commands.run(*words), (0, "", ""))
+            self.assertGreater((self.folder / "made.png").stat().st_size, 10_000)
+        # by `slow` all lose 60 of 100 s
+        spent, regret = read_iterations(self.folder / "made")
+        self.assertEqual((spent[0], round(regret[0], 9)), (18_000_000_000, 60.0))
+        self.assertRaisesRegex(Fault, "iterations.csv is not there: `ltm-tools assign` writes it", read_iterations,
+                               self.folder / "case")
+
+    def test_gap(self) -> None:
+        """Where the program tells a gap, its line on the result stands last."""
+        self.case(**TWO)
+        with patch("ltm_tools.commands.assign.has_command", return_value=True), \
+                patch("ltm_tools.commands.assign.output", return_value=b"version 0 gap 1.000000\nto d 1\n") as asked:
+            self.assertEqual(self.assign("--iterations", "0")[1].splitlines()[-1], "version 0 gap 1.000000")
+        asked.assert_called_once_with(str(self.folder / "made"), "gap", program=str(BUILT))
+
+    def test_late(self) -> None:
+        """Who is not there by the end is told by destination: 180 less the 60 who took `slow` in time."""
+        self.case(**{**TWO, "setup": TWO["setup"].replace("400", "160"),
+                     "demand": TWO["demand"].replace("180,", "160,"), "signals": SIGNALS})
+        status, out, _ = self.assign("--iterations", "0")
+        self.assertEqual(status, 0)
+        self.assertIn("120.000 vehicles are not there by the end of the horizon: 120.000 for d;", out)
+
+    def test_faults(self) -> None:
+        self.case(**TWO)
+        for words, told in ((("--period", "0.01"), "a period of 600 ms is no whole number of steps of 1000 ms"),
+                            (("--method", "dice"), "'dice' is no method: gradient, averages, self-regulating are"),
+                            (("--from", str(EXAMPLES / "closures")), "no split row there is of a node")):
+            status, out, err = self.assign(*words)
+            self.assertEqual((status, out, len(err.splitlines())), (1, "", 1), out + err)
+            self.assertIn(told, err)
+        self.case(**{**TWO, "demand": "origin,destination,from_slot,to_slot,vehicles\n"})
+        self.assertIn("nobody seeks a way", self.assign()[2])
+        self.assertFalse((self.folder / "made").exists())
+
+    def test_no_way(self) -> None:
+        """A case whose splits send somebody where no links lead on."""
+        self.case(**{**TWO, "links": LINKS + "there,o,p,400,36,18,300\nback,p,o,400,36,18,300\nin,d,o,400,36,18,300\n",
+                     "splits": "node,destination,from_slot,weights\no,d,0,there=1\np,d,0,back=1\n", "signals": SIGNALS})
+        self.assertIn("no links lead from o to d: add a link, or take the demand out", self.assign()[2])
+
+
+if __name__ == "__main__":
+    unittest.main()

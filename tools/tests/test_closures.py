@@ -1,0 +1,85 @@
+"""What closures cost, worked by hand where nobody and where all find another way; here, in processes and on a
+cluster."""
+import csv
+import unittest
+
+import commands
+from support import BUILT, FolderTest, needs_splits
+from test_assign import SIGNALS, TWO, needs_numpy
+from test_cluster import ClusterTest, needs_dask
+
+# TWO with the shares at which nobody gains. Its hours are 60 x 70 s, by `fast` with half a minute in its queue, and
+# 120 x 100 s. Then `fast` is shut for three minutes from 1:00 on:
+# nobody finds another way: the 120 who set out from then on wait at o, at first three minutes and at last two; from
+#                           4:00 on two a second go on, half of them by `fast`, where they wait 30 s in the mean
+# all:   they take `slow`, which half of them do anyway, and to the others it is no slower
+ASSIGNED = {**TWO, "splits": "node,destination,from_slot,weights\no,d,0,fast=1\no,d,60,fast=1 slow=1\n"}
+OPEN = 60 * 70 + 120 * 100
+NOBODY = 60 * 70 + 120 * 150 + 60 * 70 + 60 * 100
+TIMES = ("--from", "7:01", "--to", "7:04", "--start", "7:00", "--period", "1", "--step", "2")
+
+
+def closures(folder: str, *words: str) -> "tuple[int, str, str]":
+    return commands.run("closures", folder, "--program", str(BUILT), *words)
+
+
+@needs_numpy
+@needs_splits
+class ByHand(FolderTest):
+    def test_nobody_and_all(self) -> None:
+        status, out, err = closures(str(self.case(**ASSIGNED)), *TIMES, "--links", "fast", "--respond", "nobody", "all",
+                                    "0", "--format", "csv")
+        self.assertEqual((status, err), (0, ""))
+        rows = list(csv.DictReader(out.splitlines()))
+        self.assertEqual([(row["respond"], float(row["spent"]), float(row["cost"])) for row in rows],
+                         [("nobody", NOBODY, NOBODY - OPEN), ("all", OPEN, 0), ("0", NOBODY, NOBODY - OPEN)])
+        self.assertEqual({(row["link"], row["from_ms"], row["to_ms"], row["vehicles"], row["not_there"])
+                          for row in rows},
+                         {("fast", "25260000", "25440000", "60.000", "0.000")})
+
+    def test_table(self) -> None:
+        """The busiest links first; two processes tell the same."""
+        words = *TIMES, "--respond", "nobody", "10", "--iterations", "2", "--busiest", "2"
+        status, out, err = closures(str(self.case(**ASSIGNED)), *words)
+        self.assertEqual((status, err), (0, ""))
+        lines = out.splitlines()
+        self.assertEqual(lines[1], "open: 4.50 vehicle hours, turn regret 0.00 %, late 0.000")
+        self.assertEqual(lines[3].split(), ["link", "vehicles", "nobody", "late", "10", "%", "late"])
+        self.assertEqual([line.split()[:4] for line in lines[4:]], [["fast", "60.000", "4.50", "0.000"],
+                                                                     ["slow", "60.000", "4.50", "0.000"]])
+        self.assertEqual(closures(str(self.case(**ASSIGNED)), *words, "--processes", "2")[1], out)
+
+    def test_shares_that_are_none(self) -> None:
+        """Where the shares of the open case are no answer it says so: all by `slow` though `fast` is free."""
+        out = closures(str(self.case(**TWO)), *TIMES, "--respond", "nobody", "--links", "slow")[1]
+        self.assertIn("the shares of the open case have a turn regret of 60.00 %", out)
+
+    def test_faults(self) -> None:
+        self.case(**ASSIGNED)
+        for words, told in (((*TIMES, "--respond", "some"), "--respond 'some': it is nobody, half, all, or whole per"),
+                            ((*TIMES, "--links", "none"), "the case has no link none"),
+                            (("--from", "0:01", "--to", "0:09"), "--to 0:09 is not where a slot of 1000 ms begins"
+                             " within the horizon, 0:00 to 0:06:40"),
+                            (("--from", "0:02", "--to", "0:02"), "--from is not before --to"),
+                            ((*TIMES, "--iterations", "0"), "--iterations and --processes are at least 1")):
+            status, out, err = closures(str(self.folder / "case"), *words)
+            self.assertEqual((status, out, len(err.splitlines())), (1, "", 1), out + err)
+            self.assertIn(told, err)
+
+
+@needs_dask
+@needs_numpy
+@needs_splits
+class Cluster(ClusterTest):
+    def test_as_here(self) -> None:
+        """On a cluster the costs are those of one machine."""
+        address, _, _ = self.cluster(1)
+        folder = str(self.case(**ASSIGNED, limits=SIGNALS))
+        words = *TIMES, "--respond", "nobody", "half", "--iterations", "1", "--format", "csv"
+        here = closures(folder, *words)
+        self.assertEqual((here[0], len(here[1].splitlines())), (0, 5))
+        self.assertEqual(closures(folder, *words, "--scheduler", address), here)
+
+
+if __name__ == "__main__":
+    unittest.main()
