@@ -24,7 +24,6 @@ if TYPE_CHECKING:
 NAME = "closures"
 SUMMARY = "tell what it costs to shut links, where nobody, a share or all of those who pass find another way"
 EXAMPLES = """\
-    ltm-tools assign CASE -o ASSIGNED
     ltm-tools closures ASSIGNED --from 7:10 --to 7:25 --start 7:00
     ltm-tools closures ASSIGNED --from 7:10 --to 7:25 --start 7:00 --links a b --respond nobody 10 half all
 
