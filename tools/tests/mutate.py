@@ -1,7 +1,7 @@
 """Runs commands over files that are changed at random, in this process: each is to end within ten seconds with status
 0, or with one line and status 1, and to leave no file that was not asked for.
 
-    PYTHONPATH=tools:tools/tests python3 tools/tests/mutate.py --seed 7 --count 30000
+    PYTHONPATH=tools python3 tools/tests/mutate.py --seed 7 --count 30000
 
 Each run is made of the seed and its number, so that `--first N --count 1` makes run N again; `--show` tells what it
 changes.
@@ -188,7 +188,7 @@ def mutations(folder: Path, seed: int, first: int, count: int) -> Iterator[Bad]:
 
 
 def main() -> int:
-    parser = argparse.ArgumentParser(description=__doc__.splitlines()[0] if __doc__ else "")
+    parser = argparse.ArgumentParser(description=__doc__, formatter_class=argparse.RawDescriptionHelpFormatter)
     parser.add_argument("--seed", type=int, default=int(time.time()))
     parser.add_argument("--first", type=int, default=0)
     parser.add_argument("--count", type=int, default=1000)

@@ -1,5 +1,5 @@
 """The documents, and the examples that a command's help shows: each command line of the tools has words that its
-command takes, and a folder or file below /tmp is made by one command alone."""
+command takes, each link leads to a file, and a folder or file below /tmp is made by one command alone."""
 import contextlib
 import functools
 import io
@@ -13,6 +13,7 @@ from ltm_tools import cli
 
 DOCUMENTS = sorted([CLONE / "README.md", *(CLONE / "docs").glob("*.md"), *(CLONE / "examples").glob("**/README.md")])
 TOOL = re.compile(r"(?:\$ )?(?:tools/)?ltm-tools (?=[a-z-])")
+LINK = re.compile(r"\]\(([^)#\s]+)(?:#[^)\s]*)?\)")
 OPERATORS = (">", ">>", "<", "|", "&&", ";", "2>", "2>&1")
 NAME = r"(/tmp/[\w.]+)(?![\w./])"
 MADE = tuple(before + NAME for before in (r"cp -r \S+ ", r"ltm-tools (?:apply|from-gmns) \S+(?: \S+)? ", ">",
@@ -70,6 +71,16 @@ class Words(unittest.TestCase):
                                             "    $ tools/ltm-tools queues a >b   note\nltm-tools no\n")),
                          [["times", "a", "b", "--links", "--x"], ["queues", "a"]])
         self.assertIn("unrecognized arguments: --links", fault_of(["times", "a", "b", "--links"]))
+
+
+class Links(unittest.TestCase):
+    def test_each_leads_to_a_file_that_is_there(self) -> None:
+        """Pictures too; addresses are passed over."""
+        found = [(path, target) for path in DOCUMENTS for target in LINK.findall(path.read_text(encoding="utf-8"))
+                 if "://" not in target]
+        self.assertGreater(len(found), 100)
+        self.assertEqual([f"{path.relative_to(CLONE)}: {target}" for path, target in found
+                          if not (path.parent / target).exists()], [])
 
 
 class Folders(unittest.TestCase):
