@@ -11,7 +11,7 @@ from support import BUILT, EXAMPLES, FolderTest, needs_program, needs_splits
 from ltm_tools import edits
 from ltm_tools.errors import Fault
 from ltm_tools.loading.delay import Delay, Wait
-from ltm_tools.loading.session import Refused, Session
+from ltm_tools.loading.session import Ended, Refused, Session
 from ltm_tools.program import output
 
 DATA = Path(__file__).resolve().parent / "data"
@@ -191,6 +191,12 @@ class Made(FolderTest):
                 session.totals()
         session.close()
         self.assertRaisesRegex(Fault, "ltm session 0 has ended", session.totals)
+
+    def test_half_an_answer(self) -> None:
+        """What is cut off as the program ends is no answer."""
+        program = self.program('sys.stdin.readline()\nprint("settled version 1 recomputed 12", end="", flush=True)')
+        with self.assertRaisesRegex(Ended, "recomputed 12"), Session(self.case(), program=program) as session:
+            session.settle()
 
     def test_no_program(self) -> None:
         with self.assertRaisesRegex(Fault, "nowhere is no program that can be run"):
