@@ -152,7 +152,7 @@ const ltmMap = (() => {
       all.forEach((way, link) => {
         const text = shows.label(link);
         if (!text || Math.hypot(way[way.length - 1][0] - way[0][0], way[way.length - 1][1] - way[0][1]) < 55) return;
-        const [x, y] = middleOf(beside(way, 12));
+        const [x, y] = middleOf(beside(way, 20));
         pen.lineWidth = 3;
         pen.strokeStyle = "rgba(246, 247, 249, .9)";
         pen.strokeText(text, x, y);
