@@ -10,7 +10,8 @@ from ..formats import LONGEST_SECONDS, clock_ms, count_text, exact_or_none
 from ..sumo.importing import import_sumo, steps_of_sumo
 from ..sumo.options import SumoOptions
 from .arguments import whole
-from .imports import above_0, add_crossing_arguments, add_network_arguments, network_options, run_import
+from .imports import (above_0, add_crossing_arguments, add_network_arguments, add_route_arguments, network_options,
+                      run_import)
 
 NAME = "from-sumo"
 SUMMARY = "make a case of a network of SUMO, with routes and signals"
@@ -32,9 +33,7 @@ def add_arguments(parser: argparse.ArgumentParser) -> None:
     parser.add_argument("files", nargs="*", help="vehicles, trips or flows, and programs of signals")
     parser.add_argument("case", help="the folder to write the case into")
     add_network_arguments(parser)
-    crossings = add_crossing_arguments(parser)
-    crossings.add_argument("--volumes", metavar="ROUTES",
-                           help="the vehicles by which traffic at crossings is counted (those of the case)")
+    add_route_arguments(add_crossing_arguments(parser))
     parser.set_defaults(rename=True)
     group = parser.add_argument_group("what is read")
     group.add_argument("--begin", metavar="TIME", help="when slot 0 begins, as 7:00 or in seconds (the quarter of an"

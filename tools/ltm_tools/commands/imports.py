@@ -5,6 +5,7 @@ from __future__ import annotations
 import argparse
 import sys
 from collections.abc import Callable
+from dataclasses import replace
 from fractions import Fraction
 from typing import Any, TypeVar
 
@@ -75,18 +76,24 @@ def add_crossing_arguments(parser: argparse.ArgumentParser) -> argparse._Argumen
                        " commas between (signals)")
     group.add_argument("--turn-length", type=whole, default=CrossingOptions.length_m, metavar="M",
                        help="the metres before a crossing on which a turn has lanes of its own (98)")
-    group.add_argument("--lanes", choices=("full", "counted"), default="full",
-                       help="whether a turn has all lanes that serve it, or of each the part that its vehicles take by"
-                       " the counted routes, which then must not change (full)")
     group.add_argument("--permissive", type=permissive_argument, metavar="HOW",
                        help="how much of its green a turn gets that yields in it: gaps, a share as 0.5, or free (gaps)")
     group.add_argument("--gap", type=gap_argument, metavar="TC,TF,N",
                        help="for gaps: the critical gap and the follow-up time in seconds, and how many of a lane go"
                        " when the green ends (4.5,2.2,1)")
+    return group
+
+
+def add_route_arguments(group: argparse._ArgumentGroup) -> None:
+    """The arguments on crossings of a source that has routes."""
+    group.add_argument("--lanes", choices=("full", "counted"), default="full",
+                       help="whether a turn has all lanes that serve it, or of each the part that its vehicles take by"
+                       " the counted routes, which then must not change (full)")
     group.add_argument("--origins", choices=("edge", "node"), default="edge",
                        help="whether trips begin on the first link of their route, or at its node, where they may take"
                        " each link (edge)")
-    return group
+    group.add_argument("--volumes", metavar="ROUTES",
+                       help="the vehicles by which traffic at crossings is counted (those of the case)")
 
 
 def permissive_argument(text: str) -> Fraction | None:
@@ -114,8 +121,9 @@ def crossing_options(args: argparse.Namespace) -> CrossingOptions:
         raise Fault("--gap goes with --permissive gaps alone")
     words = {"signals", "all", "none"}
     names = tuple(name for name in args.turns.split(",") if name)
-    return CrossingOptions(turns=args.turns if args.turns in words else names, length_m=args.turn_length,
-                           lanes=args.lanes, permissive=args.permissive or args.gap or Gap(), origins=args.origins)
+    made = CrossingOptions(turns=args.turns if args.turns in words else names, length_m=args.turn_length,
+                           permissive=args.permissive or args.gap or Gap())
+    return replace(made, lanes=args.lanes, origins=args.origins) if hasattr(args, "lanes") else made
 
 
 def network_options(args: argparse.Namespace) -> dict[str, Any]:

@@ -5,9 +5,10 @@ part. What is rounded off is carried on, so that over any time a link loses less
 """
 from __future__ import annotations
 
-from collections.abc import Iterable, Mapping, Sequence
+from collections.abc import Mapping, Sequence
 from dataclasses import dataclass
 from fractions import Fraction
+from math import lcm
 
 from ..case import Limit
 from ..errors import Fault
@@ -24,11 +25,11 @@ class Green:
     offset_ms: int = 0
     share: Fraction = Fraction(1)
 
-    def by(self, time_ms: int) -> Fraction:
-        """The green in ms, by its share, up to a time, from the beginning of a cycle that lies before 0."""
+    def whole_by(self, time_ms: int) -> int:
+        """The green in ms, whatever its share, up to a time, from the beginning of a cycle that lies before 0."""
         rounds, rest = divmod(time_ms - self.offset_ms % self.cycle_ms + self.cycle_ms, self.cycle_ms)
         length = self.to_ms - self.from_ms
-        return self.share * (rounds * length + min(max(rest - self.from_ms, 0), length))
+        return rounds * length + min(max(rest - self.from_ms, 0), length)
 
 
 @dataclass(frozen=True, slots=True)
@@ -55,30 +56,48 @@ def exit_limits(plan: Plan, *, capacity: int, step_ms: int, slots: int) -> list[
     limit are one. A slot that is green as a whole has none."""
     first, last = max(0, plan.start_ms // step_ms), min(slots, -(-plan.end_ms // step_ms))
     limits: list[Limit] = []
+    let = Let(plan)
+    start = max(first * step_ms, plan.start_ms)
     for slot in range(first, last):
-        start, end = max(slot * step_ms, plan.start_ms), min((slot + 1) * step_ms, plan.end_ms)
+        end = min((slot + 1) * step_ms, plan.end_ms)
         off = step_ms - (end - start)
-        green = green_between(plan.greens, start, end) + off
-        if green >= step_ms:
-            continue
-        units = min(MOST_SLOT_UNITS, let_by(plan, capacity, step_ms, end) - let_by(plan, capacity, step_ms, start)
-                    + capacity * off // step_ms)
-        if limits and limits[-1].to_slot == slot and limits[-1].units == units:
-            limits[-1] = Limit(plan.link, limits[-1].from_slot, slot + 1, units)
-        else:
-            limits.append(Limit(plan.link, slot, slot + 1, units))
+        if let.green(start, end) + let.parts * off < let.parts * step_ms:
+            units = min(MOST_SLOT_UNITS, let.units(end, capacity, step_ms) - let.units(start, capacity, step_ms)
+                        + capacity * off // step_ms)
+            if limits and limits[-1].to_slot == slot and limits[-1].units == units:
+                limits[-1] = Limit(plan.link, limits[-1].from_slot, slot + 1, units)
+            else:
+                limits.append(Limit(plan.link, slot, slot + 1, units))
+        start = end
     return limits
 
 
-def let_by(plan: Plan, capacity: int, step_ms: int, time: int) -> int:
-    """The thousandths of vehicles that a plan lets pass from its start to a time."""
-    exact = capacity * green_between(plan.greens, plan.start_ms, time) / step_ms
-    return exact.numerator // exact.denominator
+class Let:
+    """What a plan lets pass, in whole numbers: green times count in parts of a millisecond, as many as make the shares
+    of all greens whole."""
 
+    def __init__(self, plan: Plan) -> None:
+        self.start = plan.start_ms
+        self.parts = lcm(*(green.share.denominator for green in plan.greens))
+        self.greens = [(green, int(green.share * self.parts)) for green in plan.greens]
+        self.known: dict[int, int] = {}
+        self.begun = self.by(plan.start_ms)
 
-def green_between(greens: Iterable[Green], start: int, end: int) -> Fraction:
-    """The green in ms between two times, by the shares of the greens, and at most the time between."""
-    return min(sum((green.by(end) - green.by(start) for green in greens), Fraction(0)), Fraction(end - start))
+    def by(self, time: int) -> int:
+        """The green up to a time, from the beginning of cycles that lie before 0."""
+        if time not in self.known:
+            self.known[time] = sum(share * green.whole_by(time) for green, share in self.greens)
+        return self.known[time]
+
+    def green(self, start: int, end: int) -> int:
+        """The green between two times, and at most the time between."""
+        return min(self.by(end) - self.by(start), self.parts * (end - start)) if start < end else 0
+
+    def units(self, time: int, capacity: int, step_ms: int) -> int:
+        """The thousandths of vehicles that pass from the plan's start to a time, of a link that takes a capacity in a
+        step."""
+        green = min(self.by(time) - self.begun, self.parts * (time - self.start))
+        return capacity * green // (self.parts * step_ms)
 
 
 def even_limits(plan: Plan, *, capacity: int, step_ms: int, slots: int) -> list[Limit]:
