@@ -12,7 +12,7 @@ from ..case import Case
 from ..case.clock import start_of
 from ..errors import Fault
 from ..formats import MINUTE_MS, clock_text, counted, exact_or_none, vehicles_text
-from ..listing import HOURS, Cell, percent, seconds, text_table, vehicles
+from ..listing import HOURS, Cell, seconds, text_table, vehicles
 from ..network.source import links_named
 from .arguments import (add_format_arguments, add_program_argument, add_start_argument, clock, minutes, number, whole,
                         write_table)
