@@ -63,6 +63,11 @@ class Balance(unittest.TestCase):
         self.assertNotEqual(one.length, 300)
         self.assertEqual((one.kmh, one.jam), (36, 150))
 
+    def test_a_route_that_nobody_drives_changes_nothing(self) -> None:
+        fit = fitted(300, 20, 300)
+        balance(fit, [used(fit, "r0 r1 r2", 0)])
+        self.assertEqual([change.kind for change in fit.changes], ["lengthened"])
+
     def test_where_nothing_is_off_nothing_changes(self) -> None:
         fit = fitted(300, 100, 300)
         balance(fit, [used(fit, "r0 r1 r2")])

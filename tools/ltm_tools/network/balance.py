@@ -33,7 +33,7 @@ class Used:
 
 def balance(fit: Fit, routes: Iterable[Used]) -> None:
     """Changes the roads of a fitted network for its most used routes, and notes each change."""
-    chosen = sorted((route for route in routes if route.roads and route.time),
+    chosen = sorted((route for route in routes if route.roads and route.time and route.units),
                     key=lambda route: (-route.units, route.roads))[:MOST_ROUTES]
     off = [float(sum((fit.network.roads[name].time for name in route.roads), Fraction(0)) - route.time)
            for route in chosen]

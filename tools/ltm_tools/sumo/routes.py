@@ -10,6 +10,7 @@ import xml.etree.ElementTree as ElementTree
 from collections.abc import Iterator
 from dataclasses import dataclass, field
 from fractions import Fraction
+from math import lcm
 from pathlib import Path
 
 from ..errors import Fault
@@ -257,8 +258,11 @@ def single(begin: Fraction, end: Fraction, count: int, what: str) -> Iterator[tu
     if count > MOST_DEPARTURES:
         raise Fault(f"{what}: {count_text(count)} vehicles, and at most {count_text(MOST_DEPARTURES)} may set out in"
                     f" all")
+    parts = lcm(begin.denominator, end.denominator) * count  # of a second, in which all moments are whole
+    first, span = int(begin * parts), int((end - begin) * parts) // count if count else 0
     for number in range(count):
-        yield int((begin + (end - begin) * number / count) * 1000), UNITS
+        moment = (first + span * number) * 1000
+        yield moment // parts if moment >= 0 else -(-moment // parts), UNITS
 
 
 def by_rate(begin: Fraction, end: Fraction, rate: Fraction) -> Iterator[tuple[int, int]]:
