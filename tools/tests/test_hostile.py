@@ -235,14 +235,18 @@ class Interrupts(Hostile):
             calls = self.interrupted(run, sys.maxsize)
             for part in range(self.PARTS):
                 self.interrupted(run, calls * part // self.PARTS)
+            writing = self.interrupted(run, sys.maxsize, "write_beside")
+            for number in range(1, 1 + writing, 1 + writing // 4):
+                self.interrupted(run, number, "write_beside")
 
-    def interrupted(self, run: Run, number: int) -> int:
-        """Runs a command up to the call with a number: how many calls there were."""
+    def interrupted(self, run: Run, number: int, inside: str = "") -> int:
+        """Runs a command up to the call with a number, of Python's own functions within one of this name where that is
+        told: how many calls there were."""
         count, frames = 0, ("__del__", "uninterrupted")
 
         def profile(frame: FrameType, event: str, _: object) -> None:
             nonlocal count
-            count += event == "call"
+            count += event == "c_call" and frame.f_code.co_name == inside if inside else event == "call"
             if count >= number and frame.f_code.co_name not in frames and not signal.pthread_sigmask(0, ()):
                 sys.setprofile(None)
                 raise KeyboardInterrupt
