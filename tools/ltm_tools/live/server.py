@@ -101,7 +101,8 @@ class KeptFile(Guarded):
 
     async def post(self, name: str) -> None:
         guard, desk = self.site.guard, self.site.desk
-        if not (guard.knows(self.request.headers.get("X-Token")) and guard.is_ours(self.request.headers.get("Origin"))):
+        headers = self.request.headers
+        if not (guard.knows(headers.get("X-Token")) and guard.is_ours(headers.get("Origin"))):
             self.refuse()
             return
         make: Callable[[Scenario], bytes] = {"script.jsonl": lambda scenario: script_of(scenario.entries),
