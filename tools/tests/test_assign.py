@@ -128,10 +128,10 @@ class LinkTimes(FolderTest):
         case = Case.read(self.case(setup="step_ms,slots,origin_capacity,signals,limits\n1000,8,32,1,1\n",
                                    signals=SIGNALS + "a,4,5,0\n", limits=SIGNALS + "a,0,2,0\n"))
         net = Net(case)
-        entered = numpy.array([0, 0, 0, 500, 1000, 1000, 1000, 1000, 1000])[:, None]
+        entered = numpy.array([0, 0, 0, 0, 1000, 1000, 1000, 1000, 1000])[:, None]
         left = numpy.array([0, 0, 0, 0, 0, 0, 500, 1000, 1000])[:, None]
         found = leaving(net, Gates(net.limits(case.limits), net.limits(case.signals)), entered, left)[:, 0]
-        self.assertEqual(found.tolist(), [4000, 4000, 4000, 6000, 7000, 7000, 8000, 9000, 10000])
+        self.assertEqual(found.tolist(), [4000, 4000, 4000, 5001, 7000, 7000, 8000, 9000, 10000])
 
 
 @needs_numpy
