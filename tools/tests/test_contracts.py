@@ -53,6 +53,17 @@ class Reads(unittest.TestCase):
         self.assertEqual([[number for number, _ in it.lines] for it in functions()], [[4, 7], [], [15]])
 
 
+class Heads(unittest.TestCase):
+    def test_each_of_the_four_lines_is_asked_for(self):
+        with tempfile.TemporaryDirectory() as folder:
+            lines = [f"//! - **{it}**: so." for it in contracts.HEADS]
+            (Path(folder) / "main.rt").write_text("\n".join(lines), encoding="utf-8")
+            self.assertEqual(contracts.heads_missing(Path(folder)), [])
+            (Path(folder) / "main.rt").write_text("\n".join(lines[:2] + [lines[2].replace("**", "")] + lines[3:]),
+                                                  encoding="utf-8")
+            self.assertEqual(contracts.heads_missing(Path(folder)), ["What a call costs"])
+
+
 class Prints(unittest.TestCase):
     def run_on(self, *words):
         with tempfile.TemporaryDirectory() as folder:

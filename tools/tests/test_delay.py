@@ -1,5 +1,6 @@
 """Queues and delay: against numbers worked by hand, and against the exact answers of an engine that was written without
 this one."""
+import subprocess
 import unittest
 from pathlib import Path
 from unittest import mock
@@ -152,6 +153,13 @@ class Exact(unittest.TestCase):
             told = "".join(line + "\n" for line in delay.report(loaded(str(DATA / name), None, str(BUILT)).curves,
                                                                 Case.read(DATA / name)).lines())
             self.assertEqual(told, (DATA / name / "delay.out").read_text())
+
+    @needs_program
+    def test_the_program_tells_large_times(self) -> None:
+        """Of `large_40` more than 2^64 thousandths of a vehicle times milliseconds."""
+        for name in LARGE:
+            done = subprocess.run([BUILT, "delay"], cwd=DATA / name, capture_output=True, text=True)
+            self.assertEqual((done.returncode, done.stdout), (0, (DATA / name / "delay.out").read_text()))
 
 
 class Told(FolderTest):

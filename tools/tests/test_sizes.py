@@ -10,8 +10,8 @@ from support import BUILT, ROAD, FolderTest, needs_columns, needs_program
 from ltm_tools import edits
 from ltm_tools.case import Case, Demand, Link, Setup, Split
 from ltm_tools.case.keeping import Keeper
-from ltm_tools.formats import (MOST_CURVES_BYTES, MOST_EDITS, MOST_FILE_BYTES, MOST_LINE_BYTES, MOST_SPLIT_ROWS,
-                               vehicles_text)
+from ltm_tools.formats import (MOST_CELLS, MOST_CURVES_BYTES, MOST_EDITS, MOST_FILE_BYTES, MOST_LINE_BYTES,
+                               MOST_SPLIT_ROWS, vehicles_text)
 
 ROADS = 4  # of the long case, one behind the other
 SLOTS = 10_000  # of the long case
@@ -49,6 +49,22 @@ def long_curves() -> str:
         lines += [f"up,a{road},{end},{passed[road]}", f"down,a{road},{end},{passed[road + 1]}"]
     lines += [f"dep,n{node},{end},{none if node else passed[0]}" for node in range(ROADS + 1)]
     return "\n".join([*lines, f"arr,{end},{end},{passed[ROADS]}", ""])
+
+
+@needs_columns
+class ManyCells(FolderTest):
+    def test_more_cells_than_without_asking(self) -> None:
+        """A load and a session of some 60,000,000: a vehicle drives along the first of many roads."""
+        case = Case(Setup(1000, SLOTS, 1000), row_of_roads(333), [Demand("n0", "n1", 0, 2, 1000)],
+                    [Split("n0", "n1", 0, {"a0": 1})])
+        self.assertGreater(case.cells(), MOST_CELLS)
+        case.setup.cells = case.cells()
+        case.write(self.folder / "case")
+        totals = "version 0 generated 1.000 arrived 1.000 on_links 0.000 waiting 0.000"
+        status, lines = told("load", folder=self.folder / "case")
+        self.assertEqual((status, lines.splitlines()[0]), (0, totals))
+        self.assertEqual(told("session", "0", folder=self.folder / "case", script='{"do": "totals"}\n'),
+                         (0, totals + "\n"))
 
 
 @needs_program
