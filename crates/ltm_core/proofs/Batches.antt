@@ -1,6 +1,6 @@
 -- What an accepted batch makes of a core.
-use Rattle.std.proofs.Common.{◌≡◌, ◌≢◌, ℕ, ◌+◌, ◌<◌, ◌≤◌, ◌^◌, List, ◌∷◌, Bool, inl, inr, refl, ap, sym, subst, ◌∙◌, arith}
-use Rattle.std.specs.Prelude.{Result, Ok, Err, OnOk, OnErr, IfErr}
+use Rattle.std.proofs.Common.{◌≡◌, ◌≢◌, ℕ, ◌+◌, ◌<◌, ◌≤◌, ◌^◌, List, ◌∷◌, inl, inr, refl, ap, sym, subst, ◌∙◌, arith}
+use Rattle.std.specs.Prelude.{Ok, Err}
 use Rattle.std.proofs.lemmas.Bool.{cases_eq}
 use Rattle.ltm_scenario.specs.declared.edit.Edit.{Edit}
 use Rattle.ltm_scenario.specs.declared.edit.EditFault.{EditFault}
@@ -24,7 +24,7 @@ use Rattle.ltm_working.specs.Desks.{desk_at, changed_at}
 use Rattle.ltm_working.specs.Ready.{IsReady}
 use Rattle.ltm_working.specs.Growing.{TableSeenAs}
 use Rattle.ltm_working.specs.Batches.{LeadsTo, TakesIn, touches}
-use Rattle.ltm_core.specs.Log.{Log, log_of, version_now, scenario_at, scenario_now, with_batch}
+use Rattle.ltm_core.specs.Log.{Log, version_now, scenario_at, scenario_now, with_batch}
 use Rattle.ltm_core.specs.Settling.{setting_at}
 use Rattle.ltm_core.specs.Laws.{RepairLaws}
 use Rattle.ltm_core.specs.Cores.{CoreData, desk_in, repair_of, IsNoneOut, IsAlike, IsLog, IsCore}
@@ -169,59 +169,49 @@ accepts_batch laws d batch next u t l is table shown takes few room =
       none_out = none_after laws m batch next t h ready takes few room;
     }
 
--- ---- whatever the batch came to
-pub core_after_batch : RepairLaws → (d : CoreData) (batch : List Edit) (next : ScenarioData) (u t : Table) (l : Loading) (log : Log) (r : Result (Unit {0}) (List Edit × EditFault)) → IsCore d →
-    TableSeenAs d.table u → SeenAs d.shown l → OnOk r (TakesBatch d.scenario next u t batch) → OnOk r ((setting_of next).slots ≤ loading_room l) → OnOk r (log ≡ with_batch d.log batch) →
-    OnOk r (version_now d.log + 1 < 2 ^ 63) → OnErr r (next ≡ d.scenario) → OnErr r (t ≡ u) → OnErr r (log ≡ d.log) → IsCore (record d { log = log; scenario = next; table = t; shown = l })
-core_after_batch laws d batch next u t l log (Ok x) is table shown takes room put few p q e =
-    subst (λ (z : Log). IsCore (record d { log = z; scenario = next; table = t; shown = l })) (sym put)
-    (core_after_accept laws (with_room d u l) batch next t (core_looks d u l is table shown) takes few room)
-core_after_batch laws d batch next u t l log (Err f) is table shown takes room put few p q e =
-    subst (λ (z : Log). IsCore (record d { log = z; scenario = next; table = t; shown = l })) (sym e)
-    (subst (λ (z : ScenarioData). IsCore (record d { scenario = z; table = t; shown = l })) (sym p)
-    (subst (λ (z : Table). IsCore (record d { table = z; shown = l })) (sym q) (core_looks d u l is table shown)))
-
--- the core with whatever the batch came to, and its history
+-- ---- the batch was taken in
+-- the core with the batch in its log, with more room and another history
 abbrev pub told_batch : CoreData → Log → ScenarioData → Table → Loading → List CoreEvent → CoreData
 told_batch d log next t l h = record d { log = log; scenario = next; table = t; shown = l; history = h }
 
-pub came_batch : (d : CoreData) (batch : List Edit) (next : ScenarioData) (u t : Table) (l : Loading) (log : Log) (h : List CoreEvent) (r : Result (Unit {0}) (List Edit × EditFault)) → IsCore d →
-    TableSeenAs d.table u → SeenAs d.shown l → OnOk r (TakesBatch d.scenario next u t batch) → OnOk r (log ≡ with_batch d.log batch) → OnErr r (next ≡ d.scenario) → OnErr r (t ≡ u) → OnErr r (log ≡ d.log) →
-    OnOk r (h ≡ Accept ∷ d.history) → OnErr r (h ≡ d.history) → CameBy d → CameBy (told_batch d log next t l h)
-came_batch d batch next u t l log h (Ok x) is table shown takes put p q e more still came =
-    let m : CoreData = with_room d u l in
-    let ready : IsCore m = core_looks d u l is table shown in
-    subst (λ (z : Log). CameBy (told_batch d z next t l h)) (sym put)
-    (came_more m (after_accept m batch next t) Accept h (batch, refl) more (touches d.scenario batch, core_accepted m batch next t ready takes) (came_looks d u l is table shown came))
-came_batch d batch next u t l log h (Err f) is table shown takes put p q e more still came =
-    subst (λ (z : List CoreEvent). CameBy (told_batch d log next t l z)) (sym still)
-    (subst (λ (z : Log). CameBy (record d { log = z; scenario = next; table = t; shown = l })) (sym e)
-    (subst (λ (z : ScenarioData). CameBy (record d { scenario = z; table = t; shown = l })) (sym p)
-    (subst (λ (z : Table). CameBy (record d { table = z; shown = l })) (sym q) (came_looks d u l is table shown came))))
+pub core_taken : RepairLaws → (d : CoreData) (batch : List Edit) (next : ScenarioData) (u t : Table) (l : Loading) (log : Log) (h : List CoreEvent) → IsCore d → TableSeenAs d.table u → SeenAs d.shown l →
+    TakesBatch d.scenario next u t batch → (setting_of next).slots ≤ loading_room l → version_now d.log + 1 < 2 ^ 63 → log ≡ with_batch d.log batch → IsCore (told_batch d log next t l h)
+core_taken laws d batch next u t l log h is table shown takes room few put =
+    subst (λ (z : Log). IsCore (told_batch d z next t l h)) (sym put)
+    (core_told (after_accept (with_room d u l) batch next t) h (core_after_accept laws (with_room d u l) batch next t (core_looks d u l is table shown) takes few room))
 
-pub core_tells_accept : RepairLaws → (d v : CoreData) (batch : List Edit) (next : ScenarioData) (u t : Table) (l : Loading) (log : Log) (h : List CoreEvent) (r : Result (Unit {0}) (List Edit × EditFault)) → d ≡ v → IsCore d →
-    TableSeenAs d.table u → SeenAs d.shown l → OnOk r (TakesBatch d.scenario next u t batch) → OnOk r ((setting_of next).slots ≤ loading_room l) → OnOk r (log ≡ with_batch d.log batch) →
-    OnOk r (version_now d.log + 1 < 2 ^ 63) → OnErr r (next ≡ d.scenario) → OnErr r (t ≡ u) → OnErr r (log ≡ d.log) →
-    OnOk r (h ≡ Accept ∷ d.history) → OnErr r (h ≡ d.history) → IfErr r (λ f. f.0 ≡ batch) → IfErr r (λ f. f.1.cause ≢ NoMemory → edited_all d.scenario batch ≡ Err f.1) →
-    TellsAccept v batch r (told_batch d log next t l h)
-core_tells_accept laws d v batch next u t l log h (Ok x) same is table shown takes room put few p q e more still back cause =
+pub came_taken : (d : CoreData) (batch : List Edit) (next : ScenarioData) (u t : Table) (l : Loading) (log : Log) (h : List CoreEvent) → IsCore d → TableSeenAs d.table u → SeenAs d.shown l →
+    TakesBatch d.scenario next u t batch → log ≡ with_batch d.log batch → h ≡ Accept ∷ d.history → CameBy d → CameBy (told_batch d log next t l h)
+came_taken d batch next u t l log h is table shown takes put more came =
+    let m : CoreData = with_room d u l in
+    subst (λ (z : Log). CameBy (told_batch d z next t l h)) (sym put)
+    (came_more m (after_accept m batch next t) Accept h (batch, refl) more (touches d.scenario batch, core_accepted m batch next t (core_looks d u l is table shown) takes) (came_looks d u l is table shown came))
+
+pub tells_taken : RepairLaws → (d v : CoreData) (batch : List Edit) (next : ScenarioData) (u t : Table) (l : Loading) (log : Log) (h : List CoreEvent) → d ≡ v → IsCore d → TableSeenAs d.table u → SeenAs d.shown l →
+    TakesBatch d.scenario next u t batch → (setting_of next).slots ≤ loading_room l → version_now d.log + 1 < 2 ^ 63 → log ≡ with_batch d.log batch → h ≡ Accept ∷ d.history → AcceptsBatch v batch (told_batch d log next t l h)
+tells_taken laws d v batch next u t l log h same is table shown takes room few put more =
     subst (λ (z : Log). AcceptsBatch v batch (told_batch d z next t l h)) (sym put)
     (subst (λ (z : List CoreEvent). AcceptsBatch v batch (told_batch d (with_batch d.log batch) next t l z)) (sym more)
     (subst (λ (z : CoreData). AcceptsBatch z batch (told_accept d batch next t l)) same (accepts_batch laws d batch next u t l is table shown takes few room)))
-core_tells_accept laws d v batch next u t l log h (Err f) same is table shown takes room put few p q e more still back cause =
-    let stays : told_batch d log next t l h ≡ with_room d u l =
-    ap (λ (z : List CoreEvent). told_batch d log next t l z) still
-    ∙ (ap (λ (z : Log). record d { log = z; scenario = next; table = t; shown = l }) e
-    ∙ (ap (λ (z : ScenarioData). record d { scenario = z; table = t; shown = l }) p ∙ ap (λ (z : Table). record d { table = z; shown = l }) q)) in
-    (back, looks_there d v (with_room d u l) _ same (sym stays) (looks_as d u l is table shown), cause_there d v batch f same is cause)
 
-core_refuses : (d v : CoreData) (batch : List Edit) (u : Table) (l : Loading) (log : Log) (f : List Edit × EditFault) → d ≡ v → IsCore d → TableSeenAs d.table u → SeenAs d.shown l → log ≡ d.log →
-    f.0 ≡ batch → f.1.cause ≡ NoMemory → TellsAccept v batch (Err f) (record d { log = log; table = u; shown = l })
-core_refuses d v batch u l log f same is table shown e back cause = (
-  back,
-  looks_there d v (with_room d u l) _ same (ap (λ (z : Log). record d { log = z; table = u; shown = l }) (sym e)) (looks_as d u l is table shown),
-  λ other. absurd (other cause),
-)
+-- ---- room was made, and the batch refused or no memory found
+-- the core with more room, whose log, scenario and table are otherwise as before
+abbrev pub put_back : CoreData → Log → ScenarioData → Table → Loading → CoreData
+put_back d log next t l = record d { log = log; scenario = next; table = t; shown = l }
+
+back_is : (d : CoreData) (log : Log) (next : ScenarioData) (u t : Table) (l : Loading) → log ≡ d.log → (next ≡ d.scenario) × (t ≡ u) → with_room d u l ≡ put_back d log next t l
+back_is d log next u t l e (p, q) = λ i. put_back d (sym e i) (sym p i) (sym q i) l
+
+pub core_back : (d : CoreData) (log : Log) (next : ScenarioData) (u t : Table) (l : Loading) → IsCore d → TableSeenAs d.table u → SeenAs d.shown l → log ≡ d.log → (next ≡ d.scenario) × (t ≡ u) → IsCore (put_back d log next t l)
+core_back d log next u t l is table shown e same = subst IsCore (back_is d log next u t l e same) (core_looks d u l is table shown)
+
+pub came_back : (d : CoreData) (log : Log) (next : ScenarioData) (u t : Table) (l : Loading) → IsCore d → TableSeenAs d.table u → SeenAs d.shown l → log ≡ d.log → (next ≡ d.scenario) × (t ≡ u) → CameBy d → CameBy (put_back d log next t l)
+came_back d log next u t l is table shown e same came = subst CameBy (back_is d log next u t l e same) (came_looks d u l is table shown came)
+
+pub tells_back : (d v : CoreData) (batch : List Edit) (f : EditFault) (log : Log) (next : ScenarioData) (u t : Table) (l : Loading) → d ≡ v → IsCore d → TableSeenAs d.table u → SeenAs d.shown l → log ≡ d.log →
+    (next ≡ d.scenario) × (t ≡ u) → (f.cause ≢ NoMemory → edited_all d.scenario batch ≡ Err f) → TellsAccept v batch (Err (batch, f)) (put_back d log next t l)
+tells_back d v batch f log next u t l at is table shown e same cause =
+    (refl, looks_there d v (with_room d u l) _ at (back_is d log next u t l e same) (looks_as d u l is table shown), cause_there d v batch (batch, f) at is cause)
 
 -- ---- a batch that is refused before any room is made
 pub came_put_back : (d : CoreData) (next : ScenarioData) → next ≡ d.scenario → CameBy d → CameBy (record d { scenario = next })
@@ -243,22 +233,6 @@ refused_tells d v next batch e same is back at fault =
     subst (λ (z : CoreData). TellsAccept v batch (Err e) z) (sym (core_same d v next same back))
     (subst (λ (z : CoreData). TellsAccept z batch (Err e) z) same (at, looks_same d, λ apart. ap (λ (z : ScenarioData). edited_all z batch) is.scenario ∙ fault apart))
 
--- the core with more room, where no memory is left for the rest
-pub core_roomy : (d : CoreData) (u : Table) (l : Loading) (log : Log) → IsCore d → TableSeenAs d.table u → SeenAs d.shown l → log ≡ d.log → IsCore (record d { log = log; table = u; shown = l })
-core_roomy d u l log is table shown same = subst (λ (z : Log). IsCore (record d { log = z; table = u; shown = l })) (sym same) (core_looks d u l is table shown)
-
-pub came_roomy : (d : CoreData) (u : Table) (l : Loading) (log : Log) → IsCore d → TableSeenAs d.table u → SeenAs d.shown l → log ≡ d.log → CameBy d → CameBy (record d { log = log; table = u; shown = l })
-came_roomy d u l log is table shown same came = subst (λ (z : Log). CameBy (record d { log = z; table = u; shown = l })) (sym same) (came_looks d u l is table shown came)
-
-pub no_memory_tells : (d v : CoreData) (batch : List Edit) (u : Table) (l : Loading) (log : Log) (r : Result (Unit {0}) (List Edit × EditFault)) → d ≡ v → IsCore d → TableSeenAs d.table u → SeenAs d.shown l →
-    log ≡ d.log → r ≡ Err (batch, record { place = 0; cause = NoMemory }) → TellsAccept v batch r (record d { log = log; table = u; shown = l })
-no_memory_tells d v batch u l log r same is table shown e told =
-    subst (λ (z : Result (Unit {0}) (List Edit × EditFault)). TellsAccept v batch z (record d { log = log; table = u; shown = l })) (sym told)
-    (core_refuses d v batch u l log (batch, record { place = 0; cause = NoMemory }) same is table shown e refl refl)
-
-pub kept_log : (o : ScenarioData) (b c : List (List Edit)) (m n : List Bool) → c ≡ b → n ≡ m → log_of o c n ≡ log_of o b m
-kept_log o b c m n batches marks = ap (λ (z : List (List Edit)). log_of o z n) batches ∙ ap (λ (z : List Bool). log_of o b z) marks
-
 pub reach_there : (d v : CoreData) (batch : List Edit) (slots : ℕ) → d ≡ v → slots ≡ horizon_after d.scenario.setup.slots batch → MayReach d.scenario slots → MayReach v.scenario (horizon_after v.scenario.setup.slots batch)
 reach_there d v batch slots same asked may =
     subst (λ (z : CoreData). MayReach z.scenario (horizon_after z.scenario.setup.slots batch)) same (subst (λ (n : ℕ). MayReach d.scenario n) asked may)
@@ -271,9 +245,9 @@ pub batch_network : BatchTouchesReaders → (s next : ScenarioData) (batch : Lis
 batch_network law s next batch is edited = (law 1 s next batch (have_slots s is) edited).0.network
 
 pub takes_batch : BatchTouchesReaders → (s next : ScenarioData) (batch edits : List Edit) (old new : Table) → IsScenario s → IsScenario next → IsValid next → SameShape s next → IsSetting (setting_of next) →
-    edited_all s batch ≡ Ok next → edits ≡ batch → IsReady (setting_of s) old → ((before : ScenarioData) → LeadsTo before next edits → IsReady (setting_of before) old → TakesIn before next edits old new) →
+    (setting_of next).slots ≡ horizon_after s.setup.slots batch → edited_all s batch ≡ Ok next → edits ≡ batch → IsReady (setting_of s) old → ((before : ScenarioData) → LeadsTo before next edits → IsReady (setting_of before) old → TakesIn before next edits old new) →
     TakesBatch s next old new batch
-takes_batch law s next batch edits old new scenario scenario' valid shape setting edited same ready taken =
+takes_batch law s next batch edits old new scenario scenario' valid shape setting slots edited same ready taken =
     let leads : LeadsTo s next batch = record { shape = shape; reads = (law 1 s next batch (have_slots s scenario) edited).1 } in
     record {
       edited = edited;
@@ -281,12 +255,7 @@ takes_batch law s next batch edits old new scenario scenario' valid shape settin
       valid = valid;
       alike = record { slots = shape.slots; network = shape.network; destinations = shape.destinations };
       setting = setting;
+      slots = slots;
       network = batch_network law s next batch scenario edited;
       table = subst (λ (es : List Edit). TakesIn s next es old new) same (taken s (subst (λ (es : List Edit). LeadsTo s next es) (sym same) leads) ready);
     }
-
--- ---- the horizon that a batch asks for
--- the room that was made for it is room for the next scenario
-pub ok_room : (r : Result (Unit {0}) (List Edit × EditFault)) (room asked after slots : ℕ) → asked ≤ room → asked ≡ after → OnOk r (slots ≡ after) → OnOk r (slots ≤ room)
-ok_room (Ok x) room asked after slots enough same is = omega (enough, same, is, arith)
-ok_room (Err f) room asked after slots enough same is = tt

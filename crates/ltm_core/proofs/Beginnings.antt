@@ -1,8 +1,7 @@
 -- How a core begins.
-use Rattle.std.proofs.Common.{◌≡◌, ℕ, ◌<◌, ◌≤◌, List, [], Bool, false, refl, ap, sym, subst, ◌∙◌, arith, lit<}
+use Rattle.std.proofs.Common.{◌≡◌, ℕ, ◌<◌, ◌≤◌, [], false, refl, ap, sym, subst, ◌∙◌, arith, lit<}
 use Rattle.ltm_scenario.specs.Data.{ScenarioData}
 use Rattle.ltm_scenario.specs.IsScenario.{IsScenario}
-use Rattle.ltm_scenario.specs.declared.edit.Edit.{Edit}
 use Rattle.ltm_scenario.specs.Valid.{IsValid}
 use Rattle.ltm_units.proofs.Sums.{sum_below-same}
 use Rattle.ltm_curve.specs.TotalCurves.{total_at}
@@ -19,7 +18,7 @@ use Rattle.ltm_repair.specs.Repair.{IsOpening}
 use Rattle.ltm_working.specs.declared.table.Table.{Table}
 use Rattle.ltm_working.specs.Desks.{desk_at}
 use Rattle.ltm_working.specs.Ready.{IsOpened}
-use Rattle.ltm_core.specs.Log.{Log, HoldsAccepted, batches_of, log_of, version_now, settled_of, scenario_at, scenario_now}
+use Rattle.ltm_core.specs.Log.{Log, HoldsAccepted, batches_of, version_now, settled_of, scenario_at, scenario_now}
 use Rattle.ltm_core.specs.Settling.{setting_at}
 use Rattle.ltm_core.specs.Laws.{RepairLaws}
 use Rattle.ltm_core.specs.Cores.{CoreData, repair_of, IsResting, IsNoneOut, IsAlike, IsLog, IsCore}
@@ -123,9 +122,8 @@ pub core_came_at : (s : ScenarioData) (log : Log) (t : Table) (l : Loading) → 
 core_came_at s log t l made is o shows = subst (λ (z : Log). CameBy (record (begun s t l) { log = z })) (sym made) (came_begun (begun s t l) is (core_begun s t l o shows))
 
 -- the log that is kept is the first one
-pub first_kept : (s o : ScenarioData) (bs : List (List Edit)) (ms : List Bool) → o ≡ s → bs ≡ [] → ms ≡ [] → log_of o bs ms ≡ first_log s
-unfolding log_of
-first_kept s o bs ms same none none' = ap (λ (z : ScenarioData). log_of z bs ms) same ∙ (ap (λ (z : List (List Edit)). log_of s z ms) none ∙ ap (λ (z : List Bool). log_of s [] z) none')
+pub first_kept : (s o : ScenarioData) (log : Log) → o ≡ s → log ≡ first_log o → log ≡ first_log s
+first_kept s o log same begun = begun ∙ ap first_log same
 
 pub core_begins_at : (s : ScenarioData) (log : Log) (t : Table) (l : Loading) → log ≡ first_log s → IsCore (begun s t l) → IsCore (record (begun s t l) { log = log })
 core_begins_at s log t l made is = subst (λ (z : Log). IsCore (record (begun s t l) { log = z })) (sym made) is

@@ -9,7 +9,7 @@ use Rattle.ltm_repair.specs.Runs.{CoreRun, in_all, commit_of, commits_of, batch_
 use Rattle.ltm_repair.specs.Kept.{RunsKeepFacts}
 use Rattle.ltm_repair.specs.Work.{NoneTwice}
 use Rattle.ltm_core.specs.Cores.{CoreData, repair_of, IsCore}
-use Rattle.ltm_core.specs.CoreAnswers.{IsOpeningCore, with_event}
+use Rattle.ltm_core.specs.CoreAnswers.{IsOpeningCore}
 use Rattle.ltm_core.specs.Histories.{CameBy}
 use Rattle.ltm_core.specs.Log.{Log}
 use Rattle.ltm_core.proofs.Telling.{LogAfter, opening_after, log_after, log_begun, log_stays}
@@ -51,9 +51,6 @@ core_told d h is = record {
   shows = is.shows;
   room = is.room;
 }
-
-pub adds_at : (d v : CoreData) (x : CoreEvent) (h : List CoreEvent) → d ≡ v → h ≡ with_event x d.history → h ≡ with_event x v.history
-adds_at d v x h same more = more ∙ ap (λ (z : CoreData). with_event x z.history) same
 
 -- ---- how a core came to be what it is
 pub came_begun : (d : CoreData) → IsCore d → IsOpeningCore d.log.opening d → CameBy d

@@ -1,7 +1,6 @@
 -- The log after a batch and after a mark.
-use Rattle.std.proofs.Common.{ℕ, suc, ◌≡◌, ◌+◌, ◌-◌, ◌<◌, ◌≤◌, ◌^◌, Bool, true, false, if◌then◌else◌, List, [], ◌∷◌, ◌++◌, length, map, take, refl, ap, sym, ◌∙◌, subst, arith, length-append}
-use Rattle.std.specs.Prelude.{Ok, Err, Result, OnOk, OnErr, slice_set}
-use Rattle.std.proofs.lemmas.List.{length-set}
+use Rattle.std.proofs.Common.{ℕ, suc, ◌≡◌, ◌+◌, ◌-◌, ◌≤◌, Bool, true, false, if◌then◌else◌, List, [], ◌∷◌, ◌++◌, length, map, take, refl, ap, sym, ◌∙◌, subst, arith, length-append}
+use Rattle.std.specs.Prelude.{Ok, Result, slice_set}
 use Rattle.std.specs.List.{zip}
 use Rattle.std.proofs.lemmas.List.{map-append, take_all, take-append-le}
 use Rattle.std.proofs.lemmas.Slice.Zip.{firsts-zip}
@@ -144,6 +143,9 @@ holds_marked log holds =
     subst P (sym (batches_marked log)) (subst Q (sym (opening_marked log)) holds)
 
 -- ---- the log as it is kept
+pub none_kept : (s : ScenarioData) (bs : List (List Edit)) (ms : List Bool) → bs ≡ [] → ms ≡ [] → log_of s bs ms ≡ record { opening = s; batches = [] }
+unfolding log_of
+none_kept s bs ms none none' = λ i. log_of s (none i) (none' i)
 
 pub kept_batches : (s : ScenarioData) (bs : List (List Edit)) (ms : List Bool) → length ms ≡ length bs → batches_of (log_of s bs ms) ≡ bs
 unfolding batches_of log_of
@@ -181,41 +183,18 @@ pub kept_with_mark : (s : ScenarioData) (bs : List (List Edit)) (ms : List Bool)
 unfolding log_of with_mark
 kept_with_mark s bs ms same = ap (λ l. record { opening = s; batches = l }) (zip_marked bs ms same)
 
--- ---- whatever a batch came to, the lists are as long as each other
-pub put_log : {A B : Type 0} (s : ScenarioData) (b0 b1 b2 : List (List Edit)) (m0 m1 m2 : List Bool) (batch : List Edit) (r : Result A B) → length m0 ≡ length b0 → b1 ≡ b0 → m1 ≡ m0 →
-    OnOk r (b2 ≡ b1 ++ batch ∷ []) → OnOk r (m2 ≡ m1 ++ false ∷ []) → OnOk r (log_of s b2 m2 ≡ with_batch (log_of s b0 m0) batch)
-put_log s b0 b1 b2 m0 m1 m2 batch (Ok x) same p q b m =
-    ap (λ (l : List (List Edit)). log_of s l m2) (b ∙ ap (λ (l : List (List Edit)). l ++ batch ∷ []) p)
-    ∙ (ap (λ (l : List Bool). log_of s (b0 ++ batch ∷ []) l) (m ∙ ap (λ (l : List Bool). l ++ false ∷ []) q) ∙ kept_with_batch s b0 m0 batch same)
-put_log s b0 b1 b2 m0 m1 m2 batch (Err e) same p q b m = tt
+-- ---- what a log is when a batch was put last, and when the mark is set
+pub put_log : (s : ScenarioData) (bs cs : List (List Edit)) (ms ns : List Bool) (b : List Edit) → length ms ≡ length bs → cs ≡ bs ++ b ∷ [] → ns ≡ ms ++ false ∷ [] → log_of s cs ns ≡ with_batch (log_of s bs ms) b
+put_log s bs cs ms ns b same batches marks = (λ i. log_of s (batches i) (marks i)) ∙ kept_with_batch s bs ms b same
 
-pub same_log : {A B : Type 0} (s : ScenarioData) (b0 b1 b2 : List (List Edit)) (m0 m1 m2 : List Bool) (r : Result A B) → b1 ≡ b0 → m1 ≡ m0 → OnErr r (b2 ≡ b1) → OnErr r (m2 ≡ m1) → OnErr r (log_of s b2 m2 ≡ log_of s b0 m0)
-same_log s b0 b1 b2 m0 m1 m2 (Ok x) p q b m = tt
-same_log s b0 b1 b2 m0 m1 m2 (Err e) p q b m = ap (λ (l : List (List Edit)). log_of s l m2) (b ∙ p) ∙ ap (λ (l : List Bool). log_of s b0 l) (m ∙ q)
-
-pub same_length : {A B : Type 0} (b0 b1 b2 : List (List Edit)) (m0 m1 m2 : List Bool) (batch : List Edit) (r : Result A B) → length m0 ≡ length b0 → b1 ≡ b0 → m1 ≡ m0 →
-    OnOk r (b2 ≡ b1 ++ batch ∷ []) → OnOk r (m2 ≡ m1 ++ false ∷ []) → OnErr r (b2 ≡ b1) → OnErr r (m2 ≡ m1) → length m2 ≡ length b2
-same_length b0 b1 b2 m0 m1 m2 batch (Ok x) same p q b m b' m' =
-    let one : length b2 ≡ length b0 + 1 = ap length (b ∙ ap (λ (l : List (List Edit)). l ++ batch ∷ []) p) ∙ length-append b0 (batch ∷ []) in
-    let two : length m2 ≡ length m0 + 1 = ap length (m ∙ ap (λ (l : List Bool). l ++ false ∷ []) q) ∙ length-append m0 (false ∷ []) in
-    omega arith
-same_length b0 b1 b2 m0 m1 m2 batch (Err e) same p q b m b' m' = ap length (m' ∙ q) ∙ (same ∙ ap length (sym (b' ∙ p)))
-
-pub few_more : {A B : Type 0} (s : ScenarioData) (b0 b1 b2 : List (List Edit)) (m0 : List Bool) (batch : List Edit) (r : Result A B) → length m0 ≡ length b0 → b1 ≡ b0 →
-    OnOk r (b2 ≡ b1 ++ batch ∷ []) → OnOk r (length b2 < 2 ^ 63) → OnOk r (version_now (log_of s b0 m0) + 1 < 2 ^ 63)
-few_more s b0 b1 b2 m0 batch (Ok x) same p b few =
-    let one : length b2 ≡ length b0 + 1 = ap length (b ∙ ap (λ (l : List (List Edit)). l ++ batch ∷ []) p) ∙ length-append b0 (batch ∷ []) in
-    let two : version_now (log_of s b0 m0) ≡ length b0 = kept_version s b0 m0 same in
-    omega arith
-few_more s b0 b1 b2 m0 batch (Err e) same p b few = tt
-
--- ---- the mark as it is set
 pub set_log : (s : ScenarioData) (bs : List (List Edit)) (ms new : List Bool) → length ms ≡ length bs → new ≡ slice_set ms (length ms - 1) true → log_of s bs new ≡ with_mark (log_of s bs ms)
 set_log s bs ms new same made =
     ap (λ (l : List Bool). log_of s bs l) (made ∙ ap (λ (n : ℕ). slice_set ms (n - 1) true) same) ∙ kept_with_mark s bs ms same
 
-pub set_length : (bs : List (List Edit)) (ms new : List Bool) → length ms ≡ length bs → new ≡ slice_set ms (length ms - 1) true → length new ≡ length bs
-set_length bs ms new same made = ap length made ∙ (length-set ms (length ms - 1) true ∙ same)
+-- nor is there a mark to be set where there is no batch
+pub set_none : (ms : List Bool) → length ms ≡ 0 → ms ≡ slice_set ms (length ms - 1) true
+set_none [] none = refl
+set_none (m ∷ ms) none = absurd (omega arith)
 
 pub logs_tell_all : LogLaws
 logs_tell_all = record {

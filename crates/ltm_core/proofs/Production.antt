@@ -17,14 +17,12 @@ use Rattle.ltm_setting.specs.Setting.{setting_of, produced_by}
 use Rattle.ltm_flows.specs.declared.loading.Loading.{Loading}
 use Rattle.ltm_flows.specs.Origins.{produced_in_all}
 use Rattle.ltm_flows.specs.Shown.{version_of, nodes_of, last_of, produced_of, HasProduction}
-use Rattle.ltm_working.specs.declared.table.Table.{Table}
 use Rattle.ltm_pairs.proofs.EditKeeps.{bound, placed}
-use Rattle.ltm_core.specs.Log.{Log, log_of, batches_of, version_now, after_batch, after_batches, AreAccepted, HoldsAccepted, scenario_at, scenario_now}
+use Rattle.ltm_core.specs.Log.{Log, batches_of, version_now, after_batch, after_batches, AreAccepted, HoldsAccepted, scenario_at, scenario_now}
 use Rattle.ltm_core.specs.Settling.{setting_at}
-use Rattle.ltm_repair.specs.Events.{CoreEvent}
-use Rattle.ltm_core.specs.Cores.{CoreData, core_of, IsAlike, IsCore}
+use Rattle.ltm_core.specs.Cores.{CoreData, IsAlike, IsCore}
 use Rattle.ltm_core.specs.Producing.{changes, edits_change, batches_change, Renews}
-use Rattle.ltm_core.proofs.Logs.{last_scenario, kept_batches}
+use Rattle.ltm_core.proofs.Logs.{last_scenario}
 use Rattle.ltm_core.proofs.Renewing.{last_same, neither, true_or_false, is_not_of, demand_told}
 use Rattle.ltm_core.proofs.Showings.{shown_low, core_fits}
 
@@ -151,13 +149,9 @@ renewed_production leave make d is new renews = λ n k x y.
       | inr off ↦ renews.others n k node within off ∙ production_stays leave make d is n k x within off
     ]
 
--- the same, said by what a core keeps
-pub shown_production : SetsLeave → EditsMake → (opening : ScenarioData) (batches seen : List (List Edit)) (marks : List Bool) (scenario : ScenarioData) (table : Table) (shown : Loading) (commits : ℕ) (stopped : Bool) (history : List CoreEvent) (version : ℕ) (new : Loading) →
-    IsCore (core_of opening batches marks scenario table shown commits stopped history) → length marks ≡ length batches → seen ≡ batches → version ≡ version_of shown →
-    Renews (setting_of scenario) (batches_change scenario.network (drop version seen)) shown new → HasProduction (setting_of scenario) new
-shown_production leave make opening batches seen marks scenario table shown commits stopped history version new is same_length same_batches at renews =
-    let kept : batches_of (log_of opening batches marks) ≡ batches = kept_batches opening batches marks same_length in
-    let here : drop version seen ≡ drop (version_of shown) (batches_of (log_of opening batches marks)) =
-    ap (λ (n : ℕ). drop n seen) at ∙ ap (λ (b : List (List Edit)). drop (version_of shown) b) (same_batches ∙ sym kept) in
-    renewed_production leave make (core_of opening batches marks scenario table shown commits stopped history) is new
-    (subst (λ (b : List (List Edit)). Renews (setting_of scenario) (batches_change scenario.network b) shown new) here renews)
+-- the same, by the batches that are read
+pub shown_production : SetsLeave → EditsMake → (d : CoreData) (seen : List (List Edit)) (version : ℕ) (new : Loading) → IsCore d → seen ≡ batches_of d.log → version ≡ version_of d.shown →
+    Renews (setting_of d.scenario) (batches_change d.scenario.network (drop version seen)) d.shown new → HasProduction (setting_of d.scenario) new
+shown_production leave make d seen version new is batches at renews =
+    let here : drop version seen ≡ drop (version_of d.shown) (batches_of d.log) = ap (λ (n : ℕ). drop n seen) at ∙ ap (λ (b : List (List Edit)). drop (version_of d.shown) b) batches in
+    renewed_production leave make d is new (subst (λ (b : List (List Edit)). Renews (setting_of d.scenario) (batches_change d.scenario.network b) d.shown new) here renews)

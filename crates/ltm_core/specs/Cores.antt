@@ -2,7 +2,6 @@
 use Rattle.std.specs.Prelude.{◌≡◌, ℕ, ◌<◌, ◌≤◌, ◌^◌, Bool, List}
 use Rattle.ltm_curve.specs.TotalCurves.{total_at}
 use Rattle.ltm_curve.specs.Counts.{Counts}
-use Rattle.ltm_scenario.specs.declared.edit.Edit.{Edit}
 use Rattle.ltm_scenario.specs.Data.{ScenarioData}
 use Rattle.ltm_scenario.specs.IsScenario.{IsScenario}
 use Rattle.ltm_scenario.specs.Valid.{IsValid}
@@ -18,7 +17,7 @@ use Rattle.ltm_repair.specs.Answers.{IsNoneClaimed}
 use Rattle.ltm_working.specs.declared.table.Table.{Table}
 use Rattle.ltm_working.specs.Desks.{desk_at, changed_at}
 use Rattle.ltm_working.specs.Ready.{IsReady}
-use Rattle.ltm_core.specs.Log.{Log, log_of, HoldsAccepted, version_now, settled_of, scenario_at, scenario_now}
+use Rattle.ltm_core.specs.Log.{Log, HoldsAccepted, version_now, settled_of, scenario_at, scenario_now}
 use Rattle.ltm_core.specs.Settling.{setting_at}
 
 pub record CoreData : Type 0 where
@@ -36,9 +35,9 @@ pub record CoreData : Type 0 where
   pub history : List CoreEvent
 
 -- a core as it is kept
-abbrev pub core_of : ScenarioData → List (List Edit) → List Bool → ScenarioData → Table → Loading → ℕ → Bool → List CoreEvent → CoreData
-core_of opening batches marks scenario table shown commits stopped history = record {
-  log = log_of opening batches marks;
+abbrev pub core_of : Log → ScenarioData → Table → Loading → ℕ → Bool → List CoreEvent → CoreData
+core_of log scenario table shown commits stopped history = record {
+  log = log;
   scenario = scenario;
   table = table;
   shown = shown;

@@ -19,6 +19,11 @@ pub record Log : Type 0 where
 unfoldable pub log_of : ScenarioData → List (List Edit) → List Bool → Log
 log_of opening batches marks = record { opening = opening; batches = zip batches marks }
 
+-- a log as a core keeps it, and how many batches more it takes without memory
+pub record KeptLog : Type 0 where
+  pub log : Log
+  pub room : ℕ
+
 -- the accepted batches
 unfoldable pub batches_of : Log → List (List Edit)
 batches_of log = map (λ b. b.0) log.batches

@@ -38,6 +38,12 @@ abbrev pub IsRun : CoreData → List CoreEvent → CoreData → Type 0
 IsRun d [] e = e ≡ d
 IsRun d (x ∷ xs) e = (m : CoreData) × Does d x m × IsRun m xs e
 
+-- a call of a core was made: one event, or none, and the core is not stopped by it
+pub record MakesOneEvent (d e : CoreData) : Type 0 where
+  pub event : CoreEvent
+  pub does : Does d event e
+  pub stopped : e.stopped ≡ d.stopped
+
 -- a history with all these events more
 abbrev pub with_events : List CoreEvent → List CoreEvent → List CoreEvent
 with_events [] history = history

@@ -2,7 +2,7 @@
 use Rattle.std.specs.Prelude.{◌≡◌, List, Ok}
 use Rattle.ltm_scenario.specs.declared.edit.Edit.{Edit}
 use Rattle.ltm_scenario.specs.Data.{ScenarioData}
-use Rattle.ltm_scenario.specs.Edits.{edited_all}
+use Rattle.ltm_scenario.specs.Edits.{edited_all, horizon_after}
 use Rattle.ltm_scenario.specs.IsScenario.{IsScenario}
 use Rattle.ltm_scenario.specs.Valid.{IsValid}
 use Rattle.ltm_loading.specs.Setting.{IsSetting}
@@ -19,5 +19,6 @@ pub record TakesBatch (s next : ScenarioData) (old new : Table) (batch : List Ed
   pub valid : IsValid next
   pub alike : IsAlike s next
   pub setting : IsSetting (setting_of next)
+  pub slots : (setting_of next).slots ≡ horizon_after s.setup.slots batch
   pub network : SameNetwork (setting_of s) (setting_of next)
   pub table : TakesIn s next batch old new

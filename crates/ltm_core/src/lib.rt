@@ -1,10 +1,11 @@
-//! The core of a repair: the one value that workers, an editor and readers share.
-//!
-//! It stands on `ltm_working` for what a repair works on, on `ltm_scenario` for batches of edits, on `ltm_flows` for the loading
-//! that is shown, and on `ltm_repair` for the laws. A claim costs the inputs of the pairs that it looks at, a commit its
-//! counts and a handful of marks, a publishing the changed cells and, for each edit of demand, what its origin has produced;
-//! only `create`, `scratch` and `accept` take memory. Change it here where the answers of a call change, or what the log
-//! keeps: what becomes of the pairs is `ltm_working`'s.
+//! - **What it is**: the core of a repair: the one value that workers, an editor and readers share.
+//! - **On what it stands**: `ltm_working`, for what a repair works on; `ltm_scenario`, for batches of edits; `ltm_flows`, for the
+//!   loading that is shown; `ltm_repair`, for the laws; `ltm_turn`, in which a core lies beside workers.
+//! - **What a call costs**: a claim the inputs of the pairs that it looks at, a commit its counts and a handful of marks, a
+//!   publishing the changed cells and, for each edit of demand, what its origin has produced. `create`, `scratch` and `accept`
+//!   alone take memory.
+//! - **When to change it here**: when the answers of a call change, or what the log keeps. What becomes of the pairs is
+//!   `ltm_working`'s.
 #![tactic(auto)]
 
 mod answers;
@@ -12,6 +13,7 @@ mod claim;
 mod entry;
 mod history;
 mod laws;
+mod log;
 mod producing;
 mod scratch;
 mod the_core;

@@ -16,6 +16,7 @@ mod showing;
 
 use crate::history::History;
 use crate::laws::repair_laws;
+use crate::log::Log;
 use crate::scratch::Scratch;
 use ltm_flows::Loading;
 use ltm_loading::one_loading;
@@ -35,9 +36,7 @@ use std::marker::Model;
 /// Any number of owners of a `Scratch` claim pairs, work on them and commit them, in any order; what holds of every core
 /// is `HoldsOfCore`: among it, that its history led to it, and that no pair was committed twice between two batches.
 pub struct Core {
-    opening: Scenario,
-    batches: Vec<Batch>,
-    marks: Vec<bool>,
+    log: Log,
     scenario: Scenario,
     table: Table,
     shown: Loading,
@@ -50,9 +49,7 @@ pub struct Core {
 impl Drop for Core {
     fn drop(self) {
         let Core {
-            opening: _opening,
-            batches: _batches,
-            marks: _marks,
+            log: _log,
             scenario: _scenario,
             table: _table,
             shown: _shown,
@@ -64,7 +61,6 @@ impl Drop for Core {
 }
 
 impl Model for Core {
-    ghost use Rattle.std.specs.Prelude.{◌≡◌, length};
     ghost use Rattle.ltm_core.specs.Cores.{CoreData};
 
     ghost Value = { CoreData };
@@ -77,15 +73,15 @@ impl Model for Core {
     ghost use Rattle.ltm_core.specs.Cores.{core_of, IsCore};
     ghost use Rattle.ltm_core.specs.Histories.{events_of, CameBy};
 
-    ghost view = { λ c. core_of c.opening c.batches.items c.marks.items c.scenario c.table c.shown c.commits c.stopped (events_of c.history) };
+    ghost view = { λ c. core_of c.log.log c.scenario c.table c.shown c.commits c.stopped (events_of c.history) };
 
-    ghost invariant = { λ c. IsCore (core_of c.opening c.batches.items c.marks.items c.scenario c.table c.shown c.commits c.stopped (events_of c.history))
-        × (length c.marks.items ≡ length c.batches.items)
-        × CameBy (core_of c.opening c.batches.items c.marks.items c.scenario c.table c.shown c.commits c.stopped (events_of c.history)) };
+    ghost invariant = { λ c. IsCore (core_of c.log.log c.scenario c.table c.shown c.commits c.stopped (events_of c.history))
+        × CameBy (core_of c.log.log c.scenario c.table c.shown c.commits c.stopped (events_of c.history)) };
 }
 
 impl Told for Core {
     ghost use Rattle.ltm_core.specs.Told.{told_of};
+    ghost use Rattle.ltm_core.specs.Runs.{MakesOneEvent};
     ghost use Rattle.ltm_flows.specs.Shown.{version_of};
 
     type Entry = crate::entry::LogEntry;
@@ -93,6 +89,8 @@ impl Told for Core {
     ghost entries = { told_of };
 
     ghost number = { λ c. version_of c.shown };
+
+    ghost may_become = { MakesOneEvent };
 }
 
 /// What a core begins with.
@@ -145,9 +143,7 @@ impl Core {
                     shown,
                 } = begun;
                 return Ok(Core {
-                    opening,
-                    batches: Vec::new(alloc),
-                    marks: Vec::new(alloc),
+                    log: Log::begin(alloc, opening),
                     scenario,
                     table,
                     shown,
@@ -171,7 +167,7 @@ impl Core {
 
     /// The buffers of one more worker.
     pub fn scratch(&self) -> Result<Scratch, NoMemory> {
-        Scratch::create(*self.batches.allocator())
+        Scratch::create(self.log.alloc())
     }
 
     /// How many batches are accepted.
@@ -179,14 +175,14 @@ impl Core {
         ensures version { result ≡ version_now self.now.log }
         ensures few { result < 2 ^ 63 }
     {
-        self.batches.len() as u64
+        self.log.version()
     }
 
     /// The accepted batches, in order.
     pub fn accepted(&self) -> &[Batch]
         ensures { result.now ≡ batches_of self.now.log }
     {
-        &self.batches
+        self.log.batches()
     }
 
     /// The scenario as the accepted batches leave it.

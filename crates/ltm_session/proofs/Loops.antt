@@ -79,10 +79,3 @@ serves_stops rule old mid next told now new left w w1 w2 count line end so few r
       (output, u, session, wrote, then_knows);
   read = λ script is ended. absurd (not_ended end stops.which ended);
 }
-
--- nothing was done
-pub serves_none : (rule : Answering) (knows : Knowing) (told left w : Option (List ℕ)) → Serves rule knows knows told left NoMemory w w
-serves_none rule knows told left w = record {
-  session = λ o may. let (output, session, wrote) = never_begun rule o told left w in (output, o, session, wrote, may);
-  read = λ script is ended. absurd (cc);
-}

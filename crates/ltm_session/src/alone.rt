@@ -7,9 +7,8 @@ ghost use Rattle.ltm_session.specs.Ready.{AwaitsLine};
 use crate::answerer::Answerer;
 use crate::ends::SessionEnd;
 use crate::serving::serve_line;
-use ltm_core::Core;
+use ltm_core::{Core, Scratch};
 use ltm_io::Sink;
-use ltm_workers::Bench;
 use std::alloc::Global;
 
 /// A core without workers, and what its repair needs.
@@ -17,7 +16,7 @@ use std::alloc::Global;
 pub(crate) struct Alone {
     pub(crate) alloc: Global,
     pub(crate) core: Core,
-    pub(crate) bench: Bench,
+    pub(crate) scratch: Scratch,
 }
 
 impl Answerer for Alone {
@@ -38,10 +37,17 @@ impl Answerer for Alone {
         let Alone {
             alloc,
             mut core,
-            mut bench,
+            mut scratch,
         } = self;
-        let done = serve_line(alloc, &mut core, &mut bench, line, text, sink);
-        (Alone { alloc, core, bench }, done)
+        let done = serve_line(alloc, &mut core, &mut scratch, line, text, sink);
+        (
+            Alone {
+                alloc,
+                core,
+                scratch,
+            },
+            done,
+        )
     }
 
     fn before_wait(&self) {}

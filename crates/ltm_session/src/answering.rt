@@ -11,16 +11,15 @@ ghost use Rattle.ltm_core.specs.Told.{settles_of};
 
 use crate::replies::{reply, reply_fault};
 use crate::settling::settle;
-use ltm_core::Core;
+use ltm_core::{Core, Scratch};
 use ltm_report::{ANSWER_ROOM, settled_text};
 use ltm_script::{Command, CommandFault, read_command};
 use ltm_units::NoMemory;
-use ltm_workers::Bench;
 use std::alloc::Global;
 
 /// Settles, and appends the count. Its room is taken before.
 #[tactic(auto, using(crate::proofs::Looking::looks_refl))]
-fn answer_settle(core: &mut Core, bench: &mut Bench, into: &mut Vec<u8>) -> Result<(), NoMemory>
+fn answer_settle(core: &mut Core, scratch: &mut Scratch, into: &mut Vec<u8>) -> Result<(), NoMemory>
     requires { AwaitsLine core.old }
     ensures ok { OnOk result ((text : List ℕ)
         × Settles CountsAlone (state_of core.old) text (state_of core.new)
@@ -32,7 +31,7 @@ fn answer_settle(core: &mut Core, bench: &mut Bench, into: &mut Vec<u8>) -> Resu
 {
     into.reserve(ANSWER_ROOM)?;
     let version = core.version();
-    let count = settle(core, bench);
+    let count = settle(core, scratch);
     match settled_text(version, count, into) {
         Ok(()) => return Ok(()),
         Err(_) => unreachable!(),
@@ -47,7 +46,7 @@ fn answer_settle(core: &mut Core, bench: &mut Bench, into: &mut Vec<u8>) -> Resu
 pub fn answer(
     alloc: Global,
     core: &mut Core,
-    bench: &mut Bench,
+    scratch: &mut Scratch,
     line: &[u8],
     into: &mut Vec<u8>,
 ) -> Result<(), NoMemory>
@@ -67,7 +66,7 @@ pub fn answer(
     ensures awaits { AwaitsLine core.new }
 {
     match read_command(alloc, line) {
-        Ok(Command::Settle) => answer_settle(core, bench, into),
+        Ok(Command::Settle) => answer_settle(core, scratch, into),
         Ok(command) => reply(alloc, core, command, into),
         Err(CommandFault::NoMemory) => Err(NoMemory),
         Err(fault) => reply_fault(alloc, fault, into),

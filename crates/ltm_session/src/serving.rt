@@ -15,10 +15,9 @@ use crate::answering::answer;
 use crate::ends::SessionEnd;
 use crate::looping::serve_lines;
 use crate::script::Script;
-use ltm_core::Core;
+use ltm_core::{Core, Scratch};
 use ltm_io::{Sink, SinkError, Source, write_all_known};
 use ltm_units::NoMemory;
-use ltm_workers::Bench;
 use std::alloc::Global;
 
 /// How a session ended, and the core that it leaves.
@@ -29,12 +28,12 @@ pub struct Served {
 }
 
 /// Takes the memory that a session needs beside its answers.
-fn take_seat(alloc: Global, core: &Core) -> Result<(Script, Bench), NoMemory>
+fn take_seat(alloc: Global, core: &Core) -> Result<(Script, Scratch), NoMemory>
     ensures { IfOk result (λ seat. IsUnread seat.0) }
 {
     let script = Script::create(alloc)?;
-    let bench = Bench::create(core)?;
-    Ok((script, bench))
+    let scratch = core.scratch()?;
+    Ok((script, scratch))
 }
 
 /// Writes an answer.
@@ -59,7 +58,7 @@ pub fn write_answer<W: Sink>(text: &[u8], sink: &mut W) -> Result<(), SessionEnd
 pub fn serve_line<W: Sink>(
     alloc: Global,
     core: &mut Core,
-    bench: &mut Bench,
+    scratch: &mut Scratch,
     line: &[u8],
     text: &mut Vec<u8>,
     sink: &mut W,
@@ -77,7 +76,7 @@ pub fn serve_line<W: Sink>(
         → Rose (W.faults sink.old) (W.faults sink.new) }
 {
     text.clear();
-    answer(alloc, core, bench, line, text)?;
+    answer(alloc, core, scratch, line, text)?;
     write_answer(text.as_slice(), sink)
 }
 
@@ -118,8 +117,12 @@ pub fn serve_alone<S: Source, W: Sink>(
 {
     core.facts();
     match take_seat(alloc, &core) {
-        Ok((script, bench)) => {
-            let alone = Alone { alloc, core, bench };
+        Ok((script, scratch)) => {
+            let alone = Alone {
+                alloc,
+                core,
+                scratch,
+            };
             let (alone, end) = serve_lines(alone, script, source, sink);
             return Served {
                 end,

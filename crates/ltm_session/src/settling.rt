@@ -7,18 +7,18 @@ ghost use Rattle.ltm_core.specs.CoreAnswers.{SettlesAll};
 ghost use Rattle.ltm_session.specs.Ready.{AwaitsLine};
 ghost use Rattle.ltm_session.specs.Settles.{IsRepaired, IsShowing, SettlesAlone};
 
-use ltm_core::{Core, Published, logs_tell_all, runs_of_cores};
+use ltm_core::{Core, Published, Scratch, logs_tell_all, runs_of_cores};
 use ltm_units::Steps;
-use ltm_workers::{Bench, drain};
+use ltm_workers::drain;
 
 /// Works on pairs until none is active or claimed.
-fn repair(core: &mut Core, bench: &mut Bench)
+fn repair(core: &mut Core, scratch: &mut Scratch)
     requires { AwaitsLine core.old }
     ensures { IsRepaired core.old core.new }
 {
     runs_of_cores();
     let mut steps = Steps::new();
-    drain(core, bench, &mut steps);
+    drain(core, scratch, &mut steps);
 }
 
 /// Shows the loading that was worked out.
@@ -45,14 +45,14 @@ fn count(core: &mut Core) -> u128
 
 /// Works on pairs until none is active or claimed, shows the loading, and counts the pairs that differ from what was
 /// settled last. Takes no memory.
-pub(crate) fn settle(core: &mut Core, bench: &mut Bench) -> u128
+pub(crate) fn settle(core: &mut Core, scratch: &mut Scratch) -> u128
     requires { AwaitsLine core.old }
     ensures { SettlesAlone core.old result core.new }
 {
     logs_tell_all();
     core.facts();
     let _shown = core.shown();
-    repair(core, bench);
+    repair(core, scratch);
     show(core);
     core.facts();
     let count = count(core);

@@ -57,24 +57,6 @@ text_answer (Some files) now editors s scripts text keeps says found is =
     (Ok s, Ok scripts, (says, subst (λ (o : Option Files). IfSome o (λ fs. scripts_of fs editors ≡ Ok scripts)) keeps found), (text, is, refl))
 
 -- ---- a file that was not given
-abbrev CaseMissed : Option Files → (Doc → ℕ) → (Doc → ℕ) → Type 0
-CaseMissed told before now = (d : Doc) × (is_case_file d ≡ true) × IfSome told (λ files. asks_for files d ≡ true) × Rose (before d) (now d)
-
-not_given : (told : Option Files) (before now : Doc → ℕ) (f : File) → IfSome told (λ files. WasAsked (asks_for files) (fault.Folder f)) → HasRisen before now (fault.Folder f) → CaseMissed told before now
-not_given told before now file.Setup asked rose = (doc.Setup, refl, asked, rose)
-not_given told before now file.Links asked rose = (doc.Links, refl, asked, rose)
-not_given told before now file.Demand asked rose = (doc.Demand, refl, asked, rose)
-not_given told before now file.Splits asked rose = (doc.Splits, refl, asked, rose)
-not_given told before now file.Signals asked rose = (doc.Signals, refl, asked, rose)
-not_given told before now file.Limits asked rose = (doc.Limits, refl, asked, rose)
-not_given told before now file.Whole asked rose = absurd rose
-
-pub case_missed : (told : Option Files) (editors : ℕ) (before now : Doc → ℕ) (f : CaseFault) → HasRisen before now f → IfSome told (λ files. WasAsked (asks_for files) f) → IsUngiven (refusal.Case f) → Missed told editors before now
-case_missed told editors before now (fault.Folder f) risen asked miss = let h = not_given told before now f asked risen in (h.0, inl (h.1, h.2), h.3)
-case_missed told editors before now (fault.TooLong f) risen asked miss = absurd miss
-case_missed told editors before now (fault.Bad f row cause) risen asked miss = absurd miss
-case_missed told editors before now fault.NoMemory risen asked miss = absurd miss
-
 pub edits_missed : (told : Option Files) (editors : ℕ) (before mid now : Doc → ℕ) (e : EditsFault) → ((d : Doc) → before d ≤ mid d) → IfMissing ((d : Doc) × Contains (docs_of editors) d × Rose (mid d) (now d)) e → IsUngiven (refusal.Edits e)
     → Missed told editors before now
 edits_missed told editors before mid now (edits.Missing editor) later (d, is, rose) miss = (d, inr is, (let first = later d in omega (arith, first, rose)))
@@ -82,14 +64,3 @@ edits_missed told editors before mid now (edits.TooLong editor) later missed mis
 edits_missed told editors before mid now edits.TooMany later missed miss = absurd miss
 edits_missed told editors before mid now (edits.BadLine editor line cause) later missed miss = absurd miss
 edits_missed told editors before mid now edits.NoMemory later missed miss = absurd miss
-
--- ---- files that are not asked for
-pub unasked_both : (told : Option Files) (editors : ℕ) (before mid now : Doc → ℕ) → IfSome told (λ files. (d : Doc) → asks_for files d ≡ false → mid d ≡ before d) → ((d : Doc) → (Contains (docs_of editors) d → ⊥) → now d ≡ mid d)
-    → IfSome told (λ files. (d : Doc) → asks_for files d ≡ false → (Contains (docs_of editors) d → ⊥) → now d ≡ before d)
-unasked_both None editors before mid now case_same same = tt
-unasked_both (Some files) editors before mid now case_same same = λ d out not. same d not ∙ case_same d out
-
-pub unasked_case : (told : Option Files) (editors : ℕ) (before now : Doc → ℕ) → IfSome told (λ files. (d : Doc) → asks_for files d ≡ false → now d ≡ before d)
-    → IfSome told (λ files. (d : Doc) → asks_for files d ≡ false → (Contains (docs_of editors) d → ⊥) → now d ≡ before d)
-unasked_case None editors before now same = tt
-unasked_case (Some files) editors before now same = λ d out not. same d out

@@ -26,15 +26,6 @@ pub taken_out : {A : Type 0} (xs : List A) (x : A) (rest : List A) → 0 < lengt
 taken_out [] x rest some is left = absurd (omega (arith, some))
 taken_out (y ∷ ys) x rest some is left = (λ i. sym is i ∷ sym left i)
 
--- ---- a crew of nobody
-pub nobody : (m : ℕ) (scripts : List (List (List Edit))) (numbers : List ℕ) (seen : List Call) → length scripts ≡ 0 → numbers ≡ 0 ∷ [] → seen ≡ [] → MadeAll m scripts numbers seen
-nobody m scripts numbers seen none alone fresh = record {
-  first = subst (λ (ns : List ℕ). Contains ns 0) (sym alone) (in_one 0);
-  none = ap (λ (h : List Call). batches_by 0 h) fresh;
-  joined = λ i l. absurd (omega (arith, l, none));
-  calls = λ i l. absurd (omega (arith, l, none));
-}
-
 -- ---- one editor more
 module _ (m : ℕ) (script : List (List Edit)) (scripts : List (List (List Edit))) (these : List ℕ) (one other seen : List Call)
     (made : MadeAll (m + 1) scripts these one) (his : batches_by m other ≡ script) (both : SeesBoth editor_of these one (m ∷ []) other seen) where

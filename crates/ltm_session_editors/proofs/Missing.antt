@@ -20,10 +20,6 @@ module _ {T : Type 0} where
   told_both None P Q R so p q = tt
   told_both (Some t) P Q R so p q = so t p q
 
-  pub told_any : (told : Option T) (P : T → Type 0) → ((t : T) → P t) → IfSome told P
-  told_any None P all = tt
-  told_any (Some t) P all = all t
-
 module _ {A B : Type 0} where
   -- a fault of a part is the fault of the whole
   pub agrees_whole : (part : Result A EditsFault) (whole : Result B EditsFault) (e : EditsFault) → ((f : EditsFault) → part ≡ Err f → whole ≡ Err f) → Agrees part e → Agrees whole e
@@ -32,18 +28,6 @@ module _ {A B : Type 0} where
   agrees_whole part whole fault.TooMany so says = so fault.TooMany says
   agrees_whole part whole (fault.BadLine editor line cause) so says = so (fault.BadLine editor line cause) says
   agrees_whole part whole fault.NoMemory so says = tt
-
-module _ {A : Type 0} where
-  -- a fault that was found lies in what is said, or memory was not found
-  pub agrees_found : (said : Result A EditsFault) (e : EditsFault) → (e ≡ fault.NoMemory) ⊎ (said ≡ Err e) → Agrees said e
-  agrees_found said (fault.Missing editor) found = tt
-  agrees_found said (fault.TooLong editor) (inl none) = cc
-  agrees_found said (fault.TooLong editor) (inr is) = is
-  agrees_found said fault.TooMany (inl none) = cc
-  agrees_found said fault.TooMany (inr is) = is
-  agrees_found said (fault.BadLine editor line cause) (inl none) = cc
-  agrees_found said (fault.BadLine editor line cause) (inr is) = is
-  agrees_found said fault.NoMemory found = tt
 
 -- where a file was not given, this follows from that
 pub missing_so : (P Q : Type 0) (e : EditsFault) → (P → Q) → IfMissing P e → IfMissing Q e

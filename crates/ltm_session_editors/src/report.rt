@@ -7,24 +7,24 @@ ghost use Rattle.ltm_editors.specs.Offices.{opening_of};
 ghost use Rattle.ltm_session_editors.specs.Editing.{TellsTotals, TellsHistory};
 
 use crate::lines::calls_text;
-use ltm_core::{Core, Published, logs_tell_all};
+use ltm_core::{Core, Published, Scratch, logs_tell_all};
 use ltm_editors::Office;
 use ltm_report::totals_text;
 use ltm_units::{NoMemory, Steps};
-use ltm_workers::{Bench, drain};
+use ltm_workers::drain;
 use std::alloc::Global;
 
 /// Lets a core go.
 pub(crate) fn let_go(_core: Core) {}
 
 /// Works on all pairs that are left.
-fn repair(core: &mut Core, bench: &mut Bench)
+fn repair(core: &mut Core, scratch: &mut Scratch)
     requires { IsNoneOut core.old }
     ensures log { core.new.log ≡ core.old.log }
     ensures rest { IsResting core.new }
 {
     let mut steps = Steps::new();
-    drain(core, bench, &mut steps);
+    drain(core, scratch, &mut steps);
 }
 
 /// Shows the loading that was worked out.
@@ -45,8 +45,8 @@ fn push_settled(alloc: Global, core: &mut Core, into: &mut Vec<u8>) -> Result<()
     ensures { OnOk result (TellsTotals core.old.log into.old.items into.new.items) }
 {
     logs_tell_all();
-    let mut bench = Bench::create(core)?;
-    repair(core, &mut bench);
+    let mut scratch = core.scratch()?;
+    repair(core, &mut scratch);
     show(core);
     let loading = core.shown();
     totals_text(alloc, loading, into)

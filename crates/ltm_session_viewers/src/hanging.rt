@@ -11,11 +11,10 @@ use crate::stage::Stage;
 use crate::watch::Watch;
 use crate::watches::Watches;
 use ltm_board::{Board, Sheet};
-use ltm_core::{Core, logs_tell_all};
+use ltm_core::{Core, Scratch, logs_tell_all};
 use ltm_session::Script;
 use ltm_setting::link_count;
 use ltm_units::NoMemory;
-use ltm_workers::Bench;
 use std::alloc::Global;
 use std::sync::Wait;
 
@@ -101,12 +100,12 @@ pub(crate) fn take_stage<R: Wait>(
         × (how_many (board_hooks r.0.boards) ≡ viewers)) }
 {
     let script = Script::create(alloc)?;
-    let bench = Bench::create(core)?;
+    let scratch = core.scratch()?;
     let (boards, watches) = hang(rt, alloc, core, viewers)?;
     let stage = Stage {
         alloc,
         script,
-        bench,
+        scratch,
         boards,
     };
     Ok((stage, watches))

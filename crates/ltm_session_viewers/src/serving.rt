@@ -39,7 +39,7 @@ pub(crate) fn serve_and_end<R: Wait, S: Source, W: Sink>(
     let Stage {
         alloc,
         script,
-        bench,
+        scratch,
         boards,
     } = stage;
     let viewed = Viewed {
@@ -47,7 +47,7 @@ pub(crate) fn serve_and_end<R: Wait, S: Source, W: Sink>(
         alloc,
         news,
         core,
-        bench,
+        scratch,
         boards,
     };
     let (viewed, end) = serve_lines(viewed, script, source, sink);
@@ -56,7 +56,7 @@ pub(crate) fn serve_and_end<R: Wait, S: Source, W: Sink>(
         alloc: _,
         news: _,
         core,
-        bench: _,
+        scratch: _,
         boards,
     } = viewed;
     take_back(core);

@@ -8,10 +8,9 @@ ghost use Rattle.ltm_session_viewers.specs.Hung.{AllHave, board_hooks, shown_lis
 use crate::boards::Boards;
 use crate::news::News;
 use crate::posting::post_newer;
-use ltm_core::Core;
+use ltm_core::{Core, Scratch};
 use ltm_io::Sink;
 use ltm_session::{Answerer, SessionEnd, serve_line};
-use ltm_workers::Bench;
 use std::alloc::Global;
 use std::sync::Wait;
 
@@ -21,7 +20,7 @@ pub(crate) struct Viewed<'a, R> {
     pub(crate) alloc: Global,
     pub(crate) news: &'a News,
     pub(crate) core: &'a mut Core,
-    pub(crate) bench: Bench,
+    pub(crate) scratch: Scratch,
     pub(crate) boards: Boards,
 }
 
@@ -46,17 +45,17 @@ impl<'a, R: Wait> Answerer for Viewed<'a, R> {
             alloc,
             news,
             core,
-            mut bench,
+            mut scratch,
             mut boards,
         } = self;
         let before = core.shown().version();
-        if let Err(end) = serve_line(alloc, core, &mut bench, line, text, sink) {
+        if let Err(end) = serve_line(alloc, core, &mut scratch, line, text, sink) {
             let viewed = Viewed {
                 rt,
                 alloc,
                 news,
                 core,
-                bench,
+                scratch,
                 boards,
             };
             return (viewed, Err(end));
@@ -67,7 +66,7 @@ impl<'a, R: Wait> Answerer for Viewed<'a, R> {
             alloc,
             news,
             core,
-            bench,
+            scratch,
             boards,
         };
         (viewed, posted)

@@ -25,7 +25,7 @@ use std::sync::Wait;
 use std::thread::{Threads, join_mut};
 
 /// Serves a script while all viewers look on in other threads; where none can be made they look at the end alone.
-fn serve_beside<R: Threads + Wait + Sync, S: Source, W: Sink>(
+fn serve_watched<R: Threads + Wait + Sync, S: Source, W: Sink>(
     rt: &R,
     core: &mut Core,
     stage: Stage,
@@ -44,7 +44,7 @@ fn serve_beside<R: Threads + Wait + Sync, S: Source, W: Sink>(
     ensures watches { watch_hooks watches.new ≡ watch_hooks watches.old }
 {
     let news = News::new();
-    let mut desk = Some(stage);
+    let mut waiting = Some(stage);
     let (_looked, (boards, end)) = join_mut(
         rt,
         &mut || -> ()
@@ -52,9 +52,9 @@ fn serve_beside<R: Threads + Wait + Sync, S: Source, W: Sink>(
             ensures { watch_hooks watches.exit.now ≡ watch_hooks watches.entry.now }
         { look_all(rt, &news, watches) },
         &mut || -> (Boards, SessionEnd)
-            requires { IsSync R.row × IsSomeAnd desk (λ stage. IsSet core.now stage) }
-            ensures none { desk.exit ≡ None }
-            ensures serves { IfSome desk.entry (λ stage. ServesPosting core.entry.now stage
+            requires { IsSync R.row × IsSomeAnd waiting (λ stage. IsSet core.now stage) }
+            ensures none { waiting.exit ≡ None }
+            ensures serves { IfSome waiting.entry (λ stage. ServesPosting core.entry.now stage
                 (S.left source.entry.now) (S.left source.exit.now) result.1
                 (W.written sink.entry.now) (W.written sink.exit.now) core.exit.now result.0) }
             ensures read_fault { result.1 ≡ SessionEnd.ReadFault
@@ -63,13 +63,13 @@ fn serve_beside<R: Threads + Wait + Sync, S: Source, W: Sink>(
                 → Rose (W.faults sink.entry.now) (W.faults sink.exit.now) }
             ensures later { W.faults sink.entry.now ≤ W.faults sink.exit.now }
         {
-            let Some(stage) = desk.take() else {
+            let Some(stage) = waiting.take() else {
                 unreachable!()
             };
             serve_and_end(rt, &news, core, stage, source, sink)
         },
     );
-    let None = desk else { unreachable!() };
+    let None = waiting else { unreachable!() };
     (boards, end)
 }
 
@@ -93,7 +93,7 @@ fn view_from<R: Threads + Wait + Sync, S: Source, W: Sink>(
     ensures later { W.faults sink.old ≤ W.faults sink.new }
 {
     let alloc = stage.alloc;
-    let (boards, end) = serve_beside(rt, core, stage, watches, source, sink);
+    let (boards, end) = serve_watched(rt, core, stage, watches, source, sink);
     match end {
         SessionEnd::Ended => {
             let told = push_last(rt, alloc, core, &boards, watches, sink);

@@ -25,7 +25,7 @@ pub(crate) struct Gear {
 }
 
 /// An editor, and what it and its workers work with.
-pub(crate) struct Desk {
+pub(crate) struct Outfit {
     pub(crate) editor: EditorPass<Core>,
     pub(crate) gear: Gear,
 }
@@ -33,17 +33,17 @@ pub(crate) struct Desk {
 /// Answers all lines of a script beside workers.
 fn edit<R: Wait, S: Source, W: Sink>(
     place: &Place<R>,
-    desk: Desk,
+    outfit: Outfit,
     source: &mut S,
     sink: &mut W,
 ) -> (EditorPass<Core>, SessionEnd)
-    requires turn { editor_turn desk.editor ≡ turn_id place.now.turn.now }
-    requires unread { IsUnread desk.gear.script }
+    requires turn { editor_turn outfit.editor ≡ turn_id place.now.turn.now }
+    requires unread { IsUnread outfit.gear.script }
     ensures turn { (editor_turn result.0 ≡ turn_id place.now.turn.now)
-        × (editor_workers result.0 ≡ editor_workers desk.editor) }
+        × (editor_workers result.0 ≡ editor_workers outfit.editor) }
     ensures session { SessionBeside (S.left source.old) (S.left source.new) result.1
-        (W.written sink.old) (W.written sink.new) (editor_list desk.editor)
-        (editor_seen desk.editor) (editor_list result.0) (editor_seen result.0) }
+        (W.written sink.old) (W.written sink.new) (editor_list outfit.editor)
+        (editor_seen outfit.editor) (editor_list result.0) (editor_seen result.0) }
     ensures read_fault { result.1 ≡ SessionEnd.ReadFault
         → Rose (S.faults source.old) (S.faults source.new) }
     ensures write_fault { result.1 ≡ SessionEnd.WriteFault
@@ -51,7 +51,7 @@ fn edit<R: Wait, S: Source, W: Sink>(
     ensures read { ReadsAll (S.left source.old) result.1 (S.left source.new) }
     ensures later { W.faults sink.old ≤ W.faults sink.new }
 {
-    let Desk { editor, gear } = desk;
+    let Outfit { editor, gear } = outfit;
     let Gear {
         script,
         scratch,
@@ -74,17 +74,17 @@ fn edit<R: Wait, S: Source, W: Sink>(
 /// Answers all lines of a script beside workers, and then stops the core, so that they end.
 fn edit_and_stop<R: Wait, S: Source, W: Sink>(
     place: &Place<R>,
-    desk: Desk,
+    outfit: Outfit,
     source: &mut S,
     sink: &mut W,
 ) -> (EditorPass<Core>, SessionEnd)
-    requires turn { editor_turn desk.editor ≡ turn_id place.now.turn.now }
-    requires unread { IsUnread desk.gear.script }
+    requires turn { editor_turn outfit.editor ≡ turn_id place.now.turn.now }
+    requires unread { IsUnread outfit.gear.script }
     ensures turn { (editor_turn result.0 ≡ turn_id place.now.turn.now)
-        × (editor_workers result.0 ≡ editor_workers desk.editor) }
+        × (editor_workers result.0 ≡ editor_workers outfit.editor) }
     ensures session { SessionBeside (S.left source.old) (S.left source.new) result.1
-        (W.written sink.old) (W.written sink.new) (editor_list desk.editor)
-        (editor_seen desk.editor) (editor_list result.0) (editor_seen result.0) }
+        (W.written sink.old) (W.written sink.new) (editor_list outfit.editor)
+        (editor_seen outfit.editor) (editor_list result.0) (editor_seen result.0) }
     ensures read_fault { result.1 ≡ SessionEnd.ReadFault
         → Rose (S.faults source.old) (S.faults source.new) }
     ensures write_fault { result.1 ≡ SessionEnd.WriteFault
@@ -92,7 +92,7 @@ fn edit_and_stop<R: Wait, S: Source, W: Sink>(
     ensures read { ReadsAll (S.left source.old) result.1 (S.left source.new) }
     ensures later { W.faults sink.old ≤ W.faults sink.new }
 {
-    let (editor, end) = edit(place, desk, source, sink);
+    let (editor, end) = edit(place, outfit, source, sink);
     let editor = stop_beside(place.rt, place.turn, place.hints, editor);
     (editor, end)
 }
@@ -102,19 +102,19 @@ fn edit_and_stop<R: Wait, S: Source, W: Sink>(
 pub(crate) fn crew<R: Threads + Wait + Sync, S: Source, W: Sink, G: Gate>(
     place: &Place<R>,
     workers: u32,
-    desk: Desk,
+    outfit: Outfit,
     source: &mut S,
     sink: &mut W,
     gate: &G,
 ) -> (EditorPass<Core>, SessionEnd)
-    requires turn { editor_turn desk.editor ≡ turn_id place.now.turn.now }
-    requires room { editor_workers desk.editor + workers ≤ 64 }
-    requires unread { IsUnread desk.gear.script }
+    requires turn { editor_turn outfit.editor ≡ turn_id place.now.turn.now }
+    requires room { editor_workers outfit.editor + workers ≤ 64 }
+    requires unread { IsUnread outfit.gear.script }
     ensures turn { (editor_turn result.0 ≡ turn_id place.now.turn.now)
-        × (editor_workers result.0 ≡ editor_workers desk.editor) }
+        × (editor_workers result.0 ≡ editor_workers outfit.editor) }
     ensures session { SessionBeside (S.left source.old) (S.left source.new) result.1
-        (W.written sink.old) (W.written sink.new) (editor_list desk.editor)
-        (editor_seen desk.editor) (editor_list result.0) (editor_seen result.0) }
+        (W.written sink.old) (W.written sink.new) (editor_list outfit.editor)
+        (editor_seen outfit.editor) (editor_list result.0) (editor_seen result.0) }
     ensures read_fault { result.1 ≡ SessionEnd.ReadFault
         → Rose (S.faults source.old) (S.faults source.new) }
     ensures write_fault { result.1 ≡ SessionEnd.WriteFault
@@ -123,18 +123,18 @@ pub(crate) fn crew<R: Threads + Wait + Sync, S: Source, W: Sink, G: Gate>(
     ensures later { W.faults sink.old ≤ W.faults sink.new }
 {
     if workers == 0 {
-        return edit_and_stop(place, desk, source, sink);
+        return edit_and_stop(place, outfit, source, sink);
     }
-    let Desk { editor, mut gear } = desk;
+    let Outfit { editor, mut gear } = outfit;
     let Some(idle) = gear.scratches.pop() else {
-        return edit_and_stop(place, Desk { editor, gear }, source, sink);
+        return edit_and_stop(place, Outfit { editor, gear }, source, sink);
     };
     let mut editor = editor;
     let (rt, turn, hints) = (place.rt, place.turn, place.hints);
     let pass = turn.split(&mut editor);
     let rest = workers - 1;
     let mut hand = Some((pass, idle));
-    let mut desk = Some(Desk { editor, gear });
+    let mut outfit = Some(Outfit { editor, gear });
     let ((worker, _idle), (mut editor, end)) = join_mut(
         rt,
         &mut || -> (WorkerPass<Core>, Scratch)
@@ -149,14 +149,14 @@ pub(crate) fn crew<R: Threads + Wait + Sync, S: Source, W: Sink, G: Gate>(
         },
         &mut || -> (EditorPass<Core>, SessionEnd)
             requires { IsSync R.row × IsSync G.row
-                × IsSomeAnd desk (λ d. (editor_turn d.editor ≡ turn_id place.now.turn.now)
+                × IsSomeAnd outfit (λ d. (editor_turn d.editor ≡ turn_id place.now.turn.now)
                 × (editor_workers d.editor + rest ≤ 64)
                 × IsUnread d.gear.script) }
-            ensures none { desk.exit ≡ None }
-            ensures turn { IfSome desk.entry
+            ensures none { outfit.exit ≡ None }
+            ensures turn { IfSome outfit.entry
                 (λ d. (editor_turn result.0 ≡ turn_id place.entry.now.turn.now)
                 × (editor_workers result.0 ≡ editor_workers d.editor)) }
-            ensures session { IfSome desk.entry
+            ensures session { IfSome outfit.entry
                 (λ d. SessionBeside (S.left source.entry.now) (S.left source.exit.now) result.1
                 (W.written sink.entry.now) (W.written sink.exit.now)
                 (editor_list d.editor) (editor_seen d.editor)
@@ -168,14 +168,14 @@ pub(crate) fn crew<R: Threads + Wait + Sync, S: Source, W: Sink, G: Gate>(
             ensures read { ReadsAll (S.left source.entry.now) result.1 (S.left source.exit.now) }
             ensures later { W.faults sink.entry.now ≤ W.faults sink.exit.now }
         {
-            let Some(desk) = desk.take() else {
+            let Some(outfit) = outfit.take() else {
                 unreachable!()
             };
-            crew(place, rest, desk, source, sink, gate)
+            crew(place, rest, outfit, source, sink, gate)
         },
     );
     let None = hand else { unreachable!() };
-    let None = desk else { unreachable!() };
+    let None = outfit else { unreachable!() };
     turn.join(&mut editor, worker);
     (editor, end)
 }

@@ -8,7 +8,7 @@ ghost use Rattle.ltm_session.specs.Answerers.{IsUnread};
 ghost use Rattle.ltm_session.specs.Answers.{AnswersAlone, AnswersBeside};
 ghost use Rattle.ltm_session.specs.Session.{IsSession, Wrote, end_of};
 
-use crate::crew::{Desk, Gear, crew};
+use crate::crew::{Gear, Outfit, crew};
 use crate::place::Place;
 use ltm_core::{Core, Scratch, lists_tell_all, logs_tell_all};
 use ltm_io::{Sink, Source};
@@ -106,7 +106,7 @@ pub fn serve<R: Threads + Wait + Sync, S: Source, W: Sink, G: Gate>(
                 turn: &turn,
                 hints: &hints,
             };
-            let (editor, end) = crew(&place, workers, Desk { editor, gear }, source, sink, gate);
+            let (editor, end) = crew(&place, workers, Outfit { editor, gear }, source, sink, gate);
             let core = turn.close(editor);
             core.facts();
             return Served { end, core };

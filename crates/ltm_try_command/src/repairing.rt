@@ -33,9 +33,10 @@ fn work(core: &mut Core, schedule: &[u8]) -> Result<u64, NoMemory>
     ensures { IfOk result (WorksToRest core.old core.new) }
 {
     let mut bench = Bench::create(core)?;
+    let mut scratch = core.scratch()?;
     let mut steps = Steps::new();
     let _driven = drive(core, &mut bench, schedule, &mut steps);
-    drain(core, &mut bench, &mut steps);
+    drain(core, &mut scratch, &mut steps);
     Ok(steps.count())
 }
 

@@ -63,10 +63,12 @@ pub struct EditorHeld<T: Told> {
     pub(crate) value: Box<T>,
 }
 
-/// The turn, held by a worker, with the value. It is given back by `give_worker`, and cannot be let go.
+/// The turn, held by a worker, with the value, and the value as it was found. It is given back by `give_worker`, and cannot
+/// be let go.
 pub struct WorkerHeld<T: Told> {
     pub(crate) grip: WorkerGrip<T>,
     pub(crate) value: Box<T>,
+    pub(crate) before: Snapshot<T>,
 }
 
 impl<T: Told> Drop for EditorPass<T> {

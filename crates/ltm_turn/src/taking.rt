@@ -2,7 +2,7 @@
 ghost use Rattle.std.specs.Prelude.{◌≡◌, ◌≤◌, true, false, [], ◌∷◌, None, IfSome, IfOk, IfErr};
 ghost use mathlib.Core.List.{IsPrefix};
 ghost use Rattle.ltm_turn.specs.Views.{holding, idle};
-ghost use Rattle.ltm_turn.specs.Passes.{turn_id, editor_turn, worker_turn, editor_held_turn, worker_held_turn, editor_list, editor_seen, worker_seen, editor_workers, editor_found, editor_found_number, editor_held_workers, editor_value, worker_found, worker_found_number, worker_value};
+ghost use Rattle.ltm_turn.specs.Passes.{turn_id, editor_turn, worker_turn, editor_held_turn, worker_held_turn, editor_list, editor_seen, worker_seen, editor_workers, editor_found, editor_found_number, editor_held_workers, editor_value, worker_found, worker_found_number, worker_value, worker_found_value};
 
 use crate::Told;
 use crate::passes::{EditorGrip, EditorHeld, EditorPass, Turn, WorkerGrip, WorkerHeld, WorkerPass};
@@ -10,6 +10,7 @@ use crate::rule::{Free, Note, Take};
 use crate::view::View;
 use atomic_table::Seat;
 use crossbeam_utils::Backoff;
+use std::snapshot::Snapshot;
 use std::sync::Wait;
 
 impl<T: Told> Turn<T> {
@@ -100,12 +101,15 @@ impl<T: Told> Turn<T> {
         ensures list { worker_found result ≡ T.entries (worker_value result) }
         ensures number { (worker_seen pass ≤ T.number (worker_value result))
             × (worker_found_number result ≡ T.number (worker_value result)) }
+        ensures value { worker_found_value result ≡ worker_value result }
     {
         let mut seat = pass.open();
         let value = self.acquire(rt, &mut seat);
+        let before = Snapshot::of(value.as_ref());
         WorkerHeld {
             grip: WorkerGrip { seat },
             value,
+            before,
         }
     }
 
@@ -115,16 +119,19 @@ impl<T: Told> Turn<T> {
         ensures taken { IfOk result (λ held. (worker_held_turn held ≡ worker_turn pass)
             × (worker_found held ≡ T.entries (worker_value held))
             × (worker_seen pass ≤ T.number (worker_value held))
-            × (worker_found_number held ≡ T.number (worker_value held))) }
+            × (worker_found_number held ≡ T.number (worker_value held))
+            × (worker_found_value held ≡ worker_value held)) }
         ensures busy { IfErr result (λ back. (worker_turn back ≡ worker_turn pass)
             × (worker_seen back ≡ worker_seen pass)) }
     {
         let mut seat = pass.open();
         match self.try_acquire(&mut seat) {
             Some(value) => {
+                let before = Snapshot::of(value.as_ref());
                 return Ok(WorkerHeld {
                     grip: WorkerGrip { seat },
                     value,
+                    before,
                 });
             }
             None => return Err(WorkerPass { seat }),
@@ -147,15 +154,21 @@ impl<T: Told> Turn<T> {
         EditorPass { seat, workers }
     }
 
-    /// Frees the turn. The list is as the worker found it, and the number may have risen.
+    /// Frees the turn. The list is as the worker found it, the number may have risen, and the value is what one turn may make of
+    /// the one that was found.
     pub fn give_worker(&self, held: WorkerHeld<T>) -> WorkerPass<T>
         requires turn { worker_held_turn held ≡ turn_id self.now }
         requires list { T.entries (worker_value held) ≡ worker_found held }
         requires number { worker_found_number held ≤ T.number (worker_value held) }
+        requires one_turn { T.may_become (worker_found_value held) (worker_value held) }
         ensures turn { worker_turn result ≡ worker_held_turn held }
         ensures number { worker_seen result ≡ T.number (worker_value held) }
     {
-        let WorkerHeld { grip, value } = held;
+        let WorkerHeld {
+            grip,
+            value,
+            before: _before,
+        } = held;
         let WorkerGrip { mut seat } = grip;
         self.release(&mut seat, value);
         WorkerPass { seat }

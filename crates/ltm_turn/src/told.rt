@@ -1,7 +1,7 @@
-//! The list and the number that a value tells.
+//! The list and the number that a value tells, and what a worker may make of it.
 ghost use Rattle.std.specs.Prelude.{ℕ, List};
 
-/// A list of entries and a number, both functions of the value.
+/// A list of entries and a number, both functions of the value, and what a worker may make of it in one held turn.
 ///
 /// Of whoever takes turns with a value one lengthens its list, and finds exactly the list that it last left; every one
 /// finds a number that is at least the greatest that it has seen.
@@ -11,4 +11,6 @@ pub trait Told {
     ghost entries: { Self → List Self.Entry };
 
     ghost number: { Self → ℕ };
+
+    ghost may_become: { Self → Self → Type 0 };
 }

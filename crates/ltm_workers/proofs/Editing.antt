@@ -2,11 +2,12 @@
 use Rattle.std.proofs.Common.{◌≡◌, ℕ, ◌+◌, List, [], ◌∷◌, ◌++◌, true, refl, ap, sym, subst, ◌∙◌, arith}
 use Rattle.std.proofs.lemmas.List.{append-nil}
 use Rattle.ltm_flows.specs.Shown.{version_of}
-use Rattle.ltm_repair.specs.Answers.{ClaimAnswer, Got, NotYet, Rest}
-use Rattle.ltm_repair.specs.Events.{Commit, Publish}
+use Rattle.ltm_repair.specs.Answers.{ClaimAnswer, Got, NotYet, Rest, AnswersClaim}
+use Rattle.ltm_repair.specs.Events.{Commit, Publish, Stay}
 use Rattle.ltm_repair.specs.Making.{claim_event}
 use Rattle.ltm_core.specs.declared.entry.LogEntry.{LogEntry}
 use Rattle.ltm_core.specs.declared.entry.LogEntry.TheVariants.{Mark}
+use Rattle.ltm_core.specs.declared.answers.Claimed.{Claimed}
 use Rattle.ltm_core.specs.declared.answers.Committed.{Committed}
 use Rattle.ltm_core.specs.declared.answers.Committed.TheVariants.{Ok as Done, Stale}
 use Rattle.ltm_core.specs.declared.answers.Recomputed.{Recomputed}
@@ -15,8 +16,9 @@ use Rattle.ltm_core.specs.declared.answers.Published.{Published}
 use Rattle.ltm_core.specs.declared.answers.Published.TheVariants.{Done as Shown, NotAtRest}
 use Rattle.ltm_core.specs.Claims.{DoneData}
 use Rattle.ltm_core.specs.Log.{Log, version_now}
-use Rattle.ltm_core.specs.Cores.{CoreData}
-use Rattle.ltm_core.specs.CoreAnswers.{KeepsAll, Adds, CommitsDone, TellsCommit, TellsRecompute, TellsPublish, SettlesAll}
+use Rattle.ltm_core.specs.Cores.{CoreData, repair_of}
+use Rattle.ltm_core.specs.CoreAnswers.{answer_in, KeepsAll, Adds, CommitsDone, TellsCommit, TellsRecompute, TellsPublish, SettlesAll}
+use Rattle.ltm_core.specs.Runs.{MakesOneEvent, CallsAreEvents, commit_event, publish_event}
 use Rattle.ltm_core.specs.Histories.{CameBy}
 use Rattle.ltm_core.specs.Told.{told_of, done_to, TellsLog, settles_of}
 use Rattle.ltm_core.specs.Telling.{IsNoEditors, ListLaws}
@@ -53,6 +55,27 @@ recompute_told laws d e NoneLeft (answers, keeps, adds) = claim_told laws d e Re
 pub stopped_told : (d e : CoreData) → e ≡ record d { stopped = true } → told_of e ≡ told_of d
 unfolding told_of done_to
 stopped_told d e is = ap told_of is
+
+-- ---- a call is one event, or none
+pub stays_one : (d : CoreData) → MakesOneEvent d d
+stays_one d = record { event = Stay; does = (refl, refl); stopped = refl }
+
+pub claim_one : CallsAreEvents → (d e : CoreData) (answer : Claimed) → AnswersClaim (repair_of d) (answer_in answer) (repair_of e) → KeepsAll d e → Adds d (claim_event (answer_in answer)) e → MakesOneEvent d e
+claim_one events d e answer told keeps adds = record { event = claim_event (answer_in answer); does = events.claim d e answer told adds; stopped = ap (λ (x : CoreData). x.stopped) keeps }
+
+commit_stays : (d e : CoreData) (done : DoneData) (answer : Committed) → TellsCommit d done answer e → e.stopped ≡ d.stopped
+commit_stays d e done (Done scratch) (kept, is) = ap (λ (x : CoreData). x.stopped) is.keeps
+commit_stays d e done (Stale claimed_at now scratch) (none, a, b, same) = ap (λ (x : CoreData). x.stopped) same
+
+pub commit_one : CallsAreEvents → (d e : CoreData) (done : DoneData) (answer : Committed) → TellsCommit d done answer e → MakesOneEvent d e
+commit_one events d e done answer told = record { event = commit_event done answer; does = events.commit d e done answer told; stopped = commit_stays d e done answer told }
+
+publish_stays : (d e : CoreData) (answer : Published) → TellsPublish d answer e → e.stopped ≡ d.stopped
+publish_stays d e (Shown version) is = ap (λ (x : CoreData). x.stopped) is.keeps
+publish_stays d e NotAtRest (busy, same) = ap (λ (x : CoreData). x.stopped) same
+
+pub publish_one : CallsAreEvents → (d e : CoreData) (answer : Published) → TellsPublish d answer e → MakesOneEvent d e
+publish_one events d e answer told = record { event = publish_event answer; does = events.publish d e answer told; stopped = publish_stays d e answer told }
 
 -- ---- what is put back
 -- the list that was found

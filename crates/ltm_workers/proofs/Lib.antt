@@ -3,7 +3,6 @@ pub mod Drives
 pub mod Endings
 pub mod Holding
 pub mod Owned
-pub mod Slots
 pub mod Turning
 pub mod Working
 mod Editing

@@ -4,7 +4,6 @@ ghost use Rattle.ltm_core.specs.Cores.{IsNoneOut, IsResting};
 ghost use Rattle.ltm_core.specs.CoreAnswers.{IsKeptClaim, CommitsDone};
 ghost use Rattle.ltm_workers.specs.Draining.{Works, TellsStep, CountsLeft, CountsDifferences};
 
-use crate::bench::Bench;
 use ltm_core::{Claim, Committed, Core, Recomputed, Scratch, calls_are_events, runs_of_cores};
 use ltm_units::Steps;
 
@@ -40,20 +39,9 @@ fn work_once(core: &mut Core, scratch: &mut Scratch, steps: &mut Steps) -> bool
     }
 }
 
-/// Works until no pair is active or claimed.
-fn work_to_rest(core: &mut Core, scratch: &mut Scratch, steps: &mut Steps)
-    requires { IsNoneOut core.old }
-    ensures works { Works core.old steps.old core.new steps.new }
-    ensures rest { IsResting core.new }
-{
-    core.facts();
-    let _taken = steps.count();
-    while work_once(core, scratch, steps) {}
-}
-
 /// Brings a core to rest, where no claim is out: claims a pair, works on it and commits it, in one call of the core, until no
 /// pair is active or claimed. Each commit ticks the counter once. Takes no memory.
-pub fn drain(core: &mut Core, bench: &mut Bench, steps: &mut Steps)
+pub fn drain(core: &mut Core, scratch: &mut Scratch, steps: &mut Steps)
     requires { IsNoneOut core.old }
     ensures works { Works core.old steps.old core.new steps.new }
     ensures rest { IsResting core.new }
@@ -62,9 +50,6 @@ pub fn drain(core: &mut Core, bench: &mut Bench, steps: &mut Steps)
 {
     runs_of_cores();
     core.facts();
-    let Some(mut scratch) = bench.scratches[0].take() else {
-        unreachable!();
-    };
-    work_to_rest(core, &mut scratch, steps);
-    bench.scratches[0] = Some(scratch);
+    let _taken = steps.count();
+    while work_once(core, scratch, steps) {}
 }

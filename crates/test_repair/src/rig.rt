@@ -158,14 +158,14 @@ fn work(core: &mut Core) -> Told {
 }
 
 fn drained(core: &mut Core) -> Told {
-    let Ok(mut bench) = Bench::create(core) else {
+    let Ok(mut scratch) = core.scratch() else {
         return Told::Nothing;
     };
     if core.claimed() != 0 {
         return Told::Nothing;
     }
     let mut steps = Steps::new();
-    drain(core, &mut bench, &mut steps);
+    drain(core, &mut scratch, &mut steps);
     Told::Steps(steps.count())
 }
 

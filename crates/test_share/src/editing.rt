@@ -3,10 +3,10 @@ ghost use Rattle.std.specs.Prelude.{◌≡◌, IfSome};
 ghost use Rattle.ltm_editors.specs.Seats.{desk_id, seat_place, held_place};
 
 use crate::roads::{Change, batch_of, office_of};
-use ltm_core::Core;
+use ltm_core::{Core, Scratch};
 use ltm_editors::{Desk, Held, Office, Seat};
 use ltm_units::Steps;
-use ltm_workers::{Bench, drain};
+use ltm_workers::drain;
 use std::alloc::Global;
 use std::sync::Wait;
 
@@ -58,12 +58,12 @@ pub fn call<R: Wait>(
 
 /// Brings a core to rest and publishes it: generated, arrived, on links and waiting of what is then shown, in units.
 pub fn totals(core: &mut Core) -> Option<[u64; 4]> {
-    let mut bench = Bench::create(core).ok()?;
+    let mut scratch = core.scratch().ok()?;
     if core.claimed() != 0 {
         return None;
     }
     let mut steps = Steps::new();
-    drain(core, &mut bench, &mut steps);
+    drain(core, &mut scratch, &mut steps);
     let _ = core.publish();
     let totals = core.shown().totals();
     Some([

@@ -23,6 +23,8 @@ impl Told for Board {
     ghost entries = { λ v. v.list.items };
 
     ghost number = { λ v. v.number };
+
+    ghost may_become = { λ v w. w.list.items ≡ v.list.items };
 }
 
 /// A board without entries in a turn, and the pass of its editor.

@@ -37,7 +37,7 @@ impl Core {
     {
         repair_laws();
         is_setting(&self.scenario);
-        let ticket = self.batches.len() as u64;
+        let ticket = self.log.version();
         let Scratch {
             mut inputs,
             outputs,
@@ -67,7 +67,7 @@ impl Core {
     fn keeps(&self, pair: Pair, ticket: u64, inputs: &NodeInputs) -> bool
         ensures { IsTrue result ↔ IsKeptClaim self.now pair ticket inputs.now }
     {
-        if ticket != self.batches.len() as u64 {
+        if ticket != self.log.version() {
             return false;
         }
         if !self.table.holds(&self.scenario, pair, inputs.row()) {
@@ -96,7 +96,7 @@ impl Core {
         ensures answer { TellsCommit self.old done result self.new }
         ensures stays { Keeps self.old self.new }
     {
-        let now = self.batches.len() as u64;
+        let now = self.log.version();
         if self.keeps(done.pair, done.ticket, done.solved.inputs()) {
             self.commit_kept(done.pair, done.ticket, &done.solved);
             return Committed::Ok(done.into_scratch());

@@ -1,5 +1,5 @@
 //! What is shown, and what a settle counts.
-ghost use Rattle.std.specs.Prelude.{◌≡◌, ◌-◌, ◌<◌, true, length, slice_set};
+ghost use Rattle.std.specs.Prelude.{◌≡◌};
 
 use super::Core;
 use crate::answers::Published;
@@ -9,16 +9,6 @@ use crate::producing::renew_since;
 use ltm_demand::production_stays;
 use ltm_scenario::edits_make;
 use ltm_setting::is_setting;
-
-/// Puts a mark after the last batch, where there is one.
-fn mark_last(marks: &mut Vec<bool>)
-    ensures { marks.new.items ≡ slice_set marks.old.items (length marks.old.items - 1) true }
-{
-    let count = marks.len();
-    if count > 0 {
-        marks[count - 1] = true;
-    }
-}
 
 impl Core {
     ghost use Rattle.ltm_core.specs.CoreAnswers.{TellsPublish, TellsSettle};
@@ -37,19 +27,24 @@ impl Core {
         if !self.table.is_at_rest(&self.scenario) {
             return Published::NotAtRest;
         }
-        let version = self.batches.len() as u64;
+        let accepted = self.log.version();
         let shown_at = self.shown.version();
-        renew_since(&self.scenario, &self.batches, shown_at, &mut self.shown);
+        renew_since(
+            &self.scenario,
+            self.log.batches(),
+            shown_at,
+            &mut self.shown,
+        );
         self.shown.refresh(
             &self.scenario,
             self.table.curves(),
             self.table.cells(),
-            version,
+            accepted,
         );
         let _room = self.shown.room();
         self.table.clear_changed();
         add(&mut self.history, Event::Publish);
-        Published::Done(version)
+        Published::Done(accepted)
     }
 
     /// The commits since the last count, where no pair is active or claimed and all batches are shown; a mark is then put
@@ -59,12 +54,12 @@ impl Core {
         ensures shown { self.new.shown ≡ self.old.shown }
     {
         repair_laws();
-        let version = self.batches.len() as u64;
-        if self.shown.version() != version {
+        let accepted = self.log.version();
+        if self.shown.version() != accepted {
             return None;
         }
         let commits = self.commits;
-        mark_last(&mut self.marks);
+        self.log.mark_last();
         self.commits = 0;
         add(&mut self.history, Event::Settle(commits));
         Some(commits)

@@ -24,8 +24,7 @@ pub invariant_of-self : goal.invariant_of-self
 invariant_of-self c = (
   core_told _ _ (core_after_commit c.repair_laws.ensures _ c.commit.new.self c.args.pair.node.0 c.args.pair.slot c.args.solved.now.inputs.row c.self.invariant.0 c.commit.ensures.ready
       (record { commits = c.commit.ensures.desk; cells = c.commit.ensures.changed })),
-  c.self.invariant.1,
-  came_commit _ c.commit.new.self _ c.args.pair.node.0 c.args.pair.slot c.args.solved.now.inputs.row c.self.invariant.0 (record { commits = c.commit.ensures.desk; cells = c.commit.ensures.changed }) c.add.ensures c.self.invariant.2,
+  came_commit _ c.commit.new.self _ c.args.pair.node.0 c.args.pair.slot c.args.solved.now.inputs.row c.self.invariant.0 (record { commits = c.commit.ensures.desk; cells = c.commit.ensures.changed }) c.add.ensures c.self.invariant.1,
 )
 
 pub returns : goal.returns

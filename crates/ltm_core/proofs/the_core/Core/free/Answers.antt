@@ -14,8 +14,7 @@ give_back-requires-clause-claimed c = λ none.
 pub invariant_of-self : goal.invariant_of-self
 invariant_of-self c = (
   core_told _ _ (core_after_give c.repair_laws.ensures _ c.give_back.new.self _ _ c.self.invariant.0 c.give_back.ensures.ready c.give_back.ensures.changed c.give_back.ensures.desk),
-  c.self.invariant.1,
-  came_give _ c.give_back.new.self _ _ _ c.give_back.ensures.changed c.give_back.ensures.desk c.add.ensures c.self.invariant.2,
+  came_give _ c.give_back.new.self _ _ _ c.give_back.ensures.changed c.give_back.ensures.desk c.add.ensures c.self.invariant.1,
 )
 
 pub returns-then-keeps : goal.returns-then-keeps

@@ -1,13 +1,9 @@
-use Rattle.std.proofs.Common.{arith, ◌≡◌, ◌∙◌, List, ℕ, ap, sym, true, false, Some}
-use Rattle.ltm_core.specs.Log.{log_of, version_now}
-use Rattle.ltm_core.proofs.Logs.{kept_version}
+use Rattle.std.proofs.Common.{◌≡◌, ◌∙◌, List, ℕ, ap, sym, true, false, Some}
 use Rattle.ltm_core.proofs.Claimings.{kept_is, not_claimed, not_current, claimed_node, shape_told}
 use Rattle.ltm_core.proofs.the_core.Core.keeps.Goals as goal
 
-pub returns-then-ticket-len : goal.returns-then-ticket-len
-returns-then-ticket-len c =
-    not_current _ _ c.args.pair c.args.ticket c.args.inputs.now c.self.view_is (λ e.
-    c.if-ticket-len.true (omega (e, c.len.ensures, c.self.inside.batches.ok.0, kept_version c.self.inside.opening c.self.inside.batches.items c.self.inside.marks.items c.self.invariant.1, arith)))
+pub returns-then-ticket-version : goal.returns-then-ticket-version
+returns-then-ticket-version c = not_current _ _ c.args.pair c.args.ticket c.args.inputs.now c.self.view_is (λ e. c.if-ticket-version.true (e ∙ sym c.version.ensures.version))
 
 pub holds-requires : goal.holds-requires
 holds-requires c = c.self.invariant.0.ready
@@ -23,8 +19,6 @@ shape_of-requires c = claimed_node _ c.args.pair.node.0 c.args.pair.slot _ c.sel
 
 pub returns : goal.returns
 returns c =
-    let at : c.args.ticket ≡ version_now (log_of c.self.inside.opening c.self.inside.batches.items c.self.inside.marks.items) =
-    omega (c.if-ticket-len.false, c.len.ensures, c.self.inside.batches.ok.0, kept_version c.self.inside.opening c.self.inside.batches.items c.self.inside.marks.items c.self.invariant.1, arith) in
-    kept_is _ _ c.args.pair c.args.ticket c.args.inputs.now c.shape_of.result c.same_shape.result c.self.view_is at
+    kept_is _ _ c.args.pair c.args.ticket c.args.inputs.now c.shape_of.result c.same_shape.result c.self.view_is (c.if-ticket-version.false ∙ c.version.ensures.version)
     (c.holds.ensures.0 c.if-not-holds.false ∙ ap (λ (z : List ℕ). Some z) c.row.ensures.row)
     c.shape_of.ensures.shape (shape_told c.shape.result _ c.shape_of.result c.same_shape.result c.shape.ensures c.same_shape.ensures)

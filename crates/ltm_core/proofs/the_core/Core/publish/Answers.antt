@@ -1,11 +1,11 @@
-use Rattle.std.proofs.Common.{◌≡◌, ℕ, ◌∙◌, arith, length, ap, sym, subst, refl}
+use Rattle.std.proofs.Common.{ℕ, ◌∙◌, arith, length, ap, sym, subst, refl}
 use Rattle.ltm_curve.specs.Counts.{Counts}
 use Rattle.ltm_loading.specs.Loading.{IsLoading}
 use Rattle.ltm_setting.specs.Setting.{setting_of}
 use Rattle.ltm_working.specs.Desks.{desk_at}
 use Rattle.ltm_flows.specs.Shown.{ShowsCounts}
-use Rattle.ltm_core.specs.Log.{log_of, version_now}
-use Rattle.ltm_core.proofs.Logs.{kept_version}
+use Rattle.ltm_core.specs.Log.{version_now}
+use Rattle.ltm_core.proofs.Logs.{length_batches}
 use Rattle.ltm_core.proofs.Cores.{rest_here, not_resting_at}
 use Rattle.ltm_core.proofs.Showings.{shown_low, ShowsTable, core_fits, core_agrees, core_after_publish, came_publish, core_publishes_at}
 use Rattle.ltm_core.proofs.Histories.{core_told}
@@ -40,40 +40,35 @@ pub renew_since-requires-clause-from : goal.renew_since-requires-clause-from
 renew_since-requires-clause-from c =
     omega (
       c.version-shown_at.ensures,
-      ap length c.deref.ensures.value,
+      ap length c.batches.ensures,
       shown_low _ c.self.invariant.0,
-      kept_version c.self.inside.opening c.self.inside.batches.items c.self.inside.marks.items c.self.invariant.1,
+      length_batches c.self.inside.log.log,
       arith,
     )
 
 pub refresh-requires-clause-produced : goal.refresh-requires-clause-produced
 refresh-requires-clause-produced c =
-    shown_production c.production_stays.ensures c.edits_make.ensures c.self.inside.opening c.self.inside.batches.items c.deref.result.now c.self.inside.marks.items c.self.inside.scenario c.self.inside.table c.self.inside.shown
-    c.self.inside.commits c.self.inside.stopped _ c.version-shown_at.result c.renew_since.new.shown c.self.invariant.0 c.self.invariant.1 c.deref.ensures.value c.version-shown_at.ensures c.renew_since.ensures
+    shown_production c.production_stays.ensures c.edits_make.ensures _ c.batches.result.now c.version-shown_at.result c.renew_since.new.shown c.self.invariant.0 c.batches.ensures c.version-shown_at.ensures c.renew_since.ensures
 
-version_is : (c : goal.After-add) → c.len-version.result ≡ version_now (log_of c.self.inside.opening c.self.inside.batches.items c.self.inside.marks.items)
-version_is c = omega (c.len-version.ensures, c.self.inside.batches.ok.0, kept_version c.self.inside.opening c.self.inside.batches.items c.self.inside.marks.items c.self.invariant.1, arith)
-
-shown_table : (c : goal.After-add) → ShowsTable (setting_of c.self.inside.scenario) (version_now (log_of c.self.inside.opening c.self.inside.batches.items c.self.inside.marks.items)) c.self.inside.table c.clear_changed.new.self c.refresh.new.self
+shown_table : (c : goal.After-add) → ShowsTable (setting_of c.self.inside.scenario) (version_now c.self.inside.log.log) c.self.inside.table c.clear_changed.new.self c.refresh.new.self
 shown_table c =
     let s = setting_of c.self.inside.scenario in
     let P : ℕ → Type 0 = λ n. ShowsCounts s n (desk_at s c.self.inside.table).counts c.refresh.new.self in
-    let Q : Counts → Type 0 = λ f. ShowsCounts s c.len-version.result f c.refresh.new.self in
+    let Q : Counts → Type 0 = λ f. ShowsCounts s c.version-accepted.result f c.refresh.new.self in
     record {
       desk = c.clear_changed.ensures.desk (setting_of c.self.inside.scenario);
       ready = c.clear_changed.ensures.ready (setting_of c.self.inside.scenario) c.self.invariant.0.ready;
       cleared = λ g k. c.clear_changed.ensures.none (setting_of c.self.inside.scenario) g k;
-      shows = subst P (version_is c) (subst Q (sym (c.curves.ensures.counts s)) c.refresh.ensures);
+      shows = subst P c.version-accepted.ensures.version (subst Q (sym (c.curves.ensures.counts s)) c.refresh.ensures);
       room = omega (c.room-room.ensures.value, c.room-room.ensures.within, c.refresh.ensures.shape.same_slots, arith);
     }
 
 pub invariant_of-self : goal.invariant_of-self
 invariant_of-self c = (
   core_told _ _ (core_after_publish c.repair_laws.ensures _ c.clear_changed.new.self c.refresh.new.self c.self.invariant.0 (c.is_at_rest.ensures.0 c.if-not-is_at_rest.false) (shown_table c)),
-  c.self.invariant.1,
-  came_publish _ c.clear_changed.new.self c.refresh.new.self _ c.self.invariant.0 (c.is_at_rest.ensures.0 c.if-not-is_at_rest.false) (shown_table c) c.add.ensures c.self.invariant.2,
+  came_publish _ c.clear_changed.new.self c.refresh.new.self _ c.self.invariant.0 (c.is_at_rest.ensures.0 c.if-not-is_at_rest.false) (shown_table c) c.add.ensures c.self.invariant.1,
 )
 
 pub returns-clause-answer : goal.returns-clause-answer
 returns-clause-answer c =
-    core_publishes_at _ _ c.clear_changed.new.self c.refresh.new.self _ c.len-version.result c.self.view_is (version_is c) c.self.invariant.0 (c.is_at_rest.ensures.0 c.if-not-is_at_rest.false) (shown_table c) c.add.ensures
+    core_publishes_at _ _ c.clear_changed.new.self c.refresh.new.self _ c.version-accepted.result c.self.view_is c.version-accepted.ensures.version c.self.invariant.0 (c.is_at_rest.ensures.0 c.if-not-is_at_rest.false) (shown_table c) c.add.ensures

@@ -14,8 +14,7 @@ overflow_add-self c =
 pub invariant_of-self : goal.invariant_of-self
 invariant_of-self c = (
   core_told _ _ (anew_is_core c.repair_laws.ensures _ _ _ _ _ c.self.invariant.0 c.recompute-found.ensures.ready c.in-Work.ensures.recomputes.1),
-  c.self.invariant.1,
-  came_anew c.repair_laws.ensures _ _ _ _ _ _ _ c.self.invariant.0 c.in-Work.ensures.recomputes.1 c.add.ensures c.add-in-Work.ensures c.self.invariant.2,
+  came_anew c.repair_laws.ensures _ _ _ _ _ _ _ c.self.invariant.0 c.in-Work.ensures.recomputes.1 c.add.ensures c.add-in-Work.ensures c.self.invariant.1,
 )
 
 pub returns-in-Work-clause-answer : goal.returns-in-Work-clause-answer
@@ -24,8 +23,7 @@ returns-in-Work-clause-answer c = core_recomputes_at c.repair_laws.ensures _ _ c
 pub invariant_of-self-in-Wait : goal.invariant_of-self-in-Wait
 invariant_of-self-in-Wait c = (
   core_told _ _ (core_after_claim c.repair_laws.ensures _ c.recompute-found.new.self _ c.self.invariant.0 c.recompute-found.ensures.ready c.in-Wait.ensures.recomputes.1 c.in-Wait.ensures.recomputes.0 tt),
-  c.self.invariant.1,
-  came_claim c.repair_laws.ensures _ c.recompute-found.new.self _ _ c.self.invariant.0 c.in-Wait.ensures.recomputes.1 c.in-Wait.ensures.recomputes.0 tt c.add-in-Wait.ensures c.self.invariant.2,
+  came_claim c.repair_laws.ensures _ c.recompute-found.new.self _ _ c.self.invariant.0 c.in-Wait.ensures.recomputes.1 c.in-Wait.ensures.recomputes.0 tt c.add-in-Wait.ensures c.self.invariant.1,
 )
 
 pub returns-in-Wait-clause-answer : goal.returns-in-Wait-clause-answer
@@ -34,8 +32,7 @@ returns-in-Wait-clause-answer c = core_looks_at _ _ c.recompute-found.new.self _
 pub invariant_of-self-in-Rest : goal.invariant_of-self-in-Rest
 invariant_of-self-in-Rest c = (
   core_told _ _ (core_after_claim c.repair_laws.ensures _ c.recompute-found.new.self _ c.self.invariant.0 c.recompute-found.ensures.ready c.in-Rest.ensures.recomputes.1 c.in-Rest.ensures.recomputes.0 tt),
-  c.self.invariant.1,
-  came_claim c.repair_laws.ensures _ c.recompute-found.new.self _ _ c.self.invariant.0 c.in-Rest.ensures.recomputes.1 c.in-Rest.ensures.recomputes.0 tt c.add-in-Rest.ensures c.self.invariant.2,
+  came_claim c.repair_laws.ensures _ c.recompute-found.new.self _ _ c.self.invariant.0 c.in-Rest.ensures.recomputes.1 c.in-Rest.ensures.recomputes.0 tt c.add-in-Rest.ensures c.self.invariant.1,
 )
 
 pub returns-in-Rest-clause-answer : goal.returns-in-Rest-clause-answer

@@ -3,4 +3,4 @@ use Rattle.ltm_core.proofs.Settlings.{core_stops, came_stops}
 use Rattle.ltm_core.proofs.the_core.Core.stop.Goals as goal
 
 pub invariant_of-self : goal.invariant_of-self
-invariant_of-self c = (core_stops _ true c.self.invariant.0, c.self.invariant.1, came_stops _ true c.self.invariant.2)
+invariant_of-self c = (core_stops _ true c.self.invariant.0, came_stops _ true c.self.invariant.1)

@@ -1,11 +1,7 @@
-use Rattle.std.proofs.Common.{◌≡◌, ap, ◌∙◌, arith}
-use Rattle.ltm_core.specs.Log.{log_of, version_now}
+use Rattle.std.proofs.Common.{ap, ◌∙◌}
+use Rattle.ltm_core.specs.Log.{version_now}
 use Rattle.ltm_core.specs.Cores.{CoreData}
-use Rattle.ltm_core.proofs.Logs.{kept_version}
 use Rattle.ltm_core.proofs.the_core.Core.version.Goals as goal
 
 pub returns-clause-version : goal.returns-clause-version
-returns-clause-version c =
-    let at : c.len.result ≡ version_now (log_of c.self.inside.opening c.self.inside.batches.items c.self.inside.marks.items) =
-    omega (c.len.ensures, c.self.inside.batches.ok.0, kept_version c.self.inside.opening c.self.inside.batches.items c.self.inside.marks.items c.self.invariant.1, arith) in
-    at ∙ ap (λ (z : CoreData). version_now z.log) c.self.view_is
+returns-clause-version c = c.version.ensures.version ∙ ap (λ (z : CoreData). version_now z.log) c.self.view_is
