@@ -11,7 +11,7 @@ use Rattle.ltm_session.specs.Analysts.{Analysts}
 use Rattle.ltm_session.specs.Session.{Answering, longest_line, most_lines}
 use Rattle.ltm_session.specs.Serving.{IsServing, EndsIfTold}
 use Rattle.ltm_session.specs.Answerers.{Knowing, Leads, AnswersBy, StopsBy, Serves}
-use Rattle.ltm_session.proofs.Progress.{nothing_ahead, serving_begins, serving_more, serving_ends, serving_stops, never_begun}
+use Rattle.ltm_session.proofs.Progress.{nothing_ahead, serving_begins, serving_more, serving_ends, serving_stops}
 
 -- so many lines were read and answered, from each machine that may have been there
 pub record ServesSoFar (rule : Answering) (old new : Knowing) (told coming before after : Option (List ℕ)) (count : ℕ) : Type 0 where

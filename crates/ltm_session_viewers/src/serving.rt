@@ -7,10 +7,13 @@ use crate::boards::Boards;
 use crate::news::News;
 use crate::stage::Stage;
 use crate::viewed::Viewed;
-use ltm_core::Core;
+use ltm_core::{Core, Scratch};
 use ltm_io::{Sink, Source};
 use ltm_session::{SessionEnd, serve_lines};
 use std::sync::Wait;
+
+/// Lets buffers go.
+fn let_go(_scratch: Scratch) {}
 
 /// Does nothing. The check ties a reference that came back to the one that was lent where it is used, and so knows then
 /// what that one leaves.
@@ -56,9 +59,10 @@ pub(crate) fn serve_and_end<R: Wait, S: Source, W: Sink>(
         alloc: _,
         news: _,
         core,
-        scratch: _,
+        scratch,
         boards,
     } = viewed;
+    let_go(scratch);
     take_back(core);
     news.tell_end();
     (boards, end)
