@@ -13,6 +13,7 @@ use Rattle.ltm_routes_command.specs.File.{IsSplitsFile, IsTimesFile}
 use Rattle.ltm_command.specs.declared.words.Command.TheVariants as command
 use Rattle.ltm_report.specs.Reports.{IsReport}
 use Rattle.ltm_report.specs.DelayReports.{IsDelayReport}
+use Rattle.ltm_report.specs.GapReports.{IsGapReport}
 use Rattle.ltm_check_command.specs.declared.refusal.Refusal.{Refusal}
 use Rattle.ltm_check_command.specs.declared.refusal.Refusal.TheVariants as refusal
 use Rattle.ltm_check_command.specs.Loaded.{IsLoadingText}
@@ -24,6 +25,9 @@ load_told told s text describes report = (Ok s, describes, (text, report, refl))
 
 pub delay_told : (told : Option Files) (s : ScenarioData) (text : List ℕ) → Describes told (Ok s) → IsDelayReport s text → Answers command.Delay told (Ok text)
 delay_told told s text describes report = (Ok s, describes, (text, report, refl))
+
+pub gap_told : (told : Option Files) (s : ScenarioData) (text : List ℕ) → Describes told (Ok s) → IsGapReport s text → Answers command.Gap told (Ok text)
+gap_told told s text describes report = (Ok s, describes, (text, report, refl))
 
 -- a report of any kind
 refused : (Reports : ScenarioData → List ℕ → Type 0) (told : Option Files) (e : CaseFault) → IfSome told (λ files. case_of files ≡ Err e) → ReportAnswer Reports told (Err (refusal.Case e))
@@ -40,6 +44,12 @@ delay_fault told (fault.Folder f) agrees = tt
 delay_fault told (fault.TooLong f) agrees = refused IsDelayReport told (fault.TooLong f) agrees
 delay_fault told (fault.Bad f row cause) agrees = refused IsDelayReport told (fault.Bad f row cause) agrees
 delay_fault told fault.NoMemory agrees = tt
+
+pub gap_fault : (told : Option Files) (e : CaseFault) → IfSome told (λ files. Agrees (case_of files) e) → AnswersFault command.Gap told (refusal.Case e)
+gap_fault told (fault.Folder f) agrees = tt
+gap_fault told (fault.TooLong f) agrees = refused IsGapReport told (fault.TooLong f) agrees
+gap_fault told (fault.Bad f row cause) agrees = refused IsGapReport told (fault.Bad f row cause) agrees
+gap_fault told fault.NoMemory agrees = tt
 
 -- where two facts are known of what was answered, so is what follows from both
 pub joined : {A E : Type 0} (r : Result A E) (P Q R : A → Type 0) → ((x : A) → P x → Q x → R x) → IfOk r P → IfOk r Q → IfOk r R

@@ -32,6 +32,10 @@ pub delay_failed : (told : Option Files) (before now : Doc → ℕ) (f : File)
     → IfSome told (λ files. WasAsked (asks_for files) (fault.Folder f)) → HasRisen before now (fault.Folder f) → FileFailed command.Delay told before now
 delay_failed told before now f asked rose = failed told before now f asked rose
 
+pub gap_failed : (told : Option Files) (before now : Doc → ℕ) (f : File)
+    → IfSome told (λ files. WasAsked (asks_for files) (fault.Folder f)) → HasRisen before now (fault.Folder f) → FileFailed command.Gap told before now
+gap_failed told before now f asked rose = failed told before now f asked rose
+
 -- the same of the roads and the demand
 abbrev RoadsFailed : Option Files → (Doc → ℕ) → (Doc → ℕ) → Type 0
 RoadsFailed told before now = (d : Doc) × (is_of_roads d ≡ true) × IfSome told (λ files. is_of_roads d ≡ true) × Rose (before d) (now d)

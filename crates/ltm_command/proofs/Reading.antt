@@ -19,6 +19,7 @@ asks_trial words start nodes (a, b, is, starts, has) =
 pub asked : (words : List (List ℕ)) (c : Command) → Asks words c → command_of words ≡ Some c
 asked words command.Load is = ap command_of is
 asked words command.Delay is = ap command_of is
+asked words command.Gap is = ap command_of is
 asked words command.Curves is = ap command_of is
 asked words command.Check is = ap command_of is
 asked words command.Routes is = ap command_of is
@@ -54,18 +55,22 @@ alone word c is =
     let routes = when word (codes "routes") (Some command.Routes) None in
     let check = when word (codes "check") (Some command.Check) routes in
     let curves = when word (codes "curves") (Some command.Curves) check in
-    let delay = when word (codes "delay") (Some command.Delay) curves in
+    let gap = when word (codes "gap") (Some command.Gap) curves in
+    let delay = when word (codes "delay") (Some command.Delay) gap in
     elim (when_some word (codes "load") (Some command.Load) delay c is) [
       | inl (same, this) ↦ subst (Asks (word ∷ [])) (is_one command.Load c this) (ap (λ w. w ∷ []) same)
-      | inr next ↦ elim (when_some word (codes "delay") (Some command.Delay) curves c next) [
+      | inr next ↦ elim (when_some word (codes "delay") (Some command.Delay) gap c next) [
         | inl (same, this) ↦ subst (Asks (word ∷ [])) (is_one command.Delay c this) (ap (λ w. w ∷ []) same)
-        | inr rest ↦ elim (when_some word (codes "curves") (Some command.Curves) check c rest) [
-          | inl (same, this) ↦ subst (Asks (word ∷ [])) (is_one command.Curves c this) (ap (λ w. w ∷ []) same)
-          | inr more ↦ elim (when_some word (codes "check") (Some command.Check) routes c more) [
-            | inl (same, this) ↦ subst (Asks (word ∷ [])) (is_one command.Check c this) (ap (λ w. w ∷ []) same)
-            | inr last ↦ elim (when_some word (codes "routes") (Some command.Routes) None c last) [
-              | inl (same, this) ↦ subst (Asks (word ∷ [])) (is_one command.Routes c this) (ap (λ w. w ∷ []) same)
-              | inr none ↦ absurd (nothing c none)
+        | inr after ↦ elim (when_some word (codes "gap") (Some command.Gap) curves c after) [
+          | inl (same, this) ↦ subst (Asks (word ∷ [])) (is_one command.Gap c this) (ap (λ w. w ∷ []) same)
+          | inr rest ↦ elim (when_some word (codes "curves") (Some command.Curves) check c rest) [
+            | inl (same, this) ↦ subst (Asks (word ∷ [])) (is_one command.Curves c this) (ap (λ w. w ∷ []) same)
+            | inr more ↦ elim (when_some word (codes "check") (Some command.Check) routes c more) [
+              | inl (same, this) ↦ subst (Asks (word ∷ [])) (is_one command.Check c this) (ap (λ w. w ∷ []) same)
+              | inr last ↦ elim (when_some word (codes "routes") (Some command.Routes) None c last) [
+                | inl (same, this) ↦ subst (Asks (word ∷ [])) (is_one command.Routes c this) (ap (λ w. w ∷ []) same)
+                | inr none ↦ absurd (nothing c none)
+              ]
             ]
           ]
         ]

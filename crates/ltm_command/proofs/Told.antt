@@ -22,6 +22,7 @@ use Rattle.ltm_command.specs.declared.words.Command.TheVariants as ask
 use Rattle.ltm_try_command.specs.Trial.{IsTrial}
 use Rattle.ltm_report.specs.Reports.{IsReport}
 use Rattle.ltm_report.specs.DelayReports.{IsDelayReport}
+use Rattle.ltm_report.specs.GapReports.{IsGapReport}
 use Rattle.ltm_check.specs.Left.{records_of}
 use Rattle.ltm_check.specs.ReadBack.{TellsLoading}
 use Rattle.ltm_check_command.specs.declared.refusal.Refusal.{Refusal}
@@ -113,6 +114,12 @@ delayed told text (Ok t, (Ok s, describes, (u, report, same)), ok, is) =
     let equal : u ≡ text = cc in (s, describes, subst (IsDelayReport s) equal report)
 delayed told text (Ok t, (Err fault, describes, same), ok, is) = cc
 delayed told text (Err e, says, ok, is) = absurd (never_ok e ok)
+
+pub gapped : (told : Option Files) (text : List ℕ) → IsAnswerUnder ask.Gap told ending.Ok text → (s : ScenarioData) × Describes told (Ok s) × IsGapReport s text
+gapped told text (Ok t, (Ok s, describes, (u, report, same)), ok, is) =
+    let equal : u ≡ text = cc in (s, describes, subst (IsGapReport s) equal report)
+gapped told text (Ok t, (Err fault, describes, same), ok, is) = cc
+gapped told text (Err e, says, ok, is) = absurd (never_ok e ok)
 
 pub routed : (told : Option Files) (text : List ℕ) → IsAnswerUnder ask.Routes told ending.Ok text → IsSplitsFile told text
 routed told text (Ok t, (says, file), ok, is) = subst (IsSplitsFile told) (sym is) file
@@ -216,6 +223,7 @@ check_missing files (refusal.NoStep node slot) answer missing says other = absur
 pub only_missing : (command : Command) (told : Option Files) (files : Files) (e : Refusal) (answer : Answer) → told ≡ Some files → IsMissing e → Answers command (Some files) (Err e) → Answers command told answer → answer ≡ Err e
 only_missing ask.Load told files e answer is missing none says = report_missing IsReport files e answer missing none (subst (λ o. Answers ask.Load o answer) is says)
 only_missing ask.Delay told files e answer is missing none says = report_missing IsDelayReport files e answer missing none (subst (λ o. Answers ask.Delay o answer) is says)
+only_missing ask.Gap told files e answer is missing none says = report_missing IsGapReport files e answer missing none (subst (λ o. Answers ask.Gap o answer) is says)
 only_missing ask.Routes told files e answer is missing none says = routes_missing lines.Splits files e answer missing none.0 (subst (λ o. Answers ask.Routes o answer) is says).0
 only_missing ask.RouteTimes told files e answer is missing none says = routes_missing lines.Times files e answer missing none.0 (subst (λ o. Answers ask.RouteTimes o answer) is says).0
 only_missing (ask.Try start nodes) told files e answer is missing (text, trial, same) says = absurd (cc)

@@ -20,6 +20,7 @@ use Rattle.ltm_check_command.specs.Loaded.{AnswersCurves}
 use Rattle.ltm_check_command.specs.Checks.{AnswersCheck, is_check_file, check_asks_for}
 use Rattle.ltm_report.specs.Reports.{IsReport}
 use Rattle.ltm_report.specs.DelayReports.{IsDelayReport}
+use Rattle.ltm_report.specs.GapReports.{IsGapReport}
 
 -- a text, or the refusal in place of it
 abbrev pub Answer : Type 0
@@ -55,6 +56,7 @@ CurvesAnswer told answer = (said : Result (List ℕ) CaseFault) × AnswersCurves
 abbrev pub Answers : Command → Option Files → Answer → Type 0
 Answers command.Load told answer = ReportAnswer IsReport told answer
 Answers command.Delay told answer = ReportAnswer IsDelayReport told answer
+Answers command.Gap told answer = ReportAnswer IsGapReport told answer
 Answers command.Routes told answer = RouteAnswer lines.Splits told answer × IfOk answer (IsSplitsFile told)
 Answers command.RouteTimes told answer = RouteAnswer lines.Times told answer × IfOk answer (IsTimesFile told)
 Answers (command.Try start nodes) told answer = (text : List ℕ) × IsTrial start nodes text × (answer ≡ Ok text)
@@ -87,6 +89,7 @@ HasText c = Unit {0}
 abbrev pub may_fetch : Command → Doc → Bool
 may_fetch command.Load d = is_case_file d
 may_fetch command.Delay d = is_case_file d
+may_fetch command.Gap d = is_case_file d
 may_fetch command.Routes d = is_of_roads d
 may_fetch command.RouteTimes d = is_of_roads d
 may_fetch command.Curves d = is_case_file d
@@ -97,6 +100,7 @@ may_fetch c d = false
 abbrev pub fetches : Command → Files → Doc → Bool
 fetches command.Load files d = asks_for files d
 fetches command.Delay files d = asks_for files d
+fetches command.Gap files d = asks_for files d
 fetches command.Routes files d = is_of_roads d
 fetches command.RouteTimes files d = is_of_roads d
 fetches command.Curves files d = asks_for files d

@@ -1,4 +1,4 @@
--- What the words of the command line ask for: one of ten commands, or nothing.
+-- What the words of the command line ask for: one of eleven commands, or nothing.
 use Rattle.std.specs.Prelude.{ℕ, ◌≡◌, ◌↔◌, ◌≤◌, if◌then◌else◌, List, [], ◌∷◌, Option, None, Some, option_map, codes}
 use Rattle.std.specs.Str.{bytes_eq}
 use Rattle.ltm_units.specs.Numbers.{number_told}
@@ -24,6 +24,7 @@ editors_of = number_of 1 1 8
 abbrev pub Asks : List (List ℕ) → Command → Type 0
 Asks words command.Load = words ≡ codes "load" ∷ []
 Asks words command.Delay = words ≡ codes "delay" ∷ []
+Asks words command.Gap = words ≡ codes "gap" ∷ []
 Asks words command.Curves = words ≡ codes "curves" ∷ []
 Asks words command.Check = words ≡ codes "check" ∷ []
 Asks words command.Routes = words ≡ codes "routes" ∷ []
@@ -50,9 +51,10 @@ abbrev pub one_word : List ℕ → Option Command
 one_word word =
     when word (codes "load") (Some command.Load)
     (when word (codes "delay") (Some command.Delay)
+    (when word (codes "gap") (Some command.Gap)
     (when word (codes "curves") (Some command.Curves)
     (when word (codes "check") (Some command.Check)
-    (when word (codes "routes") (Some command.Routes) None))))
+    (when word (codes "routes") (Some command.Routes) None)))))
 
 abbrev pub two_words : List ℕ → List ℕ → Option Command
 two_words word second =
@@ -80,4 +82,4 @@ OneReading = (words : List (List ℕ)) (c : Command) → (command_of words ≡ S
 
 -- all commands
 unfoldable pub usage_line : List ℕ
-usage_line = codes "usage: ltm load | ltm delay | ltm session N | ltm try START NODES | ltm routes [times] | ltm curves | ltm check | ltm view V | ltm editors K\n"
+usage_line = codes "usage: ltm load | ltm delay | ltm gap | ltm session N | ltm try START NODES | ltm routes [times] | ltm curves | ltm check | ltm view V | ltm editors K\n"

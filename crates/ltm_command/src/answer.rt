@@ -14,6 +14,7 @@ ghost use Rattle.ltm_check_command.specs.declared.refusal.Refusal.{Refusal};
 ghost use Rattle.ltm_check_command.specs.Checks.{is_check_file, check_asks_for};
 
 use crate::delay::delay_case;
+use crate::gap::gap_case;
 use crate::load::report_case;
 use crate::words::Command;
 use ltm_casefile::CaseFault;
@@ -111,6 +112,7 @@ fn case_answer<F: Folder>(
     match command {
         Command::Load => report_case(alloc, folder),
         Command::Delay => delay_case(alloc, folder),
+        Command::Gap => gap_case(alloc, folder),
         Command::Routes => route_splits(alloc, folder),
         Command::RouteTimes => route_times(alloc, folder),
         Command::Try { start, nodes } => trial(alloc, start, nodes),

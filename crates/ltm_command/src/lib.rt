@@ -1,5 +1,5 @@
 //! - **What it is**: all commands as one `Command`, and the one reading of the words; the commands that answer one text:
-//!   `load`, `delay`, `routes`, `try`, `check`, whose text is made before a byte of it is written, and `curves`, which is
+//!   `load`, `delay`, `gap`, `routes`, `try`, `check`, whose text is made before a byte of it is written, and `curves`, which is
 //!   written a piece at a time; the exit statuses, what a run does to the outside (`IsRun`), and the texts that end one.
 //! - **On what it stands**: `ltm_casefile`, which reads the case, `ltm_report`, which loads it and writes the lines,
 //!   `ltm_routes_command`, which finds routes, `ltm_try_command`, which tries a made case, and `ltm_check_command`, which writes and checks
@@ -16,6 +16,7 @@ mod answer;
 mod closing;
 mod curves;
 mod delay;
+mod gap;
 mod load;
 mod refusing;
 mod status;

@@ -15,6 +15,8 @@ pub enum Command {
     Load,
     /// What is spent, queued and waited in the case's loading: in all, by link and by origin.
     Delay,
+    /// What those who travel spend, against the least that they could have: in all, and by destination.
+    Gap,
     /// The loading of the case as a curve file.
     Curves,
     /// Whether the curve file beside the case is its loading.
@@ -80,6 +82,9 @@ fn one_word(word: &str) -> Option<Command>
     }
     if word == "delay" {
         return Some(Command::Delay);
+    }
+    if word == "gap" {
+        return Some(Command::Gap);
     }
     if word == "curves" {
         return Some(Command::Curves);
@@ -153,5 +158,5 @@ pub fn one_reading()
 pub fn usage_text() -> &'static [u8]
     ensures { result.now ≡ usage_line }
 {
-    b"usage: ltm load | ltm delay | ltm session N | ltm try START NODES | ltm routes [times] | ltm curves | ltm check | ltm view V | ltm editors K\n"
+    b"usage: ltm load | ltm delay | ltm gap | ltm session N | ltm try START NODES | ltm routes [times] | ltm curves | ltm check | ltm view V | ltm editors K\n"
 }

@@ -32,6 +32,7 @@ fn starts_threads(command: Command) -> bool
         Command::Editors { .. } => true,
         Command::Load => false,
         Command::Delay => false,
+        Command::Gap => false,
         Command::Curves => false,
         Command::Check => false,
         Command::Routes => false,

@@ -2,3 +2,4 @@ pub mod Reported
 pub mod Delayed
 pub mod Rowed
 mod RowsTell
+mod Gapped

@@ -16,3 +16,5 @@ pub mod Refusals
 pub mod Times
 pub mod Made
 pub mod Routes
+pub mod Gaps
+pub mod GapReports

@@ -47,12 +47,7 @@ fn wait_in_slot(from: u64, to: u64, count: u64, step: u64) -> u64
 }
 
 /// The first moment, up to the last boundary, at which a group has so many units; None where it never has.
-pub(crate) fn moment_of(
-    curves: &TotalCurves,
-    group: u32,
-    count: u64,
-    step: Millis,
-) -> Option<Millis>
+pub fn moment_of(curves: &TotalCurves, group: u32, count: u64, step: Millis) -> Option<Millis>
     requires group { group < total_groups curves.now }
     requires rises { Rises (total_at curves.now group) (total_slots curves.now) }
     requires some_step { 1 ≤ step.0 }

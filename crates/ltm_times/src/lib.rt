@@ -23,6 +23,7 @@ mod queues;
 mod ready;
 mod spending;
 
+pub use boundaries::moment_of;
 pub use delays::{DelayTotals, LinkDelay, LinkState, OriginDelay, OriginState, Peak};
 pub use delays_in_all::{delay_totals, waited};
 pub use laws::{
@@ -32,4 +33,5 @@ pub use laws::{
 pub use origins::{origin_delay, origin_state, waiting};
 pub use passing::{exit_ms, travel};
 pub use queues::{link_delay, link_state, queue};
+pub use ready::past;
 pub use spending::time_spent;

@@ -10,7 +10,7 @@ use ltm_curve::TotalCurves;
 use ltm_units::{Millis, share_of};
 
 /// The total of a group `rest` milliseconds past a boundary, interpolated and rounded down.
-fn past(curves: &TotalCurves, group: u32, boundary: u32, rest: Millis, step: Millis) -> u64
+pub fn past(curves: &TotalCurves, group: u32, boundary: u32, rest: Millis, step: Millis) -> u64
     requires group { group < total_groups curves.now }
     requires rest { rest.0 < step.0 }
     requires boundary { boundary ≤ total_slots curves.now }

@@ -84,6 +84,22 @@ fn tells_delays(rt: HostRuntime) -> Result<(), Fail> {
     expect(&rt, &["delay"], &mut folder, Status::BadCase, line)
 }
 
+// A queue from the start: the units of the first three slots arrive in time, the others are late.
+#[test]
+fn tells_the_gap(rt: HostRuntime) -> Result<(), Fail> {
+    let files = [
+        "step_ms,slots,origin_capacity\n1000,16,1\n",
+        "link,from,to,length_m,free_kmh,wave_kmh,jam_per_km\na,n1,n2,20,36,18,150\nb,n2,n3,20,36,18,60\n",
+        "origin,destination,from_slot,to_slot,vehicles\nn1,n3,0,10,7\n",
+        "node,destination,from_slot,weights\nn1,n3,0,a=1\nn2,n3,0,b=1\n",
+    ];
+    let text =
+        "version 0 spent 64.900000 least 65.275000 gap -0.375000 late 4.900\nto n3 spent 64.900000 least 65.275000 gap -0.375000 late 4.900\n";
+    let mut folder = folder_of(rt.alloc(), files, &[])?;
+    expect(&rt, &["gap"], &mut folder, Status::Ok, text)?;
+    expect(&rt, &["gap", "n3"], &mut folder, Status::Usage, USAGE)
+}
+
 #[test]
 fn refuses_a_bad_case(rt: HostRuntime) -> Result<(), Fail> {
     let cases: [(&str, &str, &str, &str); 8] = [

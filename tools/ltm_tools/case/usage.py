@@ -6,6 +6,7 @@ from collections.abc import Sequence
 WORDS = {
     "load": "load, the report of the loading",
     "delay": "delay, the queues and the delay of the loading",
+    "gap": "gap, what all spend against the least at the link times of the loading",
     "routes": "routes or routes times, least routes",
     "try": "try START NODES, a made case: NODES is 4 to 400",
     "session": "session N, with N workers, 0 to 64",

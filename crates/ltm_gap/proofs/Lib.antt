@@ -1,0 +1,13 @@
+pub mod Firsts
+pub mod Opening
+pub mod Passing
+pub mod Certified
+pub mod Within
+pub mod Searching
+pub mod Alike
+pub mod Reaching
+pub mod Lawful
+pub mod Out
+pub mod Shown
+pub mod Adding
+pub mod Same

@@ -1,0 +1,9 @@
+pub mod Leaving
+pub mod Ways
+pub mod Earliest
+pub mod Laws
+pub mod Gaps
+pub mod Read
+pub mod Search
+pub mod Sums
+pub mod Told

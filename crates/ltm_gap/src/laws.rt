@@ -1,0 +1,35 @@
+//! What holds of earliest arrivals.
+ghost use Rattle.ltm_setting.specs.Setting.{setting_of};
+ghost use Rattle.ltm_gap.specs.Laws.{EarliestIsFirst, NobodyComesBefore};
+ghost use Rattle.ltm_gap.specs.Leaving.{end_of};
+ghost use Rattle.ltm_gap.specs.Read.{Suits, ways_of};
+ghost use Rattle.ltm_gap.specs.Ways.{AreWays};
+
+use ltm_flows::Loading;
+use ltm_loading::never_fall;
+use ltm_scenario::Scenario;
+use ltm_setting::is_setting;
+
+/// An earliest arrival is that of a route, and none comes before by any route.
+pub fn earliest_is_first()
+    ensures { EarliestIsFirst }
+{
+    never_fall();
+}
+
+/// Nobody who set out from an origin could have arrived before, by any route, at the link times of this loading.
+pub fn nobody_comes_before()
+    ensures { NobodyComesBefore }
+{
+    earliest_is_first();
+}
+
+/// Who passes a link takes a step at least, and who comes to it later leaves it no sooner. Costs nothing when it runs.
+pub(crate) fn are_ways(scenario: &Scenario, loading: &Loading)
+    requires { Suits (setting_of scenario.now) loading.now }
+    ensures { AreWays (ways_of scenario.now loading.now) (setting_of scenario.now).step
+        (end_of (setting_of scenario.now)) }
+{
+    is_setting(scenario);
+    let _curves = loading.curves();
+}

@@ -1,0 +1,84 @@
+//! The report of the gap of a whole loading, as one text.
+ghost use Rattle.std.specs.Prelude.{◌≡◌, ◌++◌, ◌<◌, IfOk, OnOk, length};
+ghost use Rattle.ltm_curve.specs.Table.{counts_of};
+ghost use Rattle.ltm_flows.specs.Shown.{ShowsCounts};
+ghost use Rattle.ltm_setting.specs.Places.{IsShapedFor};
+ghost use Rattle.ltm_setting.specs.Setting.{setting_of};
+ghost use Rattle.ltm_units.specs.Texts.{texts_below};
+ghost use Rattle.ltm_gap.specs.Told.{AreGaps};
+ghost use Rattle.ltm_report.specs.GapReports.{gap_to_of, IsGapReport};
+
+use crate::gaps::{gap_line_text, gap_to_text};
+use ltm_curve::Curves;
+use ltm_flows::{Loading, cold};
+use ltm_gap::{Gaps, gaps_of, spent_to};
+use ltm_scenario::Scenario;
+use ltm_times::time_spent;
+use ltm_units::NoMemory;
+use std::alloc::Global;
+
+/// Appends the line of a destination.
+#[tactic(auto, unfolding(ltm_setting::specs::Setting::setting_of))]
+fn push_destination(
+    alloc: Global,
+    scenario: &Scenario,
+    curves: &Curves,
+    loading: &Loading,
+    gaps: &Gaps,
+    destination: u32,
+    into: &mut Vec<u8>,
+) -> Result<(), NoMemory>
+    requires shape { IsShapedFor scenario.now curves.now }
+    requires shows { ShowsCounts (setting_of scenario.now) 0 (counts_of curves.now) loading.now }
+    requires gaps { AreGaps (setting_of scenario.now) loading.now gaps.now }
+    requires destination { destination < length scenario.now.destinations }
+    ensures { OnOk result (into.new.items
+        ≡ into.old.items ++ gap_to_of scenario.now (counts_of curves.now) destination) }
+{
+    let _loading = loading;
+    let _setup = scenario.setup();
+    let name = scenario
+        .network()
+        .node_name(scenario.destination_node(destination));
+    let spent = spent_to(scenario, curves, destination);
+    gap_to_text(alloc, &name, spent, gaps.to(destination), into)
+}
+
+/// Appends the line of each destination.
+fn push_destinations(
+    alloc: Global,
+    scenario: &Scenario,
+    curves: &Curves,
+    loading: &Loading,
+    gaps: &Gaps,
+    into: &mut Vec<u8>,
+) -> Result<(), NoMemory>
+    requires shape { IsShapedFor scenario.now curves.now }
+    requires shows { ShowsCounts (setting_of scenario.now) 0 (counts_of curves.now) loading.now }
+    requires gaps { AreGaps (setting_of scenario.now) loading.now gaps.now }
+    ensures { OnOk result (into.new.items
+        ≡ into.old.items ++ texts_below (length scenario.now.destinations)
+        (gap_to_of scenario.now (counts_of curves.now))) }
+{
+    let _setup = scenario.setup();
+    let destinations = scenario.destinations().len() as u32;
+    for destination in 0..destinations {
+        push_destination(alloc, scenario, curves, loading, gaps, destination, into)?;
+    }
+    Ok(())
+}
+
+/// Loads a scenario, and gives what all who travel spend, the least that they could at the link times of its loading, and the
+/// same for each destination in order.
+pub fn gap_report_of(alloc: Global, scenario: &Scenario) -> Result<Vec<u8>, NoMemory>
+    ensures { IfOk result (λ text. IsGapReport scenario.now text.items) }
+{
+    let _setup = scenario.setup();
+    let curves = cold(alloc, scenario)?;
+    let loading = Loading::create(alloc, scenario, &curves, 0)?;
+    let gaps = gaps_of(alloc, scenario, &loading)?;
+    let mut text = Vec::new(alloc);
+    gap_line_text(alloc, 0, time_spent(&loading), gaps.all(), &mut text)?;
+    push_destinations(alloc, scenario, &curves, &loading, &gaps, &mut text)?;
+    Ok(text)
+}
