@@ -275,7 +275,7 @@ class Scripts(FolderTest):
             ('{"Do": "totals"}', "NotCommand 0", "the member do was looked for, and is not there; there is Do"),
             ('{"do": "total"}', "NotCommand 0",
              'the member do is "total", and it is one of edit, totals, link, time, delay, queue, origin, state, curve,'
-             ' departures, delays, settle'),
+             ' departures, delays, gap, settle'),
             ('{"do": "link"}', "NotCommand 0", "the member link was looked for, and is not there"),
             ('{"do": "time", "link": "a", "slot": "3"}', "NotCommand 0",
              'the member slot is "3", and a whole number from 0 to 4294967295 is wanted: "3" as the number 3'),

@@ -1,13 +1,14 @@
 -- What an accepted batch makes of a core.
-use Rattle.std.proofs.Common.{◌≡◌, ◌≢◌, ℕ, ◌+◌, ◌<◌, ◌≤◌, ◌^◌, List, ◌∷◌, inl, inr, refl, ap, sym, subst, ◌∙◌, arith}
+use Rattle.std.proofs.Common.{◌≡◌, ◌≢◌, ℕ, ◌+◌, ◌<◌, ◌≤◌, ◌^◌, List, [], ◌∷◌, ◌++◌, All, inl, inr, refl, ap, sym, subst, ◌∙◌, arith}
 use Rattle.std.specs.Prelude.{Ok, Err}
 use Rattle.std.proofs.lemmas.Bool.{cases_eq}
 use Rattle.ltm_scenario.specs.declared.edit.Edit.{Edit}
 use Rattle.ltm_scenario.specs.declared.edit.EditFault.{EditFault}
 use Rattle.ltm_scenario.specs.declared.edit.EditCause.TheVariants.{NoMemory}
 use Rattle.ltm_scenario.specs.Data.{ScenarioData}
-use Rattle.ltm_scenario.specs.Edits.{edited_all, horizon_after}
+use Rattle.ltm_scenario.specs.Edits.{edited_all, horizon_after, HaveAmounts}
 use Rattle.ltm_scenario.specs.Valid.{IsValid}
+use Rattle.std.proofs.lemmas.List.Elements.{All-append, All-cons, All-nil}
 use Rattle.ltm_scenario.specs.IsScenario.{IsScenario}
 use Rattle.ltm_scenario.specs.Shape.{SameShape}
 use Rattle.ltm_loading.specs.Setting.{Setting, IsSetting}
@@ -24,7 +25,7 @@ use Rattle.ltm_working.specs.Desks.{desk_at, changed_at}
 use Rattle.ltm_working.specs.Ready.{IsReady}
 use Rattle.ltm_working.specs.Growing.{TableSeenAs}
 use Rattle.ltm_working.specs.Batches.{LeadsTo, TakesIn, touches}
-use Rattle.ltm_core.specs.Log.{Log, version_now, scenario_at, scenario_now, with_batch}
+use Rattle.ltm_core.specs.Log.{Log, batches_of, version_now, scenario_at, scenario_now, with_batch}
 use Rattle.ltm_core.specs.Settling.{setting_at}
 use Rattle.ltm_core.specs.Laws.{RepairLaws}
 use Rattle.ltm_core.specs.Cores.{CoreData, desk_in, repair_of, IsNoneOut, IsAlike, IsLog, IsCore}
@@ -32,7 +33,7 @@ use Rattle.ltm_core.specs.CoreAnswers.{AcceptsBatch, LooksAs, TellsAccept}
 use Rattle.ltm_core.specs.Taking.{TakesBatch}
 use Rattle.ltm_core.specs.Histories.{CameBy}
 use Rattle.ltm_scenario.specs.Horizon.{MayReach}
-use Rattle.ltm_core.proofs.Logs.{version_batch, settled_batch, earlier_scenario, last_scenario, accepted_now, holds_more, opening_batch}
+use Rattle.ltm_core.proofs.Logs.{version_batch, settled_batch, earlier_scenario, last_scenario, accepted_now, holds_more, opening_batch, batches_more}
 use Rattle.ltm_core.proofs.Cores.{core_now, after_event, none_there}
 use Rattle.ltm_core.proofs.Histories.{repair_told, core_told, came_more}
 use Rattle.ltm_core.proofs.Showings.{shown_low}
@@ -93,6 +94,9 @@ core_accepted d batch next t is takes =
     accepted_of d batch next t (core_now d is) (now_after d batch next t taken.after) taken
 
 -- ---- the log with the batch
+all_more : (P : List Edit → Type 0) (batches : List (List Edit)) (batch : List Edit) → All P batches → P batch → All P (batches ++ batch ∷ [])
+all_more P batches batch all here = All-append P batches (batch ∷ []) all (All-cons P batch [] here (All-nil P))
+
 log_more : (d : CoreData) (batch : List Edit) (next : ScenarioData) (t : Table) → IsCore d → TakesBatch d.scenario next d.table t batch → version_now d.log + 1 < 2 ^ 63 → IsLog (with_batch d.log batch)
 log_more d batch next t is takes few =
     let taken : Taken d batch next t = taken_of d batch next t is takes in
@@ -115,6 +119,8 @@ log_more d batch next t is takes few =
             (subst (λ (z : ScenarioData). IsAlike z (scenario_at d.log k)) (sym (opening_batch d.log batch)) (is.log.alike k (omega arith)))
       ];
       few = omega (more, few, arith);
+      valid = subst IsValid (sym (opening_batch d.log batch)) is.log.valid;
+      amounts = subst (All HaveAmounts) (sym (batches_more d.log batch)) (all_more HaveAmounts (batches_of d.log) batch is.log.amounts takes.amounts);
     }
 
 pub core_after_accept : RepairLaws → (d : CoreData) (batch : List Edit) (next : ScenarioData) (t : Table) → IsCore d → TakesBatch d.scenario next d.table t batch → version_now d.log + 1 < 2 ^ 63 →
@@ -245,14 +251,15 @@ pub batch_network : BatchTouchesReaders → (s next : ScenarioData) (batch : Lis
 batch_network law s next batch is edited = (law 1 s next batch (have_slots s is) edited).0.network
 
 pub takes_batch : BatchTouchesReaders → (s next : ScenarioData) (batch edits : List Edit) (old new : Table) → IsScenario s → IsScenario next → IsValid next → SameShape s next → IsSetting (setting_of next) →
-    (setting_of next).slots ≡ horizon_after s.setup.slots batch → edited_all s batch ≡ Ok next → edits ≡ batch → IsReady (setting_of s) old → ((before : ScenarioData) → LeadsTo before next edits → IsReady (setting_of before) old → TakesIn before next edits old new) →
+    (setting_of next).slots ≡ horizon_after s.setup.slots batch → edited_all s batch ≡ Ok next → edits ≡ batch → IsReady (setting_of s) old → ((before : ScenarioData) → LeadsTo before next edits → IsReady (setting_of before) old → TakesIn before next edits old new) → HaveAmounts batch →
     TakesBatch s next old new batch
-takes_batch law s next batch edits old new scenario scenario' valid shape setting slots edited same ready taken =
+takes_batch law s next batch edits old new scenario scenario' valid shape setting slots edited same ready taken amounts =
     let leads : LeadsTo s next batch = record { shape = shape; reads = (law 1 s next batch (have_slots s scenario) edited).1 } in
     record {
       edited = edited;
       scenario = scenario';
       valid = valid;
+      amounts = amounts;
       alike = record { slots = shape.slots; network = shape.network; destinations = shape.destinations };
       setting = setting;
       slots = slots;

@@ -70,13 +70,15 @@ opening_of law s t l is o shows at =
       none_changed = o.none_changed;
     }
 
-log_begun : (s : ScenarioData) → IsScenario s → IsLog (first_log s)
+log_begun : (s : ScenarioData) → IsScenario s → IsValid s → IsLog (first_log s)
 unfolding HoldsAccepted batches_of version_now
-log_begun s is = record {
+log_begun s is valid = record {
   accepted = tt;
   scenarios = λ k l. subst IsScenario (sym (first_at s k l)) is;
   alike = λ k l. subst (λ (z : ScenarioData). IsAlike s z) (sym (first_at s k l)) (alike_refl s);
   few = lit< tt;
+  valid = valid;
+  amounts = λ k d low. absurd (omega arith);
 }
 
 shows_begun : (s : ScenarioData) (l : Loading) → Shows (setting_of s) 0 l → Shows (setting_at (first_log s) (version_of l)) (version_of l) l
@@ -88,7 +90,7 @@ shows_begun s l shows =
 pub core_begins : RepairLaws → OneLoading → (s : ScenarioData) (t : Table) (l : Loading) → IsScenario s → IsValid s → IsSetting (setting_of s) → IsOpened (setting_of s) t → Shows (setting_of s) 0 l →
     last_of l ≤ loading_room l → IsCore (begun s t l)
 core_begins laws law s t l scenario valid is o shows room = record {
-  log = log_begun s scenario;
+  log = log_begun s scenario valid;
   scenario = first_now s;
   valid = valid;
   repair = laws.opening (repair_of (begun s t l)) (opening_of law s t l is o shows (now_begun s t l));

@@ -97,7 +97,7 @@ earlier_scenario log b k low =
     let o : (with_batch log b).opening ≡ log.opening = opening_batch log b in
     ap (λ s. after_batches s (take k (batches_of (with_batch log b)))) o ∙ ap (λ l. after_batches log.opening l) same
 
-after_more : (s : ScenarioData) (batches : List (List Edit)) (batch : List Edit) → after_batches s (batches ++ batch ∷ []) ≡ after_batch (after_batches s batches) batch
+pub after_more : (s : ScenarioData) (batches : List (List Edit)) (batch : List Edit) → after_batches s (batches ++ batch ∷ []) ≡ after_batch (after_batches s batches) batch
 after_more s [] batch = refl
 after_more s (first ∷ batches) batch = after_more (after_batch s first) batches batch
 
@@ -142,10 +142,19 @@ holds_marked log holds =
     let Q : ScenarioData → Type 0 = λ s. AreAccepted s (batches_of log) in
     subst P (sym (batches_marked log)) (subst Q (sym (opening_marked log)) holds)
 
+-- the scenario after the first batches, by the parts of a log
+pub after_first : (log : Log) (opening : ScenarioData) (batches : List (List Edit)) (k n : ℕ) → opening ≡ log.opening → batches ≡ batches_of log → k ≡ n → after_batches opening (take k batches) ≡ scenario_at log n
+unfolding scenario_at
+after_first log opening batches k n first all at = λ i. after_batches (first i) (take (at i) (all i))
+
 -- ---- the log as it is kept
 pub none_kept : (s : ScenarioData) (bs : List (List Edit)) (ms : List Bool) → bs ≡ [] → ms ≡ [] → log_of s bs ms ≡ record { opening = s; batches = [] }
 unfolding log_of
 none_kept s bs ms none none' = λ i. log_of s (none i) (none' i)
+
+pub kept_opening : (opening : ScenarioData) (batches : List (List Edit)) (marks : List Bool) → (log_of opening batches marks).opening ≡ opening
+unfolding log_of
+kept_opening opening batches marks = refl
 
 pub kept_batches : (s : ScenarioData) (bs : List (List Edit)) (ms : List Bool) → length ms ≡ length bs → batches_of (log_of s bs ms) ≡ bs
 unfolding batches_of log_of

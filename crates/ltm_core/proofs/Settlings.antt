@@ -1,5 +1,5 @@
 -- What a settle count and a stop make of a core.
-use Rattle.std.proofs.Common.{◌≡◌, ℕ, ◌+◌, ◌-◌, ◌≤◌, List, ◌∷◌, Bool, refl, ap, sym, subst, ◌∙◌, arith}
+use Rattle.std.proofs.Common.{◌≡◌, ℕ, ◌+◌, ◌-◌, ◌≤◌, List, ◌∷◌, Bool, All, refl, ap, sym, subst, ◌∙◌, arith}
 use Rattle.ltm_units.specs.Sums.{sum_below}
 use Rattle.ltm_loading.specs.Setting.{Setting}
 use Rattle.ltm_scenario.specs.Data.{ScenarioData}
@@ -11,13 +11,15 @@ use Rattle.ltm_repair.specs.State.{RepairState, all_differences, IsSettleCount a
 use Rattle.ltm_repair.specs.Repair.{IsRepair}
 use Rattle.ltm_repair.specs.Events.{CoreEvent, Settle, Settled}
 use Rattle.ltm_repair.specs.Settling.{SettleTells}
-use Rattle.ltm_core.specs.Log.{Log, version_now, settled_of, scenario_at, with_mark}
+use Rattle.ltm_scenario.specs.Edits.{HaveAmounts}
+use Rattle.ltm_scenario.specs.Valid.{IsValid}
+use Rattle.ltm_core.specs.Log.{Log, batches_of, version_now, settled_of, scenario_at, with_mark}
 use Rattle.ltm_core.specs.Settling.{setting_at, difference, IsSettleCount, SettleCountsAreExact}
 use Rattle.ltm_core.specs.Laws.{RepairLaws}
 use Rattle.ltm_core.specs.Cores.{CoreData, repair_of, IsResting, IsAlike, IsLog, IsCore}
 use Rattle.ltm_core.specs.CoreAnswers.{SettlesAll}
 use Rattle.ltm_core.specs.Histories.{CameBy}
-use Rattle.ltm_core.proofs.Logs.{version_marked, settled_marked, marked_scenario, marked_now, opening_marked, holds_marked}
+use Rattle.ltm_core.proofs.Logs.{version_marked, settled_marked, marked_scenario, marked_now, opening_marked, batches_marked, holds_marked}
 use Rattle.ltm_core.proofs.Cores.{after_event}
 use Rattle.ltm_core.proofs.Histories.{repair_told, core_told, came_more, came_stays}
 
@@ -59,6 +61,8 @@ marked_log log is =
       alike = λ k l. subst (λ (z : ScenarioData). IsAlike (with_mark log).opening z) (sym (marked_scenario log k))
           (subst (λ (z : ScenarioData). IsAlike z (scenario_at log k)) (sym (opening_marked log)) (is.alike k (omega arith)));
       few = omega (is.few, same, arith);
+      valid = subst IsValid (sym (opening_marked log)) is.valid;
+      amounts = subst (All HaveAmounts) (sym (batches_marked log)) is.amounts;
     }
 
 shows_marked : (log : Log) (v : ℕ) (l : Loading) → Shows (setting_at log v) v l → Shows (setting_at (with_mark log) v) v l

@@ -1,9 +1,10 @@
 -- What contracts see of a core, and what holds of every core.
-use Rattle.std.specs.Prelude.{◌≡◌, ℕ, ◌<◌, ◌≤◌, ◌^◌, Bool, List}
+use Rattle.std.specs.Prelude.{◌≡◌, ℕ, ◌<◌, ◌≤◌, ◌^◌, Bool, List, All}
 use Rattle.ltm_curve.specs.TotalCurves.{total_at}
 use Rattle.ltm_curve.specs.Counts.{Counts}
 use Rattle.ltm_scenario.specs.Data.{ScenarioData}
 use Rattle.ltm_scenario.specs.IsScenario.{IsScenario}
+use Rattle.ltm_scenario.specs.Edits.{HaveAmounts}
 use Rattle.ltm_scenario.specs.Valid.{IsValid}
 use Rattle.ltm_setting.specs.Setting.{setting_of}
 use Rattle.ltm_flows.specs.declared.loading.Loading.{Loading}
@@ -17,7 +18,7 @@ use Rattle.ltm_repair.specs.Answers.{IsNoneClaimed}
 use Rattle.ltm_working.specs.declared.table.Table.{Table}
 use Rattle.ltm_working.specs.Desks.{desk_at, changed_at}
 use Rattle.ltm_working.specs.Ready.{IsReady}
-use Rattle.ltm_core.specs.Log.{Log, HoldsAccepted, version_now, settled_of, scenario_at, scenario_now}
+use Rattle.ltm_core.specs.Log.{Log, batches_of, HoldsAccepted, version_now, settled_of, scenario_at, scenario_now}
 use Rattle.ltm_core.specs.Settling.{setting_at}
 
 pub record CoreData : Type 0 where
@@ -104,6 +105,9 @@ pub record IsLog (log : Log) : Type 0 where
   pub scenarios : (k : ℕ) → k ≤ version_now log → IsScenario (scenario_at log k)
   pub alike : (k : ℕ) → k ≤ version_now log → IsAlike log.opening (scenario_at log k)
   pub few : version_now log < 2 ^ 63
+  -- the opening scenario was valid, and no amount is too great
+  pub valid : IsValid log.opening
+  pub amounts : All HaveAmounts (batches_of log)
 
 -- a core's scenario is that of its log and valid, its desk is that of a repair, and it shows a loading, which has room for
 -- the present horizon

@@ -2,7 +2,7 @@
 use Rattle.std.specs.Prelude.{◌≡◌, List, Ok}
 use Rattle.ltm_scenario.specs.declared.edit.Edit.{Edit}
 use Rattle.ltm_scenario.specs.Data.{ScenarioData}
-use Rattle.ltm_scenario.specs.Edits.{edited_all, horizon_after}
+use Rattle.ltm_scenario.specs.Edits.{edited_all, horizon_after, HaveAmounts}
 use Rattle.ltm_scenario.specs.IsScenario.{IsScenario}
 use Rattle.ltm_scenario.specs.Valid.{IsValid}
 use Rattle.ltm_loading.specs.Setting.{IsSetting}
@@ -17,6 +17,7 @@ pub record TakesBatch (s next : ScenarioData) (old new : Table) (batch : List Ed
   pub edited : edited_all s batch ≡ Ok next
   pub scenario : IsScenario next
   pub valid : IsValid next
+  pub amounts : HaveAmounts batch
   pub alike : IsAlike s next
   pub setting : IsSetting (setting_of next)
   pub slots : (setting_of next).slots ≡ horizon_after s.setup.slots batch

@@ -55,6 +55,13 @@ impl Log {
         self.batches.len() as u64
     }
 
+    /// The scenario with which the core began.
+    pub(crate) fn opening(&self) -> &Scenario
+        ensures { result.now ≡ self.now.log.opening }
+    {
+        &self.opening
+    }
+
     /// The accepted batches, in order.
     pub(crate) fn batches(&self) -> &[Batch]
         ensures { result.now ≡ batches_of self.now.log }

@@ -12,6 +12,7 @@ ghost use Rattle.ltm_core.specs.Log.{batches_of, version_now, scenario_now};
 mod batches;
 mod claiming;
 mod recomputing;
+mod shown_again;
 mod showing;
 
 use crate::history::History;

@@ -1,9 +1,6 @@
 -- What a slot adds to the sums of all destinations.
-use Rattle.std.proofs.Common.{◌≡◌, ◌≢◌, ℕ, zero, suc, ◌+◌, ◌*◌, ◌/◌, ◌<◌, ◌≤◌, inl, inr, List, length, Option, Some, None, replicate, refl, ap, sym, subst, arith, ◌∙◌}
-use Rattle.std.specs.Prelude.{slice_set}
-use Rattle.std.proofs.lemmas.List.{get_or-set_other, get_or-set_same, length-set}
+use Rattle.std.proofs.Common.{◌≡◌, ℕ, zero, suc, ◌+◌, ◌*◌, ◌/◌, ◌<◌, ◌≤◌, inl, inr, List, length, Option, Some, None, replicate, refl, ap, subst, arith, ◌∙◌}
 use Rattle.std.proofs.lemmas.Bool.{cases_lt}
-use Rattle.ltm_units.specs.declared.quantities.Millis.{Millis}
 use Rattle.ltm_units.specs.Sums.{sum_below}
 use Rattle.ltm_units.proofs.Sums.{sum_below-lt, sum_below-same, sum_below_more}
 use Rattle.ltm_curve.specs.Counts.{Counts, total}
@@ -17,30 +14,7 @@ use Rattle.ltm_gap.specs.declared.gaps.Gap.{Gap}
 use Rattle.ltm_gap.specs.declared.gaps.Gaps.{Gaps}
 use Rattle.ltm_gap.specs.declared.search.Search.{Search}
 use Rattle.ltm_gap.specs.Gaps.{produced_in, twice_least, late_of, earliest_to, twice_in, late_in, least_to, late_to, least, late}
-use Rattle.ltm_gap.specs.Sums.{no_sum, sum_at, twice_at, late_at, IsMore, AddsBelow, AreSums, Adds, AddsSlot, IsFrom}
-use Rattle.ltm_gap.proofs.Searching.{decide}
-
-pub none_added : (s : Setting) (origin slot : ℕ) (first last : List (Option Millis)) (sums : List Sum) → AddsBelow s origin slot first last 0 sums sums
-none_added s origin slot first last sums = record { count = refl; added = λ d low. absurd (omega arith); others = λ d late. refl }
-
-pub one_added : (s : Setting) (origin slot : ℕ) (first last : List (Option Millis)) (below : ℕ) (old mid new : List Sum) (sum : Sum) → AddsBelow s origin slot first last below old mid → below < length mid
-    → new ≡ slice_set mid below sum → IsMore (twice_at s origin slot first last below) (late_at s origin slot first last below) (sum_at mid below) sum → AddsBelow s origin slot first last (below + 1) old new
-one_added s origin slot first last below old mid new sum adds low set more = record {
-  count = ap length set ∙ length-set mid below sum ∙ adds.count;
-  added = λ d less. elim (decide d below) [
-    | inl same ↦
-        subst (λ n. IsMore (twice_at s origin slot first last n) (late_at s origin slot first last n) (sum_at old n) (sum_at new n)) (sym same)
-        (subst (λ x. IsMore (twice_at s origin slot first last below) (late_at s origin slot first last below) (sum_at old below) x) (sym (ap (λ xs. sum_at xs below) set ∙ get_or-set_same mid below sum no_sum low))
-        (subst (λ x. IsMore (twice_at s origin slot first last below) (late_at s origin slot first last below) x sum) (adds.others below (omega arith)) more))
-    | inr other ↦
-        subst (λ x. IsMore (twice_at s origin slot first last d) (late_at s origin slot first last d) (sum_at old d) x) (sym (ap (λ xs. sum_at xs d) set ∙ get_or-set_other mid below d sum no_sum other))
-        (adds.added d (omega arith))
-  ];
-  others = λ d late. ap (λ xs. sum_at xs d) set ∙ get_or-set_other mid below d sum no_sum (apart d below late) ∙ adds.others d (omega arith);
-}
-  where
-    apart : (d below : ℕ) → below + 1 ≤ d → d ≢ below
-    apart d below late same = omega arith
+use Rattle.ltm_gap.specs.Sums.{no_sum, sum_at, AddsBelow, AreSums, Adds, AddsSlot, IsFrom}
 
 -- ---- of a whole slot
 pub slot_added : (s : Setting) (l : Loading) (origin slot : ℕ) (first last : Search) (below : ℕ) (old new : List Sum) → IsNetwork s → IsFrom s l origin slot first → IsFrom s l origin (slot + 1) last → s.destinations ≤ below

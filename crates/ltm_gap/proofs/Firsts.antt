@@ -29,9 +29,9 @@ pub not_left : (a b : Bool) → a ≡ false → (a && b) ≡ false
 not_left true b h = cc
 not_left false b h = refl
 
-pub decided : (b : Bool) → (b ≡ true) ⊎ (b ≡ false)
-decided true = inl refl
-decided false = inr refl
+pub second : (a b : Bool) → a ≡ true → (a && b) ≡ false → b ≡ false
+second true b x h = h
+second false b x h = cc
 
 pub at_most : (a b : ℕ) → a ≤ b → nat_le a b ≡ true
 at_most a b l = grind (arith, nat_tests)
@@ -41,9 +41,6 @@ is_at_most a b e = grind (arith, nat_tests)
 
 pub more : (a b : ℕ) → b < a → nat_le a b ≡ false
 more a b l = grind (arith, nat_tests)
-
-pub is_more : (a b : ℕ) → nat_le a b ≡ false → b < a
-is_more a b e = grind (arith, nat_tests)
 
 pub less : (a b : ℕ) → a < b → nat_lt a b ≡ true
 less a b l = grind (arith, nat_tests)
@@ -122,7 +119,3 @@ shifted g n from some = elim (found_or_not (λ m. nat_le (from - 1) m && g m) n)
     fails : (m : ℕ) → (m < from) ⊎ ((from ≤ m) × ((nat_le (from - 1) (m - 1) && g (m - 1)) ≡ false)) → (nat_le from m && g (m - 1)) ≡ false
     fails m (inl early) = not_left (nat_le from m) (g (m - 1)) (more from m early)
     fails m (inr (late, fail)) = not_right (nat_le from m) (g (m - 1)) (second (nat_le (from - 1) (m - 1)) (g (m - 1)) (at_most (from - 1) (m - 1) (omega arith)) fail)
-      where
-        second : (a b : Bool) → a ≡ true → (a && b) ≡ false → b ≡ false
-        second true b x h = h
-        second false b x h = cc

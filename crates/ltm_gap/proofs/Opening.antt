@@ -1,5 +1,5 @@
 -- The first moment at which a link is open, from the first slot in which it is.
-use Rattle.std.proofs.Common.{◌≡◌, ℕ, ◌+◌, ◌-◌, ◌*◌, ◌/◌, ◌<◌, ◌≤◌, ◌&&◌, inl, inr, Bool, true, false, nat_le, nat_lt, Some, None, ap, sym, arith, ◌∙◌}
+use Rattle.std.proofs.Common.{◌≡◌, ℕ, ◌+◌, ◌-◌, ◌*◌, ◌/◌, ◌<◌, ◌≤◌, ◌&&◌, inl, inr, nat_le, nat_lt, Some, None, ap, sym, arith, ◌∙◌}
 use Rattle.std.proofs.Math.Nat.{mul-le-mul_right, div-mul-le_self}
 use Rattle.std.proofs.lemmas.Nat.{le-div, mod_below, div-add-mod', div-mul-add}
 use Rattle.std.proofs.lemmas.Bool.{cases_lt}
@@ -9,7 +9,7 @@ use Rattle.ltm_loading.specs.Setting.{Setting}
 use Rattle.std.specs.Prelude.{option_map}
 use Rattle.ltm_times.proofs.Least.{none_passes}
 use Rattle.ltm_gap.specs.Leaving.{first_open, open_moment, first_out}
-use Rattle.ltm_gap.proofs.Firsts.{both, left_of, right_of, not_left, not_right, at_most, is_at_most, more, less, not_less, shifted}
+use Rattle.ltm_gap.proofs.Firsts.{both, left_of, right_of, not_left, not_right, at_most, is_at_most, more, less, not_less, second, shifted}
 
 quotient_below : (m slots step : ℕ) → 0 < step → m < slots * step → m / step < slots
 quotient_below m slots step some l =
@@ -27,10 +27,6 @@ at_slot t step some = ap (λ z. z / step) (let e : t * step ≡ t * step + 0 = o
 -- what is before the beginning of a slot lies in a slot before
 before_slot : (m t step : ℕ) → 0 < step → m < t * step → m / step < t
 before_slot m t step some l = quotient_below m t step some l
-
-second : (a b : Bool) → a ≡ true → (a && b) ≡ false → b ≡ false
-second true b x h = h
-second false b x h = cc
 
 -- past the end
 pub open_past : (limit : ℕ → ℕ) (step slots moment : ℕ) → slots ≤ moment / step → open_moment limit step slots moment ≡ None

@@ -1,10 +1,10 @@
 -- Loadings of one setting have the same earliest arrivals, and the same gap.
-use Rattle.std.proofs.Common.{◌≡◌, ℕ, zero, suc, ◌+◌, ◌*◌, ◌/◌, ◌<◌, ◌≤◌, ◌==◌, Bool, true, false, Option, Some, None, if◌then◌else◌, refl, ap, sym, arith, ◌∙◌}
+use Rattle.std.proofs.Common.{◌≡◌, ℕ, zero, suc, ◌+◌, ◌*◌, ◌/◌, ◌<◌, ◌==◌, Option, Some, None, if◌then◌else◌, refl, ap, arith, ◌∙◌}
 use Rattle.std.specs.Prelude.{option_and_then}
 use Rattle.ltm_units.specs.Sums.{sum_below}
 use Rattle.ltm_units.proofs.Sums.{sum_below-same}
 use Rattle.ltm_curve.specs.Counts.{Counts}
-use Rattle.ltm_loading.specs.Setting.{Setting, IsNetwork}
+use Rattle.ltm_loading.specs.Setting.{Setting}
 use Rattle.ltm_loading.specs.Totals.{entered_link, left_link}
 use Rattle.ltm_loading.proofs.Same.{AgreeTo}
 use Rattle.ltm_flows.specs.Origins.{produced_in_all, departed_from}

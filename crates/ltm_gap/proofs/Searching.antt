@@ -65,10 +65,6 @@ kept_fits f t c tail head at is later = subst (λ o. fits o f head ≡ true) (sy
     not_later None later = cc
     not_later (Some x) later = grind (arith, nat_tests)
 
--- and where the link is not left
-pub none_fits : (f : ℕ → Option ℕ) (t : ℕ) (tail head : Option Millis) → tail ≡ Some (millis t) → f t ≡ None → fits tail f head ≡ true
-none_fits f t tail head at is = subst (λ o. fits o f head ≡ true) (sym at) (subst (λ o. fits_at o head ≡ true) (sym is) refl)
-
 waits_still : (q q' : List Waiting) (x : Waiting) (node : ℕ) (o : Option Millis) → IsPermutation (x ∷ q) q' → IsWaiting q node o → IsWaiting q' node o
 waits_still q q' x node None perm is = is
 waits_still q q' x node (Some t) perm is = Contains-permutation (x ∷ q) q' (waiting t.0 node) perm (contains_later x (waiting t.0 node) q is)

@@ -1,11 +1,10 @@
 -- The ways of a loading as they are read from it, in its own words: of every loading that has the sizes of a scenario.
 use Rattle.std.specs.Prelude.{ℕ, ◌≡◌, ◌*◌, Option}
-use Rattle.ltm_curve.specs.Counts.{Counts}
 use Rattle.ltm_scenario.specs.Data.{ScenarioData}
 use Rattle.ltm_loading.specs.Setting.{Setting}
 use Rattle.ltm_setting.specs.Setting.{setting_of}
 use Rattle.ltm_flows.specs.declared.loading.Loading.{Loading}
-use Rattle.ltm_flows.specs.Shown.{step_of, links_of, nodes_of, last_of, produced_of, ShowsCounts}
+use Rattle.ltm_flows.specs.Shown.{step_of, links_of, nodes_of, last_of, produced_of}
 use Rattle.ltm_flows.specs.Counted.{departed_by, entered_by, left_by}
 use Rattle.ltm_gap.specs.Leaving.{leaves_by, first_from}
 use Rattle.ltm_gap.specs.Ways.{Ways}
@@ -28,7 +27,3 @@ read_ways s l = record { nodes = s.nodes; links = s.links; tail = s.tail; head =
 
 abbrev pub ways_of : ScenarioData → Loading → Ways
 ways_of s l = read_ways (setting_of s) l
-
--- a loading shows the counts of a scenario's loading
-abbrev pub ShowsScenario : ScenarioData → Counts → Loading → Type 0
-ShowsScenario s c l = (version : ℕ) × ShowsCounts (setting_of s) version c l

@@ -67,6 +67,7 @@ question_by word d =
     else if same word (codes "curve") then curve_of d
     else if same word (codes "departures") then departures_of d
     else if same word (codes "delays") then Some question.Delays
+    else if same word (codes "gap") then Some question.Gap
     else None
 
 -- a command by its word

@@ -39,6 +39,8 @@ pub enum Question {
     Departures { node: Name },
     /// The time that all spend, queue and wait, and that of each link and of each origin: `{"do":"delays"}`.
     Delays,
+    /// What those who travel spend, against the least that they could have: `{"do":"gap"}`.
+    Gap,
 }
 
 /// Why a line is no command.

@@ -82,6 +82,7 @@ fn read_question(value: &Value, word: &str) -> Option<Question>
             Some(Question::Departures { node })
         }
         "delays" => Some(Question::Delays),
+        "gap" => Some(Question::Gap),
         _ => None,
     }
 }

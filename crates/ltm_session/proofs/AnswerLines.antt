@@ -30,7 +30,7 @@ use Rattle.ltm_session.proofs.Named.{NamesOne, HasName}
 use Rattle.ltm_session.proofs.Pieces.{plain_words}
 use Rattle.ltm_session.proofs.ReportLines.{edit_fault_one, command_fault_one, unknown_name_one, bad_slots_one, accepted_one, settled_one, totals_report_one, link_report_one, time_report_one}
 use Rattle.ltm_session.proofs.DelayLines.{delay_report_one, queue_report_one, origin_report_one}
-use Rattle.ltm_session.proofs.RowLines.{state_report_one, curve_report_one, departures_report_one, delays_report_one}
+use Rattle.ltm_session.proofs.RowLines.{state_report_one, curve_report_one, departures_report_one, delays_report_one, gap_report_one}
 
 one_as : (text line : List ℕ) → IsOneLine line → text ≡ line → IsOneLine text
 one_as text line one is = subst IsOneLine (sym is) one
@@ -88,6 +88,7 @@ asked_one n slots (question.Departures name) named =
     named_one (codes "departures") (find_node n name) (λ node version. departures_report version name node) (plain_words (codes "departures") refl)
     (λ node version s c. departures_report_one version name node s c named)
 asked_one n slots question.Delays named = delays_report_one
+asked_one n slots question.Gap named = gap_report_one
 
 told_one : (s : ScenarioData) (shown : List (List Edit)) (r : Result Report (List ℕ)) (text : List ℕ) → AreOneLine r
     → MatchResult r (λ report. Tells s shown report text) (λ refusal. text ≡ refusal) → IsOneLine text

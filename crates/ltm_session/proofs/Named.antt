@@ -91,7 +91,8 @@ question_named word d =
     (asks_either (same word (codes "state")) (state_of d) _ (state_named (whole_in (codes "slot") d))
     (asks_either (same word (codes "curve")) (curve_of d) _ (one_named (name_in (codes "link") d) (λ name. question.Curve name) (λ name is. is) link)
     (asks_either (same word (codes "departures")) (departures_of d) _ (one_named (name_in (codes "node") d) (λ name. question.Departures name) (λ name is. is) node)
-    (asks_either (same word (codes "delays")) (Some question.Delays) None tt tt)))))))))
+    (asks_either (same word (codes "delays")) (Some question.Delays) _ tt
+    (asks_either (same word (codes "gap")) (Some question.Gap) None tt tt))))))))))
 
 or_none_named : (o : Option Question) → AsksNamed o → HasName (or_none o)
 or_none_named None is = tt

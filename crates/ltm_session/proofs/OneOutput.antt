@@ -38,7 +38,7 @@ use Rattle.ltm_session.specs.Answers.{ReportsShown, TellsAsked, IsScenarioOf, Co
 use Rattle.ltm_session.specs.Session.{AnswersLine, AnswersLines}
 use Rattle.ltm_session.specs.Laws.{OneOutput}
 use Rattle.ltm_times.proofs.Alike.{agree, differing_same}
-use Rattle.ltm_session.proofs.SameReports.{totals_same, links_same, times_same, delays_same, queues_same, origins_same}
+use Rattle.ltm_session.proofs.SameReports.{totals_same, links_same, times_same, delays_same, gaps_same, queues_same, origins_same}
 use Rattle.ltm_session.proofs.SameRows.{states_same, curves_same, departures_same, all_delays_same}
 
 -- there is one loading of a setting, and scenarios make settings
@@ -127,6 +127,7 @@ asked_same n slots z a b version (question.Departures name) l =
     named_same version z a b (codes "departures") (find_node n name) z.nodes (λ node version. departures_report version name node) (λ node is. node_within n name z.nodes node l.nodes is)
     (λ node there. departures_same z a b version node name l.agree there)
 asked_same n slots z a b version question.Delays l = all_delays_same z a b version l.some_step l.agree
+asked_same n slots z a b version question.Gap l = gaps_same z a b version l.some_step l.agree
 
 -- the scenario that is shown has the links and nodes of the opening network
 alike : (k : Known) (s : Analysts) (a b : Counts) → IsScenarioOf s.log s.shown → IsLoading (setting_at s.log s.shown) a → IsLoading (setting_at s.log s.shown) b

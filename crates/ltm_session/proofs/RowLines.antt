@@ -1,5 +1,5 @@
 -- Reports of all links, of all nodes or of all boundaries: each is one line.
-use Rattle.std.proofs.Common.{ℕ, zero, suc, ◌≡◌, ◌≢◌, true, List, [], ◌++◌, refl, codes}
+use Rattle.std.proofs.Common.{ℕ, zero, suc, ◌≡◌, ◌≢◌, ◌-◌, true, false, Bool, nat_lt, if◌then◌else◌, List, [], ◌++◌, refl, codes}
 use Rattle.std.proofs.lemmas.List.Elements.{All-nil}
 use Rattle.ltm_units.specs.Texts.{number_piece, amount_piece, texts_below}
 use Rattle.ltm_units.specs.Words.{is_name}
@@ -9,6 +9,8 @@ use Rattle.ltm_report.specs.Pieces.{version_piece}
 use Rattle.ltm_report.specs.Links.{name_piece}
 use Rattle.ltm_report.specs.Times.{slot_piece}
 use Rattle.ltm_report.specs.Delays.{seconds_piece, spent_piece, waited_piece, node_piece}
+use Rattle.ltm_report.specs.Gaps.{gap_piece, late_piece, gap_pieces, gap_line}
+use Rattle.ltm_report.specs.GapReports.{gap_report}
 use Rattle.ltm_report.specs.Rows.{count_piece, row, state_line, curve_line, departures_line, peak_numbers, link_numbers, node_numbers, delays_line}
 use Rattle.ltm_report.specs.RowReports.{state_report, curve_report, departures_report, link_delays, node_delays, delays_report}
 use Rattle.ltm_session.specs.OneLine.{IsPlain, IsOneLine}
@@ -113,6 +115,36 @@ delays_one version spent queued waited links nodes of_link of_node each_link eac
     (below_plain links of_link each_link))
     (plain_words (codes " nodes") refl))
     (below_plain nodes of_node each_node))
+
+-- ---- gaps
+gap_plain : (spent least : ℕ) → IsPlain (gap_piece spent least)
+unfolding gap_piece
+gap_plain spent least = either (nat_lt spent least)
+  where
+    either : (b : Bool) → IsPlain (if b then seconds_piece (codes " gap -") (least - spent) else seconds_piece (codes " gap ") (spent - least))
+    either true = plain_seconds (codes " gap -") (least - spent) (plain_words (codes " gap -") refl)
+    either false = plain_seconds (codes " gap ") (spent - least) (plain_words (codes " gap ") refl)
+
+late_plain : (late : ℕ) → IsPlain (late_piece late)
+unfolding late_piece
+late_plain late = plain_amount (codes " late ") late (plain_words (codes " late ") refl)
+
+gap_pieces_plain : (spent least late : ℕ) → IsPlain (gap_pieces spent least late)
+unfolding gap_pieces
+gap_pieces_plain spent least late =
+    plain_append _ (late_piece late)
+    (plain_append (seconds_piece (codes " spent ") spent ++ seconds_piece (codes " least ") least) (gap_piece spent least)
+    (plain_append (seconds_piece (codes " spent ") spent) (seconds_piece (codes " least ") least) (plain_seconds (codes " spent ") spent (plain_words (codes " spent ") refl))
+    (plain_seconds (codes " least ") least (plain_words (codes " least ") refl))) (gap_plain spent least))
+    (late_plain late)
+
+gap_one : (version spent least late : ℕ) → IsOneLine (gap_line version spent least late)
+unfolding gap_line
+gap_one version spent least late = one_line _ (plain_append (version_piece version) (gap_pieces spent least late) (version_plain version) (gap_pieces_plain spent least late))
+
+pub gap_report_one : (version : ℕ) (s : Setting) (c : Counts) → IsOneLine (gap_report version s c)
+unfolding gap_report
+gap_report_one version s c = gap_one version _ _ _
 
 pub delays_report_one : (version : ℕ) (s : Setting) (c : Counts) → IsOneLine (delays_report version s c)
 unfolding delays_report

@@ -10,6 +10,10 @@ use Rattle.ltm_times.specs.Queues.{queue, waiting_at}
 use Rattle.ltm_times.specs.Delays.{queued, waited}
 use Rattle.ltm_times.proofs.Alike.{arrived_same, on_links_same, waiting_same, entered_same, left_same, travel_same, spent_same}
 use Rattle.ltm_times.proofs.DelaysAlike.{queue_same, queued_same, waited_same, departed_from_same}
+use Rattle.ltm_gap.specs.Gaps.{least, late}
+use Rattle.ltm_gap.proofs.Same.{least_same, late_same}
+use Rattle.ltm_report.specs.Gaps.{gap_line}
+use Rattle.ltm_report.specs.GapReports.{gap_report}
 use Rattle.ltm_report.specs.Totals.{totals_line}
 use Rattle.ltm_report.specs.Links.{link_line}
 use Rattle.ltm_report.specs.Times.{time_line}
@@ -42,6 +46,13 @@ delays_same s a b version some same =
     ap (λ x. delay_line version x (queued s a) (waited s a)) (spent_same s a b same)
     ∙ ap (λ x. delay_line version (time_spent s b) x (waited s a)) (queued_same s a b some same)
     ∙ ap (λ x. delay_line version (time_spent s b) (queued s b) x) (waited_same s a b same)
+
+pub gaps_same : (s : Setting) (a b : Counts) (version : ℕ) → 0 < s.step → AgreeTo s a b s.slots → gap_report version s a ≡ gap_report version s b
+unfolding gap_report
+gaps_same s a b version some same =
+    ap (λ x. gap_line version x (least s a) (late s a)) (spent_same s a b same)
+    ∙ ap (λ x. gap_line version (time_spent s b) x (late s a)) (least_same s a b some same)
+    ∙ ap (λ x. gap_line version (time_spent s b) (least s b) x) (late_same s a b some same)
 
 pub queues_same : (s : Setting) (a b : Counts) (version link boundary : ℕ) (name : List ℕ) → 0 < s.step → AgreeTo s a b s.slots → link < s.links → boundary ≤ s.slots
     → queue_report version name link boundary s a ≡ queue_report version name link boundary s b

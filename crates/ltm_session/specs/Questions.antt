@@ -10,6 +10,7 @@ use Rattle.ltm_script.specs.declared.command.Question.TheVariants as question
 use Rattle.ltm_report.specs.Refusals.{unknown_name_line, bad_slots_line}
 use Rattle.ltm_report.specs.Reports.{totals_report, link_report}
 use Rattle.ltm_report.specs.DelayReports.{delay_report, queue_report, origin_report}
+use Rattle.ltm_report.specs.GapReports.{gap_report}
 use Rattle.ltm_report.specs.RowReports.{state_report, curve_report, departures_report, delays_report}
 use Rattle.ltm_session.specs.Reports.{time_report}
 
@@ -43,6 +44,7 @@ asked n slots (question.State boundary) = where_there (codes "state") (nat_le bo
 asked n slots (question.Curve name) = of_name (codes "curve") (find_link n name) (λ link version. curve_report version name link)
 asked n slots (question.Departures name) = of_name (codes "departures") (find_node n name) (λ node version. departures_report version name node)
 asked n slots question.Delays = Ok delays_report
+asked n slots question.Gap = Ok gap_report
 
 -- the report of a loading, or the line that refuses a question, was appended to a text
 abbrev pub Appends : Loading → Result Report (List ℕ) → List ℕ → List ℕ → Type 0

@@ -1,10 +1,11 @@
 //! The answers to questions: what is asked of a loading, or why it is not told. A question that names a link or a node is
 //! refused where nothing has the name, and then one that names a slot or a boundary where there is none such.
-ghost use Rattle.std.specs.Prelude.{◌≡◌, ◌++◌, ℕ, List, length, Ok, OnOk, OnErr};
+ghost use Rattle.std.specs.Prelude.{◌≡◌, ◌≢◌, ◌++◌, ℕ, List, length, Ok, OnOk, OnErr};
 ghost use Rattle.ltm_flows.specs.Shown.{last_of, links_of, nodes_of};
 ghost use Rattle.ltm_script.specs.declared.command.Question.TheVariants as question;
 ghost use Rattle.ltm_session.specs.Analysts.{state_of};
-ghost use Rattle.ltm_session.specs.Answers.{Replies};
+ghost use Rattle.ltm_report.specs.GapReports.{gap_report};
+ghost use Rattle.ltm_session.specs.Answers.{Replies, ReportsShown};
 ghost use Rattle.ltm_session.specs.Questions.{asked, Appends};
 
 use crate::reports::push_time;
@@ -12,8 +13,8 @@ use ltm_core::Core;
 use ltm_flows::Loading;
 use ltm_network::Network;
 use ltm_report::{
-    bad_slots_text, curve_text, delay_text, delays_text, departures_text, link_text, origin_text,
-    queue_text, state_text, totals_text, unknown_name_text,
+    bad_slots_text, curve_text, delay_text, delays_text, departures_text, gap_text, link_text,
+    origin_text, queue_text, state_text, totals_text, unknown_name_text,
 };
 use ltm_script::{Command, Question};
 use ltm_units::{Name, NoMemory};
@@ -180,7 +181,7 @@ fn push_departures(
     }
 }
 
-/// Appends what a question asks of a loading of a network, or why it is refused.
+/// Appends what a question asks of a loading of a network, or why it is refused. What a gap asks is more than a loading.
 fn push_asked(
     alloc: Global,
     network: &Network,
@@ -190,6 +191,7 @@ fn push_asked(
 ) -> Result<(), NoMemory>
     requires links { links_of loading.now ≡ length network.now.links }
     requires nodes { nodes_of loading.now ≡ length network.now.nodes }
+    requires other { asks.now ≢ question.Gap }
     ensures ok { OnOk result (Appends loading.now
         (asked network.now (last_of loading.now) asks.now) into.old.items into.new.items) }
     ensures err { OnErr result (into.new.items ≡ into.old.items) }
@@ -205,7 +207,34 @@ fn push_asked(
         Question::Curve { link } => push_curve(alloc, network, loading, link, into),
         Question::Departures { node } => push_departures(alloc, network, loading, node, into),
         Question::Delays => delays_text(alloc, loading, into),
+        Question::Gap => unreachable!(),
     }
+}
+
+/// Appends the gap of the loading that a core shows, at the limits and the demand that it was loaded with.
+fn push_gap(alloc: Global, core: &Core, into: &mut Vec<u8>) -> Result<(), NoMemory>
+    ensures ok { OnOk result ((text : List ℕ) × ReportsShown (state_of core.now) gap_report text
+        × (into.new.items ≡ into.old.items ++ text)) }
+    ensures err { OnErr result (into.new.items ≡ into.old.items) }
+{
+    let scenario = core.shown_scenario()?;
+    gap_text(alloc, &scenario, core.shown(), into)
+}
+
+/// Appends what a question that asks for no gap asks of what a core shows, or why it is refused.
+fn push_told(
+    alloc: Global,
+    core: &Core,
+    asks: &Question,
+    into: &mut Vec<u8>,
+) -> Result<(), NoMemory>
+    requires { asks.now ≢ question.Gap }
+    ensures ok { OnOk result ((text : List ℕ)
+        × Replies (state_of core.now) (Ok (Command.Ask asks.now)) text (state_of core.now)
+        × (into.new.items ≡ into.old.items ++ text)) }
+    ensures err { OnErr result (into.new.items ≡ into.old.items) }
+{
+    push_asked(alloc, core.scenario().network(), core.shown(), asks, into)
 }
 
 /// Appends what a question asks of what a core shows, or why it is refused.
@@ -220,5 +249,8 @@ pub(crate) fn reply_question(
         × (into.new.items ≡ into.old.items ++ text)) }
     ensures err { OnErr result (into.new.items ≡ into.old.items) }
 {
-    push_asked(alloc, core.scenario().network(), core.shown(), asks, into)
+    match asks {
+        Question::Gap => push_gap(alloc, core, into),
+        _ => push_told(alloc, core, asks, into),
+    }
 }

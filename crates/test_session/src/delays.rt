@@ -47,3 +47,19 @@ fn a_shut_entry_makes_vehicles_wait_once_it_is_settled(rt: HostRuntime) {
         refused origin UnknownName\n";
     expect_answers(&rt, rt.alloc(), Case::LongerRoad, script, output);
 }
+
+// By hand: who is produced at boundary 0 arrives after 2500 ms, who is at boundary 1 too, and who is at boundary 2 not by the
+// end: 1.25 and 1.5 vehicle seconds. Where the exit is shut in slot 2 the first arrives at 3001 ms and the second at 4000.
+#[test]
+fn the_gap_is_that_of_what_is_shown(rt: HostRuntime) {
+    let script =
+        "{\"do\":\"edit\",\"edits\":[{\"kind\":\"exit\",\"link\":\"a\",\"from\":2,\"to\":3,\"vehicles\":\"0\"}]}\n\
+        {\"do\":\"gap\"}\n\
+        {\"do\":\"settle\"}\n\
+        {\"do\":\"gap\"}\n";
+    let output = "accepted version 1\n\
+        version 0 spent 2.500000 least 2.750000 gap -0.250000 late 0.500\n\
+        settled version 1 recomputed 2\n\
+        version 1 spent 3.000000 least 3.000250 gap -0.000250 late 0.500\n";
+    expect_answers(&rt, rt.alloc(), Case::LongerRoad, script, output);
+}

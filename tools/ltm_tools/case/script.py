@@ -178,6 +178,7 @@ COMMANDS: dict[str, Members] = {
     "curve": {"link": NAME},
     "departures": {"node": NAME},
     "delays": {},
+    "gap": {},
     "settle": {},
 }
 LIMIT: Members = {"link": NAME, "from": WHOLE, "to": WHOLE, "vehicles": AMOUNT}

@@ -20,4 +20,4 @@ take_in-requires-clause-room c =
 pub returns-in-Ok-clause-ok : goal.returns-in-Ok-clause-ok
 returns-in-Ok-clause-ok c =
     takes_batch c.batch_touches_readers.ensures c.args.scenario.now c.accept.new.self c.args.batch.now c.edits.result.now c.args.table.now c.take_in.new.self c.setup-before.ensures.scenario c.setup-after.ensures.scenario
-    c.accept.ensures.valid c.accept.ensures.shape c.is_setting.ensures.setting (horizon_is c.accept.new.self ∙ c.in-Ok.ensures.horizon) c.in-Ok.ensures.ok c.edits.ensures.edits c.requires.ready c.take_in.ensures
+    c.accept.ensures.valid c.accept.ensures.shape c.is_setting.ensures.setting (horizon_is c.accept.new.self ∙ c.in-Ok.ensures.horizon) c.in-Ok.ensures.ok c.edits.ensures.edits c.requires.ready c.take_in.ensures c.requires.amounts
