@@ -33,17 +33,14 @@ delay_shown l d v old new is are wrote s version c shows =
     let waited = all.waited in
     cc
 
-pub link_delay_shown : (l : Loading) (link : ℕ) (name : List ℕ) (d : LinkDelay) (old new : List ℕ)
-    → ((s : Setting) (version : ℕ) (c : Counts) → ShowsCounts s version c l → IsLinkDelay s c link d)
-    → new ≡ old ++ link_delay_line name d.spent d.queued d.peak.most.0 d.peak.at
-    → (s : Setting) (version : ℕ) (c : Counts) → ShowsCounts s version c l → new ≡ old ++ link_delay_report name link s c
+pub link_delay_shown : (link : ℕ) (name : List ℕ) (d : LinkDelay) (old new : List ℕ) (s : Setting) (c : Counts) → IsLinkDelay s c link d
+    → new ≡ old ++ link_delay_line name d.spent d.queued d.peak.most.0 d.peak.at → new ≡ old ++ link_delay_report name link s c
 unfolding link_delay_report
-link_delay_shown l link name d old new are wrote s version c shows =
-    let all = are s version c shows in
-    let spent = all.spent in
-    let queued = all.queued in
-    let at = all.peak.at in
-    let most : d.peak.most.0 ≡ queue s c link (fullest s c link) = all.peak.most ∙ ap (queue s c link) all.peak.at in
+link_delay_shown link name d old new s c is wrote =
+    let spent = is.spent in
+    let queued = is.queued in
+    let at = is.peak.at in
+    let most : d.peak.most.0 ≡ queue s c link (fullest s c link) = is.peak.most ∙ ap (queue s c link) is.peak.at in
     cc
 
 pub queue_shown : (l : Loading) (link : ℕ) (name : List ℕ) (v boundary : ℕ) (d : LinkState) (old new : List ℕ) → v ≡ version_of l

@@ -11,8 +11,8 @@ ghost use Rattle.ltm_report.specs.RowReports.{link_delays, node_delays, delays_r
 use crate::delays::{push_seconds, push_spent, push_waited};
 use crate::pieces::{push_newline, push_version};
 use ltm_flows::Loading;
-use ltm_times::{LinkDelay, Peak, link_delay, origin_delay, time_spent, waited};
-use ltm_units::{LinkId, NoMemory, NodeId, push_number, push_text, push_vehicles};
+use ltm_times::{LinkDelay, Peak, link_delays, origin_delay, time_spent, waited};
+use ltm_units::{NoMemory, NodeId, push_number, push_text, push_vehicles};
 use std::alloc::Global;
 
 #[tactic(auto, unfolding(crate::specs::Rows::peak_numbers))]
@@ -34,16 +34,17 @@ fn push_link(into: &mut Vec<u8>, delay: LinkDelay) -> Result<(), NoMemory>
 }
 
 /// Appends the numbers of each link, and gives what is queued on all of them.
-fn push_links(loading: &Loading, into: &mut Vec<u8>) -> Result<u128, NoMemory>
+fn push_links(alloc: Global, loading: &Loading, into: &mut Vec<u8>) -> Result<u128, NoMemory>
     ensures text { OnOk result ((s : Setting) (version : ℕ) (c : Counts)
         → ShowsCounts s version c loading.now
         → into.new.items ≡ into.old.items ++ texts_below (links_of loading.now) (link_delays s c)) }
     ensures queued { IfOk result (λ all. (s : Setting) (version : ℕ) (c : Counts)
         → ShowsCounts s version c loading.now → all ≡ queued s c) }
 {
+    let delays = link_delays(alloc, loading)?;
     let mut queued = 0u128;
     for link in 0..loading.links() {
-        let delay = link_delay(loading, LinkId(link));
+        let delay = delays[link as usize];
         push_link(into, delay)?;
         queued += delay.queued;
     }
@@ -80,7 +81,7 @@ fn push_delays(alloc: Global, loading: &Loading, into: &mut Vec<u8>) -> Result<(
         → into.new.items ≡ into.old.items ++ delays_report version s c) }
 {
     let mut links = Vec::new(alloc);
-    let queued = push_links(loading, &mut links)?;
+    let queued = push_links(alloc, loading, &mut links)?;
     push_version(into, loading.version())?;
     push_spent(into, time_spent(loading), queued)?;
     push_waited(into, waited(loading))?;

@@ -3,6 +3,7 @@ ghost use Rattle.std.specs.Prelude.{◌≡◌, ◌++◌, ◌<◌, IfOk, OnOk, le
 ghost use Rattle.ltm_curve.specs.Counts.{Counts};
 ghost use Rattle.ltm_setting.specs.Setting.{setting_of};
 ghost use Rattle.ltm_flows.specs.Shown.{Shows, ShowsCounts};
+ghost use Rattle.ltm_times.specs.Delays.{IsLinkDelay};
 ghost use Rattle.ltm_units.specs.Texts.{texts_below};
 ghost use Rattle.ltm_report.specs.DelayReports.{link_delay_of, node_delay_of, IsDelayReport};
 
@@ -10,6 +11,7 @@ use crate::delays::{delay_text, link_delay_text};
 use crate::origins::node_delay_text;
 use ltm_flows::{Loading, cold};
 use ltm_scenario::Scenario;
+use ltm_times::{LinkDelay, link_delays};
 use ltm_units::{LinkId, NoMemory, NodeId};
 use std::alloc::Global;
 
@@ -25,17 +27,16 @@ fn load(alloc: Global, scenario: &Scenario) -> Result<Loading, NoMemory>
 fn push_link(
     alloc: Global,
     scenario: &Scenario,
-    loading: &Loading,
     link: LinkId,
+    delay: LinkDelay,
     into: &mut Vec<u8>,
 ) -> Result<(), NoMemory>
-    requires link { link.0 < length scenario.now.network.links }
-    requires shows { Shows (setting_of scenario.now) 0 loading.now }
-    ensures { OnOk result ((c : Counts) → ShowsCounts (setting_of scenario.now) 0 c loading.now
+    requires { link.0 < length scenario.now.network.links }
+    ensures { OnOk result ((c : Counts) → IsLinkDelay (setting_of scenario.now) c link.0 delay
         → into.new.items ≡ into.old.items ++ link_delay_of scenario.now c link.0) }
 {
     let name = scenario.network().link_name(link);
-    link_delay_text(alloc, loading, &name, link, into)
+    link_delay_text(alloc, &name, delay, into)
 }
 
 fn push_links(
@@ -49,8 +50,9 @@ fn push_links(
         → into.new.items ≡ into.old.items
         ++ texts_below (length scenario.now.network.links) (link_delay_of scenario.now c)) }
 {
+    let delays = link_delays(alloc, loading)?;
     for link in 0..scenario.network().links() {
-        push_link(alloc, scenario, loading, LinkId(link), into)?;
+        push_link(alloc, scenario, LinkId(link), delays[link as usize], into)?;
     }
     Ok(())
 }

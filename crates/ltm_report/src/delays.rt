@@ -3,6 +3,7 @@ ghost use Rattle.std.specs.Prelude.{◌≡◌, ◌++◌, ◌+◌, ◌∷◌, [],
 ghost use Rattle.ltm_curve.specs.Counts.{Counts};
 ghost use Rattle.ltm_loading.specs.Setting.{Setting};
 ghost use Rattle.ltm_flows.specs.Shown.{ShowsCounts, last_of, links_of};
+ghost use Rattle.ltm_times.specs.Delays.{IsLinkDelay};
 ghost use Rattle.ltm_report.specs.Delays.{seconds_piece, spent_piece, waited_piece, peak_piece, queue_piece, delay_line, link_delay_line, queue_line};
 ghost use Rattle.ltm_report.specs.DelayReports.{delay_report, link_delay_report, queue_report};
 
@@ -10,7 +11,7 @@ use crate::links::{push_name, push_through};
 use crate::pieces::{push_newline, push_version};
 use crate::times::push_slot;
 use ltm_flows::Loading;
-use ltm_times::{DelayTotals, LinkDelay, LinkState, Peak, delay_totals, link_delay, link_state};
+use ltm_times::{DelayTotals, LinkDelay, LinkState, Peak, delay_totals, link_state};
 use ltm_units::{LinkId, Name, NoMemory, Units, push_number, push_text, push_vehicles};
 use std::alloc::Global;
 
@@ -120,22 +121,19 @@ fn link_delay_line_text(
     push_text(into, line.as_slice())
 }
 
-/// Appends what is spent on a link of a loading and stood in its queue, and the longest queue with the first boundary that
-/// has it, as `link a spent 30.500000 queued 20.700000 most 1.800 at 8`.
+/// Appends what is spent on a link and stood in its queue, and the longest queue with the first boundary that has it, as
+/// `link a spent 30.500000 queued 20.700000 most 1.800 at 8`.
 pub fn link_delay_text(
     alloc: Global,
-    loading: &Loading,
     name: &Name,
-    link: LinkId,
+    delay: LinkDelay,
     into: &mut Vec<u8>,
 ) -> Result<(), NoMemory>
-    requires { link.0 < links_of loading.now }
-    ensures ok { OnOk result ((s : Setting) (version : ℕ) (c : Counts)
-        → ShowsCounts s version c loading.now
-        → into.new.items ≡ into.old.items ++ link_delay_report name.now link.0 s c) }
+    ensures ok { OnOk result ((s : Setting) (c : Counts) (link : ℕ) → IsLinkDelay s c link delay
+        → into.new.items ≡ into.old.items ++ link_delay_report name.now link s c) }
     ensures err { OnErr result (into.new.items ≡ into.old.items) }
 {
-    link_delay_line_text(alloc, name, link_delay(loading, link), into)
+    link_delay_line_text(alloc, name, delay, into)
 }
 
 #[tactic(auto, unfolding(crate::specs::Delays::queue_line))]

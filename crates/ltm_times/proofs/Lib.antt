@@ -5,4 +5,6 @@ pub mod Alike
 pub mod WasReady
 pub mod SpentSo
 pub mod Peaks
+pub mod Passes
+pub mod AtStart
 pub mod DelaysAlike

@@ -2,7 +2,7 @@
 use Rattle.std.proofs.Common.{◌≡◌, ℕ, ◌+◌, ◌-◌, ◌*◌, ◌<◌, ◌≤◌, arith, ap, sym, ◌∙◌}
 use Rattle.std.proofs.Math.Nat.{add-mul}
 use Rattle.ltm_units.specs.Sums.{sum_below}
-use Rattle.ltm_units.proofs.Sums.{sum_below-same, sum_below-plus, sum_below-mul, sum_below-swap}
+use Rattle.ltm_units.proofs.Sums.{sum_below_more, sum_below-same, sum_below-plus, sum_below-mul, sum_below-swap}
 use Rattle.ltm_curve.specs.Counts.{Counts}
 use Rattle.ltm_loading.specs.Setting.{Setting, IsSetting}
 use Rattle.ltm_loading.specs.Loading.{IsLoading}
@@ -11,7 +11,7 @@ use Rattle.ltm_loading.specs.Totals.{generated, arrived, on_links, waiting, ente
 use Rattle.ltm_flows.specs.Origins.{produced_in_all, departed_from}
 use Rattle.ltm_times.specs.Queues.{ready, queue, driving, waiting_at, in_queues, in_motion}
 use Rattle.ltm_times.specs.Times.{time_spent}
-use Rattle.ltm_times.specs.Delays.{over_time, spent_on, queued_on, driven_on, queued, waited, driven}
+use Rattle.ltm_times.specs.Delays.{over_slots, over_time, spent_on, queued_on, driven_on, queued, waited, driven}
 use Rattle.ltm_times.specs.DelayLaws.{LeftWasReady, LeftWasProduced, SpentAddsUp, DelaysAreSummed}
 use Rattle.ltm_times.proofs.WasReady.{ready_has_entered}
 
@@ -28,6 +28,16 @@ pub over_each : (s : Setting) (n : ℕ) (f : ℕ → ℕ → ℕ) → over_time 
 over_each s n f =
     ap (λ (m : ℕ). m * s.step) (sym (sum_below-swap n s.slots (λ i t. f i (t + 1))))
     ∙ sym (sum_below-mul n (λ i. sum_below s.slots (λ t. f i (t + 1))) s.step)
+
+-- by one boundary more
+pub over_more : (s : Setting) (k : ℕ) (f : ℕ → ℕ) (sum here step : ℕ) → sum ≡ over_slots s k f → here ≡ f (k + 1) → step ≡ s.step → sum + here * step ≡ over_slots s (k + 1) f
+over_more s k f sum here step was is same =
+    let before : ℕ = sum_below k (λ t. f (t + 1)) in
+    let next : sum_below (k + 1) (λ t. f (t + 1)) ≡ before + f (k + 1) = sum_below_more (λ t. f (t + 1)) k in
+    ap (λ (n : ℕ). n + here * step) was
+    ∙ (ap (λ (n : ℕ). before * s.step + n * step) is
+    ∙ (ap (λ (n : ℕ). before * s.step + f (k + 1) * n) same
+    ∙ (sym (add-mul before (f (k + 1)) s.step) ∙ ap (λ (n : ℕ). n * s.step) (sym next))))
 
 -- ---- on a link
 parts : LeftWasReady → NeverFall → (s : Setting) (c : Counts) → IsSetting s → IsLoading s c → (link k : ℕ) → link < s.links → k ≤ s.slots →

@@ -1,5 +1,5 @@
 -- The time that vehicles spend on links, in queues and at their origins, in units times milliseconds.
-use Rattle.std.specs.Prelude.{ℕ, ◌≡◌, ◌+◌, ◌-◌, ◌*◌}
+use Rattle.std.specs.Prelude.{ℕ, ◌≡◌, ◌+◌, ◌-◌, ◌*◌, ◌<◌, List, slice_index_or}
 use Rattle.ltm_units.specs.Sums.{sum_below}
 use Rattle.ltm_curve.specs.Counts.{Counts}
 use Rattle.ltm_loading.specs.Setting.{Setting}
@@ -14,9 +14,13 @@ use Rattle.ltm_times.specs.Queues.{queue, driving, waiting_at, in_queues, in_mot
 use Rattle.ltm_times.specs.Peaks.{peak, IsPeakOf}
 use Rattle.ltm_times.specs.Times.{time_spent}
 
--- how many there are at each boundary after the start, each for a step
+-- how many there are at each boundary after the start up to one, each for a step
+abbrev pub over_slots : Setting → ℕ → (ℕ → ℕ) → ℕ
+over_slots s k f = sum_below k (λ t. f (t + 1)) * s.step
+
+-- and up to the last
 abbrev pub over_time : Setting → (ℕ → ℕ) → ℕ
-over_time s f = sum_below s.slots (λ t. f (t + 1)) * s.step
+over_time s f = over_slots s s.slots f
 
 -- ---- of a link
 abbrev pub spent_on : Setting → Counts → ℕ → ℕ
@@ -57,10 +61,19 @@ pub record IsLinkState (s : Setting) (c : Counts) (link boundary : ℕ) (l : Lin
   pub left : l.left.0 ≡ left_link s c link boundary
   pub queue : l.queue.0 ≡ queue s c link boundary
 
-pub record IsLinkDelay (s : Setting) (c : Counts) (link : ℕ) (d : LinkDelay) : Type 0 where
-  pub spent : d.spent ≡ spent_on s c link
-  pub queued : d.queued ≡ queued_on s c link
-  pub peak : IsPeakOf (queue s c link) s.slots d.peak
+-- up to a boundary
+pub record IsLinkDelayBy (s : Setting) (c : Counts) (link k : ℕ) (d : LinkDelay) : Type 0 where
+  pub spent : d.spent ≡ over_slots s k (λ j. entered_link s c link j - left_link s c link j)
+  pub queued : d.queued ≡ over_slots s k (queue s c link)
+  pub peak : IsPeakOf (queue s c link) k d.peak
+
+-- up to the last
+abbrev pub IsLinkDelay : Setting → Counts → ℕ → LinkDelay → Type 0
+IsLinkDelay s c link d = IsLinkDelayBy s c link s.slots d
+
+-- of each link, by its number
+abbrev pub AreLinkDelays : Setting → Counts → List LinkDelay → Type 0
+AreLinkDelays s c delays = (link : ℕ) (d : LinkDelay) → link < s.links → IsLinkDelay s c link (slice_index_or delays link d)
 
 pub record IsOriginState (s : Setting) (c : Counts) (node boundary : ℕ) (o : OriginState) : Type 0 where
   pub produced : o.produced.0 ≡ produced_in_all s node boundary

@@ -3,4 +3,5 @@ pub mod Times
 pub mod Queues
 pub mod Peaks
 pub mod Delays
+pub mod DelaysBy
 pub mod DelayLaws

@@ -8,13 +8,14 @@
 //! could have left it at free speed and have not: all that the link's entry curve had a free-flow time ago, less what has
 //! left. (The vertical queue of Newell 1993.)
 //!
-//! It stands on `ltm_flows`. No call takes memory: a moment is found by halving over boundaries and one division, a queue
-//! costs one division, and a sum over time is one pass over boundaries. Change it here where a time or a queue is read in
-//! another way.
+//! It stands on `ltm_flows`. Only `link_delays` takes memory, for its list: a moment is found by halving over boundaries and
+//! one division, a queue costs two divisions, and a sum over time is one pass over boundaries. Change it here where a time or
+//! a queue is read in another way.
 #![tactic(auto)]
 
 mod boundaries;
 mod delays;
+mod delays_by_link;
 mod delays_in_all;
 mod laws;
 mod origins;
@@ -25,6 +26,7 @@ mod spending;
 
 pub use boundaries::moment_of;
 pub use delays::{DelayTotals, LinkDelay, LinkState, OriginDelay, OriginState, Peak};
+pub use delays_by_link::link_delays;
 pub use delays_in_all::{delay_totals, waited};
 pub use laws::{
     delays_are_summed, left_was_produced, left_was_ready, peaks_are_first_greatest,
@@ -32,6 +34,6 @@ pub use laws::{
 };
 pub use origins::{origin_delay, origin_state, waiting};
 pub use passing::{exit_ms, travel};
-pub use queues::{link_delay, link_state, queue};
+pub use queues::{link_state, queue};
 pub use ready::past;
 pub use spending::time_spent;

@@ -1,15 +1,14 @@
-//! The queue of a link, and what its vehicles spend on it.
-ghost use Rattle.std.specs.Prelude.{◌≡◌, ℕ, ◌+◌, ◌-◌, ◌<◌, ◌≤◌, ◌^◌};
+//! The queue of a link.
+ghost use Rattle.std.specs.Prelude.{◌≡◌, ℕ, ◌+◌, ◌<◌, ◌≤◌};
 ghost use Rattle.ltm_curve.specs.Counts.{Counts};
 ghost use Rattle.ltm_curve.specs.Totals.{most_total};
 ghost use Rattle.ltm_loading.specs.Setting.{Setting};
-ghost use Rattle.ltm_loading.specs.Totals.{entered_link, left_link};
 ghost use Rattle.ltm_flows.specs.Shown.{links_of, last_of, ShowsCounts};
 ghost use Rattle.ltm_times.specs.Queues.{queue};
 ghost use Rattle.ltm_times.specs.Peaks.{IsPeakOf};
-ghost use Rattle.ltm_times.specs.Delays.{IsLinkState, IsLinkDelay};
+ghost use Rattle.ltm_times.specs.Delays.{IsLinkState};
 
-use crate::delays::{LinkDelay, LinkState, Peak};
+use crate::delays::{LinkState, Peak};
 use crate::ready::total_ago;
 use ltm_flows::Loading;
 use ltm_loading::{down_of, up_of};
@@ -49,18 +48,6 @@ pub fn link_state(loading: &Loading, link: LinkId, boundary: u32) -> LinkState
     }
 }
 
-/// How many are on a link at a boundary.
-fn on_link(loading: &Loading, link: LinkId, boundary: u32) -> u64
-    requires link { link.0 < links_of loading.now }
-    requires boundary { boundary ≤ last_of loading.now }
-    ensures shown { (s : Setting) (version : ℕ) (c : Counts) → ShowsCounts s version c loading.now
-        → result ≡ entered_link s c link.0 boundary - left_link s c link.0 boundary }
-    ensures small { result ≤ most_total }
-{
-    let left = loading.left_by(link, boundary).0;
-    loading.entered_by(link, boundary).0.saturating_sub(left)
-}
-
 /// The peak of the numbers up to a boundary, from that of those before it.
 pub(crate) fn peak_by(before: Peak, number: Units, at: u32) -> Peak
     ensures { (f : ℕ → ℕ) (last : ℕ) → IsPeakOf f last before → at ≡ last + 1 → number.0 ≡ f at
@@ -70,32 +57,5 @@ pub(crate) fn peak_by(before: Peak, number: Units, at: u32) -> Peak
         Peak { most: number, at }
     } else {
         before
-    }
-}
-
-/// The time that vehicles spend on a link and stand in its queue, and the longest queue, in one pass over the boundaries.
-pub fn link_delay(loading: &Loading, link: LinkId) -> LinkDelay
-    requires { link.0 < links_of loading.now }
-    ensures shown { (s : Setting) (version : ℕ) (c : Counts) → ShowsCounts s version c loading.now
-        → IsLinkDelay s c link.0 result }
-    ensures small { result.queued ≤ 2 ^ 112 }
-{
-    let mut spent = 0u128;
-    let mut queued = 0u128;
-    let mut peak = Peak {
-        most: queue(loading, link, 0),
-        at: 0,
-    };
-    for slot in 0..loading.slots() {
-        let standing = queue(loading, link, slot + 1);
-        spent += u128::from(on_link(loading, link, slot + 1));
-        queued += u128::from(standing.0);
-        peak = peak_by(peak, standing, slot + 1);
-    }
-    let step = u128::from(loading.step().0);
-    LinkDelay {
-        spent: spent * step,
-        queued: queued * step,
-        peak,
     }
 }

@@ -1,25 +1,36 @@
-use Rattle.std.proofs.Common.{ℕ, ◌≡◌, ◌+◌, ◌*◌, ◌++◌, List, ◌∙◌, ap, sym, arith}
+use Rattle.std.proofs.Common.{ℕ, ◌≡◌, ◌^◌, ◌<◌, ◌≤◌, ◌++◌, ◌∙◌, ap, subst, sym, arith}
 use Rattle.ltm_units.specs.Sums.{sum_below}
 use Rattle.ltm_units.specs.Texts.{texts_below}
 use Rattle.ltm_units.proofs.Sums.{sum_below_more}
+use Rattle.ltm_flows.specs.Shown.{links_of}
+use Rattle.ltm_times.specs.declared.delays.LinkDelay.{LinkDelay}
 use Rattle.ltm_times.specs.Queues.{queue}
-use Rattle.ltm_times.specs.Delays.{queued_on}
+use Rattle.ltm_times.specs.Delays.{queued_on, IsLinkDelay}
 use Rattle.ltm_times.proofs.SpentSo.{over_each}
 use Rattle.ltm_report.specs.RowReports.{link_delays}
 use Rattle.ltm_report.proofs.Rowed.{link_told, one_text_more}
 use Rattle.ltm_report.proofs.all_delays.push_links.Goals as goal
 
 pub loop-link-preserved : goal.loop-link-preserved
-loop-link-preserved c = record {
-  small = omega (arith, c.loop-link.invariant.small, c.link_delay-delay.ensures.small);
-  text = λ s version counts shows.
-      one_text_more c.loop-link.link (link_delays s counts) _ _ _ (c.loop-link.invariant.text s version counts shows)
-      (link_told s counts c.loop-link.link c.link_delay-delay.result _ _ (c.link_delay-delay.ensures.shown s version counts shows) c.in_ok-push_link.ensures);
-  sum = λ s version counts shows.
-      let next = sum_below_more (queued_on s counts) c.loop-link.link in
-      let here = (c.link_delay-delay.ensures.shown s version counts shows).queued in
-      omega (arith, next, here, c.loop-link.invariant.sum s version counts shows);
-}
+loop-link-preserved c =
+    let link : ℕ = c.loop-link.link in
+    let delay : LinkDelay = c.index-delay.result.now in
+    let there : link < links_of c.args.loading.now = omega (arith, c.loop-link-test.true, c.links-link-end.ensures.value) in
+    let small : delay.queued ≤ 2 ^ 112 = subst (λ (d : LinkDelay). d.queued ≤ 2 ^ 112) (sym c.index-delay.ensures) (c.in_ok-delays.ensures.small link delay there) in
+    record {
+      small = omega (arith, c.loop-link.invariant.small, small);
+      text = λ s version counts shows.
+          let is = subst (λ (d : LinkDelay). IsLinkDelay s counts link d) (sym c.index-delay.ensures)
+          (c.in_ok-delays.ensures.shown s version counts shows link delay (omega (arith, there, shows.links))) in
+          one_text_more link (link_delays s counts) _ _ _ (c.loop-link.invariant.text s version counts shows)
+          (link_told s counts link delay _ _ is c.in_ok-push_link.ensures);
+      sum = λ s version counts shows.
+          let is = subst (λ (d : LinkDelay). IsLinkDelay s counts link d) (sym c.index-delay.ensures)
+          (c.in_ok-delays.ensures.shown s version counts shows link delay (omega (arith, there, shows.links))) in
+          let next = sum_below_more (queued_on s counts) link in
+          let here = is.queued in
+          omega (arith, next, here, c.loop-link.invariant.sum s version counts shows);
+    }
 
 pub returns-clause-text : goal.returns-clause-text
 returns-clause-text c s version counts shows =

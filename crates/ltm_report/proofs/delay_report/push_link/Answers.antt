@@ -11,5 +11,5 @@ returns c =
     let link : ℕ = c.args.link.0 in
     let named = c.link_name-name.ensures ∙ ap (λ (n : NetworkData). link_name n link) c.network.ensures in
     on_ok_weaker c.link_delay_text.result
-    (λ wrote counts shows. wrote setting 0 counts shows ∙ ap (λ (name : List ℕ). c.args.into.now.items ++ link_delay_report name link setting counts) named)
+    (λ wrote counts is. wrote setting counts link is ∙ ap (λ (name : List ℕ). c.args.into.now.items ++ link_delay_report name link setting counts) named)
     c.link_delay_text.ensures.ok
