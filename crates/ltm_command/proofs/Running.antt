@@ -12,7 +12,7 @@ use Rattle.ltm_command.specs.declared.status.Status.TheVariants as ending
 use Rattle.ltm_command.specs.declared.words.Command.{Command}
 use Rattle.ltm_command.specs.Answers.{may_fetch, fetches}
 use Rattle.ltm_command.specs.Program.{IsWhole, Fetches, FileFailed}
-use Rattle.ltm_command.specs.Run.{Outside, TouchesOnly, WritesFront, IsRun}
+use Rattle.ltm_command.specs.Run.{Outside, LeavesInput, TouchesOnly, WritesFront, IsRun}
 
 -- ---- statuses
 -- one of a whole text, or of the outside, or of memory
@@ -83,27 +83,24 @@ front_refused IsText Told status due t old new says given failed (inl same) = el
 ]
 
 -- ---- runs
-abbrev pub Unread : Outside → Outside → Type 0
-Unread b a = (a.left ≡ b.left) × (a.read_faults ≡ b.read_faults)
-
 module _ (IsText : Status → List ℕ → Type 0) (MayFetch : Doc → Type 0) where
   -- memory was not found before anything was written
-  pub run_stopped : (Reads : Type 0) (b a : Outside) → TouchesOnly MayFetch b a → Unread b a → a.written ≡ b.written → IsRun IsText MayFetch Reads ending.NoMemory b a
+  pub run_stopped : (Reads : Type 0) (b a : Outside) → TouchesOnly MayFetch b a → LeavesInput b a → a.written ≡ b.written → IsRun IsText MayFetch Reads ending.NoMemory b a
   run_stopped Reads b a touches unread same = record {
     touches = touches;
-    reads = (λ blind. unread, λ reads ok. absurd (cc));
+    reads = (λ blind. unread, λ reads ok. absurd (cc), λ is. unread);
     faults = (λ is. absurd (cc), λ is. absurd (cc), λ is. absurd (cc));
     whole = λ whole. absurd whole;
     front = inl (same, λ is. cc);
   }
 
   -- a whole text was to be written
-  pub run_written : (status well : Status) (t : List ℕ) (b a : Outside) → TouchesOnly MayFetch b a → Unread b a → IsWhole well → (well ≡ ending.ReadFault → ⊥) → IsText well t
+  pub run_written : (status well : Status) (t : List ℕ) (b a : Outside) → TouchesOnly MayFetch b a → LeavesInput b a → IsWhole well → (well ≡ ending.ReadFault → ⊥) → IsText well t
       → Ends well status → (status ≡ well → a.written ≡ appended t b.written) → AppendsFront b.written a.written t → (status ≡ ending.WriteFault → Rose b.write_faults a.write_faults)
       → IsRun IsText MayFetch ⊥ status b a
   run_written status well t b a touches unread whole read says ends wrote front rose = record {
     touches = touches;
-    reads = (λ blind. unread, λ reads ok. absurd reads);
+    reads = (λ blind. unread, λ reads ok. absurd reads, λ is. unread);
     faults = (
       λ is. absurd (other_end well status ending.FolderFault ends given (λ x. cc) (λ x. cc) is),
       λ is. absurd (other_end well status ending.ReadFault ends read (λ x. cc) (λ x. cc) is),
@@ -122,19 +119,19 @@ module _ (IsText : Status → List ℕ → Type 0) (MayFetch : Doc → Type 0) w
       all (inr (inr none)) is = absurd (subst IsWhole none is)
 
   -- a whole text was written
-  pub run_well : (t : List ℕ) (b a : Outside) → TouchesOnly MayFetch b a → Unread b a → IsText ending.Ok t → a.written ≡ appended t b.written → IsRun IsText MayFetch ⊥ ending.Ok b a
+  pub run_well : (t : List ℕ) (b a : Outside) → TouchesOnly MayFetch b a → LeavesInput b a → IsText ending.Ok t → a.written ≡ appended t b.written → IsRun IsText MayFetch ⊥ ending.Ok b a
   run_well t b a touches unread says wrote =
       run_written ending.Ok ending.Ok t b a touches unread tt (λ is. cc) says (inl refl) (λ ok. wrote) (whole_front b.written a.written t wrote) (λ is. absurd (cc))
 
   -- a front of a text was written, and then writing failed
-  pub run_cut : (status : Status) (t : List ℕ) (b a : Outside) → TouchesOnly MayFetch b a → Unread b a → IsText ending.Ok t
+  pub run_cut : (status : Status) (t : List ℕ) (b a : Outside) → TouchesOnly MayFetch b a → LeavesInput b a → IsText ending.Ok t
       → (status ≡ ending.WriteFault) ⊎ (status ≡ ending.NoMemory) → AppendsFront b.written a.written t → (status ≡ ending.WriteFault → Rose b.write_faults a.write_faults)
       → IsRun IsText MayFetch ⊥ status b a
   run_cut status t b a touches unread says ends front rose =
       run_written status ending.Ok t b a touches unread tt (λ is. cc) says (inr ends) (λ ok. absurd (no_well status ends ok)) front rose
 
   -- the line of a refusal was to be written, where one tells of it; or a file was missing
-  pub run_refused : (Reads Told Missing : Type 0) (status due : Status) (t : List ℕ) (b a : Outside) → TouchesOnly MayFetch b a → Unread b a
+  pub run_refused : (Reads Told Missing : Type 0) (status due : Status) (t : List ℕ) (b a : Outside) → TouchesOnly MayFetch b a → LeavesInput b a
       → (Told → IsText due t) → (Told → due ≡ ending.FolderFault → ⊥) → (due ≡ ending.Ok → ⊥) → (due ≡ ending.ReadFault → ⊥)
       → (Missing → (d : Doc) × MayFetch d × Rose (b.faults d) (a.faults d))
       → (IsWhole status → Told × (status ≡ due) × (a.written ≡ appended t b.written)) → (a.written ≡ b.written) ⊎ (Told × AppendsFront b.written a.written t)
@@ -142,7 +139,7 @@ module _ (IsText : Status → List ℕ → Type 0) (MayFetch : Doc → Type 0) w
       → IsRun IsText MayFetch Reads status b a
   run_refused Reads Told Missing status due t b a touches unread says given ok read gone whole front folder failed = record {
     touches = touches;
-    reads = (λ blind. unread, λ reads is. absurd (ok (due_is ending.Ok tt is)));
+    reads = (λ blind. unread, λ reads is. absurd (ok (due_is ending.Ok tt is)), λ is. unread);
     faults = (
       λ is. let h = folder is in (gone h.0, h.1),
       λ is. absurd (read (due_is ending.ReadFault tt is)),

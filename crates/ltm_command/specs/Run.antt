@@ -30,11 +30,17 @@ outside told faults left read_faults written write_faults =
 abbrev pub TouchesOnly : (Doc → Type 0) → Outside → Outside → Type 0
 TouchesOnly MayFetch b a = (a.told ≡ b.told) × ((d : Doc) → (MayFetch d → ⊥) → a.faults d ≡ b.faults d)
 
--- the input stays as it is where it is not to be read, and is at its end where it is and all went well
+-- the input stays as it is
+abbrev pub LeavesInput : Outside → Outside → Type 0
+LeavesInput b a = (a.left ≡ b.left) × (a.read_faults ≡ b.read_faults)
+
+-- the input stays as it is where it is not to be read, and where a file is missing; it is at its end where it is to be read
+-- and all went well
 abbrev pub TakesInput : Type 0 → Status → Outside → Outside → Type 0
 TakesInput Reads status b a =
-    ((Reads → ⊥) → (a.left ≡ b.left) × (a.read_faults ≡ b.read_faults))
+    ((Reads → ⊥) → LeavesInput b a)
     × (Reads → status ≡ ending.Ok → IfSome b.left (λ script. a.left ≡ Some []))
+    × (status ≡ ending.FolderFault → LeavesInput b a)
 
 -- a fault of the outside is told only where a count of faults rose, and one of the folder before anything is written
 abbrev pub FaultRose : (Doc → Type 0) → Type 0 → Status → Outside → Outside → Type 0

@@ -24,9 +24,9 @@ use Rattle.ltm_command.specs.declared.status.Status.TheVariants as ending
 use Rattle.ltm_command.specs.declared.words.Command.TheVariants as command
 use Rattle.ltm_command.specs.Answers.{Describes}
 use Rattle.ltm_command.specs.Program.{IsWhole, IsTold, IsMissing, Fetches, case_status, refusal_of}
-use Rattle.ltm_command.specs.Run.{Outside, outside, WritesFront, IsRun}
+use Rattle.ltm_command.specs.Run.{Outside, outside, LeavesInput, WritesFront, IsRun}
 use Rattle.ltm_command.proofs.MissingFile.{failed}
-use Rattle.ltm_command.proofs.Running.{Unread, missed, run_refused}
+use Rattle.ltm_command.proofs.Running.{missed, run_refused}
 use Rattle.ltm_command.proofs.Told.{told_given, never_ok, never_read}
 use Rattle.ltm_program.specs.Sessions.{EndsUnder, IsCaseUnder}
 
@@ -58,21 +58,21 @@ pub run_begun : (Of : ScenarioData → SessionEnd → List ℕ → Type 0) (s : 
 run_begun Of s d status b a opens run = subst (λ x. IsRun (EndsUnder (Of x)) (λ e. ⊥) (Unit {0}) status b a) (begins s d opens) run
 
 -- ---- a case that is read
-front_in : (Of : ScenarioData → SessionEnd → List ℕ → Type 0) (s : ScenarioData) (told : Option Files) (status : Status) (old new : Option (List ℕ)) → Describes told (Ok s)
-    → WritesFront (EndsUnder (Of s)) status old new → WritesFront (IsCaseUnder Of told) status old new
-front_in Of s told status old new describes (inl same) = inl same
-front_in Of s told status old new describes (inr (due, t, given, under, front)) = inr (due, t, given, inr (s, describes, under), front)
+front_in : (Unread : Type 0) (Of : ScenarioData → SessionEnd → List ℕ → Type 0) (s : ScenarioData) (told : Option Files) (status : Status) (old new : Option (List ℕ)) → Describes told (Ok s)
+    → WritesFront (EndsUnder (Of s)) status old new → WritesFront (IsCaseUnder Unread Of told) status old new
+front_in Unread Of s told status old new describes (inl same) = inl same
+front_in Unread Of s told status old new describes (inr (due, t, given, under, front)) = inr (due, t, given, inr (s, describes, under), front)
 
 -- a run of it, after its files were fetched
-pub run_case : (Of : ScenarioData → SessionEnd → List ℕ → Type 0) (s : ScenarioData) (status : Status) (told : Option Files) (before : Doc → ℕ) (m a : Outside)
+pub run_case : (Unread : Type 0) (Of : ScenarioData → SessionEnd → List ℕ → Type 0) (s : ScenarioData) (status : Status) (told : Option Files) (before : Doc → ℕ) (m a : Outside)
     → m.told ≡ told → ((d : Doc) → (Fetches command.Load told d → ⊥) → m.faults d ≡ before d) → Describes told (Ok s) → IsRun (EndsUnder (Of s)) (λ d. ⊥) (Unit {0}) status m a
-    → IsRun (IsCaseUnder Of told) (Fetches command.Load told) (Unit {0}) status (outside told before m.left m.read_faults m.written m.write_faults) a
-run_case Of s status told before m a keeps stays describes run = record {
+    → IsRun (IsCaseUnder Unread Of told) (Fetches command.Load told) (Unit {0}) status (outside told before m.left m.read_faults m.written m.write_faults) a
+run_case Unread Of s status told before m a keeps stays describes run = record {
   touches = (run.touches.0 ∙ keeps, λ d out. run.touches.1 d (λ none. none) ∙ stays d out);
   reads = run.reads;
   faults = (λ is. absurd ((run.faults.0 is).0.1), run.faults.1, run.faults.2);
   whole = λ is. let h = run.whole is in (h.0, inr (s, describes, h.1), h.2);
-  front = front_in Of s told status m.written a.written describes run.front;
+  front = front_in Unread Of s told status m.written a.written describes run.front;
 }
 
 -- ---- a case that is refused
@@ -90,14 +90,14 @@ fetch_failed told before now (fault.Bad x row cause) asked rose is = absurd is
 fetch_failed told before now fault.NoMemory asked rose is = absurd is
 
 pub run_unread : (Of : ScenarioData → SessionEnd → List ℕ → Type 0) (f : CaseFault) (status : Status) (b a : Outside)
-    → (a.told ≡ b.told) × ((d : Doc) → (Fetches command.Load b.told d → ⊥) → a.faults d ≡ b.faults d) → Unread b a
+    → (a.told ≡ b.told) × ((d : Doc) → (Fetches command.Load b.told d → ⊥) → a.faults d ≡ b.faults d) → LeavesInput b a
     → IfSome b.told (λ files. Agrees (case_of files) f) → IfSome b.told (λ files. WasAsked (asks_for files) f) → HasRisen b.faults a.faults f
     → (IsWhole status → IsTold (checked.Case f) × (status ≡ case_status f) × (a.written ≡ appended (refusal_of f) b.written))
     → (a.written ≡ b.written) ⊎ (IsTold (checked.Case f) × AppendsFront b.written a.written (refusal_of f))
     → (status ≡ ending.FolderFault → IsMissing (checked.Case f) × (a.written ≡ b.written))
     → (status ≡ ending.WriteFault → IsTold (checked.Case f) × Rose b.write_faults a.write_faults)
-    → IsRun (IsCaseUnder Of b.told) (Fetches command.Load b.told) (Unit {0}) status b a
+    → IsRun (IsCaseUnder (LeavesInput b a) Of b.told) (Fetches command.Load b.told) (Unit {0}) status b a
 run_unread Of f status b a touches unread agrees asked rose whole front folder write =
-    run_refused (IsCaseUnder Of b.told) (Fetches command.Load b.told) (Unit {0}) (IsTold (checked.Case f)) (IsMissing (checked.Case f)) status (case_status f) (refusal_of f) b a touches unread
-    (λ is. inl (f, told_describes b.told f is agrees, refl, refl)) (told_given (checked.Case f)) (λ is. never_ok (checked.Case f) (sym is)) (λ is. never_read (checked.Case f) (sym is))
+    run_refused (IsCaseUnder (LeavesInput b a) Of b.told) (Fetches command.Load b.told) (Unit {0}) (IsTold (checked.Case f)) (IsMissing (checked.Case f)) status (case_status f) (refusal_of f) b a touches unread
+    (λ is. inl (f, told_describes b.told f is agrees, refl, refl, unread)) (told_given (checked.Case f)) (λ is. never_ok (checked.Case f) (sym is)) (λ is. never_read (checked.Case f) (sym is))
     (fetch_failed b.told b.faults a.faults f asked rose) whole front folder write

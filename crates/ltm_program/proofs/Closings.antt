@@ -138,7 +138,11 @@ pub run_served : (IsOutput : SessionEnd → List ℕ → Type 0) (e : SessionEnd
     → IsRun (EndsUnder IsOutput) (λ d. ⊥) (Unit {0}) status b a
 run_served IsOutput e output status now writes b a stays is wrote read heard failed later last closes closed front cause well cut = record {
   touches = (stays.0, λ d out. stays.1 d);
-  reads = (λ blind. absurd (blind tt), λ reads ok. read_out b.left a.left (λ lines told. read lines told (well ok)));
+  reads = (
+    λ blind. absurd (blind tt),
+    λ reads ok. read_out b.left a.left (λ lines told. read lines told (well ok)),
+    λ missing. absurd ((no_files e status closes).1 missing),
+  );
   faults = (
     λ missing. absurd ((no_files e status closes).1 missing),
     λ stopped. (tt, heard (cut stopped)),

@@ -12,8 +12,8 @@ use Rattle.ltm_session.specs.Promise.{KeepsPromise, KeepsPromiseSoFar}
 use Rattle.ltm_session.specs.Laws.{OutputsKeepThePromise, FrontsKeepThePromise, FrontsKeepIt}
 use Rattle.ltm_session_viewers.specs.View.{IsViewOutput}
 use Rattle.ltm_command.specs.declared.status.Status.{Status}
-use Rattle.ltm_command.specs.Run.{WritesFront}
-use Rattle.ltm_program.specs.Sessions.{IsSessionUnder, ServesWhole, closing_of}
+use Rattle.ltm_command.specs.Run.{LeavesInput, WritesFront}
+use Rattle.ltm_program.specs.Sessions.{IsCaseUnder, IsServed, ServesWhole, closing_of}
 use Rattle.ltm_program.specs.Ran.{rule_of}
 use Rattle.ltm_program.specs.RanLaws.{SessionsSay}
 use Rattle.ltm_program.specs.Headline.{Headline, HeadlineOfFronts, HeadlineOfViews}
@@ -47,13 +47,13 @@ take_over zero (x ∷ xs) ys = (zero, refl)
 take_over (suc k) [] ys = (suc k, refl)
 take_over (suc k) (x ∷ xs) ys = let h = take_over k xs ys in (h.0, ap (λ l. x ∷ l) h.1)
 
-fronts_at : FrontsKeepThePromise → (n : ℕ) (status : Status) (told : Option Files) (script left old new : Option (List ℕ)) → WritesFront (IsSessionUnder (rule_of n) told script left) status old new
+fronts_at : FrontsKeepThePromise → (Unread : Type 0) (n : ℕ) (status : Status) (told : Option Files) (script left old new : Option (List ℕ)) → WritesFront (IsCaseUnder Unread (IsServed (rule_of n) script left) told) status old new
     → IfSome told (λ files. (s : ScenarioData) → case_of files ≡ Ok s
     → (new ≡ old) ⊎ ((t : List ℕ) × (end : SessionEnd) × (m : ℕ) × KeepsPromiseSoFar s script t × (new ≡ appended (t ++ take m (closing_of end)) old)))
-fronts_at kept n status None script left old new front = tt
-fronts_at kept n status (Some files) script left old new (inl (same, written)) = λ s is. inl same
-fronts_at kept n status (Some files) script left old new (inr (due, u, given, inl (f, describes, under, at), front)) = λ s is. let wrong : Ok s ≡ Err f = sym is ∙ describes in absurd (cc)
-fronts_at kept n status (Some files) script left old new (inr (due, u, given, inr (z, describes, (e, output, (m, so), under, at)), (k, few, wrote))) = λ s is.
+fronts_at kept Unread n status None script left old new front = tt
+fronts_at kept Unread n status (Some files) script left old new (inl (same, written)) = λ s is. inl same
+fronts_at kept Unread n status (Some files) script left old new (inr (due, u, given, inl (f, describes, under, at, unread), front)) = λ s is. let wrong : Ok s ≡ Err f = sym is ∙ describes in absurd (cc)
+fronts_at kept Unread n status (Some files) script left old new (inr (due, u, given, inr (z, describes, (e, output, (m, so), under, at)), (k, few, wrote))) = λ s is.
     let both : Ok z ≡ Ok s = sym describes ∙ is in
     let same : z ≡ s = cc in
     let promise = kept_so_far n kept z 0 script left e output m k so in
@@ -67,4 +67,4 @@ fronts_at kept n status (Some files) script left old new (inr (due, u, given, in
     )
 
 pub headline_of_fronts : FrontsKeepThePromise → HeadlineOfFronts
-headline_of_fronts kept b a workers status r = fronts_at kept workers status b.told b.left a.left b.written a.written r.front
+headline_of_fronts kept b a workers status r = fronts_at kept (LeavesInput b a) workers status b.told b.left a.left b.written a.written r.front

@@ -30,7 +30,7 @@ use Rattle.ltm_command.specs.declared.words.Command.TheVariants as command
 use Rattle.ltm_command.specs.Answers.{Answer, Answers, Describes, HasText, may_fetch, fetches}
 use Rattle.ltm_command.specs.Program.{IsAnswerUnder, IsWhole, IsCalm, Fetches, status_of, case_status, words_of}
 use Rattle.ltm_command.specs.Words.{usage_line}
-use Rattle.ltm_command.specs.Run.{Outside, WritesFront, IsRun}
+use Rattle.ltm_command.specs.Run.{Outside, LeavesInput, WritesFront, IsRun}
 use Rattle.ltm_command.proofs.Running.{sorted}
 use Rattle.ltm_command.proofs.Told as texts
 use Rattle.ltm_program.specs.Sessions.{IsCaseUnder, IsServed, IsSessionUnder, ServesWhole, status_of_end, session_status, closing_of}
@@ -114,9 +114,9 @@ session_serves answers s b a e output t m is so at wrote read =
     let now : a.written ≡ appended output b.written = wrote_as b a t output wrote whole in
     ended_whole s b.left a.left b.written a.written end.Ended output m refl ended_so now (read_to_end b.left a.left end.Ended read)
 
-serves : (answers : Answering) (b a : Outside) (t : List ℕ) → IsSessionUnder answers b.told b.left a.left ending.Ok t → Wrote t b a → IfSome b.left (λ x. a.left ≡ Some [])
+serves : (answers : Answering) (b a : Outside) (t : List ℕ) → IsSessionUnder answers b a ending.Ok t → Wrote t b a → IfSome b.left (λ x. a.left ≡ Some [])
     → (s : ScenarioData) × Describes b.told (Ok s) × ServesWhole (IsOutputBy answers) s b.left a.left b.written a.written
-serves answers b a t (inl (f, describes, is, at)) wrote read = absurd (texts.never_ok (refusal.Case f) is)
+serves answers b a t (inl (f, describes, is, at, unread)) wrote read = absurd (texts.never_ok (refusal.Case f) is)
 serves answers b a t (inr (s, describes, (e, output, (m, so), is, at))) wrote read = (s, describes, session_serves answers s b a e output t m (ended e is) so at wrote read)
 
 -- an output without workers is one of a session
@@ -128,9 +128,9 @@ by_rule : (n : ℕ) (s : ScenarioData) (script left old new : Option (List ℕ))
 by_rule zero s script left old new law served = serves_alone s script left old new law served
 by_rule (suc n) s script left old new law served = served
 
-views : (n : ℕ) (b a : Outside) (t : List ℕ) → IsViewUnder n b.told b.left a.left ending.Ok t → Wrote t b a → IfSome b.left (λ x. a.left ≡ Some [])
+views : (n : ℕ) (b a : Outside) (t : List ℕ) → IsViewUnder n b a ending.Ok t → Wrote t b a → IfSome b.left (λ x. a.left ≡ Some [])
     → (s : ScenarioData) × Describes b.told (Ok s) × ServesWhole (IsViewOutput n) s b.left a.left b.written a.written
-views n b a t (inl (f, describes, is, at)) wrote read = absurd (texts.never_ok (refusal.Case f) is)
+views n b a t (inl (f, describes, is, at, unread)) wrote read = absurd (texts.never_ok (refusal.Case f) is)
 views n b a t (inr (s, describes, (e, output, (m, so), is, at))) wrote read =
     let well = ended e is in
     let ended_so : IsView n (opening_state s 0) b.left a.left end.Ended output m = subst (λ x. IsView n (opening_state s 0) b.left a.left x output m) well so in
@@ -160,16 +160,16 @@ not_end : (e x : SessionEnd) (status : Status) → status ≡ status_of_end e �
 not_end e x status is other same = other (is ∙ ap status_of_end same)
 
 module _ (told : Option Files) (left after : Option (List ℕ)) (files : Files) (script : List ℕ) (status : Status) (t : List ℕ) (told_is : told ≡ Some files) (left_is : left ≡ Some script) (whole : IsWhole status)
-    (heard : status ≡ ending.ReadFault → ⊥) where
-  session_ends : (answers : Answering) → IsSessionUnder answers told left after status t → (status ≡ session_status (case_of files) script) ⊎ (status ≡ ending.NoMemory)
-  session_ends answers (inl (f, describes, is, at)) = inl (case_ends told files script f status describes told_is is)
+    (heard : status ≡ ending.ReadFault → ⊥) (Unread : Type 0) where
+  session_ends : (answers : Answering) → IsCaseUnder Unread (IsServed answers left after) told status t → (status ≡ session_status (case_of files) script) ⊎ (status ≡ ending.NoMemory)
+  session_ends answers (inl (f, describes, is, at, unread)) = inl (case_ends told files script f status describes told_is is)
   session_ends answers (inr (s, describes, (e, output, (m, so), is, at))) =
       script_ends told files script s status describes told_is
       (ends_well e script status (ends_as_told answers (opening_state s 0) left after output e m so script left_is) (not_end e end.ReadFault status is heard)
       (not_end e end.WriteFault status is (no_write status whole)) (no_write status whole) (inl is))
 
-  view_ends : (n : ℕ) → IsViewUnder n told left after status t → (status ≡ session_status (case_of files) script) ⊎ (status ≡ ending.NoMemory)
-  view_ends n (inl (f, describes, is, at)) = inl (case_ends told files script f status describes told_is is)
+  view_ends : (n : ℕ) → IsCaseUnder Unread (IsViewed n left after) told status t → (status ≡ session_status (case_of files) script) ⊎ (status ≡ ending.NoMemory)
+  view_ends n (inl (f, describes, is, at, unread)) = inl (case_ends told files script f status describes told_is is)
   view_ends n (inr (s, describes, (e, output, (m, so), is, at))) =
       let same : e ≡ so.session_end = view_end n m so.session_end e so.lines so.closes (not_end e end.WriteFault status is (no_write status whole)) (not_end e end.NoMemory status is (no_memory status whole)) in
       let session : IsSession AnswersAlone (opening_state s 0) left after e so.answers m = subst (λ x. IsSession AnswersAlone (opening_state s 0) left after x so.answers m) (sym same) so.session in
@@ -181,7 +181,7 @@ session_completes : (b a : Outside) (status : Status) (files : Files) (script : 
     → IsCalm command.Load files b.faults a.faults → HeardAll b a → IsQuiet b a → (status ≡ session_status (case_of files) script) ⊎ (status ≡ ending.NoMemory)
 session_completes b a status files script n r told left calm heard quiet =
     elim (sorted status (λ is. texts.failed_in_calm command.Load b.told files b.faults a.faults told calm (r.faults.0 is).0) (λ is. quiet (r.faults.2 is))) [
-      | inl whole ↦ let h = r.whole whole in session_ends b.told b.left a.left files script status h.0 told left whole (λ is. heard (r.faults.1 is).1) (rule_of n) h.1
+      | inl whole ↦ let h = r.whole whole in session_ends b.told b.left a.left files script status h.0 told left whole (λ is. heard (r.faults.1 is).1) (LeavesInput b a) (rule_of n) h.1
       | inr none ↦ inr none
     ]
 
@@ -189,18 +189,25 @@ view_completes : (b a : Outside) (status : Status) (files : Files) (script : Lis
     → IsCalm command.Load files b.faults a.faults → HeardAll b a → IsQuiet b a → (status ≡ session_status (case_of files) script) ⊎ (status ≡ ending.NoMemory)
 view_completes b a status files script n r told left calm heard quiet =
     elim (sorted status (λ is. texts.failed_in_calm command.Load b.told files b.faults a.faults told calm (r.faults.0 is).0) (λ is. quiet (r.faults.2 is))) [
-      | inl whole ↦ let h = r.whole whole in view_ends b.told b.left a.left files script status h.0 told left whole (λ is. heard (r.faults.1 is).1) n h.1
+      | inl whole ↦ let h = r.whole whole in view_ends b.told b.left a.left files script status h.0 told left whole (λ is. heard (r.faults.1 is).1) (LeavesInput b a) n h.1
       | inr none ↦ inr none
     ]
 
 -- ---- a case whose file is missing
-case_lacking : (Of : ScenarioData → SessionEnd → List ℕ → Type 0) (told : Option Files) (files : Files) (f : File) → told ≡ Some files → case_of files ≡ Err (fault.Folder f)
-    → (due : Status) (u : List ℕ) → IsCaseUnder Of told due u → due ≡ ending.FolderFault
-case_lacking Of told files f is missing due u (inl (g, describes, under, at)) =
+case_lacking : (Unread : Type 0) (Of : ScenarioData → SessionEnd → List ℕ → Type 0) (told : Option Files) (files : Files) (f : File) → told ≡ Some files → case_of files ≡ Err (fault.Folder f)
+    → (due : Status) (u : List ℕ) → IsCaseUnder Unread Of told due u → due ≡ ending.FolderFault
+case_lacking Unread Of told files f is missing due u (inl (g, describes, under, at, unread)) =
     let both : Err g ≡ Err (fault.Folder f) = sym (subst (λ o. Describes o (Err g)) is describes) ∙ missing in
     let same : g ≡ fault.Folder f = cc in under ∙ ap case_status same
-case_lacking Of told files f is missing due u (inr (s, describes, under)) =
+case_lacking Unread Of told files f is missing due u (inr (s, describes, under)) =
     let wrong : Ok s ≡ Err (fault.Folder f) = sym (subst (λ o. Describes o (Ok s)) is describes) ∙ missing in absurd (cc)
+
+-- ---- a case that is refused
+case_unread : (Unread : Type 0) (Of : ScenarioData → SessionEnd → List ℕ → Type 0) (told : Option Files) (files : Files) (f : CaseFault) → told ≡ Some files → case_of files ≡ Err f
+    → (due : Status) (u : List ℕ) → IsCaseUnder Unread Of told due u → Unread
+case_unread Unread Of told files f is refused due u (inl (g, describes, under, at, unread)) = unread
+case_unread Unread Of told files f is refused due u (inr (s, describes, under)) =
+    let wrong : Ok s ≡ Err f = sym (subst (λ o. Describes o (Ok s)) is describes) ∙ refused in absurd (cc)
 
 pub sessions_say_holds : AloneIsASession → SessionsSay
 sessions_say_holds law = record {
@@ -211,8 +218,10 @@ sessions_say_holds law = record {
   view_cut = λ b a n r. let h = r.whole tt in view_came n b a h.0 h.1 h.2;
   session_complete = session_completes;
   view_complete = view_completes;
-  session_missing = λ b a status files f n r told none. missing_told _ _ _ b a (case_lacking (IsServed (rule_of n) b.left a.left) b.told files f told none) status r;
-  view_missing = λ b a status files f n r told none. missing_told _ _ _ b a (case_lacking (IsViewed n b.left a.left) b.told files f told none) status r;
+  session_missing = λ b a status files f n r told none. missing_told _ _ _ b a (case_lacking (LeavesInput b a) (IsServed (rule_of n) b.left a.left) b.told files f told none) status r;
+  session_unread = λ b a status files f n r told refused is. let h = r.whole is in case_unread (LeavesInput b a) (IsServed (rule_of n) b.left a.left) b.told files f told refused status h.0 h.1;
+  view_unread = λ b a status files f n r told refused is. let h = r.whole is in case_unread (LeavesInput b a) (IsViewed n b.left a.left) b.told files f told refused status h.0 h.1;
+  view_missing = λ b a status files f n r told none. missing_told _ _ _ b a (case_lacking (LeavesInput b a) (IsViewed n b.left a.left) b.told files f told none) status r;
 }
 
 -- ---- several editors
@@ -238,9 +247,9 @@ editors_say_holds = record {
 no_end_usage : (e : SessionEnd) → ending.Usage ≡ status_of_end e → ⊥
 no_end_usage e is = (no_files e ending.Usage (inl is)).0 refl
 
-no_case_usage : (Of : ScenarioData → SessionEnd → List ℕ → Type 0) (told : Option Files) (t : List ℕ) → IsCaseUnder Of told ending.Usage t → ⊥
-no_case_usage Of told t (inl (f, describes, is, at)) = texts.never_usage (refusal.Case f) is
-no_case_usage Of told t (inr (s, describes, (e, output, so, is, at))) = no_end_usage e is
+no_case_usage : (Unread : Type 0) (Of : ScenarioData → SessionEnd → List ℕ → Type 0) (told : Option Files) (t : List ℕ) → IsCaseUnder Unread Of told ending.Usage t → ⊥
+no_case_usage Unread Of told t (inl (f, describes, is, at, unread)) = texts.never_usage (refusal.Case f) is
+no_case_usage Unread Of told t (inr (s, describes, (e, output, so, is, at))) = no_end_usage e is
 
 no_editing_usage : (n : ℕ) (told : Option Files) (t : List ℕ) → IsEditingUnder n told ending.Usage t → ⊥
 no_editing_usage n told t (Ok u, says, is, at) = cc
@@ -248,8 +257,8 @@ no_editing_usage n told t (Err e, says, is, at) = editing.never_usage e (sym is)
 
 usage_of : (c : Option Command) (b a : Outside) (t : List ℕ) → IsTextUnder c b a ending.Usage t → (c ≡ None) × (t ≡ usage_line)
 usage_of None b a t is = (refl, is.1)
-usage_of (Some (command.Session n)) b a t is = absurd (no_case_usage (IsServed (rule_of n) b.left a.left) b.told t is)
-usage_of (Some (command.View n)) b a t is = absurd (no_case_usage (IsViewed n b.left a.left) b.told t is)
+usage_of (Some (command.Session n)) b a t is = absurd (no_case_usage (LeavesInput b a) (IsServed (rule_of n) b.left a.left) b.told t is)
+usage_of (Some (command.View n)) b a t is = absurd (no_case_usage (LeavesInput b a) (IsViewed n b.left a.left) b.told t is)
 usage_of (Some (command.Editors n)) b a t is = absurd (no_editing_usage n b.told t is)
 usage_of (Some c) b a t is = absurd (texts.no_usage c b.told t is)
 
@@ -263,6 +272,8 @@ pub refusals_say_holds : RefusalsSay
 refusals_say_holds = record {
   usage = λ b a c r. let h = r.whole tt in let l = usage_of c b a h.0 h.1 in (l.0, wrote_as b a h.0 _ h.2 l.1);
   asked = nothing_asked;
+  missing_unread = λ b a c r. r.reads.2 refl;
+  asked_unread = λ b a status r. r.reads.0 (λ none. none);
   bad_case = λ b a c has r. let h = (text_run c ending.BadCase b a has r).whole tt in let l = texts.bad_told c b.told h.0 h.1 in (l.0, l.1, l.2, l.3, wrote_as b a h.0 _ h.2 l.4);
   too_long = λ b a c has r. let h = (text_run c ending.TooLong b a has r).whole tt in let l = texts.long_told c b.told h.0 h.1 in (l.0, l.1, l.2, wrote_as b a h.0 _ h.2 l.3);
   complete = λ b a status files c has r told calm quiet. completes c b a status files has r told calm quiet;

@@ -25,7 +25,7 @@ ran_text (command.View n) status b a is run = absurd is
 ran_text (command.Editors n) status b a is run = absurd is
 ran_text c status b a is run = run
 
-pub ran_beside : (n : ℕ) (status : Status) (b a : Outside) → 0 < n → IsRun (IsSessionUnder AnswersBeside b.told b.left a.left) (Fetches command.Load b.told) (Unit {0}) status b a
+pub ran_beside : (n : ℕ) (status : Status) (b a : Outside) → 0 < n → IsRun (IsSessionUnder AnswersBeside b a) (Fetches command.Load b.told) (Unit {0}) status b a
     → Ran (Some (command.Session n)) status b a
 ran_beside zero status b a some run = absurd (omega (arith, some))
 ran_beside (suc n) status b a some run = run

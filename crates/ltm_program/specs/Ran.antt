@@ -24,8 +24,8 @@ rule_of (suc workers) = AnswersBeside
 -- the whole text that belongs to a command and a status, by how the outside stands before and after
 abbrev pub IsTextUnder : Option Command → Outside → Outside → Status → List ℕ → Type 0
 IsTextUnder None b a status t = (status ≡ ending.Usage) × (t ≡ usage_line)
-IsTextUnder (Some (command.Session workers)) b a status t = IsSessionUnder (rule_of workers) b.told b.left a.left status t
-IsTextUnder (Some (command.View viewers)) b a status t = IsViewUnder viewers b.told b.left a.left status t
+IsTextUnder (Some (command.Session workers)) b a status t = IsSessionUnder (rule_of workers) b a status t
+IsTextUnder (Some (command.View viewers)) b a status t = IsViewUnder viewers b a status t
 IsTextUnder (Some (command.Editors editors)) b a status t = IsEditingUnder editors b.told status t
 IsTextUnder (Some c) b a status t = IsAnswerUnder c b.told status t
 

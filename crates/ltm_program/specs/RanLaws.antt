@@ -9,6 +9,7 @@ use Rattle.ltm_scenario.specs.declared.edit.Edit.{Edit}
 use Rattle.ltm_scenario.specs.Data.{ScenarioData}
 use Rattle.ltm_casefile.specs.declared.faults.File.{File}
 use Rattle.ltm_casefile.specs.declared.faults.CaseCause.{CaseCause}
+use Rattle.ltm_casefile.specs.declared.faults.CaseFault.{CaseFault}
 use Rattle.ltm_casefile.specs.declared.faults.CaseFault.TheVariants as fault
 use Rattle.ltm_casefile.specs.Case.{case_of, is_case_file, asks_for}
 use Rattle.ltm_report.specs.CaseFaults.{bad_case_line}
@@ -42,7 +43,7 @@ use Rattle.ltm_command.specs.declared.words.Command.TheVariants as command
 use Rattle.ltm_command.specs.Words.{usage_line}
 use Rattle.ltm_command.specs.Answers.{Answer, Answers, Describes, HasText, may_fetch, fetches}
 use Rattle.ltm_command.specs.Program.{IsMissing, IsLong, IsWhole, IsCalm, status_of, words_of}
-use Rattle.ltm_command.specs.Run.{Outside}
+use Rattle.ltm_command.specs.Run.{Outside, LeavesInput}
 use Rattle.ltm_program.specs.Sessions.{ServesWhole, ServesWhatCame, session_status}
 use Rattle.ltm_program.specs.Editors.{HasScripts, IsCalmFor, editing_words, editing_status}
 use Rattle.ltm_program.specs.Ran.{Ran, rule_of}
@@ -124,6 +125,13 @@ pub record SessionsSay : Type 0 where
   pub view_missing : (b a : Outside) (status : Status) (files : Files) (f : File) (n : ℕ)
       → Ran (Some (command.View n)) status b a
       → b.told ≡ Some files → case_of files ≡ Err (fault.Folder f) → TellsMissing status
+  -- of a case that is refused the input stays as it was
+  pub session_unread : (b a : Outside) (status : Status) (files : Files) (f : CaseFault) (n : ℕ)
+      → Ran (Some (command.Session n)) status b a
+      → b.told ≡ Some files → case_of files ≡ Err f → IsWhole status → LeavesInput b a
+  pub view_unread : (b a : Outside) (status : Status) (files : Files) (f : CaseFault) (n : ℕ)
+      → Ran (Some (command.View n)) status b a
+      → b.told ≡ Some files → case_of files ≡ Err f → IsWhole status → LeavesInput b a
 
 -- ---- several editors
 pub record EditorsSay : Type 0 where
@@ -154,6 +162,9 @@ pub record RefusalsSay : Type 0 where
   pub usage : (b a : Outside) (c : Option Command) → Ran c ending.Usage b a → (c ≡ None) × Wrote usage_line b a
   pub asked : (b a : Outside) (status : Status) → Ran None status b a
       → (status ≡ ending.Usage) ⊎ ((status ≡ ending.WriteFault) ⊎ (status ≡ ending.NoMemory))
+  -- where a file is missing, or the words ask for no command, the input stays as it was
+  pub missing_unread : (b a : Outside) (c : Option Command) → Ran c ending.FolderFault b a → LeavesInput b a
+  pub asked_unread : (b a : Outside) (status : Status) → Ran None status b a → LeavesInput b a
   -- what the files say decides between the text of a command and a refusal
   pub bad_case : (b a : Outside) (c : Command)
       → HasText c → Ran (Some c) ending.BadCase b a → (f : File) × (row : ℕ) × (cause : CaseCause)

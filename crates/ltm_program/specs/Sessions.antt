@@ -13,6 +13,7 @@ use Rattle.ltm_command.specs.declared.status.Status.{Status}
 use Rattle.ltm_command.specs.declared.status.Status.TheVariants as ending
 use Rattle.ltm_command.specs.Answers.{Describes}
 use Rattle.ltm_command.specs.Program.{case_status, refusal_of}
+use Rattle.ltm_command.specs.Run.{Outside, LeavesInput}
 
 -- the line that closes a session which its script ends early
 abbrev pub closing_of : SessionEnd → List ℕ
@@ -37,10 +38,11 @@ abbrev pub EndsUnder : (SessionEnd → List ℕ → Type 0) → Status → List 
 EndsUnder IsOutput status text = (end : SessionEnd) × (output : List ℕ) × IsOutput end output
     × (status ≡ status_of_end end) × (text ≡ output ++ closing_of end)
 
--- the whole text that belongs to a status: the line that refuses the case, or what is written of a case up to an end
-abbrev pub IsCaseUnder : (ScenarioData → SessionEnd → List ℕ → Type 0) → Option Files → Status → List ℕ → Type 0
-IsCaseUnder IsOutput told status text =
-    ((fault : CaseFault) × Describes told (Err fault) × (status ≡ case_status fault) × (text ≡ refusal_of fault))
+-- the whole text that belongs to a status: the line that refuses the case, and then the input is unread, or what is written
+-- of a case up to an end
+abbrev pub IsCaseUnder : Type 0 → (ScenarioData → SessionEnd → List ℕ → Type 0) → Option Files → Status → List ℕ → Type 0
+IsCaseUnder Unread IsOutput told status text =
+    ((fault : CaseFault) × Describes told (Err fault) × (status ≡ case_status fault) × (text ≡ refusal_of fault) × Unread)
     ⊎ ((s : ScenarioData) × Describes told (Ok s) × EndsUnder (IsOutput s) status text)
 
 -- the outputs of a session of a scenario, by this rule of answers, with a script, what is left of it, and up to an end
@@ -48,8 +50,8 @@ abbrev pub IsServed : Answering → Option (List ℕ) → Option (List ℕ) → 
 IsServed answers script left s end output = (t : Analysts) × IsSession answers (opening_state s 0) script left end output t
 
 -- the whole text that belongs to a session and a status
-abbrev pub IsSessionUnder : Answering → Option Files → Option (List ℕ) → Option (List ℕ) → Status → List ℕ → Type 0
-IsSessionUnder answers told script left = IsCaseUnder (IsServed answers script left) told
+abbrev pub IsSessionUnder : Answering → Outside → Outside → Status → List ℕ → Type 0
+IsSessionUnder answers b a = IsCaseUnder (LeavesInput b a) (IsServed answers b.left a.left) b.told
 
 -- with which status a session ends where nothing of the outside fails and memory is found
 abbrev pub session_status : Result ScenarioData CaseFault → List ℕ → Status

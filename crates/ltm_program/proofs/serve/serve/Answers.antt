@@ -9,7 +9,7 @@ use Rattle.ltm_program.proofs.serve.serve.Goals as goal
 
 pub returns-in-Ok : goal.returns-in-Ok
 returns-in-Ok g c =
-    run_case (IsServed AnswersAlone (g.S.Source.left c.args.input.now) (g.S.Source.left c.serve_case.new.input)) c.in-Ok.scenario c.serve_case.result (g.F.Folder.told c.args.folder.now) (g.F.Folder.faults c.args.folder.now)
+    run_case _ (IsServed AnswersAlone (g.S.Source.left c.args.input.now) (g.S.Source.left c.serve_case.new.input)) c.in-Ok.scenario c.serve_case.result (g.F.Folder.told c.args.folder.now) (g.F.Folder.faults c.args.folder.now)
     (outside (g.F.Folder.told c.read_case.new.folder) (g.F.Folder.faults c.read_case.new.folder) (g.S.Source.left c.args.input.now) (g.S.Source.faults c.args.input.now) (g.W.Sink.written c.args.output.now) (g.W.Sink.faults c.args.output.now)) _ c.read_case.ensures.keeps
     (stays _ _ command.Load _ c.read_case.ensures.others c.read_case.ensures.unasked) c.in-Ok.ensures.ok (c.serve_case.ensures (g.F.Folder.told c.read_case.new.folder) (g.F.Folder.faults c.read_case.new.folder))
 
