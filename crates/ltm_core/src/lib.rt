@@ -2,8 +2,8 @@
 //! - **On what it stands**: `ltm_working`, for what a repair works on; `ltm_scenario`, for batches of edits; `ltm_flows`, for the
 //!   loading that is shown; `ltm_repair`, for the laws; `ltm_turn`, in which a core lies beside workers.
 //! - **What a call costs**: a claim the inputs of the pairs that it looks at, a commit its counts and a handful of marks, a
-//!   publishing the changed cells and, for each edit of demand, what its origin has produced. `create`, `scratch` and `accept`
-//!   alone take memory.
+//!   publishing the changed cells and, for each edit of demand, what its origin has produced. `create`, `scratch`, `accept` and
+//!   `shown_scenario` alone take memory.
 //! - **When to change it here**: when the answers of a call change, or what the log keeps. What becomes of the pairs is
 //!   `ltm_working`'s.
 #![tactic(auto)]

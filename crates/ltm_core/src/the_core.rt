@@ -12,8 +12,8 @@ ghost use Rattle.ltm_core.specs.Log.{batches_of, version_now, scenario_now};
 mod batches;
 mod claiming;
 mod recomputing;
-mod shown_again;
 mod showing;
+mod shown_again;
 
 use crate::history::History;
 use crate::laws::repair_laws;
