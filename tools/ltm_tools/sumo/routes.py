@@ -10,6 +10,7 @@ import xml.etree.ElementTree as ElementTree
 from collections.abc import Iterator
 from dataclasses import dataclass, field
 from fractions import Fraction
+from itertools import groupby
 from math import lcm
 from pathlib import Path
 
@@ -254,15 +255,15 @@ def end_of(element: ElementTree.Element, begin: Fraction, rate: Fraction | None,
 
 
 def single(begin: Fraction, end: Fraction, count: int, what: str) -> Iterator[tuple[int, int]]:
-    """Single vehicles at even distances from the beginning on."""
+    """Single vehicles at even distances from the beginning on; those of one millisecond together."""
     if count > MOST_DEPARTURES:
         raise Fault(f"{what}: {count_text(count)} vehicles, and at most {count_text(MOST_DEPARTURES)} may set out in"
                     f" all")
     parts = lcm(begin.denominator, end.denominator) * count  # of a second, in which all moments are whole
     first, span = int(begin * parts), int((end - begin) * parts) // count if count else 0
-    for number in range(count):
-        moment = (first + span * number) * 1000
-        yield moment // parts if moment >= 0 else -(-moment // parts), UNITS
+    moments = ((first + span * number) * 1000 for number in range(count))
+    for depart, together in groupby(moment // parts if moment >= 0 else -(-moment // parts) for moment in moments):
+        yield depart, UNITS * sum(1 for _ in together)
 
 
 def by_rate(begin: Fraction, end: Fraction, rate: Fraction) -> Iterator[tuple[int, int]]:

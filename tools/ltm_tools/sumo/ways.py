@@ -37,11 +37,14 @@ class Ways:
             self.before[after].append(edge)
             self.after[edge].append(after)
         self.kept: dict[str, dict[int, int]] = {}
+        self.asked: dict[tuple[str, ...], bool] = {}
 
-    def is_route(self, edges: Sequence[str]) -> bool:
-        """Whether each edge begins where the one before it ends."""
-        return all(name in self.roads for name in edges) and all(
-            self.roads[name].head == self.roads[after].tail for name, after in zip(edges, edges[1:]))
+    def is_route(self, edges: tuple[str, ...]) -> bool:
+        """Whether each edge begins where the one before it ends; looked up where it was asked before, as of a flow."""
+        if edges not in self.asked:
+            self.asked[edges] = all(name in self.roads for name in edges) and all(
+                self.roads[name].head == self.roads[after].tail for name, after in zip(edges, edges[1:]))
+        return self.asked[edges]
 
     def circling(self) -> dict[str, int]:
         """Of each edge from which a way leads back to it the number of its part: from each edge of a part ways lead to
