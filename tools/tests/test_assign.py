@@ -1,6 +1,7 @@
 """Assignments worked by hand (Wardrop's first principle, Braess's network), link times as the program tells them, and
 the command."""
 import csv
+import subprocess
 import unittest
 from pathlib import Path
 from unittest.mock import patch
@@ -148,8 +149,10 @@ class Command(FolderTest):
         """It tells each iteration, the best is written, and another run, and one in many sessions, write the same."""
         self.case(**TWO, nodes="name,x,y\no,0,0\nd,100,0\n")
         status, out, err = self.assign("--iterations", "3")
-        self.assertEqual((status, err, len(out.splitlines())), (0, "", 7), out + err)
+        self.assertEqual((status, err, len(out.splitlines())), (0, "", 8), out + err)
         self.assertEqual(out.splitlines()[0], "2 links, 1 destination, 7 periods of 1 minutes")
+        gap = subprocess.run([BUILT, "gap"], cwd=self.folder / "made", capture_output=True, text=True, check=True)
+        self.assertEqual(out.splitlines()[-1], gap.stdout.splitlines()[0])
         first = self.texts()
         rows = list(csv.DictReader(first["iterations.csv"].decode().splitlines()))
         self.assertEqual([row["iteration"] for row in rows], ["0", "1", "2", "3"])

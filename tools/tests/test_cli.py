@@ -1,5 +1,4 @@
 """The command line: what is wrong is one line and status 1, never a traceback."""
-import functools
 import os
 import shutil
 import signal
@@ -29,6 +28,12 @@ arr,n2,n2,0 0 0 500 1000
 def has(*names: str) -> bool:
     return subprocess.run([libraries.DEBIAN_PYTHON, "-c", libraries.PROBE, *names],
                           capture_output=True).returncode == 0 if os.path.exists(libraries.DEBIAN_PYTHON) else False
+
+
+def heeding() -> None:
+    """A process heeds what one started in the background, or by nohup, does not."""
+    signal.signal(signal.SIGINT, signal.default_int_handler)
+    signal.signal(signal.SIGHUP, signal.SIG_DFL)
 
 
 class Command(FolderTest):
@@ -140,8 +145,7 @@ class Command(FolderTest):
         noted = self.folder / "pid"
         for number in (signal.SIGTERM, signal.SIGHUP, signal.SIGINT):
             words = [sys.executable, TOOLS / "ltm-tools", "queues", self.case(), "--program", program]
-            heard = functools.partial(signal.signal, signal.SIGINT, signal.default_int_handler)
-            with subprocess.Popen(words, stderr=subprocess.PIPE, text=True, preexec_fn=heard) as command:
+            with subprocess.Popen(words, stderr=subprocess.PIPE, text=True, preexec_fn=heeding) as command:
                 while not (noted.exists() and noted.read_text().endswith("\n")):
                     time.sleep(0.05)
                 command.send_signal(number)

@@ -314,7 +314,8 @@ class Surroundings(Clone):
         noted = self.made / "pid"
         noted.unlink(missing_ok=True)
         with subprocess.Popen([self.top / "ltm", "case", *words], cwd=self.folder, env=self.environment(),
-                              stdin=subprocess.DEVNULL, stderr=subprocess.DEVNULL) as wrapper:
+                              stdin=subprocess.DEVNULL, stderr=subprocess.DEVNULL,
+                              preexec_fn=functools.partial(signal.signal, signal.SIGHUP, signal.SIG_DFL)) as wrapper:
             soon(lambda: noted.exists() and noted.read_text().endswith("\n"))
             wrapper.send_signal(number)
         self.assertNotEqual(wrapper.returncode, 0)
